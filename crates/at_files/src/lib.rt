@@ -1,0 +1,15 @@
+//! Book files and payment files: what their bytes spell, or the first offence with its line and cause.
+//!
+//! `read_book` and `read_payments` accept exactly the forms, and name the first offence of every other file.
+#![tactic(auto)]
+
+mod book_fault;
+mod names;
+mod payments_fault;
+
+/// What a call answers that found no memory.
+pub type NoMemory = std::alloc::AllocError;
+
+pub use crate::book_fault::{BadBook, BookWhy, ReadBookFault};
+pub use crate::names::Names;
+pub use crate::payments_fault::{BadPayments, CALLS_MAX, PaymentsWhy, ReadPaymentsFault};

@@ -1,0 +1,36 @@
+-- What a book says of one account.
+use Rattle.std.specs.Prelude.{◌≡◌, ℕ, ◌+◌, ◌*◌, ◌<◌, ◌≤◌, ◌==◌, Bool, List, [], ◌∷◌, length, nat_eq, nat_le, All, Option, is_some, position, if◌then◌else◌}
+
+-- what it opens with, and the processes that may debit it, from the lowest up
+pub record AccountTerms : Type 0 where
+  pub opening : ℕ
+  pub owners : List ℕ
+
+-- an account that no book holds: it has nothing and no owner
+abbrev pub no_account : AccountTerms
+no_account = record { opening = 0; owners = [] }
+
+-- one owner
+abbrev pub is_single : AccountTerms → Bool
+is_single t = length t.owners == 1
+
+-- two owners or more
+abbrev pub is_shared : AccountTerms → Bool
+is_shared t = nat_le 2 (length t.owners)
+
+-- the place of a process among the owners, from 0
+abbrev pub slot_in : AccountTerms → ℕ → Option ℕ
+slot_in t process = position (λ owner. owner == process) t.owners
+
+-- whether the process may debit the account
+abbrev pub is_owner_in : AccountTerms → ℕ → Bool
+is_owner_in t process = is_some (slot_in t process)
+
+-- how many rounds the account can have: one for each request of each owner, and none where no two share it
+abbrev pub rounds_room : ℕ → AccountTerms → ℕ
+rounds_room request_room t = if is_shared t then length t.owners * request_room else 0
+
+-- each owner is above the one before it, and the first is at least `least`
+unfoldable pub IsRisingFrom : ℕ → List ℕ → Type 0
+IsRisingFrom least [] = Unit {0}
+IsRisingFrom least (owner ∷ owners) = (least ≤ owner) × IsRisingFrom (owner + 1) owners

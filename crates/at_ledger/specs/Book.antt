@@ -1,0 +1,56 @@
+-- A checked book: its processes, its accounts in order, and the room that each process has.
+use Rattle.std.specs.Prelude.{◌≡◌, ℕ, ◌+◌, ◌^◌, ◌<◌, ◌≤◌, ◌++◌, Bool, List, [], ◌∷◌, length, All, Option, sum_by, slice_index_or, if◌then◌else◌, ◌&&◌}
+use Rattle.at_ledger.specs.Account.{AccountTerms, no_account, is_single, is_shared, is_owner_in, slot_in, rounds_room, IsRisingFrom}
+use Rattle.at_ledger.specs.declared.draft.TheConstants.{PROCESSES_MAX, ACCOUNTS_MAX, OWNERS_MAX, OWN_ROOM_MAX, REQUEST_ROOM_MAX, ROUNDS_MAX}
+
+-- own_room counts the successful transfers from single accounts that each process has,
+-- request_room the requests of each owner of each shared account
+pub record BookTerms : Type 0 where
+  pub processes : ℕ
+  pub own_room : ℕ
+  pub request_room : ℕ
+  pub accounts : List AccountTerms
+
+-- the account at a place of the book
+abbrev pub account_of : BookTerms → ℕ → AccountTerms
+account_of b account = slice_index_or b.accounts account no_account
+
+-- whether the process may debit the account
+abbrev pub is_owner : BookTerms → ℕ → ℕ → Bool
+is_owner b process account = is_owner_in (account_of b account) process
+
+-- the sum of the openings
+abbrev pub total_of : BookTerms → ℕ
+total_of b = sum_by (λ t. t.opening) b.accounts
+
+-- the rounds of all accounts together
+abbrev pub rounds_of : BookTerms → ℕ
+rounds_of b = sum_by (rounds_room b.request_room) b.accounts
+
+-- how many records the log of a process has room for: its own transfers, and each round of an account that it shares
+abbrev pub log_room_of : BookTerms → ℕ → ℕ
+log_room_of b process = b.own_room + sum_by (λ t. if is_owner_in t process then rounds_room b.request_room t else 0) b.accounts
+
+-- the owners of an account are processes, at most eight, each above the one before it
+pub record IsAccount (processes : ℕ) (t : AccountTerms) : Type 0 where
+  pub known : All (λ owner. owner < processes) t.owners
+  pub rising : IsRisingFrom 0 t.owners
+  pub few : length t.owners ≤ OWNERS_MAX
+
+-- what holds of a book to which accounts are still added
+pub record IsBegun (b : BookTerms) : Type 0 where
+  pub some_process : 1 ≤ b.processes
+  pub few_processes : b.processes ≤ PROCESSES_MAX
+  pub some_own_room : 1 ≤ b.own_room
+  pub own_room : b.own_room ≤ OWN_ROOM_MAX
+  pub some_request_room : 1 ≤ b.request_room
+  pub request_room : b.request_room ≤ REQUEST_ROOM_MAX
+  pub few_accounts : length b.accounts ≤ ACCOUNTS_MAX
+  pub accounts : All (IsAccount b.processes) b.accounts
+  pub rounds : rounds_of b ≤ ROUNDS_MAX
+  pub total : total_of b < 2 ^ 64
+
+-- what holds of every book
+pub record IsBook (b : BookTerms) : Type 0 where
+  pub begun : IsBegun b
+  pub some_account : 1 ≤ length b.accounts

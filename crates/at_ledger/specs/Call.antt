@@ -1,0 +1,27 @@
+-- What a call names: its source and its targets.
+use Rattle.std.specs.Prelude.{◌≡◌, ℕ, ◌<◌, ◌≤◌, List, [], ◌∷◌, length, sum_by, All}
+use Rattle.at_ledger.specs.declared.call.Call.{Call}
+use Rattle.at_ledger.specs.declared.call.Call.TheVariants.{Transfer, Read, Pay}
+use Rattle.at_ledger.specs.declared.call.Line.{Line}
+
+-- an account and the amount for it
+abbrev pub TargetPair : Type 0
+TargetPair = ℕ × ℕ
+
+-- the sum of the amounts
+abbrev pub amount_of : List TargetPair → ℕ
+amount_of targets = sum_by (λ t. t.1) targets
+
+-- each target is an account of these
+abbrev pub AreTargetsOn : ℕ → List TargetPair → Type 0
+AreTargetsOn accounts targets = All (λ t. t.0 < accounts) targets
+
+-- the call names accounts that are there
+abbrev pub IsCallOn : ℕ → Call → Type 0
+IsCallOn accounts (Transfer from to amount) = (from < accounts) × (to < accounts)
+IsCallOn accounts (Read account) = account < accounts
+IsCallOn accounts (Pay from targets) = (from < accounts) × AreTargetsOn accounts targets
+
+-- the line is of one of these processes and names accounts that are there
+abbrev pub IsLineOn : ℕ → ℕ → Line → Type 0
+IsLineOn processes accounts l = (l.process < processes) × IsCallOn accounts l.call

@@ -1,0 +1,38 @@
+//! Calls, their replies, and the lines of a journal.
+
+use crate::targets::Targets;
+
+/// What a process asks of the object.
+#[derive(Debug, Drop)]
+pub enum Call {
+    /// Move `amount` from one account to another.
+    Transfer { from: u32, to: u32, amount: u64 },
+    /// Tell the balance of an account.
+    Read { account: u32 },
+    /// Move an amount from one account to each target, all of them or none.
+    Pay { from: u32, targets: Targets },
+}
+
+/// What a call answers.
+#[derive(Clone, Copy, Debug, PartialEq, Eq)]
+pub enum Reply {
+    /// The amounts were moved.
+    Done,
+    /// The balance is below the sum of the amounts.
+    Short,
+    /// The caller doesn't own the source.
+    NotOwner,
+    /// The caller's room at the source is used up.
+    Full,
+    /// The balance that a read found.
+    Balance(u64),
+}
+
+/// One call of a run with its reply. `number` counts the calls of the process from 1.
+#[derive(Debug, Drop)]
+pub struct Line {
+    pub process: u32,
+    pub number: u32,
+    pub call: Call,
+    pub reply: Reply,
+}
