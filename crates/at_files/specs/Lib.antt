@@ -1,1 +1,4 @@
 pub mod Names
+pub mod Rows
+pub mod Payments
+pub mod BookFile

@@ -1,0 +1,25 @@
+-- The records of a file, and what one of them holds.
+use Rattle.std.specs.Prelude.{ℕ, Bool, ◌&&◌, ◌==◌, List, [], length, bytes_eq, Option, unwrap_or}
+use Rattle.csv.specs.Reading.{default_config, records, strip_bom}
+use Rattle.csv.specs.Records.{field_at}
+use Rattle.at_base.specs.Numbers.{number_of}
+
+-- a record: its fields, each as bytes
+abbrev pub Fields : Type 0
+Fields = List (List ℕ)
+
+-- the records of a file: comma, double quote, no headers, any number of fields, and no byte order mark at its start
+abbrev pub rows_of : List ℕ → List Fields
+rows_of bytes = records default_config (strip_bom bytes)
+
+-- the field at a place, from 0, and no byte past the last field
+abbrev pub field_of : Fields → ℕ → List ℕ
+field_of row i = unwrap_or (field_at row i) []
+
+-- the number that the field at a place is
+abbrev pub number_at : Fields → ℕ → Option ℕ
+number_at row i = number_of (field_of row i)
+
+-- whether the record has this many fields, the first of which is the word
+abbrev pub has_shape : List ℕ → ℕ → Fields → Bool
+has_shape word count row = (length row == count) && bytes_eq (field_of row 0) word
