@@ -6,6 +6,7 @@
 mod book_fault;
 mod names;
 mod payments_fault;
+mod rows;
 
 /// What a call answers that found no memory.
 pub type NoMemory = std::alloc::AllocError;

@@ -1,0 +1,111 @@
+-- The records of bytes, one after another.
+use Rattle.std.proofs.Common.{◌≡◌, ◌+◌, ◌<◌, ◌≤◌, ℕ, zero, suc, Bool, true, false, List, [], ◌∷◌, length, Option, Some, None, unwrap_or, IsSome, if◌then◌else◌, not, refl, ◌∙◌, ap, inl, add-one, arith}
+use Rattle.std.specs.Borrow.{Bor}
+use Rattle.csv.specs.declared.parser.State.{State}
+use Rattle.csv.specs.declared.parser.State.TheVariants as st
+use Rattle.csv.specs.Machine.{Read, next_record, step, is_end, fields_after, field_after, ends_at_end}
+use Rattle.csv.specs.Reading.{default_config, records_from, records_next, source_of, pending_of, NextIs, ReadsNext, ReadRecord, took_first}
+use Rattle.csv.specs.declared.reader.Reader.{Reader}
+use Rattle.at_files.specs.Rows.{Fields}
+use Rattle.at_files.specs.Reading.{rows_from, rows_left, IsBetweenRecords}
+
+-- a byte that ends a record leaves the reader between two records
+ends-step : (s : State) (c : ℕ) → is_end (step default_config s c).1 ≡ true → ends_at_end (step default_config s c).0 ≡ false
+ends-step s c h = grind arith
+
+-- a record that was read leaves no more bytes than there were
+rest-le : (s : State) (f : List (List ℕ)) (p xs : List ℕ) (q : Read) → next_record default_config s f p xs ≡ Some q → length q.2 ≤ length xs
+unfolding next_record
+rest-le s f p [] q h = grind arith
+rest-le s f p (c ∷ xs) q h =
+    grind (arith, rest-le (step default_config s c).0 (fields_after (step default_config s c).1 f p) (field_after (step default_config s c).1 c p) xs q)
+
+-- a read from between two records takes a byte, and ends between two records
+next-between : (s : State) (f : List (List ℕ)) (p xs : List ℕ) (q : Read) → next_record default_config s f p xs ≡ Some q → ends_at_end q.1 ≡ false
+unfolding next_record
+next-between s f p [] q h = grind arith
+next-between s f p (c ∷ xs) q h =
+    grind (arith, ends-step s c, next-between (step default_config s c).0 (fields_after (step default_config s c).1 f p) (field_after (step default_config s c).1 c p) xs q)
+
+next-shrinks : (s : State) (xs : List ℕ) (q : Read) → ends_at_end s ≡ false → next_record default_config s [] [] xs ≡ Some q → length q.2 < length xs
+unfolding next_record
+next-shrinks s [] q h e = grind arith
+next-shrinks s (c ∷ xs) q h e =
+    grind (arith, rest-le (step default_config s c).0 (fields_after (step default_config s c).1 [] []) (field_after (step default_config s c).1 c []) xs q)
+
+-- two ways to read on that agree after the next record give the same records
+records_next-same : (f g : State → List ℕ → List Fields) (o : Option Read) → ((q : Read) → o ≡ Some q → f q.1 q.2 ≡ g q.1 q.2) → records_next f o ≡ records_next g o
+records_next-same f g None same = refl
+records_next-same f g (Some q) same = ap (λ rows. q.0 ∷ rows) (same q refl)
+
+-- any bound above the number of bytes gives the same records
+records_from-enough : (n m : ℕ) (s : State) (xs : List ℕ) → ends_at_end s ≡ false → length xs < n → length xs < m → records_from default_config n s xs ≡ records_from default_config m s xs
+unfolding records_from
+records_from-enough zero m s xs e h k = absurd (omega arith)
+records_from-enough (suc n) zero s xs e h k = absurd (omega arith)
+records_from-enough (suc n) (suc m) s xs e h k =
+    records_next-same (records_from default_config n) (records_from default_config m) (next_record default_config s [] [] xs)
+    (λ q is. records_from-enough n m q.1 q.2 (next-between s [] [] xs q is) (omega (arith, next-shrinks s xs q e is)) (omega (arith, next-shrinks s xs q e is)))
+
+rows_from-next : (s : State) (xs : List ℕ) → ends_at_end s ≡ false → rows_from s xs ≡ records_next rows_from (next_record default_config s [] [] xs)
+unfolding records_from
+rows_from-next s xs e =
+    rw add-one
+    (records_next-same (records_from default_config (length xs)) rows_from (next_record default_config s [] [] xs)
+    (λ q is. records_from-enough (length xs) (length q.2 + 1) q.1 q.2 (next-between s [] [] xs q is) (next-shrinks s xs q e is) (omega arith)))
+
+-- a read of known bytes gives the first of the records, and those after it are left
+reads-rows : (s : State) (a b : Option (List ℕ)) (found : Bool) (row : Fields) (s2 : State) → IsSome a → ends_at_end s ≡ false
+    → ReadsNext default_config s a b found row s2 → rows_from s (unwrap_or a []) ≡ (if found then row ∷ rows_from s2 (unwrap_or b []) else [])
+reads-rows s None b found row s2 known e reads = absurd (cc)
+reads-rows s (Some xs) None found row s2 known e reads = absurd reads
+reads-rows s (Some xs) (Some ys) found row s2 known e reads =
+    rows_from-next s xs e ∙ by (next_record default_config s [] [] xs) reads
+  where
+    by : (o : Option Read) → NextIs o found row s2 ys → records_next rows_from o ≡ (if found then row ∷ rows_from s2 ys else [])
+    by None is = rw is refl
+    by (Some q) is = rw (is.0, is.1, is.2, is.3) refl
+
+-- after a record the bytes are still known, and the reader stands between two records
+reads-between : (s : State) (a b : Option (List ℕ)) (row : Fields) (s2 : State) → IsSome a → ends_at_end s ≡ false
+    → ReadsNext default_config s a b true row s2 → IsSome b × (ends_at_end s2 ≡ false)
+reads-between s None b row s2 known e reads = absurd (cc)
+reads-between s (Some xs) None row s2 known e reads = absurd reads
+reads-between s (Some xs) (Some ys) row s2 known e reads =
+    (refl, by (next_record default_config s [] [] xs) refl reads)
+  where
+    by : (o : Option Read) → next_record default_config s [] [] xs ≡ o → NextIs o true row s2 ys → ends_at_end s2 ≡ false
+    by None is next = absurd (let wrong : true ≡ false = next in cc)
+    by (Some q) is next = rw next.2 (next-between s [] [] xs q is)
+
+-- a reader that has looked for a byte order mark has left what it has in hand
+source-pending : (reader : Reader (Bor (List ℕ))) → reader.bom_checked ≡ true → source_of (λ b. Some b.now) reader ≡ pending_of (Some reader.rdr.now) reader
+source-pending reader checked = rw checked refl
+
+-- a read gives the first of the records that a reader has left
+pub rows_left-read : (all : List Fields) (old new : Reader (Bor (List ℕ))) (ended found : Bool) (row : Fields) → ended ≡ false
+    → all ≡ (if ended then [] else rows_left old) → IsBetweenRecords old → ReadRecord (λ b. Some b.now) old new found row
+    → all ≡ (if found then row ∷ (if not found then [] else rows_left new) else [])
+rows_left-read all old new ended found row going is_all is read =
+    is_all ∙ rw going
+    (reads-rows old.state (source_of (λ b. Some b.now) old) (pending_of (Some new.rdr.now) new) found row new.state is.known is.between
+    (rw is.config at read.0) ∙ by found)
+  where
+    by : (b : Bool) → (if b then row ∷ rows_from new.state (unwrap_or (pending_of (Some new.rdr.now) new) []) else [])
+        ≡ (if b then row ∷ (if not b then [] else rows_left new) else [])
+    by true = rw (source-pending new read.1) refl
+    by false = refl
+
+-- after a record the reader still stands between two records
+pub IsBetweenRecords-read : (old new : Reader (Bor (List ℕ))) (found : Bool) (row : Fields) → IsBetweenRecords old
+    → ReadRecord (λ b. Some b.now) old new found row → took_first new ≡ true → not found ≡ false → IsBetweenRecords new
+IsBetweenRecords-read old new false row is read first more = absurd (cc)
+IsBetweenRecords-read old new true row is read first more =
+    let both = reads-between old.state (source_of (λ b. Some b.now) old) (pending_of (Some new.rdr.now) new) row new.state is.known is.between (rw is.config at read.0) in
+    record {
+      trim = read.3 ∙ is.trim;
+      ready = inl first;
+      config = read.2 ∙ is.config;
+      known = rw (source-pending new read.1) both.0;
+      between = both.1;
+    }

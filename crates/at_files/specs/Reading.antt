@@ -1,0 +1,29 @@
+-- What a reader of records has left of a file.
+use Rattle.std.specs.Prelude.{◌≡◌, ◌+◌, ℕ, List, [], length, false, Some, unwrap_or, IsSome}
+use Rattle.std.specs.Borrow.{Bor}
+use Rattle.csv.specs.Machine.{ends_at_end}
+use Rattle.csv.specs.Reading.{default_config, records_from, source_of, Ready, reader_config, reader_state, reader_trim}
+use Rattle.csv.specs.declared.parser.State.{State}
+use Rattle.csv.specs.declared.reader.Reader.{Reader}
+use Rattle.csv.specs.declared.reader.Trim.TheVariants as trim
+use Rattle.at_files.specs.Rows.{Fields}
+
+-- the records of bytes that are read on from a state
+abbrev pub rows_from : State → List ℕ → List Fields
+rows_from state bytes = records_from default_config (length bytes + 1) state bytes
+
+-- the bytes that a reader has left
+abbrev pub unread : Reader (Bor (List ℕ)) → List ℕ
+unread reader = unwrap_or (source_of (λ bytes. Some bytes.now) reader) []
+
+-- the records that a reader has left
+abbrev pub rows_left : Reader (Bor (List ℕ)) → List Fields
+rows_left reader = rows_from (reader_state reader) (unread reader)
+
+-- a reader with the crate's defaults and no header row, which stands between two records
+pub record IsBetweenRecords (reader : Reader (Bor (List ℕ))) : Type 0 where
+  pub trim : reader_trim reader ≡ trim.None
+  pub ready : Ready reader
+  pub config : reader_config reader ≡ default_config
+  pub known : IsSome (source_of (λ bytes. Some bytes.now) reader)
+  pub between : ends_at_end (reader_state reader) ≡ false

@@ -1,0 +1,61 @@
+//! The records of a file, one after another.
+
+ghost use Rattle.std.specs.Prelude.{◌≡◌, ◌∷◌, [], if◌then◌else◌, IfOk, OnErr};
+ghost use Rattle.csv.specs.Records.{fields_of};
+ghost use Rattle.at_files.specs.Rows.{rows_of};
+
+use crate::NoMemory;
+use csv::{ByteRecord, Reader, ReaderBuilder};
+use std::alloc::{AllocError, Global};
+use std::marker::Model;
+
+/// The records that are left of a file.
+#[derive(Drop)]
+pub(crate) struct Rows<'a> {
+    reader: Reader<&'a [u8]>,
+    ended: bool,
+}
+
+impl<'a> Model for Rows<'a> {
+    ghost use Rattle.std.specs.Prelude.{◌≡◌, false, [], List, if◌then◌else◌};
+    ghost use Rattle.at_files.specs.Rows.{Fields};
+    ghost use Rattle.at_files.specs.Reading.{rows_left, IsBetweenRecords};
+
+    ghost Value = { List Fields };
+
+    ghost view = { λ r. if r.ended then [] else rows_left r.reader };
+
+    ghost invariant = { λ r. r.ended ≡ false → IsBetweenRecords r.reader };
+}
+
+impl<'a> Rows<'a> {
+    /// All records of a file.
+    pub(crate) fn new(alloc: Global, bytes: &'a [u8]) -> Rows<'a>
+        ensures { result ≡ rows_of bytes.now }
+    {
+        let reader = ReaderBuilder::new()
+            .has_headers(false)
+            .flexible(true)
+            .from_reader(alloc, bytes);
+        Rows {
+            reader,
+            ended: false,
+        }
+    }
+
+    /// Reads the next record into `row`, and answers whether there was one. An error ends the records.
+    pub(crate) fn next(&mut self, row: &mut ByteRecord) -> Result<bool, NoMemory>
+        ensures ok { IfOk result (λ found. self.old ≡ (if found then fields_of row.new ∷ self.new else [])) }
+        ensures err { OnErr result (self.new ≡ []) }
+    {
+        if self.ended {
+            return Ok(false);
+        }
+        self.ended = true;
+        let Ok(found) = self.reader.read_byte_record(row) else {
+            return Err(AllocError);
+        };
+        self.ended = !found;
+        Ok(found)
+    }
+}
