@@ -1,0 +1,107 @@
+-- The texts that are numbers are the canonical decimals.
+use Rattle.std.proofs.Common.{◌≡◌, ℕ, ◌^◌, ◌<◌, ◌↔◌, Bool, true, false, ◌&&◌, nat_lt, List, length, get_or, Some, None, decimal, refl, sym, ap, ◌∙◌, arith, rules, inl, inr, ◌⊎◌, Result, Ok, Err, IsUtf8, if◌then◌else◌}
+use Rattle.std.specs.Result.{result_ok}
+use Rattle.std.specs.Str.Parse.{ParsesUnsigned}
+use borrow.Author.Tests.{ltb-true}
+use Rattle.std.proofs.lemmas.Str.{IsUtf8-from_ascii}
+use Rattle.std.specs.Char.{is_ascii_digit}
+use Rattle.std.specs.List.{list_all}
+use Rattle.std.specs.Str.Parse.{digits_value}
+use Rattle.std.proofs.lemmas.Grind.{common_steps}
+use Rattle.std.proofs.lemmas.Bool.Decides.{nat_tests}
+use Rattle.std.proofs.lemmas.Str.Parse.{IsDigitsTest, IsNumeralModel, numerals_by_value, parse_digits}
+use Rattle.std.proofs.lemmas.Fmt.{digits_decimal, digits_value-decimal, decimal-digits_value, first_decimal, decimal_digit, IsAscii-from_digits}
+use Rattle.at_base.specs.Numbers.{is_canonical, number_of}
+
+-- each byte is a digit
+abbrev pub AreDigits : List ℕ → Type 0
+AreDigits text = list_all is_ascii_digit text ≡ true
+
+pub tells_digits : IsDigitsTest AreDigits
+tells_digits = search rules
+
+-- the words of this crate for digits and their value
+pub own : IsNumeralModel AreDigits (digits_value 10)
+own = numerals_by_value AreDigits tells_digits
+
+-- digits whose first isn't 0 unless it is alone are canonical
+is_canonical-from : (text : List ℕ) → AreDigits text → (length text ≡ 1) ⊎ (48 < get_or text 0 0) → is_canonical text ≡ true
+is_canonical-from text digits (inl one) = rw (digits, one) refl
+is_canonical-from text digits (inr above) = grind (arith, nat_tests, common_steps)
+
+first_of_decimal : (n : ℕ) → n < 2 ^ 64 → (n < 10) ⊎ (0 < n) → (length (decimal n) ≡ 1) ⊎ (48 < get_or (decimal n) 0 0)
+first_of_decimal n h (inl small) = inl (ap length (decimal_digit n small))
+first_of_decimal n h (inr some) = inr (first_decimal n some h)
+
+pub is_canonical-decimal : (n : ℕ) → n < 2 ^ 64 → is_canonical (decimal n) ≡ true
+is_canonical-decimal n h =
+    let split : (n < 10) ⊎ (0 < n) = grind arith in
+    is_canonical-from (decimal n) (digits_decimal own n h) (first_of_decimal n h split)
+
+pub number_of-decimal : (n : ℕ) → n < 2 ^ 64 → number_of (decimal n) ≡ Some n
+unfolding number_of
+number_of-decimal n h =
+    let digits : is_canonical (decimal n) ≡ true = is_canonical-decimal n h in
+    let value : digits_value 10 (decimal n) ≡ n = digits_value-decimal own n h in
+    rw (digits, value) (grind (arith, nat_tests))
+
+-- what the parts of a canonical text are
+pub record IsCanonical (text : List ℕ) : Type 0 where
+  pub digits : AreDigits text
+  pub some : 0 < length text
+  pub first : get_or text 0 0 ≡ 48 → length text ≡ 1
+
+IsCanonical-is_canonical : (text : List ℕ) → is_canonical text ≡ true → IsCanonical text
+IsCanonical-is_canonical text h = record {
+  digits = grind (arith, nat_tests, common_steps);
+  some = grind (arith, nat_tests, common_steps);
+  first = λ zero. grind (arith, nat_tests, common_steps);
+}
+
+-- a number comes only where both tests hold
+number_of_tests : (canonical fits : Bool) (value n : ℕ) → (if canonical && fits then Some value else None) ≡ Some n → (canonical ≡ true) × (fits ≡ true) × (value ≡ n)
+number_of_tests true true value n h = (refl, refl, cc)
+number_of_tests true false value n h = cc
+number_of_tests false fits value n h = cc
+
+pub number_of-some : (text : List ℕ) (n : ℕ) → number_of text ≡ Some n → (text ≡ decimal n) × (n < 2 ^ 64)
+unfolding number_of
+number_of-some text n h =
+    let t = number_of_tests (is_canonical text) (nat_lt (digits_value 10 text) (2 ^ 64)) (digits_value 10 text) n h in
+    let parts = IsCanonical-is_canonical text t.0 in
+    let fits : digits_value 10 text < 2 ^ 64 = ltb-true _ _ t.1 in
+    let text_is : decimal (digits_value 10 text) ≡ text = decimal-digits_value own text parts.digits parts.some parts.first fits in
+    let value_is : digits_value 10 text ≡ n = t.2 in
+    (sym (rw value_is at text_is), rw value_is at fits)
+
+-- the numbers of texts are those whose canonical decimal the text is
+pub number_of-exact : (text : List ℕ) (n : ℕ) → n < 2 ^ 64 → (number_of text ≡ Some n) ↔ (text ≡ decimal n)
+number_of-exact text n h = (λ e. (number_of-some text n e).0, λ e. rw e (number_of-decimal n h))
+
+number_of_fits : (text : List ℕ) → is_canonical text ≡ true → digits_value 10 text < 2 ^ 64 → number_of text ≡ Some (digits_value 10 text)
+unfolding number_of
+number_of_fits text canonical fits = rw canonical (grind (arith, nat_tests))
+
+number_of_long : (text : List ℕ) → is_canonical text ≡ true → ¬ (digits_value 10 text < 2 ^ 64) → number_of text ≡ None
+unfolding number_of
+number_of_long text canonical long = rw canonical (grind (arith, nat_tests))
+
+-- std's reading of a canonical text gives its number
+pub number_of-parsed : {E : Type 0} (text : List ℕ) (r : Result ℕ E) → is_canonical text ≡ true → ParsesUnsigned 64 10 text r → result_ok r ≡ number_of text
+number_of-parsed {E} text (Ok n) canonical parses =
+    let parts = IsCanonical-is_canonical text canonical in
+    let is = parse_digits own {E = E} 64 text (Ok n) parses parts.digits in
+    ap Some is.1 ∙ sym (number_of_fits text canonical is.0.1)
+number_of-parsed {E} text (Err e) canonical parses =
+    let parts = IsCanonical-is_canonical text canonical in
+    let is = parse_digits own {E = E} 64 text (Err e) parses parts.digits in
+    sym (number_of_long text canonical (λ fits. is (parts.some, fits)))
+
+-- a text that isn't canonical is no number
+pub number_of-other : (text : List ℕ) → is_canonical text ≡ false → number_of text ≡ None
+unfolding number_of
+number_of-other text h = rw h refl
+
+-- a canonical text is ASCII
+pub IsUtf8-is_canonical : (text : List ℕ) → is_canonical text ≡ true → IsUtf8 text
+IsUtf8-is_canonical text h = IsUtf8-from_ascii text (IsAscii-from_digits text (own.to text (IsCanonical-is_canonical text h).digits))

@@ -1,0 +1,4 @@
+pub mod Numbers
+pub mod Decision
+pub mod Head
+pub mod Counts

@@ -1,0 +1,13 @@
+-- Which texts are numbers, and which number each is.
+use Rattle.std.specs.Prelude.{ℕ, ◌^◌, Bool, ◌&&◌, ◌||◌, ◌==◌, List, length, slice_index, nat_lt, Option, Some, None, if◌then◌else◌}
+use Rattle.std.specs.Char.{is_ascii_digit}
+use Rattle.std.specs.List.{list_all}
+use Rattle.std.specs.Str.Parse.{digits_value}
+
+-- digits alone, either one of them or any number whose first isn't 0
+abbrev pub is_canonical : List ℕ → Bool
+is_canonical text = list_all is_ascii_digit text && ((length text == 1) || nat_lt 48 (slice_index text 0))
+
+-- the number below 2 ^ 64 that the text is
+unfoldable pub number_of : List ℕ → Option ℕ
+number_of text = if is_canonical text && nat_lt (digits_value 10 text) (2 ^ 64) then Some (digits_value 10 text) else None

@@ -1,0 +1,94 @@
+//! Short lists of counts, one for each process.
+
+ghost use Rattle.std.specs.Prelude.{◌≡◌, ◌^◌, ◌<◌, ◌≤◌, ◌↔◌, length, replicate, slice_index, slice_set, sum, IsTrue};
+ghost use Rattle.at_base.specs.Counts.{Covers};
+
+use arrayvec::ArrayVec;
+use std::marker::Model;
+
+/// The most counts of a list.
+pub const COUNTS_MAX: u32 = 16;
+
+/// One to sixteen counts, one for each process. It takes no memory.
+#[derive(Debug, Drop)]
+pub struct Counts {
+    list: ArrayVec<u32, 16>,
+}
+
+impl Model for Counts {
+    ghost use Rattle.std.specs.Prelude.{ℕ, ◌≤◌, List, length};
+
+    ghost Value = { List ℕ };
+
+    ghost view = { λ c. c.list.items };
+
+    ghost invariant = { λ c. (1 ≤ length c.list.items) × (length c.list.items ≤ 16) };
+}
+
+impl Counts {
+    /// A list of zeros.
+    pub fn zeros(n: u32) -> Counts
+        requires some { 1 ≤ n }
+        requires few { n ≤ COUNTS_MAX }
+        ensures { result ≡ replicate n 0 }
+    {
+        let mut list = ArrayVec::new();
+        for _turn in 0..n {
+            list.push(0);
+        }
+        Counts { list }
+    }
+
+    pub fn len(&self) -> u32
+        ensures length { result ≡ length self.now }
+        ensures some { 1 ≤ result }
+        ensures few { result ≤ COUNTS_MAX }
+    {
+        self.list.len() as u32
+    }
+
+    /// The count of process `p`.
+    pub fn get(&self, p: u32) -> u32
+        requires { p < length self.now }
+        ensures { result ≡ slice_index self.now p }
+    {
+        self.list[p as usize]
+    }
+
+    /// Makes `c` the count of process `p`.
+    pub fn set(&mut self, p: u32, c: u32)
+        requires { p < length self.old }
+        ensures { self.new ≡ slice_set self.old p c }
+    {
+        self.list[p as usize] = c;
+    }
+
+    pub fn sum(&self) -> u32
+        requires { sum self.now < 2 ^ 32 }
+        ensures { result ≡ sum self.now }
+    {
+        self.list.iter().sum()
+    }
+
+    /// Whether no count is below the other list's.
+    pub fn covers(&self, other: &Counts) -> bool
+        requires { length self.now ≡ length other.now }
+        ensures { IsTrue result ↔ Covers self.now other.now }
+    {
+        self.list
+            .iter()
+            .zip(other.list.iter())
+            .all(|(mine, theirs)| theirs <= mine)
+    }
+
+    /// An equal list. It takes no memory, so it can't fail as a clone can.
+    pub fn copy(&self) -> Counts
+        ensures { result ≡ self.now }
+    {
+        let mut list = ArrayVec::new();
+        for count in self.list.iter() {
+            list.push(*count);
+        }
+        Counts { list }
+    }
+}
