@@ -22,12 +22,16 @@ abbrev pub read_of : ℕ → Option ℕ → Result Call PaymentsWhy
 read_of accounts (Some account) = if nat_lt account accounts then Ok (Read account) else Err UnknownAccount
 read_of accounts None = Err Number
 
--- the call that a record spells, with a book of version 1
-abbrev pub call_of : NameList → Fields → Result Call PaymentsWhy
-call_of names row =
-    if has_shape (codes "transfer") 4 row then transfer_of (length names.accounts) (number_at row 1) (number_at row 2) (number_at row 3)
-    else if has_shape (codes "read") 2 row then read_of (length names.accounts) (number_at row 1)
+-- the call that a record spells, where accounts are given by their numbers
+abbrev pub plain_call_of : ℕ → Fields → Result Call PaymentsWhy
+plain_call_of accounts row =
+    if has_shape (codes "transfer") 4 row then transfer_of accounts (number_at row 1) (number_at row 2) (number_at row 3)
+    else if has_shape (codes "read") 2 row then read_of accounts (number_at row 1)
     else Err Shape
+
+-- the same beside these names, which are those of version 1
+abbrev pub call_of : NameList → Fields → Result Call PaymentsWhy
+call_of names row = plain_call_of (length names.accounts) row
 
 -- an offence at this line
 abbrev pub bad_payments : ℕ → PaymentsWhy → Result (List Call) BadPayments

@@ -4,7 +4,9 @@
 #![tactic(auto)]
 
 mod book_fault;
+mod fields;
 mod names;
+mod payments;
 mod payments_fault;
 mod rows;
 

@@ -1,0 +1,36 @@
+//! The fields of one record.
+
+ghost use Rattle.std.specs.Prelude.{◌≡◌, bytes_eq};
+ghost use Rattle.csv.specs.Records.{fields_of};
+ghost use Rattle.at_files.specs.Rows.{field_of, has_shape, number_at};
+
+use at_base::parse_number;
+use csv::ByteRecord;
+
+/// The field at a place, from 0. Past the last one there is no byte.
+pub(crate) fn field_of(row: &ByteRecord, i: usize) -> &[u8]
+    ensures { result.now ≡ field_of (fields_of row.now) i }
+{
+    row.get(i).unwrap_or(&[])
+}
+
+/// Whether the field is the word.
+pub(crate) fn is_word(field: &[u8], word: &[u8]) -> bool
+    ensures { result ≡ bytes_eq field.now word.now }
+{
+    field == word
+}
+
+/// Whether the record has so many fields and begins with the word.
+pub(crate) fn has_shape(row: &ByteRecord, word: &[u8], count: usize) -> bool
+    ensures { result ≡ has_shape word.now count (fields_of row.now) }
+{
+    row.len() == count && is_word(field_of(row, 0), word)
+}
+
+/// The number that the field at a place is.
+pub(crate) fn number_at(row: &ByteRecord, i: usize) -> Option<u64>
+    ensures { result ≡ number_at (fields_of row.now) i }
+{
+    parse_number(field_of(row, i))
+}
