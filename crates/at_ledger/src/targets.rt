@@ -11,7 +11,7 @@ pub const TARGETS_MAX: usize = 4;
 /// One to four accounts with an amount for each. An account may stand in it twice.
 #[derive(Debug, Drop)]
 pub struct Targets {
-    list: ArrayVec<(u32, u64), 4>,
+    list: ArrayVec<(u32, u64), TARGETS_MAX>,
 }
 
 impl Model for Targets {
@@ -83,9 +83,7 @@ impl Targets {
         ensures { result ≡ self.now }
     {
         let mut list = ArrayVec::new();
-        for target in self.list.as_slice() {
-            list.push(*target);
-        }
+        list.try_extend_from_slice(self.list.as_slice()).unwrap();
         Targets { list }
     }
 }
