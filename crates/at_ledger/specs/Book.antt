@@ -50,6 +50,12 @@ pub record IsBegun (b : BookTerms) : Type 0 where
   pub rounds : rounds_of b ≤ ROUNDS_MAX
   pub total : total_of b < 2 ^ 64
 
+-- a book so far, with the sums of its rounds and openings
+pub record IsSummed (b : BookTerms) (rounds total : ℕ) : Type 0 where
+  pub begun : IsBegun b
+  pub rounds_summed : rounds ≡ rounds_of b
+  pub total_summed : total ≡ total_of b
+
 -- what holds of every book
 pub record IsBook (b : BookTerms) : Type 0 where
   pub begun : IsBegun b
