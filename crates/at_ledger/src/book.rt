@@ -1,6 +1,6 @@
 //! A checked book.
 
-ghost use Rattle.std.specs.Prelude.{◌≡◌, ◌<◌, ◌≤◌, length, slice_index, None, Some, IfOk, OnOk, IfSome};
+ghost use Rattle.std.specs.Prelude.{◌≡◌, ◌<◌, ◌≤◌, length, map, slice_index, None, Some, IfOk, OnOk, IfSome};
 
 use crate::NoMemory;
 use crate::account::Account;
@@ -31,7 +31,7 @@ impl Model for Book {
 
 impl Book {
     ghost use Rattle.at_ledger.specs.Account.{is_shared, is_single, slot_in};
-    ghost use Rattle.at_ledger.specs.Book.{IsBook, account_of, log_room_of};
+    ghost use Rattle.at_ledger.specs.Book.{IsBook, account_of, is_owner, log_room_of};
     ghost use Rattle.at_ledger.specs.Draft.{book_fault, book_of};
 
     /// Checks a draft and copies it.
@@ -136,6 +136,41 @@ impl Book {
             room += account.rounds_of(process, self.request_room);
         }
         room
+    }
+
+    /// What each account opens with, in order.
+    pub(crate) fn openings(&self, alloc: Global) -> Result<Vec<u64>, NoMemory>
+        ensures { IfOk result (λ v. v.items ≡ map (λ t. t.opening) self.now.accounts) }
+    {
+        let accounts = self.accounts.as_slice();
+        accounts
+            .iter()
+            .map(|account| account.opening)
+            .collect(alloc)
+    }
+
+    /// Whether the process may debit the account.
+    pub(crate) fn is_owner(&self, process: u32, account: u32) -> bool
+        requires { account < length self.now.accounts }
+        ensures { result ≡ is_owner self.now process account }
+    {
+        self.slot_of(account, process).is_some()
+    }
+
+    /// Whether two processes or more may debit the account.
+    pub(crate) fn is_shared(&self, account: u32) -> bool
+        requires { account < length self.now.accounts }
+        ensures { result ≡ is_shared (account_of self.now account) }
+    {
+        self.accounts[account as usize].is_shared()
+    }
+
+    /// Whether one process alone may debit the account.
+    pub(crate) fn is_single(&self, account: u32) -> bool
+        requires { account < length self.now.accounts }
+        ensures { result ≡ is_single (account_of self.now account) }
+    {
+        self.accounts[account as usize].is_single()
     }
 
     pub fn copy(&self, alloc: Global) -> Result<Book, NoMemory>
