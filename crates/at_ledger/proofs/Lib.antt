@@ -1,3 +1,4 @@
 pub mod Faults
 pub mod Owners
 pub mod Books
+pub mod Credited

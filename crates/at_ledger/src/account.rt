@@ -22,7 +22,7 @@ impl Model for Account {
 }
 
 impl Account {
-    ghost use Rattle.at_ledger.specs.Account.{is_shared, is_single, rounds_room, slot_in};
+    ghost use Rattle.at_ledger.specs.Account.{is_shared, is_single, rounds_room, rounds_room_of, slot_in};
 
     pub(crate) fn is_single(&self) -> bool
         ensures { result ≡ is_single self.now }
@@ -65,11 +65,25 @@ impl Account {
         }
     }
 
+    /// The rounds of the account that the log of the process has room for.
+    pub(crate) fn rounds_of(&self, process: u32, request_room: u32) -> u32
+        requires { request_room ≤ REQUEST_ROOM_MAX }
+        ensures { result ≡ rounds_room_of request_room process self.now }
+    {
+        if self.slot_in(process).is_some() {
+            self.rounds_room(request_room)
+        } else {
+            0
+        }
+    }
+
     pub(crate) fn copy(&self) -> Account
         ensures { result ≡ self.now }
     {
         let mut owners = ArrayVec::new();
-        owners.try_extend_from_slice(self.owners.as_slice()).unwrap();
+        owners
+            .try_extend_from_slice(self.owners.as_slice())
+            .unwrap();
         Account {
             opening: self.opening,
             owners,

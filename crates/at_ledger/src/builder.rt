@@ -37,7 +37,7 @@ impl Model for BookBuilder {
 
 impl BookBuilder {
     ghost use Rattle.at_ledger.specs.Account.{rounds_room};
-    ghost use Rattle.at_ledger.specs.Book.{IsBegun, IsSummed, rounds_of, total_of};
+    ghost use Rattle.at_ledger.specs.Book.{IsBegun, IsBook, IsSummed, rounds_of, total_of};
     ghost use Rattle.at_ledger.specs.Draft.{account_fault, book_without_accounts, limits_fault, sums_fault, terms_with, with_account};
 
     /// A book with these limits and no account yet.
@@ -96,6 +96,7 @@ impl BookBuilder {
     /// The book. It needs an account.
     pub fn finish(self) -> Result<Book, BookError>
         ensures ok { IfOk result (λ b. b ≡ self) }
+        ensures checked { IfOk result IsBook }
         ensures bad { IfErr result (λ e. (e ≡ BookError.NoAccount) × (self.accounts ≡ [])) }
     {
         if self.accounts.is_empty() {

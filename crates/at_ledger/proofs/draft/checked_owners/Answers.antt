@@ -10,10 +10,10 @@ returns-in-Some-clause-bad c =
 
 pub loop-owner-preserved : goal.loop-owner-preserved
 loop-owner-preserved c = (
-    rw c.push.ensures.len
-    (c.loop-owner.invariant.0
-    ∙ owners_fault-drop_good _ _ _ _ _ _ c.loop-owner-test.true (rw (← c.len.ensures.value) (sym c.in-None.ensures))),
-    grind (arith, common_steps)
+  rw c.push.ensures.len
+      (c.loop-owner.invariant.0
+      ∙ owners_fault-drop_good _ _ _ _ _ _ c.loop-owner-test.true (rw (← c.len.ensures.value) (sym c.in-None.ensures))),
+  grind (arith, common_steps),
 )
 
 pub returns-clause-good : goal.returns-clause-good

@@ -9,10 +9,10 @@ pub returns-in_err-slot-clause-slot : goal.returns-in_err-slot-clause-slot
 returns-in_err-slot-clause-slot c =
     c.from_residual.ensures ∙ (sym c.in_err-slot.was
     ∙ position_from_yields_List (λ owner. eqb owner c.args.process) _ _ c.position.result c.position.ensures.ran
-            (YieldsList-from_slice c.args.self.now.owners cc) (λ x b q k. search (rules, tests)))
+    (YieldsList-from_slice c.args.self.now.owners cc) (λ x b q k. search (rules, tests)))
 
 pub returns-clause-slot : goal.returns-clause-slot
 returns-clause-slot c =
     sym c.in_ok-slot.was
     ∙ position_from_yields_List (λ owner. eqb owner c.args.process) _ _ c.position.result c.position.ensures.ran
-            (YieldsList-from_slice c.args.self.now.owners cc) (λ x b q k. search (rules, tests))
+    (YieldsList-from_slice c.args.self.now.owners cc) (λ x b q k. search (rules, tests))
