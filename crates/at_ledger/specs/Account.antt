@@ -30,6 +30,10 @@ is_owner_in t process = is_some (slot_in t process)
 abbrev pub rounds_room : ℕ → AccountTerms → ℕ
 rounds_room request_room t = if is_shared t then length t.owners * request_room else 0
 
+-- how many of these rounds a process has room for: all of them where it is an owner
+abbrev pub rounds_room_of : ℕ → ℕ → AccountTerms → ℕ
+rounds_room_of request_room process t = if is_owner_in t process then rounds_room request_room t else 0
+
 -- each owner is above the one before it, and the first is at least `least`
 unfoldable pub IsRisingFrom : ℕ → List ℕ → Type 0
 IsRisingFrom least [] = Unit {0}

@@ -1,6 +1,6 @@
 -- A checked book: its processes, its accounts in order, and the room that each process has.
 use Rattle.std.specs.Prelude.{◌≡◌, ℕ, ◌+◌, ◌^◌, ◌<◌, ◌≤◌, ◌++◌, Bool, List, [], ◌∷◌, length, All, Option, sum_by, slice_index_or, if◌then◌else◌, ◌&&◌}
-use Rattle.at_ledger.specs.Account.{AccountTerms, no_account, is_single, is_shared, is_owner_in, slot_in, rounds_room, IsRisingFrom}
+use Rattle.at_ledger.specs.Account.{AccountTerms, no_account, is_single, is_shared, is_owner_in, slot_in, rounds_room, rounds_room_of, IsRisingFrom}
 use Rattle.at_ledger.specs.declared.draft.TheConstants.{PROCESSES_MAX, ACCOUNTS_MAX, OWNERS_MAX, OWN_ROOM_MAX, REQUEST_ROOM_MAX, ROUNDS_MAX}
 
 -- own_room counts the successful transfers from single accounts that each process has,
@@ -29,7 +29,7 @@ rounds_of b = sum_by (rounds_room b.request_room) b.accounts
 
 -- how many records the log of a process has room for: its own transfers, and each round of an account that it shares
 abbrev pub log_room_of : BookTerms → ℕ → ℕ
-log_room_of b process = b.own_room + sum_by (λ t. if is_owner_in t process then rounds_room b.request_room t else 0) b.accounts
+log_room_of b process = b.own_room + sum_by (rounds_room_of b.request_room process) b.accounts
 
 -- the owners of an account are processes, at most eight, each above the one before it
 pub record IsAccount (processes : ℕ) (t : AccountTerms) : Type 0 where
@@ -49,6 +49,12 @@ pub record IsBegun (b : BookTerms) : Type 0 where
   pub accounts : All (IsAccount b.processes) b.accounts
   pub rounds : rounds_of b ≤ ROUNDS_MAX
   pub total : total_of b < 2 ^ 64
+
+-- a book so far, with the sums of its rounds and openings
+pub record IsSummed (b : BookTerms) (rounds total : ℕ) : Type 0 where
+  pub begun : IsBegun b
+  pub rounds_summed : rounds ≡ rounds_of b
+  pub total_summed : total ≡ total_of b
 
 -- what holds of every book
 pub record IsBook (b : BookTerms) : Type 0 where

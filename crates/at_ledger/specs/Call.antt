@@ -1,5 +1,5 @@
 -- What a call names: its source and its targets.
-use Rattle.std.specs.Prelude.{◌≡◌, ℕ, ◌<◌, ◌≤◌, List, [], ◌∷◌, length, sum_by, All}
+use Rattle.std.specs.Prelude.{◌≡◌, ℕ, ◌<◌, ◌≤◌, List, [], ◌∷◌, length, sum_by, slice_index_or, All}
 use Rattle.at_ledger.specs.declared.call.Call.{Call}
 use Rattle.at_ledger.specs.declared.call.Call.TheVariants.{Transfer, Read, Pay}
 use Rattle.at_ledger.specs.declared.call.Line.{Line}
@@ -7,6 +7,10 @@ use Rattle.at_ledger.specs.declared.call.Line.{Line}
 -- an account and the amount for it
 abbrev pub TargetPair : Type 0
 TargetPair = ℕ × ℕ
+
+-- the target at a place
+abbrev pub target_at : List TargetPair → ℕ → TargetPair
+target_at targets i = slice_index_or targets i (0, 0)
 
 -- the sum of the amounts
 abbrev pub amount_of : List TargetPair → ℕ

@@ -48,6 +48,10 @@ account_fault b t =
     if nat_le ACCOUNTS_MAX (length b.accounts) then Some TooManyAccounts
     else option_or (owners_fault b.processes (length b.accounts) 0 0 t.owners) (sums_fault b t)
 
+-- an account that opens with so much and has these owners
+abbrev pub terms_with : ℕ → List ℕ → AccountTerms
+terms_with opening owners = record { opening = opening; owners = owners }
+
 -- the book with one more account
 abbrev pub with_account : BookTerms → AccountTerms → BookTerms
 with_account b t = record b { accounts = b.accounts ++ t ∷ [] }
@@ -64,7 +68,7 @@ book_without_accounts processes own_room request_room =
 
 -- what a drafted account says
 abbrev pub terms_of : DraftAccount → AccountTerms
-terms_of a = record { opening = a.opening; owners = a.owners.items }
+terms_of a = terms_with a.opening a.owners.items
 
 -- the first offence of a draft: its limits, and then its accounts in turn
 abbrev pub book_fault : Draft → Option BookError

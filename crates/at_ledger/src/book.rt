@@ -1,10 +1,11 @@
 //! A checked book.
 
-ghost use Rattle.std.specs.Prelude.{◌≡◌, ◌<◌, length, slice_index, IfOk};
+ghost use Rattle.std.specs.Prelude.{◌≡◌, ◌<◌, ◌≤◌, length, slice_index, None, Some, IfOk, OnOk, IfSome};
 
 use crate::NoMemory;
 use crate::account::Account;
-use crate::draft::{BookFault, Draft};
+use crate::builder::BookBuilder;
+use crate::draft::{BookError, BookFault, Draft, OWNERS_MAX};
 use std::alloc::Global;
 use std::marker::Model;
 
@@ -29,7 +30,126 @@ impl Model for Book {
 }
 
 impl Book {
-    ghost use Rattle.at_ledger.specs.Account.{slot_in};
+    ghost use Rattle.at_ledger.specs.Account.{is_shared, is_single, slot_in};
     ghost use Rattle.at_ledger.specs.Book.{IsBook, account_of, log_room_of};
     ghost use Rattle.at_ledger.specs.Draft.{book_fault, book_of};
+
+    /// Checks a draft and copies it.
+    pub fn new(alloc: Global, draft: &Draft) -> Result<Book, BookFault>
+        ensures ok { IfOk result (λ b. b ≡ book_of draft.now) }
+        ensures good { OnOk result (book_fault draft.now ≡ None) }
+        ensures bad { (e : BookError) → result ≡ Err (BookFault.Bad e) → book_fault draft.now ≡ Some e }
+    {
+        let mut builder = match BookBuilder::new(
+            alloc,
+            draft.processes,
+            draft.own_room,
+            draft.request_room,
+        ) {
+            Ok(builder) => builder,
+            Err(fault) => return Err(BookFault::Bad(fault)),
+        };
+        for account in &draft.accounts {
+            match builder.add(account.opening, account.owners.as_slice()) {
+                Ok(()) => {}
+                Err(fault) => return Err(fault),
+            }
+        }
+        match builder.finish() {
+            Ok(book) => Ok(book),
+            Err(fault) => Err(BookFault::Bad(fault)),
+        }
+    }
+
+    /// How many processes there are, at most 16.
+    pub fn processes(&self) -> u32
+        ensures { result ≡ self.now.processes }
+    {
+        self.processes
+    }
+
+    /// How many accounts there are, at most 1,024.
+    pub fn accounts(&self) -> u32
+        ensures count { result ≡ length self.now.accounts }
+        ensures checked { IsBook self.now }
+    {
+        self.accounts.len() as u32
+    }
+
+    /// How many transfers from single accounts can succeed for each process.
+    pub fn own_room(&self) -> u32
+        ensures { result ≡ self.now.own_room }
+    {
+        self.own_room
+    }
+
+    /// How many requests each owner of a shared account can make.
+    pub fn request_room(&self) -> u32
+        ensures { result ≡ self.now.request_room }
+    {
+        self.request_room
+    }
+
+    /// What the account opens with.
+    pub fn opening(&self, account: u32) -> u64
+        requires { account < length self.now.accounts }
+        ensures { result ≡ (account_of self.now account).opening }
+    {
+        self.accounts[account as usize].opening
+    }
+
+    /// How many owners the account has, at most eight.
+    pub fn owner_count(&self, account: u32) -> u32
+        requires { account < length self.now.accounts }
+        ensures count { result ≡ length (account_of self.now account).owners }
+        ensures few { result ≤ OWNERS_MAX }
+    {
+        self.accounts[account as usize].owner_count()
+    }
+
+    /// The process that owns the account at this slot. Slots count from 0, the lowest process first.
+    pub fn owner(&self, account: u32, slot: u32) -> u32
+        requires account_in { account < length self.now.accounts }
+        requires slot_in { slot < length (account_of self.now account).owners }
+        ensures owner { result ≡ slice_index (account_of self.now account).owners slot }
+        ensures known { result < self.now.processes }
+    {
+        self.accounts[account as usize].owners[slot as usize]
+    }
+
+    /// The slot of the process among the owners of the account.
+    pub fn slot_of(&self, account: u32, process: u32) -> Option<u32>
+        requires { account < length self.now.accounts }
+        ensures slot { result ≡ slot_in (account_of self.now account) process }
+        ensures within { IfSome result (λ slot. slot < length (account_of self.now account).owners) }
+        ensures owner { IfSome result (λ slot. slice_index (account_of self.now account).owners slot ≡ process) }
+    {
+        self.accounts[account as usize].slot_in(process)
+    }
+
+    /// How many records the log of the process has room for.
+    pub fn log_room(&self, process: u32) -> u32
+        ensures { result ≡ log_room_of self.now process }
+    {
+        let mut room = self.own_room;
+        for account in &self.accounts {
+            room += account.rounds_of(process, self.request_room);
+        }
+        room
+    }
+
+    pub fn copy(&self, alloc: Global) -> Result<Book, NoMemory>
+        ensures { IfOk result (λ b. b ≡ self.now) }
+    {
+        let mut accounts = Vec::new(alloc);
+        for account in &self.accounts {
+            accounts.push(account.copy())?;
+        }
+        Ok(Book {
+            processes: self.processes,
+            own_room: self.own_room,
+            request_room: self.request_room,
+            accounts,
+        })
+    }
 }

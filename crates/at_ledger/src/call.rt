@@ -1,5 +1,7 @@
 //! Calls, their replies, and the lines of a journal.
 
+ghost use Rattle.std.specs.Prelude.{◌≡◌};
+
 use crate::targets::Targets;
 
 /// What a process asks of the object.
@@ -11,6 +13,25 @@ pub enum Call {
     Read { account: u32 },
     /// Move an amount from one account to each target, all of them or none.
     Pay { from: u32, targets: Targets },
+}
+
+impl Call {
+    pub fn copy(&self) -> Call
+        ensures { result ≡ self.now }
+    {
+        match self {
+            Call::Transfer { from, to, amount } => Call::Transfer {
+                from: *from,
+                to: *to,
+                amount: *amount,
+            },
+            Call::Read { account } => Call::Read { account: *account },
+            Call::Pay { from, targets } => Call::Pay {
+                from: *from,
+                targets: targets.copy(),
+            },
+        }
+    }
 }
 
 /// What a call answers.

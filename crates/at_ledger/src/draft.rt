@@ -1,6 +1,10 @@
 //! A book before it is checked, and why it may be refused.
 
-use std::alloc::AllocError;
+ghost use Rattle.std.specs.Prelude.{◌≡◌, ◌≤◌, ◌<◌, length, None, Some, All, OnOk, IfOk, IfErr};
+ghost use Rattle.at_ledger.specs.Account.{IsRisingFrom};
+ghost use Rattle.at_ledger.specs.Draft.{is_within, limits_fault, owner_fault, owners_fault};
+
+use arrayvec::ArrayVec;
 use thiserror::Error;
 
 /// The most processes of a book.
@@ -69,4 +73,70 @@ pub enum BookFault {
     Bad(BookError),
     #[error("no memory")]
     NoMemory,
+}
+
+/// Whether a number is from 1 to `most`.
+fn is_within(most: u32, n: u64) -> bool
+    ensures { result ≡ is_within most n }
+{
+    1 <= n && n <= u64::from(most)
+}
+
+/// The fault of the limits alone, before any account.
+pub(crate) fn limits_fault(processes: u64, own_room: u64, request_room: u64) -> Option<BookError>
+    ensures { result ≡ limits_fault processes own_room request_room }
+{
+    if processes == 0 {
+        Some(BookError::NoProcess)
+    } else if u64::from(PROCESSES_MAX) < processes {
+        Some(BookError::TooManyProcesses)
+    } else if is_within(OWN_ROOM_MAX, own_room) && is_within(REQUEST_ROOM_MAX, request_room) {
+        None
+    } else {
+        Some(BookError::RoomOutOfRange)
+    }
+}
+
+/// Why `owner` can't follow `count` owners of the account, where the next one has to be at least `least`.
+fn owner_fault(
+    processes: u32,
+    account: u32,
+    count: usize,
+    least: u64,
+    owner: u64,
+) -> Option<BookError>
+    ensures { result ≡ owner_fault processes account count least owner }
+{
+    if u64::from(processes) <= owner {
+        Some(BookError::OwnerOutOfRange { account })
+    } else if owner < least {
+        Some(BookError::OwnersNotRising { account })
+    } else if OWNERS_MAX <= count {
+        Some(BookError::TooManyOwners { account })
+    } else {
+        None
+    }
+}
+
+/// The owners of the account, or the first fault from left to right.
+pub(crate) fn checked_owners(
+    processes: u32,
+    account: u32,
+    owners: &[u64],
+) -> Result<ArrayVec<u32, OWNERS_MAX>, BookError>
+    ensures ok { IfOk result (λ list. list.items ≡ owners.now) }
+    ensures good { OnOk result (owners_fault processes account 0 0 owners.now ≡ None) }
+    ensures bad { IfErr result (λ e. owners_fault processes account 0 0 owners.now ≡ Some e) }
+{
+    let mut list = ArrayVec::new();
+    let mut least = 0;
+    for owner in owners {
+        match owner_fault(processes, account, list.len(), least, *owner) {
+            None => {}
+            Some(fault) => return Err(fault),
+        }
+        list.push(*owner as u32);
+        least = *owner + 1;
+    }
+    Ok(list)
 }

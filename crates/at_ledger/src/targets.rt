@@ -1,5 +1,7 @@
 //! The targets of a pay-out.
 
+ghost use Rattle.std.specs.Prelude.{◌≡◌, ◌<◌, ◌≤◌, ◌++◌, [], ◌∷◌, length};
+
 use arrayvec::ArrayVec;
 use std::marker::Model;
 
@@ -9,7 +11,7 @@ pub const TARGETS_MAX: usize = 4;
 /// One to four accounts with an amount for each. An account may stand in it twice.
 #[derive(Debug, Drop)]
 pub struct Targets {
-    list: ArrayVec<(u32, u64), 4>,
+    list: ArrayVec<(u32, u64), TARGETS_MAX>,
 }
 
 impl Model for Targets {
@@ -20,4 +22,68 @@ impl Model for Targets {
     ghost view = { λ t. t.list.items };
 
     ghost invariant = { λ t. (1 ≤ length t.list.items) × (length t.list.items ≤ 4) };
+}
+
+impl Targets {
+    ghost use Rattle.at_ledger.specs.Call.{amount_of, target_at};
+
+    /// The one target of a transfer.
+    pub fn one(to: u32, amount: u64) -> Targets
+        ensures { result ≡ (to, amount) ∷ [] }
+    {
+        let mut list = ArrayVec::new();
+        list.push((to, amount));
+        Targets { list }
+    }
+
+    /// Adds a target after the others.
+    pub fn push(&mut self, to: u32, amount: u64)
+        requires { length self.old < TARGETS_MAX }
+        ensures { self.new ≡ self.old ++ (to, amount) ∷ [] }
+    {
+        self.list.push((to, amount));
+    }
+
+    pub fn len(&self) -> u32
+        ensures count { result ≡ length self.now }
+        ensures some { 1 ≤ length self.now }
+        ensures few { length self.now ≤ TARGETS_MAX }
+    {
+        self.list.len() as u32
+    }
+
+    /// The account of a target.
+    pub fn to(&self, i: u32) -> u32
+        requires { i < length self.now }
+        ensures { result ≡ (target_at self.now i).0 }
+    {
+        self.list[i as usize].0
+    }
+
+    /// The amount for a target.
+    pub fn amount(&self, i: u32) -> u64
+        requires { i < length self.now }
+        ensures { result ≡ (target_at self.now i).1 }
+    {
+        self.list[i as usize].1
+    }
+
+    /// The sum of the amounts, which may not fit 64 bits.
+    pub fn sum(&self) -> u128
+        ensures { result ≡ amount_of self.now }
+    {
+        let mut sum = 0u128;
+        for target in self.list.as_slice() {
+            sum += u128::from(target.1);
+        }
+        sum
+    }
+
+    pub fn copy(&self) -> Targets
+        ensures { result ≡ self.now }
+    {
+        let mut list = ArrayVec::new();
+        list.try_extend_from_slice(self.list.as_slice()).unwrap();
+        Targets { list }
+    }
 }

@@ -1,0 +1,18 @@
+-- `position` finds the slot.
+use Rattle.std.proofs.Common.{rules, tests, ◌≡◌, eqb, sym, ◌∙◌}
+use Rattle.std.proofs.lemmas.Iterator.{YieldsList-from_slice}
+use Rattle.std.proofs.lemmas.Iterator.Search.{position_from_yields_List}
+use Rattle.at_ledger.specs.Account.{slot_in}
+use Rattle.at_ledger.proofs.account.Account.slot_in.Goals as goal
+
+pub returns-in_err-slot-clause-slot : goal.returns-in_err-slot-clause-slot
+returns-in_err-slot-clause-slot c =
+    c.from_residual.ensures ∙ (sym c.in_err-slot.was
+    ∙ position_from_yields_List (λ owner. eqb owner c.args.process) _ _ c.position.result c.position.ensures.ran
+    (YieldsList-from_slice c.args.self.now.owners cc) (λ x b q k. search (rules, tests)))
+
+pub returns-clause-slot : goal.returns-clause-slot
+returns-clause-slot c =
+    sym c.in_ok-slot.was
+    ∙ position_from_yields_List (λ owner. eqb owner c.args.process) _ _ c.position.result c.position.ensures.ran
+    (YieldsList-from_slice c.args.self.now.owners cc) (λ x b q k. search (rules, tests))
