@@ -1,1 +1,4 @@
 pub mod RowLaws
+pub mod RecordLaws
+pub mod PaymentLaws
+pub mod SpellingLaws

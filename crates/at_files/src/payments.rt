@@ -70,3 +70,48 @@ fn plain_call_of(accounts: u32, row: &ByteRecord) -> Result<Call, PaymentsWhy>
         Err(PaymentsWhy::Shape)
     }
 }
+
+/// Reads the payment file of one process. A file without records is a file without calls.
+///
+/// Fields are looked at where they lie; beside the calls only one record is held at a time.
+pub fn read_payments(
+    alloc: Global,
+    book: &Book,
+    names: &Names,
+    bytes: &[u8],
+) -> Result<Vec<Call>, ReadPaymentsFault>
+    requires { AreNamesOf book.now names.now }
+    ensures ok { IfOk result (λ calls. payments_of names.now (rows_of bytes.now) ≡ Ok calls.items) }
+    ensures pays { IfOk result (λ calls. Pays book.now names.now (rows_of bytes.now) calls.items) }
+    ensures bad { (b : BadPayments) → result ≡ Err (ReadPaymentsFault.Bad b) → payments_of names.now (rows_of bytes.now) ≡ Err b }
+{
+    let accounts = book.accounts();
+    let mut rows = Rows::new(alloc, bytes);
+    let mut row = ByteRecord::new(alloc);
+    let mut calls = Vec::new(alloc);
+    for line in 1..CALLS_MAX + 1 {
+        let Ok(found) = rows.next(&mut row) else {
+            return Err(ReadPaymentsFault::NoMemory);
+        };
+        if !found {
+            return Ok(calls);
+        }
+        let call = match plain_call_of(accounts, &row) {
+            Ok(call) => call,
+            Err(why) => return Err(ReadPaymentsFault::Bad(BadPayments { line, why })),
+        };
+        if calls.push(call).is_err() {
+            return Err(ReadPaymentsFault::NoMemory);
+        }
+    }
+    let Ok(found) = rows.next(&mut row) else {
+        return Err(ReadPaymentsFault::NoMemory);
+    };
+    if found {
+        return Err(ReadPaymentsFault::Bad(BadPayments {
+            line: CALLS_MAX + 1,
+            why: PaymentsWhy::TooManyCalls,
+        }));
+    }
+    Ok(calls)
+}
