@@ -1,0 +1,19 @@
+//! The shelf that files are read from, and the sink that bytes are written to, each as a trait with
+//! implementations in memory and over the real system. What `fetch` reads are the bytes of the
+//! file, what `put_all` writes are the bytes given, and a failure comes only with a counted fault
+//! or for a file that is not held.
+#![tactic(auto)]
+
+mod faults;
+mod reading;
+mod shelf;
+mod sink;
+mod writing;
+
+pub use reading::{FILE_MAX, FetchError, fetch};
+pub use shelf::{ReadFailed, Shelf};
+pub use sink::{Sink, WriteFailed};
+pub use writing::{WriteFault, put_all};
+
+/// Want of memory.
+pub type NoMemory = std::alloc::AllocError;
