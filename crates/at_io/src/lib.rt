@@ -5,11 +5,16 @@
 #![tactic(auto)]
 
 mod faults;
+mod held_files;
+mod memory_shelf;
+mod memory_sink;
 mod reading;
 mod shelf;
 mod sink;
 mod writing;
 
+pub use memory_shelf::MemoryShelf;
+pub use memory_sink::MemorySink;
 pub use reading::{FILE_MAX, FetchError, fetch};
 pub use shelf::{ReadFailed, Shelf};
 pub use sink::{Sink, WriteFailed};
