@@ -4,6 +4,7 @@
 //! or for a file that is not held.
 #![tactic(auto)]
 
+mod dir_shelf;
 mod faults;
 mod held_files;
 mod memory_shelf;
@@ -11,13 +12,20 @@ mod memory_sink;
 mod reading;
 mod shelf;
 mod sink;
+mod std_sink;
+mod steady_shelf;
+mod steady_sink;
 mod writing;
 
+pub use dir_shelf::DirShelf;
 pub use memory_shelf::MemoryShelf;
 pub use memory_sink::MemorySink;
 pub use reading::{FILE_MAX, FetchError, fetch};
 pub use shelf::{ReadFailed, Shelf};
 pub use sink::{Sink, WriteFailed};
+pub use std_sink::StdSink;
+pub use steady_shelf::SteadyShelf;
+pub use steady_sink::SteadySink;
 pub use writing::{WriteFault, put_all};
 
 /// Want of memory.
