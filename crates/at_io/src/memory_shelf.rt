@@ -80,6 +80,7 @@ impl MemoryShelf {
     }
 }
 
+// The methods' clauses give the trait's.
 impl Shelf for MemoryShelf {
     ghost use Rattle.std.specs.Prelude.{true};
     ghost use Rattle.at_io.specs.HeldFiles.{file_of};
@@ -93,13 +94,7 @@ impl Shelf for MemoryShelf {
     ghost faults = { λ s. s.faults };
 
     fn choose(&mut self, name: &str) -> Result<(), ReadFailed>
-        ensures files { SameFiles true true (file_of self.old.held.files) (file_of self.new.held.files) }
         ensures later { self.old.faults ≤ self.new.faults }
-        ensures kept { OnOk result (self.new.faults ≡ self.old.faults) }
-        ensures failed { OnErr result (Rose self.old.faults self.new.faults ⊎ LacksFile true (file_of self.old.held.files name.now)) }
-        ensures chosen { OnOk result (file_of self.old.held.files name.now ≡ Some self.new.held.rest) }
-        ensures none_chosen { OnErr result (self.new.held.rest ≡ []) }
-
         ensures succeeds { is_ok result ≡ (not (next_fails self.old) && is_some (file_of self.old.held.files name.now)) }
         ensures after { self.new ≡ after_call self.old (rest_chosen self.old name.now) }
     {
@@ -115,17 +110,11 @@ impl Shelf for MemoryShelf {
     }
 
     fn read(&mut self, buf: &mut [u8]) -> Result<usize, ReadFailed>
-        ensures files { SameFiles true true (file_of self.old.held.files) (file_of self.new.held.files) }
         ensures later { self.old.faults ≤ self.new.faults }
-        ensures kept { OnOk result (self.new.faults ≡ self.old.faults) }
-        ensures failed { OnErr result (Rose self.old.faults self.new.faults) }
-        ensures bound { IfOk result (λ n. n ≤ length buf.old) }
-        ensures bytes { IfOk result (λ n. self.old.held.rest ≡ take n buf.new ++ self.new.held.rest) }
-        ensures end { IfOk result (λ n. 0 < length buf.old → n ≡ 0 → self.old.held.rest ≡ []) }
-        ensures unread { OnErr result (self.new.held.rest ≡ self.old.held.rest) }
-
         ensures fails { next_fails self.old ≡ true → IsErr result }
         ensures count { next_fails self.old ≡ false → result ≡ Ok (read_count self.old (length buf.old)) }
+        ensures bytes { IfOk result (λ n. self.old.held.rest ≡ take n buf.new ++ self.new.held.rest) }
+        ensures end { IfOk result (λ n. 0 < length buf.old → n ≡ 0 → self.old.held.rest ≡ []) }
         ensures after { self.new ≡ after_call self.old (rest_read self.old (length buf.old)) }
     {
         match self.count_call() {

@@ -1,6 +1,6 @@
-ghost use Rattle.std.specs.Prelude.{◌≡◌, ℕ, ◌≤◌, ◌<◌, ◌++◌, ◌^◌, ◌-◌, [], ◌∷◌, min, take, length, IfOk, OnOk, OnErr, IsErr};
+ghost use Rattle.std.specs.Prelude.{◌≡◌, ℕ, ◌≤◌, ◌<◌, ◌++◌, ◌^◌, ◌-◌, true, false, [], take, length, IfOk, OnOk, OnErr, IsErr};
 ghost use Rattle.at_io.specs.Faults.{Rose, next_count};
-ghost use Rattle.at_io.specs.MemorySink.{write_count};
+ghost use Rattle.at_io.specs.MemorySink.{write_count, write_fails, after_write};
 
 use crate::NoMemory;
 use crate::faults::raised;
@@ -65,6 +65,7 @@ impl MemorySink {
     }
 }
 
+// The method's clauses give the trait's.
 impl Sink for MemorySink {
     ghost use Rattle.std.specs.Prelude.{true};
 
@@ -76,19 +77,10 @@ impl Sink for MemorySink {
 
     fn write(&mut self, piece: &[u8]) -> Result<usize, WriteFailed>
         ensures later { self.old.faults ≤ self.new.faults }
-        ensures kept { OnOk result (self.new.faults ≡ self.old.faults) }
-        ensures failed { OnErr result (Rose self.old.faults self.new.faults) }
-        ensures bound { IfOk result (λ n. n ≤ length piece.now) }
+        ensures fails { write_fails self.old (length piece.now) ≡ true → IsErr result }
+        ensures count { write_fails self.old (length piece.now) ≡ false → result ≡ Ok (write_count self.old (length piece.now)) }
         ensures some { 0 < length piece.now → IfOk result (λ n. 0 < n) }
-        ensures empty { piece.now ≡ [] → result ≡ Ok 0 }
-        ensures front { IfOk result (λ n. self.new.taken ≡ self.old.taken ++ take n piece.now) }
-        ensures untaken { OnErr result (self.new.taken ≡ self.old.taken) }
-
-        ensures count { IfOk result (λ n. n ≡ write_count self.old (length piece.now)) }
-        ensures full_only { OnErr result (self.old.room ≡ length self.old.taken) }
-        ensures full { self.old.room ≡ length self.old.taken → 0 < length piece.now → IsErr result }
-        ensures room { self.new.room ≡ self.old.room }
-        ensures grain { self.new.grain ≡ self.old.grain }
+        ensures after { self.new ≡ after_write self.old piece.now }
     {
         if piece.is_empty() {
             return Ok(0);
