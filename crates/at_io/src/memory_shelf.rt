@@ -1,4 +1,4 @@
-ghost use Rattle.std.specs.Prelude.{◌≡◌, ℕ, ◌≤◌, ◌<◌, ◌⊎◌, ◌++◌, ◌^◌, ◌-◌, true, false, [], map, take, length, Some, IfOk, OnOk, OnErr, is_some, unwrap_or, IsErr, ◌&&◌, not, is_ok};
+ghost use Rattle.std.specs.Prelude.{◌≡◌, ◌↔◌, ℕ, ◌≤◌, ◌<◌, ◌⊎◌, ◌++◌, ◌^◌, ◌-◌, true, false, [], map, take, length, Some, IfOk, OnOk, OnErr, is_some, unwrap_or, IsErr, ◌&&◌, not, is_ok};
 ghost use Rattle.at_io.specs.Faults.{Rose};
 ghost use Rattle.at_io.specs.HeldFiles.{named, file_of};
 ghost use Rattle.at_io.specs.Shelf.{SameFiles, LacksFile};
@@ -114,7 +114,7 @@ impl Shelf for MemoryShelf {
         ensures fails { next_fails self.old ≡ true → IsErr result }
         ensures count { next_fails self.old ≡ false → result ≡ Ok (read_count self.old (length buf.old)) }
         ensures bytes { IfOk result (λ n. self.old.held.rest ≡ take n buf.new ++ self.new.held.rest) }
-        ensures end { IfOk result (λ n. 0 < length buf.old → n ≡ 0 → self.old.held.rest ≡ []) }
+        ensures end { IfOk result (λ n. 0 < length buf.old → (n ≡ 0) ↔ (self.old.held.rest ≡ [])) }
         ensures after { self.new ≡ after_call self.old (rest_read self.old (length buf.old)) }
     {
         match self.count_call() {

@@ -1,4 +1,4 @@
-ghost use Rattle.std.specs.Prelude.{◌≡◌, ℕ, ◌≤◌, ◌<◌, ◌⊎◌, Bool, true, List, [], ◌++◌, length, take, Option, IfOk, OnOk, OnErr};
+ghost use Rattle.std.specs.Prelude.{◌≡◌, ◌↔◌, ℕ, ◌≤◌, ◌<◌, ◌⊎◌, Bool, true, List, [], ◌++◌, length, take, Option, IfOk, OnOk, OnErr};
 ghost use Rattle.at_io.specs.Faults.{Rose};
 ghost use Rattle.at_io.specs.Shelf.{SameFiles, LacksFile};
 
@@ -39,6 +39,6 @@ pub trait Shelf {
         ensures failed { OnErr result (Rose (faults self.old) (faults self.new)) }
         ensures bound { IfOk result (λ n. n ≤ length buf.old) }
         ensures bytes { tells self.old ≡ true → IfOk result (λ n. rest self.old ≡ take n buf.new ++ rest self.new) }
-        ensures end { tells self.old ≡ true → IfOk result (λ n. 0 < length buf.old → n ≡ 0 → rest self.old ≡ []) }
+        ensures end { tells self.old ≡ true → IfOk result (λ n. 0 < length buf.old → (n ≡ 0) ↔ (rest self.old ≡ [])) }
         ensures unread { tells self.old ≡ true → OnErr result (rest self.new ≡ rest self.old) };
 }
