@@ -15,6 +15,8 @@ mod sink;
 mod std_sink;
 mod steady_shelf;
 mod steady_sink;
+#[cfg(test)]
+mod tests;
 mod writing;
 
 pub use dir_shelf::DirShelf;
