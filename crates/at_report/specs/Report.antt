@@ -12,10 +12,13 @@ use Rattle.at_report.specs.Lines.{Words, journal_words, line_text, lines_text}
 abbrev pub journal_lines : NameList → List Line → List Words
 journal_lines names lines = (codes "journal" ∷ decimal (length lines) ∷ []) ∷ map (journal_words names) lines
 
--- the name and the balance of each account, in order
+-- the name and the balance of an account
+abbrev pub balance_words : NameList → LedgerState → ℕ → Words
+balance_words names s account = account_name names account ∷ decimal (balance_of s account) ∷ []
+
+-- the same of each account, in order
 abbrev pub balance_lines : NameList → LedgerState → List Words
-balance_lines names s =
-    map (λ a. account_name names a ∷ decimal (balance_of s a) ∷ []) (range_with_len 0 (length s.book.accounts))
+balance_lines names s = map (balance_words names s) (range_with_len 0 (length s.book.accounts))
 
 -- the audit: how many accounts there are, the balance of each, and their total
 abbrev pub audit_lines : NameList → LedgerState → List Words

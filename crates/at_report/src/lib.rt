@@ -7,6 +7,8 @@ mod lines;
 mod refusal;
 mod run_report;
 mod status;
+#[cfg(test)]
+mod tests;
 
 /// What a call answers that found no memory.
 pub type NoMemory = std::alloc::AllocError;

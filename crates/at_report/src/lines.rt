@@ -20,7 +20,8 @@ fn push_word(out: &mut Vec<u8>, word: &[u8]) -> Result<(), NoMemory>
 pub(crate) fn push_number(out: &mut Vec<u8>, n: u64) -> Result<(), NoMemory>
     ensures { OnOk result (out.new.items ≡ out.old.items ++ spaced (decimal n ∷ [])) }
 {
-    push_word(out, itoa::Buffer::new().format(n).as_bytes())
+    out.push(b' ')?;
+    at_base::push_number(out, n)
 }
 
 /// Adds a line of a word and a number.

@@ -43,7 +43,7 @@ pub enum MessagesWhy {
 }
 
 /// What the program answers. File 0 is the book, file p + 1 the payment or message file of process p, and a
-/// further file comes after those. Lines are records, counted from 1.
+/// further file comes after those. A line is a record, counted from 1, and in a report a line of the text.
 #[derive(Clone, Copy, Debug, PartialEq, Eq)]
 pub enum Status {
     /// The whole text was written.
