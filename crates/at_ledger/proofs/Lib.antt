@@ -2,3 +2,4 @@ pub mod Faults
 pub mod Owners
 pub mod Books
 pub mod Credited
+pub mod Run
