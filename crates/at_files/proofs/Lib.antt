@@ -2,3 +2,5 @@ pub mod RowLaws
 pub mod RecordLaws
 pub mod PaymentLaws
 pub mod SpellingLaws
+pub mod NameLaws
+pub mod OwnerLaws
