@@ -4,3 +4,4 @@ pub mod PaymentLaws
 pub mod SpellingLaws
 pub mod NameLaws
 pub mod OwnerLaws
+pub mod BookLaws

@@ -1,8 +1,9 @@
 -- The numbers of an owners field.
-use Rattle.std.proofs.Common.{◌≡◌, ℕ, ◌+◌, ◌<◌, ◌≤◌, List, [], ◌∷◌, ◌++◌, length, map, drop, get_or, Option, Some, None, refl, sym, ◌∙◌, ap, append_assoc, append-nil, arith}
+use Rattle.std.proofs.Common.{◌≡◌, ℕ, ◌+◌, ◌<◌, ◌≤◌, ◌==◌, true, false, List, [], ◌∷◌, ◌++◌, length, map, drop, get_or, Option, Some, None, refl, sym, ◌∙◌, ap, append_assoc, append-nil, arith}
 use Rattle.std.proofs.lemmas.List.{at_drop_more, at_drop_all}
 use Rattle.at_base.specs.Numbers.{number_of}
-use Rattle.at_files.specs.BookFile.{number_before, numbers_of}
+use Rattle.std.specs.List.{slice_split}
+use Rattle.at_files.specs.BookFile.{number_before, numbers_of, pieces_of}
 
 -- numbers in front of those that come later, if each of these is one
 abbrev pub numbers_before : List ℕ → Option (List ℕ) → Option (List ℕ)
@@ -49,3 +50,12 @@ pub AreRead-end : (pieces : List (List ℕ)) (numbers : List ℕ) (count : ℕ) 
 unfolding numbers_of
 AreRead-end pieces numbers count are all =
     are.read ∙ rw (at_drop_all numbers_of pieces count all) (ap Some (append-nil numbers))
+
+-- an empty field has no owner
+pub numbers_of-empty : (text : List ℕ) → (length text == 0) ≡ true → numbers_of (pieces_of text) ≡ Some []
+unfolding numbers_of
+numbers_of-empty text empty = rw empty refl
+
+-- any other field is cut at its spaces
+pub pieces_of-some : (text : List ℕ) → (length text == 0) ≡ false → pieces_of text ≡ slice_split (λ byte. byte == 32) text
+pieces_of-some text some = rw some refl
