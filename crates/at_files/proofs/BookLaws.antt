@@ -1,11 +1,12 @@
 -- The walk over the records of a book file.
-use Rattle.std.proofs.Common.{◌≡◌, ℕ, ◌+◌, ◌<◌, ◌≤◌, Bool, true, false, ◌==◌, nat_le, List, [], ◌∷◌, ◌++◌, length, Option, Some, None, Result, Ok, Err, if◌then◌else◌, refl, sym, ◌∙◌, ap, arith}
+use Rattle.std.proofs.Common.{◌≡◌, ℕ, ◌+◌, ◌<◌, ◌≤◌, Bool, true, false, ◌==◌, nat_le, List, [], ◌∷◌, ◌++◌, length, Option, Some, None, Result, Ok, Err, if◌then◌else◌, refl, sym, ◌∙◌, ap, length-append, arith}
 use Rattle.std.proofs.lemmas.Bool.Decides.{nat_tests}
 use Rattle.at_ledger.specs.Book.{BookTerms}
 use Rattle.at_ledger.specs.declared.draft.BookError.TheVariants.{TooManyAccounts}
 use Rattle.at_ledger.specs.declared.draft.TheConstants.{ACCOUNTS_MAX}
 use Rattle.at_files.specs.Rows.{Fields}
 use Rattle.at_files.specs.BookFile.{at_line, after, with_row, accounts_from, book_at_end}
+use Rattle.at_files.proofs.AccountLaws.{with_row-adds}
 use Rattle.at_files.specs.declared.book_fault.BookWhy.{BookWhy}
 use Rattle.at_files.specs.declared.book_fault.BookWhy.TheVariants as why
 use Rattle.at_files.specs.declared.book_fault.BadBook.{BadBook}
@@ -28,7 +29,9 @@ accounts_from-row b row rows = refl
 
 -- an added account makes the book longer by one
 length-with_row : (b more : BookTerms) (row : Fields) → with_row b row ≡ Ok more → length more.accounts ≡ length b.accounts + 1
-length-with_row b more row h = ?
+length-with_row b more row h =
+    let adds = with_row-adds b row more h in
+    rw adds.whole_is (length-append b.accounts (adds.account ∷ []))
 
 pub Added-start : (b : BookTerms) (rows : List Fields) → b.accounts ≡ [] → Added (accounts_from b rows) b 4 rows
 Added-start b rows none = record { walk = refl; line_is = rw none refl }
@@ -66,3 +69,11 @@ Added-full whole b line rows found row rest added next some last =
     let here : rows ≡ row ∷ rest = next ∙ rw some refl in
     let full : length b.accounts ≡ ACCOUNTS_MAX = let at = added.line_is in omega arith in
     added.walk ∙ rw (here, accounts_from-row b row rest, with_row-full b row full, full) refl
+
+-- the offence that an answer carries
+pub Bad-same : {T : Type 0} (x b : BadBook) → ◌≡◌ {A = Result T ReadBookFault} (Err (Bad x)) (Err (Bad b)) → x ≡ b
+Bad-same x b h = cc
+
+-- the same answer, of two calls that give other values
+pub Err-same : {T U : Type 0} (fault other : ReadBookFault) → ◌≡◌ {A = Result T ReadBookFault} (Err fault) (Err other) → ◌≡◌ {A = Result U ReadBookFault} (Err fault) (Err other)
+Err-same fault other h = let same : fault ≡ other = cc in ap Err same

@@ -4,4 +4,6 @@ pub mod PaymentLaws
 pub mod SpellingLaws
 pub mod NameLaws
 pub mod OwnerLaws
+pub mod AccountLaws
 pub mod BookLaws
+pub mod SpellsLaws

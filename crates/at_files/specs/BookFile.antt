@@ -85,7 +85,7 @@ after (Err bad) more = Err bad
 
 -- the end of the records: a book has an account
 abbrev pub book_at_end : BookTerms → Result BookTerms BadBook
-book_at_end b = if length b.accounts == 0 then Err (record { line = 4; why = why.Book NoAccount }) else Ok b
+book_at_end b = if length b.accounts == 0 then at_line 4 (Err (why.Book NoAccount)) else Ok b
 
 -- the accounts of these records, added to the book so far; account i stands in record i + 4
 unfoldable pub accounts_from : BookTerms → List Fields → Result BookTerms BadBook
