@@ -2,3 +2,8 @@ pub mod RowLaws
 pub mod RecordLaws
 pub mod PaymentLaws
 pub mod SpellingLaws
+pub mod NameLaws
+pub mod OwnerLaws
+pub mod AccountLaws
+pub mod BookLaws
+pub mod SpellsLaws

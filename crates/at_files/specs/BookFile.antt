@@ -4,7 +4,7 @@ use Rattle.std.specs.List.{slice_split, join_with_byte}
 use Rattle.at_base.specs.Numbers.{number_of}
 use Rattle.at_ledger.specs.Account.{AccountTerms}
 use Rattle.at_ledger.specs.Book.{BookTerms}
-use Rattle.at_ledger.specs.Draft.{limits_fault, account_fault, with_account, book_without_accounts}
+use Rattle.at_ledger.specs.Draft.{limits_fault, account_fault, terms_with, with_account, book_without_accounts}
 use Rattle.at_ledger.specs.declared.draft.BookError.{BookError}
 use Rattle.at_ledger.specs.declared.draft.BookError.TheVariants.{NoAccount, TooManyAccounts}
 use Rattle.at_ledger.specs.declared.draft.TheConstants.{ACCOUNTS_MAX}
@@ -59,21 +59,21 @@ unfoldable pub numbers_of : List (List ℕ) → Option (List ℕ)
 numbers_of [] = Some []
 numbers_of (piece ∷ pieces) = number_before (number_of piece) (numbers_of pieces)
 
--- an account that has the next number and breaks no limit of the book so far
-abbrev pub next_account : BookTerms → Option ℕ → Option ℕ → Option (List ℕ) → Result AccountTerms BookWhy
-next_account b (Some id) (Some opening) (Some owners) =
-    if id == length b.accounts then within_limits (account_fault b (record { opening = opening; owners = owners })) (record { opening = opening; owners = owners })
+-- the book so far with one more account, which has the next number and breaks no limit
+abbrev pub with_next : BookTerms → Option ℕ → Option ℕ → Option (List ℕ) → Result BookTerms BookWhy
+with_next b (Some id) (Some opening) (Some owners) =
+    if id == length b.accounts then within_limits (account_fault b (terms_with opening owners)) (with_account b (terms_with opening owners))
     else Err why.AccountOrder
-next_account b _ _ _ = Err why.Number
+with_next b _ _ _ = Err why.Number
 
--- a record from the fourth on: the account that it adds to the book so far
-abbrev pub account_row : BookTerms → Fields → Result AccountTerms BookWhy
-account_row b row =
+-- a record from the fourth on: the book so far with the account that it adds
+abbrev pub with_row : BookTerms → Fields → Result BookTerms BookWhy
+with_row b row =
     if nat_le ACCOUNTS_MAX (length b.accounts) then Err (why.Book TooManyAccounts)
-    else if has_shape (codes "account") 4 row then next_account b (number_at row 1) (number_at row 2) (numbers_of (pieces_of (field_of row 3)))
+    else if has_shape (codes "account") 4 row then with_next b (number_at row 1) (number_at row 2) (numbers_of (pieces_of (field_of row 3)))
     else Err why.Shape
 
--- the same, with the line of an offence
+-- what a record of this line gives, or the line with the cause of its offence
 abbrev pub at_line : {A : Type 0} → ℕ → Result A BookWhy → Result A BadBook
 at_line line (Ok x) = Ok x
 at_line line (Err w) = Err (record { line = line; why = w })
@@ -85,13 +85,13 @@ after (Err bad) more = Err bad
 
 -- the end of the records: a book has an account
 abbrev pub book_at_end : BookTerms → Result BookTerms BadBook
-book_at_end b = if length b.accounts == 0 then Err (record { line = 4; why = why.Book NoAccount }) else Ok b
+book_at_end b = if length b.accounts == 0 then at_line 4 (Err (why.Book NoAccount)) else Ok b
 
 -- the accounts of these records, added to the book so far; account i stands in record i + 4
 unfoldable pub accounts_from : BookTerms → List Fields → Result BookTerms BadBook
 accounts_from b [] = book_at_end b
 accounts_from b (row ∷ rows) =
-    after (at_line (length b.accounts + 4) (account_row b row)) (λ t. accounts_from (with_account b t) rows)
+    after (at_line (length b.accounts + 4) (with_row b row)) (λ more. accounts_from more rows)
 
 -- from record 3 on
 abbrev pub limits_from : ℕ → List Fields → Result BookTerms BadBook
@@ -112,11 +112,14 @@ book_of_rows (row ∷ rows) = after (at_line 1 (version_of row)) (λ version. pr
 abbrev pub owners_text : List ℕ → List ℕ
 owners_text owners = join_with_byte 32 (map decimal owners)
 
+-- the record of the account with this number
+abbrev pub fields_of_account : ℕ → AccountTerms → Fields
+fields_of_account id t = codes "account" ∷ decimal id ∷ decimal t.opening ∷ owners_text t.owners ∷ []
+
 -- the records of accounts, the first of which has this number
 unfoldable pub account_rows : ℕ → List AccountTerms → List Fields
 account_rows id [] = []
-account_rows id (t ∷ ts) =
-    (codes "account" ∷ decimal id ∷ decimal t.opening ∷ owners_text t.owners ∷ []) ∷ account_rows (id + 1) ts
+account_rows id (t ∷ ts) = fields_of_account id t ∷ account_rows (id + 1) ts
 
 -- the records of a book, written out
 abbrev pub rows_of_book : BookTerms → List Fields

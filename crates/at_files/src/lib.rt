@@ -3,9 +3,11 @@
 //! `read_book` and `read_payments` accept exactly the forms, and name the first offence of every other file.
 #![tactic(auto)]
 
+mod book;
 mod book_fault;
 mod fields;
 mod names;
+mod owners;
 mod payments;
 mod payments_fault;
 mod rows;

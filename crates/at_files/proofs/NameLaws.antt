@@ -1,0 +1,60 @@
+-- The names of version 1 are the canonical decimals.
+use Rattle.std.proofs.Common.{◌≡◌, ℕ, ◌+◌, ◌^◌, ◌<◌, ◌≤◌, List, [], ◌∷◌, ◌++◌, length, map, Option, Some, None, decimal, get_or, refl, sym, ◌∙◌, ap, arith}
+use Rattle.std.specs.Prelude.{Contains, slice_get}
+use Rattle.std.specs.List.{range_with_len}
+use Rattle.std.proofs.lemmas.List.FromFn.{get_or-map-range_with_len, length-map-range_with_len, map-range_with_len_more}
+use Rattle.std.proofs.lemmas.List.{map-append}
+use Rattle.std.proofs.lemmas.Option.{slice_get-get_or}
+use Rattle.at_base.specs.Numbers.{number_of}
+use Rattle.at_base.proofs.NumberLaws.{number_of-some, number_of-decimal}
+use Rattle.at_ledger.specs.declared.draft.TheConstants.{ACCOUNTS_MAX}
+use Rattle.at_files.specs.Names.{NameList, IsNameList, decimals_below}
+
+-- the number that a text is, as a place among the numbers
+pub slice_get-number_of : (names : List (List ℕ)) (text : List ℕ) (n : ℕ) → names ≡ decimals_below (length names) → number_of text ≡ Some n → n < length names
+    → slice_get names n ≡ Some text
+slice_get-number_of names text n are is h =
+    slice_get-get_or names n [] h
+    ∙ ap Some (rw are (get_or-map-range_with_len decimal 0 (length names) n n [] h (omega arith)) ∙ sym (number_of-some text n is).0)
+
+-- a name among the numbers is a number below their count
+pub number_of-Contains : (names : List (List ℕ)) (text : List ℕ) → names ≡ decimals_below (length names) → length names < 2 ^ 64 → Contains names text
+    → (n : ℕ) × (n < length names) × (number_of text ≡ Some n)
+number_of-Contains names text are small (n, h, is) =
+    let name : decimal n ≡ text = sym (get_or-map-range_with_len decimal 0 (length names) n n text h (omega arith)) ∙ rw (← are) is in
+    (n, h, rw (← name) (number_of-decimal n (omega arith)))
+
+-- one more number
+pub decimals_below-more : {N : Type 0} (f : N → List ℕ) (names : List N) (name : N) (n : ℕ) → map f names ≡ decimals_below n → f name ≡ decimal n
+    → map f (names ++ name ∷ []) ≡ decimals_below (n + 1)
+decimals_below-more f names name n are is =
+    map-append f names (name ∷ []) ∙ rw (are, is) (sym (map-range_with_len_more decimal 0 n n (omega arith)))
+
+count_of : (names : List (List ℕ)) (n : ℕ) → names ≡ decimals_below n → names ≡ decimals_below (length names)
+count_of names n are = are ∙ rw (are, length-map-range_with_len decimal 0 n) refl
+
+pub IsNameList-plain : (processes accounts : List (List ℕ)) (m n : ℕ) → processes ≡ decimals_below m → accounts ≡ decimals_below n → n ≤ ACCOUNTS_MAX
+    → IsNameList (record { version = 1; processes = processes; accounts = accounts })
+IsNameList-plain processes accounts m n these those few = record {
+  version = refl;
+  processes = count_of processes m these;
+  accounts = count_of accounts n those;
+  few_accounts = rw (those, length-map-range_with_len decimal 0 n) few;
+}
+
+pub find-found : (all whole : NameList) (text : List ℕ) (n : ℕ) → all ≡ whole → IsNameList all → number_of text ≡ Some n → n < length all.accounts
+    → slice_get whole.accounts n ≡ Some text
+find-found all whole text n same are is h = rw (← same) (slice_get-number_of all.accounts text n are.accounts is h)
+
+pub find-none : (all whole : NameList) (text : List ℕ) → all ≡ whole → IsNameList all → number_of text ≡ None → Contains whole.accounts text → ⊥
+find-none all whole text same are is has =
+    let n = number_of-Contains all.accounts text are.accounts (omega (arith, are.few_accounts)) (rw (← same) at has) in
+    let wrong : None ≡ Some n.0 = sym is ∙ n.2 in
+    cc
+
+pub find-past : (all whole : NameList) (text : List ℕ) (n : ℕ) → all ≡ whole → IsNameList all → number_of text ≡ Some n → length all.accounts ≤ n → Contains whole.accounts text → ⊥
+find-past all whole text n same are is h has =
+    let k = number_of-Contains all.accounts text are.accounts (omega (arith, are.few_accounts)) (rw (← same) at has) in
+    let one : n ≡ k.0 = let both : Some n ≡ Some k.0 = sym is ∙ k.2 in cc in
+    let below : k.0 < length all.accounts = k.1 in
+    omega arith

@@ -1,0 +1,6 @@
+use Rattle.std.proofs.Common.{sym, ap, ◌∙◌, Some}
+use Rattle.at_files.proofs.OwnerLaws.{numbers_of-empty, pieces_of-some}
+use Rattle.at_files.proofs.owners.read_owners.Goals as goal
+
+pub returns-then-is_empty : goal.returns-then-is_empty
+returns-then-is_empty c = ap Some c.new.ensures.items ∙ sym (numbers_of-empty c.args.text.now (sym c.is_empty.ensures ∙ c.if-is_empty.true))
