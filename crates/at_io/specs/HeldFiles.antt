@@ -1,23 +1,31 @@
 -- Files by name, of which one is read.
-use Rattle.std.specs.Prelude.{ℕ, List, [], ◌∷◌, Option, Some, None, map, find, bytes_eq, drop, slice_get, option_map, unwrap_or, String, string_bytes, Vec}
+use Rattle.std.specs.Prelude.{ℕ, List, [], Option, Some, None, find, bytes_eq, drop, slice_get, option_map, unwrap_or, String, string_bytes, Vec}
 use Rattle.std.specs.Global.{Global}
 
--- files, each with its name before its bytes, and the unread rest of the chosen one
-pub record Held : Type 0 where
-  pub files : List (List ℕ × List ℕ)
-  pub rest : List ℕ
+-- a file: its name, and then its bytes
+abbrev pub NamedFile : Type 0
+NamedFile = List ℕ × List ℕ
 
--- the name and the bytes of a file
-abbrev pub named : String Global × Vec ℕ Global → List ℕ × List ℕ
+-- a file as it is kept
+abbrev pub KeptFile : Type 0
+KeptFile = String Global × Vec ℕ Global
+
+-- the name and the bytes of a file that is kept
+abbrev pub named : KeptFile → NamedFile
 named file = (string_bytes file.0, file.1.items)
 
+-- the files, and what is unread of the chosen one
+pub record Held : Type 0 where
+  pub files : List NamedFile
+  pub rest : List ℕ
+
 -- the bytes of the first file of a name
-abbrev pub file_of : List (List ℕ × List ℕ) → List ℕ → Option (List ℕ)
+abbrev pub file_of : List NamedFile → List ℕ → Option (List ℕ)
 file_of files name =
-    option_map (λ (file : List ℕ × List ℕ). file.1) (find (λ (file : List ℕ × List ℕ). bytes_eq file.0 name) files)
+    option_map (λ (file : NamedFile). file.1) (find (λ (file : NamedFile). bytes_eq file.0 name) files)
 
 -- the bytes of the file at a place, from an index on
-abbrev pub unread : List (String Global × Vec ℕ Global) → Option ℕ → ℕ → List ℕ
+abbrev pub unread : List KeptFile → Option ℕ → ℕ → List ℕ
 unread files None at = []
 unread files (Some place) at =
-    unwrap_or (option_map (λ (file : String Global × Vec ℕ Global). drop at file.1.items) (slice_get files place)) []
+    unwrap_or (option_map (λ (file : KeptFile). drop at file.1.items) (slice_get files place)) []

@@ -1,11 +1,11 @@
 -- A shelf in memory: its calls are counted, and fail at given numbers.
-use Rattle.std.specs.Prelude.{◌-◌, ◌==◌, ℕ, Bool, true, false, List, [], drop, length, min, Option, Some, None, Result, Ok, Err, if◌then◌else◌, unwrap_or, is_some}
+use Rattle.std.specs.Prelude.{◌==◌, ℕ, Bool, List, [], drop, length, min, if◌then◌else◌, unwrap_or}
 use Rattle.std.specs.List.{list_any}
 use Rattle.at_io.specs.Faults.{next_count}
 use Rattle.at_io.specs.HeldFiles.{Held, file_of}
 
--- the files held, the numbers of the calls that fail, the most bytes that a read gives, and how many
--- calls and faults there were
+-- the files held, the numbers of the calls that fail, the most bytes that a read gives, and the
+-- counts of calls and of faults
 pub record ShelfInMemory : Type 0 where
   pub held : Held
   pub failing : List ℕ

@@ -17,7 +17,8 @@ impl Model for HeldFiles {
 
     ghost Value = { Held };
 
-    ghost view = { λ h. record { files = map named h.files.items; rest = unread h.files.items h.chosen h.at } };
+    ghost view = { λ h.
+        record { files = map named h.files.items; rest = unread h.files.items h.chosen h.at } };
 }
 
 impl HeldFiles {
@@ -90,7 +91,7 @@ fn place_of(files: &[(String, Vec<u8>)], name: &str) -> Option<usize>
     files.iter().position(|file| file.0.as_str() == name)
 }
 
-/// Copies at most so many bytes from the front of `from` to the front of `to`, and answers how many.
+/// Copies a front of `from` to the front of `to`, at most so many bytes, and answers how many.
 fn copy_front(from: &[u8], to: &mut [u8], most: usize) -> usize
     ensures count { result ≡ min most (min (length to.old) (length from.now)) }
     ensures bytes { take result to.new ≡ take result from.now }

@@ -1,7 +1,8 @@
 //! The shelf that files are read from, and the sink that bytes are written to, each as a trait with
-//! implementations in memory and over the real system. What `fetch` reads are the bytes of the
-//! file, what `put_all` writes are the bytes given, and a failure comes only with a counted fault
-//! or for a file that is not held.
+//! implementations in memory and over the real system. Over a shelf that tells its files, what
+//! `fetch` reads is the file; over a sink that tells what it took, `put_all` adds the bytes given.
+//! Each fails only with a counted fault, `fetch` also for a file that is not held or too long, or for
+//! want of memory.
 #![tactic(auto)]
 
 mod dir_shelf;

@@ -26,7 +26,14 @@ impl Model for MemoryShelf {
 
     ghost Value = { ShelfInMemory };
 
-    ghost view = { λ s. record { held = s.held; failing = s.failing.items; grain = s.grain; calls = s.calls; faults = s.faults } };
+    ghost view = { λ s.
+        record {
+          held = s.held;
+          failing = s.failing.items;
+          grain = s.grain;
+          calls = s.calls;
+          faults = s.faults;
+        } };
 
     ghost invariant = { λ s. 0 < s.grain };
 }
@@ -95,7 +102,8 @@ impl Shelf for MemoryShelf {
 
     fn choose(&mut self, name: &str) -> Result<(), ReadFailed>
         ensures later { self.old.faults ≤ self.new.faults }
-        ensures succeeds { is_ok result ≡ (not (next_fails self.old) && is_some (file_of self.old.held.files name.now)) }
+        ensures succeeds { is_ok result ≡
+            (not (next_fails self.old) && is_some (file_of self.old.held.files name.now)) }
         ensures after { self.new ≡ after_call self.old (rest_chosen self.old name.now) }
     {
         if self.count_call().is_err() {
@@ -112,8 +120,10 @@ impl Shelf for MemoryShelf {
     fn read(&mut self, buf: &mut [u8]) -> Result<usize, ReadFailed>
         ensures later { self.old.faults ≤ self.new.faults }
         ensures fails { next_fails self.old ≡ true → IsErr result }
-        ensures count { next_fails self.old ≡ false → result ≡ Ok (read_count self.old (length buf.old)) }
-        ensures bytes { IfOk result (λ n. self.old.held.rest ≡ take n buf.new ++ self.new.held.rest) }
+        ensures count { next_fails self.old ≡ false →
+            result ≡ Ok (read_count self.old (length buf.old)) }
+        ensures bytes { IfOk result (λ n.
+            self.old.held.rest ≡ take n buf.new ++ self.new.held.rest) }
         ensures end { IfOk result (λ n. 0 < length buf.old → (n ≡ 0) ↔ (self.old.held.rest ≡ [])) }
         ensures after { self.new ≡ after_call self.old (rest_read self.old (length buf.old)) }
     {

@@ -24,7 +24,8 @@ impl Model for MemorySink {
 
     ghost Value = { SinkInMemory };
 
-    ghost view = { λ s. record { room = s.room; grain = s.grain; taken = s.taken.items; faults = s.faults } };
+    ghost view = { λ s.
+        record { room = s.room; grain = s.grain; taken = s.taken.items; faults = s.faults } };
 
     ghost invariant = { λ s. HasRoom s.room s.grain (length s.taken.items) (vec_capacity s.taken) };
 }
@@ -78,7 +79,8 @@ impl Sink for MemorySink {
     fn write(&mut self, piece: &[u8]) -> Result<usize, WriteFailed>
         ensures later { self.old.faults ≤ self.new.faults }
         ensures fails { write_fails self.old (length piece.now) ≡ true → IsErr result }
-        ensures count { write_fails self.old (length piece.now) ≡ false → result ≡ Ok (write_count self.old (length piece.now)) }
+        ensures count { write_fails self.old (length piece.now) ≡ false →
+            result ≡ Ok (write_count self.old (length piece.now)) }
         ensures some { 0 < length piece.now → IfOk result (λ n. 0 < n) }
         ensures after { self.new ≡ after_write self.old piece.now }
     {

@@ -37,17 +37,25 @@ pub fn fetch<F: Shelf>(
     out: &mut Vec<u8>,
 ) -> Result<(), FetchError>
     requires { out.old.items ≡ [] }
-    ensures files { SameFiles (F.tells shelf.old) (F.tells shelf.new) (F.file shelf.old) (F.file shelf.new) }
+    ensures files { SameFiles (F.tells shelf.old) (F.tells shelf.new)
+        (F.file shelf.old) (F.file shelf.new) }
     ensures later { F.faults shelf.old ≤ F.faults shelf.new }
     ensures kept { OnOk result (F.faults shelf.new ≡ F.faults shelf.old) }
-    ensures contents { F.tells shelf.old ≡ true → OnOk result (F.file shelf.old name.now ≡ Some out.new.items) }
+    ensures contents { F.tells shelf.old ≡ true →
+        OnOk result (F.file shelf.old name.now ≡ Some out.new.items) }
     ensures size { OnOk result (length out.new.items ≤ FILE_MAX) }
 
-    ensures failed { result ≡ Err FetchError.Failed → Rose (F.faults shelf.old) (F.faults shelf.new) ⊎ LacksFile (F.tells shelf.old) (F.file shelf.old name.now) }
-    ensures too_long_kept { result ≡ Err FetchError.TooLong → F.faults shelf.new ≡ F.faults shelf.old }
-    ensures too_long { F.tells shelf.old ≡ true → result ≡ Err FetchError.TooLong → IsLonger FILE_MAX (F.file shelf.old name.now) }
-    ensures read_past { F.tells shelf.old ≡ true → result ≡ Err FetchError.TooLong → IsReadPast FILE_MAX (F.file shelf.old name.now) (F.rest shelf.new) }
-    ensures no_memory_kept { result ≡ Err FetchError.NoMemory → F.faults shelf.new ≡ F.faults shelf.old }
+    ensures failed { result ≡ Err FetchError.Failed →
+        Rose (F.faults shelf.old) (F.faults shelf.new)
+        ⊎ LacksFile (F.tells shelf.old) (F.file shelf.old name.now) }
+    ensures too_long_kept { result ≡ Err FetchError.TooLong →
+        F.faults shelf.new ≡ F.faults shelf.old }
+    ensures too_long { F.tells shelf.old ≡ true → result ≡ Err FetchError.TooLong →
+        IsLonger FILE_MAX (F.file shelf.old name.now) }
+    ensures read_past { F.tells shelf.old ≡ true → result ≡ Err FetchError.TooLong →
+        IsReadPast FILE_MAX (F.file shelf.old name.now) (F.rest shelf.new) }
+    ensures no_memory_kept { result ≡ Err FetchError.NoMemory →
+        F.faults shelf.new ≡ F.faults shelf.old }
     ensures emptied { OnErr result (out.new.items ≡ []) }
 {
     if shelf.choose(name).is_err() {
@@ -63,13 +71,17 @@ pub fn fetch<F: Shelf>(
 /// Reads the chosen file to its end, up to one byte past `FILE_MAX`, and adds its bytes to `out`.
 fn read_whole<F: Shelf>(shelf: &mut F, out: &mut Vec<u8>) -> Result<(), FetchError>
     requires { out.old.items ≡ [] }
-    ensures files { SameFiles (F.tells shelf.old) (F.tells shelf.new) (F.file shelf.old) (F.file shelf.new) }
+    ensures files { SameFiles (F.tells shelf.old) (F.tells shelf.new)
+        (F.file shelf.old) (F.file shelf.new) }
     ensures later { F.faults shelf.old ≤ F.faults shelf.new }
     ensures kept { result ≢ Err FetchError.Failed → F.faults shelf.new ≡ F.faults shelf.old }
-    ensures failed { result ≡ Err FetchError.Failed → Rose (F.faults shelf.old) (F.faults shelf.new) }
+    ensures failed { result ≡ Err FetchError.Failed →
+        Rose (F.faults shelf.old) (F.faults shelf.new) }
     ensures size { OnOk result (length out.new.items ≤ FILE_MAX) }
     ensures contents { F.tells shelf.old ≡ true → OnOk result (F.rest shelf.old ≡ out.new.items) }
-    ensures too_long { F.tells shelf.old ≡ true → result ≡ Err FetchError.TooLong → (F.rest shelf.old ≡ out.new.items ++ F.rest shelf.new) × (length out.new.items ≡ FILE_MAX + 1) }
+    ensures too_long { F.tells shelf.old ≡ true → result ≡ Err FetchError.TooLong →
+        (F.rest shelf.old ≡ out.new.items ++ F.rest shelf.new)
+        × (length out.new.items ≡ FILE_MAX + 1) }
 {
     let mut buffer = [0; READ_MAX];
     while out.len() <= FILE_MAX {
@@ -93,14 +105,17 @@ fn read_some<F: Shelf>(
     out: &mut Vec<u8>,
 ) -> Result<usize, FetchError>
     requires { 0 < length buffer.old }
-    ensures files { SameFiles (F.tells shelf.old) (F.tells shelf.new) (F.file shelf.old) (F.file shelf.new) }
+    ensures files { SameFiles (F.tells shelf.old) (F.tells shelf.new)
+        (F.file shelf.old) (F.file shelf.new) }
     ensures later { F.faults shelf.old ≤ F.faults shelf.new }
     ensures kept { result ≢ Err FetchError.Failed → F.faults shelf.new ≡ F.faults shelf.old }
-    ensures failed { result ≡ Err FetchError.Failed → Rose (F.faults shelf.old) (F.faults shelf.new) }
+    ensures failed { result ≡ Err FetchError.Failed →
+        Rose (F.faults shelf.old) (F.faults shelf.new) }
     ensures never_long { result ≢ Err FetchError.TooLong }
     ensures count { IfOk result (λ n. length out.new.items ≡ length out.old.items + n) }
     ensures bound { IfOk result (λ n. n ≤ length buffer.old) }
-    ensures bytes { F.tells shelf.old ≡ true → OnOk result (out.old.items ++ F.rest shelf.old ≡ out.new.items ++ F.rest shelf.new) }
+    ensures bytes { F.tells shelf.old ≡ true →
+        OnOk result (out.old.items ++ F.rest shelf.old ≡ out.new.items ++ F.rest shelf.new) }
     ensures end { F.tells shelf.old ≡ true → IfOk result (λ n. n ≡ 0 → F.rest shelf.old ≡ []) }
 {
     let Ok(count) = shelf.read(buffer) else {

@@ -26,6 +26,7 @@ pub trait Sink {
         ensures bound { IfOk result (λ n. n ≤ length piece.now) }
         ensures some { 0 < length piece.now → IfOk result (λ n. 0 < n) }
         ensures empty { piece.now ≡ [] → result ≡ Ok 0 }
-        ensures front { tells self.old ≡ true → IfOk result (λ n. taken self.new ≡ taken self.old ++ take n piece.now) }
+        ensures front { tells self.old ≡ true →
+            IfOk result (λ n. taken self.new ≡ taken self.old ++ take n piece.now) }
         ensures untaken { tells self.old ≡ true → OnErr result (taken self.new ≡ taken self.old) };
 }

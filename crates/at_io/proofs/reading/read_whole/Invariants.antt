@@ -3,7 +3,9 @@ use Rattle.at_io.specs.Shelf.{SameFiles}
 use Rattle.at_io.proofs.reading.read_whole.Given as goal
 
 -- what was read and what is left are the chosen file, and no fault was counted
-pub record Reads (told tells : Bool) (before after : List ℕ → Option (List ℕ)) (count now : ℕ) (whole read left : List ℕ) (limit : ℕ) : Type 0 where
+pub record Reads
+    (told tells : Bool) (before after : List ℕ → Option (List ℕ))
+    (count now : ℕ) (whole read left : List ℕ) (limit : ℕ) : Type 0 where
   pub files : SameFiles told tells before after
   pub kept : now ≡ count
   pub size : length read ≤ limit + 1

@@ -1,7 +1,9 @@
 use Rattle.std.proofs.Common.{◌≡◌, ◌-◌, ◌≤◌, Bool, true, List, ℕ, ◌++◌, length, take}
 use Rattle.at_io.proofs.writing.put_all.Given as goal
 
-pub record Written (told tells : Bool) (before now : ℕ) (old new bytes : List ℕ) (at : ℕ) : Type 0 where
+-- the bytes below the index were taken, and no fault was counted
+pub record Written
+    (told tells : Bool) (before now : ℕ) (old new bytes : List ℕ) (at : ℕ) : Type 0 where
   pub within : at ≤ length bytes
   pub as_told : tells ≡ told
   pub kept : now ≡ before
