@@ -40,5 +40,9 @@ pub fn form_of(words: &[String]) -> Option<Form<'_>>
         Some(command) => command,
         None => return None,
     };
-    Some(Form { command, book: book.as_str(), payments })
+    Some(Form {
+        command,
+        book: book.as_str(),
+        payments,
+    })
 }

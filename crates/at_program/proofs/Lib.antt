@@ -1,0 +1,2 @@
+pub mod FilesLoaded
+pub mod MayRefuseLaws
