@@ -3,3 +3,4 @@ pub mod Owners
 pub mod Books
 pub mod Credited
 pub mod Run
+pub mod Slots

@@ -16,7 +16,7 @@ run_from-nil s = refl
 
 -- the first call, and then the others from the state after it
 pub run_from-cons : (s : LedgerState) (call : ℕ × Call) (calls : List (ℕ × Call))
-  → run_from s (call ∷ calls)
+    → run_from s (call ∷ calls)
     ≡ run_after (step s call.0 call.1).reply (run_from (step s call.0 call.1).ledger calls)
 unfolding run_from
 run_from-cons s call calls = refl
@@ -31,34 +31,34 @@ run_from-append s [] ys = refl
 run_from-append s (x ∷ xs) ys = ap (run_after (step s x.0 x.1).reply) (run_from-append (step s x.0 x.1).ledger xs ys)
 
 pub replies-append : (s : LedgerState) (xs ys : List (ℕ × Call))
-  → (run_from s (xs ++ ys)).replies ≡ (run_from s xs).replies ++ (run_from (run_from s xs).last ys).replies
+    → (run_from s (xs ++ ys)).replies ≡ (run_from s xs).replies ++ (run_from (run_from s xs).last ys).replies
 replies-append s xs ys = ap (λ r. r.replies) (run_from-append s xs ys)
 
 pub last-append : (s : LedgerState) (xs ys : List (ℕ × Call))
-  → (run_from s (xs ++ ys)).last ≡ (run_from (run_from s xs).last ys).last
+    → (run_from s (xs ++ ys)).last ≡ (run_from (run_from s xs).last ys).last
 last-append s xs ys = ap (λ r. r.last) (run_from-append s xs ys)
 
 -- one more call after a run
 pub replies-push : (s : LedgerState) (calls : List (ℕ × Call)) (call : ℕ × Call)
-  → (run_from s (calls ++ call ∷ [])).replies
+    → (run_from s (calls ++ call ∷ [])).replies
     ≡ (run_from s calls).replies ++ (step (run_from s calls).last call.0 call.1).reply ∷ []
 unfolding run_from
 replies-push s calls call = replies-append s calls (call ∷ [])
 
 pub last-push : (s : LedgerState) (calls : List (ℕ × Call)) (call : ℕ × Call)
-  → (run_from s (calls ++ call ∷ [])).last ≡ (step (run_from s calls).last call.0 call.1).ledger
+    → (run_from s (calls ++ call ∷ [])).last ≡ (step (run_from s calls).last call.0 call.1).ledger
 unfolding run_from
 last-push s calls call = last-append s calls (call ∷ [])
 
 -- a loop over calls: the call at i after the first i
 pub replies-take_more : (s : LedgerState) (calls : List (ℕ × Call)) (i : ℕ) (d : ℕ × Call) → i < length calls
-  → (run_from s (take (i + 1) calls)).replies
+    → (run_from s (take (i + 1) calls)).replies
     ≡ (run_from s (take i calls)).replies ++ (step (run_from s (take i calls)).last (get_or calls i d).0 (get_or calls i d).1).reply ∷ []
 replies-take_more s calls i d within =
     ap (λ cs. (run_from s cs).replies) (take_more calls i d within) ∙ replies-push s (take i calls) (get_or calls i d)
 
 pub last-take_more : (s : LedgerState) (calls : List (ℕ × Call)) (i : ℕ) (d : ℕ × Call) → i < length calls
-  → (run_from s (take (i + 1) calls)).last
+    → (run_from s (take (i + 1) calls)).last
     ≡ (step (run_from s (take i calls)).last (get_or calls i d).0 (get_or calls i d).1).ledger
 last-take_more s calls i d within =
     ap (λ cs. (run_from s cs).last) (take_more calls i d within) ∙ last-push s (take i calls) (get_or calls i d)
@@ -71,7 +71,7 @@ length-replies s (x ∷ xs) = ap suc (length-replies (step s x.0 x.1).ledger xs)
 
 -- whichever of two steps is taken, the book is this one
 book-cond : (b : Bool) (x y : Step) (book : BookTerms) → x.ledger.book ≡ book → y.ledger.book ≡ book
-  → (cond b x y).ledger.book ≡ book
+    → (cond b x y).ledger.book ≡ book
 book-cond true x y book first second = first
 book-cond false x y book first second = second
 

@@ -113,6 +113,7 @@ impl Book {
         requires slot_in { slot < length (account_of self.now account).owners }
         ensures owner { result ≡ slice_index (account_of self.now account).owners slot }
         ensures known { result < self.now.processes }
+        ensures slot { slot_in (account_of self.now account) result ≡ Some slot }
     {
         self.accounts[account as usize].owners[slot as usize]
     }
