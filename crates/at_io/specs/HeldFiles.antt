@@ -22,7 +22,8 @@ pub record Held : Type 0 where
 -- the bytes of the first file of a name
 abbrev pub file_of : List NamedFile → List ℕ → Option (List ℕ)
 file_of files name =
-    option_map (λ (file : NamedFile). file.1) (find (λ (file : NamedFile). bytes_eq file.0 name) files)
+    option_map (λ (file : NamedFile). file.1)
+    (find (λ (file : NamedFile). bytes_eq file.0 name) files)
 
 -- the bytes of the file at a place, from an index on
 abbrev pub unread : List KeptFile → Option ℕ → ℕ → List ℕ

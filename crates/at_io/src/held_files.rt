@@ -1,4 +1,4 @@
-ghost use Rattle.std.specs.Prelude.{◌≡◌, ◌≤◌, ℕ, ◌+◌, ◌^◌, ◌<◌, min, map, length, take, drop, [], position, bytes_eq, string_bytes, is_some, unwrap_or};
+ghost use Rattle.std.specs.Prelude.{◌≡◌, ◌+◌, ◌^◌, ◌<◌, min, map, length, take, drop, [], position, bytes_eq, string_bytes, is_some, unwrap_or};
 ghost use Rattle.at_io.specs.HeldFiles.{named, file_of, unread};
 
 use std::marker::Model;

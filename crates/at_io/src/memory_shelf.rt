@@ -1,7 +1,5 @@
-ghost use Rattle.std.specs.Prelude.{◌≡◌, ◌↔◌, ℕ, ◌≤◌, ◌<◌, ◌⊎◌, ◌++◌, ◌^◌, ◌-◌, true, false, [], map, take, length, Some, IfOk, OnOk, OnErr, is_some, unwrap_or, IsErr, ◌&&◌, not, is_ok};
-ghost use Rattle.at_io.specs.Faults.{Rose};
+ghost use Rattle.std.specs.Prelude.{◌≡◌, ◌↔◌, ◌≤◌, ◌<◌, ◌++◌, ◌^◌, ◌-◌, true, false, [], map, take, length, IfOk, OnOk, OnErr, is_some, IsErr, ◌&&◌, not, is_ok};
 ghost use Rattle.at_io.specs.HeldFiles.{named, file_of};
-ghost use Rattle.at_io.specs.Shelf.{SameFiles, LacksFile};
 ghost use Rattle.at_io.specs.MemoryShelf.{next_fails, after_call, rest_chosen, rest_read, read_count};
 
 use crate::faults::raised;

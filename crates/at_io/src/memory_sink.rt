@@ -1,5 +1,4 @@
-ghost use Rattle.std.specs.Prelude.{◌≡◌, ℕ, ◌≤◌, ◌<◌, ◌++◌, ◌^◌, ◌-◌, true, false, [], take, length, IfOk, OnOk, OnErr, IsErr};
-ghost use Rattle.at_io.specs.Faults.{Rose, next_count};
+ghost use Rattle.std.specs.Prelude.{◌≡◌, ◌≤◌, ◌<◌, ◌^◌, ◌-◌, true, false, [], length, IfOk, IsErr};
 ghost use Rattle.at_io.specs.MemorySink.{write_count, write_fails, after_write};
 
 use crate::NoMemory;
