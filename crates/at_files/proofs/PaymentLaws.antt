@@ -4,7 +4,6 @@ use Rattle.std.proofs.lemmas.Bool.Decides.{nat_tests}
 use Rattle.at_ledger.specs.declared.call.Call.{Call}
 use Rattle.at_ledger.specs.Book.{BookTerms}
 use Rattle.at_files.specs.Names.{NameList, AreNamesOf}
-use Rattle.at_files.proofs.SpellingLaws.{length-names}
 use Rattle.at_files.specs.Rows.{Fields}
 use Rattle.at_files.specs.Payments.{plain_call_of, call_of, calls_before, call_before, bad_payments, payments_from, payments_of}
 use Rattle.at_files.specs.declared.payments_fault.TheConstants.{CALLS_MAX}
@@ -39,7 +38,7 @@ payments_from-more names line row rows h = rw (not_last line h) refl
 pub Walked-start : (b : BookTerms) (accounts : ℕ) (names : NameList) (all : List Fields) → AreNamesOf b names → accounts ≡ length b.accounts → Walked accounts names all [] 1 all
 Walked-start b accounts names all are count = record {
   walk = sym (calls_before-none (payments_from names 1 all));
-  counted = count ∙ sym (length-names b names are);
+  counted = count ∙ sym are.accounts;
 }
 
 -- a record was read, or there was none

@@ -3,7 +3,6 @@ use Rattle.std.proofs.Common.{◌≡◌, ℕ, ◌+◌, ◌<◌, ◌≤◌, Bool,
 use Rattle.std.proofs.lemmas.Bool.{eqb-true, ltb-true}
 use Rattle.std.proofs.lemmas.Bool.Decides.{nat_tests}
 use Rattle.std.proofs.lemmas.List.Elements.{All-cons}
-use Rattle.std.proofs.lemmas.List.FromFn.{get_or-map-range_with_len, length-map-range_with_len}
 use Rattle.at_ledger.specs.Book.{BookTerms}
 use Rattle.at_ledger.specs.Call.{IsCallOn}
 use Rattle.at_ledger.specs.declared.call.Call.{Call}
@@ -15,6 +14,7 @@ use Rattle.at_files.specs.declared.payments_fault.TheConstants.{CALLS_MAX}
 use Rattle.at_files.specs.declared.payments_fault.PaymentsWhy.{PaymentsWhy}
 use Rattle.at_files.specs.declared.payments_fault.PaymentsWhy.TheVariants.{Shape, Number, UnknownAccount, TooManyCalls}
 use Rattle.at_files.specs.declared.payments_fault.BadPayments.{BadPayments}
+use Rattle.at_files.proofs.NameLaws.{decimals_below-at}
 use Rattle.at_files.proofs.RecordLaws.{both_tests, length-has_shape, first-has_shape, two_fields, four_fields, field_of-number_at}
 
 -- the accounts' names are their numbers
@@ -22,10 +22,10 @@ abbrev pub AreNumbered : NameList → Type 0
 AreNumbered names = names.accounts ≡ decimals_below (length names.accounts)
 
 pub account_name-decimal : (names : NameList) (n : ℕ) → AreNumbered names → n < length names.accounts → account_name names n ≡ decimal n
-account_name-decimal names n is h = rw is (get_or-map-range_with_len decimal 0 (length names.accounts) n n [] h (omega arith))
+account_name-decimal names n is h = decimals_below-at names.accounts n is h
 
-pub length-names : (b : BookTerms) (names : NameList) → AreNamesOf b names → length names.accounts ≡ length b.accounts
-length-names b names are = rw are (length-map-range_with_len decimal 0 (length b.accounts))
+pub AreNumbered-names : (b : BookTerms) (names : NameList) → AreNamesOf b names → AreNumbered names
+AreNumbered-names b names are = let plain : names.accounts ≡ decimals_below (length b.accounts) = ap (λ n. n.accounts) are.plain in plain ∙ ap decimals_below (sym are.accounts)
 
 -- a record that spells a call is the call's
 record Spelled (names : NameList) (row : Fields) (call : Call) : Type 0 where
@@ -138,12 +138,10 @@ payments_from-spelled names line (row ∷ rows) calls numbered within h =
 -- what the walk gives is what the file pays
 pub Pays-payments_of : (b : BookTerms) (names : NameList) (rows : List Fields) (calls : List Call) → AreNamesOf b names → payments_of names rows ≡ Ok calls → Pays b names rows calls
 Pays-payments_of b names rows calls are h =
-    let count = length-names b names are in
-    let numbered : AreNumbered names = rw (count, are) refl in
-    let all = payments_from-spelled names 1 rows calls numbered (omega arith) h in
+    let all = payments_from-spelled names 1 rows calls (AreNumbered-names b names are) (omega arith) h in
     record {
       spelled = all.spelled;
-      known = rw count at all.known;
+      known = rw are.accounts at all.known;
       versions = all.versions;
       few = let few : length calls + 1 ≤ CALLS_MAX + 1 = all.few in omega arith;
     }
