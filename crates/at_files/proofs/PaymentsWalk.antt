@@ -30,7 +30,7 @@ calls_before-push calls call (Err bad) = refl
 not_last : (line : ℕ) → line < CALLS_MAX + 1 → (line == CALLS_MAX + 1) ≡ false
 not_last line h = grind (arith, nat_tests)
 
-payments_from-more : (names : NameList) (line : ℕ) (row : Fields) (rows : List Fields) → line < CALLS_MAX + 1
+pub payments_from-more : (names : NameList) (line : ℕ) (row : Fields) (rows : List Fields) → line < CALLS_MAX + 1
     → payments_from names line (row ∷ rows) ≡ call_before line (call_of names row) (payments_from names (line + 1) rows)
 unfolding payments_from
 payments_from-more names line row rows h = rw (not_last line h) refl
