@@ -1,5 +1,5 @@
 -- A book file that is a book without a fault, written out, is read as this book.
-use Rattle.std.proofs.Common.{◌≡◌, ◌≢◌, ℕ, ◌+◌, ◌^◌, ◌<◌, ◌≤◌, Bool, true, false, not, ◌&&◌, ◌==◌, nat_lt, nat_le, List, [], ◌∷◌, ◌++◌, length, map, All, get_or, Option, Some, None, Result, Ok, Err, if◌then◌else◌, codes, decimal, refl, sym, ◌∙◌, ap, subst, append_assoc, append-nil, length-append, arith}
+use Rattle.std.proofs.Common.{◌≡◌, ℕ, ◌+◌, ◌^◌, ◌<◌, ◌≤◌, true, false, ◌==◌, nat_lt, nat_le, List, [], ◌∷◌, ◌++◌, length, map, All, get_or, Some, None, Ok, Err, codes, decimal, refl, sym, ◌∙◌, ap, append_assoc, append-nil, length-append, arith}
 use Rattle.std.specs.Char.{is_ascii_digit}
 use Rattle.std.specs.List.{slice_split, join_with_byte}
 use Rattle.std.proofs.lemmas.Bool.{eq-eqb}
@@ -9,15 +9,13 @@ use Rattle.std.proofs.lemmas.List.Elements.{All-head, All-tail}
 use Rattle.std.proofs.lemmas.List.Sums.{AllPass-from_list_all}
 use Rattle.std.proofs.lemmas.List.Splits.{slice_split_none, slice_split_at}
 use Rattle.csv.specs.Records.{field_at}
-use Rattle.at_base.specs.Numbers.{number_of}
 use Rattle.at_base.proofs.NumberLaws.{number_of-decimal, own}
 use Rattle.at_ledger.specs.Account.{AccountTerms}
 use Rattle.at_ledger.specs.Book.{BookTerms, IsBook, rounds_of, total_of}
 use Rattle.at_ledger.specs.Account.{rounds_room}
-use Rattle.at_ledger.specs.Draft.{is_within, limits_fault, owners_fault, sums_fault, account_fault, accounts_fault, terms_with, with_account, book_without_accounts}
-use Rattle.at_ledger.specs.declared.draft.BookError.{BookError}
-use Rattle.at_ledger.specs.declared.draft.BookError.TheVariants.{NoProcess, TooManyProcesses, NoAccount, TooManyAccounts, RoomOutOfRange, RoundsOverLimit, TotalOverLimit}
-use Rattle.at_ledger.specs.declared.draft.TheConstants.{PROCESSES_MAX, ACCOUNTS_MAX, OWN_ROOM_MAX, REQUEST_ROOM_MAX, ROUNDS_MAX}
+use Rattle.at_ledger.specs.Draft.{owners_fault, sums_fault, account_fault, accounts_fault, terms_with, with_account, book_without_accounts}
+use Rattle.at_ledger.specs.declared.draft.BookError.TheVariants.{NoAccount, TooManyAccounts, RoundsOverLimit, TotalOverLimit}
+use Rattle.at_ledger.specs.declared.draft.TheConstants.{PROCESSES_MAX, ACCOUNTS_MAX, ROUNDS_MAX}
 use Rattle.at_ledger.proofs.Faults.{choice-none, option_or-none}
 use Rattle.at_ledger.proofs.Owners.{IsAccount-from_none}
 use Rattle.at_files.specs.Names.{NameList}

@@ -1,11 +1,11 @@
 -- A checked book has no fault.
-use Rattle.std.proofs.Common.{◌≡◌, ℕ, ◌+◌, ◌*◌, ◌^◌, ◌<◌, ◌≤◌, Bool, true, false, not, ◌&&◌, ◌==◌, nat_lt, nat_le, List, [], ◌∷◌, ◌++◌, length, All, Option, Some, None, if◌then◌else◌, sum_by, refl, sym, ◌∙◌, ap, length-append, arith}
+use Rattle.std.proofs.Common.{◌≡◌, ℕ, ◌+◌, ◌^◌, ◌<◌, ◌≤◌, true, false, ◌==◌, nat_lt, nat_le, List, [], ◌∷◌, length, All, None, sum_by, refl, length-append, arith}
 use Rattle.std.proofs.lemmas.Bool.Decides.{nat_tests}
 use Rattle.std.proofs.lemmas.List.Elements.{All-head, All-tail}
 use Rattle.std.proofs.lemmas.List.Sums.{sum_by-cons, sum_by_push}
 use Rattle.at_ledger.specs.Account.{AccountTerms, IsRisingFrom, rounds_room}
 use Rattle.at_ledger.specs.Book.{BookTerms, IsAccount, IsBook, rounds_of, total_of}
-use Rattle.at_ledger.specs.Draft.{is_within, limits_fault, owner_fault, owners_fault, sums_fault, account_fault, accounts_fault, with_account, book_without_accounts}
+use Rattle.at_ledger.specs.Draft.{limits_fault, owner_fault, owners_fault, account_fault, accounts_fault, with_account, book_without_accounts}
 use Rattle.at_ledger.specs.declared.draft.TheConstants.{PROCESSES_MAX, ACCOUNTS_MAX, OWNERS_MAX, OWN_ROOM_MAX, REQUEST_ROOM_MAX, ROUNDS_MAX}
 
 owner_fault-none : (processes account count least owner : ℕ) → owner < processes → least ≤ owner → count < OWNERS_MAX → owner_fault processes account count least owner ≡ None

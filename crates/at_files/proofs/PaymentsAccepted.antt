@@ -1,17 +1,16 @@
 -- A payment file that is calls, written out, is read as these calls.
-use Rattle.std.proofs.Common.{◌≡◌, ℕ, ◌+◌, ◌^◌, ◌<◌, ◌≤◌, Bool, true, false, ◌&&◌, nat_lt, List, [], ◌∷◌, length, map, All, Option, Some, Result, Ok, Err, if◌then◌else◌, codes, decimal, refl, sym, ◌∙◌, ap, arith}
+use Rattle.std.proofs.Common.{◌≡◌, ℕ, ◌+◌, ◌^◌, ◌<◌, ◌≤◌, true, nat_lt, List, [], ◌∷◌, length, map, All, Ok, Err, codes, decimal, refl, sym, ◌∙◌, ap, arith}
 use Rattle.std.proofs.lemmas.Bool.Decides.{nat_tests}
 use Rattle.std.proofs.lemmas.List.Elements.{All-head, All-tail}
 use Rattle.csv.specs.Records.{field_at}
-use Rattle.at_base.specs.Numbers.{number_of}
 use Rattle.at_base.proofs.NumberLaws.{number_of-decimal}
 use Rattle.at_ledger.specs.Book.{BookTerms}
 use Rattle.at_ledger.specs.Call.{IsCallOn}
 use Rattle.at_ledger.specs.declared.call.Call.{Call}
 use Rattle.at_ledger.specs.declared.call.Call.TheVariants.{Transfer, Read, Pay}
 use Rattle.at_files.specs.Names.{NameList, AreNamesOf}
-use Rattle.at_files.specs.Rows.{Fields, number_at}
-use Rattle.at_files.specs.Payments.{transfer_of, read_of, plain_call_of, call_of, payments_from, payments_of, fields_of_call, IsCallOfVersion, HasAmounts, Pays}
+use Rattle.at_files.specs.Rows.{Fields}
+use Rattle.at_files.specs.Payments.{plain_call_of, call_of, payments_from, payments_of, fields_of_call, IsCallOfVersion, HasAmounts, Pays}
 use Rattle.at_files.specs.declared.payments_fault.TheConstants.{CALLS_MAX}
 use Rattle.at_files.specs.declared.payments_fault.BadPayments.{BadPayments}
 use Rattle.at_files.specs.declared.payments_fault.ReadPaymentsFault.{ReadPaymentsFault}

@@ -1,18 +1,18 @@
 -- The records of a payment file are its calls, written out.
-use Rattle.std.proofs.Common.{◌≡◌, ℕ, ◌+◌, ◌<◌, ◌≤◌, Bool, true, false, ◌&&◌, ◌==◌, nat_lt, List, [], ◌∷◌, ◌++◌, length, map, All, Option, Some, None, Result, Ok, Err, if◌then◌else◌, codes, decimal, get_or, refl, sym, ◌∙◌, ap, subst, arith}
-use Rattle.std.proofs.lemmas.Bool.{eqb-true, ltb-true}
+use Rattle.std.proofs.Common.{◌≡◌, ℕ, ◌+◌, ◌<◌, ◌≤◌, Bool, true, false, ◌&&◌, ◌==◌, nat_lt, List, [], ◌∷◌, length, map, All, Option, Some, None, Result, Ok, Err, if◌then◌else◌, codes, decimal, refl, sym, ◌∙◌, ap, subst, arith}
+use Rattle.std.proofs.lemmas.Bool.{ltb-true}
 use Rattle.std.proofs.lemmas.Bool.Decides.{nat_tests}
 use Rattle.std.proofs.lemmas.List.Elements.{All-cons}
 use Rattle.at_ledger.specs.Book.{BookTerms}
 use Rattle.at_ledger.specs.Call.{IsCallOn}
 use Rattle.at_ledger.specs.declared.call.Call.{Call}
-use Rattle.at_ledger.specs.declared.call.Call.TheVariants.{Transfer, Read, Pay}
+use Rattle.at_ledger.specs.declared.call.Call.TheVariants.{Transfer, Read}
 use Rattle.at_files.specs.Names.{NameList, AreNamesOf, account_name, decimals_below}
-use Rattle.at_files.specs.Rows.{Fields, number_at, field_of, has_shape}
-use Rattle.at_files.specs.Payments.{transfer_of, read_of, plain_call_of, call_of, calls_before, call_before, payments_from, payments_of, fields_of_call, IsCallOfVersion, HasAmounts, Pays}
+use Rattle.at_files.specs.Rows.{Fields, number_at, has_shape}
+use Rattle.at_files.specs.Payments.{transfer_of, read_of, call_of, call_before, payments_from, payments_of, fields_of_call, IsCallOfVersion, HasAmounts, Pays}
 use Rattle.at_files.specs.declared.payments_fault.TheConstants.{CALLS_MAX}
 use Rattle.at_files.specs.declared.payments_fault.PaymentsWhy.{PaymentsWhy}
-use Rattle.at_files.specs.declared.payments_fault.PaymentsWhy.TheVariants.{Shape, Number, UnknownAccount, TooManyCalls}
+use Rattle.at_files.specs.declared.payments_fault.PaymentsWhy.TheVariants.{Shape, UnknownAccount, TooManyCalls}
 use Rattle.at_files.specs.declared.payments_fault.BadPayments.{BadPayments}
 use Rattle.at_files.proofs.NameLaws.{decimals_below-at}
 use Rattle.at_files.proofs.RecordLaws.{both_tests, length-has_shape, first-has_shape, two_fields, four_fields, field_of-number_at, number_at-lt}

@@ -1,4 +1,4 @@
-use Rattle.std.proofs.Common.{◌≡◌, Err, ◌∙◌, ap, sym, arith}
+use Rattle.std.proofs.Common.{Err, ◌∙◌, ap, sym, arith}
 use Rattle.at_files.proofs.BookWalk.{Added-more, Added-bad, Added-end, Added-full, Bad-same, Err-same}
 use Rattle.at_files.proofs.book.read_accounts.Goals as goal
 

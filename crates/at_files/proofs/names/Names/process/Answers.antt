@@ -1,5 +1,4 @@
 use Rattle.std.proofs.Common.{◌<◌, length, map, ◌∙◌}
-use Rattle.std.proofs.lemmas.Grind.{common_steps}
 use Rattle.at_files.proofs.NameLaws.{shown-decimal}
 use Rattle.at_files.proofs.names.Names.process.Goals as goal
 
