@@ -1,5 +1,5 @@
 -- The record of an account is the account, written out.
-use Rattle.std.proofs.Common.{◌≡◌, ℕ, ◌+◌, Bool, true, false, ◌==◌, nat_le, List, [], ◌∷◌, ◌++◌, length, map, Option, Some, None, Result, Ok, Err, if◌then◌else◌, codes, decimal, refl, sym, ◌∙◌, ap, arith}
+use Rattle.std.proofs.Common.{◌≡◌, ℕ, Bool, true, false, ◌==◌, nat_le, List, [], ◌∷◌, length, map, Option, Some, None, Ok, Err, if◌then◌else◌, codes, decimal, refl, sym, ◌∙◌, ap, arith}
 use Rattle.std.specs.List.{slice_split, join_with_byte}
 use Rattle.std.proofs.lemmas.Bool.{eqb-true}
 use Rattle.std.proofs.lemmas.Bool.Decides.{nat_tests}
@@ -14,7 +14,6 @@ use Rattle.at_ledger.specs.declared.draft.BookError.TheVariants.{TooManyAccounts
 use Rattle.at_ledger.specs.declared.draft.TheConstants.{ACCOUNTS_MAX}
 use Rattle.at_files.specs.Rows.{Fields, field_of, number_at, has_shape}
 use Rattle.at_files.specs.BookFile.{within_limits, number_before, numbers_of, pieces_of, with_next, with_row, owners_text, fields_of_account}
-use Rattle.at_files.specs.declared.book_fault.BookWhy.{BookWhy}
 use Rattle.at_files.specs.declared.book_fault.BookWhy.TheVariants as why
 use Rattle.at_files.proofs.OwnerLaws.{pieces_of-some}
 use Rattle.at_files.proofs.RecordLaws.{length-has_shape, first-has_shape, four_fields, field_of-number_at}

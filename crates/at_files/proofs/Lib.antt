@@ -1,9 +1,12 @@
 pub mod RowLaws
 pub mod RecordLaws
-pub mod PaymentLaws
-pub mod SpellingLaws
+pub mod PaymentsWalk
+pub mod PaymentsSpelled
 pub mod NameLaws
 pub mod OwnerLaws
 pub mod AccountLaws
-pub mod BookLaws
-pub mod SpellsLaws
+pub mod BookWalk
+pub mod BookSpelled
+pub mod PaymentsAccepted
+pub mod BookLimits
+pub mod BookAccepted

@@ -1,5 +1,5 @@
 -- What a record of a known form holds.
-use Rattle.std.proofs.Common.{◌≡◌, ℕ, ◌+◌, ◌<◌, ◌^◌, Bool, true, false, ◌&&◌, ◌==◌, List, [], ◌∷◌, length, Some, bytes_eq, decimal, refl, sym, ◌∙◌, ap, arith}
+use Rattle.std.proofs.Common.{◌≡◌, ℕ, ◌<◌, ◌^◌, Bool, true, false, ◌&&◌, ◌==◌, List, [], ◌∷◌, length, Some, bytes_eq, decimal, refl, arith}
 use Rattle.std.proofs.lemmas.Bool.{eqb-true}
 use Rattle.std.proofs.lemmas.Slice.Eq.{bytes_eq-Decides}
 use Rattle.csv.specs.Records.{field_at}
@@ -44,3 +44,6 @@ four_fields (a ∷ b ∷ c ∷ d ∷ e ∷ row) h = absurd (omega arith)
 -- a number's field is its canonical decimal
 pub field_of-number_at : (row : Fields) (i n : ℕ) → number_at row i ≡ Some n → field_of row i ≡ decimal n
 field_of-number_at row i n h = (number_of-some (field_of row i) n h).0
+
+pub number_at-lt : (row : Fields) (i n : ℕ) → number_at row i ≡ Some n → n < 2 ^ 64
+number_at-lt row i n h = (number_of-some (field_of row i) n h).1

@@ -2,7 +2,6 @@
 use Rattle.std.proofs.Common.{◌≡◌, ◌+◌, ◌<◌, ◌≤◌, ℕ, zero, suc, Bool, true, false, List, [], ◌∷◌, length, Option, Some, None, unwrap_or, IsSome, if◌then◌else◌, not, refl, ◌∙◌, ap, inl, add-one, arith}
 use Rattle.std.specs.Borrow.{Bor}
 use Rattle.csv.specs.declared.parser.State.{State}
-use Rattle.csv.specs.declared.parser.State.TheVariants as st
 use Rattle.csv.specs.Machine.{Read, next_record, step, is_end, fields_after, field_after, ends_at_end}
 use Rattle.csv.specs.Reading.{default_config, records_from, records_next, source_of, pending_of, NextIs, ReadsNext, ReadRecord, took_first}
 use Rattle.csv.specs.declared.reader.Reader.{Reader}

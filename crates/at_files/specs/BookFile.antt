@@ -1,5 +1,5 @@
 -- The book that the records of a file spell, or the first offence.
-use Rattle.std.specs.Prelude.{◌≡◌, ℕ, ◌+◌, Bool, ◌&&◌, ◌||◌, ◌==◌, List, [], ◌∷◌, length, map, bytes_eq, codes, decimal, nat_le, Option, Some, None, option_map, option_and_then, Result, Ok, Err, if◌then◌else◌}
+use Rattle.std.specs.Prelude.{◌≡◌, ℕ, ◌+◌, ◌==◌, List, [], ◌∷◌, length, map, bytes_eq, codes, decimal, nat_le, Option, Some, None, Result, Ok, Err, if◌then◌else◌}
 use Rattle.std.specs.List.{slice_split, join_with_byte}
 use Rattle.at_base.specs.Numbers.{number_of}
 use Rattle.at_ledger.specs.Account.{AccountTerms}

@@ -18,9 +18,11 @@ decimals_below count = map decimal (range_with_len 0 count)
 abbrev pub plain_names : BookTerms → NameList
 plain_names b = record { version = 1; processes = decimals_below b.processes; accounts = decimals_below (length b.accounts) }
 
--- these are the names of the book: in version 1 its numbers
-abbrev pub AreNamesOf : BookTerms → NameList → Type 0
-AreNamesOf b names = names ≡ plain_names b
+-- these are the names of the book: one for each process and each account, in version 1 its number
+pub record AreNamesOf (b : BookTerms) (names : NameList) : Type 0 where
+  pub processes : length names.processes ≡ b.processes
+  pub accounts : length names.accounts ≡ length b.accounts
+  pub plain : names ≡ plain_names b
 
 -- the name of a process, of an account
 abbrev pub process_name : NameList → ℕ → List ℕ

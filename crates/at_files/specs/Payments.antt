@@ -1,5 +1,5 @@
 -- The payments of one process: the calls that the records of its file spell, or the first offence.
-use Rattle.std.specs.Prelude.{◌≡◌, ℕ, ◌+◌, ◌≤◌, ◌==◌, ◌&&◌, List, [], ◌∷◌, ◌++◌, length, map, All, codes, decimal, nat_lt, Option, Some, None, Result, Ok, Err, if◌then◌else◌}
+use Rattle.std.specs.Prelude.{◌≡◌, ℕ, ◌+◌, ◌^◌, ◌<◌, ◌≤◌, ◌==◌, ◌&&◌, List, [], ◌∷◌, ◌++◌, length, map, All, codes, decimal, nat_lt, Option, Some, None, Result, Ok, Err, if◌then◌else◌}
 use Rattle.at_ledger.specs.Book.{BookTerms}
 use Rattle.at_ledger.specs.Call.{TargetPair, IsCallOn}
 use Rattle.at_ledger.specs.declared.call.Call.{Call}
@@ -76,9 +76,16 @@ IsCallOfVersion version (Transfer from to amount) = Unit {0}
 IsCallOfVersion version (Read account) = Unit {0}
 IsCallOfVersion version (Pay from targets) = 2 ≤ version
 
+-- the amounts of a call are numbers that a file can hold
+abbrev pub HasAmounts : Call → Type 0
+HasAmounts (Transfer from to amount) = amount < 2 ^ 64
+HasAmounts (Read account) = Unit {0}
+HasAmounts (Pay from targets) = All (λ t. t.1 < 2 ^ 64) targets
+
 -- the records are these calls, written out one after another
 pub record Pays (b : BookTerms) (names : NameList) (rows : List Fields) (calls : List Call) : Type 0 where
   pub spelled : rows ≡ map (fields_of_call names) calls
   pub known : All (IsCallOn (length b.accounts)) calls
+  pub amounts : All HasAmounts calls
   pub versions : All (IsCallOfVersion names.version) calls
   pub few : length calls ≤ CALLS_MAX

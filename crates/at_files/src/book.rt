@@ -2,7 +2,8 @@
 
 ghost use Rattle.std.specs.Prelude.{◌≡◌, ◌+◌, ◌<◌, [], Err, IfErr, IfOk, Ok, OnOk, length, option_map};
 ghost use Rattle.csv.specs.Records.{fields_of};
-ghost use Rattle.at_files.specs.Names.{AreNamesOf};
+ghost use Rattle.at_ledger.specs.Book.{BookTerms, IsBook};
+ghost use Rattle.at_files.specs.Names.{AreNamesOf, NameList};
 ghost use Rattle.at_files.specs.Rows.{rows_of};
 ghost use Rattle.at_files.specs.BookFile.{Spells, accounts_from, at_line, book_at_end, book_of_rows, book_with_rooms, limits_from, limits_of, process_count, processes_from, processes_of, version_of, with_next, with_row};
 
@@ -137,7 +138,7 @@ fn add_row(
 }
 
 /// Reads record 1.
-fn read_version(rows: &mut Rows<'_>, row: &mut ByteRecord) -> Result<u32, ReadBookFault>
+fn read_title(rows: &mut Rows<'_>, row: &mut ByteRecord) -> Result<(), ReadBookFault>
     ensures ok { OnOk result (book_of_rows rows.old ≡ processes_from rows.new) }
     ensures bad { (b : BadBook) → result ≡ Err (ReadBookFault.Bad b) → book_of_rows rows.old ≡ Err b }
 {
@@ -148,7 +149,7 @@ fn read_version(rows: &mut Rows<'_>, row: &mut ByteRecord) -> Result<u32, ReadBo
         return Err(bad_book(1, BookWhy::Shape));
     }
     match version_of(row) {
-        Ok(version) => Ok(version),
+        Ok(_) => Ok(()),
         Err(why) => Err(bad_book(1, why)),
     }
 }
@@ -238,7 +239,7 @@ fn read_terms(
     ensures ok { IfOk result (λ b. book_of_rows rows.old ≡ Ok b) }
     ensures bad { (b : BadBook) → result ≡ Err (ReadBookFault.Bad b) → book_of_rows rows.old ≡ Err b }
 {
-    if let Err(fault) = read_version(rows, row) {
+    if let Err(fault) = read_title(rows, row) {
         return Err(fault);
     }
     let processes = match read_processes(alloc, rows, row) {
@@ -266,6 +267,7 @@ pub fn read_book(alloc: Global, bytes: &[u8]) -> Result<(Book, Names), ReadBookF
     ensures ok { IfOk result (λ r. book_of_rows (rows_of bytes.now) ≡ Ok r.0) }
     ensures spelled { IfOk result (λ r. Spells (rows_of bytes.now) r.0 r.1) }
     ensures names { IfOk result (λ r. AreNamesOf r.0 r.1) }
+    ensures accepts { (b : BookTerms) (names : NameList) → IsBook b → Spells (rows_of bytes.now) b names → IfErr result (λ fault. fault ≡ ReadBookFault.NoMemory) }
     ensures bad { (b : BadBook) → result ≡ Err (ReadBookFault.Bad b) → book_of_rows (rows_of bytes.now) ≡ Err b }
 {
     let mut rows = Rows::new(alloc, bytes);

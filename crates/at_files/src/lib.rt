@@ -11,6 +11,8 @@ mod owners;
 mod payments;
 mod payments_fault;
 mod rows;
+#[cfg(test)]
+mod tests;
 
 /// What a call answers that found no memory.
 pub type NoMemory = std::alloc::AllocError;

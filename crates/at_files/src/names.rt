@@ -11,10 +11,10 @@ use std::alloc::{AllocError, Global};
 use std::marker::Model;
 
 /// The most bytes of a name.
-pub const NAME_MAX: usize = 16;
+const NAME_MAX: usize = 16;
 
 /// One name.
-type Name = ArrayVec<u8, 16>;
+type Name = ArrayVec<u8, NAME_MAX>;
 
 /// The names of a book's processes and accounts, as its file gives them. Those of a book of version 1 are
 /// its numbers, as canonical decimals.
@@ -66,7 +66,8 @@ impl Names {
     /// The name of an account.
     pub fn account(&self, account: u32) -> &[u8]
         requires { account < length self.now.accounts }
-        ensures { result.now ≡ account_name self.now account }
+        ensures name { result.now ≡ account_name self.now account }
+        ensures plain { self.now.version ≡ 1 → result.now ≡ decimal account }
     {
         self.accounts[account as usize].as_slice()
     }
@@ -74,7 +75,8 @@ impl Names {
     /// The name of a process.
     pub fn process(&self, process: u32) -> &[u8]
         requires { process < length self.now.processes }
-        ensures { result.now ≡ process_name self.now process }
+        ensures name { result.now ≡ process_name self.now process }
+        ensures plain { self.now.version ≡ 1 → result.now ≡ decimal process }
     {
         self.processes[process as usize].as_slice()
     }

@@ -1,6 +1,6 @@
 //! The payments of one process.
 
-ghost use Rattle.std.specs.Prelude.{◌≡◌, length, Ok, Err, IfOk};
+ghost use Rattle.std.specs.Prelude.{◌≡◌, List, length, Ok, Err, IfErr, IfOk};
 ghost use Rattle.csv.specs.Records.{fields_of};
 ghost use Rattle.at_files.specs.Names.{AreNamesOf};
 ghost use Rattle.at_files.specs.Rows.{rows_of};
@@ -83,6 +83,7 @@ pub fn read_payments(
     requires { AreNamesOf book.now names.now }
     ensures ok { IfOk result (λ calls. payments_of names.now (rows_of bytes.now) ≡ Ok calls.items) }
     ensures pays { IfOk result (λ calls. Pays book.now names.now (rows_of bytes.now) calls.items) }
+    ensures accepts { (calls : List Call) → Pays book.now names.now (rows_of bytes.now) calls → IfErr result (λ fault. fault ≡ ReadPaymentsFault.NoMemory) }
     ensures bad { (b : BadPayments) → result ≡ Err (ReadPaymentsFault.Bad b) → payments_of names.now (rows_of bytes.now) ≡ Err b }
 {
     let accounts = book.accounts();

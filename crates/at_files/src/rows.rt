@@ -43,7 +43,8 @@ impl<'a> Rows<'a> {
         }
     }
 
-    /// Reads the next record into `row`, and answers whether there was one. An error ends the records.
+    /// Reads the next record into `row`, and answers whether there was one. An error ends the records, and each
+    /// one is answered as want of memory: no clause of `csv` rules out another over bytes that are there.
     pub(crate) fn next(&mut self, row: &mut ByteRecord) -> Result<bool, NoMemory>
         ensures ok { IfOk result (λ found. self.old ≡ (if found then fields_of row.new ∷ self.new else [])) }
         ensures err { OnErr result (self.new ≡ []) }

@@ -2,8 +2,7 @@
 use Rattle.std.proofs.Common.{◌≡◌, ℕ, ◌+◌, ◌<◌, List, [], ◌∷◌, ◌++◌, Bool, true, false, cond, suc, length, get_or, take, refl, ap, ◌∙◌, rules}
 use Rattle.std.proofs.lemmas.List.{take_more}
 use Rattle.at_ledger.specs.Call.{TargetPair}
-use Rattle.at_ledger.specs.Account.{is_shared}
-use Rattle.at_ledger.specs.Book.{BookTerms, account_of}
+use Rattle.at_ledger.specs.Book.{BookTerms}
 use Rattle.at_ledger.specs.State.{LedgerState, Step, step, pay}
 use Rattle.at_ledger.specs.Run.{Run, run_after, run_from}
 use Rattle.at_ledger.specs.declared.call.Call.{Call}

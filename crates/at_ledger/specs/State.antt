@@ -1,5 +1,5 @@
 -- The sequential ledger: what each call answers and changes.
-use Rattle.std.specs.Prelude.{◌≡◌, ℕ, ◌+◌, ◌-◌, ◌*◌, ◌≤◌, ◌<◌, Bool, not, ◌&&◌, ◌||◌, ◌==◌, List, [], ◌∷◌, length, map, replicate, sum, All, nat_lt, slice_index, slice_set, if◌then◌else◌}
+use Rattle.std.specs.Prelude.{◌≡◌, ℕ, ◌+◌, ◌-◌, ◌*◌, ◌≤◌, Bool, not, ◌&&◌, ◌||◌, ◌==◌, List, [], ◌∷◌, length, map, replicate, sum, All, nat_lt, slice_index, slice_set, if◌then◌else◌}
 use Rattle.at_ledger.specs.Account.{is_single, is_shared}
 use Rattle.at_ledger.specs.Book.{BookTerms, IsBook, account_of, is_owner, total_of}
 use Rattle.at_ledger.specs.Call.{TargetPair, amount_of}

@@ -34,7 +34,8 @@ impl Book {
     ghost use Rattle.at_ledger.specs.Book.{IsBook, account_of, is_owner, log_room_of};
     ghost use Rattle.at_ledger.specs.Draft.{book_fault, book_of};
 
-    /// Checks a draft and copies it.
+    /// Checks a draft and copies it. A refusal names the first offence: the limits, then the accounts in
+    /// turn, each with its owners from left to right before its sums.
     pub fn new(alloc: Global, draft: &Draft) -> Result<Book, BookFault>
         ensures ok { IfOk result (λ b. b ≡ book_of draft.now) }
         ensures good { OnOk result (book_fault draft.now ≡ None) }
@@ -50,10 +51,7 @@ impl Book {
             Err(fault) => return Err(BookFault::Bad(fault)),
         };
         for account in &draft.accounts {
-            match builder.add(account.opening, account.owners.as_slice()) {
-                Ok(()) => {}
-                Err(fault) => return Err(fault),
-            }
+            builder.add(account.opening, account.owners.as_slice())?;
         }
         match builder.finish() {
             Ok(book) => Ok(book),
@@ -174,6 +172,7 @@ impl Book {
         self.accounts[account as usize].is_single()
     }
 
+    /// The same book, in memory of its own.
     pub fn copy(&self, alloc: Global) -> Result<Book, NoMemory>
         ensures { IfOk result (λ b. b ≡ self.now) }
     {

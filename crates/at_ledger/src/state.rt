@@ -49,7 +49,7 @@ impl State {
         })
     }
 
-    /// Does one call. Takes time in proportion to the owners of the source and the targets.
+    /// Does one call. Takes no memory, and time in proportion to the owners of the source and the targets.
     pub fn step(&mut self, process: u32, call: &Call) -> Reply
         requires process_in { process < self.old.book.processes }
         requires call_in { IsCallOn (length self.old.book.accounts) call.now }

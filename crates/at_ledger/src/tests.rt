@@ -187,19 +187,14 @@ fn names_the_first_offence(rt: HostRuntime) -> Result<(), Fail> {
     let nine: [(u64, &[u64]); 1] = [(0, &all)];
     let rounds: [(u64, &[u64]); 2] = [(1, &all[..8]), (u64::MAX, &[0, 1])];
     let total: [(u64, &[u64]); 2] = [(1, &all[..8]), (u64::MAX, &[0])];
-    for (accounts, want) in [
-        (&rounds[..0], BookError::NoAccount),
-        (&two_out, BookError::OwnerOutOfRange { account: 0 }),
-        (&two_out[1..], BookError::OwnersNotRising { account: 0 }),
-        (&nine, BookError::TooManyOwners { account: 0 }),
-        (&rounds, BookError::RoundsOverLimit { account: 1 }),
-        (&total, BookError::TotalOverLimit { account: 1 }),
+    for (processes, accounts, want) in [
+        (9, &rounds[..0], BookError::NoAccount),
+        (2, &two_out, BookError::OwnerOutOfRange { account: 0 }),
+        (9, &two_out[1..], BookError::OwnersNotRising { account: 0 }),
+        (9, &nine, BookError::TooManyOwners { account: 0 }),
+        (9, &rounds, BookError::RoundsOverLimit { account: 1 }),
+        (9, &total, BookError::TotalOverLimit { account: 1 }),
     ] {
-        let processes = if want == (BookError::OwnerOutOfRange { account: 0 }) {
-            2
-        } else {
-            9
-        };
         assert_eq!(rt;
             fault_of(alloc, processes, (1, 1_024), accounts)?,
             Some(want)

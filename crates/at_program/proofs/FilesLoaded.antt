@@ -1,5 +1,5 @@
 -- Files loaded one after another.
-use Rattle.std.proofs.Common.{◌≡◌, ℕ, ◌+◌, ◌<◌, List, [], ◌∷◌, ◌++◌, length, take, drop, get_or, Result, Ok, Err, refl, sym, ap, ◌∙◌, arith, add-zero, suc, ◌⊎◌, inl, inr, length-append, String, string_bytes, Vec}
+use Rattle.std.proofs.Common.{◌≡◌, ℕ, ◌+◌, ◌<◌, List, [], ◌∷◌, ◌++◌, length, take, drop, get_or, Result, Ok, Err, Bool, true, refl, sym, ap, ◌∙◌, arith, add-zero, suc, ◌⊎◌, inl, inr, length-append, String, string_bytes, Vec}
 use Rattle.std.specs.Global.{Global}
 use Rattle.std.proofs.lemmas.List.{take_more, take-append-drop, length-take-le, get_or-map, map-append}
 use Rattle.std.proofs.Math.Seq.{drop-cons, get_or-append_seam}
@@ -7,10 +7,10 @@ use Rattle.std.proofs.Math.ListN.{get_or-append}
 use Rattle.std.proofs.Math.Nat.{eq-or-lt_of_le}
 use Rattle.at_ledger.specs.Book.{BookTerms}
 use Rattle.at_ledger.specs.declared.call.Call.{Call}
-use Rattle.at_files.specs.Names.{NameList}
+use Rattle.at_files.specs.Names.{NameList, plain_names}
 use Rattle.at_report.specs.declared.status.Status.{Status}
-use Rattle.at_program.specs.Words.{Word, words_of}
-use Rattle.at_program.specs.Loading.{EachSpells, Files, SpellsCalls, after, calls_before, calls_loaded, calls_of, files_loaded}
+use Rattle.at_program.specs.Words.{Form, Word, words_of}
+use Rattle.at_program.specs.Loading.{EachSpells, Files, IsFileReached, MayReach, SpellsCalls, after, book_loaded, calls_before, calls_loaded, calls_of, files_loaded}
 
 -- what files that were loaded come of: the first, and the others
 record AreParts (r : Result (List Call) Status) (rest : Result (List (List Call)) Status) (loaded : List (List Call)) : Type 0 where
@@ -112,3 +112,14 @@ get_or-words_of payments i name within is = get_or-map string_bytes payments i n
 -- the calls of one more file
 pub calls_of-push : (files : List (Vec Call Global)) (file : Vec Call Global) → calls_of (files ++ file ∷ []) ≡ calls_of files ++ file.items ∷ []
 calls_of-push files file = map-append (λ (f : Vec Call Global). f.items) files (file ∷ [])
+
+-- what stands before a payment file that was reached is good
+pub MayReach-file : (tells : Bool) (files : Files) (form : Form) (b : BookTerms) (file : ℕ)
+    → (tells ≡ true → book_loaded files form.book ≡ Ok b) → length form.payments ≡ b.processes
+    → IsFileReached tells files (plain_names b) form.payments file → MayReach tells files form file
+MayReach-file tells files form b file read enough reached =
+    let file_is : file ≡ suc reached.0 = omega (arith, reached.1.0) in
+    record {
+      named = omega (arith, reached.1.0, reached.1.1);
+      reached = λ told. rw file_is (record { book = b; read = read told; enough = enough; before = reached.1.2 told });
+    }

@@ -1,2 +1,3 @@
 pub mod FilesLoaded
 pub mod MayRefuseLaws
+pub mod Played

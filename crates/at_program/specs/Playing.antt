@@ -28,3 +28,8 @@ unfoldable pub files_played : LedgerState → ℕ → List (List Call) → List 
 files_played s process [] = []
 files_played s process (calls ∷ files) =
     played s process 1 calls ++ files_played (state_after s process calls) (process + 1) files
+
+-- the state after the files, the first of which is this process's
+unfoldable pub state_after_files : LedgerState → ℕ → List (List Call) → LedgerState
+state_after_files s process [] = s
+state_after_files s process (calls ∷ files) = state_after_files (state_after s process calls) (process + 1) files

@@ -2,6 +2,7 @@
 #![tactic(auto)]
 
 mod loading;
+mod playing;
 mod words;
 
 fn main(_rt: HostRuntime) {}

@@ -1,5 +1,5 @@
-use Rattle.std.proofs.Common.{◌≡◌, Err, ◌∙◌, ap, sym, arith}
-use Rattle.at_files.proofs.BookLaws.{Added-more, Added-bad, Added-end, Added-full, Bad-same, Err-same}
+use Rattle.std.proofs.Common.{Err, ◌∙◌, ap, sym, arith}
+use Rattle.at_files.proofs.BookWalk.{Added-more, Added-bad, Added-end, Added-full, Bad-same, Err-same}
 use Rattle.at_files.proofs.book.read_accounts.Goals as goal
 
 pub returns-then-not-found-clause-ok : goal.returns-then-not-found-clause-ok

@@ -1,5 +1,5 @@
 use Rattle.at_files.specs.BookFile.{accounts_from}
-use Rattle.at_files.proofs.BookLaws.{Added}
+use Rattle.at_files.proofs.BookWalk.{Added}
 use Rattle.at_files.proofs.book.read_accounts.Given as goal
 
 abbrev pub invariant-loop-line : goal.invariant-loop-line

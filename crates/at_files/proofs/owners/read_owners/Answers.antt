@@ -1,5 +1,5 @@
 use Rattle.std.proofs.Common.{sym, ap, ◌∙◌, Some}
-use Rattle.at_files.proofs.OwnerLaws.{numbers_of-empty, pieces_of-some}
+use Rattle.at_files.proofs.OwnerLaws.{numbers_of-empty}
 use Rattle.at_files.proofs.owners.read_owners.Goals as goal
 
 pub returns-then-is_empty : goal.returns-then-is_empty

@@ -1,6 +1,7 @@
 use Rattle.std.proofs.Common.{◌≡◌, [], ◌∷◌, ◌++◌, Err, refl, ◌∙◌, ap, sym, arith}
-use Rattle.at_files.proofs.PaymentLaws.{Walked-start, Walked-more, Walked-end, Walked-bad, Walked-many, Bad-same}
-use Rattle.at_files.proofs.SpellingLaws.{Pays-payments_of}
+use Rattle.at_files.proofs.PaymentsWalk.{Walked-start, Walked-more, Walked-end, Walked-bad, Walked-many, Bad-same}
+use Rattle.at_files.proofs.PaymentsAccepted.{Pays-not_bad}
+use Rattle.at_files.proofs.PaymentsSpelled.{Pays-payments_of}
 use Rattle.at_files.proofs.payments.read_payments.Goals as goal
 
 pub loop-line-init : goal.loop-line-init
@@ -37,3 +38,13 @@ returns-clause-ok c = Walked-end _ _ _ _ _ _ _ _ _ c.loop-line.invariant c.in-Ok
 pub returns-clause-pays : goal.returns-clause-pays
 returns-clause-pays c =
     Pays-payments_of _ _ _ _ c.requires (Walked-end _ _ _ _ _ _ _ _ _ c.loop-line.invariant c.in-Ok-next.ensures.ok c.if-found.false)
+
+pub returns-in-Err-clause-accepts : goal.returns-in-Err-clause-accepts
+returns-in-Err-clause-accepts c = λ calls pays.
+    Pays-not_bad c.args.book.now _ _ calls _ _ c.requires (omega (arith, c.accounts-accounts.ensures.checked.begun.few_accounts)) pays
+    (Walked-bad _ _ _ _ _ _ _ _ _ _ c.loop-line.invariant c.in-Ok.ensures.ok c.if-not-found.false (omega arith) (sym c.plain_call_of.ensures ∙ c.in-Err.is))
+
+pub returns-then-found-clause-accepts : goal.returns-then-found-clause-accepts
+returns-then-found-clause-accepts c = λ calls pays.
+    Pays-not_bad c.args.book.now _ _ calls _ _ c.requires (omega (arith, c.accounts-accounts.ensures.checked.begun.few_accounts)) pays
+    (Walked-many _ _ _ _ _ _ _ _ _ c.loop-line.invariant c.in-Ok-next.ensures.ok c.if-found.true (omega arith))

@@ -1,5 +1,5 @@
 use Rattle.at_files.specs.Rows.{rows_of}
-use Rattle.at_files.proofs.PaymentLaws.{Walked}
+use Rattle.at_files.proofs.PaymentsWalk.{Walked}
 use Rattle.at_files.proofs.payments.read_payments.Given as goal
 
 abbrev pub invariant-loop-line : goal.invariant-loop-line

@@ -1,36 +1,37 @@
 -- The records of a payment file are its calls, written out.
-use Rattle.std.proofs.Common.{◌≡◌, ℕ, ◌+◌, ◌<◌, ◌≤◌, Bool, true, false, ◌&&◌, ◌==◌, nat_lt, List, [], ◌∷◌, ◌++◌, length, map, All, Option, Some, None, Result, Ok, Err, if◌then◌else◌, codes, decimal, get_or, refl, sym, ◌∙◌, ap, subst, arith}
-use Rattle.std.proofs.lemmas.Bool.{eqb-true, ltb-true}
+use Rattle.std.proofs.Common.{◌≡◌, ℕ, ◌+◌, ◌<◌, ◌≤◌, Bool, true, false, ◌&&◌, ◌==◌, nat_lt, List, [], ◌∷◌, length, map, All, Option, Some, None, Result, Ok, Err, if◌then◌else◌, codes, decimal, refl, sym, ◌∙◌, ap, subst, arith}
+use Rattle.std.proofs.lemmas.Bool.{ltb-true}
 use Rattle.std.proofs.lemmas.Bool.Decides.{nat_tests}
 use Rattle.std.proofs.lemmas.List.Elements.{All-cons}
-use Rattle.std.proofs.lemmas.List.FromFn.{get_or-map-range_with_len, length-map-range_with_len}
 use Rattle.at_ledger.specs.Book.{BookTerms}
 use Rattle.at_ledger.specs.Call.{IsCallOn}
 use Rattle.at_ledger.specs.declared.call.Call.{Call}
-use Rattle.at_ledger.specs.declared.call.Call.TheVariants.{Transfer, Read, Pay}
+use Rattle.at_ledger.specs.declared.call.Call.TheVariants.{Transfer, Read}
 use Rattle.at_files.specs.Names.{NameList, AreNamesOf, account_name, decimals_below}
-use Rattle.at_files.specs.Rows.{Fields, number_at, field_of, has_shape}
-use Rattle.at_files.specs.Payments.{transfer_of, read_of, plain_call_of, call_of, calls_before, call_before, payments_from, payments_of, fields_of_call, IsCallOfVersion, Pays}
+use Rattle.at_files.specs.Rows.{Fields, number_at, has_shape}
+use Rattle.at_files.specs.Payments.{transfer_of, read_of, call_of, call_before, payments_from, payments_of, fields_of_call, IsCallOfVersion, HasAmounts, Pays}
 use Rattle.at_files.specs.declared.payments_fault.TheConstants.{CALLS_MAX}
 use Rattle.at_files.specs.declared.payments_fault.PaymentsWhy.{PaymentsWhy}
-use Rattle.at_files.specs.declared.payments_fault.PaymentsWhy.TheVariants.{Shape, Number, UnknownAccount, TooManyCalls}
+use Rattle.at_files.specs.declared.payments_fault.PaymentsWhy.TheVariants.{Shape, UnknownAccount, TooManyCalls}
 use Rattle.at_files.specs.declared.payments_fault.BadPayments.{BadPayments}
-use Rattle.at_files.proofs.RecordLaws.{both_tests, length-has_shape, first-has_shape, two_fields, four_fields, field_of-number_at}
+use Rattle.at_files.proofs.NameLaws.{decimals_below-at}
+use Rattle.at_files.proofs.RecordLaws.{both_tests, length-has_shape, first-has_shape, two_fields, four_fields, field_of-number_at, number_at-lt}
 
 -- the accounts' names are their numbers
 abbrev pub AreNumbered : NameList → Type 0
 AreNumbered names = names.accounts ≡ decimals_below (length names.accounts)
 
 pub account_name-decimal : (names : NameList) (n : ℕ) → AreNumbered names → n < length names.accounts → account_name names n ≡ decimal n
-account_name-decimal names n is h = rw is (get_or-map-range_with_len decimal 0 (length names.accounts) n n [] h (omega arith))
+account_name-decimal names n is h = decimals_below-at names.accounts n is h
 
-pub length-names : (b : BookTerms) (names : NameList) → AreNamesOf b names → length names.accounts ≡ length b.accounts
-length-names b names are = rw are (length-map-range_with_len decimal 0 (length b.accounts))
+pub AreNumbered-names : (b : BookTerms) (names : NameList) → AreNamesOf b names → AreNumbered names
+AreNumbered-names b names are = let plain : names.accounts ≡ decimals_below (length b.accounts) = ap (λ n. n.accounts) are.plain in plain ∙ ap decimals_below (sym are.accounts)
 
 -- a record that spells a call is the call's
 record Spelled (names : NameList) (row : Fields) (call : Call) : Type 0 where
   fields : row ≡ fields_of_call names call
   known : IsCallOn (length names.accounts) call
+  amounts : HasAmounts call
   version : IsCallOfVersion names.version call
 
 ok_where : (b : Bool) (x call : Call) (why : PaymentsWhy) → (if b then Ok x else Err why) ≡ Ok call → (b ≡ true) × (x ≡ call)
@@ -61,6 +62,7 @@ transfer_of-spelled names row call (Some from) (Some to) (Some amount) numbered 
             account_name-decimal names to numbered to_known,
           ) refl;
       known = (from_known, to_known);
+      amounts = number_at-lt row 3 amount e3;
       version = tt;
     })
 
@@ -76,6 +78,7 @@ read_of-spelled names row call (Some account) numbered shape e h =
           two_fields row (length-has_shape (codes "read") 2 row shape)
           ∙ rw (first-has_shape (codes "read") 2 row shape, field_of-number_at row 1 account e, account_name-decimal names account numbered account_known) refl;
       known = account_known;
+      amounts = tt;
       version = tt;
     })
 
@@ -93,6 +96,7 @@ call_of-spelled names row call numbered h = by (has_shape (codes "transfer") 4 r
 record AllSpelled (names : NameList) (line : ℕ) (rows : List Fields) (calls : List Call) : Type 0 where
   spelled : rows ≡ map (fields_of_call names) calls
   known : All (IsCallOn (length names.accounts)) calls
+  amounts : All HasAmounts calls
   versions : All (IsCallOfVersion names.version) calls
   few : length calls + line ≤ CALLS_MAX + 1
 
@@ -101,6 +105,7 @@ AllSpelled-cons : (names : NameList) (line : ℕ) (row : Fields) (rows : List Fi
 AllSpelled-cons names line row rows call calls first others = record {
   spelled = rw (first.fields, others.spelled) refl;
   known = All-cons (IsCallOn (length names.accounts)) call calls first.known others.known;
+  amounts = All-cons HasAmounts call calls first.amounts others.amounts;
   versions = All-cons (IsCallOfVersion names.version) call calls first.version others.versions;
   few = let few : length calls + (line + 1) ≤ CALLS_MAX + 1 = others.few in omega arith;
 }
@@ -121,7 +126,7 @@ unfolding payments_from
 payments_from-spelled names line [] calls numbered within h =
     let is : [] ≡ calls = cc in
     let P : List Call → Type 0 = AllSpelled names line [] in
-    subst P is (record { spelled = refl; known = λ k d h. absurd (omega arith); versions = λ k d h. absurd (omega arith); few = omega arith })
+    subst P is (record { spelled = refl; known = λ k d h. absurd (omega arith); amounts = λ k d h. absurd (omega arith); versions = λ k d h. absurd (omega arith); few = omega arith })
 payments_from-spelled names line (row ∷ rows) calls numbered within h =
     by (line == CALLS_MAX + 1) refl h (λ fits more. payments_from-spelled names (line + 1) rows more numbered fits)
   where
@@ -138,12 +143,11 @@ payments_from-spelled names line (row ∷ rows) calls numbered within h =
 -- what the walk gives is what the file pays
 pub Pays-payments_of : (b : BookTerms) (names : NameList) (rows : List Fields) (calls : List Call) → AreNamesOf b names → payments_of names rows ≡ Ok calls → Pays b names rows calls
 Pays-payments_of b names rows calls are h =
-    let count = length-names b names are in
-    let numbered : AreNumbered names = rw (count, are) refl in
-    let all = payments_from-spelled names 1 rows calls numbered (omega arith) h in
+    let all = payments_from-spelled names 1 rows calls (AreNumbered-names b names are) (omega arith) h in
     record {
       spelled = all.spelled;
-      known = rw count at all.known;
+      known = rw are.accounts at all.known;
+      amounts = all.amounts;
       versions = all.versions;
       few = let few : length calls + 1 ≤ CALLS_MAX + 1 = all.few in omega arith;
     }

@@ -1,13 +1,13 @@
 -- The records of a book file are the book, written out.
-use Rattle.std.proofs.Common.{◌≡◌, ℕ, ◌+◌, Bool, true, false, ◌==◌, ◌&&◌, List, [], ◌∷◌, ◌++◌, length, Option, Some, None, Result, Ok, Err, if◌then◌else◌, bytes_eq, codes, decimal, refl, sym, ◌∙◌, ap, subst, append_assoc, append-nil, length-append}
+use Rattle.std.proofs.Common.{◌≡◌, ℕ, ◌+◌, Bool, true, false, ◌==◌, List, [], ◌∷◌, ◌++◌, length, Option, Some, None, Result, Ok, Err, if◌then◌else◌, bytes_eq, codes, decimal, refl, sym, ◌∙◌, append_assoc, append-nil, length-append}
 use Rattle.std.proofs.lemmas.Slice.Eq.{bytes_eq-Decides}
 use Rattle.at_ledger.specs.Account.{AccountTerms}
 use Rattle.at_ledger.specs.Book.{BookTerms}
-use Rattle.at_ledger.specs.Draft.{limits_fault, with_account, book_without_accounts}
+use Rattle.at_ledger.specs.Draft.{limits_fault, book_without_accounts}
 use Rattle.at_ledger.specs.declared.draft.BookError.TheVariants.{NoAccount}
 use Rattle.at_files.specs.Names.{NameList, AreNamesOf}
 use Rattle.at_files.specs.Rows.{Fields, field_of, number_at, has_shape}
-use Rattle.at_files.specs.BookFile.{version_of, process_count, processes_of, book_with_rooms, limits_of, with_row, at_line, after, book_at_end, accounts_from, limits_from, processes_from, book_of_rows, fields_of_account, account_rows, rows_of_book, Spells}
+use Rattle.at_files.specs.BookFile.{version_of, process_count, processes_of, book_with_rooms, limits_of, with_row, at_line, after, book_at_end, accounts_from, limits_from, processes_from, book_of_rows, account_rows, rows_of_book, Spells}
 use Rattle.at_files.specs.declared.book_fault.BookWhy.{BookWhy}
 use Rattle.at_files.specs.declared.book_fault.BookWhy.TheVariants as why
 use Rattle.at_files.specs.declared.book_fault.BadBook.{BadBook}

@@ -1,13 +1,11 @@
 -- The walk over the records of a book file.
-use Rattle.std.proofs.Common.{◌≡◌, ℕ, ◌+◌, ◌<◌, ◌≤◌, Bool, true, false, ◌==◌, nat_le, List, [], ◌∷◌, ◌++◌, length, Option, Some, None, Result, Ok, Err, if◌then◌else◌, refl, sym, ◌∙◌, ap, length-append, arith}
-use Rattle.std.proofs.lemmas.Bool.Decides.{nat_tests}
+use Rattle.std.proofs.Common.{◌≡◌, ℕ, ◌+◌, Bool, true, false, List, [], ◌∷◌, length, Result, Ok, Err, if◌then◌else◌, refl, ◌∙◌, ap, length-append, arith}
 use Rattle.at_ledger.specs.Book.{BookTerms}
 use Rattle.at_ledger.specs.declared.draft.BookError.TheVariants.{TooManyAccounts}
 use Rattle.at_ledger.specs.declared.draft.TheConstants.{ACCOUNTS_MAX}
 use Rattle.at_files.specs.Rows.{Fields}
 use Rattle.at_files.specs.BookFile.{at_line, after, with_row, accounts_from, book_at_end}
 use Rattle.at_files.proofs.AccountLaws.{with_row-adds}
-use Rattle.at_files.specs.declared.book_fault.BookWhy.{BookWhy}
 use Rattle.at_files.specs.declared.book_fault.BookWhy.TheVariants as why
 use Rattle.at_files.specs.declared.book_fault.BadBook.{BadBook}
 use Rattle.at_files.specs.declared.book_fault.ReadBookFault.{ReadBookFault}

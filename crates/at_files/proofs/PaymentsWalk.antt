@@ -1,10 +1,9 @@
 -- The walk over the records of a payment file, and the calls that they spell.
-use Rattle.std.proofs.Common.{◌≡◌, ◌≢◌, ℕ, ◌+◌, ◌<◌, ◌≤◌, Bool, true, false, ◌==◌, List, [], ◌∷◌, ◌++◌, length, Result, Ok, Err, if◌then◌else◌, refl, sym, ◌∙◌, ap, append_assoc, append-nil, arith}
+use Rattle.std.proofs.Common.{◌≡◌, ℕ, ◌+◌, ◌<◌, Bool, true, false, ◌==◌, List, [], ◌∷◌, ◌++◌, length, Result, Ok, Err, if◌then◌else◌, refl, sym, ◌∙◌, ap, append_assoc, append-nil, arith}
 use Rattle.std.proofs.lemmas.Bool.Decides.{nat_tests}
 use Rattle.at_ledger.specs.declared.call.Call.{Call}
 use Rattle.at_ledger.specs.Book.{BookTerms}
 use Rattle.at_files.specs.Names.{NameList, AreNamesOf}
-use Rattle.at_files.proofs.SpellingLaws.{length-names}
 use Rattle.at_files.specs.Rows.{Fields}
 use Rattle.at_files.specs.Payments.{plain_call_of, call_of, calls_before, call_before, bad_payments, payments_from, payments_of}
 use Rattle.at_files.specs.declared.payments_fault.TheConstants.{CALLS_MAX}
@@ -31,7 +30,7 @@ calls_before-push calls call (Err bad) = refl
 not_last : (line : ℕ) → line < CALLS_MAX + 1 → (line == CALLS_MAX + 1) ≡ false
 not_last line h = grind (arith, nat_tests)
 
-payments_from-more : (names : NameList) (line : ℕ) (row : Fields) (rows : List Fields) → line < CALLS_MAX + 1
+pub payments_from-more : (names : NameList) (line : ℕ) (row : Fields) (rows : List Fields) → line < CALLS_MAX + 1
     → payments_from names line (row ∷ rows) ≡ call_before line (call_of names row) (payments_from names (line + 1) rows)
 unfolding payments_from
 payments_from-more names line row rows h = rw (not_last line h) refl
@@ -39,7 +38,7 @@ payments_from-more names line row rows h = rw (not_last line h) refl
 pub Walked-start : (b : BookTerms) (accounts : ℕ) (names : NameList) (all : List Fields) → AreNamesOf b names → accounts ≡ length b.accounts → Walked accounts names all [] 1 all
 Walked-start b accounts names all are count = record {
   walk = sym (calls_before-none (payments_from names 1 all));
-  counted = count ∙ sym (length-names b names are);
+  counted = count ∙ sym are.accounts;
 }
 
 -- a record was read, or there was none
