@@ -1,0 +1,168 @@
+#!/bin/bash
+# Compares the proved program with the plain Rust program of this folder, on the largest input that is accepted.
+#
+#   bench/measure.sh PROGRAM [TURNS]
+#
+# PROGRAM is the proved one, as crates/at_program/out/at_program. Each figure is the best of TURNS turns (40), in which
+# the programs take turns. The sources of the csv crate are Debian's package librust-csv-dev, which is installed if it
+# isn't there; nothing else is fetched. Everything is made in a new folder, which is removed at the end.
+
+set -euo pipefail
+export LC_ALL=C
+if [ $# -lt 1 ] || [ ! -x "$1" ]; then
+    echo "usage: measure.sh PROGRAM [TURNS]" >&2
+    exit 2
+fi
+proved=$(realpath -- "$1")
+turns=${2:-40}
+here=$(cd -- "$(dirname -- "$0")" && pwd)
+work=$(mktemp -d)
+trap 'rm -rf -- "$work"' EXIT
+plain=$work/built/release/plain
+
+# Builds the plain program in the new folder.
+build_plain() {
+    dpkg -s librust-csv-dev >/dev/null 2>&1 || apt-get install -y librust-csv-dev >/dev/null
+    local sources
+    sources=$(dpkg -L librust-csv-dev | sed -n 's|/csv-[0-9.]*$||p' | head -n 1)
+    cp -r -- "$here" "$work/plain"
+    cargo build --quiet --release --offline --manifest-path "$work/plain/Cargo.toml" --target-dir "$work/built" \
+        --config 'source.crates-io.replace-with="debian"' --config "source.debian.directory=\"$sources\""
+}
+
+# Makes a book of so many processes and 1,024 accounts, and 16,384 calls for each process, in a folder.
+make_input() {
+    mkdir -p -- "$2"
+    awk -v processes="$1" -v folder="$2" '
+        function draw(below) { x = x * 16807 % 2147483647; return x % below }
+        # The first 16 accounts have eight owners, the next 8 have none, and the others one each.
+        function owners(a,    first, list, i) {
+            if (a >= 24) return a % processes
+            if (a >= 16) return ""
+            first = processes > 8 ? 8 * (a % 2) : 0
+            list = first
+            for (i = 1; i < 8; i++) list = list " " first + i
+            return list
+        }
+        function own(p) { return p + processes * (3 + draw(1024 / processes - 3)) }
+        function transfer(from) { return "transfer," from "," draw(1024) "," 1 + draw(1000000000) }
+        function call(p,    kind) {
+            kind = draw(8)
+            if (kind < 4) return "read," draw(1024)
+            if (kind < 7) return transfer(own(p))
+            return transfer(draw(64))
+        }
+        BEGIN {
+            x = 20190729
+            file = folder "/book.csv"
+            print "book,1\nprocesses," processes "\nlimits,4096,64" > file
+            for (a = 0; a < 1024; a++) printf "account,%d,%.0f,%s\n", a, 1000 * draw(1000000000), owners(a) > file
+            close(file)
+            for (p = 0; p < processes; p++) {
+                file = folder "/pay" p ".csv"
+                for (i = 0; i < 16384; i++) print call(p) > file
+                close(file)
+            }
+        }'
+}
+
+# The payment files of a folder, in process order.
+payments_of() {
+    local p
+    payments=()
+    for ((p = 0; p < $1; p++)); do payments+=("$2/pay$p.csv"); done
+}
+
+# Runs a program, and leaves its microseconds in `took`. Its status is not looked at. The text of the run before is
+# removed first, so that its removal falls into no program's time.
+run_timed() {
+    local began ended
+    rm -f -- "$work/text"
+    began=$EPOCHREALTIME
+    "$@" >"$work/text" 2>"$work/refusal" || true
+    ended=$EPOCHREALTIME
+    took=$((${ended/./} - ${began/./}))
+}
+
+# Keeps the least time of each name.
+declare -A best
+keep_best() {
+    run_timed "${@:2}"
+    if [ -z "${best[$1]-}" ] || [ "$took" -lt "${best[$1]}" ]; then best[$1]=$took; fi
+}
+
+ratio() {
+    awk -v a="${best[$1]}" -v b="${best[$2]}" 'BEGIN { printf "%.2f", a / b }'
+}
+
+milliseconds() {
+    awk -v a="${best[$1]}" 'BEGIN { printf "%.1f ms", a / 1000 }'
+}
+
+# Both programs print the same of a folder.
+compare() {
+    local job
+    payments_of "$1" "$2"
+    for job in run check; do
+        "$proved" "$job" "$2/book.csv" "${payments[@]}" >"$work/proved.text"
+        "$plain" "$job" "$2/book.csv" "${payments[@]}" >"$work/plain.text"
+        cmp -- "$work/proved.text" "$work/plain.text" || { echo "the programs differ at $job" >&2; exit 1; }
+        if [ "$job" = run ]; then
+            echo "$1 processes: same report of $(wc -c <"$work/proved.text") bytes and $(wc -l <"$work/proved.text") lines"
+        fi
+    done
+}
+
+take_turns() {
+    local turn n input
+    for ((turn = 0; turn < turns; turn++)); do
+        for n in 8 16; do
+            input=$work/input$n
+            payments_of "$n" "$input"
+            keep_best "proved run $n" "$proved" run "$input/book.csv" "${payments[@]}"
+            keep_best "plain run $n" "$plain" run "$input/book.csv" "${payments[@]}"
+            keep_best "proved check $n" "$proved" check "$input/book.csv" "${payments[@]}"
+            keep_best "plain check $n" "$plain" check "$input/book.csv" "${payments[@]}"
+            keep_best "plain records $n" "$plain" records "$input/book.csv" "${payments[@]}"
+        done
+    done
+}
+
+# Refuses a file of so many bytes beside a book of one process.
+refuse_long() {
+    local turn
+    printf 'book,1\nprocesses,1\nlimits,4,4\naccount,0,100,0\n' >"$work/one.csv"
+    truncate -s "$1" "$work/long.csv"
+    for ((turn = 0; turn < turns; turn++)); do
+        keep_best "long $1" "$proved" check "$work/one.csv" "$work/long.csv"
+        [ "$(cat "$work/refusal")" = "too long: file 1" ] || { echo "a file of $1 bytes was not refused" >&2; exit 1; }
+    done
+    echo "a file of $1 bytes: refused in $(milliseconds "long $1")"
+}
+
+peak_memory() {
+    [ -x /usr/bin/time ] || return 0
+    payments_of 16 "$work/input16"
+    /usr/bin/time -f %M -o "$work/peak" "$1" run "$work/input16/book.csv" "${payments[@]}" >/dev/null
+    echo "peak memory of run, $2: $(($(cat "$work/peak") / 1024)) MiB"
+}
+
+build_plain
+for n in 8 16; do
+    make_input "$n" "$work/input$n"
+    compare "$n" "$work/input$n"
+done
+take_turns
+for n in 8 16; do
+    echo "$n processes, run: proved $(milliseconds "proved run $n"), plain $(milliseconds "plain run $n")"
+    echo "$n processes, check: proved $(milliseconds "proved check $n"), plain $(milliseconds "plain check $n"), records alone $(milliseconds "plain records $n")"
+done
+echo "run, proved to plain: $(ratio "proved run 16" "plain run 16")"
+echo "check, proved to plain: $(ratio "proved check 16" "plain check 16")"
+echo "check, proved to records alone: $(ratio "proved check 16" "plain records 16")"
+echo "run, 16 processes to 8: $(ratio "proved run 16" "proved run 8")"
+echo "check, 16 processes to 8: $(ratio "proved check 16" "proved check 8")"
+refuse_long 8388609
+refuse_long 4294967296
+peak_memory "$proved" proved
+peak_memory "$plain" plain

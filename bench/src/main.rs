@@ -1,0 +1,268 @@
+//! Reads a book and payment files with `csv`, and makes the calls over a vector of balances. For files of the
+//! stated forms it prints what the proved program prints. It checks nothing that it doesn't need.
+//!
+//!     plain run BOOK PAY...       reads the files, makes the calls, and prints the report
+//!     plain check BOOK PAY...     reads the files, and prints how many calls they have
+//!     plain records BOOK PAY...   reads the records alone, and prints how many there are
+
+use csv::{ByteRecord, Reader, ReaderBuilder};
+use std::error::Error;
+use std::io::Write;
+use std::{env, fs, io, str};
+
+type Outcome<T> = Result<T, Box<dyn Error>>;
+
+struct Account {
+    opening: u64,
+    owners: Vec<usize>,
+}
+
+struct Book {
+    processes: usize,
+    own_room: u32,
+    request_room: u32,
+    accounts: Vec<Account>,
+}
+
+enum Call {
+    Transfer { from: usize, to: usize, amount: u64 },
+    Read { account: usize },
+}
+
+enum Reply {
+    Done,
+    Short,
+    NotOwner,
+    Full,
+    Balance(u64),
+}
+
+/// The balances, and the room used: by each process on its own accounts, and by each process on each shared account.
+struct State {
+    balances: Vec<u64>,
+    sent: Vec<u32>,
+    asked: Vec<u32>,
+}
+
+impl State {
+    fn new(book: &Book) -> State {
+        State {
+            balances: book.accounts.iter().map(|account| account.opening).collect(),
+            sent: vec![0; book.processes],
+            asked: vec![0; book.processes * book.accounts.len()],
+        }
+    }
+
+    fn step(&mut self, book: &Book, process: usize, call: &Call) -> Reply {
+        let (from, to, amount) = match *call {
+            Call::Read { account } => return Reply::Balance(self.balances[account]),
+            Call::Transfer { from, to, amount } => (from, to, amount),
+        };
+        let owners = &book.accounts[from].owners;
+        if !owners.contains(&process) {
+            return Reply::NotOwner;
+        }
+        let is_shared = owners.len() > 1;
+        let (used, room) = if is_shared {
+            (&mut self.asked[process * book.accounts.len() + from], book.request_room)
+        } else {
+            (&mut self.sent[process], book.own_room)
+        };
+        if *used == room {
+            return Reply::Full;
+        }
+        if self.balances[from] < amount {
+            if is_shared {
+                *used += 1;
+            }
+            return Reply::Short;
+        }
+        *used += 1;
+        self.balances[from] -= amount;
+        self.balances[to] += amount;
+        Reply::Done
+    }
+}
+
+fn reader(bytes: &[u8]) -> Reader<&[u8]> {
+    ReaderBuilder::new()
+        .has_headers(false)
+        .flexible(true)
+        .from_reader(bytes)
+}
+
+fn number(text: &[u8]) -> Outcome<u64> {
+    Ok(str::from_utf8(text)?.parse()?)
+}
+
+fn number_at(row: &ByteRecord, i: usize) -> Outcome<u64> {
+    number(row.get(i).ok_or("a field is missing")?)
+}
+
+fn read_book(bytes: &[u8]) -> Outcome<Book> {
+    let mut rows = reader(bytes);
+    let mut row = ByteRecord::new();
+    let mut book = Book {
+        processes: 0,
+        own_room: 0,
+        request_room: 0,
+        accounts: Vec::new(),
+    };
+    while rows.read_byte_record(&mut row)? {
+        match row.get(0) {
+            Some(b"book") => {}
+            Some(b"processes") => book.processes = number_at(&row, 1)? as usize,
+            Some(b"limits") => {
+                book.own_room = number_at(&row, 1)? as u32;
+                book.request_room = number_at(&row, 2)? as u32;
+            }
+            _ => book.accounts.push(read_account(&row)?),
+        }
+    }
+    Ok(book)
+}
+
+fn read_account(row: &ByteRecord) -> Outcome<Account> {
+    let mut owners = Vec::new();
+    let list = row.get(3).ok_or("a field is missing")?;
+    for owner in list.split(|byte| *byte == b' ') {
+        if !owner.is_empty() {
+            owners.push(number(owner)? as usize);
+        }
+    }
+    Ok(Account {
+        opening: number_at(row, 2)?,
+        owners,
+    })
+}
+
+fn read_calls(bytes: &[u8]) -> Outcome<Vec<Call>> {
+    let mut rows = reader(bytes);
+    let mut row = ByteRecord::new();
+    let mut calls = Vec::new();
+    while rows.read_byte_record(&mut row)? {
+        calls.push(match row.get(0) {
+            Some(b"transfer") => Call::Transfer {
+                from: number_at(&row, 1)? as usize,
+                to: number_at(&row, 2)? as usize,
+                amount: number_at(&row, 3)?,
+            },
+            _ => Call::Read {
+                account: number_at(&row, 1)? as usize,
+            },
+        });
+    }
+    Ok(calls)
+}
+
+fn read_files(names: &[String]) -> Outcome<Vec<Vec<Call>>> {
+    names.iter().map(|name| read_calls(&fs::read(name)?)).collect()
+}
+
+fn count_records(names: &[String]) -> Outcome<u64> {
+    let mut count = 0;
+    for name in names {
+        let bytes = fs::read(name)?;
+        let mut rows = reader(&bytes);
+        let mut row = ByteRecord::new();
+        while rows.read_byte_record(&mut row)? {
+            count += 1;
+        }
+    }
+    Ok(count)
+}
+
+/// A text that is made in memory, word by word.
+#[derive(Default)]
+struct Text {
+    bytes: Vec<u8>,
+}
+
+impl Text {
+    fn word(&mut self, word: &str) -> &mut Text {
+        self.bytes.extend_from_slice(word.as_bytes());
+        self
+    }
+
+    fn number(&mut self, n: u64) -> &mut Text {
+        let mut buffer = itoa::Buffer::new();
+        self.word(buffer.format(n))
+    }
+
+    fn call(&mut self, call: &Call) -> &mut Text {
+        match *call {
+            Call::Transfer { from, to, amount } => self
+                .word(" transfer ")
+                .number(from as u64)
+                .word(" ")
+                .number(to as u64)
+                .word(" ")
+                .number(amount),
+            Call::Read { account } => self.word(" read ").number(account as u64),
+        }
+    }
+
+    fn reply(&mut self, reply: &Reply) -> &mut Text {
+        match *reply {
+            Reply::Done => self.word(" done\n"),
+            Reply::Short => self.word(" short\n"),
+            Reply::NotOwner => self.word(" not-owner\n"),
+            Reply::Full => self.word(" full\n"),
+            Reply::Balance(balance) => self.word(" ").number(balance).word("\n"),
+        }
+    }
+}
+
+/// Makes the calls of each file in turn, and writes a line for each, and then the balances.
+fn report(book: &Book, files: &[Vec<Call>]) -> Text {
+    let mut state = State::new(book);
+    let mut text = Text::default();
+    let calls: usize = files.iter().map(Vec::len).sum();
+    text.word("journal ").number(calls as u64).word("\n");
+    for (process, file) in files.iter().enumerate() {
+        for (i, call) in file.iter().enumerate() {
+            let reply = state.step(book, process, call);
+            text.number(process as u64).word(" ").number(i as u64 + 1);
+            text.call(call).reply(&reply);
+        }
+    }
+    text.word("balances ").number(book.accounts.len() as u64).word("\n");
+    for (account, balance) in state.balances.iter().enumerate() {
+        text.number(account as u64).word(" ").number(*balance).word("\n");
+    }
+    text.word("total ").number(state.balances.iter().sum()).word("\n");
+    text
+}
+
+fn checked(book: &Book, files: &[Vec<Call>]) -> Text {
+    let mut text = Text::default();
+    let calls: usize = files.iter().map(Vec::len).sum();
+    text.word("checked ").number(book.processes as u64);
+    text.word(" ").number(book.accounts.len() as u64);
+    text.word(" ").number(calls as u64).word("\n");
+    text
+}
+
+fn main() -> Outcome<()> {
+    let words: Vec<String> = env::args().skip(1).collect();
+    let [command, names @ ..] = words.as_slice() else {
+        return Err("plain run|check|records BOOK PAY...".into());
+    };
+    let [book, payments @ ..] = names else {
+        return Err("a book is missing".into());
+    };
+    let text = match command.as_str() {
+        "records" => {
+            let mut text = Text::default();
+            text.number(count_records(names)?).word("\n");
+            text
+        }
+        command => {
+            let book = read_book(&fs::read(book)?)?;
+            let files = read_files(payments)?;
+            if command == "run" { report(&book, &files) } else { checked(&book, &files) }
+        }
+    };
+    io::stdout().write_all(&text.bytes)?;
+    Ok(())
+}
