@@ -1,5 +1,5 @@
 -- What a book says of one account.
-use Rattle.std.specs.Prelude.{◌≡◌, ℕ, ◌+◌, ◌*◌, ◌<◌, ◌≤◌, ◌==◌, Bool, List, [], ◌∷◌, length, nat_eq, nat_le, All, Option, is_some, position, if◌then◌else◌}
+use Rattle.std.specs.Prelude.{ℕ, ◌+◌, ◌*◌, ◌≤◌, ◌==◌, Bool, List, [], ◌∷◌, length, nat_le, Option, is_some, position, if◌then◌else◌}
 
 -- what it opens with, and the processes that may debit it, from the lowest up
 pub record AccountTerms : Type 0 where

@@ -1,6 +1,6 @@
 -- A checked book: its processes, its accounts in order, and the room that each process has.
-use Rattle.std.specs.Prelude.{◌≡◌, ℕ, ◌+◌, ◌^◌, ◌<◌, ◌≤◌, ◌++◌, Bool, List, [], ◌∷◌, length, All, Option, sum_by, slice_index_or, if◌then◌else◌, ◌&&◌}
-use Rattle.at_ledger.specs.Account.{AccountTerms, no_account, is_single, is_shared, is_owner_in, slot_in, rounds_room, rounds_room_of, IsRisingFrom}
+use Rattle.std.specs.Prelude.{◌≡◌, ℕ, ◌+◌, ◌^◌, ◌<◌, ◌≤◌, Bool, List, length, All, sum_by, slice_index_or}
+use Rattle.at_ledger.specs.Account.{AccountTerms, no_account, is_owner_in, rounds_room, rounds_room_of, IsRisingFrom}
 use Rattle.at_ledger.specs.declared.draft.TheConstants.{PROCESSES_MAX, ACCOUNTS_MAX, OWNERS_MAX, OWN_ROOM_MAX, REQUEST_ROOM_MAX, ROUNDS_MAX}
 
 -- own_room counts the successful transfers from single accounts that each process has,

@@ -1,5 +1,5 @@
 -- What a call names: its source and its targets.
-use Rattle.std.specs.Prelude.{◌≡◌, ℕ, ◌<◌, ◌≤◌, List, [], ◌∷◌, length, sum_by, slice_index_or, All}
+use Rattle.std.specs.Prelude.{ℕ, ◌<◌, List, sum_by, slice_index_or, All}
 use Rattle.at_ledger.specs.declared.call.Call.{Call}
 use Rattle.at_ledger.specs.declared.call.Call.TheVariants.{Transfer, Read, Pay}
 use Rattle.at_ledger.specs.declared.call.Line.{Line}

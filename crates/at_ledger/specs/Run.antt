@@ -2,7 +2,7 @@
 use Rattle.std.specs.Prelude.{◌≡◌, ℕ, ◌<◌, ◌==◌, List, [], ◌∷◌, length, map, filter, slice_index_or, All}
 use Rattle.std.specs.List.{range_with_len}
 use Rattle.at_ledger.specs.Book.{BookTerms}
-use Rattle.at_ledger.specs.State.{LedgerState, Step, step, opening_state}
+use Rattle.at_ledger.specs.State.{LedgerState, step, opening_state}
 use Rattle.at_ledger.specs.declared.call.Call.{Call}
 use Rattle.at_ledger.specs.declared.call.Reply.{Reply}
 use Rattle.at_ledger.specs.declared.call.Line.{Line}

@@ -1,5 +1,5 @@
 -- The sequential ledger: what each call answers and changes.
-use Rattle.std.specs.Prelude.{◌≡◌, ℕ, ◌+◌, ◌-◌, ◌*◌, ◌≤◌, ◌<◌, Bool, not, ◌&&◌, ◌||◌, ◌==◌, List, [], ◌∷◌, length, map, replicate, sum, All, nat_lt, slice_index, slice_set, if◌then◌else◌}
+use Rattle.std.specs.Prelude.{◌≡◌, ℕ, ◌+◌, ◌-◌, ◌*◌, ◌≤◌, Bool, not, ◌&&◌, ◌||◌, ◌==◌, List, [], ◌∷◌, length, map, replicate, sum, All, nat_lt, slice_index, slice_set, if◌then◌else◌}
 use Rattle.at_ledger.specs.Account.{is_single, is_shared}
 use Rattle.at_ledger.specs.Book.{BookTerms, IsBook, account_of, is_owner, total_of}
 use Rattle.at_ledger.specs.Call.{TargetPair, amount_of}
@@ -69,10 +69,12 @@ moved s source targets =
     record s { balances = credited (slice_set s.balances source (balance_of s source - amount_of targets)) targets }
 
 -- a success uses own room where the source is single, and a request where it is shared
+abbrev pub counted : LedgerState → ℕ → ℕ → LedgerState
+counted s process source =
+    if is_shared (account_of s.book source) then with_asked s process source else with_sent s process
+
 abbrev pub after_done : LedgerState → ℕ → ℕ → List TargetPair → LedgerState
-after_done s process source targets =
-    if is_shared (account_of s.book source) then with_asked (moved s source targets) process source
-    else with_sent (moved s source targets) process
+after_done s process source targets = counted (moved s source targets) process source
 
 -- a refusal for want of balance uses a request where the source is shared
 abbrev pub after_short : LedgerState → ℕ → ℕ → LedgerState

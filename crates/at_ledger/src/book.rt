@@ -1,6 +1,6 @@
 //! A checked book.
 
-ghost use Rattle.std.specs.Prelude.{◌≡◌, ◌<◌, ◌≤◌, length, slice_index, None, Some, IfOk, OnOk, IfSome};
+ghost use Rattle.std.specs.Prelude.{◌≡◌, ◌<◌, ◌≤◌, length, map, slice_index, None, Some, IfOk, OnOk, IfSome};
 
 use crate::NoMemory;
 use crate::account::Account;
@@ -31,10 +31,11 @@ impl Model for Book {
 
 impl Book {
     ghost use Rattle.at_ledger.specs.Account.{is_shared, is_single, slot_in};
-    ghost use Rattle.at_ledger.specs.Book.{IsBook, account_of, log_room_of};
+    ghost use Rattle.at_ledger.specs.Book.{IsBook, account_of, is_owner, log_room_of};
     ghost use Rattle.at_ledger.specs.Draft.{book_fault, book_of};
 
-    /// Checks a draft and copies it.
+    /// Checks a draft and copies it. A refusal names the first offence: the limits, then the accounts in
+    /// turn, each with its owners from left to right before its sums.
     pub fn new(alloc: Global, draft: &Draft) -> Result<Book, BookFault>
         ensures ok { IfOk result (λ b. b ≡ book_of draft.now) }
         ensures good { OnOk result (book_fault draft.now ≡ None) }
@@ -50,10 +51,7 @@ impl Book {
             Err(fault) => return Err(BookFault::Bad(fault)),
         };
         for account in &draft.accounts {
-            match builder.add(account.opening, account.owners.as_slice()) {
-                Ok(()) => {}
-                Err(fault) => return Err(fault),
-            }
+            builder.add(account.opening, account.owners.as_slice())?;
         }
         match builder.finish() {
             Ok(book) => Ok(book),
@@ -113,6 +111,7 @@ impl Book {
         requires slot_in { slot < length (account_of self.now account).owners }
         ensures owner { result ≡ slice_index (account_of self.now account).owners slot }
         ensures known { result < self.now.processes }
+        ensures slot { slot_in (account_of self.now account) result ≡ Some slot }
     {
         self.accounts[account as usize].owners[slot as usize]
     }
@@ -138,6 +137,42 @@ impl Book {
         room
     }
 
+    /// What each account opens with, in order.
+    pub(crate) fn openings(&self, alloc: Global) -> Result<Vec<u64>, NoMemory>
+        ensures { IfOk result (λ v. v.items ≡ map (λ t. t.opening) self.now.accounts) }
+    {
+        let accounts = self.accounts.as_slice();
+        accounts
+            .iter()
+            .map(|account| account.opening)
+            .collect(alloc)
+    }
+
+    /// Whether the process may debit the account.
+    pub(crate) fn is_owner(&self, process: u32, account: u32) -> bool
+        requires { account < length self.now.accounts }
+        ensures { result ≡ is_owner self.now process account }
+    {
+        self.slot_of(account, process).is_some()
+    }
+
+    /// Whether two processes or more may debit the account.
+    pub(crate) fn is_shared(&self, account: u32) -> bool
+        requires { account < length self.now.accounts }
+        ensures { result ≡ is_shared (account_of self.now account) }
+    {
+        self.accounts[account as usize].is_shared()
+    }
+
+    /// Whether one process alone may debit the account.
+    pub(crate) fn is_single(&self, account: u32) -> bool
+        requires { account < length self.now.accounts }
+        ensures { result ≡ is_single (account_of self.now account) }
+    {
+        self.accounts[account as usize].is_single()
+    }
+
+    /// The same book, in memory of its own.
     pub fn copy(&self, alloc: Global) -> Result<Book, NoMemory>
         ensures { IfOk result (λ b. b ≡ self.now) }
     {

@@ -82,10 +82,7 @@ impl BookBuilder {
             → account_fault self.old (terms_with opening owners.now) ≡ Some e }
         ensures err { OnErr result (self.new ≡ self.old) }
     {
-        let (account, sums) = match self.checked(opening, owners) {
-            Ok(found) => found,
-            Err(fault) => return Err(BookFault::Bad(fault)),
-        };
+        let (account, sums) = self.checked(opening, owners).map_err(BookFault::Bad)?;
         if self.accounts.push(account).is_err() {
             return Err(BookFault::NoMemory);
         }
@@ -121,15 +118,10 @@ impl BookBuilder {
             return Err(BookError::TooManyAccounts);
         }
         let place = self.accounts.len() as u32;
-        let owners = match checked_owners(self.processes, place, owners) {
-            Ok(owners) => owners,
-            Err(fault) => return Err(fault),
-        };
+        let owners = checked_owners(self.processes, place, owners)?;
         let account = Account { opening, owners };
-        match self.sums_with(&account) {
-            Ok(sums) => Ok((account, sums)),
-            Err(fault) => Err(fault),
-        }
+        let sums = self.sums_with(&account)?;
+        Ok((account, sums))
     }
 
     /// The sums with one more account, or why they pass a limit.

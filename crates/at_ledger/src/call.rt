@@ -16,6 +16,7 @@ pub enum Call {
 }
 
 impl Call {
+    /// The same call. Takes no memory.
     pub fn copy(&self) -> Call
         ensures { result ≡ self.now }
     {

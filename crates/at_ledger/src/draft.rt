@@ -131,9 +131,8 @@ pub(crate) fn checked_owners(
     let mut list = ArrayVec::new();
     let mut least = 0;
     for owner in owners {
-        match owner_fault(processes, account, list.len(), least, *owner) {
-            None => {}
-            Some(fault) => return Err(fault),
+        if let Some(fault) = owner_fault(processes, account, list.len(), least, *owner) {
+            return Err(fault);
         }
         list.push(*owner as u32);
         least = *owner + 1;

@@ -16,12 +16,13 @@ pub struct Targets {
 
 impl Model for Targets {
     ghost use Rattle.std.specs.Prelude.{◌≤◌, List, ℕ, length};
+    ghost use Rattle.at_ledger.specs.declared.targets.TheConstants.{TARGETS_MAX};
 
     ghost Value = { List (ℕ × ℕ) };
 
     ghost view = { λ t. t.list.items };
 
-    ghost invariant = { λ t. (1 ≤ length t.list.items) × (length t.list.items ≤ 4) };
+    ghost invariant = { λ t. (1 ≤ length t.list.items) × (length t.list.items ≤ TARGETS_MAX) };
 }
 
 impl Targets {
@@ -44,6 +45,7 @@ impl Targets {
         self.list.push((to, amount));
     }
 
+    /// How many targets there are.
     pub fn len(&self) -> u32
         ensures count { result ≡ length self.now }
         ensures some { 1 ≤ length self.now }
@@ -79,6 +81,7 @@ impl Targets {
         sum
     }
 
+    /// The same targets. Takes no memory.
     pub fn copy(&self) -> Targets
         ensures { result ≡ self.now }
     {

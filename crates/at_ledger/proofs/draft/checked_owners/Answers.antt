@@ -12,7 +12,7 @@ pub loop-owner-preserved : goal.loop-owner-preserved
 loop-owner-preserved c = (
   rw c.push.ensures.len
       (c.loop-owner.invariant.0
-      ∙ owners_fault-drop_good _ _ _ _ _ _ c.loop-owner-test.true (rw (← c.len.ensures.value) (sym c.in-None.ensures))),
+      ∙ owners_fault-drop_good _ _ _ _ _ _ c.loop-owner-test.true (rw (← c.len.ensures.value) (sym c.in_default.ensures))),
   grind (arith, common_steps),
 )
 

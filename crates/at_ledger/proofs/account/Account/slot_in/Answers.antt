@@ -1,8 +1,7 @@
 -- `position` finds the slot.
-use Rattle.std.proofs.Common.{rules, tests, ◌≡◌, eqb, sym, ◌∙◌}
+use Rattle.std.proofs.Common.{rules, tests, eqb, sym, ◌∙◌}
 use Rattle.std.proofs.lemmas.Iterator.{YieldsList-from_slice}
 use Rattle.std.proofs.lemmas.Iterator.Search.{position_from_yields_List}
-use Rattle.at_ledger.specs.Account.{slot_in}
 use Rattle.at_ledger.proofs.account.Account.slot_in.Goals as goal
 
 pub returns-in_err-slot-clause-slot : goal.returns-in_err-slot-clause-slot

@@ -1,14 +1,16 @@
 use Rattle.std.proofs.Common.{◌≡◌, Some, None, Err, sym, ap, ◌∙◌, get_or}
 use Rattle.std.proofs.lemmas.List.{map_more}
+use Rattle.std.proofs.lemmas.Result.{err_from_is_err_and}
 use Rattle.at_ledger.specs.Draft.{terms_of, with_account}
 use Rattle.at_ledger.specs.declared.draft.BookFault.TheVariants.{Bad}
 use Rattle.at_ledger.proofs.Books.{accounts_fault-drop_good, accounts_fault-drop_bad, accounts_fault-drop_all_some, accounts_fault-drop_all_none, book_fault-from_accounts}
 use Rattle.at_ledger.proofs.book.Book.new.Goals as goal
 
-pub returns-in-Err-add-clause-bad : goal.returns-in-Err-add-clause-bad
-returns-in-Err-add-clause-bad c e is =
-    let fault : c.in-Err-add.fault ≡ Bad e = cc is in
-    let found = c.in-Err-add.ensures.bad e (ap Err fault) in
+pub returns-in_err-add-clause-bad : goal.returns-in_err-add-clause-bad
+returns-in_err-add-clause-bad c e is =
+    let p = err_from_is_err_and c.from_residual.result c.from_residual.ensures.1 in
+    let fault : c.in_err-add.field-0.0 ≡ Bad e = cc (p.1, p.2, is) in
+    let found = c.in_err-add.ensures.bad e (ap Err fault) in
     book_fault-from_accounts c.args.draft.now _ (Some e) c.deref-account-items.ensures.value c.in-Ok.ensures.good
     (c.loop-account.invariant.0 ∙ accounts_fault-drop_bad c.loop-account.builder _ c.loop-account.account-index c.account-item.result e c.loop-account-test.true
     (rw (← c.account-item.is, ← c.as_slice.ensures.value) found))
@@ -18,9 +20,9 @@ loop-account-preserved c =
     let item = c.account-item.result in
     let within = c.loop-account-test.true in
     let added : c.add.new.self ≡ with_account c.loop-account.builder (terms_of (get_or c.deref-account-items.result.now c.loop-account.account-index item)) =
-    rw (← c.account-item.is, ← c.as_slice.ensures.value) c.in-Ok-add.ensures.ok in (
+    rw (← c.account-item.is, ← c.as_slice.ensures.value) c.in_ok-add.ensures.ok in (
       rw added (c.loop-account.invariant.0 ∙ accounts_fault-drop_good c.loop-account.builder _ _ item within
-          (rw (← c.account-item.is, ← c.as_slice.ensures.value) c.in-Ok-add.ensures.good)),
+          (rw (← c.account-item.is, ← c.as_slice.ensures.value) c.in_ok-add.ensures.good)),
       rw (added, c.loop-account.invariant.1, map_more terms_of _ c.loop-account.account-index item within),
     )
 

@@ -1,0 +1,29 @@
+use Rattle.std.proofs.Common.{◌≡◌, ◌+◌, ◌++◌, take, drop, length, List, ℕ, arith, append_assoc}
+use Rattle.std.specs.List.{slice_range}
+use Rattle.std.proofs.Math.Seq.{take-add}
+use Rattle.std.proofs.lemmas.Grind.{common_steps}
+use Rattle.at_io.proofs.writing.put_all.Goals as goal
+
+-- from an index on, a list is its end
+slice_range-length : (xs : List ℕ) (at : ℕ) → slice_range xs at (length xs) ≡ drop at xs
+slice_range-length xs at = grind (arith, common_steps)
+
+-- a front, and then a front of the rest, are a longer front
+take-further : (old mid new bytes : List ℕ) (at n : ℕ) →
+    mid ≡ old ++ take at bytes →
+    new ≡ mid ++ take n (slice_range bytes at (length bytes)) →
+    new ≡ old ++ take (at + n) bytes
+take-further old mid new bytes at n before piece =
+    rw (take-add, ← append_assoc) (cc (before, piece, slice_range-length bytes at))
+
+pub loop-at-preserved : goal.loop-at-preserved
+loop-at-preserved g c =
+    record {
+      within = omega (arith, c.in-Ok.ensures.bound);
+      as_told = cc (c.in-Ok.ensures.as_told);
+      kept = cc (c.in-Ok.ensures.kept);
+      taken = λ told.
+          take-further _ _ _ _ _ _
+          (c.loop-at.invariant.taken told)
+          (c.in-Ok.ensures.front (cc (c.loop-at.invariant.as_told, told)));
+    }

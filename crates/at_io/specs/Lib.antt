@@ -1,0 +1,6 @@
+pub mod Faults
+pub mod HeldFiles
+pub mod MemoryShelf
+pub mod MemorySink
+pub mod Shelf
+pub mod Sink

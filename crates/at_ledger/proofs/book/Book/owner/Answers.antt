@@ -1,0 +1,11 @@
+use Rattle.std.proofs.Common.{◌≡◌, get_or, arith}
+use Rattle.std.proofs.lemmas.Grind.{common_steps}
+use Rattle.at_ledger.specs.Book.{IsBegun, account_of}
+use Rattle.at_ledger.proofs.Slots.{slot_in-owner}
+use Rattle.at_ledger.proofs.book.Book.owner.Goals as goal
+
+pub returns-clause-slot : goal.returns-clause-slot
+returns-clause-slot c =
+    let begun : IsBegun c.args.self.now = rw (← c.self.view_is) c.self.invariant.begun in
+    let same : get_or c.deref.result.now c.args.slot 0 ≡ get_or (account_of c.args.self.now c.args.account).owners c.args.slot 0 = grind (arith, common_steps) in
+    rw same (slot_in-owner c.args.self.now c.args.account c.args.slot begun c.requires.account_in c.requires.slot_in)

@@ -1,0 +1,52 @@
+-- What a command prints.
+use Rattle.std.specs.Prelude.{◌≡◌, ◌⊎◌, ℕ, List, ◌++◌, length, sum, sum_by, Ok}
+use Rattle.at_ledger.specs.Book.{total_of}
+use Rattle.at_ledger.specs.Run.{Legal, Whole, last_state}
+use Rattle.at_ledger.specs.declared.call.Line.{Line}
+use Rattle.at_io.specs.Faults.{Rose}
+use Rattle.at_io.specs.Sink.{TakesFront}
+use Rattle.at_report.specs.FaultText.{fault_line}
+use Rattle.at_report.specs.declared.status.Status.{Status}
+use Rattle.at_report.specs.Report.{report_text, checked_line}
+use Rattle.at_program.specs.Loading.{Files, Loaded, Spelled, loaded}
+use Rattle.at_program.specs.Words.{Form}
+use Rattle.at_program.specs.declared.words.Command.{Command}
+use Rattle.at_program.specs.declared.words.Command.TheVariants.{Run, Check}
+
+-- the text is the report of one legal run of the files' calls, each process's once and in file order;
+-- the balances that it prints are the run's last, and their sum is that of the openings
+pub record ReportsRun (l : Loaded) (text : List ℕ) : Type 0 where
+  pub lines : List Line
+  pub whole : Whole l.files lines
+  pub legal : Legal l.book lines
+  pub total : sum (last_state l.book lines).balances ≡ total_of l.book
+  pub printed : text ≡ report_text l.book l.names lines
+
+-- what a command prints of what was loaded
+abbrev pub Prints : Command → Loaded → List ℕ → Type 0
+Prints Run l text = ReportsRun l text
+Prints Check l text = text ≡ checked_line l.book (sum_by length l.files)
+
+-- the text is the command's for what the files' bytes spell
+pub record PrintsSpelled (files : Files) (form : Form) (text : List ℕ) : Type 0 where
+  pub what : Loaded
+  pub read : loaded files form ≡ Ok what
+  pub spelled : Spelled files form what
+  pub printed : Prints form.command what text
+
+-- a sink has taken all of such a text
+pub record TookAll (files : Files) (form : Form) (before after : List ℕ) : Type 0 where
+  pub text : List ℕ
+  pub printed : PrintsSpelled files form text
+  pub taken : after ≡ before ++ text
+
+-- a sink has taken a front of such a text, and not all of it
+pub record TookFront (files : Files) (form : Form) (before after : List ℕ) : Type 0 where
+  pub text : List ℕ
+  pub printed : PrintsSpelled files form text
+  pub taken : TakesFront before after text
+
+-- a sink has taken the line of a refusal, or a front of it where a fault of the sink was counted
+abbrev pub TookLine : Status → ℕ → ℕ → List ℕ → List ℕ → Type 0
+TookLine refusal faults faults_now before after =
+    (after ≡ before ++ fault_line refusal) ⊎ (Rose faults faults_now × TakesFront before after (fault_line refusal))

@@ -1,0 +1,5 @@
+pub mod Words
+pub mod Loading
+pub mod Faults
+pub mod Playing
+pub mod Answer

@@ -1,0 +1,35 @@
+-- The forms of the words of the command line.
+use Rattle.std.specs.Prelude.{ℕ, List, [], ◌∷◌, map, codes, bytes_eq, Option, Some, None, option_map, if◌then◌else◌, String, string_bytes}
+use Rattle.std.specs.Global.{Global}
+use Rattle.at_program.specs.declared.words.CommandLine.{CommandLine}
+use Rattle.at_program.specs.declared.words.Command.{Command}
+use Rattle.at_program.specs.declared.words.Command.TheVariants.{Run, Check}
+
+-- a word, as bytes
+abbrev pub Word : Type 0
+Word = List ℕ
+
+-- a command, the name of the book, and the names of the payment files in process order
+pub record Form : Type 0 where
+  pub command : Command
+  pub book : Word
+  pub payments : List Word
+
+-- the command of a name
+abbrev pub command_named : Word → Option Command
+command_named word =
+    if bytes_eq word (codes "run") then Some Run else if bytes_eq word (codes "check") then Some Check else None
+
+-- the form of the words: a command, a book, and any number of payment files
+abbrev pub form_of : List Word → Option Form
+form_of [] = None
+form_of (word ∷ []) = None
+form_of (word ∷ book ∷ payments) = option_map (λ command. record { command = command; book = book; payments = payments }) (command_named word)
+
+-- the bytes of each word
+abbrev pub words_of : List (String Global) → List Word
+words_of words = map string_bytes words
+
+-- the same words, as the program holds them
+abbrev pub form_shown : CommandLine → Form
+form_shown line = record { command = line.command; book = line.book.now; payments = words_of line.payments.now }

@@ -1,0 +1,167 @@
+//! Reading the files that the words name.
+
+ghost use Rattle.std.specs.Prelude.{◌≡◌, ℕ, ◌+◌, ◌^◌, ◌<◌, ◌≤◌, true, length, All, IfOk, IfErr, OnOk, Ok, Err};
+ghost use Rattle.at_io.specs.Shelf.{SameFiles};
+ghost use Rattle.at_files.specs.Names.{AreNamesOf};
+ghost use Rattle.at_io.specs.declared.reading.TheConstants.{FILE_MAX};
+ghost use Rattle.at_program.specs.Words.{words_of, form_shown};
+ghost use Rattle.at_program.specs.Faults.{MayRefuse};
+ghost use Rattle.at_program.specs.Loading.{EachSpells, Holds, IsFileOn, IsFileReached, MayReach, Spelled, SpellsBook, SpellsCalls, book_loaded, calls_loaded, calls_of, fetched, files_loaded, loaded, loaded_shown};
+
+use crate::words::CommandLine;
+use at_files::{Names, ReadBookFault, ReadPaymentsFault, read_book, read_payments};
+use at_io::{FetchError, Shelf, fetch};
+use at_ledger::{Book, Call};
+use at_report::{Status, UsageFault};
+use std::alloc::Global;
+
+/// A book with its names, and the calls of each process.
+#[derive(Drop)]
+pub struct Loaded {
+    pub book: Book,
+    pub names: Names,
+    pub files: Vec<Vec<Call>>,
+}
+
+/// The bytes of the file with this number.
+fn fetch_file<F: Shelf>(
+    alloc: Global,
+    shelf: &mut F,
+    name: &str,
+    number: u32,
+) -> Result<Vec<u8>, Status>
+    ensures files { SameFiles (F.tells shelf.old) (F.tells shelf.new) (F.file shelf.old) (F.file shelf.new) }
+    ensures later { F.faults shelf.old ≤ F.faults shelf.new }
+    ensures kept { OnOk result (F.faults shelf.new ≡ F.faults shelf.old) }
+    ensures ok { F.tells shelf.old ≡ true → IfOk result (λ bytes. fetched (F.file shelf.old name.now) number ≡ Ok bytes.items) }
+    ensures held { F.tells shelf.old ≡ true → IfOk result (λ bytes. Holds (F.file shelf.old) name.now bytes.items) }
+    ensures err { IfErr result (λ refusal. MayRefuse (F.tells shelf.old) (fetched (F.file shelf.old name.now) number) (F.faults shelf.old) (F.faults shelf.new) refusal) }
+    ensures file { (file : ℕ) → result ≡ Err (Status.ReadFault file) → file ≡ number }
+{
+    let mut bytes = Vec::new(alloc);
+    match fetch(alloc, shelf, name, &mut bytes) {
+        Ok(()) => Ok(bytes),
+        Err(FetchError::Failed) => Err(Status::ReadFault { file: number }),
+        Err(FetchError::TooLong) => Err(Status::TooLong { file: number }),
+        Err(FetchError::NoMemory) => Err(Status::NoMemory),
+    }
+}
+
+/// The book of file 0, with its names.
+fn load_book<F: Shelf>(alloc: Global, shelf: &mut F, name: &str) -> Result<(Book, Names), Status>
+    ensures files { SameFiles (F.tells shelf.old) (F.tells shelf.new) (F.file shelf.old) (F.file shelf.new) }
+    ensures later { F.faults shelf.old ≤ F.faults shelf.new }
+    ensures kept { OnOk result (F.faults shelf.new ≡ F.faults shelf.old) }
+    ensures ok { F.tells shelf.old ≡ true → IfOk result (λ l. book_loaded (F.file shelf.old) name.now ≡ Ok l.0) }
+    ensures spelled { F.tells shelf.old ≡ true → IfOk result (λ l. SpellsBook (F.file shelf.old) name.now l.0 l.1) }
+    ensures names { IfOk result (λ l. AreNamesOf l.0 l.1) }
+    ensures err { IfErr result (λ refusal. MayRefuse (F.tells shelf.old) (book_loaded (F.file shelf.old) name.now) (F.faults shelf.old) (F.faults shelf.new) refusal) }
+    ensures file { (file : ℕ) → result ≡ Err (Status.ReadFault file) → file ≡ 0 }
+{
+    let bytes = match fetch_file(alloc, shelf, name, 0) {
+        Ok(bytes) => bytes,
+        Err(refusal) => return Err(refusal),
+    };
+    match read_book(alloc, bytes.as_slice()) {
+        Ok(read) => Ok(read),
+        Err(ReadBookFault::Bad(bad)) => Err(Status::BadBook(bad)),
+        Err(ReadBookFault::NoMemory) => Err(Status::NoMemory),
+    }
+}
+
+/// The calls of a process, from the file of this name.
+fn load_calls<F: Shelf>(
+    alloc: Global,
+    shelf: &mut F,
+    book: &Book,
+    names: &Names,
+    process: u32,
+    name: &str,
+) -> Result<Vec<Call>, Status>
+    requires names { AreNamesOf book.now names.now }
+    requires process { process < 2 ^ 31 }
+    ensures files { SameFiles (F.tells shelf.old) (F.tells shelf.new) (F.file shelf.old) (F.file shelf.new) }
+    ensures later { F.faults shelf.old ≤ F.faults shelf.new }
+    ensures kept { OnOk result (F.faults shelf.new ≡ F.faults shelf.old) }
+    ensures ok { F.tells shelf.old ≡ true → IfOk result (λ calls. calls_loaded (F.file shelf.old) names.now process name.now ≡ Ok calls.items) }
+    ensures spelled { F.tells shelf.old ≡ true → IfOk result (λ calls. SpellsCalls (F.file shelf.old) name.now book.now names.now calls.items) }
+    ensures known { IfOk result (λ calls. IsFileOn (length book.now.accounts) calls.items) }
+    ensures err { IfErr result (λ refusal. MayRefuse (F.tells shelf.old) (calls_loaded (F.file shelf.old) names.now process name.now) (F.faults shelf.old) (F.faults shelf.new) refusal) }
+    ensures file { (file : ℕ) → result ≡ Err (Status.ReadFault file) → file ≡ process + 1 }
+{
+    let bytes = match fetch_file(alloc, shelf, name, process + 1) {
+        Ok(bytes) => bytes,
+        Err(refusal) => return Err(refusal),
+    };
+    match read_payments(alloc, book, names, bytes.as_slice()) {
+        Ok(calls) => Ok(calls),
+        Err(ReadPaymentsFault::Bad(fault)) => Err(Status::BadPayments { process, fault }),
+        Err(ReadPaymentsFault::NoMemory) => Err(Status::NoMemory),
+    }
+}
+
+/// The calls of each process, from the files of these names, one after another.
+fn load_files<F: Shelf>(
+    alloc: Global,
+    shelf: &mut F,
+    book: &Book,
+    names: &Names,
+    payments: &[String],
+) -> Result<Vec<Vec<Call>>, Status>
+    requires names { AreNamesOf book.now names.now }
+    requires few { length payments.now < 2 ^ 31 }
+    ensures files { SameFiles (F.tells shelf.old) (F.tells shelf.new) (F.file shelf.old) (F.file shelf.new) }
+    ensures later { F.faults shelf.old ≤ F.faults shelf.new }
+    ensures kept { OnOk result (F.faults shelf.new ≡ F.faults shelf.old) }
+    ensures ok { F.tells shelf.old ≡ true → IfOk result (λ files. files_loaded (F.file shelf.old) names.now 0 (words_of payments.now) ≡ Ok (calls_of files.items)) }
+    ensures count { IfOk result (λ files. length files.items ≡ length payments.now) }
+    ensures spelled { F.tells shelf.old ≡ true → IfOk result (λ files. EachSpells (F.file shelf.old) (words_of payments.now) book.now names.now (calls_of files.items)) }
+    ensures known { IfOk result (λ files. All (IsFileOn (length book.now.accounts)) (calls_of files.items)) }
+    ensures err { IfErr result (λ refusal. MayRefuse (F.tells shelf.old) (files_loaded (F.file shelf.old) names.now 0 (words_of payments.now)) (F.faults shelf.old) (F.faults shelf.new) refusal) }
+    ensures file { (file : ℕ) → result ≡ Err (Status.ReadFault file) → IsFileReached (F.tells shelf.old) (F.file shelf.old) names.now (words_of payments.now) file }
+{
+    let mut files = Vec::new(alloc);
+    for (process, name) in payments.iter().enumerate() {
+        let calls = match load_calls(alloc, shelf, book, names, process as u32, name.as_str()) {
+            Ok(calls) => calls,
+            Err(refusal) => return Err(refusal),
+        };
+        let Ok(()) = files.push(calls) else {
+            return Err(Status::NoMemory);
+        };
+    }
+    Ok(files)
+}
+
+/// What the files of the form spell, or the first refusal: the book's, that of the number of files, or that of
+/// each payment file in turn. Each file is read before the next is fetched.
+pub fn load<F: Shelf>(
+    alloc: Global,
+    shelf: &mut F,
+    form: &CommandLine<'_>,
+) -> Result<Loaded, Status>
+    ensures files { SameFiles (F.tells shelf.old) (F.tells shelf.new) (F.file shelf.old) (F.file shelf.new) }
+    ensures later { F.faults shelf.old ≤ F.faults shelf.new }
+    ensures kept { OnOk result (F.faults shelf.new ≡ F.faults shelf.old) }
+    ensures ok { F.tells shelf.old ≡ true → IfOk result (λ l. loaded (F.file shelf.old) (form_shown form.now) ≡ Ok (loaded_shown l)) }
+    ensures spelled { F.tells shelf.old ≡ true → IfOk result (λ l. Spelled (F.file shelf.old) (form_shown form.now) (loaded_shown l)) }
+    ensures names { IfOk result (λ l. AreNamesOf l.book l.names) }
+    ensures known { IfOk result (λ l. All (IsFileOn (length l.book.accounts)) (calls_of l.files.items)) }
+    ensures count { IfOk result (λ l. length l.files.items ≡ l.book.processes) }
+    ensures err { IfErr result (λ refusal. MayRefuse (F.tells shelf.old) (loaded (F.file shelf.old) (form_shown form.now)) (F.faults shelf.old) (F.faults shelf.new) refusal) }
+    ensures reached { (file : ℕ) → result ≡ Err (Status.ReadFault file) → MayReach (F.tells shelf.old) (F.file shelf.old) (form_shown form.now) file }
+{
+    let (book, names) = match load_book(alloc, shelf, form.book) {
+        Ok(read) => read,
+        Err(refusal) => return Err(refusal),
+    };
+    let wanted = book.processes();
+    let given = form.payments.len() as u64;
+    if given != u64::from(wanted) {
+        return Err(Status::Usage(UsageFault::Files { wanted, given }));
+    }
+    match load_files(alloc, shelf, &book, &names, form.payments) {
+        Ok(files) => Ok(Loaded { book, names, files }),
+        Err(refusal) => Err(refusal),
+    }
+}

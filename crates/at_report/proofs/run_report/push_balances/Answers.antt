@@ -1,0 +1,12 @@
+use Rattle.std.proofs.Common.{◌≡◌, ◌∙◌, ◌++◌}
+use Rattle.at_report.specs.Lines.{line_text}
+use Rattle.at_report.specs.Report.{balance_words}
+use Rattle.at_report.proofs.LineLaws.{lines_text-map_more}
+use Rattle.at_report.proofs.run_report.push_balances.Goals as goal
+
+pub loop-account-preserved : goal.loop-account-preserved
+loop-account-preserved c =
+    let words = balance_words c.args.names.now c.args.state.now in
+    let line : c.push_numbered.new.out.items ≡ c.loop-account.out.items ++ line_text (words c.loop-account.account) =
+    rw (← c.account.ensures.name, ← c.balance.ensures.balance) c.in_ok-push_numbered.ensures in
+    line ∙ rw c.loop-account.invariant (lines_text-map_more words c.args.out.now.items c.loop-account.account)

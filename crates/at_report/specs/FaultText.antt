@@ -1,0 +1,101 @@
+-- The one line of each refusal.
+use Rattle.std.specs.Prelude.{ℕ, List, [], ◌∷◌, ◌++◌, codes, decimal}
+use Rattle.at_ledger.specs.declared.draft.BookError.{BookError}
+use Rattle.at_ledger.specs.declared.draft.BookError.TheVariants.{NoProcess, TooManyProcesses, NoAccount, TooManyAccounts, OwnerOutOfRange, OwnersNotRising, TooManyOwners, RoomOutOfRange, RoundsOverLimit, TotalOverLimit}
+use Rattle.at_files.specs.declared.book_fault.BookWhy.{BookWhy}
+use Rattle.at_files.specs.declared.book_fault.BookWhy.TheVariants as book
+use Rattle.at_files.specs.declared.payments_fault.PaymentsWhy.{PaymentsWhy}
+use Rattle.at_files.specs.declared.payments_fault.PaymentsWhy.TheVariants as payments
+use Rattle.at_report.specs.declared.status.Status.{Status}
+use Rattle.at_report.specs.declared.status.Status.TheVariants.{Done, Usage, BadBook, BadPayments, ReadFault, WriteFault, NoMemory, TooLong, BadSchedule, BadOrder, BadMessages, NotLegal}
+use Rattle.at_report.specs.declared.status.UsageFault.{UsageFault}
+use Rattle.at_report.specs.declared.status.UsageFault.TheVariants as usage
+use Rattle.at_report.specs.declared.status.ScheduleWhy.{ScheduleWhy}
+use Rattle.at_report.specs.declared.status.ScheduleWhy.TheVariants as schedule
+use Rattle.at_report.specs.declared.status.OrderWhy.{OrderWhy}
+use Rattle.at_report.specs.declared.status.OrderWhy.TheVariants as order
+use Rattle.at_report.specs.declared.status.MessagesWhy.{MessagesWhy}
+use Rattle.at_report.specs.declared.status.MessagesWhy.TheVariants as messages
+
+-- why a book breaks a limit
+abbrev pub limit_text : BookError → List ℕ
+limit_text NoProcess = codes "no process"
+limit_text TooManyProcesses = codes "too many processes"
+limit_text NoAccount = codes "no account"
+limit_text TooManyAccounts = codes "too many accounts"
+limit_text (OwnerOutOfRange account) = codes "owner out of range"
+limit_text (OwnersNotRising account) = codes "owners not rising"
+limit_text (TooManyOwners account) = codes "too many owners"
+limit_text RoomOutOfRange = codes "room out of range"
+limit_text (RoundsOverLimit account) = codes "rounds over limit"
+limit_text (TotalOverLimit account) = codes "total over limit"
+
+-- the cause of a book file's offence
+abbrev pub book_cause : BookWhy → List ℕ
+book_cause book.Version = codes "version"
+book_cause book.Shape = codes "shape"
+book_cause book.Number = codes "number"
+book_cause book.AccountOrder = codes "account order"
+book_cause (book.Book e) = limit_text e
+book_cause book.Name = codes "name"
+book_cause book.NameTwice = codes "name twice"
+book_cause book.UnknownOwner = codes "unknown owner"
+
+-- the cause of a payment file's offence
+abbrev pub payments_cause : PaymentsWhy → List ℕ
+payments_cause payments.Shape = codes "shape"
+payments_cause payments.Number = codes "number"
+payments_cause payments.UnknownAccount = codes "unknown account"
+payments_cause payments.TooManyCalls = codes "too many calls"
+
+-- the cause of a schedule's offence
+abbrev pub schedule_cause : ScheduleWhy → List ℕ
+schedule_cause schedule.TooManyTurns = codes "too many turns"
+schedule_cause schedule.Shape = codes "shape"
+schedule_cause schedule.Number = codes "number"
+schedule_cause schedule.UnknownProcess = codes "unknown process"
+
+-- the cause of an offence of a file of deliveries
+abbrev pub order_cause : OrderWhy → List ℕ
+order_cause order.TooManyDeliveries = codes "too many deliveries"
+order_cause order.Shape = codes "shape"
+order_cause order.Number = codes "number"
+order_cause order.UnknownProcess = codes "unknown process"
+order_cause order.UnknownMessage = codes "unknown message"
+
+-- the cause of a message file's offence
+abbrev pub messages_cause : MessagesWhy → List ℕ
+messages_cause messages.TooManyMessages = codes "too many messages"
+messages_cause messages.Shape = codes "shape"
+messages_cause messages.Number = codes "number"
+messages_cause messages.UnknownAccount = codes "unknown account"
+messages_cause messages.DepsOutOfRange = codes "deps out of range"
+
+-- what the words have to be
+abbrev pub usage_text : UsageFault → List ℕ
+usage_text usage.Words = codes "usage: run BOOK PAY... | check BOOK PAY..."
+usage_text (usage.Files wanted given) = codes "files: wanted " ++ decimal wanted ++ codes ", given " ++ decimal given
+
+-- an offence in a file: its line and cause
+abbrev pub offence_text : ℕ → List ℕ → List ℕ
+offence_text line cause = codes ": line " ++ decimal line ++ codes ": " ++ cause
+
+-- what is said of each refusal, and nothing of a run that is done
+abbrev pub fault_words : Status → List ℕ
+fault_words Done = []
+fault_words (Usage fault) = usage_text fault
+fault_words (BadBook bad) = codes "book" ++ offence_text bad.line (book_cause bad.why)
+fault_words (BadPayments process bad) = codes "payments " ++ decimal process ++ offence_text bad.line (payments_cause bad.why)
+fault_words (ReadFault file) = codes "read fault: file " ++ decimal file
+fault_words WriteFault = codes "write fault"
+fault_words NoMemory = codes "no memory"
+fault_words (TooLong file) = codes "too long: file " ++ decimal file
+fault_words (BadSchedule line why) = codes "schedule" ++ offence_text line (schedule_cause why)
+fault_words (BadOrder line why) = codes "order" ++ offence_text line (order_cause why)
+fault_words (BadMessages process line why) = codes "messages " ++ decimal process ++ offence_text line (messages_cause why)
+fault_words (NotLegal line) = codes "report" ++ offence_text line (codes "not legal")
+
+-- the line of a refusal, with its newline
+abbrev pub fault_line : Status → List ℕ
+fault_line Done = []
+fault_line status = fault_words status ++ 10 ∷ []

@@ -1,0 +1,35 @@
+-- The report of a run, and the line of a check.
+use Rattle.std.specs.Prelude.{ℕ, List, [], ◌∷◌, ◌++◌, length, map, codes, decimal, sum}
+use Rattle.std.specs.List.{range_with_len}
+use Rattle.at_ledger.specs.Book.{BookTerms}
+use Rattle.at_ledger.specs.State.{LedgerState, balance_of}
+use Rattle.at_ledger.specs.Run.{last_state}
+use Rattle.at_ledger.specs.declared.call.Line.{Line}
+use Rattle.at_files.specs.Names.{NameList, account_name}
+use Rattle.at_report.specs.Lines.{Words, journal_words, line_text, lines_text}
+
+-- how many lines there are, and then each
+abbrev pub journal_lines : NameList → List Line → List Words
+journal_lines names lines = (codes "journal" ∷ decimal (length lines) ∷ []) ∷ map (journal_words names) lines
+
+-- the name and the balance of an account
+abbrev pub balance_words : NameList → LedgerState → ℕ → Words
+balance_words names s account = account_name names account ∷ decimal (balance_of s account) ∷ []
+
+-- the same of each account, in order
+abbrev pub balance_lines : NameList → LedgerState → List Words
+balance_lines names s = map (balance_words names s) (range_with_len 0 (length s.book.accounts))
+
+-- the audit: how many accounts there are, the balance of each, and their total
+abbrev pub audit_lines : NameList → LedgerState → List Words
+audit_lines names s =
+    (codes "balances" ∷ decimal (length s.book.accounts) ∷ [])
+    ∷ (balance_lines names s ++ (codes "total" ∷ decimal (sum s.balances) ∷ []) ∷ [])
+
+-- the journal, and the audit of the state after all its lines
+abbrev pub report_text : BookTerms → NameList → List Line → List ℕ
+report_text b names lines = lines_text (journal_lines names lines ++ audit_lines names (last_state b lines))
+
+-- how many processes and accounts a book has, and how many calls its files have
+abbrev pub checked_line : BookTerms → ℕ → List ℕ
+checked_line b calls = line_text (codes "checked" ∷ decimal b.processes ∷ decimal (length b.accounts) ∷ decimal calls ∷ [])

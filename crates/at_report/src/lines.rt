@@ -1,0 +1,114 @@
+//! Lines of printed texts, word by word.
+
+ghost use Rattle.std.specs.Prelude.{◌≡◌, ◌<◌, [], ◌∷◌, ◌++◌, length, decimal, OnOk};
+ghost use Rattle.at_ledger.specs.Call.{AreTargetsOn, IsCallOn, IsLineOn, target_at};
+ghost use Rattle.at_report.specs.Lines.{spaced, line_text, targets_words, call_words, reply_word, journal_words};
+
+use crate::NoMemory;
+use at_files::Names;
+use at_ledger::{Call, Line, Reply, Targets};
+
+/// Adds a word that follows another on its line.
+fn push_word(out: &mut Vec<u8>, word: &[u8]) -> Result<(), NoMemory>
+    ensures { OnOk result (out.new.items ≡ out.old.items ++ spaced (word.now ∷ [])) }
+{
+    out.push(b' ')?;
+    out.extend_from_slice(word)
+}
+
+/// Adds a number that follows a word on its line.
+pub(crate) fn push_number(out: &mut Vec<u8>, n: u64) -> Result<(), NoMemory>
+    ensures { OnOk result (out.new.items ≡ out.old.items ++ spaced (decimal n ∷ [])) }
+{
+    out.push(b' ')?;
+    at_base::push_number(out, n)
+}
+
+/// Adds a line of a word and a number.
+pub(crate) fn push_numbered(out: &mut Vec<u8>, word: &[u8], n: u64) -> Result<(), NoMemory>
+    ensures { OnOk result (out.new.items ≡ out.old.items ++ line_text (word.now ∷ decimal n ∷ [])) }
+{
+    out.extend_from_slice(word)?;
+    push_number(out, n)?;
+    out.push(b'\n')?;
+    Ok(())
+}
+
+fn push_target(out: &mut Vec<u8>, names: &Names, targets: &Targets, i: u32) -> Result<(), NoMemory>
+    requires target { i < length targets.now }
+    requires accounts { AreTargetsOn (length names.now.accounts) targets.now }
+    ensures { OnOk result (out.new.items ≡ out.old.items ++ spaced (targets_words names.now (target_at targets.now i ∷ []))) }
+{
+    push_word(out, names.account(targets.to(i)))?;
+    push_number(out, targets.amount(i))
+}
+
+fn push_targets(out: &mut Vec<u8>, names: &Names, targets: &Targets) -> Result<(), NoMemory>
+    requires { AreTargetsOn (length names.now.accounts) targets.now }
+    ensures { OnOk result (out.new.items ≡ out.old.items ++ spaced (targets_words names.now targets.now)) }
+{
+    for i in 0..targets.len() {
+        push_target(out, names, targets, i)?;
+    }
+    Ok(())
+}
+
+fn push_call(out: &mut Vec<u8>, names: &Names, call: &Call) -> Result<(), NoMemory>
+    requires { IsCallOn (length names.now.accounts) call.now }
+    ensures { OnOk result (out.new.items ≡ out.old.items ++ spaced (call_words names.now call.now)) }
+{
+    match call {
+        Call::Transfer { from, to, amount } => push_transfer(out, names, *from, *to, *amount),
+        Call::Read { account } => {
+            push_word(out, b"read")?;
+            push_word(out, names.account(*account))
+        }
+        Call::Pay { from, targets } => {
+            push_word(out, b"pay")?;
+            push_word(out, names.account(*from))?;
+            push_targets(out, names, targets)
+        }
+    }
+}
+
+fn push_transfer(
+    out: &mut Vec<u8>,
+    names: &Names,
+    from: u32,
+    to: u32,
+    amount: u64,
+) -> Result<(), NoMemory>
+    requires source { from < length names.now.accounts }
+    requires target { to < length names.now.accounts }
+    ensures { OnOk result (out.new.items ≡ out.old.items ++ spaced (call_words names.now (Call.Transfer from to amount))) }
+{
+    push_word(out, b"transfer")?;
+    push_word(out, names.account(from))?;
+    push_word(out, names.account(to))?;
+    push_number(out, amount)
+}
+
+fn push_reply(out: &mut Vec<u8>, reply: Reply) -> Result<(), NoMemory>
+    ensures { OnOk result (out.new.items ≡ out.old.items ++ spaced (reply_word reply ∷ [])) }
+{
+    match reply {
+        Reply::Done => push_word(out, b"done"),
+        Reply::Short => push_word(out, b"short"),
+        Reply::NotOwner => push_word(out, b"not-owner"),
+        Reply::Full => push_word(out, b"full"),
+        Reply::Balance(n) => push_number(out, n),
+    }
+}
+
+/// Adds a line of the journal.
+pub(crate) fn push_line(out: &mut Vec<u8>, names: &Names, line: &Line) -> Result<(), NoMemory>
+    requires { IsLineOn (length names.now.processes) (length names.now.accounts) line.now }
+    ensures { OnOk result (out.new.items ≡ out.old.items ++ line_text (journal_words names.now line.now)) }
+{
+    out.extend_from_slice(names.process(line.process))?;
+    push_number(out, u64::from(line.number))?;
+    push_call(out, names, &line.call)?;
+    push_reply(out, line.reply)?;
+    out.push(b'\n')?;
+    Ok(())
+}

@@ -1,0 +1,214 @@
+//! The one line of each refusal, which takes no memory.
+
+ghost use Rattle.std.specs.Prelude.{◌≡◌, ◌+◌, ◌≤◌, [], ◌++◌, length, codes, decimal};
+ghost use Rattle.at_report.specs.FaultText.{fault_line, limit_text, book_cause, payments_cause, schedule_cause, order_cause, messages_cause, usage_text, offence_text, fault_words};
+
+use crate::status::{MessagesWhy, OrderWhy, ScheduleWhy, Status, UsageFault};
+use arrayvec::ArrayVec;
+use at_files::{BookWhy, PaymentsWhy};
+use at_ledger::BookError;
+
+/// The text of a refusal: one line, with its newline.
+pub type FaultText = ArrayVec<u8, 256>;
+
+const USAGE: &str = "usage: run BOOK PAY... | check BOOK PAY...";
+
+fn limit_text(e: &BookError) -> &'static str
+    ensures text { result.now ≡ limit_text e.now }
+    ensures short { length result.now ≤ 20 }
+{
+    match e {
+        BookError::NoProcess => "no process",
+        BookError::TooManyProcesses => "too many processes",
+        BookError::NoAccount => "no account",
+        BookError::TooManyAccounts => "too many accounts",
+        BookError::OwnerOutOfRange { .. } => "owner out of range",
+        BookError::OwnersNotRising { .. } => "owners not rising",
+        BookError::TooManyOwners { .. } => "too many owners",
+        BookError::RoomOutOfRange => "room out of range",
+        BookError::RoundsOverLimit { .. } => "rounds over limit",
+        BookError::TotalOverLimit { .. } => "total over limit",
+    }
+}
+
+fn book_cause(why: &BookWhy) -> &'static str
+    ensures text { result.now ≡ book_cause why.now }
+    ensures short { length result.now ≤ 20 }
+{
+    match why {
+        BookWhy::Version => "version",
+        BookWhy::Shape => "shape",
+        BookWhy::Number => "number",
+        BookWhy::AccountOrder => "account order",
+        BookWhy::Book(e) => limit_text(e),
+        BookWhy::Name => "name",
+        BookWhy::NameTwice => "name twice",
+        BookWhy::UnknownOwner => "unknown owner",
+    }
+}
+
+fn payments_cause(why: &PaymentsWhy) -> &'static str
+    ensures text { result.now ≡ payments_cause why.now }
+    ensures short { length result.now ≤ 20 }
+{
+    match why {
+        PaymentsWhy::Shape => "shape",
+        PaymentsWhy::Number => "number",
+        PaymentsWhy::UnknownAccount => "unknown account",
+        PaymentsWhy::TooManyCalls => "too many calls",
+    }
+}
+
+fn schedule_cause(why: &ScheduleWhy) -> &'static str
+    ensures text { result.now ≡ schedule_cause why.now }
+    ensures short { length result.now ≤ 20 }
+{
+    match why {
+        ScheduleWhy::TooManyTurns => "too many turns",
+        ScheduleWhy::Shape => "shape",
+        ScheduleWhy::Number => "number",
+        ScheduleWhy::UnknownProcess => "unknown process",
+    }
+}
+
+fn order_cause(why: &OrderWhy) -> &'static str
+    ensures text { result.now ≡ order_cause why.now }
+    ensures short { length result.now ≤ 20 }
+{
+    match why {
+        OrderWhy::TooManyDeliveries => "too many deliveries",
+        OrderWhy::Shape => "shape",
+        OrderWhy::Number => "number",
+        OrderWhy::UnknownProcess => "unknown process",
+        OrderWhy::UnknownMessage => "unknown message",
+    }
+}
+
+fn messages_cause(why: &MessagesWhy) -> &'static str
+    ensures text { result.now ≡ messages_cause why.now }
+    ensures short { length result.now ≤ 20 }
+{
+    match why {
+        MessagesWhy::TooManyMessages => "too many messages",
+        MessagesWhy::Shape => "shape",
+        MessagesWhy::Number => "number",
+        MessagesWhy::UnknownAccount => "unknown account",
+        MessagesWhy::DepsOutOfRange => "deps out of range",
+    }
+}
+
+fn push_text(out: &mut FaultText, text: &str)
+    requires { length out.old.items + length text.now ≤ 256 }
+    ensures { out.new.items ≡ out.old.items ++ text.now }
+{
+    out.try_extend_from_slice(text.as_bytes()).unwrap();
+}
+
+fn push_decimal(out: &mut FaultText, n: u64)
+    requires { length out.old.items + 20 ≤ 256 }
+    ensures text { out.new.items ≡ out.old.items ++ decimal n }
+    ensures short { length out.new.items ≤ length out.old.items + 20 }
+{
+    push_text(out, itoa::Buffer::new().format(n));
+}
+
+fn push_offence(out: &mut FaultText, line: u32, cause: &str)
+    requires room { length out.old.items + 60 ≤ 256 }
+    requires short { length cause.now ≤ 20 }
+    ensures text { out.new.items ≡ out.old.items ++ offence_text line cause.now }
+    ensures short { length out.new.items ≤ length out.old.items + 60 }
+{
+    push_text(out, ": line ");
+    push_decimal(out, u64::from(line));
+    push_text(out, ": ");
+    push_text(out, cause);
+}
+
+fn push_numbered(out: &mut FaultText, text: &str, n: u64)
+    requires { length out.old.items + length text.now ≤ 150 }
+    ensures text { out.new.items ≡ out.old.items ++ text.now ++ decimal n }
+    ensures short { length out.new.items ≤ length out.old.items + length text.now + 20 }
+{
+    push_text(out, text);
+    push_decimal(out, n);
+}
+
+fn push_bad(out: &mut FaultText, text: &str, line: u32, cause: &str)
+    requires room { length out.old.items + length text.now ≤ 100 }
+    requires short { length cause.now ≤ 20 }
+    ensures text { out.new.items ≡ out.old.items ++ text.now ++ offence_text line cause.now }
+    ensures short { length out.new.items ≤ length out.old.items + length text.now + 60 }
+{
+    push_text(out, text);
+    push_offence(out, line, cause);
+}
+
+fn push_bad_of(out: &mut FaultText, text: &str, process: u32, line: u32, cause: &str)
+    requires room { length out.old.items + length text.now ≤ 100 }
+    requires short { length cause.now ≤ 20 }
+    ensures text { out.new.items ≡ out.old.items ++ text.now ++ decimal process ++ offence_text line cause.now }
+    ensures short { length out.new.items ≤ length out.old.items + length text.now + 80 }
+{
+    push_numbered(out, text, u64::from(process));
+    push_offence(out, line, cause);
+}
+
+fn push_usage(out: &mut FaultText, fault: &UsageFault)
+    requires { length out.old.items ≤ 100 }
+    ensures text { out.new.items ≡ out.old.items ++ usage_text fault.now }
+    ensures short { length out.new.items ≤ length out.old.items + 100 }
+{
+    match fault {
+        UsageFault::Words => push_text(out, USAGE),
+        UsageFault::Files { wanted, given } => {
+            push_numbered(out, "files: wanted ", u64::from(*wanted));
+            push_numbered(out, ", given ", *given);
+        }
+    }
+}
+
+fn push_words(out: &mut FaultText, status: &Status)
+    requires { out.old.items ≡ [] }
+    ensures text { out.new.items ≡ fault_words status.now }
+    ensures short { length out.new.items ≤ 200 }
+{
+    match status {
+        Status::Done => {}
+        Status::Usage(fault) => push_usage(out, fault),
+        Status::BadBook(bad) => push_bad(out, "book", bad.line, book_cause(&bad.why)),
+        Status::BadPayments { process, fault } => push_bad_of(
+            out,
+            "payments ",
+            *process,
+            fault.line,
+            payments_cause(&fault.why),
+        ),
+        Status::ReadFault { file } => push_numbered(out, "read fault: file ", u64::from(*file)),
+        Status::WriteFault => push_text(out, "write fault"),
+        Status::NoMemory => push_text(out, "no memory"),
+        Status::TooLong { file } => push_numbered(out, "too long: file ", u64::from(*file)),
+        Status::BadSchedule { line, why } => push_bad(out, "schedule", *line, schedule_cause(why)),
+        Status::BadOrder { line, why } => push_bad(out, "order", *line, order_cause(why)),
+        Status::BadMessages { process, line, why } => push_bad_of(
+            out,
+            "messages ",
+            *process,
+            *line,
+            messages_cause(why),
+        ),
+        Status::NotLegal { line } => push_bad(out, "report", *line, "not legal"),
+    }
+}
+
+/// The line of a refusal, with its newline, and nothing for a run that is done. It takes no memory.
+pub fn fault_text(status: &Status) -> FaultText
+    ensures { result.items ≡ fault_line status.now }
+{
+    let mut out = ArrayVec::new();
+    if matches!(status, Status::Done) {
+        return out;
+    }
+    push_words(&mut out, status);
+    out.push(b'\n');
+    out
+}

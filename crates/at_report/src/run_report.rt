@@ -1,0 +1,95 @@
+//! The report of a run, and the line of a check.
+
+ghost use Rattle.std.specs.Prelude.{◌≡◌, ◌++◌, length, All, IfOk, OnOk};
+ghost use Rattle.at_ledger.specs.Call.{IsLineOn};
+ghost use Rattle.at_ledger.specs.Run.{asked_in, run_from};
+ghost use Rattle.at_files.specs.Names.{AreNamesOf};
+ghost use Rattle.at_report.specs.Lines.{lines_text};
+ghost use Rattle.at_report.specs.Report.{audit_lines, balance_lines, checked_line, journal_lines, report_text};
+
+use crate::NoMemory;
+use crate::lines::{push_line, push_number, push_numbered};
+use at_files::Names;
+use at_ledger::{Book, Line, State};
+use std::alloc::Global;
+
+/// Adds the name and the balance of each account.
+fn push_balances(
+    out: &mut Vec<u8>,
+    book: &Book,
+    names: &Names,
+    state: &State,
+) -> Result<(), NoMemory>
+    requires book { state.now.book ≡ book.now }
+    requires names { length names.now.accounts ≡ length book.now.accounts }
+    ensures { OnOk result (out.new.items ≡ out.old.items ++ lines_text (balance_lines names.now state.now)) }
+{
+    for account in 0..book.accounts() {
+        push_numbered(out, names.account(account), state.balance(account))?;
+    }
+    Ok(())
+}
+
+/// Adds how many accounts there are, the balance of each, and their total.
+fn push_audit(out: &mut Vec<u8>, book: &Book, names: &Names, state: &State) -> Result<(), NoMemory>
+    requires book { state.now.book ≡ book.now }
+    requires names { length names.now.accounts ≡ length book.now.accounts }
+    ensures { OnOk result (out.new.items ≡ out.old.items ++ lines_text (audit_lines names.now state.now)) }
+{
+    push_numbered(out, b"balances", u64::from(book.accounts()))?;
+    push_balances(out, book, names, state)?;
+    push_numbered(out, b"total", state.total())
+}
+
+/// Adds how many lines there are, and then each of them. The state makes their calls, and is left after the last.
+fn push_journal(
+    out: &mut Vec<u8>,
+    names: &Names,
+    state: &mut State,
+    lines: &[Line],
+) -> Result<(), NoMemory>
+    requires processes { length names.now.processes ≡ state.old.book.processes }
+    requires accounts { length names.now.accounts ≡ length state.old.book.accounts }
+    requires lines { All (IsLineOn state.old.book.processes (length state.old.book.accounts)) lines.now }
+    ensures text { OnOk result (out.new.items ≡ out.old.items ++ lines_text (journal_lines names.now lines.now)) }
+    ensures last { OnOk result (state.new ≡ (run_from state.old (asked_in lines.now)).last) }
+    ensures book { state.new.book ≡ state.old.book }
+{
+    push_numbered(out, b"journal", lines.len() as u64)?;
+    for line in lines {
+        push_line(out, names, line)?;
+        let _ = state.step(line.process, &line.call);
+    }
+    Ok(())
+}
+
+/// The report of a list of lines: the journal, and the balances and the total after all its lines. `names` are the
+/// book's. The text takes some 40 bytes for each line, and the work grows with lines and accounts alone.
+pub fn report(
+    alloc: Global,
+    book: &Book,
+    names: &Names,
+    lines: &[Line],
+) -> Result<Vec<u8>, NoMemory>
+    requires names { AreNamesOf book.now names.now }
+    requires lines { All (IsLineOn book.now.processes (length book.now.accounts)) lines.now }
+    ensures { IfOk result (λ text. text.items ≡ report_text book.now names.now lines.now) }
+{
+    let mut out = Vec::new(alloc);
+    let mut state = State::new(alloc, book)?;
+    push_journal(&mut out, names, &mut state, lines)?;
+    push_audit(&mut out, book, names, &state)?;
+    Ok(out)
+}
+
+/// The line of a check: how many processes and accounts the book has, and how many calls its files have together.
+pub fn checked_text(alloc: Global, book: &Book, calls: u32) -> Result<Vec<u8>, NoMemory>
+    ensures { IfOk result (λ text. text.items ≡ checked_line book.now calls) }
+{
+    let mut out = Vec::from_slice(alloc, b"checked")?;
+    push_number(&mut out, u64::from(book.processes()))?;
+    push_number(&mut out, u64::from(book.accounts()))?;
+    push_number(&mut out, u64::from(calls))?;
+    out.push(b'\n')?;
+    Ok(out)
+}

@@ -1,0 +1,116 @@
+//! What the program answers, and the exit status of each answer.
+
+ghost use Rattle.std.specs.Prelude.{◌≡◌};
+
+use at_files::{BadBook, BadPayments};
+
+/// What is wrong with the words of the command line.
+#[derive(Clone, Copy, Debug, PartialEq, Eq)]
+pub enum UsageFault {
+    /// They have none of the forms.
+    Words,
+    /// There are not as many files as the book has processes.
+    Files { wanted: u32, given: u64 },
+}
+
+/// The cause of a schedule's first offence.
+#[derive(Clone, Copy, Debug, PartialEq, Eq)]
+pub enum ScheduleWhy {
+    TooManyTurns,
+    Shape,
+    Number,
+    UnknownProcess,
+}
+
+/// The cause of the first offence of a file of deliveries.
+#[derive(Clone, Copy, Debug, PartialEq, Eq)]
+pub enum OrderWhy {
+    TooManyDeliveries,
+    Shape,
+    Number,
+    UnknownProcess,
+    UnknownMessage,
+}
+
+/// The cause of a message file's first offence.
+#[derive(Clone, Copy, Debug, PartialEq, Eq)]
+pub enum MessagesWhy {
+    TooManyMessages,
+    Shape,
+    Number,
+    UnknownAccount,
+    DepsOutOfRange,
+}
+
+/// What the program answers. File 0 is the book, file p + 1 the payment or message file of process p, and a
+/// further file comes after those. A line is a record, counted from 1, and in a report a line of the text.
+#[derive(Clone, Copy, Debug, PartialEq, Eq)]
+pub enum Status {
+    /// The whole text was written.
+    Done,
+    /// The words were refused.
+    Usage(UsageFault),
+    /// The book was refused.
+    BadBook(BadBook),
+    /// The payment file of a process was refused.
+    BadPayments {
+        process: u32,
+        fault: BadPayments,
+    },
+    /// A file could not be read.
+    ReadFault {
+        file: u32,
+    },
+    /// The text could not be written.
+    WriteFault,
+    /// There was no memory.
+    NoMemory,
+    /// A file has too many bytes.
+    TooLong {
+        file: u32,
+    },
+    /// The schedule was refused.
+    BadSchedule {
+        line: u32,
+        why: ScheduleWhy,
+    },
+    /// The file of deliveries was refused.
+    BadOrder {
+        line: u32,
+        why: OrderWhy,
+    },
+    /// The message file of a process was refused.
+    BadMessages {
+        process: u32,
+        line: u32,
+        why: MessagesWhy,
+    },
+    /// The report is not one of a legal run.
+    NotLegal {
+        line: u32,
+    },
+}
+
+impl Status {
+    ghost use Rattle.at_report.specs.Status.{code_of};
+
+    /// The exit status.
+    pub fn code(&self) -> u8
+        ensures { result ≡ code_of self.now }
+    {
+        match self {
+            Status::Done => 0,
+            Status::Usage(_) => 2,
+            Status::BadBook(_) => 3,
+            Status::BadPayments { .. } => 4,
+            Status::ReadFault { .. } => 5,
+            Status::WriteFault => 6,
+            Status::NoMemory => 7,
+            Status::TooLong { .. } => 8,
+            Status::BadSchedule { .. } => 9,
+            Status::BadOrder { .. } => 10,
+            Status::BadMessages { .. } => 11,
+            Status::NotLegal { .. } => 12,
+        }
+    }
+}
