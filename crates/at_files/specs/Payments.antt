@@ -70,7 +70,7 @@ fields_of_call names (Transfer from to amount) =
 fields_of_call names (Read account) = codes "read" ∷ account_name names account ∷ []
 fields_of_call names (Pay from targets) = codes "pay" ∷ account_name names from ∷ fields_of_targets names targets
 
--- whether files beside a book of this version may have the call: pay-outs came with version 2
+-- files beside a book of this version may have the call: pay-outs came with version 2
 abbrev pub IsCallOfVersion : ℕ → Call → Type 0
 IsCallOfVersion version (Transfer from to amount) = Unit {0}
 IsCallOfVersion version (Read account) = Unit {0}

@@ -1,3 +1,4 @@
 pub mod FilesLoaded
 pub mod MayRefuseLaws
 pub mod Played
+pub mod CallCounts

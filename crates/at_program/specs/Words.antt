@@ -1,7 +1,7 @@
 -- The forms of the words of the command line.
 use Rattle.std.specs.Prelude.{ℕ, List, [], ◌∷◌, map, codes, bytes_eq, Option, Some, None, option_map, if◌then◌else◌, String, string_bytes}
 use Rattle.std.specs.Global.{Global}
-use Rattle.at_program.specs.declared.words.Form as words
+use Rattle.at_program.specs.declared.words.CommandLine.{CommandLine}
 use Rattle.at_program.specs.declared.words.Command.{Command}
 use Rattle.at_program.specs.declared.words.Command.TheVariants.{Run, Check}
 
@@ -31,5 +31,5 @@ abbrev pub words_of : List (String Global) → List Word
 words_of words = map string_bytes words
 
 -- the same words, as the program holds them
-abbrev pub form_shown : words.Form → Form
-form_shown form = record { command = form.command; book = form.book.now; payments = words_of form.payments.now }
+abbrev pub form_shown : CommandLine → Form
+form_shown line = record { command = line.command; book = line.book.now; payments = words_of line.payments.now }

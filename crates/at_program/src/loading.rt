@@ -8,7 +8,7 @@ ghost use Rattle.at_program.specs.Words.{words_of, form_shown};
 ghost use Rattle.at_program.specs.Faults.{MayRefuse};
 ghost use Rattle.at_program.specs.Loading.{EachSpells, Holds, IsFileOn, IsFileReached, MayReach, Spelled, SpellsBook, SpellsCalls, book_loaded, calls_loaded, calls_of, fetched, files_loaded, loaded, loaded_shown};
 
-use crate::words::Form;
+use crate::words::CommandLine;
 use at_files::{Names, ReadBookFault, ReadPaymentsFault, read_book, read_payments};
 use at_io::{FetchError, Shelf, fetch};
 use at_ledger::{Book, Call};
@@ -135,7 +135,11 @@ fn load_files<F: Shelf>(
 
 /// What the files of the form spell, or the first refusal: the book's, that of the number of files, or that of
 /// each payment file in turn. Each file is read before the next is fetched.
-pub fn load<F: Shelf>(alloc: Global, shelf: &mut F, form: &Form<'_>) -> Result<Loaded, Status>
+pub fn load<F: Shelf>(
+    alloc: Global,
+    shelf: &mut F,
+    form: &CommandLine<'_>,
+) -> Result<Loaded, Status>
     ensures files { SameFiles (F.tells shelf.old) (F.tells shelf.new) (F.file shelf.old) (F.file shelf.new) }
     ensures later { F.faults shelf.old ≤ F.faults shelf.new }
     ensures kept { OnOk result (F.faults shelf.new ≡ F.faults shelf.old) }

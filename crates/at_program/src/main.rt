@@ -1,8 +1,59 @@
-//! The program: what it is asked by its words, from the bytes of the files to the bytes of the report.
+//! The asset transfer object at the command line: what the words ask, from the bytes of the files to the bytes of
+//! the report.
+//!
+//! `serve` does it all, over any shelf and sinks. Over those that tell what they hold, what is printed is one legal
+//! run of the calls that the files' bytes spell, and each refusal names the first cause.
 #![tactic(auto)]
 
 mod loading;
 mod playing;
+mod serving;
+#[cfg(test)]
+mod tests;
 mod words;
 
-fn main(_rt: HostRuntime) {}
+use crate::serving::serve;
+use at_io::{DirShelf, StdSink, put_all};
+use at_report::{Status, UsageFault, fault_text};
+use std::io;
+use std::process::ExitCode;
+use std::rt::Env;
+
+/// The words after the program's name. Words that are not text have no form.
+fn words_given(rt: &(impl Env + AllocGlobal)) -> Result<Vec<String>, Status> {
+    let mut words = Vec::new(rt.alloc());
+    let given = match std::env::args(rt) {
+        Ok(given) => given,
+        Err(error) if error.kind() == io::ErrorKind::OutOfMemory => return Err(Status::NoMemory),
+        Err(_) => return Err(Status::Usage(UsageFault::Words)),
+    };
+    for word in given.skip(1) {
+        if words.push(word).is_err() {
+            return Err(Status::NoMemory);
+        }
+    }
+    Ok(words)
+}
+
+fn main(rt: HostRuntime) -> ExitCode {
+    let mut err = StdSink::new(rt.stderr());
+    let status = match words_given(&rt) {
+        Ok(words) => {
+            let mut shelf = DirShelf::new(&rt);
+            let mut out = StdSink::new(rt.stdout());
+            serve(
+                &rt,
+                rt.alloc(),
+                words.as_slice(),
+                &mut shelf,
+                &mut out,
+                &mut err,
+            )
+        }
+        Err(status) => {
+            let _ = put_all(&mut err, fault_text(&status).as_slice());
+            status
+        }
+    };
+    ExitCode::from(status.code())
+}

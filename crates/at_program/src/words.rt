@@ -13,7 +13,8 @@ pub enum Command {
 }
 
 /// The words of a command: the book's file, and the payment files in process order.
-pub struct Form<'a> {
+#[derive(Clone, Copy)]
+pub struct CommandLine<'a> {
     pub command: Command,
     pub book: &'a str,
     pub payments: &'a [String],
@@ -30,7 +31,7 @@ fn command_named(word: &str) -> Option<Command>
 }
 
 /// The form of the words after the program's name, if they have one. A word is never taken as an option.
-pub fn form_of(words: &[String]) -> Option<Form<'_>>
+pub fn command_line(words: &[String]) -> Option<CommandLine<'_>>
     ensures { option_map form_shown result ≡ form_of (words_of words.now) }
 {
     let [command, book, payments @ ..] = words else {
@@ -40,7 +41,7 @@ pub fn form_of(words: &[String]) -> Option<Form<'_>>
         Some(command) => command,
         None => return None,
     };
-    Some(Form {
+    Some(CommandLine {
         command,
         book: book.as_str(),
         payments,

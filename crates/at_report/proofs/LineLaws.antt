@@ -1,11 +1,9 @@
 -- Lines and their words.
-use Rattle.std.proofs.Common.{◌≡◌, ℕ, ◌+◌, List, [], ◌∷◌, ◌++◌, map, length, take, get_or, ◌<◌, decimal, refl, ap, ◌∙◌, sym, append_assoc, append-nil, arith}
+use Rattle.std.proofs.Common.{◌≡◌, ℕ, ◌+◌, List, [], ◌∷◌, ◌++◌, map, length, take, get_or, ◌<◌, refl, ap, ◌∙◌, sym, append_assoc, append-nil, arith}
 use Rattle.std.specs.List.{join_with_byte, flat_map, range_with_len}
 use Rattle.std.proofs.lemmas.Grind.{flat_map-append}
 use Rattle.std.proofs.lemmas.List.{take_more, map-append}
-use Rattle.std.proofs.lemmas.List.FromFn.{map-range_with_len_more, length-map-range_with_len}
-use Rattle.at_ledger.specs.Book.{BookTerms}
-use Rattle.at_files.specs.Names.{NameList, AreNamesOf}
+use Rattle.std.proofs.lemmas.List.FromFn.{map-range_with_len_more}
 use Rattle.at_report.specs.Lines.{Words, spaced, line_text, lines_text}
 
 -- a line is its first word, and then the others, each after a space
@@ -50,14 +48,3 @@ lines_text-take_more f out xs i x within is =
 -- four texts after another
 pub append-four : (out a b c d : List ℕ) → (((out ++ a) ++ b) ++ c) ++ d ≡ out ++ (((a ++ b) ++ c) ++ d)
 append-four out a b c d = simp append_assoc
-
--- the names of a book are as many as its processes and accounts
-pub record CountsNames (b : BookTerms) (names : NameList) : Type 0 where
-  pub processes : length names.processes ≡ b.processes
-  pub accounts : length names.accounts ≡ length b.accounts
-
-pub CountsNames-AreNamesOf : (b : BookTerms) (names : NameList) → AreNamesOf b names → CountsNames b names
-CountsNames-AreNamesOf b names are = record {
-  processes = ap (λ (n : NameList). length n.processes) are ∙ length-map-range_with_len decimal 0 b.processes;
-  accounts = ap (λ (n : NameList). length n.accounts) are ∙ length-map-range_with_len decimal 0 (length b.accounts);
-}

@@ -8,5 +8,5 @@ pub loop-account-preserved : goal.loop-account-preserved
 loop-account-preserved c =
     let words = balance_words c.args.names.now c.args.state.now in
     let line : c.push_numbered.new.out.items ≡ c.loop-account.out.items ++ line_text (words c.loop-account.account) =
-    rw (← c.account.ensures, ← c.balance.ensures.balance) c.in_ok-push_numbered.ensures in
+    rw (← c.account.ensures.name, ← c.balance.ensures.balance) c.in_ok-push_numbered.ensures in
     line ∙ rw c.loop-account.invariant (lines_text-map_more words c.args.out.now.items c.loop-account.account)

@@ -1,0 +1,162 @@
+//! All that the program does.
+
+ghost use Rattle.std.specs.Prelude.{◌≡◌, ◌≢◌, ◌↔◌, ◌⊎◌, ◌≤◌, ℕ, All, sum_by, length, true, None, Some, Ok, Err, IfOk, IfErr, OnOk};
+ghost use Rattle.at_files.specs.Names.{AreNamesOf};
+ghost use Rattle.at_io.specs.Faults.{Rose};
+ghost use Rattle.at_io.specs.Shelf.{SameFiles};
+ghost use Rattle.at_program.specs.Words.{Form, form_of, form_shown, words_of};
+ghost use Rattle.at_program.specs.Loading.{IsFileOn, Loaded, MayReach, Spelled, calls_of, loaded, loaded_shown};
+ghost use Rattle.at_program.specs.Faults.{Answers, IsFaultless, MayRefuse};
+ghost use Rattle.at_program.specs.Answer.{Prints, PrintsSpelled, TookAll, TookFront, TookLine};
+
+use crate::loading::{self, load};
+use crate::playing::play;
+use crate::words::{Command, CommandLine, command_line};
+use at_io::{Shelf, Sink, put_all};
+use at_report::{Status, UsageFault, checked_text, fault_text, report};
+use std::alloc::{AllocError, Global};
+use std::thread::Threads;
+
+/// The report of a run of the files, one after another in process order.
+fn run_text(alloc: Global, loaded: &loading::Loaded) -> Result<Vec<u8>, AllocError>
+    requires names { AreNamesOf loaded.now.book loaded.now.names }
+    requires count { length loaded.now.files.items ≡ loaded.now.book.processes }
+    requires known { All (IsFileOn (length loaded.now.book.accounts)) (calls_of loaded.now.files.items) }
+    ensures { IfOk result (λ text. Prints Command.Run (loaded_shown loaded.now) text.items) }
+{
+    let lines = play(alloc, &loaded.book, loaded.files.as_slice())?;
+    report(alloc, &loaded.book, &loaded.names, lines.as_slice())
+}
+
+/// How many calls the files have together.
+fn count_calls(loaded: &loading::Loaded) -> u32
+    requires count { length loaded.now.files.items ≡ loaded.now.book.processes }
+    requires known { All (IsFileOn (length loaded.now.book.accounts)) (calls_of loaded.now.files.items) }
+    ensures { result ≡ sum_by length (calls_of loaded.now.files.items) }
+{
+    let _ = loaded.book.accounts();
+    let mut calls = 0;
+    for file in &loaded.files {
+        calls += file.len() as u32;
+    }
+    calls
+}
+
+/// What the command prints of what was loaded.
+fn text_of(alloc: Global, command: Command, loaded: &loading::Loaded) -> Result<Vec<u8>, AllocError>
+    requires names { AreNamesOf loaded.now.book loaded.now.names }
+    requires count { length loaded.now.files.items ≡ loaded.now.book.processes }
+    requires known { All (IsFileOn (length loaded.now.book.accounts)) (calls_of loaded.now.files.items) }
+    ensures { IfOk result (λ text. Prints command (loaded_shown loaded.now) text.items) }
+{
+    match command {
+        Command::Run => run_text(alloc, loaded),
+        Command::Check => checked_text(alloc, &loaded.book, count_calls(loaded)),
+    }
+}
+
+/// The text of the form's command for its files, or why there is none.
+fn make_text<F: Shelf>(
+    alloc: Global,
+    shelf: &mut F,
+    form: &CommandLine<'_>,
+) -> Result<Vec<u8>, Status>
+    ensures files { SameFiles (F.tells shelf.old) (F.tells shelf.new) (F.file shelf.old) (F.file shelf.new) }
+    ensures later { F.faults shelf.old ≤ F.faults shelf.new }
+    ensures kept { OnOk result (F.faults shelf.new ≡ F.faults shelf.old) }
+    ensures printed { F.tells shelf.old ≡ true → IfOk result (λ text. PrintsSpelled (F.file shelf.old) (form_shown form.now) text.items) }
+    ensures err { IfErr result (λ refusal. MayRefuse (F.tells shelf.old) (loaded (F.file shelf.old) (form_shown form.now)) (F.faults shelf.old) (F.faults shelf.new) refusal) }
+    ensures reached { (file : ℕ) → result ≡ Err (Status.ReadFault file) → MayReach (F.tells shelf.old) (F.file shelf.old) (form_shown form.now) file }
+{
+    let loaded = match load(alloc, shelf, form) {
+        Ok(loaded) => loaded,
+        Err(refusal) => return Err(refusal),
+    };
+    match text_of(alloc, form.command, &loaded) {
+        Ok(text) => Ok(text),
+        Err(_) => Err(Status::NoMemory),
+    }
+}
+
+/// Writes the line of a refusal. A fault of the sink changes nothing: there is nobody left to tell.
+fn tell<E: Sink>(err: &mut E, status: &Status)
+    requires { status.now ≢ Status.Done }
+    ensures { E.tells err.old ≡ true → TookLine status.now (E.faults err.old) (E.faults err.new) (E.taken err.old) (E.taken err.new) }
+{
+    let _ = put_all(err, fault_text(status).as_slice());
+}
+
+/// Does what the form asks.
+fn answer<F: Shelf, O: Sink>(
+    alloc: Global,
+    shelf: &mut F,
+    out: &mut O,
+    form: &CommandLine<'_>,
+) -> Status
+    ensures files { SameFiles (F.tells shelf.old) (F.tells shelf.new) (F.file shelf.old) (F.file shelf.new) }
+    ensures form { result ≢ Status.Usage UsageFault.Words }
+    ensures done { result ≡ Status.Done → F.tells shelf.old ≡ true → O.tells out.old ≡ true → TookAll (F.file shelf.old) (form_shown form.now) (O.taken out.old) (O.taken out.new) }
+    ensures done_kept { result ≡ Status.Done → (F.faults shelf.new ≡ F.faults shelf.old) × (O.faults out.new ≡ O.faults out.old) }
+    ensures write_fault { result ≡ Status.WriteFault → Rose (O.faults out.old) (O.faults out.new) × (F.faults shelf.new ≡ F.faults shelf.old) }
+    ensures front { result ≡ Status.WriteFault → F.tells shelf.old ≡ true → O.tells out.old ≡ true → TookFront (F.file shelf.old) (form_shown form.now) (O.taken out.old) (O.taken out.new) }
+    ensures refusal { result ≢ Status.Done → result ≢ Status.WriteFault → MayRefuse (F.tells shelf.old) (loaded (F.file shelf.old) (form_shown form.now)) (F.faults shelf.old) (F.faults shelf.new) result }
+    ensures reached { (file : ℕ) → result ≡ Status.ReadFault file → MayReach (F.tells shelf.old) (F.file shelf.old) (form_shown form.now) file }
+    ensures loads { F.tells shelf.old ≡ true → (result ≡ Status.Done) ⊎ (result ≡ Status.WriteFault) → (l : Loaded) × (loaded (F.file shelf.old) (form_shown form.now) ≡ Ok l) }
+    ensures untouched { result ≢ Status.Done → result ≢ Status.WriteFault → out.new ≡ out.old }
+{
+    let text = match make_text(alloc, shelf, form) {
+        Ok(text) => text,
+        Err(refusal) => return refusal,
+    };
+    match put_all(out, text.as_slice()) {
+        Ok(()) => Status::Done,
+        Err(_) => Status::WriteFault,
+    }
+}
+
+/// Does all that the program does: reads the files that the words name, one after another, and writes the command's
+/// text to `out`, or the line of the first refusal to `err`. The whole text is made before the first write. `words`
+/// are those after the program's name. The work grows with the bytes of the files alone.
+pub fn serve<R: Threads + Sync, F: Shelf, O: Sink, E: Sink>(
+    _rt: &R,
+    alloc: Global,
+    words: &[String],
+    shelf: &mut F,
+    out: &mut O,
+    err: &mut E,
+) -> Status
+    ensures files { SameFiles (F.tells shelf.old) (F.tells shelf.new) (F.file shelf.old) (F.file shelf.new) }
+
+    // The words have a form exactly where they are not refused, and every other answer is about that form.
+    ensures words { (result ≡ Status.Usage UsageFault.Words) ↔ (form_of (words_of words.now) ≡ None) }
+
+    // The theorem: all bytes that were taken are the text of the command for what the files' bytes spell.
+    ensures done { (form : Form) → form_of (words_of words.now) ≡ Some form → result ≡ Status.Done → F.tells shelf.old ≡ true → O.tells out.old ≡ true → TookAll (F.file shelf.old) form (O.taken out.old) (O.taken out.new) }
+    ensures done_kept { result ≡ Status.Done → (F.faults shelf.new ≡ F.faults shelf.old) × (O.faults out.new ≡ O.faults out.old) }
+
+    // What could not be written whole was written as a front.
+    ensures write_fault { result ≡ Status.WriteFault → Rose (O.faults out.old) (O.faults out.new) × (F.faults shelf.new ≡ F.faults shelf.old) }
+    ensures front { (form : Form) → form_of (words_of words.now) ≡ Some form → result ≡ Status.WriteFault → F.tells shelf.old ≡ true → O.tells out.old ≡ true → TookFront (F.file shelf.old) form (O.taken out.old) (O.taken out.new) }
+
+    // When each refusal comes: only so, and where no fault is counted exactly so, but for want of memory.
+    ensures refusal { (form : Form) → form_of (words_of words.now) ≡ Some form → result ≢ Status.Done → result ≢ Status.WriteFault → MayRefuse (F.tells shelf.old) (loaded (F.file shelf.old) form) (F.faults shelf.old) (F.faults shelf.new) result }
+    ensures reached { (form : Form) (file : ℕ) → form_of (words_of words.now) ≡ Some form → result ≡ Status.ReadFault file → MayReach (F.tells shelf.old) (F.file shelf.old) form file }
+    ensures exact { (form : Form) → form_of (words_of words.now) ≡ Some form → F.tells shelf.old ≡ true → IsFaultless (F.faults shelf.old) (F.faults shelf.new) → (result ≡ Status.NoMemory) ⊎ Answers (loaded (F.file shelf.old) form) result }
+    ensures untouched { result ≢ Status.Done → result ≢ Status.WriteFault → out.new ≡ out.old }
+
+    // Where the files spell a book and its calls and no fault is counted, all is done, but for want of memory.
+    ensures complete { (form : Form) (l : Loaded) → form_of (words_of words.now) ≡ Some form → F.tells shelf.old ≡ true → loaded (F.file shelf.old) form ≡ Ok l → IsFaultless (F.faults shelf.old) (F.faults shelf.new) → IsFaultless (O.faults out.old) (O.faults out.new) → (result ≡ Status.Done) ⊎ (result ≡ Status.NoMemory) }
+
+    // What was said of a refusal.
+    ensures silent { result ≡ Status.Done → err.new ≡ err.old }
+    ensures told { result ≢ Status.Done → E.tells err.old ≡ true → TookLine result (E.faults err.old) (E.faults err.new) (E.taken err.old) (E.taken err.new) }
+{
+    let status = match command_line(words) {
+        Some(form) => answer(alloc, shelf, out, &form),
+        None => Status::Usage(UsageFault::Words),
+    };
+    if status != Status::Done {
+        tell(err, &status);
+    }
+    status
+}
