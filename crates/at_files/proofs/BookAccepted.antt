@@ -132,9 +132,9 @@ book_of_rows-rows_of_book b is =
     rw (version_of-row, processes_of-row b.processes is.begun.some_process is.begun.few_processes, limits_of-row b is, accounts) refl
 
 -- a file that spells a book isn't refused
-pub Spells-not_bad : (b : BookTerms) (names : NameList) (rows : List Fields) (fault : ReadBookFault) → IsBook b → Spells rows b names
+pub Spells-not_bad : (b : BookTerms) (names : NameList) (rows : List Fields) (fault : ReadBookFault) → Spells rows b names
     → ((bad : BadBook) → fault ≡ Bad bad → book_of_rows rows ≡ Err bad) → fault ≡ NoMemory
-Spells-not_bad b names rows NoMemory is spells bads = refl
-Spells-not_bad b names rows (Bad bad) is spells bads =
-    let wrong : Ok b ≡ Err bad = sym (book_of_rows-rows_of_book b is) ∙ rw spells.spelled at (bads bad refl) in
+Spells-not_bad b names rows NoMemory spells bads = refl
+Spells-not_bad b names rows (Bad bad) spells bads =
+    let wrong : Ok b ≡ Err bad = sym (book_of_rows-rows_of_book b spells.book) ∙ rw spells.spelled at (bads bad refl) in
     absurd (cc)

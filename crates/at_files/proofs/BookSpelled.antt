@@ -2,7 +2,7 @@
 use Rattle.std.proofs.Common.{◌≡◌, ℕ, ◌+◌, Bool, true, false, ◌==◌, List, [], ◌∷◌, ◌++◌, length, Option, Some, None, Result, Ok, Err, if◌then◌else◌, bytes_eq, codes, decimal, refl, sym, ◌∙◌, append_assoc, append-nil, length-append}
 use Rattle.std.proofs.lemmas.Slice.Eq.{bytes_eq-Decides}
 use Rattle.at_ledger.specs.Account.{AccountTerms}
-use Rattle.at_ledger.specs.Book.{BookTerms}
+use Rattle.at_ledger.specs.Book.{IsBook, BookTerms}
 use Rattle.at_ledger.specs.Draft.{limits_fault, book_without_accounts}
 use Rattle.at_ledger.specs.declared.draft.BookError.TheVariants.{NoAccount}
 use Rattle.at_files.specs.Names.{NameList, AreNamesOf}
@@ -126,13 +126,14 @@ limits_from-spelled processes (row ∷ rows) whole h =
     let follows = accounts_from-follows (book_without_accounts processes rooms.own_room rooms.request_room) whole rows (rw rooms.book_is at goes.later) in
     limits_rows processes rooms.own_room rooms.request_room whole row rows follows.accounts follows.whole_is rooms.spelled follows.spelled
 
-pub Spells-book_of_rows : (rows : List Fields) (b : BookTerms) (names : NameList) → book_of_rows rows ≡ Ok b → AreNamesOf b names → Spells rows b names
-Spells-book_of_rows [] b names h are = absurd (cc)
-Spells-book_of_rows (row ∷ []) b names h are = absurd (let goes = after-goes 1 (version_of row) (λ version. processes_from []) b h in let wrong = goes.later in cc)
-Spells-book_of_rows (row ∷ second ∷ rows) b names h are =
+pub Spells-book_of_rows : (rows : List Fields) (b : BookTerms) (names : NameList) → book_of_rows rows ≡ Ok b → IsBook b → AreNamesOf b names → Spells rows b names
+Spells-book_of_rows [] b names h book are = absurd (cc)
+Spells-book_of_rows (row ∷ []) b names h book are = absurd (let goes = after-goes 1 (version_of row) (λ version. processes_from []) b h in let wrong = goes.later in cc)
+Spells-book_of_rows (row ∷ second ∷ rows) b names h book are =
     let version = after-goes 1 (version_of row) (λ version. processes_from (second ∷ rows)) b h in
     let processes = after-goes 2 (processes_of second) (λ processes. limits_from processes rows) b version.later in
     record {
+      book = book;
       spelled =
           whole_rows b row second rows processes.value (version_of-spelled row version.value version.is)
           (processes_of-spelled second processes.value processes.is) (limits_from-spelled processes.value rows b processes.later);

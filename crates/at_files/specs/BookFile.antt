@@ -3,7 +3,7 @@ use Rattle.std.specs.Prelude.{◌≡◌, ℕ, ◌+◌, ◌==◌, List, [], ◌�
 use Rattle.std.specs.List.{slice_split, join_with_byte}
 use Rattle.at_base.specs.Numbers.{number_of}
 use Rattle.at_ledger.specs.Account.{AccountTerms}
-use Rattle.at_ledger.specs.Book.{BookTerms}
+use Rattle.at_ledger.specs.Book.{BookTerms, IsBook}
 use Rattle.at_ledger.specs.Draft.{limits_fault, account_fault, terms_with, with_account, book_without_accounts}
 use Rattle.at_ledger.specs.declared.draft.BookError.{BookError}
 use Rattle.at_ledger.specs.declared.draft.BookError.TheVariants.{NoAccount, TooManyAccounts}
@@ -129,7 +129,8 @@ rows_of_book b =
     ∷ (codes "limits" ∷ decimal b.own_room ∷ decimal b.request_room ∷ [])
     ∷ account_rows 0 b.accounts
 
--- the records are those of the book, and these are its names
+-- the records are those of a book within its limits, and these are its names
 pub record Spells (rows : List Fields) (b : BookTerms) (names : NameList) : Type 0 where
+  pub book : IsBook b
   pub spelled : rows ≡ rows_of_book b
   pub named : AreNamesOf b names

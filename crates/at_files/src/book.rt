@@ -237,6 +237,7 @@ fn read_terms(
     row: &mut ByteRecord,
 ) -> Result<Book, ReadBookFault>
     ensures ok { IfOk result (λ b. book_of_rows rows.old ≡ Ok b) }
+    ensures checked { IfOk result IsBook }
     ensures bad { (b : BadBook) → result ≡ Err (ReadBookFault.Bad b) → book_of_rows rows.old ≡ Err b }
 {
     if let Err(fault) = read_title(rows, row) {
@@ -267,7 +268,7 @@ pub fn read_book(alloc: Global, bytes: &[u8]) -> Result<(Book, Names), ReadBookF
     ensures ok { IfOk result (λ r. book_of_rows (rows_of bytes.now) ≡ Ok r.0) }
     ensures spelled { IfOk result (λ r. Spells (rows_of bytes.now) r.0 r.1) }
     ensures names { IfOk result (λ r. AreNamesOf r.0 r.1) }
-    ensures accepts { (b : BookTerms) (names : NameList) → IsBook b → Spells (rows_of bytes.now) b names → IfErr result (λ fault. fault ≡ ReadBookFault.NoMemory) }
+    ensures accepts { (b : BookTerms) (names : NameList) → Spells (rows_of bytes.now) b names → IfErr result (λ fault. fault ≡ ReadBookFault.NoMemory) }
     ensures bad { (b : BadBook) → result ≡ Err (ReadBookFault.Bad b) → book_of_rows (rows_of bytes.now) ≡ Err b }
 {
     let mut rows = Rows::new(alloc, bytes);
