@@ -1,9 +1,10 @@
 -- When a refusal of a part is one of the whole.
-use Rattle.std.proofs.Common.{◌≡◌, ℕ, Bool, true, Result, Ok, Err, ◌⊎◌, inl, inr}
+use Rattle.std.proofs.Common.{◌≡◌, ◌≢◌, ◌<◌, arith, refl, ℕ, Bool, true, Result, Ok, Err, ◌⊎◌, inl, inr}
 use Rattle.at_report.specs.declared.status.Status.{Status}
 use Rattle.at_report.specs.declared.status.Status.TheVariants.{Done, Usage, BadBook, BadPayments, ReadFault, WriteFault, NoMemory, TooLong, BadSchedule, BadOrder, BadMessages, NotLegal}
 use Rattle.at_report.specs.declared.status.UsageFault.TheVariants as usage
-use Rattle.at_program.specs.Faults.{IsBrought, IsUnread, MayRefuse}
+use Rattle.at_program.specs.Faults.{IsBrought, IsFaultless, IsUnread, MayRefuse}
+use Rattle.at_io.specs.Faults.{Rose}
 
 IsBrought-whole : {A B : Type 0} (tells : Bool) (part : Result A Status) (whole : Result B Status) (before now : ℕ) (refusal : Status)
     → (tells ≡ true → part ≡ Err refusal → whole ≡ Err refusal) → IsBrought tells part before now refusal → IsBrought tells whole before now refusal
@@ -30,3 +31,42 @@ MayRefuse-whole tells part whole before now (BadSchedule line why) leads h = h
 MayRefuse-whole tells part whole before now (BadOrder line why) leads h = h
 MayRefuse-whole tells part whole before now (BadMessages process line why) leads h = h
 MayRefuse-whole tells part whole before now (NotLegal line) leads h = h
+
+-- a count that rose isn't faultless
+Rose-IsFaultless : (before now : ℕ) → IsFaultless before now → Rose before now → ⊥
+Rose-IsFaultless before now faultless (inl above) = let kept = faultless.kept in omega arith
+Rose-IsFaultless before now faultless (inr last) = faultless.below last
+
+IsBrought-loaded : {A : Type 0} (tells : Bool) (expected : Result A Status) (l : A) (before now : ℕ) (refusal : Status)
+    → tells ≡ true → expected ≡ Ok l → IsBrought tells expected before now refusal → ⊥
+IsBrought-loaded tells expected l before now refusal told is brought = let wrong = brought.1 told in cc
+
+IsUnread-loaded : {A : Type 0} (tells : Bool) (expected : Result A Status) (l : A) (before now : ℕ) (refusal : Status)
+    → expected ≡ Ok l → IsFaultless before now → IsUnread tells expected before now refusal → ⊥
+IsUnread-loaded tells expected l before now refusal is faultless (inl rose) = Rose-IsFaultless before now faultless rose
+IsUnread-loaded tells expected l before now refusal is faultless (inr lacks) = let wrong = lacks.1 in cc
+
+-- where all files are loaded and no fault is counted, nothing is refused but for want of memory
+pub MayRefuse-loaded : {A : Type 0} (tells : Bool) (expected : Result A Status) (l : A) (before now out_before out_now : ℕ) (answer : Status)
+    → tells ≡ true → expected ≡ Ok l → IsFaultless before now → IsFaultless out_before out_now
+    → (answer ≡ WriteFault → Rose out_before out_now) → (answer ≢ Done → answer ≢ WriteFault → MayRefuse tells expected before now answer)
+    → (answer ≡ Done) ⊎ (answer ≡ NoMemory)
+MayRefuse-loaded tells expected l before now out_before out_now Done told is shelf out writes refuses = inl refl
+MayRefuse-loaded tells expected l before now out_before out_now NoMemory told is shelf out writes refuses = inr refl
+MayRefuse-loaded tells expected l before now out_before out_now WriteFault told is shelf out writes refuses =
+    absurd (Rose-IsFaultless out_before out_now out (writes refl))
+MayRefuse-loaded tells expected l before now out_before out_now (ReadFault file) told is shelf out writes refuses =
+    absurd (IsUnread-loaded tells expected l before now (ReadFault file) is shelf (refuses (λ e. cc) (λ e. cc)))
+MayRefuse-loaded tells expected l before now out_before out_now (Usage (usage.Files wanted given)) told is shelf out writes refuses =
+    absurd (IsBrought-loaded tells expected l before now (Usage (usage.Files wanted given)) told is (refuses (λ e. cc) (λ e. cc)))
+MayRefuse-loaded tells expected l before now out_before out_now (Usage usage.Words) told is shelf out writes refuses = absurd (refuses (λ e. cc) (λ e. cc))
+MayRefuse-loaded tells expected l before now out_before out_now (BadBook bad) told is shelf out writes refuses =
+    absurd (IsBrought-loaded tells expected l before now (BadBook bad) told is (refuses (λ e. cc) (λ e. cc)))
+MayRefuse-loaded tells expected l before now out_before out_now (BadPayments process bad) told is shelf out writes refuses =
+    absurd (IsBrought-loaded tells expected l before now (BadPayments process bad) told is (refuses (λ e. cc) (λ e. cc)))
+MayRefuse-loaded tells expected l before now out_before out_now (TooLong file) told is shelf out writes refuses =
+    absurd (IsBrought-loaded tells expected l before now (TooLong file) told is (refuses (λ e. cc) (λ e. cc)))
+MayRefuse-loaded tells expected l before now out_before out_now (BadSchedule line why) told is shelf out writes refuses = absurd (refuses (λ e. cc) (λ e. cc))
+MayRefuse-loaded tells expected l before now out_before out_now (BadOrder line why) told is shelf out writes refuses = absurd (refuses (λ e. cc) (λ e. cc))
+MayRefuse-loaded tells expected l before now out_before out_now (BadMessages process line why) told is shelf out writes refuses = absurd (refuses (λ e. cc) (λ e. cc))
+MayRefuse-loaded tells expected l before now out_before out_now (NotLegal line) told is shelf out writes refuses = absurd (refuses (λ e. cc) (λ e. cc))

@@ -145,7 +145,7 @@ pub fn serve<R: Threads + Sync, F: Shelf, O: Sink, E: Sink>(
     ensures untouched { result ≢ Status.Done → result ≢ Status.WriteFault → out.new ≡ out.old }
 
     // Where the files spell a book and its calls and no fault is counted, all is done, but for want of memory.
-    ensures complete { (form : Form) (l : Loaded) → form_of (words_of words.now) ≡ Some form → F.tells shelf.old ≡ true → loaded (F.file shelf.old) form ≡ Ok l → IsFaultless (F.faults shelf.old) (F.faults shelf.new) → IsFaultless (O.faults out.old) (O.faults out.new) → (result ≡ Status.Done) ⊎ (result ≡ Status.NoMemory) }
+    ensures complete { (form : Form) (l : Loaded) → form_of (words_of words.now) ≡ Some form → F.tells shelf.old ≡ true → Spelled (F.file shelf.old) form l → IsFaultless (F.faults shelf.old) (F.faults shelf.new) → IsFaultless (O.faults out.old) (O.faults out.new) → (result ≡ Status.Done) ⊎ (result ≡ Status.NoMemory) }
 
     // What was said of a refusal.
     ensures silent { result ≡ Status.Done → err.new ≡ err.old }

@@ -1,0 +1,60 @@
+-- Files that spell a book and its calls are loaded.
+use Rattle.std.proofs.Common.{◌≡◌, ℕ, ◌+◌, ◌<◌, ◌≤◌, ◌^◌, List, [], ◌∷◌, length, get_or, zero, suc, Bool, true, false, nat_lt, ◌==◌, eq-eqb, Result, Ok, Err, Some, refl, sym, ap, subst, ◌∙◌, arith}
+use Rattle.std.proofs.lemmas.Bool.Decides.{nat_tests}
+use Rattle.at_ledger.specs.Book.{BookTerms, IsBook}
+use Rattle.at_ledger.specs.declared.call.Call.{Call}
+use Rattle.at_files.specs.Names.{AreNamesOf, NameList, plain_names}
+use Rattle.at_files.specs.Rows.{rows_of}
+use Rattle.at_files.specs.BookFile.{book_of_rows, Spells}
+use Rattle.at_files.specs.Payments.{payments_of, Pays}
+use Rattle.at_files.proofs.BookAccepted.{book_of_rows-rows_of_book}
+use Rattle.at_files.proofs.PaymentsAccepted.{payments_of-Pays}
+use Rattle.at_io.specs.declared.reading.TheConstants.{FILE_MAX}
+use Rattle.at_report.specs.declared.status.Status.{Status}
+use Rattle.at_program.specs.Words.{Form, Word}
+use Rattle.at_program.specs.Loading.{Files, Holds, Loaded, Spelled, SpellsBook, SpellsCalls, SpellsFiles, after, book_loaded, book_read, calls_loaded, calls_read, fetched, files_loaded, loaded}
+
+-- a file that is there and not too long is fetched
+fetched-Holds : (files : Files) (name : Word) (bytes : List ℕ) (number : ℕ) → Holds files name bytes → fetched (files name) number ≡ Ok bytes
+fetched-Holds files name bytes number held =
+    let size : nat_lt FILE_MAX (length bytes) ≡ false = let size = held.size in grind (arith, nat_tests) in
+    rw (held.there, size) refl
+
+book_loaded-SpellsBook : (files : Files) (name : Word) (b : BookTerms) (names : NameList) → SpellsBook files name b names → book_loaded files name ≡ Ok b
+book_loaded-SpellsBook files name b names is =
+    let read : book_of_rows (rows_of is.bytes) ≡ Ok b = rw is.spelled.spelled (book_of_rows-rows_of_book b is.spelled.book) in
+    rw (fetched-Holds files name is.bytes 0 is.held, read) refl
+
+calls_loaded-SpellsCalls : (files : Files) (name : Word) (process : ℕ) (b : BookTerms) (names : NameList) (calls : List Call) → AreNamesOf b names → length b.accounts ≤ 2 ^ 64
+    → SpellsCalls files name b names calls → calls_loaded files names process name ≡ Ok calls
+calls_loaded-SpellsCalls files name process b names calls are few is =
+    let read : payments_of names (rows_of is.bytes) ≡ Ok calls = payments_of-Pays b names (rows_of is.bytes) calls are few is.spelled in
+    rw (fetched-Holds files name is.bytes (process + 1) is.held, read) refl
+
+-- the files of processes that spell their calls, one after another
+files_loaded-each : (files : Files) (b : BookTerms) (names : NameList) → AreNamesOf b names → length b.accounts ≤ 2 ^ 64
+    → (process : ℕ) (words : List Word) (calls : List (List Call)) → length words ≡ length calls
+    → ((p : ℕ) → p < length calls → SpellsCalls files (get_or words p []) b names (get_or calls p [])) → files_loaded files names process words ≡ Ok calls
+unfolding files_loaded
+files_loaded-each files b names are few process [] [] same each = refl
+files_loaded-each files b names are few process [] (file ∷ calls) same each = absurd (omega arith)
+files_loaded-each files b names are few process (word ∷ words) [] same each = absurd (omega arith)
+files_loaded-each files b names are few process (word ∷ words) (file ∷ calls) same each =
+    let first : calls_loaded files names process word ≡ Ok file = calls_loaded-SpellsCalls files word process b names file are few (each zero (omega arith)) in
+    let later : files_loaded files names (process + 1) words ≡ Ok calls =
+    files_loaded-each files b names are few (process + 1) words calls (omega arith) (λ p below. each (suc p) (omega arith)) in
+    rw (first, later) refl
+
+-- what the files of a form spell is loaded
+pub loaded-Spelled : (files : Files) (form : Form) (l : Loaded) → Spelled files form l → loaded files form ≡ Ok l
+loaded-Spelled files form l is =
+    let named = is.book.spelled.named in
+    let few : length l.book.accounts ≤ 2 ^ 64 = omega (arith, is.book.spelled.book.begun.few_accounts) in
+    let book : book_loaded files form.book ≡ Ok l.book = book_loaded-SpellsBook files form.book l.book l.names is.book in
+    let enough : length form.payments == l.book.processes ≡ true = eq-eqb _ _ is.payments.enough in
+    let each : files_loaded files l.names 0 form.payments ≡ Ok l.files =
+    files_loaded-each files l.book l.names named few 0 form.payments l.files (is.payments.enough ∙ sym is.payments.count) is.payments.each in
+    let plain : files_loaded files (plain_names l.book) 0 form.payments ≡ Ok l.files =
+    subst (λ (names : NameList). files_loaded files names 0 form.payments ≡ Ok l.files) named.plain each in
+    let whole : NameList → Result Loaded Status = λ names. Ok (record { book = l.book; names = names; files = l.files }) in
+    rw (book, enough, plain) (ap whole (sym named.plain))
