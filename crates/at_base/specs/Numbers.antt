@@ -4,9 +4,13 @@ use Rattle.std.specs.Char.{is_ascii_digit}
 use Rattle.std.specs.List.{list_all}
 use Rattle.std.specs.Str.Parse.{digits_value}
 
+-- one byte, or any number of them whose first is above `0`
+abbrev pub begins_canonical : List ℕ → Bool
+begins_canonical text = (length text == 1) || nat_lt 48 (slice_index text 0)
+
 -- digits alone, either one of them or any number whose first isn't 0
 abbrev pub is_canonical : List ℕ → Bool
-is_canonical text = list_all is_ascii_digit text && ((length text == 1) || nat_lt 48 (slice_index text 0))
+is_canonical text = list_all is_ascii_digit text && begins_canonical text
 
 -- the number below 2 ^ 64 that the text is
 unfoldable pub number_of : List ℕ → Option ℕ

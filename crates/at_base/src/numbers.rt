@@ -1,32 +1,23 @@
 //! Numbers as text: canonical decimals.
 
 ghost use Rattle.std.specs.Prelude.{◌≡◌, ℕ, ◌^◌, ◌<◌, ◌↔◌, ◌++◌, Some, OnOk, OnErr, decimal};
-ghost use Rattle.std.specs.Char.{is_ascii_digit};
-ghost use Rattle.std.specs.List.{list_all};
-ghost use Rattle.at_base.specs.Numbers.{is_canonical, number_of};
+ghost use Rattle.at_base.specs.Numbers.{begins_canonical, number_of};
 
 use crate::NoMemory;
 use std::str;
 
-/// Whether each byte is a digit.
-fn are_digits(text: &[u8]) -> bool
-    ensures { result ≡ list_all is_ascii_digit text.now }
+/// Whether no sign and no leading zero stands first: such texts are canonical where they are digits alone.
+fn begins_canonically(text: &[u8]) -> bool
+    ensures { result ≡ begins_canonical text.now }
 {
-    text.iter().all(|digit| digit.is_ascii_digit())
-}
-
-/// Whether the text is `0`, or a digit from 1 to 9 followed by any digits.
-fn has_canonical_form(text: &[u8]) -> bool
-    ensures { result ≡ is_canonical text.now }
-{
-    are_digits(text) && (text.len() == 1 || (!text.is_empty() && text[0] > b'0'))
+    text.len() == 1 || (!text.is_empty() && text[0] > b'0')
 }
 
 /// The number that the text is, if it is one.
 fn number_in(text: &[u8]) -> Option<u64>
     ensures { result ≡ number_of text.now }
 {
-    if !has_canonical_form(text) {
+    if !begins_canonically(text) {
         return None;
     }
     let Ok(digits) = str::from_utf8(text) else {
