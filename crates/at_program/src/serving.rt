@@ -130,9 +130,12 @@ pub fn serve<R: Threads + Sync, F: Shelf, O: Sink, E: Sink>(
     // The words have a form exactly where they are not refused, and every other answer is about that form.
     ensures words { (result ≡ Status.Usage UsageFault.Words) ↔ (form_of (words_of words.now) ≡ None) }
 
+    ensures unread { result ≡ Status.Usage UsageFault.Words → shelf.new ≡ shelf.old }
+
     // The theorem: all bytes that were taken are the text of the command for what the files' bytes spell.
     ensures done { (form : Form) → form_of (words_of words.now) ≡ Some form → result ≡ Status.Done → F.tells shelf.old ≡ true → O.tells out.old ≡ true → TookAll (F.file shelf.old) form (O.taken out.old) (O.taken out.new) }
     ensures done_kept { result ≡ Status.Done → (F.faults shelf.new ≡ F.faults shelf.old) × (O.faults out.new ≡ O.faults out.old) }
+    ensures loads { (form : Form) → form_of (words_of words.now) ≡ Some form → F.tells shelf.old ≡ true → (result ≡ Status.Done) ⊎ (result ≡ Status.WriteFault) → (l : Loaded) × (loaded (F.file shelf.old) form ≡ Ok l) }
 
     // What could not be written whole was written as a front.
     ensures write_fault { result ≡ Status.WriteFault → Rose (O.faults out.old) (O.faults out.new) × (F.faults shelf.new ≡ F.faults shelf.old) }

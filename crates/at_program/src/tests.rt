@@ -217,7 +217,7 @@ fn words(rt: HostRuntime) -> Result<(), Fail> {
             4,
             "payments 1: line 1: shape\n",
         ),
-        ("run book 0 1 0", "", "", 2, "files: wanted 2, given 3\n"),
+        ("run book 7 8 9", "", "", 2, "files: wanted 2, given 3\n"),
         ("run book", "", "", 2, "files: wanted 2, given 0\n"),
         ("run book 0 0", "read,0\n", "", 0, twice),
         (
@@ -283,6 +283,17 @@ fn hostile_bytes(rt: HostRuntime) -> Result<(), Fail> {
     assert_eq!(rt; written.taken(), b"payments 0: line 1: number\n".as_slice());
 
     let files = files_of(alloc, ONE.as_bytes(), USUAL.as_bytes(), b"")?;
+    let (status, written) = answer_over(&rt, alloc, "check book 0", files)?;
+    assert_eq!(rt; status, 0);
+    assert_eq!(rt; written.taken(), b"checked 1 2 3\n".as_slice());
+
+    let mut files = files_of(alloc, ONE.as_bytes(), b"", b"")?;
+    files.truncate(1);
+    let (status, written) = answer_over(&rt, alloc, "run book 0", files)?;
+    assert_eq!(rt; status, 5);
+    assert_eq!(rt; written.taken(), b"read fault: file 1\n".as_slice());
+
+    let files = files_of(alloc, ONE.as_bytes(), USUAL.as_bytes(), b"")?;
     let mut shelf = MemoryShelf::with_grain(files, Vec::new(alloc), 1);
     let mut out = MemorySink::with_grain(alloc, 400, 1)?;
     let (status, _) = answer(&rt, alloc, "run book 0", &mut shelf, &mut out)?;
@@ -317,8 +328,8 @@ fn failing_devices(rt: HostRuntime) -> Result<(), Fail> {
             _ => return Err(Fail::from("another refusal")),
         };
         assert!(rt; out.taken().is_empty());
-        assert!(rt; last <= file && file <= 1);
-        assert!(rt; call > 0 || file == 0);
+        // Three calls read the book, and then three the payments.
+        assert_eq!(rt; file, u32::from(call >= 3));
         last = file;
     }
     Err(Fail::from("each run met a fault"))
