@@ -1,6 +1,6 @@
 //! The names of a book's processes and accounts.
 
-ghost use Rattle.std.specs.Prelude.{◌≡◌, ◌<◌, Contains, IfNone, IfOk, IfSome, Some, decimal, length, map, slice_get};
+ghost use Rattle.std.specs.Prelude.{◌≡◌, ◌⊎◌, ◌<◌, Contains, IfNone, IfOk, IfSome, Some, decimal, length, map, slice_get};
 ghost use Rattle.at_files.specs.Names.{AreNamesOf, account_name, decimals_below, plain_names, process_name};
 
 use crate::NoMemory;
@@ -58,7 +58,8 @@ impl Names {
 
     /// The version of the book that gives the names.
     pub fn version(&self) -> u32
-        ensures { result ≡ self.now.version }
+        ensures version { result ≡ self.now.version }
+        ensures known { (result ≡ 1) ⊎ (result ≡ 2) }
     {
         self.version
     }

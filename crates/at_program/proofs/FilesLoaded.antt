@@ -1,5 +1,5 @@
 -- Files loaded one after another.
-use Rattle.std.proofs.Common.{◌≡◌, ℕ, ◌+◌, ◌<◌, List, [], ◌∷◌, ◌++◌, length, take, drop, get_or, Result, Ok, Err, Bool, true, refl, sym, ap, ◌∙◌, arith, add-zero, suc, ◌⊎◌, inl, inr, length-append, String, string_bytes, Vec}
+use Rattle.std.proofs.Common.{◌≡◌, ℕ, ◌+◌, ◌<◌, List, [], ◌∷◌, ◌++◌, length, take, drop, get_or, Result, Ok, Err, Bool, true, ◌==◌, eq-eqb, refl, sym, ap, ◌∙◌, arith, add-zero, suc, ◌⊎◌, inl, inr, length-append, String, string_bytes, Vec}
 use Rattle.std.specs.Global.{Global}
 use Rattle.std.proofs.lemmas.List.{take_more, take-append-drop, length-take-le, get_or-map, map-append}
 use Rattle.std.proofs.Math.Seq.{drop-cons, get_or-append_seam}
@@ -10,7 +10,7 @@ use Rattle.at_ledger.specs.declared.call.Call.{Call}
 use Rattle.at_files.specs.Names.{NameList, plain_names}
 use Rattle.at_report.specs.declared.status.Status.{Status}
 use Rattle.at_program.specs.Words.{Form, Word, words_of}
-use Rattle.at_program.specs.Loading.{EachSpells, Files, IsFileReached, MayReach, SpellsCalls, after, book_loaded, calls_before, calls_loaded, calls_of, files_loaded}
+use Rattle.at_program.specs.Loading.{EachSpells, Files, IsFileReached, MayReach, SpellsCalls, after, book_loaded, calls_before, calls_loaded, calls_of, files_loaded, loaded}
 
 -- what files that were loaded come of: the first, and the others
 record AreParts (r : Result (List Call) Status) (rest : Result (List (List Call)) Status) (loaded : List (List Call)) : Type 0 where
@@ -123,3 +123,10 @@ MayReach-file tells files form b file read enough reached =
       named = omega (arith, reached.1.0, reached.1.1);
       reached = λ told. rw file_is (record { book = b; read = read told; enough = enough; before = reached.1.2 told });
     }
+
+-- a payment file that is refused after the book was read
+pub loaded-refused : (files : Files) (form : Form) (b : BookTerms) (refusal : Status) → book_loaded files form.book ≡ Ok b → length form.payments ≡ b.processes
+    → files_loaded files (plain_names b) 0 form.payments ≡ Err refusal → loaded files form ≡ Err refusal
+loaded-refused files form b refusal read enough refused =
+    let as_many : length form.payments == b.processes ≡ true = eq-eqb _ _ enough in
+    rw (read, as_many, refused) refl

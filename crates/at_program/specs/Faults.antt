@@ -1,5 +1,5 @@
 -- When each refusal may come.
-use Rattle.std.specs.Prelude.{◌≡◌, ℕ, ◌-◌, ◌^◌, ◌≢◌, ◌⊎◌, ⊤, Bool, true, Result, Ok, Err}
+use Rattle.std.specs.Prelude.{◌≡◌, ℕ, ◌<◌, ◌≤◌, ◌-◌, ◌^◌, ◌≢◌, ◌⊎◌, ⊤, Bool, true, Result, Ok, Err}
 use Rattle.at_io.specs.Faults.{Rose}
 use Rattle.at_report.specs.declared.status.Status.{Status}
 use Rattle.at_report.specs.declared.status.Status.TheVariants.{Done, Usage, BadBook, BadPayments, ReadFault, WriteFault, NoMemory, TooLong, BadSchedule, BadOrder, BadMessages, NotLegal}
@@ -22,6 +22,14 @@ MayRefuse tells expected before now (BadBook bad) = IsBrought tells expected bef
 MayRefuse tells expected before now (BadPayments process bad) = IsBrought tells expected before now (BadPayments process bad)
 MayRefuse tells expected before now (TooLong file) = IsBrought tells expected before now (TooLong file)
 MayRefuse tells expected before now _ = ⊥
+
+-- the numbers that a refusal carries are those of a form with this many payment files
+abbrev pub IsNumbered : ℕ → Status → Type 0
+IsNumbered files (Usage (usage.Files wanted given)) = (given ≡ files) × (wanted ≢ given)
+IsNumbered files (BadPayments process bad) = process < files
+IsNumbered files (ReadFault file) = file ≤ files
+IsNumbered files (TooLong file) = file ≤ files
+IsNumbered files _ = ⊤
 
 -- no fault is counted: the count stands as it was, and not at its last value
 pub record IsFaultless (before now : ℕ) : Type 0 where

@@ -5,7 +5,7 @@ ghost use Rattle.at_io.specs.Shelf.{SameFiles};
 ghost use Rattle.at_files.specs.Names.{AreNamesOf};
 ghost use Rattle.at_io.specs.declared.reading.TheConstants.{FILE_MAX};
 ghost use Rattle.at_program.specs.Words.{words_of, form_shown};
-ghost use Rattle.at_program.specs.Faults.{MayRefuse};
+ghost use Rattle.at_program.specs.Faults.{IsNumbered, MayRefuse};
 ghost use Rattle.at_program.specs.Loading.{EachSpells, Holds, IsFileOn, IsFileReached, MayReach, Spelled, SpellsBook, SpellsCalls, book_loaded, calls_loaded, calls_of, fetched, files_loaded, loaded, loaded_shown};
 
 use crate::words::CommandLine;
@@ -37,6 +37,7 @@ fn fetch_file<F: Shelf>(
     ensures held { F.tells shelf.old ≡ true → IfOk result (λ bytes. Holds (F.file shelf.old) name.now bytes.items) }
     ensures err { IfErr result (λ refusal. MayRefuse (F.tells shelf.old) (fetched (F.file shelf.old name.now) number) (F.faults shelf.old) (F.faults shelf.new) refusal) }
     ensures file { (file : ℕ) → result ≡ Err (Status.ReadFault file) → file ≡ number }
+    ensures numbered { (files : ℕ) → number ≤ files → IfErr result (IsNumbered files) }
 {
     let mut bytes = Vec::new(alloc);
     match fetch(alloc, shelf, name, &mut bytes) {
@@ -57,6 +58,7 @@ fn load_book<F: Shelf>(alloc: Global, shelf: &mut F, name: &str) -> Result<(Book
     ensures names { IfOk result (λ l. AreNamesOf l.0 l.1) }
     ensures err { IfErr result (λ refusal. MayRefuse (F.tells shelf.old) (book_loaded (F.file shelf.old) name.now) (F.faults shelf.old) (F.faults shelf.new) refusal) }
     ensures file { (file : ℕ) → result ≡ Err (Status.ReadFault file) → file ≡ 0 }
+    ensures numbered { (files : ℕ) → IfErr result (IsNumbered files) }
 {
     let bytes = match fetch_file(alloc, shelf, name, 0) {
         Ok(bytes) => bytes,
@@ -88,6 +90,7 @@ fn load_calls<F: Shelf>(
     ensures known { IfOk result (λ calls. IsFileOn (length book.now.accounts) calls.items) }
     ensures err { IfErr result (λ refusal. MayRefuse (F.tells shelf.old) (calls_loaded (F.file shelf.old) names.now process name.now) (F.faults shelf.old) (F.faults shelf.new) refusal) }
     ensures file { (file : ℕ) → result ≡ Err (Status.ReadFault file) → file ≡ process + 1 }
+    ensures numbered { (files : ℕ) → process < files → IfErr result (IsNumbered files) }
 {
     let bytes = match fetch_file(alloc, shelf, name, process + 1) {
         Ok(bytes) => bytes,
@@ -119,6 +122,7 @@ fn load_files<F: Shelf>(
     ensures known { IfOk result (λ files. All (IsFileOn (length book.now.accounts)) (calls_of files.items)) }
     ensures err { IfErr result (λ refusal. MayRefuse (F.tells shelf.old) (files_loaded (F.file shelf.old) names.now 0 (words_of payments.now)) (F.faults shelf.old) (F.faults shelf.new) refusal) }
     ensures file { (file : ℕ) → result ≡ Err (Status.ReadFault file) → IsFileReached (F.tells shelf.old) (F.file shelf.old) names.now (words_of payments.now) file }
+    ensures numbered { IfErr result (IsNumbered (length payments.now)) }
 {
     let mut files = Vec::new(alloc);
     for (process, name) in payments.iter().enumerate() {
@@ -150,6 +154,7 @@ pub fn load<F: Shelf>(
     ensures count { IfOk result (λ l. length l.files.items ≡ l.book.processes) }
     ensures err { IfErr result (λ refusal. MayRefuse (F.tells shelf.old) (loaded (F.file shelf.old) (form_shown form.now)) (F.faults shelf.old) (F.faults shelf.new) refusal) }
     ensures reached { (file : ℕ) → result ≡ Err (Status.ReadFault file) → MayReach (F.tells shelf.old) (F.file shelf.old) (form_shown form.now) file }
+    ensures numbered { IfErr result (IsNumbered (length form.now.payments.now)) }
 {
     let (book, names) = match load_book(alloc, shelf, form.book) {
         Ok(read) => read,

@@ -1,7 +1,7 @@
 //! The asset transfer object at the command line: what the words ask, from the bytes of the files to the bytes of
 //! the report.
 //!
-//! `serve` does it all, over any shelf and sinks. Over those that tell what they hold, what is printed is one legal
+//! `serve` does it all, over any shelf and sinks. Over those that tell what they hold, what `run` prints is one legal
 //! run of the calls that the files' bytes spell, and each refusal names the first cause.
 #![tactic(auto)]
 

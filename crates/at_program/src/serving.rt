@@ -6,7 +6,7 @@ ghost use Rattle.at_io.specs.Faults.{Rose};
 ghost use Rattle.at_io.specs.Shelf.{SameFiles};
 ghost use Rattle.at_program.specs.Words.{Form, form_of, form_shown, words_of};
 ghost use Rattle.at_program.specs.Loading.{IsFileOn, Loaded, MayReach, Spelled, calls_of, loaded, loaded_shown};
-ghost use Rattle.at_program.specs.Faults.{Answers, IsFaultless, MayRefuse};
+ghost use Rattle.at_program.specs.Faults.{Answers, IsFaultless, IsNumbered, MayRefuse};
 ghost use Rattle.at_program.specs.Answer.{Prints, PrintsSpelled, TookAll, TookFront, TookLine};
 
 use crate::loading::{self, load};
@@ -67,6 +67,7 @@ fn make_text<F: Shelf>(
     ensures printed { F.tells shelf.old ≡ true → IfOk result (λ text. PrintsSpelled (F.file shelf.old) (form_shown form.now) text.items) }
     ensures err { IfErr result (λ refusal. MayRefuse (F.tells shelf.old) (loaded (F.file shelf.old) (form_shown form.now)) (F.faults shelf.old) (F.faults shelf.new) refusal) }
     ensures reached { (file : ℕ) → result ≡ Err (Status.ReadFault file) → MayReach (F.tells shelf.old) (F.file shelf.old) (form_shown form.now) file }
+    ensures numbered { IfErr result (IsNumbered (length form.now.payments.now)) }
 {
     let loaded = match load(alloc, shelf, form) {
         Ok(loaded) => loaded,
@@ -81,7 +82,9 @@ fn make_text<F: Shelf>(
 /// Writes the line of a refusal. A fault of the sink changes nothing: there is nobody left to tell.
 fn tell<E: Sink>(err: &mut E, status: &Status)
     requires { status.now ≢ Status.Done }
-    ensures { E.tells err.old ≡ true → TookLine status.now (E.faults err.old) (E.faults err.new) (E.taken err.old) (E.taken err.new) }
+    ensures later { E.faults err.old ≤ E.faults err.new }
+    ensures as_told { E.tells err.new ≡ E.tells err.old }
+    ensures told { E.tells err.old ≡ true → TookLine status.now (E.faults err.old) (E.faults err.new) (E.taken err.old) (E.taken err.new) }
 {
     let _ = put_all(err, fault_text(status).as_slice());
 }
@@ -94,6 +97,8 @@ fn answer<F: Shelf, O: Sink>(
     form: &CommandLine<'_>,
 ) -> Status
     ensures files { SameFiles (F.tells shelf.old) (F.tells shelf.new) (F.file shelf.old) (F.file shelf.new) }
+    ensures later { (F.faults shelf.old ≤ F.faults shelf.new) × (O.faults out.old ≤ O.faults out.new) }
+    ensures as_told { O.tells out.new ≡ O.tells out.old }
     ensures form { result ≢ Status.Usage UsageFault.Words }
     ensures done { result ≡ Status.Done → F.tells shelf.old ≡ true → O.tells out.old ≡ true → TookAll (F.file shelf.old) (form_shown form.now) (O.taken out.old) (O.taken out.new) }
     ensures done_kept { result ≡ Status.Done → (F.faults shelf.new ≡ F.faults shelf.old) × (O.faults out.new ≡ O.faults out.old) }
@@ -101,6 +106,7 @@ fn answer<F: Shelf, O: Sink>(
     ensures front { result ≡ Status.WriteFault → F.tells shelf.old ≡ true → O.tells out.old ≡ true → TookFront (F.file shelf.old) (form_shown form.now) (O.taken out.old) (O.taken out.new) }
     ensures refusal { result ≢ Status.Done → result ≢ Status.WriteFault → MayRefuse (F.tells shelf.old) (loaded (F.file shelf.old) (form_shown form.now)) (F.faults shelf.old) (F.faults shelf.new) result }
     ensures reached { (file : ℕ) → result ≡ Status.ReadFault file → MayReach (F.tells shelf.old) (F.file shelf.old) (form_shown form.now) file }
+    ensures numbered { IsNumbered (length form.now.payments.now) result }
     ensures loads { F.tells shelf.old ≡ true → (result ≡ Status.Done) ⊎ (result ≡ Status.WriteFault) → (l : Loaded) × (loaded (F.file shelf.old) (form_shown form.now) ≡ Ok l) }
     ensures untouched { result ≢ Status.Done → result ≢ Status.WriteFault → out.new ≡ out.old }
 {
@@ -126,6 +132,8 @@ pub fn serve<R: Threads + Sync, F: Shelf, O: Sink, E: Sink>(
     err: &mut E,
 ) -> Status
     ensures files { SameFiles (F.tells shelf.old) (F.tells shelf.new) (F.file shelf.old) (F.file shelf.new) }
+    ensures later { (F.faults shelf.old ≤ F.faults shelf.new) × (O.faults out.old ≤ O.faults out.new) × (E.faults err.old ≤ E.faults err.new) }
+    ensures as_told { (O.tells out.new ≡ O.tells out.old) × (E.tells err.new ≡ E.tells err.old) }
 
     // The words have a form exactly where they are not refused, and every other answer is about that form.
     ensures words { (result ≡ Status.Usage UsageFault.Words) ↔ (form_of (words_of words.now) ≡ None) }
@@ -144,6 +152,7 @@ pub fn serve<R: Threads + Sync, F: Shelf, O: Sink, E: Sink>(
     // When each refusal comes: only so, and where no fault is counted exactly so, but for want of memory.
     ensures refusal { (form : Form) → form_of (words_of words.now) ≡ Some form → result ≢ Status.Done → result ≢ Status.WriteFault → MayRefuse (F.tells shelf.old) (loaded (F.file shelf.old) form) (F.faults shelf.old) (F.faults shelf.new) result }
     ensures reached { (form : Form) (file : ℕ) → form_of (words_of words.now) ≡ Some form → result ≡ Status.ReadFault file → MayReach (F.tells shelf.old) (F.file shelf.old) form file }
+    ensures numbered { (form : Form) → form_of (words_of words.now) ≡ Some form → IsNumbered (length form.payments) result }
     ensures exact { (form : Form) → form_of (words_of words.now) ≡ Some form → F.tells shelf.old ≡ true → IsFaultless (F.faults shelf.old) (F.faults shelf.new) → (result ≡ Status.NoMemory) ⊎ Answers (loaded (F.file shelf.old) form) result }
     ensures untouched { result ≢ Status.Done → result ≢ Status.WriteFault → out.new ≡ out.old }
 
