@@ -1,5 +1,5 @@
 -- Files loaded one after another.
-use Rattle.std.proofs.Common.{◌≡◌, ℕ, ◌+◌, ◌<◌, List, [], ◌∷◌, ◌++◌, length, take, drop, get_or, Result, Ok, Err, Bool, true, ◌==◌, eq-eqb, refl, sym, ap, ◌∙◌, arith, add-zero, suc, ◌⊎◌, inl, inr, length-append, String, string_bytes, Vec}
+use Rattle.std.proofs.Common.{◌≡◌, ℕ, ◌+◌, ◌<◌, List, [], ◌∷◌, ◌++◌, length, take, drop, get_or, Result, Ok, Err, Bool, true, ◌==◌, eq-eqb, refl, sym, ap, ◌∙◌, arith, suc, ◌⊎◌, inl, inr, length-append, String, string_bytes, Vec}
 use Rattle.std.specs.Global.{Global}
 use Rattle.std.proofs.lemmas.List.{take_more, take-append-drop, length-take-le, get_or-map, map-append}
 use Rattle.std.proofs.Math.Seq.{drop-cons, get_or-append_seam}

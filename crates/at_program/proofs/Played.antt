@@ -1,5 +1,5 @@
 -- The lines of files that are played one after another: one legal run, in which each process has its own calls.
-use Rattle.std.proofs.Common.{◌≡◌, ◌≢◌, ℕ, ◌+◌, ◌<◌, ◌≤◌, ◌==◌, List, [], ◌∷◌, ◌++◌, map, filter, length, get_or, drop, suc, All, Bool, true, false, refl, sym, ap, ◌∙◌, arith, add-one, zero-add, zero, eq-eqb, append_assoc, Vec}
+use Rattle.std.proofs.Common.{◌≡◌, ◌≢◌, ℕ, ◌+◌, ◌<◌, ◌≤◌, ◌==◌, List, [], ◌∷◌, ◌++◌, map, length, get_or, drop, suc, All, true, false, refl, sym, ap, ◌∙◌, arith, add-one, zero-add, zero, eq-eqb, append_assoc, Vec}
 use Rattle.std.specs.Global.{Global}
 use Rattle.std.specs.List.{range_with_len}
 use Rattle.std.proofs.lemmas.List.{append-nil, get_or-map, map-append}

@@ -1,18 +1,18 @@
 -- Files that spell a book and its calls are loaded.
-use Rattle.std.proofs.Common.{◌≡◌, ℕ, ◌+◌, ◌<◌, ◌≤◌, ◌^◌, List, [], ◌∷◌, length, get_or, zero, suc, Bool, true, false, nat_lt, ◌==◌, eq-eqb, Result, Ok, Err, Some, refl, sym, ap, subst, ◌∙◌, arith}
+use Rattle.std.proofs.Common.{◌≡◌, ℕ, ◌+◌, ◌<◌, ◌≤◌, ◌^◌, List, [], ◌∷◌, length, get_or, zero, suc, true, false, nat_lt, ◌==◌, eq-eqb, Result, Ok, refl, sym, ap, subst, ◌∙◌, arith}
 use Rattle.std.proofs.lemmas.Bool.Decides.{nat_tests}
-use Rattle.at_ledger.specs.Book.{BookTerms, IsBook}
+use Rattle.at_ledger.specs.Book.{BookTerms}
 use Rattle.at_ledger.specs.declared.call.Call.{Call}
 use Rattle.at_files.specs.Names.{AreNamesOf, NameList, plain_names}
 use Rattle.at_files.specs.Rows.{rows_of}
-use Rattle.at_files.specs.BookFile.{book_of_rows, Spells}
-use Rattle.at_files.specs.Payments.{payments_of, Pays}
+use Rattle.at_files.specs.BookFile.{book_of_rows}
+use Rattle.at_files.specs.Payments.{payments_of}
 use Rattle.at_files.proofs.BookAccepted.{book_of_rows-rows_of_book}
 use Rattle.at_files.proofs.PaymentsAccepted.{payments_of-Pays}
 use Rattle.at_io.specs.declared.reading.TheConstants.{FILE_MAX}
 use Rattle.at_report.specs.declared.status.Status.{Status}
 use Rattle.at_program.specs.Words.{Form, Word}
-use Rattle.at_program.specs.Loading.{Files, Holds, Loaded, Spelled, SpellsBook, SpellsCalls, SpellsFiles, after, book_loaded, book_read, calls_loaded, calls_read, fetched, files_loaded, loaded}
+use Rattle.at_program.specs.Loading.{Files, Holds, Loaded, Spelled, SpellsBook, SpellsCalls, book_loaded, calls_loaded, fetched, files_loaded, loaded}
 
 -- a file that is there and not too long is fetched
 fetched-Holds : (files : Files) (name : Word) (bytes : List ℕ) (number : ℕ) → Holds files name bytes → fetched (files name) number ≡ Ok bytes

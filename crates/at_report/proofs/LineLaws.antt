@@ -1,6 +1,6 @@
 -- Lines and their words.
-use Rattle.std.proofs.Common.{◌≡◌, ℕ, ◌+◌, List, [], ◌∷◌, ◌++◌, map, length, take, get_or, ◌<◌, refl, ap, ◌∙◌, sym, append_assoc, append-nil, arith}
-use Rattle.std.specs.List.{join_with_byte, flat_map, range_with_len}
+use Rattle.std.proofs.Common.{◌≡◌, ℕ, ◌+◌, List, [], ◌∷◌, ◌++◌, map, length, take, get_or, ◌<◌, ap, ◌∙◌, sym, append_assoc, append-nil, arith}
+use Rattle.std.specs.List.{join_with_byte, range_with_len}
 use Rattle.std.proofs.lemmas.Grind.{flat_map-append}
 use Rattle.std.proofs.lemmas.List.{take_more, map-append}
 use Rattle.std.proofs.lemmas.List.FromFn.{map-range_with_len_more}

@@ -1,11 +1,10 @@
-use Rattle.std.proofs.Common.{◌≡◌, ◌∙◌, ◌<◌, ◌++◌, [], ◌∷◌, List, take, get_or, length, Ok, Err, true, refl, sym, ap, arith, ℕ, Vec, length-append}
+use Rattle.std.proofs.Common.{◌≡◌, ◌∙◌, ◌<◌, ◌++◌, [], ◌∷◌, List, get_or, length, refl, sym, ap, arith, Vec, length-append}
 use Rattle.std.specs.Global.{Global}
 use Rattle.std.proofs.lemmas.List.{length-map}
 use Rattle.std.proofs.lemmas.List.Elements.{All-push}
 use Rattle.at_ledger.specs.declared.call.Call.{Call}
-use Rattle.at_program.specs.Words.{Word, words_of}
-use Rattle.at_program.specs.Faults.{MayRefuse}
-use Rattle.at_program.specs.Loading.{EachSpells, IsFileOn, SpellsCalls, calls_of, calls_loaded, files_loaded}
+use Rattle.at_program.specs.Words.{words_of}
+use Rattle.at_program.specs.Loading.{IsFileOn, calls_of}
 use Rattle.at_program.proofs.FilesLoaded.{EachSpells-push, calls_of-push, files_loaded-nil, files_loaded-refused_at, files_loaded-take_more, get_or-words_of}
 use Rattle.at_program.proofs.MayRefuseLaws.{MayRefuse-whole}
 use Rattle.at_program.proofs.loading.load_files.Goals as goal

@@ -1,4 +1,4 @@
-use Rattle.std.proofs.Common.{◌≡◌, ◌<◌, true, Ok, take, length, All}
+use Rattle.std.proofs.Common.{◌≡◌, true, Ok, take, length, All}
 use Rattle.at_io.specs.Shelf.{SameFiles}
 use Rattle.at_program.specs.Words.{words_of}
 use Rattle.at_program.specs.Loading.{EachSpells, IsFileOn, calls_of, files_loaded}

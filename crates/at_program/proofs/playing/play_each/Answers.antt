@@ -1,8 +1,7 @@
-use Rattle.std.proofs.Common.{◌≡◌, ◌∙◌, ◌+◌, ◌<◌, ◌++◌, drop, get_or, length, arith, refl, sym, ap, List, [], ℕ}
+use Rattle.std.proofs.Common.{◌≡◌, ◌∙◌, ◌<◌, ◌++◌, drop, get_or, length, arith, sym, ap, List, [], ℕ}
 use Rattle.std.proofs.lemmas.List.{append-nil, length-map}
 use Rattle.at_ledger.specs.declared.call.Line.{Line}
-use Rattle.at_ledger.specs.State.{LedgerState}
-use Rattle.at_program.specs.Loading.{IsFileOn, calls_of}
+use Rattle.at_program.specs.Loading.{calls_of}
 use Rattle.at_program.specs.Playing.{files_played, state_after_files}
 use Rattle.at_program.proofs.Played.{files_played-end, files_played-push, get_or-calls_of, state_after_files-drop, state_after_files-end}
 use Rattle.at_program.proofs.playing.play_each.Goals as goal

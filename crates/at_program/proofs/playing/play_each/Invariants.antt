@@ -1,4 +1,4 @@
-use Rattle.std.proofs.Common.{◌≡◌, ◌+◌, ◌++◌, drop}
+use Rattle.std.proofs.Common.{◌≡◌, ◌++◌, drop}
 use Rattle.at_program.specs.Loading.{calls_of}
 use Rattle.at_program.specs.Playing.{files_played, state_after_files}
 use Rattle.at_program.proofs.playing.play_each.Given as goal

@@ -1,4 +1,4 @@
-use Rattle.std.proofs.Common.{◌≡◌, ◌∙◌, ◌+◌, ◌<◌, ◌≤◌, ◌++◌, drop, length, arith, refl, sym, ap, List, [], ℕ}
+use Rattle.std.proofs.Common.{◌≡◌, ◌∙◌, ◌+◌, ◌<◌, ◌++◌, drop, length, arith, refl, sym, ap, List, [], ℕ}
 use Rattle.std.proofs.lemmas.List.{append-nil}
 use Rattle.at_ledger.specs.declared.call.Line.{Line}
 use Rattle.at_program.specs.Playing.{line_played, played, state_after}

@@ -1,4 +1,4 @@
-use Rattle.std.proofs.Common.{◌≡◌, ap, Err}
+use Rattle.std.proofs.Common.{ap, Err}
 use Rattle.at_program.proofs.serving.answer.Goals as goal
 
 pub returns-in-Err-clause-reached : goal.returns-in-Err-clause-reached

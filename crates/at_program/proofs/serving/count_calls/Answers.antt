@@ -1,4 +1,4 @@
-use Rattle.std.proofs.Common.{◌≡◌, ◌+◌, ◌*◌, ◌<◌, ◌≤◌, Fits, w32, length, get_or, sym, ap, ◌∙◌, arith}
+use Rattle.std.proofs.Common.{◌≡◌, ◌<◌, ◌≤◌, length, get_or, arith}
 use Rattle.at_program.proofs.CallCounts.{few_calls, sum_by-calls_of_more}
 use Rattle.at_program.proofs.serving.count_calls.Goals as goal
 

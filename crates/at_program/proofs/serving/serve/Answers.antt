@@ -1,6 +1,5 @@
-use Rattle.std.proofs.Common.{◌≡◌, ◌∙◌, sym, ap, Some}
-use Rattle.at_report.specs.declared.status.Status.TheVariants.{ReadFault}
-use Rattle.at_program.specs.Words.{Form, form_shown}
+use Rattle.std.proofs.Common.{◌≡◌, ◌∙◌, sym}
+use Rattle.at_program.specs.Words.{form_shown}
 use Rattle.at_program.specs.Loading.{loaded}
 use Rattle.at_program.proofs.MayRefuseLaws.{MayRefuse-loaded}
 use Rattle.at_program.proofs.SpelledLoaded.{loaded-Spelled}

@@ -1,5 +1,5 @@
-use Rattle.std.proofs.Common.{◌≡◌, ◌∙◌, ◌++◌, [], ◌∷◌, decimal}
-use Rattle.at_report.specs.Lines.{spaced, call_words, reply_word}
+use Rattle.std.proofs.Common.{◌≡◌, ◌++◌, decimal}
+use Rattle.at_report.specs.Lines.{call_words, reply_word}
 use Rattle.at_report.proofs.LineLaws.{line_text-parts}
 use Rattle.at_report.proofs.lines.push_line.Goals as goal
 

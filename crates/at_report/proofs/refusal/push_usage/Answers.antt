@@ -1,4 +1,4 @@
-use Rattle.std.proofs.Common.{◌≡◌, decimal, codes}
+use Rattle.std.proofs.Common.{codes}
 use Rattle.at_report.proofs.LineLaws.{append-four}
 use Rattle.at_report.proofs.refusal.push_usage.Goals as goal
 

@@ -1,4 +1,4 @@
-use Rattle.std.proofs.Common.{◌≡◌, ◌∙◌, sym, ap, length}
+use Rattle.std.proofs.Common.{◌∙◌, sym, ap, length}
 use Rattle.at_ledger.specs.State.{LedgerState}
 use Rattle.at_report.proofs.run_report.report.Goals as goal
 
