@@ -1,1 +1,3 @@
 pub mod TargetsWord
+pub mod Publications
+pub mod Fronts

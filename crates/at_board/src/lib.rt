@@ -3,8 +3,10 @@
 //! A targets word packs the accounts that a record or a request names, and gives them back.
 #![tactic(auto)]
 
+mod publication;
 mod targets_word;
 
+pub use crate::publication::{Entry, Publication};
 pub use crate::targets_word::{pack_targets, unpack_targets};
 
 /// The words of a request: its targets word, four amounts, and the place of the snapshot before it.
