@@ -1,2 +1,4 @@
 pub mod CountLaws
 pub mod FrontLaws
+pub mod BlockLaws
+pub mod PlaceLaws

@@ -1,3 +1,4 @@
 pub mod TargetsWord
 pub mod Publications
 pub mod Fronts
+pub mod Places

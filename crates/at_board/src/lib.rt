@@ -4,13 +4,9 @@
 #![tactic(auto)]
 
 mod publication;
+mod request;
 mod targets_word;
 
-pub use crate::publication::{Entry, Publication};
+pub use crate::publication::{Entry, Publication, RECORD_WORDS};
+pub use crate::request::{REQUEST_WORDS, Request};
 pub use crate::targets_word::{pack_targets, unpack_targets};
-
-/// The words of a request: its targets word, four amounts, and the place of the snapshot before it.
-pub const REQUEST_WORDS: u32 = 6;
-
-/// The words of a record before its view: its head, its targets word, its decision and four amounts.
-pub const RECORD_WORDS: u32 = 7;

@@ -3,6 +3,9 @@
 use at_base::{Counts, Decision};
 use at_ledger::Targets;
 
+/// The words of a record before its view: its head, its targets word, its decision and four amounts.
+pub const RECORD_WORDS: u32 = 7;
+
 /// What a record says was done.
 #[derive(Drop)]
 pub enum Entry {
