@@ -2,3 +2,4 @@ pub mod CountLaws
 pub mod FrontLaws
 pub mod BlockLaws
 pub mod PlaceLaws
+pub mod SizeLaws
