@@ -1,4 +1,16 @@
 pub mod TargetsWord
+pub mod Entries
 pub mod Publications
 pub mod Fronts
+pub mod Rounds
+pub mod Balances
+pub mod Moves
 pub mod Places
+pub mod Words
+pub mod BoardState
+pub mod Sound
+pub mod Shown
+pub mod Views
+pub mod Fresh
+pub mod Conditions
+pub mod Seated

@@ -1,0 +1,2 @@
+-- The words of a board that has a state.
+use Rattle.std.specs.Prelude.{◌≡◌}
