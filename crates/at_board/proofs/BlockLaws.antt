@@ -1,7 +1,7 @@
 -- Blocks of words, one after another.
-use Rattle.std.proofs.Common.{◌≡◌, ℕ, ◌+◌, ◌*◌, ◌<◌, ◌≤◌, List, length, get_or, take, sum, sym, ap, ◌∙◌, arith, inl, inr, ◌⊎◌}
+use Rattle.std.proofs.Common.{◌≡◌, ℕ, ◌+◌, ◌<◌, ◌≤◌, List, length, get_or, take, sum, ap, arith, inl, inr}
 use Rattle.std.proofs.lemmas.Bool.{cases_order}
-use Rattle.std.proofs.lemmas.List.{take-take, take_more}
+use Rattle.std.proofs.lemmas.List.{take-take}
 use Rattle.std.proofs.lemmas.List.Sums.{sum_by_more, sum_by-take-le}
 use Rattle.at_board.specs.Places.{start_of}
 
@@ -24,9 +24,9 @@ pub same_block : (sizes : List ℕ) (i j x y : ℕ) → i < length sizes → j <
     → start_of sizes i + x ≡ start_of sizes j + y → (i ≡ j) × (x ≡ y)
 same_block sizes i j x y a b inside other same =
     elim (cases_order i j) as (λ _. (i ≡ j) × (x ≡ y)) [
-      inl equal ↦ (equal, omega (arith, ap (start_of sizes) equal))
-    | inr apart ↦ elim apart as (λ _. (i ≡ j) × (x ≡ y)) [
-        inl below ↦ absurd (omega (arith, start_of-more sizes i a, start_of-mono sizes (i + 1) j (omega arith)))
-      | inr above ↦ absurd (omega (arith, start_of-more sizes j b, start_of-mono sizes (j + 1) i (omega arith)))
+      | inl equal ↦ (equal, omega (arith, ap (start_of sizes) equal))
+      | inr apart ↦ elim apart as (λ _. (i ≡ j) × (x ≡ y)) [
+        | inl below ↦ absurd (omega (arith, start_of-more sizes i a, start_of-mono sizes (i + 1) j (omega arith)))
+        | inr above ↦ absurd (omega (arith, start_of-more sizes j b, start_of-mono sizes (j + 1) i (omega arith)))
       ]
     ]

@@ -1,7 +1,6 @@
 -- Places of words: two of them have one index only if they are one place.
-use Rattle.std.proofs.Common.{◌≡◌, ◌≢◌, ℕ, ◌+◌, ◌*◌, ◌<◌, ◌≤◌, zero, suc, Bool, true, false, cond, List, [], ◌∷◌, length, get_or, set, take, map, sum, refl, sym, ap, subst, ◌∙◌, arith}
-use Rattle.std.specs.List.{range_with_len}
-use Rattle.std.proofs.lemmas.List.{get_or-map, length-map, length-set, get_or-set_same, get_or-set_other}
+use Rattle.std.proofs.Common.{◌≡◌, ◌≢◌, ℕ, ◌+◌, ◌*◌, ◌<◌, Bool, true, false, cond, List, [], length, get_or, set, map, sum, refl, sym, ap, subst, ◌∙◌, arith}
+use Rattle.std.proofs.lemmas.List.{get_or-map, length-map, get_or-set_same, get_or-set_other}
 use Rattle.std.proofs.lemmas.List.FromFn.{get_or-map-range_with_len, length-map-range_with_len}
 use Rattle.std.proofs.lemmas.Nat.{mul-add-lt, same_from_place}
 use Rattle.at_ledger.specs.Account.{AccountTerms, no_account, is_shared, rounds_room}
@@ -49,24 +48,34 @@ IsWord-IsPlace b (request_word a s i j) within =
 IsWord-IsPlace b (cell_of a r) within = record {
   group = omega arith;
   block = omega (arith, within.0, length-map b.accounts (λ t. slots_of t * b.request_room));
-  number = omega (arith, within.1, rounds_room-slots_of b.request_room (account_of b a),
-    get_or-map (λ t. slots_of t * b.request_room) b.accounts a no_account 0 within.0);
+  number = omega (
+    arith,
+    within.1,
+    rounds_room-slots_of b.request_room (account_of b a),
+    get_or-map (λ t. slots_of t * b.request_room) b.accounts a no_account 0 within.0,
+  );
 }
 
 -- the number of a word in its group is below the group's size
 in_group : (b : BookTerms) (x : Place) → IsWord b x
     → start_of (blocks_of b (group_of x)) (block_of x) + number_in b x < get_or (map sum (groups b)) (group_of x) 0
 in_group b x word =
-    omega (arith, get_or-map sum (groups b) (group_of x) [] 0 word.group,
-      block-inside (blocks_of b (group_of x)) (block_of x) (number_in b x) word.block word.number)
+    omega (
+      arith,
+      get_or-map sum (groups b) (group_of x) [] 0 word.group,
+      block-inside (blocks_of b (group_of x)) (block_of x) (number_in b x) word.block word.number,
+    )
 
 -- a word's index is below the number of words
 pub place_at-below : (b : BookTerms) (x : Place) → IsPlace b x → place_at b x < word_count b
 unfolding place_at word_count
 place_at-below b x within =
     let word = IsWord-IsPlace b x within in
-    omega (arith, block-inside (map sum (groups b)) (group_of x)
-      (start_of (blocks_of b (group_of x)) (block_of x) + number_in b x) word.group (in_group b x word))
+    omega (
+      arith,
+      block-inside (map sum (groups b)) (group_of x)
+          (start_of (blocks_of b (group_of x)) (block_of x) + number_in b x) word.group (in_group b x word),
+    )
 
 -- the blocks and numbers of words of one group
 same_in_group : (b : BookTerms) (g h k l i j : ℕ) → g ≡ h
@@ -87,11 +96,11 @@ AreSame-place_at : (b : BookTerms) (x y : Place) → IsWord b x → IsWord b y �
 unfolding place_at
 AreSame-place_at b x y one other same =
     let group = same_block (map sum (groups b)) (group_of x) (group_of y)
-      (start_of (blocks_of b (group_of x)) (block_of x) + number_in b x)
-      (start_of (blocks_of b (group_of y)) (block_of y) + number_in b y)
-      one.group other.group (in_group b x one) (in_group b y other) (omega arith) in
+    (start_of (blocks_of b (group_of x)) (block_of x) + number_in b x)
+    (start_of (blocks_of b (group_of y)) (block_of y) + number_in b y)
+    one.group other.group (in_group b x one) (in_group b y other) (omega arith) in
     let block = same_in_group b (group_of x) (group_of y) (block_of x) (block_of y) (number_in b x) (number_in b y)
-      group.0 one.block other.block one.number other.number group.1 in
+    group.0 one.block other.block one.number other.number group.1 in
     record { group = group.0; block = block.0; number = block.1 }
 
 -- words of one group, block and number are one word

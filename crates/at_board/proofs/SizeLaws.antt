@@ -1,16 +1,15 @@
 -- How many words the largest board has.
-use Rattle.std.proofs.Common.{◌≡◌, ℕ, ◌+◌, ◌*◌, ◌<◌, ◌≤◌, ◌==◌, zero, suc, eqb, ltb, Bool, true, false, cond, List, [], ◌∷◌, length, map, sum, refl, sym, ap, ◌∙◌, arith, inl, inr, ◌⊎◌}
-use Rattle.std.specs.List.{All, position, position_or_len, sum_by, range_with_len}
+use Rattle.std.proofs.Common.{◌≡◌, ℕ, ◌+◌, ◌*◌, ◌<◌, ◌≤◌, ◌==◌, zero, suc, Bool, true, false, cond, List, [], ◌∷◌, length, refl, sym, ap, ◌∙◌, arith, inl, inr}
+use Rattle.std.specs.List.{All, position, sum_by, range_with_len}
 use Rattle.std.specs.Option.{is_some}
-use Rattle.std.proofs.lemmas.Bool.{cases_eq, eq-eqb, ne_eqb, cases_Bool, ltb-true, ltb-false, lt-ltb, le-ltb}
+use Rattle.std.proofs.lemmas.Bool.{cases_eq, eq-eqb, ne_eqb, lt-ltb}
 use Rattle.std.proofs.lemmas.Bool.Decides.{nat_tests}
-use Rattle.std.proofs.lemmas.Grind.{common_steps}
 use Rattle.std.proofs.lemmas.List.Elements.{All-head, All-tail}
 use Rattle.std.proofs.lemmas.List.Sums.{sum-map, sum_by-cons, sum_by-le-sum_by}
 use Rattle.std.proofs.lemmas.Nat.{mul-le}
-use Rattle.at_ledger.specs.Account.{AccountTerms, is_owner_in, is_shared, rounds_room, rounds_room_of}
-use Rattle.at_ledger.specs.Book.{BookTerms, IsAccount, IsBegun, IsBook, log_room_of, rounds_of}
-use Rattle.at_board.specs.Places.{groups, record_width, slots_of, word_count}
+use Rattle.at_ledger.specs.Account.{AccountTerms, rounds_room, rounds_room_of}
+use Rattle.at_ledger.specs.Book.{BookTerms, IsBegun, log_room_of, rounds_of}
+use Rattle.at_board.specs.Places.{record_width, slots_of, word_count}
 use Rattle.at_board.proofs.PlaceLaws.{rounds_room-slots_of}
 
 sum_by-add : {X : Type 0} (f g : X → ℕ) (xs : List X) → sum_by (λ x. f x + g x) xs ≡ sum_by f xs + sum_by g xs
@@ -38,13 +37,13 @@ one_of_range owner r a (suc n) =
     let rest = one_of_range owner r (a + 1) n in
     let all = sum_by-cons (λ p. cond (owner == p) r 0) a (range_with_len (a + 1) n) in
     elim (cases_eq owner a) as (λ _. (owner < a → sum_by (λ p. cond (owner == p) r 0) (range_with_len a (suc n)) ≡ 0) × (sum_by (λ p. cond (owner == p) r 0) (range_with_len a (suc n)) ≤ r)) [
-      inl same ↦
-        let here : cond (owner == a) r 0 ≡ r = rw (eq-eqb owner a same) refl in
-        let none = rest.0 (omega arith) in
-        (λ below. absurd (omega arith), omega (arith, all, here, none))
-    | inr other ↦
-        let here : cond (owner == a) r 0 ≡ 0 = rw (ne_eqb owner a other) refl in
-        (λ below. omega (arith, all, here, rest.0 (omega arith)), omega (arith, all, here, rest.1))
+      | inl same ↦
+          let here : cond (owner == a) r 0 ≡ r = rw (eq-eqb owner a same) refl in
+          let none = rest.0 (omega arith) in
+          (λ below. absurd (omega arith), omega (arith, all, here, none))
+      | inr other ↦
+          let here : cond (owner == a) r 0 ≡ 0 = rw (ne_eqb owner a other) refl in
+          (λ below. omega (arith, all, here, rest.0 (omega arith)), omega (arith, all, here, rest.1))
     ]
 
 -- whether a process is an owner, the first of them or a later one
@@ -53,8 +52,8 @@ is_some-position : (owner process : ℕ) (owners : List ℕ)
     ≡ cond (owner == process) true (is_some (position (λ o. o == process) owners))
 is_some-position owner process owners =
     elim (cases_eq owner process) as (λ _. is_some (position (λ o. o == process) (owner ∷ owners)) ≡ cond (owner == process) true (is_some (position (λ o. o == process) owners))) [
-      inl same ↦ rw (eq-eqb owner process same) (rw (lt-ltb 0 (suc (length owners)) (omega arith)) refl)
-    | inr other ↦ rw (ne_eqb owner process other) (grind (arith, nat_tests))
+      | inl same ↦ rw (eq-eqb owner process same) (rw (lt-ltb 0 (suc (length owners)) (omega arith)) refl)
+      | inr other ↦ rw (ne_eqb owner process other) (grind (arith, nat_tests))
     ]
 
 -- an owner's rounds are those of the first owner or of a later one
@@ -86,11 +85,18 @@ rounds_of_processes q n [] few = omega (arith, sum_by-range_const 0 0 n)
 rounds_of_processes q n (t ∷ ts) few =
     let range = range_with_len 0 n in
     let split : sum_by (λ p. sum_by (rounds_room_of q p) (t ∷ ts)) range ≡ sum_by (λ p. rounds_room_of q p t + sum_by (rounds_room_of q p) ts) range =
-      λ i. sum_by (λ p. sum_by-cons (rounds_room_of q p) t ts i) range in
+    λ i. sum_by (λ p. sum_by-cons (rounds_room_of q p) t ts i) range in
     let one = rounds_of_owners (rounds_room q t) n t.owners in
     let bound = mul-le (length t.owners) (rounds_room q t) 8 (rounds_room q t) (All-head (λ s. length s.owners ≤ 8) t ts few) (omega arith) in
-    omega (arith, split, sum_by-add (λ p. rounds_room_of q p t) (λ p. sum_by (rounds_room_of q p) ts) range, one, bound,
-      rounds_of_processes q n ts (All-tail (λ s. length s.owners ≤ 8) t ts few), sum_by-cons (rounds_room q) t ts)
+    omega (
+      arith,
+      split,
+      sum_by-add (λ p. rounds_room_of q p t) (λ p. sum_by (rounds_room_of q p) ts) range,
+      one,
+      bound,
+      rounds_of_processes q n ts (All-tail (λ s. length s.owners ≤ 8) t ts few),
+      sum_by-cons (rounds_room q) t ts,
+    )
 
 -- all logs together
 pub sum-log_room_of : (b : BookTerms) → IsBegun b → sum_by (log_room_of b) (range_with_len 0 b.processes) ≤ 131072
@@ -98,8 +104,14 @@ sum-log_room_of b begun =
     let range = range_with_len 0 b.processes in
     let few : All (λ t. length t.owners ≤ 8) b.accounts = λ k d within. (begun.accounts k d within).few in
     let own = mul-le b.processes b.own_room 16 4096 begun.few_processes begun.own_room in
-    omega (arith, sum_by-add (λ (p : ℕ). b.own_room) (λ p. sum_by (rounds_room_of b.request_room p) b.accounts) range,
-      sum_by-range_const b.own_room 0 b.processes, own, rounds_of_processes b.request_room b.processes b.accounts few, begun.rounds)
+    omega (
+      arith,
+      sum_by-add (λ (p : ℕ). b.own_room) (λ p. sum_by (rounds_room_of b.request_room p) b.accounts) range,
+      sum_by-range_const b.own_room 0 b.processes,
+      own,
+      rounds_of_processes b.request_room b.processes b.accounts few,
+      begun.rounds,
+    )
 
 -- the words of the largest board
 pub word_count-le : (b : BookTerms) → IsBegun b → word_count b ≤ 3080208
@@ -111,7 +123,7 @@ word_count-le b begun =
     let logs = sum-map (λ p. log_room_of b p * width) range ∙ sum_by-mul (log_room_of b) width range in
     let logs_small = mul-le (sum_by (log_room_of b) range) width 131072 23 (sum-log_room_of b begun) (omega (arith, begun.few_processes)) in
     let rooms : sum_by (λ t. slots_of t * q) b.accounts ≡ rounds_of b =
-      λ i. sum_by (λ t. sym (rounds_room-slots_of q t) i) b.accounts in
+    λ i. sum_by (λ t. sym (rounds_room-slots_of q t) i) b.accounts in
     let announced = sum-map slots_of b.accounts in
     let announced_small = sum_by-le-sum_by slots_of (λ t. slots_of t * q) b.accounts (λ t. mul-one-le (slots_of t) q begun.some_request_room) in
     let requests = sum-map (λ t. slots_of t * q * 6) b.accounts ∙ sum_by-mul (λ t. slots_of t * q) 6 b.accounts in

@@ -1,5 +1,5 @@
 -- Where each word of the board stands.
-use Rattle.std.specs.Prelude.{◌≡◌, ℕ, ◌+◌, ◌*◌, ◌<◌, List, [], ◌∷◌, length, map, sum, take, slice_index, slice_index_or, IsTrue, if◌then◌else◌}
+use Rattle.std.specs.Prelude.{ℕ, ◌+◌, ◌*◌, ◌<◌, List, [], ◌∷◌, length, map, sum, take, slice_index, slice_index_or, if◌then◌else◌}
 use Rattle.std.specs.List.{range_with_len}
 use Rattle.at_ledger.specs.Account.{AccountTerms, is_shared, rounds_room}
 use Rattle.at_ledger.specs.Book.{BookTerms, account_of, log_room_of}

@@ -1,5 +1,5 @@
 -- A sound board: the laws that hold between any two steps of any threads.
-use Rattle.std.specs.Prelude.{◌≡◌, ℕ, ◌+◌, ◌<◌, ◌≤◌, ◌↔◌, ◌⊎◌, ◌==◌, ◌&&◌, true, List, length, take, slice_index, count_by, Option, Some, IsTrue}
+use Rattle.std.specs.Prelude.{◌≡◌, ℕ, ◌+◌, ◌<◌, ◌≤◌, ◌↔◌, ◌⊎◌, ◌==◌, ◌&&◌, true, List, length, take, slice_index, count_by, Some}
 use Rattle.std.specs.List.{list_any}
 use Rattle.at_base.specs.Decision.{InRange}
 use Rattle.at_base.specs.declared.decision.Decision.{Decision}
@@ -62,7 +62,8 @@ IsSoundEntry b s process prefix (Round account round decision targets) =
 -- then, and it says whether the balance there covers that request
 pub record IsSoundDecision (b : BookTerms) (s : BoardState) (account round : ℕ) (d : Decision) : Type 0 where
   pub range : InRange d
-  pub slot : d.slot < slots_of (account_of b account)
+  pub room : round < rounds_room b.request_room (account_of b account)
+  pub slot_in : d.slot < slots_of (account_of b account)
   pub place : d.place ≤ length s.published
   pub next : rounds account (take d.place s.published) ≡ round
   pub announced : d.number < length (s.rows account d.slot)
@@ -71,6 +72,7 @@ pub record IsSoundDecision (b : BookTerms) (s : BoardState) (account round : ℕ
 
 -- a request of a row: the one before it was decided when its owner looked, and no more rounds stood there than are decided
 pub record IsSoundRequest (b : BookTerms) (s : BoardState) (account slot number : ℕ) (r : Request) : Type 0 where
+  pub slot_in : slot < slots_of (account_of b account)
   pub targets : AreTargets b r.targets
   pub since : r.since ≤ length s.published
   pub follows : (before : ℕ) → before + 1 ≡ number → is_settled account slot before (take r.since s.published) ≡ true
@@ -88,14 +90,14 @@ IsHeld b s c = (p : ℕ) × (p < b.processes) × (s.held p ≡ Some c)
 pub record Sound (b : BookTerms) (s : BoardState) : Type 0 where
   pub views : (m : ℕ) → m < length s.published → HasView b (take m s.published) (publication_at s.published m)
   pub entries : (m : ℕ) → m < length s.published → let x : Publication = publication_at s.published m in
-    IsSoundEntry b s x.process (first x.view s.published) x.entry
+      IsSoundEntry b s x.process (first x.view s.published) x.entry
   pub own_room : (p : ℕ) → owns_of p s.published ≤ b.own_room
   pub decisions : (a r : ℕ) → r < length (s.cells a) → IsSoundDecision b s a r (decision_at (s.cells a) r)
   pub numbers : (a r : ℕ) → r < length (s.cells a) → let d : Decision = decision_at (s.cells a) r in
-    count_by (λ e. e.slot == d.slot) (take r (s.cells a)) ≡ d.number
+      count_by (λ e. e.slot == d.slot) (take r (s.cells a)) ≡ d.number
   pub row_room : (a slot : ℕ) → length (s.rows a slot) ≤ b.request_room
   pub requests : (a slot i : ℕ) → i < length (s.rows a slot) → IsSoundRequest b s a slot i (request_at (s.rows a slot) i)
   pub published : (a r : ℕ) → r < length (s.cells a) →
-    IsPublished a r (decision_at (s.cells a) r).place s.published ⊎ IsHeld b s (record { account = a; round = r })
+      IsPublished a r (decision_at (s.cells a) r).place s.published ⊎ IsHeld b s (record { account = a; round = r })
   pub one_holder : (p q : ℕ) (c : Cell) → s.held p ≡ Some c → s.held q ≡ Some c → p ≡ q
   pub held_decided : (p : ℕ) (c : Cell) → s.held p ≡ Some c → c.round < length (s.cells c.account)

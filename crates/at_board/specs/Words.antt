@@ -1,5 +1,5 @@
 -- The words of records, requests and decisions.
-use Rattle.std.specs.Prelude.{◌≡◌, ℕ, ◌<◌, List, [], ◌∷◌, ◌++◌, length, nat_lt, slice_index, slice_index_or, if◌then◌else◌}
+use Rattle.std.specs.Prelude.{ℕ, List, [], ◌∷◌, ◌++◌, length, nat_lt, if◌then◌else◌}
 use Rattle.at_base.specs.Decision.{word_of}
 use Rattle.at_base.specs.Head.{head_word}
 use Rattle.at_base.specs.declared.decision.Decision.{Decision}

@@ -5,12 +5,11 @@
 
 mod publication;
 mod request;
+mod rule;
 mod targets_word;
 mod view;
 
 pub use crate::publication::{Entry, Publication, RECORD_WORDS};
 pub use crate::request::{REQUEST_WORDS, Request};
 pub use crate::targets_word::{pack_targets, unpack_targets};
-pub use crate::view::{
-    Asking, Cell, Loads, Part, SeenDecision, SeenRequest, SeenRow, View,
-};
+pub use crate::view::{Asking, Cell, Loads, Part, SeenDecision, SeenRequest, SeenRow, View};
