@@ -3,3 +3,5 @@ pub mod FrontLaws
 pub mod BlockLaws
 pub mod PlaceLaws
 pub mod SizeLaws
+pub mod RoundLaws
+pub mod SoundRounds
