@@ -5,3 +5,4 @@ pub mod PlaceLaws
 pub mod SizeLaws
 pub mod RoundLaws
 pub mod SoundRounds
+pub mod CoverLaws

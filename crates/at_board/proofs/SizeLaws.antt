@@ -47,7 +47,7 @@ one_of_range owner r a (suc n) =
     ]
 
 -- whether a process is an owner, the first of them or a later one
-is_some-position : (owner process : ℕ) (owners : List ℕ)
+pub is_some-position : (owner process : ℕ) (owners : List ℕ)
     → is_some (position (λ o. o == process) (owner ∷ owners))
     ≡ cond (owner == process) true (is_some (position (λ o. o == process) owners))
 is_some-position owner process owners =
