@@ -1,23 +1,23 @@
 -- What a record moves is covered where it stands in the list.
-use Rattle.std.proofs.Common.{◌≡◌, ℕ, ◌+◌, ◌<◌, ◌≤◌, ◌==◌, ◌&&◌, zero, eqb, Bool, true, false, cond, List, [], ◌∷◌, ◌++◌, length, get_or, take, refl, sym, ap, subst, ◌∙◌, arith, inl, inr, ◌⊎◌}
-use Rattle.std.specs.List.{position, sum_by}
+use Rattle.std.proofs.Common.{◌≡◌, ℕ, ◌+◌, ◌<◌, ◌≤◌, ◌==◌, ◌&&◌, zero, Bool, true, false, cond, List, [], ◌∷◌, ◌++◌, length, take, refl, sym, ap, subst, ◌∙◌, arith, inl, inr, ◌⊎◌}
+use Rattle.std.specs.List.{position}
 use Rattle.std.specs.Option.{is_some}
 use Rattle.std.proofs.lemmas.Bool.{and_right, cases_Bool, cases_eq, cases_lt, eqb-true, leb-true, ne_eqb}
 use Rattle.std.proofs.lemmas.List.{take-take}
 use Rattle.at_base.specs.declared.decision.Decision.{Decision}
-use Rattle.at_ledger.specs.Account.{AccountTerms, is_owner_in, is_shared, is_single}
+use Rattle.at_ledger.specs.Account.{AccountTerms, is_shared, is_single}
 use Rattle.at_ledger.specs.Book.{BookTerms, account_of, is_owner}
 use Rattle.at_ledger.specs.Call.{TargetPair, amount_of}
 use Rattle.at_board.proofs.CountLaws.{count_of-take_mono, count_of-take_more_own}
 use Rattle.at_board.proofs.FrontLaws.{get_or-IsFront}
-use Rattle.at_board.proofs.RoundLaws.{IsInitial, one_if, published, rounds-push_next, sum_by-firsts_new, sum_by-firsts-take_mono, sum_by-firsts-take_same}
+use Rattle.at_board.proofs.RoundLaws.{one_if, published, rounds-push_next, sum_by-firsts_new, sum_by-firsts-take_mono, sum_by-firsts-take_same}
 use Rattle.at_board.proofs.SizeLaws.{is_some-position}
 use Rattle.at_board.proofs.SoundRounds.{IsInitial-take, place-view-le, rounds-take_mono, take-publication_at}
 use Rattle.at_board.specs.declared.publication.Entry.{Entry}
 use Rattle.at_board.specs.declared.publication.Entry.TheVariants.{Own, Round}
 use Rattle.at_board.specs.declared.publication.Publication.{Publication}
-use Rattle.at_board.specs.Balances.{IsCovered, credit_of, credits, debit_of, debits}
-use Rattle.at_board.specs.BoardState.{BoardState, decision_at, publication_at}
+use Rattle.at_board.specs.Balances.{IsCovered, credit_of, debit_of, debits}
+use Rattle.at_board.specs.BoardState.{BoardState, publication_at}
 use Rattle.at_board.specs.Entries.{is_round_on}
 use Rattle.at_board.specs.Fronts.{first, place}
 use Rattle.at_board.specs.Publications.{count_of, no_publication}
@@ -31,8 +31,8 @@ single_or_shared t single shared = omega (arith, eqb-true (length t.owners) 1 si
 owner_of_one : (owner p : ℕ) → is_some (position (λ o. o == p) (owner ∷ [])) ≡ true → owner ≡ p
 owner_of_one owner p found =
     elim (cases_eq owner p) as (λ _. owner ≡ p) [
-      inl same ↦ same
-    | inr other ↦ cc (sym (is_some-position owner p []) ∙ found, ap (λ t. cond t true (is_some (position (λ o. o == p) []))) (ne_eqb owner p other))
+      | inl same ↦ same
+      | inr other ↦ cc (sym (is_some-position owner p []) ∙ found, ap (λ t. cond t true (is_some (position (λ o. o == p) []))) (ne_eqb owner p other))
     ]
 
 -- a single account has one owner
@@ -79,8 +79,15 @@ not_own b s m i sound within above below own =
     let law = sound.views m within in
     let counted = get_or-IsFront b.processes x.view (take m s.published) x.process law.front law.process in
     let same = ap (count_of x.process) (take-take (place x.view) m s.published (omega arith)) in
-    omega (arith, counted, same, law.own, count_of-take_more_own x.process i s.published no_publication (omega arith) own,
-      count_of-take_mono x.process (place x.view) i s.published above, count_of-take_mono x.process (i + 1) m s.published (omega arith))
+    omega (
+      arith,
+      counted,
+      same,
+      law.own,
+      count_of-take_more_own x.process i s.published no_publication (omega arith) own,
+      count_of-take_mono x.process (place x.view) i s.published above,
+      count_of-take_mono x.process (i + 1) m s.published (omega arith),
+    )
 
 -- an own record is covered where it stands
 IsCovered-own : (b : BookTerms) (s : BoardState) (m from : ℕ) (targets : List TargetPair) → Sound b s → m < length s.published
@@ -90,9 +97,9 @@ IsCovered-own b s m from targets sound within law =
     let x : Publication = publication_at s.published m in
     let before = place-view-le b s m sound within in
     let same = sum_by-firsts-take_same (λ y. debit_of from y.entry) s.published (place x.view) m before (omega arith)
-      (λ i above below. inr (debit_of-single b s x.process (publication_at s.published i).process from
-        (first (publication_at s.published i).view s.published) (publication_at s.published i).entry
-        (sound.entries i (omega arith)) law.single law.owner (not_own b s m i sound within above below))) in
+    (λ i above below. inr (debit_of-single b s x.process (publication_at s.published i).process from
+    (first (publication_at s.published i).view s.published) (publication_at s.published i).entry
+    (sound.entries i (omega arith)) law.single law.owner (not_own b s m i sound within above below))) in
     IsCovered-take b s.published from (amount_of targets) (place x.view) m before same law.covered
 
 -- a record of an account that is no new round adds no round
@@ -103,16 +110,23 @@ repeats_or_off : (b : BookTerms) (s : BoardState) (a k i m : ℕ) → Sound b s 
 repeats_or_off b s a k i m sound shared same above below within =
     let x : Publication = publication_at s.published i in
     elim (cases_Bool (repeats x (firsts (take i s.published)))) as (λ _. (repeats x (firsts (take i s.published)) ≡ true) ⊎ (debit_of a x.entry ≡ 0)) [
-      inl again ↦ inl again
-    | inr new ↦
-        elim (cases_Bool (is_round_on a x.entry)) as (λ _. (repeats x (firsts (take i s.published)) ≡ true) ⊎ (debit_of a x.entry ≡ 0)) [
-          inl on ↦
-            let grown = sum_by-firsts_new (λ y. one_if (is_round_on a y.entry)) (take i s.published) x new in
-            let here = ap (rounds a) (take-publication_at s.published i (omega arith)) in
-            absurd (omega (arith, grown, here, ap one_if on, same,
-              rounds-take_mono a k i s.published above, rounds-take_mono a (i + 1) m s.published (omega arith)))
-        | inr off ↦ inr (debit_of-shared b s x.process a (first x.view s.published) x.entry (sound.entries i (omega arith)) shared off)
-        ]
+      | inl again ↦ inl again
+      | inr new ↦
+          elim (cases_Bool (is_round_on a x.entry)) as (λ _. (repeats x (firsts (take i s.published)) ≡ true) ⊎ (debit_of a x.entry ≡ 0)) [
+            | inl on ↦
+                let grown = sum_by-firsts_new (λ y. one_if (is_round_on a y.entry)) (take i s.published) x new in
+                let here = ap (rounds a) (take-publication_at s.published i (omega arith)) in
+                absurd (omega (
+                  arith,
+                  grown,
+                  here,
+                  ap one_if on,
+                  same,
+                  rounds-take_mono a k i s.published above,
+                  rounds-take_mono a (i + 1) m s.published (omega arith),
+                ))
+            | inr off ↦ inr (debit_of-shared b s x.process a (first x.view s.published) x.entry (sound.entries i (omega arith)) shared off)
+          ]
     ]
 
 -- a success of a round is covered where the round's first record stands
@@ -125,15 +139,15 @@ IsCovered-round b s m a r d targets sound within is law next ok =
     let decision : IsSoundDecision b s a r d = subst (IsSoundDecision b s a r) law.1.decision (sound.decisions a r law.1.decided) in
     let initial = IsInitial-take b s m sound (omega arith) a in
     let more : rounds a (take (m + 1) s.published) ≡ rounds a (take m s.published) + 1 =
-      ap (rounds a) (take-publication_at s.published m within)
-      ∙ (ap (λ e. rounds a (take m s.published ++ published x.process x.view e ∷ [])) is
-      ∙ rounds-push_next x.process x.view a r d targets (take m s.published) initial next) in
+    ap (rounds a) (take-publication_at s.published m within)
+    ∙ (ap (λ e. rounds a (take m s.published ++ published x.process x.view e ∷ [])) is
+    ∙ rounds-push_next x.process x.view a r d targets (take m s.published) initial next) in
     let before : d.place ≤ m = elim (cases_lt m d.place) as (λ _. d.place ≤ m) [
-      inl late ↦ absurd (omega (arith, more, next, decision.next, rounds-take_mono a (m + 1) d.place s.published (omega arith)))
-    | inr early ↦ early
+      | inl late ↦ absurd (omega (arith, more, next, decision.next, rounds-take_mono a (m + 1) d.place s.published (omega arith)))
+      | inr early ↦ early
     ] in
     let same = sum_by-firsts-take_same (λ y. debit_of a y.entry) s.published d.place m before (omega arith)
-      (λ i above below. repeats_or_off b s a d.place i m sound law.0.shared (next ∙ sym decision.next) above below (omega arith)) in
+    (λ i above below. repeats_or_off b s a d.place i m sound law.0.shared (next ∙ sym decision.next) above below (omega arith)) in
     let there = subst (λ t. IsCovered b (take d.place s.published) a (amount_of t)) law.1.same_targets (decision.ok.0 ok) in
     IsCovered-take b s.published a (amount_of targets) d.place m before same there
 

@@ -6,3 +6,6 @@ pub mod SizeLaws
 pub mod RoundLaws
 pub mod SoundRounds
 pub mod CoverLaws
+pub mod PayLaws
+pub mod FollowLaws
+pub mod PrefixRuns

@@ -1,9 +1,9 @@
 -- Rounds of a list of publications, and sums that count each round once.
 use Rattle.std.proofs.Common.{◌≡◌, ℕ, ◌+◌, ◌-◌, ◌<◌, ◌≤◌, ◌==◌, ◌&&◌, ◌||◌, zero, suc, eqb, ltb, Bool, true, false, cond, List, [], ◌∷◌, ◌++◌, length, get_or, take, refl, sym, ap, subst, ◌∙◌, arith, inl, inr, ◌⊎◌}
-use Rattle.std.specs.List.{All, count_by, list_any, sum_by}
-use Rattle.std.proofs.lemmas.Bool.{cases_Bool, cases_eq, cases_lt, eq-eqb, ne_eqb, lt-ltb, le-ltb, ltb-true, ltb-false}
+use Rattle.std.specs.List.{count_by, list_any, sum_by}
+use Rattle.std.proofs.lemmas.Bool.{cases_Bool, cases_eq, cases_lt, eq-eqb, ne_eqb, le-ltb, ltb-false}
 use Rattle.std.proofs.lemmas.Bool.Decides.{nat_tests}
-use Rattle.std.proofs.lemmas.List.{take_more, take_all, take-take, length-take}
+use Rattle.std.proofs.lemmas.List.{take_more, take_all}
 use Rattle.std.proofs.lemmas.List.Folds.{list_any-append, list_any_none}
 use Rattle.std.proofs.lemmas.List.Sums.{fold_push, sum_by_push}
 use Rattle.at_ledger.specs.Call.{TargetPair}
@@ -12,7 +12,7 @@ use Rattle.at_board.specs.declared.publication.Entry.{Entry}
 use Rattle.at_board.specs.declared.publication.Entry.TheVariants.{Own, Round}
 use Rattle.at_board.specs.declared.publication.Publication.{Publication}
 use Rattle.at_board.specs.BoardState.{publication_at}
-use Rattle.at_board.specs.Entries.{is_round, is_round_on, is_same_round}
+use Rattle.at_board.specs.Entries.{is_round, is_round_on}
 use Rattle.at_board.specs.Publications.{no_publication}
 use Rattle.at_board.specs.Rounds.{firsts, repeats, rounds, with_first}
 
@@ -44,8 +44,8 @@ pub sum_by-firsts-le : (f : Publication → ℕ) (xs : List Publication) (x : Pu
     → sum_by f (firsts xs) ≤ sum_by f (firsts (xs ++ x ∷ []))
 sum_by-firsts-le f xs x =
     elim (cases_Bool (repeats x (firsts xs))) as (λ _. sum_by f (firsts xs) ≤ sum_by f (firsts (xs ++ x ∷ []))) [
-      inl again ↦ omega (arith, sum_by-firsts_repeat f xs x again)
-    | inr new ↦ omega (arith, sum_by-firsts_new f xs x new)
+      | inl again ↦ omega (arith, sum_by-firsts_repeat f xs x again)
+      | inr new ↦ omega (arith, sum_by-firsts_new f xs x new)
     ]
 
 -- such a sum doesn't fall along the prefixes
@@ -53,13 +53,13 @@ pub sum_by-firsts-take_more : (f : Publication → ℕ) (xs : List Publication) 
     → sum_by f (firsts (take m xs)) ≤ sum_by f (firsts (take (m + 1) xs))
 sum_by-firsts-take_more f xs m =
     elim (cases_lt m (length xs)) as (λ _. sum_by f (firsts (take m xs)) ≤ sum_by f (firsts (take (m + 1) xs))) [
-      inl below ↦
-        let more = ap (λ t. sum_by f (firsts t)) (take_more xs m no_publication below) in
-        omega (arith, more, sum_by-firsts-le f (take m xs) (get_or xs m no_publication))
-    | inr above ↦
-        let here = ap (λ t. sum_by f (firsts t)) (take_all m xs above) in
-        let there = ap (λ t. sum_by f (firsts t)) (take_all (m + 1) xs (omega arith)) in
-        omega (arith, here, there)
+      | inl below ↦
+          let more = ap (λ t. sum_by f (firsts t)) (take_more xs m no_publication below) in
+          omega (arith, more, sum_by-firsts-le f (take m xs) (get_or xs m no_publication))
+      | inr above ↦
+          let here = ap (λ t. sum_by f (firsts t)) (take_all m xs above) in
+          let there = ap (λ t. sum_by f (firsts t)) (take_all (m + 1) xs (omega arith)) in
+          omega (arith, here, there)
     ]
 
 sum_by-firsts-take_add : (f : Publication → ℕ) (xs : List Publication) (m n : ℕ)
@@ -82,8 +82,8 @@ pub sum_by-firsts_nothing : (f : Publication → ℕ) (xs : List Publication) (x
 sum_by-firsts_nothing f xs x (inl again) = sum_by-firsts_repeat f xs x again
 sum_by-firsts_nothing f xs x (inr light) =
     elim (cases_Bool (repeats x (firsts xs))) as (λ _. sum_by f (firsts (xs ++ x ∷ [])) ≡ sum_by f (firsts xs)) [
-      inl again ↦ sum_by-firsts_repeat f xs x again
-    | inr new ↦ omega (arith, sum_by-firsts_new f xs x new)
+      | inl again ↦ sum_by-firsts_repeat f xs x again
+      | inr new ↦ omega (arith, sum_by-firsts_new f xs x new)
     ]
 
 -- between two prefixes nothing is added
@@ -147,18 +147,18 @@ IsInitial-repeat : (a : ℕ) (xs : List Publication) (x : Publication) → IsIni
     → IsInitial a (xs ++ x ∷ [])
 IsInitial-repeat a xs x initial again = record {
   has = λ r. ap (has_round a r) (firsts-repeat xs x again)
-    ∙ (initial.has r ∙ ap (λ ys. ltb r (count_by (λ y. is_round_on a y.entry) ys)) (sym (firsts-repeat xs x again)));
+      ∙ (initial.has r ∙ ap (λ ys. ltb r (count_by (λ y. is_round_on a y.entry) ys)) (sym (firsts-repeat xs x again)));
 }
 
 IsInitial-other : (a : ℕ) (xs : List Publication) (x : Publication) → IsInitial a xs → repeats x (firsts xs) ≡ false
     → ((r : ℕ) → is_round a r x.entry ≡ false) → is_round_on a x.entry ≡ false → IsInitial a (xs ++ x ∷ [])
 IsInitial-other a xs x initial new other off =
     let same : rounds a (xs ++ x ∷ []) ≡ rounds a xs =
-      omega (arith, sum_by-firsts_new (λ y. one_if (is_round_on a y.entry)) xs x new, ap one_if off) in
+    omega (arith, sum_by-firsts_new (λ y. one_if (is_round_on a y.entry)) xs x new, ap one_if off) in
     record {
       has = λ r. ap (has_round a r) (firsts-new xs x new)
-        ∙ (list_any_push (λ y. is_round a r y.entry) (firsts xs) x
-        ∙ (ap (λ t. has_round a r (firsts xs) || t) (other r) ∙ (or_false (has_round a r (firsts xs)) ∙ (initial.has r ∙ ap (ltb r) (sym same)))));
+          ∙ (list_any_push (λ y. is_round a r y.entry) (firsts xs) x
+          ∙ (ap (λ t. has_round a r (firsts xs) || t) (other r) ∙ (or_false (has_round a r (firsts xs)) ∙ (initial.has r ∙ ap (ltb r) (sym same)))));
     }
   where
     or_false : (t : Bool) → (t || false) ≡ t
@@ -187,8 +187,8 @@ IsInitial-next p v a r d targets xs initial next =
     let more = rounds-push_next p v a r d targets xs initial next in
     record {
       has = λ k. ap (has_round a k) (firsts-new xs x new)
-        ∙ (list_any_push (λ y. is_round a k y.entry) (firsts xs) x
-        ∙ (ap (λ t. t || ((a == a) && (r == k))) (initial.has k) ∙ one_more k a r (rounds a xs) (rounds a (xs ++ x ∷ [])) next more));
+          ∙ (list_any_push (λ y. is_round a k y.entry) (firsts xs) x
+          ∙ (ap (λ t. t || ((a == a) && (r == k))) (initial.has k) ∙ one_more k a r (rounds a xs) (rounds a (xs ++ x ∷ [])) next more));
     }
   where
     one_more : (k a r n more : ℕ) → n ≡ r → more ≡ n + 1 → (ltb k n || (eqb a a && eqb r k)) ≡ ltb k more
@@ -206,12 +206,12 @@ IsInitial-push c xs p v (Own from targets) initial next =
 IsInitial-push c xs p v (Round a r d targets) initial next =
     let x = published p v (Round a r d targets) in
     elim (cases_Bool (repeats x (firsts xs))) as (λ _. IsInitial c (xs ++ x ∷ [])) [
-      inl again ↦ IsInitial-repeat c xs x (initial c) again
-    | inr new ↦
-        elim (cases_eq a c) as (λ _. IsInitial c (xs ++ x ∷ [])) [
-          inl same ↦
-            let at : rounds a xs ≡ r = omega (arith, next, ltb-false r (rounds a xs) (sym (repeats-round p v a r d targets xs (initial a)) ∙ new)) in
-            subst (λ t. IsInitial t (xs ++ x ∷ [])) same (IsInitial-next p v a r d targets xs (initial a) at)
-        | inr apart ↦ IsInitial-other c xs x (initial c) new (λ k. ap (λ t. t && (r == k)) (ne_eqb a c apart)) (ne_eqb a c apart)
-        ]
+      | inl again ↦ IsInitial-repeat c xs x (initial c) again
+      | inr new ↦
+          elim (cases_eq a c) as (λ _. IsInitial c (xs ++ x ∷ [])) [
+            | inl same ↦
+                let at : rounds a xs ≡ r = omega (arith, next, ltb-false r (rounds a xs) (sym (repeats-round p v a r d targets xs (initial a)) ∙ new)) in
+                subst (λ t. IsInitial t (xs ++ x ∷ [])) same (IsInitial-next p v a r d targets xs (initial a) at)
+            | inr apart ↦ IsInitial-other c xs x (initial c) new (λ k. ap (λ t. t && (r == k)) (ne_eqb a c apart)) (ne_eqb a c apart)
+          ]
     ]

@@ -1,15 +1,15 @@
 -- The rounds of the prefixes of a sound board: they are decided one after another.
-use Rattle.std.proofs.Common.{◌≡◌, ℕ, ◌+◌, ◌<◌, ◌≤◌, ◌==◌, ◌&&◌, zero, suc, eqb, ltb, Bool, true, false, cond, List, [], ◌∷◌, ◌++◌, length, get_or, take, refl, sym, ap, subst, ◌∙◌, arith, inl, inr, ◌⊎◌}
-use Rattle.std.specs.List.{All, count_by, sum_by}
+use Rattle.std.proofs.Common.{◌≡◌, ℕ, ◌+◌, ◌<◌, ◌≤◌, ◌==◌, ◌&&◌, zero, suc, Bool, true, false, List, [], ◌∷◌, ◌++◌, length, take, refl, sym, ap, subst, ◌∙◌, arith, inl, inr}
+use Rattle.std.specs.List.{sum_by}
 use Rattle.std.proofs.lemmas.Bool.{cases_Bool, cases_eq, eq-eqb, ne_eqb, le-ltb, ltb-false}
-use Rattle.std.proofs.lemmas.List.{length-take, take_more, take-take}
+use Rattle.std.proofs.lemmas.List.{length-take, take_more}
 use Rattle.std.proofs.lemmas.List.Elements.{All-from_get_or}
 use Rattle.std.proofs.lemmas.List.Sums.{sum_by_more}
 use Rattle.at_base.specs.declared.decision.Decision.{Decision}
 use Rattle.at_ledger.specs.Book.{BookTerms}
 use Rattle.at_ledger.specs.Call.{TargetPair}
-use Rattle.at_board.proofs.FrontLaws.{ArePublishedBy-take, first-IsPrefix, place-IsFront-le}
-use Rattle.at_board.proofs.RoundLaws.{IsInitial, IsInitial-nil, IsInitial-push, IsNextAtMost, firsts-nil, one_if, published, repeats-own, repeats-round, rounds-push_next, sum_by-firsts_new, sum_by-firsts_repeat, sum_by-firsts-take_mono}
+use Rattle.at_board.proofs.FrontLaws.{ArePublishedBy-take, place-IsFront-le}
+use Rattle.at_board.proofs.RoundLaws.{IsInitial, IsInitial-nil, IsInitial-push, IsNextAtMost, one_if, published, repeats-own, repeats-round, rounds-push_next, sum_by-firsts_new, sum_by-firsts_repeat, sum_by-firsts-take_mono}
 use Rattle.at_board.specs.declared.publication.Entry.{Entry}
 use Rattle.at_board.specs.declared.publication.Entry.TheVariants.{Own, Round}
 use Rattle.at_board.specs.declared.publication.Publication.{Publication}
@@ -30,8 +30,11 @@ pub place-view-le : (b : BookTerms) (s : BoardState) (m : ℕ) → Sound b s →
     → place (publication_at s.published m).view ≤ m
 place-view-le b s m sound within =
     let known = ArePublishedBy-take b.processes m s.published (ArePublishedBy-Sound b s sound) in
-    omega (arith, place-IsFront-le b.processes (publication_at s.published m).view (take m s.published) (sound.views m within).front known,
-      length-take m s.published)
+    omega (
+      arith,
+      place-IsFront-le b.processes (publication_at s.published m).view (take m s.published) (sound.views m within).front known,
+      length-take m s.published,
+    )
 
 -- no more rounds stand in a shorter prefix
 pub rounds-take_mono : (a m k : ℕ) (xs : List Publication) → m ≤ k → rounds a (take m xs) ≤ rounds a (take k xs)
@@ -61,7 +64,7 @@ IsInitial-take b s zero sound within a = IsInitial-nil a
 IsInitial-take b s (suc m) sound within a =
     let x : Publication = publication_at s.published m in
     let more = IsInitial-push a (take m s.published) x.process x.view x.entry (IsInitial-take b s m sound (omega arith))
-      (IsNextAtMost-Sound b s m sound (omega arith)) in
+    (IsNextAtMost-Sound b s m sound (omega arith)) in
     let e : m + 1 ≡ suc m = omega arith in
     subst (IsInitial a) (sym (take-publication_at s.published m (omega arith)) ∙ ap (λ k. take k s.published) e) more
 
@@ -106,14 +109,14 @@ AreDecided-next s a r p v d targets xs initial decided next so =
     record {
       rounds_within = omega (arith, more, next, so.decided);
       named_so = λ slot.
-        let own : one_if ((a == a) && (d.slot == slot)) ≡ one_if (d.slot == slot) = ap (λ t. one_if (t && (d.slot == slot))) (eq-eqb a a refl) in
-        let grown = sum_by-firsts_new (λ y. one_if (names a slot y.entry)) xs x new in
-        let taken = sum_by_more (λ (e : Decision). one_if (e.slot == slot)) (s.cells a) r (record { ok = false; slot = 0; number = 0; place = 0 }) so.decided in
-        let here : one_if ((decision_at (s.cells a) r).slot == slot) ≡ one_if (d.slot == slot) = ap (λ (e : Decision). one_if (e.slot == slot)) so.decision in
-        let at : rounds a (xs ++ x ∷ []) ≡ r + 1 = omega (arith, more, next) in
-        let before = ap (λ n. decided_for slot n (s.cells a)) next in
-        let after = ap (λ n. decided_for slot n (s.cells a)) at in
-        omega (arith, grown, own, taken, here, before, after, decided.named_so slot);
+          let own : one_if ((a == a) && (d.slot == slot)) ≡ one_if (d.slot == slot) = ap (λ t. one_if (t && (d.slot == slot))) (eq-eqb a a refl) in
+          let grown = sum_by-firsts_new (λ y. one_if (names a slot y.entry)) xs x new in
+          let taken = sum_by_more (λ (e : Decision). one_if (e.slot == slot)) (s.cells a) r (record { ok = false; slot = 0; number = 0; place = 0 }) so.decided in
+          let here : one_if ((decision_at (s.cells a) r).slot == slot) ≡ one_if (d.slot == slot) = ap (λ (e : Decision). one_if (e.slot == slot)) so.decision in
+          let at : rounds a (xs ++ x ∷ []) ≡ r + 1 = omega (arith, more, next) in
+          let before = ap (λ n. decided_for slot n (s.cells a)) next in
+          let after = ap (λ n. decided_for slot n (s.cells a)) at in
+          omega (arith, grown, own, taken, here, before, after, decided.named_so slot);
     }
 
 AreDecided-repeat : (s : BoardState) (c : ℕ) (xs : List Publication) (x : Publication) → AreDecided s c xs → repeats x (firsts xs) ≡ true
@@ -137,14 +140,14 @@ AreDecided-push b s c prefix xs p v (Own from targets) initial decided law next 
 AreDecided-push b s c prefix xs p v (Round a r d targets) initial decided law next =
     let x = published p v (Round a r d targets) in
     elim (cases_Bool (repeats x (firsts xs))) as (λ _. AreDecided s c (xs ++ x ∷ [])) [
-      inl again ↦ AreDecided-repeat s c xs x (decided c) again
-    | inr new ↦
-        elim (cases_eq a c) as (λ _. AreDecided s c (xs ++ x ∷ [])) [
-          inl same ↦
-            let at : rounds a xs ≡ r = omega (arith, next, ltb-false r (rounds a xs) (sym (repeats-round p v a r d targets xs (initial a)) ∙ new)) in
-            subst (λ t. AreDecided s t (xs ++ x ∷ [])) same (AreDecided-next s a r p v d targets xs (initial a) (decided a) at law.1)
-        | inr apart ↦ AreDecided-other s c xs x (decided c) new (ne_eqb a c apart) (λ slot. ap (λ t. t && (d.slot == slot)) (ne_eqb a c apart))
-        ]
+      | inl again ↦ AreDecided-repeat s c xs x (decided c) again
+      | inr new ↦
+          elim (cases_eq a c) as (λ _. AreDecided s c (xs ++ x ∷ [])) [
+            | inl same ↦
+                let at : rounds a xs ≡ r = omega (arith, next, ltb-false r (rounds a xs) (sym (repeats-round p v a r d targets xs (initial a)) ∙ new)) in
+                subst (λ t. AreDecided s t (xs ++ x ∷ [])) same (AreDecided-next s a r p v d targets xs (initial a) (decided a) at law.1)
+            | inr apart ↦ AreDecided-other s c xs x (decided c) new (ne_eqb a c apart) (λ slot. ap (λ t. t && (d.slot == slot)) (ne_eqb a c apart))
+          ]
     ]
 
 -- the rounds of a prefix are the first ones that are decided
@@ -154,7 +157,7 @@ AreDecided-take b s zero sound within a = AreDecided-nil s a
 AreDecided-take b s (suc m) sound within a =
     let x : Publication = publication_at s.published m in
     let more = AreDecided-push b s a (first x.view s.published) (take m s.published) x.process x.view x.entry
-      (IsInitial-take b s m sound (omega arith)) (AreDecided-take b s m sound (omega arith)) (sound.entries m (omega arith))
-      (IsNextAtMost-Sound b s m sound (omega arith)) in
+    (IsInitial-take b s m sound (omega arith)) (AreDecided-take b s m sound (omega arith)) (sound.entries m (omega arith))
+    (IsNextAtMost-Sound b s m sound (omega arith)) in
     let e : m + 1 ≡ suc m = omega arith in
     subst (AreDecided s a) (sym (take-publication_at s.published m (omega arith)) ∙ ap (λ k. take k s.published) e) more
