@@ -19,7 +19,7 @@ use Rattle.at_board.specs.declared.publication.Publication.{Publication}
 use Rattle.at_board.specs.Balances.{IsCovered, credit_of, debit_of, debits}
 use Rattle.at_board.specs.BoardState.{BoardState, publication_at}
 use Rattle.at_board.specs.Entries.{is_round_on}
-use Rattle.at_board.specs.Fronts.{first, place}
+use Rattle.at_board.specs.Fronts.{prefix_of, place}
 use Rattle.at_board.specs.Publications.{count_of, no_publication}
 use Rattle.at_board.specs.Rounds.{firsts, repeats, rounds}
 use Rattle.at_board.specs.Sound.{IsSoundDecision, IsSoundEntry, Sound}
@@ -91,14 +91,14 @@ not_own b s m i sound within above below own =
 
 -- an own record is covered where it stands
 IsCovered-own : (b : BookTerms) (s : BoardState) (m from : ℕ) (targets : List TargetPair) → Sound b s → m < length s.published
-    → IsSoundEntry b s (publication_at s.published m).process (first (publication_at s.published m).view s.published) (Own from targets)
+    → IsSoundEntry b s (publication_at s.published m).process (prefix_of (publication_at s.published m).view s.published) (Own from targets)
     → IsCovered b (take m s.published) from (amount_of targets)
 IsCovered-own b s m from targets sound within law =
     let x : Publication = publication_at s.published m in
     let before = place-view-le b s m sound within in
     let same = sum_by-firsts-take_same (λ y. debit_of from y.entry) s.published (place x.view) m before (omega arith)
     (λ i above below. inr (debit_of-single b s x.process (publication_at s.published i).process from
-    (first (publication_at s.published i).view s.published) (publication_at s.published i).entry
+    (prefix_of (publication_at s.published i).view s.published) (publication_at s.published i).entry
     (sound.entries i (omega arith)) law.single law.owner (not_own b s m i sound within above below))) in
     IsCovered-take b s.published from (amount_of targets) (place x.view) m before same law.covered
 
@@ -125,14 +125,14 @@ repeats_or_off b s a k i m sound shared same above below within =
                   rounds-take_mono a k i s.published above,
                   rounds-take_mono a (i + 1) m s.published (omega arith),
                 ))
-            | inr off ↦ inr (debit_of-shared b s x.process a (first x.view s.published) x.entry (sound.entries i (omega arith)) shared off)
+            | inr off ↦ inr (debit_of-shared b s x.process a (prefix_of x.view s.published) x.entry (sound.entries i (omega arith)) shared off)
           ]
     ]
 
 -- a success of a round is covered where the round's first record stands
 IsCovered-round : (b : BookTerms) (s : BoardState) (m a r : ℕ) (d : Decision) (targets : List TargetPair) → Sound b s → m < length s.published
     → (publication_at s.published m).entry ≡ Round a r d targets
-    → IsSoundEntry b s (publication_at s.published m).process (first (publication_at s.published m).view s.published) (Round a r d targets)
+    → IsSoundEntry b s (publication_at s.published m).process (prefix_of (publication_at s.published m).view s.published) (Round a r d targets)
     → rounds a (take m s.published) ≡ r → d.ok ≡ true → IsCovered b (take m s.published) a (amount_of targets)
 IsCovered-round b s m a r d targets sound within is law next ok =
     let x : Publication = publication_at s.published m in
@@ -158,7 +158,7 @@ CoversEntry b xs (Round a r d targets) = rounds a xs ≡ r → d.ok ≡ true →
 
 CoversEntry-entry : (b : BookTerms) (s : BoardState) (m : ℕ) (e : Entry) → Sound b s → m < length s.published
     → (publication_at s.published m).entry ≡ e
-    → IsSoundEntry b s (publication_at s.published m).process (first (publication_at s.published m).view s.published) e
+    → IsSoundEntry b s (publication_at s.published m).process (prefix_of (publication_at s.published m).view s.published) e
     → CoversEntry b (take m s.published) e
 CoversEntry-entry b s m (Own from targets) sound within is law = IsCovered-own b s m from targets sound within law
 CoversEntry-entry b s m (Round a r d targets) sound within is law = IsCovered-round b s m a r d targets sound within is law

@@ -7,7 +7,7 @@ use Rattle.std.proofs.lemmas.List.Sums.{sum_by-cons}
 use Rattle.at_base.specs.Counts.{Covers}
 use Rattle.at_board.proofs.CountLaws.{IsPosition, count_of-append, count_of-take_mono, get_or-counts, length-counts, position-below, position-below_from_count, publications_of-take, sum-counts, sum_by-sum_by_process}
 use Rattle.at_board.specs.declared.publication.Publication.{Publication}
-use Rattle.at_board.specs.Fronts.{IsFront, first, place}
+use Rattle.at_board.specs.Fronts.{IsFront, prefix_of, place}
 use Rattle.at_board.specs.Publications.{ArePublishedBy, IsPrefix, count_of, counts, no_publication, publications_of}
 
 -- prefixes
@@ -60,23 +60,23 @@ ArePublishedBy-IsPrefix n xs ys before known =
 -- fronts
 
 pub length-IsFront : (n : ℕ) (view : List ℕ) (xs : List Publication) → IsFront n view xs → length view ≡ n
-length-IsFront n view xs front = ap length (sym front) ∙ length-counts n (first view xs)
+length-IsFront n view xs front = ap length (sym front) ∙ length-counts n (prefix_of view xs)
 
 -- the entry of a front is the number of the process's publications in its prefix
 pub get_or-IsFront : (n : ℕ) (view : List ℕ) (xs : List Publication) (process : ℕ) → IsFront n view xs → process < n
-    → get_or view process 0 ≡ count_of process (first view xs)
+    → get_or view process 0 ≡ count_of process (prefix_of view xs)
 get_or-IsFront n view xs process front within =
-    ap (λ v. get_or v process 0) (sym front) ∙ get_or-counts n (first view xs) process 0 within
+    ap (λ v. get_or v process 0) (sym front) ∙ get_or-counts n (prefix_of view xs) process 0 within
 
 pub place-IsFront-le : (n : ℕ) (view : List ℕ) (xs : List Publication) → IsFront n view xs → ArePublishedBy n xs
     → place view ≤ length xs
 place-IsFront-le n view xs front known =
-    omega (arith, sum-counts n (first view xs) (ArePublishedBy-take n (place view) xs known), ap sum front, length-take (place view) xs)
+    omega (arith, sum-counts n (prefix_of view xs) (ArePublishedBy-take n (place view) xs known), ap sum front, length-take (place view) xs)
 
 -- the counts of a list are a front of it
 pub IsFront-counts : (n : ℕ) (xs : List Publication) → ArePublishedBy n xs → IsFront n (counts n xs) xs
 IsFront-counts n xs known =
-    let all : first (counts n xs) xs ≡ xs = take_all (place (counts n xs)) xs (omega (arith, sum-counts n xs known)) in
+    let all : prefix_of (counts n xs) xs ≡ xs = take_all (place (counts n xs)) xs (omega (arith, sum-counts n xs known)) in
     ap (counts n) all
 
 -- a front of a list is a front of every list that begins with it
@@ -86,9 +86,9 @@ IsFront-IsPrefix n view xs ys front known longer =
     ap (counts n) (take-IsPrefix-le (place view) xs ys (place-IsFront-le n view xs front known) longer) ∙ front
 
 -- its prefix is the same one
-pub first-IsPrefix : (n : ℕ) (view : List ℕ) (xs ys : List Publication) → IsFront n view xs → ArePublishedBy n xs
-    → IsPrefix xs ys → first view ys ≡ first view xs
-first-IsPrefix n view xs ys front known longer =
+pub prefix_of-IsPrefix : (n : ℕ) (view : List ℕ) (xs ys : List Publication) → IsFront n view xs → ArePublishedBy n xs
+    → IsPrefix xs ys → prefix_of view ys ≡ prefix_of view xs
+prefix_of-IsPrefix n view xs ys front known longer =
     take-IsPrefix-le (place view) xs ys (place-IsFront-le n view xs front known) longer
 
 -- a front of a list whose place a prefix reaches is a front of that prefix
@@ -158,18 +158,18 @@ place-IsFront-above n view xs ys process front within before more =
       ))
     ]
 
-pub IsPrefix-first : (n : ℕ) (view : List ℕ) (xs ys : List Publication) (process : ℕ) → IsFront n view ys → process < n
-    → IsPrefix xs ys → count_of process xs < get_or view process 0 → IsPrefix xs (first view ys)
-IsPrefix-first n view xs ys process front within before more =
+pub IsPrefix-prefix_of : (n : ℕ) (view : List ℕ) (xs ys : List Publication) (process : ℕ) → IsFront n view ys → process < n
+    → IsPrefix xs ys → count_of process xs < get_or view process 0 → IsPrefix xs (prefix_of view ys)
+IsPrefix-prefix_of n view xs ys process front within before more =
     let above = place-IsFront-above n view xs ys process front within before more in
-    subst (λ t. IsPrefix t (first view ys)) (take-IsPrefix xs ys before)
+    subst (λ t. IsPrefix t (prefix_of view ys)) (take-IsPrefix xs ys before)
     (IsPrefix-take_mono (length xs) (place view) ys (omega arith))
 
 -- a prefix that a front covers is a prefix of the front's
-pub IsPrefix-first_from_le : (view : List ℕ) (xs ys : List Publication) → IsPrefix xs ys → length xs ≤ place view
-    → IsPrefix xs (first view ys)
-IsPrefix-first_from_le view xs ys before covered =
-    subst (λ t. IsPrefix t (first view ys)) (take-IsPrefix xs ys before)
+pub IsPrefix-prefix_of_from_le : (view : List ℕ) (xs ys : List Publication) → IsPrefix xs ys → length xs ≤ place view
+    → IsPrefix xs (prefix_of view ys)
+IsPrefix-prefix_of_from_le view xs ys before covered =
+    subst (λ t. IsPrefix t (prefix_of view ys)) (take-IsPrefix xs ys before)
     (IsPrefix-take_mono (length xs) (place view) ys covered)
 
 -- two sums over numbers in a row are equal where their terms are
@@ -186,11 +186,11 @@ sum_by-range_same f g a (suc n) same =
     )
 
 -- a sum over a front's prefix depends on which publications the front counts alone
-pub sum_by-first : (f : Publication → ℕ) (n : ℕ) (view : List ℕ) (xs : List Publication) → IsFront n view xs → ArePublishedBy n xs
-    → sum_by f (first view xs)
+pub sum_by-prefix_of : (f : Publication → ℕ) (n : ℕ) (view : List ℕ) (xs : List Publication) → IsFront n view xs → ArePublishedBy n xs
+    → sum_by f (prefix_of view xs)
     ≡ sum_by (λ p. sum_by f (take (get_or view p 0) (publications_of p xs))) (range_with_len 0 n)
-sum_by-first f n view xs front known =
-    sum_by-sum_by_process f n (first view xs) (ArePublishedBy-take n (place view) xs known)
-    ∙ sum_by-range_same (λ p. sum_by f (publications_of p (first view xs))) (λ p. sum_by f (take (get_or view p 0) (publications_of p xs))) 0 n
+sum_by-prefix_of f n view xs front known =
+    sum_by-sum_by_process f n (prefix_of view xs) (ArePublishedBy-take n (place view) xs known)
+    ∙ sum_by-range_same (λ p. sum_by f (publications_of p (prefix_of view xs))) (λ p. sum_by f (take (get_or view p 0) (publications_of p xs))) 0 n
     (λ p above below. ap (sum_by f) (publications_of-take p (place view) xs
     ∙ ap (λ i. take i (publications_of p xs)) (sym (get_or-IsFront n view xs p front (omega arith)))))

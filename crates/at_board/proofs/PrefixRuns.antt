@@ -28,7 +28,7 @@ use Rattle.at_board.specs.declared.publication.Publication.{Publication}
 use Rattle.at_board.specs.Balances.{IsCovered, amount_for, credit_of, debit_of}
 use Rattle.at_board.specs.BoardState.{BoardState, publication_at}
 use Rattle.at_board.specs.Entries.{is_own}
-use Rattle.at_board.specs.Fronts.{first}
+use Rattle.at_board.specs.Fronts.{prefix_of}
 use Rattle.at_board.specs.Moves.{AreRuns, IsRun, decided_owner, move_of, moves}
 use Rattle.at_board.specs.Places.{slots_of}
 use Rattle.at_board.specs.Publications.{no_publication}
@@ -195,7 +195,7 @@ own-room b s m sound within own =
 RunsSo-own : (b : BookTerms) (s : BoardState) (m from : ℕ) (targets : List TargetPair) → Sound b s → m < length s.published
     → let x : Publication = publication_at s.published m in
     is_own x.entry ≡ true
-    → IsSoundEntry b s x.process (first x.view s.published) (Own from targets) → CoversEntry b (take m s.published) (Own from targets)
+    → IsSoundEntry b s x.process (prefix_of x.view s.published) (Own from targets) → CoversEntry b (take m s.published) (Own from targets)
     → RunsSo b (take m s.published) → RunsSo b (take m s.published ++ published x.process x.view (Own from targets) ∷ [])
 RunsSo-own b s m from targets sound within own law covered so =
     let xs = take m s.published in
@@ -295,7 +295,7 @@ RunsSo-round b s xs p v prefix a r d targets sound begun new ok law decided at c
 -- one more publication
 RunsSo-entry : (b : BookTerms) (s : BoardState) (m : ℕ) (e : Entry) → Sound b s → IsBegun b → m < length s.published
     → let x : Publication = publication_at s.published m in
-    x.entry ≡ e → IsSoundEntry b s x.process (first x.view s.published) e → CoversEntry b (take m s.published) e
+    x.entry ≡ e → IsSoundEntry b s x.process (prefix_of x.view s.published) e → CoversEntry b (take m s.published) e
     → RunsSo b (take m s.published) → RunsSo b (take m s.published ++ published x.process x.view e ∷ [])
 RunsSo-entry b s m (Own from targets) sound begun within is law covered so =
     RunsSo-own b s m from targets sound within (ap is_own is) law covered so
@@ -312,7 +312,7 @@ RunsSo-entry b s m (Round a r d targets) sound begun within is law covered so =
                 let next : r ≤ rounds a xs = subst (λ (t : Entry). IsNextAtMost xs t) is (IsNextAtMost-Sound b s m sound within) in
                 let initial = IsInitial-take b s m sound (omega arith) a in
                 let at : rounds a xs ≡ r = omega (arith, next, ltb-false r (rounds a xs) (sym (repeats-round p v a r d targets xs initial) ∙ new)) in
-                RunsSo-round b s xs p v (first v s.published) a r d targets sound begun new ok law (AreDecided-take b s m sound (omega arith) a) at (covered at ok) so
+                RunsSo-round b s xs p v (prefix_of v s.published) a r d targets sound begun new ok law (AreDecided-take b s m sound (omega arith) a) at (covered at ok) so
             | inr refused ↦ RunsSo-refused b xs p v a r d targets new refused so
           ]
     ]

@@ -15,7 +15,7 @@ use Rattle.at_board.specs.declared.publication.Entry.TheVariants.{Own, Round}
 use Rattle.at_board.specs.declared.publication.Publication.{Publication}
 use Rattle.at_board.specs.BoardState.{BoardState, decision_at, publication_at}
 use Rattle.at_board.specs.Entries.{is_round_on}
-use Rattle.at_board.specs.Fronts.{first, place}
+use Rattle.at_board.specs.Fronts.{prefix_of, place}
 use Rattle.at_board.specs.Publications.{ArePublishedBy, no_publication}
 use Rattle.at_board.specs.Rounds.{firsts, repeats, rounds}
 use Rattle.at_board.specs.Sound.{IsDecidedSo, IsSoundEntry, Sound}
@@ -50,7 +50,7 @@ pub IsNextAtMost-Sound : (b : BookTerms) (s : BoardState) (m : ℕ) → Sound b 
     → IsNextAtMost (take m s.published) (publication_at s.published m).entry
 IsNextAtMost-Sound b s m sound within =
     let x : Publication = publication_at s.published m in
-    IsNextAtMost-entry b s x.process (first x.view s.published) (take m s.published) x.entry (sound.entries m within)
+    IsNextAtMost-entry b s x.process (prefix_of x.view s.published) (take m s.published) x.entry (sound.entries m within)
     (λ a. rounds-take_mono a (place x.view) m s.published (place-view-le b s m sound within))
 
 -- the next prefix
@@ -156,7 +156,7 @@ pub AreDecided-take : (b : BookTerms) (s : BoardState) (m : ℕ) → Sound b s �
 AreDecided-take b s zero sound within a = AreDecided-nil s a
 AreDecided-take b s (suc m) sound within a =
     let x : Publication = publication_at s.published m in
-    let more = AreDecided-push b s a (first x.view s.published) (take m s.published) x.process x.view x.entry
+    let more = AreDecided-push b s a (prefix_of x.view s.published) (take m s.published) x.process x.view x.entry
     (IsInitial-take b s m sound (omega arith)) (AreDecided-take b s m sound (omega arith)) (sound.entries m (omega arith))
     (IsNextAtMost-Sound b s m sound (omega arith)) in
     let e : m + 1 ≡ suc m = omega arith in

@@ -11,7 +11,7 @@ use Rattle.at_board.specs.declared.publication.Publication.{Publication}
 use Rattle.at_board.specs.declared.request.Request.{Request}
 use Rattle.at_board.specs.declared.view.View.{View}
 use Rattle.at_board.specs.Balances.{IsCovered}
-use Rattle.at_board.specs.Fronts.{first}
+use Rattle.at_board.specs.Fronts.{prefix_of}
 use Rattle.at_board.specs.Places.{record_width}
 use Rattle.at_board.specs.Publications.{count_of}
 use Rattle.at_board.specs.Rounds.{is_settled, owns_of, rounds}
@@ -37,7 +37,7 @@ pub record MayPublish (b : BookTerms) (v : View) (x : Publication) : Type 0 wher
   pub room : (own_part v).published < log_room_of b v.first
   pub stored : (own_part v).stored ≡ record_words x
   pub view : HasView b v.seen x
-  pub entry : MayEnter b v (first x.view v.seen) x.entry
+  pub entry : MayEnter b v (prefix_of x.view v.seen) x.entry
 
 -- the seat has seen this record, which has this word
 pub record MayLoadWord (b : BookTerms) (v : View) (p i j : ℕ) : Type 0 where

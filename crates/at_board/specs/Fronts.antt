@@ -8,9 +8,9 @@ abbrev pub place : List ℕ → ℕ
 place view = sum view
 
 -- the publications that a front counts
-abbrev pub first : List ℕ → List Publication → List Publication
-first view list = take (place view) list
+abbrev pub prefix_of : List ℕ → List Publication → List Publication
+prefix_of view list = take (place view) list
 
 -- the counts of the view are those of a prefix of the list
 abbrev pub IsFront : ℕ → List ℕ → List Publication → Type 0
-IsFront processes view list = counts processes (first view list) ≡ view
+IsFront processes view list = counts processes (prefix_of view list) ≡ view

@@ -14,7 +14,7 @@ use Rattle.at_board.specs.declared.view.Cell.{Cell}
 use Rattle.at_board.specs.Balances.{IsCovered}
 use Rattle.at_board.specs.BoardState.{BoardState, decision_at, publication_at, request_at}
 use Rattle.at_board.specs.Entries.{is_round}
-use Rattle.at_board.specs.Fronts.{IsFront, first, place}
+use Rattle.at_board.specs.Fronts.{IsFront, prefix_of, place}
 use Rattle.at_board.specs.Places.{slots_of}
 use Rattle.at_board.specs.Publications.{count_of}
 use Rattle.at_board.specs.Rounds.{is_settled, owns_of, rounds}
@@ -90,7 +90,7 @@ IsHeld b s c = (p : ℕ) × (p < b.processes) × (s.held p ≡ Some c)
 pub record Sound (b : BookTerms) (s : BoardState) : Type 0 where
   pub views : (m : ℕ) → m < length s.published → HasView b (take m s.published) (publication_at s.published m)
   pub entries : (m : ℕ) → m < length s.published → let x : Publication = publication_at s.published m in
-      IsSoundEntry b s x.process (first x.view s.published) x.entry
+      IsSoundEntry b s x.process (prefix_of x.view s.published) x.entry
   pub own_room : (p : ℕ) → owns_of p s.published ≤ b.own_room
   pub decisions : (a r : ℕ) → r < length (s.cells a) → IsSoundDecision b s a r (decision_at (s.cells a) r)
   pub numbers : (a r : ℕ) → r < length (s.cells a) → let d : Decision = decision_at (s.cells a) r in
