@@ -9,3 +9,4 @@ pub mod CoverLaws
 pub mod PayLaws
 pub mod FollowLaws
 pub mod PrefixRuns
+pub mod OpeningLaws

@@ -13,4 +13,5 @@ pub mod Shown
 pub mod Views
 pub mod Fresh
 pub mod Conditions
+pub mod Steps
 pub mod Seated
