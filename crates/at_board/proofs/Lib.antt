@@ -10,3 +10,6 @@ pub mod PayLaws
 pub mod FollowLaws
 pub mod PrefixRuns
 pub mod OpeningLaws
+pub mod SeatLaws
+pub mod HistoryLaws
+pub mod LoadLaws
