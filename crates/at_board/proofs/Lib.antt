@@ -13,3 +13,4 @@ pub mod OpeningLaws
 pub mod SeatLaws
 pub mod HistoryLaws
 pub mod LoadLaws
+pub mod StoreLaws
