@@ -14,3 +14,5 @@ pub mod SeatLaws
 pub mod HistoryLaws
 pub mod LoadLaws
 pub mod StoreLaws
+pub mod PushLaws
+pub mod PublishLaws

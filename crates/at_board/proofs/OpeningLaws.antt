@@ -34,7 +34,7 @@ starting_words b = replicate (word_count b) 0
 abbrev pub starting_state : BoardState
 starting_state = record { published = []; cells = λ a. []; rows = λ a slot. []; held = λ p. None }
 
-get_or-zeros : (n i : ℕ) → get_or (replicate n zero) i zero ≡ zero
+pub get_or-zeros : (n i : ℕ) → get_or (replicate n zero) i zero ≡ zero
 get_or-zeros n i =
     elim (cases_lt i n) as (λ _. get_or (replicate n zero) i zero ≡ zero) [
       inl below ↦ get_or-replicate n i zero zero below

@@ -143,7 +143,7 @@ HasPart-store b words s v u p q j w sized here seen requests has =
     }
 
 -- the processes of other seats are others
-other_process : (b : BookTerms) (seat : ℕ → ℕ) (views : List View) (id other k : ℕ) (v u : View) → AreSeated b seat views
+pub other_process : (b : BookTerms) (seat : ℕ → ℕ) (views : List View) (id other k : ℕ) (v u : View) → AreSeated b seat views
     → get_elem? views id ≡ some v → 0 < length v.parts → get_elem? views other ≡ some u → k < length u.parts → other ≢ id
     → u.first + k ≢ v.first
 other_process b seat views id other k v u seated found part there within apart = λ e.
