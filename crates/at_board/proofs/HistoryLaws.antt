@@ -1,6 +1,5 @@
 -- What a sound board shows of its list of publications.
-use Rattle.std.proofs.Common.{◌≡◌, ℕ, ◌<◌, List, length, subst, arith}
-use Rattle.at_base.specs.declared.decision.Decision.{Decision}
+use Rattle.std.proofs.Common.{ℕ, List, subst}
 use Rattle.at_ledger.specs.Book.{BookTerms, IsBegun}
 use Rattle.at_board.proofs.PrefixRuns.{AreRuns-Sound}
 use Rattle.at_board.specs.declared.publication.Entry.{Entry}
@@ -24,8 +23,8 @@ pub IsHistory-Sound : (b : BookTerms) (words : List ℕ) (s : BoardState) → Sh
 IsHistory-Sound b words s shown sound begun = record {
   views = sound.views;
   entries = λ m within.
-    let x : Publication = publication_at s.published m in
-    IsShownEntry-Sound b s x.process (prefix_of x.view s.published) x.entry sound (sound.entries m within);
+      let x : Publication = publication_at s.published m in
+      IsShownEntry-Sound b s x.process (prefix_of x.view s.published) x.entry sound (sound.entries m within);
   room = shown.records.room;
   runs = AreRuns-Sound b s sound begun;
 }

@@ -16,3 +16,5 @@ pub mod LoadLaws
 pub mod StoreLaws
 pub mod PushLaws
 pub mod PublishLaws
+pub mod StepLaws
+pub mod SeatKept

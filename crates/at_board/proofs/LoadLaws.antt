@@ -1,5 +1,5 @@
 -- A load of a length keeps the rule, and what it tells.
-use Rattle.std.proofs.Common.{◌≡◌, ◌≢◌, ℕ, ◌+◌, ◌<◌, ◌≤◌, zero, suc, List, length, get_or, set, refl, sym, ap, subst, ◌∙◌, arith}
+use Rattle.std.proofs.Common.{◌≡◌, ◌≢◌, ℕ, ◌+◌, ◌<◌, zero, suc, List, length, get_or, set, refl, sym, ap, subst, ◌∙◌, arith}
 use lib.ListN.{get_elem?}
 use mathlib.Core.Option.{some}
 use Rattle.std.proofs.lemmas.List.{get_or-set_other, get_or-set_same, length-set}
@@ -49,14 +49,14 @@ Knows-load : (b : BookTerms) (words : List ℕ) (s : BoardState) (v : View) (p n
 Knows-load b words s v p n part knows =
     let u : View = loaded v s.published p n in
     let moved : (k : ℕ) → k < length v.parts → HasPart b words s u (v.first + k) (part_at v k) =
-      λ k within. HasPart-all b words s v u (v.first + k) (part_at v k) knows.seen refl refl (knows.parts k within) in
+    λ k within. HasPart-all b words s v u (v.first + k) (part_at v k) knows.seen refl refl (knows.parts k within) in
     record {
       seen = IsPrefix-refl s.published;
       requests = knows.requests;
       decisions = knows.decisions;
       joined = knows.joined;
       parts = parts_after (λ k q. HasPart b words s u (v.first + k) q) v.parts (with_load (own_part v) p n) part
-        (HasPart-load b words s u (v.first + 0) (own_part v) p n (moved 0 part)) (λ k apart within. moved k within);
+          (HasPart-load b words s u (v.first + 0) (own_part v) p n (moved 0 part)) (λ k apart within. moved k within);
     }
 
 pub LoadsLength-Ruled : (b : BookTerms) (words : List ℕ) (views : List View) (id : ℕ) (v : View) (p : ℕ) → Ruled b words views → IsBegun b
@@ -68,8 +68,8 @@ LoadsLength-Ruled b words views id v p ruled begun found part within =
     let w : View = loaded v s.published p n in
     let knows = ruled.knows id v found in
     let own : HasPart b words s v (v.first + 0) (own_part v) = knows.parts 0 part in
-    let first : v.first + 0 ≡ v.first = omega arith in
-    (w,
+    let first : v.first + 0 ≡ v.first = omega arith in (
+      w,
       record {
         state = s;
         seat = ruled.seat;
@@ -84,4 +84,5 @@ LoadsLength-Ruled b words views id v p ruled begun found part within =
         own = ap (λ k. count_of k s.published) (sym first) ∙ sym own.published;
         history = IsHistory-Sound b words s ruled.shown ruled.sound begun;
         same = refl;
-      })
+      },
+    )

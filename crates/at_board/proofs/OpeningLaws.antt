@@ -1,5 +1,5 @@
 -- The rule holds of a new board.
-use Rattle.std.proofs.Common.{◌≡◌, ℕ, ◌+◌, ◌<◌, ◌≤◌, zero, suc, ltb, cond, List, [], ◌∷◌, length, get_or, replicate, Option, Some, None, refl, sym, ap, subst, ◌∙◌, arith, inl, inr, ◌⊎◌}
+use Rattle.std.proofs.Common.{◌≡◌, ℕ, ◌+◌, ◌<◌, ◌≤◌, zero, suc, cond, List, [], ◌∷◌, length, get_or, replicate, None, refl, sym, ap, subst, ◌∙◌, arith, inl, inr}
 use lib.ListN.{get_elem?}
 use mathlib.Core.Option.{some, some-injective, some-ne-none}
 use Rattle.std.proofs.lemmas.Bool.{cases_lt, le-ltb}
@@ -10,21 +10,14 @@ use Rattle.at_ledger.specs.Book.{BookTerms}
 use Rattle.at_board.proofs.CountLaws.{publications_of-nil}
 use Rattle.at_board.proofs.FrontLaws.{IsPrefix-refl}
 use Rattle.at_board.specs.declared.publication.Publication.{Publication}
-use Rattle.at_board.specs.declared.view.Asking.{Asking}
-use Rattle.at_board.specs.declared.view.Cell.{Cell}
-use Rattle.at_board.specs.declared.view.Part.{Part}
-use Rattle.at_board.specs.declared.view.SeenDecision.{SeenDecision}
-use Rattle.at_board.specs.declared.view.SeenRequest.{SeenRequest}
 use Rattle.at_board.specs.declared.view.View.{View}
-use Rattle.at_board.specs.BoardState.{BoardState, decision_at, request_at}
+use Rattle.at_board.specs.BoardState.{BoardState, decision_at}
 use Rattle.at_board.specs.Places.{Place, announced_of, cell_of, length_of, place_at, record_width, record_word, request_word, word_at, word_count}
 use Rattle.at_board.specs.Publications.{IsPrefix, count_of}
-use Rattle.at_board.specs.Rounds.{rounds}
-use Rattle.at_board.specs.Seated.{AreSeated, Holds, Ruled}
+use Rattle.at_board.specs.Seated.{Ruled}
 use Rattle.at_board.specs.Shown.{Shown}
 use Rattle.at_board.specs.Sound.{Sound}
-use Rattle.at_board.specs.Views.{HasAsking, HasPart, HasSlot, IsAnnounced, IsDecided, Knows, asking_on, no_asking, no_part, part_at, starting_asking, starting_part, starting_view}
-use Rattle.at_board.specs.Words.{cell_word}
+use Rattle.at_board.specs.Views.{HasAsking, HasPart, IsAnnounced, IsDecided, Knows, no_asking, no_part, starting_asking, starting_part, starting_view}
 
 -- all words are 0
 abbrev pub starting_words : BookTerms → List ℕ
@@ -37,8 +30,8 @@ starting_state = record { published = []; cells = λ a. []; rows = λ a slot. []
 pub get_or-zeros : (n i : ℕ) → get_or (replicate n zero) i zero ≡ zero
 get_or-zeros n i =
     elim (cases_lt i n) as (λ _. get_or (replicate n zero) i zero ≡ zero) [
-      inl below ↦ get_or-replicate n i zero zero below
-    | inr above ↦ get_or_past (replicate n zero) i zero (omega (arith, length-replicate n zero))
+      | inl below ↦ get_or-replicate n i zero zero below
+      | inr above ↦ get_or_past (replicate n zero) i zero (omega (arith, length-replicate n zero))
     ]
 
 word_at-starting : (b : BookTerms) (x : Place) → word_at b (starting_words b) x ≡ 0
@@ -101,7 +94,7 @@ HasPart-starting b p within = record {
   lengths = length-replicate b.processes (record { times = 0; last = 0 });
   accounts = length-replicate (length b.accounts) starting_asking;
   asking = λ a slot has. subst (HasAsking b (starting_words b) starting_state (starting_view b) a slot)
-    (sym (get_or-replicate (length b.accounts) a starting_asking no_asking has.account_in)) (HasAsking-starting b a slot);
+      (sym (get_or-replicate (length b.accounts) a starting_asking no_asking has.account_in)) (HasAsking-starting b a slot);
 }
 
 Knows-starting : (b : BookTerms) → Knows b (starting_words b) starting_state (starting_view b)
@@ -111,11 +104,11 @@ Knows-starting b = record {
   decisions = All-nil (IsDecided starting_state);
   joined = All-nil (λ (list : List Publication). IsPrefix list []);
   parts = λ k within.
-    let inside : k < b.processes = omega (arith, length-replicate b.processes (starting_part b)) in
-    let e : k ≡ 0 + k = omega arith in
-    subst (HasPart b (starting_words b) starting_state (starting_view b) (0 + k))
-    (sym (get_or-replicate b.processes k (starting_part b) no_part inside))
-    (subst (λ t. HasPart b (starting_words b) starting_state (starting_view b) t (starting_part b)) e (HasPart-starting b k inside));
+      let inside : k < b.processes = omega (arith, length-replicate b.processes (starting_part b)) in
+      let e : k ≡ 0 + k = omega arith in
+      subst (HasPart b (starting_words b) starting_state (starting_view b) (0 + k))
+      (sym (get_or-replicate b.processes k (starting_part b) no_part inside))
+      (subst (λ t. HasPart b (starting_words b) starting_state (starting_view b) t (starting_part b)) e (HasPart-starting b k inside));
 }
 
 -- the only view of a list of one

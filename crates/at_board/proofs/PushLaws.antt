@@ -1,13 +1,13 @@
 -- A sound board with one more publication.
-use Rattle.std.proofs.Common.{◌≡◌, ◌≢◌, ◌↔◌, ℕ, ◌+◌, ◌<◌, ◌≤◌, ◌==◌, ◌&&◌, ◌||◌, zero, suc, Bool, true, false, cond, List, [], ◌∷◌, ◌++◌, length, get_or, take, Option, Some, None, refl, sym, ap, subst, ◌∙◌, arith, inl, inr, ◌⊎◌}
-use Rattle.std.specs.List.{All, Contains, count_by, list_any, sum_by}
+use Rattle.std.proofs.Common.{◌≡◌, ◌↔◌, ℕ, ◌<◌, ◌≤◌, ◌==◌, ◌&&◌, ◌||◌, Bool, true, false, cond, List, [], ◌∷◌, ◌++◌, length, take, Option, Some, None, refl, sym, ap, subst, ◌∙◌, arith, inl, inr, ◌⊎◌}
+use Rattle.std.specs.List.{All, Contains, list_any}
 use Rattle.std.proofs.lemmas.Bool.{and_from, and_parts, cases_Bool, cases_eq, cases_lt, eq-eqb, eqb-true, ne_eqb, or_left, or_right}
 use Rattle.std.proofs.lemmas.List.{get_or_append_left, get_or_push, length_push, take-append-le, take_at}
 use Rattle.std.proofs.lemmas.List.Folds.{list_any-append}
 use Rattle.std.proofs.lemmas.List.Sums.{length-filter, sum_by-append, sum_by-le-sum_by, sum_by_push}
 use Rattle.at_base.specs.declared.decision.Decision.{Decision}
 use Rattle.at_ledger.specs.Book.{BookTerms}
-use Rattle.at_ledger.specs.Call.{TargetPair, amount_of}
+use Rattle.at_ledger.specs.Call.{amount_of}
 use Rattle.at_board.proofs.CountLaws.{count_of-append}
 use Rattle.at_board.proofs.FrontLaws.{ArePublishedBy-IsPrefix, IsFront-IsPrefix, place-IsFront-le, prefix_of-IsPrefix}
 use Rattle.at_board.proofs.RoundLaws.{one_if}
@@ -24,12 +24,12 @@ use Rattle.at_board.specs.Balances.{IsCovered}
 use Rattle.at_board.specs.BoardState.{BoardState, decision_at, publication_at, request_at}
 use Rattle.at_board.specs.Conditions.{MayEnter, MayPublish}
 use Rattle.at_board.specs.Entries.{is_own, is_round}
-use Rattle.at_board.specs.Fronts.{IsFront, place, prefix_of}
-use Rattle.at_board.specs.Publications.{ArePublishedBy, IsPrefix, count_of, no_publication, publications_of}
+use Rattle.at_board.specs.Fronts.{place, prefix_of}
+use Rattle.at_board.specs.Publications.{IsPrefix, count_of, no_publication, publications_of}
 use Rattle.at_board.specs.Rounds.{is_settled, owns_of, rounds}
-use Rattle.at_board.specs.Sound.{HasView, IsDecidedSo, IsHeld, IsPublished, IsSoundDecision, IsSoundEntry, IsSoundRequest, Sound}
+use Rattle.at_board.specs.Sound.{HasView, IsHeld, IsPublished, IsSoundDecision, IsSoundEntry, IsSoundRequest, Sound}
 use Rattle.at_board.specs.Steps.{gives_up, held_after}
-use Rattle.at_board.specs.Views.{IsAnnounced, IsDecided, Knows, SeesDecision, SeesRequest}
+use Rattle.at_board.specs.Views.{IsAnnounced, IsDecided, Knows}
 
 -- the state with one more publication of a process
 abbrev pub pushed : BoardState → ℕ → Publication → BoardState
@@ -44,13 +44,13 @@ push_all : (F : List Publication → Publication → Type 0) (xs : List Publicat
     → (m : ℕ) → m < length (xs ++ x ∷ []) → F (take m (xs ++ x ∷ [])) (publication_at (xs ++ x ∷ []) m)
 push_all F xs x old new m within =
     elim (cases_lt m (length xs)) as (λ _. F (take m (xs ++ x ∷ [])) (publication_at (xs ++ x ∷ []) m)) [
-      inl below ↦
-        subst (λ y. F (take m (xs ++ x ∷ [])) y) (sym (get_or_append_left xs (x ∷ []) no_publication m below))
-        (subst (λ t. F t (publication_at xs m)) (sym (take-append-le m xs (x ∷ []) (omega arith))) (old m below))
-    | inr above ↦
-        let at : length xs ≡ m = omega (arith, length_push xs x) in
-        subst (λ y. F (take m (xs ++ x ∷ [])) y) (sym (get_or_push xs x no_publication m at))
-        (subst (λ t. F t x) (sym (take_at xs (x ∷ []) m at)) new)
+      | inl below ↦
+          subst (λ y. F (take m (xs ++ x ∷ [])) y) (sym (get_or_append_left xs (x ∷ []) no_publication m below))
+          (subst (λ t. F t (publication_at xs m)) (sym (take-append-le m xs (x ∷ []) (omega arith))) (old m below))
+      | inr above ↦
+          let at : length xs ≡ m = omega (arith, length_push xs x) in
+          subst (λ y. F (take m (xs ++ x ∷ [])) y) (sym (get_or_push xs x no_publication m at))
+          (subst (λ t. F t x) (sym (take_at xs (x ∷ []) m at)) new)
     ]
 
 -- what a seat has seen is so on the board
@@ -67,12 +67,14 @@ IsSoundEntry-MayEnter b words s v prefix (Own from targets) knows may = may.0
 IsSoundEntry-MayEnter b words s v prefix (Round a r d targets) knows may =
     let decided = seen_decision s v.decisions (record { account = a; round = r; decision = d }) knows.decisions may.1 in
     let named = may.2 in
-    let announced = seen_request s v.requests (record { account = a; slot = d.slot; number = d.number; request = named.0 }) knows.requests named.1 in
-    (may.0, record {
-      decided = decided.0;
-      decision = decided.1;
-      same_targets = ap (λ (r : Request). r.targets) announced.1 ∙ named.2;
-    })
+    let announced = seen_request s v.requests (record { account = a; slot = d.slot; number = d.number; request = named.0 }) knows.requests named.1 in (
+      may.0,
+      record {
+        decided = decided.0;
+        decision = decided.1;
+        same_targets = ap (λ (r : Request). r.targets) announced.1 ∙ named.2;
+      },
+    )
 
 -- the laws of entries read the cells and rows alone
 IsSoundEntry-pushed : (b : BookTerms) (s : BoardState) (k : ℕ) (x : Publication) (p : ℕ) (prefix : List Publication) (e : Entry)
@@ -116,8 +118,11 @@ IsSoundRequest-pushed b s k x a slot number r law =
 owns_of-le : (p : ℕ) (xs : List Publication) → owns_of p xs ≤ count_of p xs
 unfolding publications_of
 owns_of-le p xs =
-    omega (arith, length-filter (λ x. x.process == p) xs,
-      sum_by-le-sum_by (λ x. one_if ((x.process == p) && is_own x.entry)) (λ x. one_if (x.process == p)) xs (λ x. one_of_both (x.process == p) (is_own x.entry)))
+    omega (
+      arith,
+      length-filter (λ x. x.process == p) xs,
+      sum_by-le-sum_by (λ x. one_if ((x.process == p) && is_own x.entry)) (λ x. one_if (x.process == p)) xs (λ x. one_of_both (x.process == p) (is_own x.entry)),
+    )
   where
     one_of_both : (t u : Bool) → one_if (t && u) ≤ one_if t
     one_of_both true true = omega arith
@@ -138,13 +143,13 @@ own_room-pushed b v xs prefix p k view (Own from targets) first may same old =
     let x : Publication = record { process = p; view = view; entry = Own from targets } in
     let more = sum_by_push (λ y. one_if ((y.process == k) && is_own y.entry)) xs x in
     elim (cases_eq p k) as (λ _. owns_of k (xs ++ x ∷ []) ≤ b.own_room) [
-      inl mine ↦
-        let here = ap (λ t. owns_of t xs) (sym mine ∙ first) in
-        let one : one_if ((p == k) && true) ≡ one_if true = ap (λ t. one_if (t && true)) (eq-eqb p k mine) in
-        omega (arith, more, one, here, same, may.1)
-    | inr other ↦
-        let none : one_if ((p == k) && true) ≡ one_if false = ap (λ t. one_if (t && true)) (ne_eqb p k other) in
-        omega (arith, more, none, old)
+      | inl mine ↦
+          let here = ap (λ t. owns_of t xs) (sym mine ∙ first) in
+          let one : one_if ((p == k) && true) ≡ one_if true = ap (λ t. one_if (t && true)) (eq-eqb p k mine) in
+          omega (arith, more, one, here, same, may.1)
+      | inr other ↦
+          let none : one_if ((p == k) && true) ≡ one_if false = ap (λ t. one_if (t && true)) (ne_eqb p k other) in
+          omega (arith, more, none, old)
     ]
 own_room-pushed b v xs prefix p k view (Round a r d targets) first may same old =
     let x : Publication = record { process = p; view = view; entry = Round a r d targets } in
@@ -160,15 +165,15 @@ held_before : (x : Publication) (o : Option Cell) (c : Cell) → held_after x o 
 held_before x None c held = held
 held_before x (Some o) c held =
     elim (cases_Bool (gives_up x o)) as (λ _. Some o ≡ Some c) [
-      inl given ↦ cc (sym (ap (λ (t : Bool). cond t None (Some o)) given) ∙ held)
-    | inr kept ↦ sym (ap (λ (t : Bool). cond t None (Some o)) kept) ∙ held
+      | inl given ↦ cc (sym (ap (λ (t : Bool). cond t None (Some o)) given) ∙ held)
+      | inr kept ↦ sym (ap (λ (t : Bool). cond t None (Some o)) kept) ∙ held
     ]
 
 held_before-pushed : (s : BoardState) (p k : ℕ) (x : Publication) (c : Cell) → (pushed s p x).held k ≡ Some c → s.held k ≡ Some c
 held_before-pushed s p k x c held =
     elim (cases_Bool (k == p)) as (λ _. s.held k ≡ Some c) [
-      inl own ↦ held_before x (s.held k) c (sym (ap (λ (t : Bool). cond t (held_after x (s.held k)) (s.held k)) own) ∙ held)
-    | inr other ↦ sym (ap (λ (t : Bool). cond t (held_after x (s.held k)) (s.held k)) other) ∙ held
+      | inl own ↦ held_before x (s.held k) c (sym (ap (λ (t : Bool). cond t (held_after x (s.held k)) (s.held k)) own) ∙ held)
+      | inr other ↦ sym (ap (λ (t : Bool). cond t (held_after x (s.held k)) (s.held k)) other) ∙ held
     ]
 
 -- a record that gives a cell up is of its round, with the view of its decision
@@ -180,8 +185,8 @@ published-gives_up b s p a r v prefix (Round account round d targets) law given 
     let one = and_parts (account == a) ((round == r) && (place v == d.place)) given in
     let two = and_parts (round == r) (place v == d.place) one.1 in
     let here : decision_at (s.cells a) r ≡ d =
-      subst (λ t. decision_at (s.cells t) r ≡ d) (eqb-true account a one.0)
-      (subst (λ t. decision_at (s.cells account) t ≡ d) (eqb-true round r two.0) law.1.decision) in
+    subst (λ t. decision_at (s.cells t) r ≡ d) (eqb-true account a one.0)
+    (subst (λ t. decision_at (s.cells account) t ≡ d) (eqb-true round r two.0) law.1.decision) in
     and_from (is_round a r (Round account round d targets)) (place v == (decision_at (s.cells a) r).place)
     (and_from (account == a) (round == r) one.0 two.0)
     (eq-eqb (place v) (decision_at (s.cells a) r).place (eqb-true (place v) d.place two.1 ∙ sym (ap (λ (t : Decision). t.place) here)))
@@ -198,19 +203,19 @@ published-pushed b s p a r x prefix law (inr (k, known, held)) =
     let test : Publication → Bool = λ y. is_round a r y.entry && (place y.view == (decision_at (s.cells a) r).place) in
     let c : Cell = record { account = a; round = r } in
     elim (cases_Bool (k == p)) as (λ _. IsPublished a r (decision_at (s.cells a) r).place (pushed s p x).published ⊎ IsHeld b (pushed s p x) c) [
-      inl own ↦
-        elim (cases_Bool (gives_up x c)) as (λ _. IsPublished a r (decision_at (s.cells a) r).place (pushed s p x).published ⊎ IsHeld b (pushed s p x) c) [
-          inl given ↦
-            let now : test x ≡ true = published-gives_up b s x.process a r x.view prefix x.entry law given in
-            inl (list_any-append test s.published (x ∷ []) ∙ or_right (list_any test s.published) (list_any test (x ∷ []))
-              (ap (λ t. t || false) now))
-        | inr kept ↦
-            let still : (pushed s p x).held k ≡ Some c =
-              ap (λ (t : Bool). cond t (held_after x (s.held k)) (s.held k)) own
-              ∙ (ap (held_after x) held ∙ ap (λ (t : Bool). cond t None (Some c)) kept) in
-            inr (k, known, still)
-        ]
-    | inr other ↦ inr (k, known, ap (λ (t : Bool). cond t (held_after x (s.held k)) (s.held k)) other ∙ held)
+      | inl own ↦
+          elim (cases_Bool (gives_up x c)) as (λ _. IsPublished a r (decision_at (s.cells a) r).place (pushed s p x).published ⊎ IsHeld b (pushed s p x) c) [
+            | inl given ↦
+                let now : test x ≡ true = published-gives_up b s x.process a r x.view prefix x.entry law given in
+                inl (list_any-append test s.published (x ∷ []) ∙ or_right (list_any test s.published) (list_any test (x ∷ []))
+                (ap (λ t. t || false) now))
+            | inr kept ↦
+                let still : (pushed s p x).held k ≡ Some c =
+                ap (λ (t : Bool). cond t (held_after x (s.held k)) (s.held k)) own
+                ∙ (ap (held_after x) held ∙ ap (λ (t : Bool). cond t None (Some c)) kept) in
+                inr (k, known, still)
+          ]
+      | inr other ↦ inr (k, known, ap (λ (t : Bool). cond t (held_after x (s.held k)) (s.held k)) other ∙ held)
     ]
 
 -- the view of the new record, among all that is published
@@ -232,7 +237,7 @@ MayPush-MayPublish b words s v x sound knows own may =
         own = may.view.own ∙ subst (λ p. count_of p v.seen ≡ count_of p s.published) (sym may.process) own;
       };
       prefix = take-pushed s.published x (place x.view) (place-IsFront-le b.processes x.view s.published front all)
-        ∙ prefix_of-IsPrefix b.processes x.view v.seen s.published may.view.front known knows.seen;
+          ∙ prefix_of-IsPrefix b.processes x.view v.seen s.published may.view.front known knows.seen;
       owns = owns_of-IsPrefix v.first v.seen s.published knows.seen own;
     }
 
@@ -241,14 +246,14 @@ pub Sound-pushed : (b : BookTerms) (words : List ℕ) (s : BoardState) (v : View
 Sound-pushed b words s v x sound knows push may =
     let xs = s.published in
     let law : IsSoundEntry b s x.process (prefix_of x.view v.seen) x.entry =
-      subst (λ p. IsSoundEntry b s p (prefix_of x.view v.seen) x.entry) (sym may.process)
-      (IsSoundEntry-MayEnter b words s v (prefix_of x.view v.seen) x.entry knows may.entry) in
+    subst (λ p. IsSoundEntry b s p (prefix_of x.view v.seen) x.entry) (sym may.process)
+    (IsSoundEntry-MayEnter b words s v (prefix_of x.view v.seen) x.entry knows may.entry) in
     record {
       views = push_all (HasView b) xs x sound.views push.view;
       entries = push_entries (λ (y : Publication) (prefix : List Publication). IsSoundEntry b (pushed s v.first x) y.process prefix y.entry) xs x
-        (λ m within. place-view-le b s m sound within)
-        (λ m within. IsSoundEntry-pushed b s v.first x (publication_at xs m).process (prefix_of (publication_at xs m).view xs) (publication_at xs m).entry (sound.entries m within))
-        (IsSoundEntry-pushed b s v.first x x.process (prefix_of x.view (xs ++ x ∷ [])) x.entry
+          (λ m within. place-view-le b s m sound within)
+          (λ m within. IsSoundEntry-pushed b s v.first x (publication_at xs m).process (prefix_of (publication_at xs m).view xs) (publication_at xs m).entry (sound.entries m within))
+          (IsSoundEntry-pushed b s v.first x x.process (prefix_of x.view (xs ++ x ∷ [])) x.entry
           (subst (λ t. IsSoundEntry b s x.process t x.entry) (sym push.prefix) law));
       own_room = λ k. own_room-pushed b v xs (prefix_of x.view v.seen) x.process k x.view x.entry may.process may.entry push.owns (sound.own_room k);
       decisions = λ a r within. IsSoundDecision-pushed b s v.first x a r (decision_at (s.cells a) r) (sound.decisions a r within);
@@ -266,9 +271,9 @@ Sound-pushed b words s v x sound knows push may =
         → (m : ℕ) → m < length (xs ++ x ∷ []) → F (publication_at (xs ++ x ∷ []) m) (prefix_of (publication_at (xs ++ x ∷ []) m).view (xs ++ x ∷ []))
     push_entries F xs x views old new m within =
         elim (cases_lt m (length xs)) as (λ _. F (publication_at (xs ++ x ∷ []) m) (prefix_of (publication_at (xs ++ x ∷ []) m).view (xs ++ x ∷ []))) [
-          inl below ↦
-            subst (λ y. F y (prefix_of y.view (xs ++ x ∷ []))) (sym (get_or_append_left xs (x ∷ []) no_publication m below))
-            (subst (F (publication_at xs m)) (sym (take-append-le (place (publication_at xs m).view) xs (x ∷ []) (omega (arith, views m below)))) (old m below))
-        | inr above ↦
-            subst (λ y. F y (prefix_of y.view (xs ++ x ∷ []))) (sym (get_or_push xs x no_publication m (omega (arith, length_push xs x)))) new
+          | inl below ↦
+              subst (λ y. F y (prefix_of y.view (xs ++ x ∷ []))) (sym (get_or_append_left xs (x ∷ []) no_publication m below))
+              (subst (F (publication_at xs m)) (sym (take-append-le (place (publication_at xs m).view) xs (x ∷ []) (omega (arith, views m below)))) (old m below))
+          | inr above ↦
+              subst (λ y. F y (prefix_of y.view (xs ++ x ∷ []))) (sym (get_or_push xs x no_publication m (omega (arith, length_push xs x)))) new
         ]

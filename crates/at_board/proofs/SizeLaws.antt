@@ -1,11 +1,12 @@
 -- How many words the largest board has.
-use Rattle.std.proofs.Common.{◌≡◌, ℕ, ◌+◌, ◌*◌, ◌<◌, ◌≤◌, ◌==◌, zero, suc, Bool, true, false, cond, List, [], ◌∷◌, length, refl, sym, ap, ◌∙◌, arith, inl, inr}
+use Rattle.std.proofs.Common.{◌≡◌, ℕ, ◌+◌, ◌*◌, ◌<◌, ◌≤◌, ◌==◌, zero, suc, Bool, true, false, cond, List, [], ◌∷◌, length, get_or, refl, sym, ap, ◌∙◌, arith, inl, inr}
 use Rattle.std.specs.List.{All, position, sum_by, range_with_len}
 use Rattle.std.specs.Option.{is_some}
 use Rattle.std.proofs.lemmas.Bool.{cases_eq, eq-eqb, ne_eqb, lt-ltb}
 use Rattle.std.proofs.lemmas.Bool.Decides.{nat_tests}
 use Rattle.std.proofs.lemmas.List.Elements.{All-head, All-tail}
-use Rattle.std.proofs.lemmas.List.Sums.{sum-map, sum_by-cons, sum_by-le-sum_by}
+use Rattle.std.proofs.lemmas.List.FromFn.{get_or-range_with_len, length-range_with_len}
+use Rattle.std.proofs.lemmas.List.Sums.{get_or-le-sum_by, sum-map, sum_by-cons, sum_by-le-sum_by}
 use Rattle.std.proofs.lemmas.Nat.{mul-le}
 use Rattle.at_ledger.specs.Account.{AccountTerms, rounds_room, rounds_room_of}
 use Rattle.at_ledger.specs.Book.{BookTerms, IsBegun, log_room_of, rounds_of}
@@ -129,3 +130,15 @@ word_count-le b begun =
     let requests = sum-map (λ t. slots_of t * q * 6) b.accounts ∙ sum_by-mul (λ t. slots_of t * q) 6 b.accounts in
     let cells = sum-map (λ t. slots_of t * q) b.accounts in
     omega (arith, logs, logs_small, rooms, announced, announced_small, requests, cells, begun.few_processes, begun.rounds)
+
+-- the log of one process
+pub log_room_of-le : (b : BookTerms) (p : ℕ) → IsBegun b → p < b.processes → log_room_of b p ≤ 131072
+log_room_of-le b p begun within =
+    let range = range_with_len 0 b.processes in
+    let here : get_or range p 0 ≡ p = get_or-range_with_len 0 b.processes p 0 within ∙ omega arith in
+    omega (
+      arith,
+      sum-log_room_of b begun,
+      ap (log_room_of b) here,
+      get_or-le-sum_by (log_room_of b) range p 0 (omega (arith, length-range_with_len 0 b.processes)),
+    )

@@ -1,5 +1,5 @@
 -- A store of a word of a seat's next record keeps the rule.
-use Rattle.std.proofs.Common.{◌≡◌, ◌≢◌, ℕ, ◌+◌, ◌<◌, ◌≤◌, zero, suc, List, length, get_or, set, refl, sym, ap, subst, ◌∙◌, arith, inl, inr, ◌⊎◌}
+use Rattle.std.proofs.Common.{◌≡◌, ◌≢◌, ℕ, ◌+◌, ◌<◌, List, length, get_or, set, refl, sym, ap, subst, ◌∙◌, arith, inl, inr}
 use Rattle.std.specs.List.{Contains}
 use lib.ListN.{get_elem?}
 use mathlib.Core.Option.{some}
@@ -17,10 +17,10 @@ use Rattle.at_board.specs.BoardState.{BoardState, request_at}
 use Rattle.at_board.specs.Places.{IsPlace, Place, announced_of, cell_of, length_of, place_at, record_width, record_word, request_word, word_at, word_count}
 use Rattle.at_board.specs.Publications.{count_of}
 use Rattle.at_board.specs.Rounds.{rounds}
-use Rattle.at_board.specs.Seated.{AreSeated, Holds, Ruled}
+use Rattle.at_board.specs.Seated.{AreSeated, Ruled}
 use Rattle.at_board.specs.Shown.{Shown}
 use Rattle.at_board.specs.Steps.{with_part, with_word}
-use Rattle.at_board.specs.Views.{HasAsking, HasPart, HasSlot, Knows, asking_on, no_part, own_part, part_at}
+use Rattle.at_board.specs.Views.{HasAsking, HasPart, Knows, asking_on, own_part, part_at}
 
 -- the words of all requests are the same
 abbrev pub SameRequestWords : BookTerms → List ℕ → List ℕ → Type 0
@@ -90,20 +90,20 @@ Shown-store : (b : BookTerms) (words : List ℕ) (s : BoardState) (p j w : ℕ) 
 Shown-store b words s p j w here shown =
     let x = record_word p (count_of p s.published) j in
     let kept : (y : Place) → IsPlace b y → y ≢ x → word_at b (set words (place_at b x) w) y ≡ word_at b words y =
-      λ y is apart. word_at-set_other b words x y w here is apart in
+    λ y is apart. word_at-set_other b words x y w here is apart in
     record {
       sized = length-set words (place_at b x) w ∙ shown.sized;
       records = record {
         lengths = λ q within. kept (length_of q) within (λ e. cc) ∙ shown.records.lengths q within;
         room = shown.records.room;
         records = λ q i k is below. kept (record_word q i k) is (λ e.
-          let same : q ≡ p = cc in
-          let at : i ≡ count_of p s.published = cc in
-          absurd (omega (arith, below, at, ap (λ t. count_of t s.published) same))) ∙ shown.records.records q i k is below;
+            let same : q ≡ p = cc in
+            let at : i ≡ count_of p s.published = cc in
+            absurd (omega (arith, below, at, ap (λ t. count_of t s.published) same))) ∙ shown.records.records q i k is below;
         blank = λ q i k is above. kept (record_word q i k) is (λ e.
-          let same : q ≡ p = cc in
-          let at : i ≡ count_of p s.published = cc in
-          absurd (omega (arith, above, at, ap (λ t. count_of t s.published) same))) ∙ shown.records.blank q i k is above;
+            let same : q ≡ p = cc in
+            let at : i ≡ count_of p s.published = cc in
+            absurd (omega (arith, above, at, ap (λ t. count_of t s.published) same))) ∙ shown.records.blank q i k is above;
       };
       requests = record {
         lengths = λ a slot is. kept (announced_of a slot) is (λ e. cc) ∙ shown.requests.lengths a slot is;
@@ -126,7 +126,7 @@ HasPart-store b words s v u p q j w sized here seen requests has =
       seen = ap (count_of p) seen ∙ has.seen;
       sized = length-set q.stored j w ∙ has.sized;
       stored = λ k is. elim (cases_eq k j) as (λ _. word_at b after (record_word p q.published k) ≡ get_or (set q.stored j w) k 0) [
-          inl same ↦
+        | inl same ↦
             let there : word_at b after (record_word p q.published k) ≡ word_at b after x = ap (λ t. word_at b after (record_word p q.published t)) same in
             let stored : get_or (set q.stored j w) k 0 ≡ get_or (set q.stored j w) j 0 = ap (λ t. get_or (set q.stored j w) t 0) same in
             there ∙ (word_at-set_same b words x w sized here
@@ -134,12 +134,12 @@ HasPart-store b words s v u p q j w sized here seen requests has =
         | inr apart ↦
             word_at-set_other b words x (record_word p q.published k) w here is (λ e. let same : k ≡ j = cc in apart same)
             ∙ (has.stored k is ∙ sym (get_or-set_other q.stored j k w 0 apart))
-        ];
+      ];
       held = has.held;
       lengths = has.lengths;
       accounts = has.accounts;
       asking = λ a slot slot_in. HasAsking-words b words after s v u a slot (asking_on q a) seen requests
-        (store-requests b words p q.published j w here) (has.asking a slot slot_in);
+          (store-requests b words p q.published j w here) (has.asking a slot slot_in);
     }
 
 -- the processes of other seats are others
@@ -166,16 +166,16 @@ StoresWord-Ruled b words views id v j w ruled found part room inside =
     let u : View = with_part v (with_word q j w) in
     let requests = store-requests b words v.first q.published j w here in
     let shown : Shown b after s = subst (λ c. Shown b (set words (place_at b (record_word v.first c j)) w) s) (sym own.published)
-      (Shown-store b words s v.first j w (subst (λ c. IsPlace b (record_word v.first c j)) own.published here) ruled.shown) in
+    (Shown-store b words s v.first j w (subst (λ c. IsPlace b (record_word v.first c j)) own.published here) ruled.shown) in
     let mine : Knows b after s u = record {
       seen = knows.seen;
       requests = knows.requests;
       decisions = knows.decisions;
       joined = knows.joined;
       parts = parts_after (λ k t. HasPart b after s u (v.first + k) t) v.parts (with_word q j w) part
-        (subst (λ t. HasPart b after s u t (with_word q j w)) (sym first)
+          (subst (λ t. HasPart b after s u t (with_word q j w)) (sym first)
           (HasPart-store b words s v u v.first q j w ruled.shown.sized here refl refl own))
-        (λ k apart within. HasPart-words b words after s v u (v.first + k) (part_at v k) refl refl requests
+          (λ k apart within. HasPart-words b words after s v u (v.first + k) (part_at v k) refl refl requests
           (store-others b words v.first q.published j w (v.first + k) (part_at v k).published here (λ e. apart (omega arith)))
           (knows.parts k within));
     } in
@@ -185,8 +185,8 @@ StoresWord-Ruled b words views id v j w ruled found part room inside =
       shown = shown;
       sound = ruled.sound;
       knows = knows_after b after s views id u mine (λ other t apart there. Knows-words b words after s t requests
-        (λ k within. store-others b words v.first q.published j w (t.first + k) (part_at t k).published here
+          (λ k within. store-others b words v.first q.published j w (t.first + k) (part_at t k).published here
           (other_process b ruled.seat views id other k v t ruled.seated found part there within apart))
-        (ruled.knows other t there));
+          (ruled.knows other t there));
       seated = AreSeated-set b ruled.seat views id v u ruled.seated found refl (length-set v.parts 0 (with_word q j w));
     }

@@ -14,4 +14,6 @@ pub mod Views
 pub mod Fresh
 pub mod Conditions
 pub mod Steps
+pub mod Plays
+pub mod SeatView
 pub mod Seated

@@ -1,7 +1,6 @@
 -- What a step changes in the view of its seat.
 use Rattle.std.specs.Prelude.{◌≡◌, ℕ, ◌+◌, ◌<◌, ◌≤◌, ◌==◌, ◌&&◌, ◌++◌, Bool, false, List, [], ◌∷◌, length, take, replicate, slice_set, Option, Some, None, if◌then◌else◌}
 use Rattle.at_base.specs.Decision.{InRange}
-use Rattle.at_base.specs.declared.decision.Decision.{Decision}
 use Rattle.at_ledger.specs.Book.{BookTerms, account_of, log_room_of}
 use Rattle.at_board.specs.declared.publication.Entry.{Entry}
 use Rattle.at_board.specs.declared.publication.Entry.TheVariants.{Own, Round}
@@ -59,7 +58,7 @@ IsShownEntry b process prefix (Round account round decision targets) =
 pub record IsHistory (b : BookTerms) (list : List Publication) : Type 0 where
   pub views : (m : ℕ) → m < length list → HasView b (take m list) (publication_at list m)
   pub entries : (m : ℕ) → m < length list → let x : Publication = publication_at list m in
-    IsShownEntry b x.process (prefix_of x.view list) x.entry
+      IsShownEntry b x.process (prefix_of x.view list) x.entry
   pub room : (p : ℕ) → p < b.processes → count_of p list ≤ log_room_of b p
   pub runs : AreRuns b list
 
