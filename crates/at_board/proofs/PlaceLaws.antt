@@ -1,11 +1,13 @@
 -- Places of words: two of them have one index only if they are one place.
-use Rattle.std.proofs.Common.{◌≡◌, ◌≢◌, ℕ, ◌+◌, ◌*◌, ◌<◌, Bool, true, false, cond, List, [], length, get_or, set, map, sum, refl, sym, ap, subst, ◌∙◌, arith}
+use Rattle.std.proofs.Common.{◌≡◌, ◌≢◌, ℕ, ◌+◌, ◌*◌, ◌<◌, ◌≤◌, Bool, true, false, cond, List, [], length, get_or, set, map, sum, refl, sym, ap, subst, ◌∙◌, arith}
 use Rattle.std.proofs.lemmas.List.{get_or-map, length-map, get_or-set_same, get_or-set_other}
+use Rattle.std.specs.List.{range_with_len}
 use Rattle.std.proofs.lemmas.List.FromFn.{get_or-map-range_with_len, length-map-range_with_len}
 use Rattle.std.proofs.lemmas.Nat.{mul-add-lt, same_from_place}
 use Rattle.at_ledger.specs.Account.{AccountTerms, no_account, is_shared, rounds_room}
 use Rattle.at_ledger.specs.Book.{BookTerms, account_of, log_room_of}
-use Rattle.at_board.proofs.BlockLaws.{block-inside, same_block}
+use Rattle.std.proofs.lemmas.List.Sums.{sum_by-take-le}
+use Rattle.at_board.proofs.BlockLaws.{block-inside, same_block, start_of-more}
 use Rattle.at_board.specs.Places.{Place, length_of, record_word, announced_of, request_word, cell_of, IsPlace, block_of, blocks_of, group_of, groups, number_in, place_at, record_width, slots_of, start_of, word_at, word_count}
 
 -- the rounds of an account are its slots' requests
@@ -133,3 +135,34 @@ pub word_at-set_other : (b : BookTerms) (words : List ℕ) (x y : Place) (w : �
     → word_at b (set words (place_at b x) w) y ≡ word_at b words y
 word_at-set_other b words x y w one other apart =
     get_or-set_other words (place_at b x) (place_at b y) w 0 (λ same. apart (place_at-injective b y x other one same))
+
+-- a word of a record stands by its number after the log's first
+pub place_at-record_word : (b : BookTerms) (p i j : ℕ)
+    → place_at b (record_word p i j) ≡ place_at b (record_word p 0 0) + i * record_width b + j
+unfolding place_at
+place_at-record_word b p i j = omega arith
+
+-- the next log begins where this one ends
+pub place_at-record_word_next : (b : BookTerms) (p : ℕ) → p < b.processes
+    → place_at b (record_word (p + 1) 0 0) ≡ place_at b (record_word p 0 0) + log_room_of b p * record_width b
+unfolding place_at
+place_at-record_word_next b p within =
+    let f : ℕ → ℕ = λ q. log_room_of b q * record_width b in
+    let sizes = map f (range_with_len 0 b.processes) in
+    omega (
+      arith,
+      start_of-more sizes p (omega (arith, length-map-range_with_len f 0 b.processes)),
+      get_or-map-range_with_len f 0 b.processes p p 0 within (omega arith),
+    )
+
+-- the first log begins after the lengths
+pub place_at-record_word_first : (b : BookTerms) → place_at b (record_word 0 0 0) ≡ b.processes
+unfolding place_at
+place_at-record_word_first b = omega arith
+
+-- the logs end within the words
+pub place_at-record_word-le : (b : BookTerms) (p : ℕ) → p ≤ b.processes → place_at b (record_word p 0 0) ≤ word_count b
+unfolding place_at word_count
+place_at-record_word-le b p within =
+    let sizes = map (λ q. log_room_of b q * record_width b) (range_with_len 0 b.processes) in
+    omega (arith, sum_by-take-le (λ n. n) sizes p, sum_by-take-le (λ n. n) (map sum (groups b)) 2)

@@ -8,7 +8,8 @@ use Rattle.at_board.specs.declared.view.View.{View}
 use Rattle.at_board.proofs.SizeLaws.{log_room_of-le}
 use Rattle.at_board.specs.Publications.{count_of}
 use Rattle.at_board.specs.SeatView.{IsSeat}
-use Rattle.at_board.specs.Steps.{IsHistory, LoadsLength, with_load, with_part}
+use Rattle.at_board.specs.Places.{record_word}
+use Rattle.at_board.specs.Steps.{IsHistory, LoadsLength, StoresWord, with_load, with_part, with_word}
 use Rattle.at_board.specs.Views.{no_part, own_part}
 
 -- the part that was set is the view's own
@@ -36,3 +37,12 @@ IsSeat-load b v w process k p n book seat told =
 -- a process has few records
 pub count_of-IsHistory : (b : BookTerms) (list : List Publication) (p : ℕ) → IsBegun b → p < b.processes → IsHistory b list → count_of p list < 2 ^ 32
 count_of-IsHistory b list p begun within history = omega (arith, history.room p within, log_room_of-le b p begun within)
+
+pub IsSeat-store : (v w : View) (process k j n : ℕ) → IsSeat v process k → StoresWord v w j n → IsSeat w process k
+IsSeat-store v w process k j n seat told =
+    subst (λ t. IsSeat t process k) (sym told)
+    (IsSeat-with_part v v.seen (with_word (own_part v) j n) process k seat k seat.published_is seat.history)
+
+-- the place of the seat's next record, by the seat's fields
+pub next_record : (v : View) (process k j : ℕ) → IsSeat v process k → record_word process k j ≡ record_word v.first (own_part v).published j
+next_record v process k j seat = λ t. record_word (sym seat.process_is t) (sym seat.published_is t) j

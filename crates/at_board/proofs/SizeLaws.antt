@@ -1,5 +1,5 @@
 -- How many words the largest board has.
-use Rattle.std.proofs.Common.{◌≡◌, ℕ, ◌+◌, ◌*◌, ◌<◌, ◌≤◌, ◌==◌, zero, suc, Bool, true, false, cond, List, [], ◌∷◌, length, get_or, refl, sym, ap, ◌∙◌, arith, inl, inr}
+use Rattle.std.proofs.Common.{◌≡◌, ℕ, ◌+◌, ◌*◌, ◌<◌, ◌≤◌, ◌^◌, ◌==◌, zero, suc, Bool, true, false, cond, List, [], ◌∷◌, length, get_or, refl, sym, ap, ◌∙◌, arith, inl, inr}
 use Rattle.std.specs.List.{All, position, sum_by, range_with_len}
 use Rattle.std.specs.Option.{is_some}
 use Rattle.std.proofs.lemmas.Bool.{cases_eq, eq-eqb, ne_eqb, lt-ltb}
@@ -10,8 +10,8 @@ use Rattle.std.proofs.lemmas.List.Sums.{get_or-le-sum_by, sum-map, sum_by-cons, 
 use Rattle.std.proofs.lemmas.Nat.{mul-le}
 use Rattle.at_ledger.specs.Account.{AccountTerms, rounds_room, rounds_room_of}
 use Rattle.at_ledger.specs.Book.{BookTerms, IsBegun, log_room_of, rounds_of}
-use Rattle.at_board.specs.Places.{record_width, slots_of, word_count}
-use Rattle.at_board.proofs.PlaceLaws.{rounds_room-slots_of}
+use Rattle.at_board.specs.Places.{place_at, record_width, record_word, slots_of, word_count}
+use Rattle.at_board.proofs.PlaceLaws.{place_at-record_word-le, place_at-record_word_next, rounds_room-slots_of}
 
 sum_by-add : {X : Type 0} (f g : X → ℕ) (xs : List X) → sum_by (λ x. f x + g x) xs ≡ sum_by f xs + sum_by g xs
 sum_by-add f g [] = refl
@@ -142,3 +142,12 @@ log_room_of-le b p begun within =
       ap (log_room_of b) here,
       get_or-le-sum_by (log_room_of b) range p 0 (omega (arith, length-range_with_len 0 b.processes)),
     )
+
+-- a step of the walk over the logs
+pub log_start-next : (b : BookTerms) (p next room processes : ℕ) → IsBegun b → p < b.processes → next ≡ place_at b (record_word p 0 0)
+    → room ≡ log_room_of b p → processes ≡ b.processes
+    → (next + room * (7 + processes) ≡ place_at b (record_word (p + 1) 0 0)) × (next + room * (7 + processes) < 2 ^ 32)
+log_start-next b p next room processes begun within here room_is processes_is =
+    let same : room * (7 + processes) ≡ log_room_of b p * record_width b = λ t. room_is t * (7 + processes_is t) in
+    let step = place_at-record_word_next b p within in
+    (omega (arith, step, same, here), omega (arith, step, same, here, place_at-record_word-le b (p + 1) (omega arith), word_count-le b begun))

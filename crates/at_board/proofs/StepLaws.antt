@@ -3,16 +3,17 @@ use Rattle.std.proofs.Common.{◌≡◌, ℕ, ◌+◌, ◌<◌, [], length, get_
 use mathlib.Core.Option.{none}
 use Rattle.std.proofs.lemmas.List.{set-get_or}
 use Rattle.atomic_table.specs.Table.{Allows, Me, keeps, step}
-use Rattle.at_ledger.specs.Book.{BookTerms, IsBegun}
+use Rattle.at_ledger.specs.Book.{BookTerms, IsBegun, log_room_of}
 use Rattle.at_board.proofs.LoadLaws.{LoadsLength-Ruled}
 use Rattle.at_board.proofs.PlaceLaws.{place_at-injective}
 use Rattle.at_board.proofs.StoreLaws.{StoresWord-Ruled}
 use Rattle.at_board.specs.declared.view.View.{View}
 use Rattle.at_board.specs.Conditions.{MayStoreWord}
-use Rattle.at_board.specs.Places.{IsPlace, length_of, place_at, record_word}
+use Rattle.at_board.specs.Places.{IsPlace, length_of, place_at, record_width, record_word}
+use Rattle.at_board.specs.SeatView.{IsSeat}
 use Rattle.at_board.specs.Plays.{loaded_length, stored_word}
 use Rattle.at_board.specs.Seated.{Ruled}
-use Rattle.at_board.specs.Steps.{LoadsLength, with_part, with_word}
+use Rattle.at_board.specs.Steps.{LoadsLength, StoresWord, with_part, with_word}
 use Rattle.at_board.specs.Views.{own_part}
 
 -- what a seat of the board is: it stands for one process of the book
@@ -98,3 +99,29 @@ module _ {S : Type 0} where
   LoadsLength-played b slots me after p n book known played =
       subst (λ (t : BookTerms). LoadsLength t me.0 after.0 p n) book
       (played.1 p (subst (λ (t : BookTerms). p < t.processes) (sym book) known) (sym (place_at-length_of me.0.book p)))
+
+module _ {S : Type 0} where
+  pub stores_word_at : (key b : BookTerms) (slots id : ℕ) (me : Me S View) (j w i : ℕ) → key ≡ b
+      → i ≡ place_at b (record_word me.0.first (own_part me.0).published j) → IsSeatOf b me.0 → me.1 ≡ [] → MayStoreWord b me.0 j
+      → Allows (λ s. Ruled key s.words s.views) slots id me i (λ _. w) (λ _. stored_word (step slots i w 0 none) me w)
+  stores_word_at key b slots id me j w i is at seat empty may =
+      subst (λ (k : BookTerms). Allows (λ s. Ruled k s.words s.views) slots id me i (λ _. w) (λ _. stored_word (step slots i w 0 none) me w)) (sym is)
+      (subst (λ (k : ℕ). Allows (λ s. Ruled b s.words s.views) slots id me k (λ _. w) (λ _. stored_word (step slots k w 0 none) me w)) (sym at)
+      (stores_word b slots id me j w seat empty may))
+
+  -- what the store of a word has told
+  pub StoresWord-played : (b : BookTerms) (slots : ℕ) (me after : Me S View) (j w i : ℕ) → me.0.book ≡ b
+      → i ≡ place_at b (record_word me.0.first (own_part me.0).published j) → MayStoreWord b me.0 j
+      → stored_word (step slots i w 0 none) me w after → StoresWord me.0 after.0 j w
+  StoresWord-played b slots me after j w i book at may played =
+      played.1 j (subst (λ (t : BookTerms). j < record_width t) (sym book) may.word)
+      (subst (λ (t : BookTerms). (own_part me.0).published < log_room_of t me.0.first) (sym book) may.room)
+      (subst (λ (t : BookTerms). i ≡ place_at t (record_word me.0.first (own_part me.0).published j)) (sym book) at)
+
+-- the seat is of the board, where its view is and its book is the board's
+pub IsSeatOf-IsSeat : (b : BookTerms) (v : View) (process published : ℕ) → v.book ≡ b → IsSeat v process published → IsSeatOf b v
+IsSeatOf-IsSeat b v process published book seat = record {
+  book = book;
+  one_part = seat.one_part;
+  known = subst (λ (t : BookTerms). v.first < t.processes) book seat.known;
+}

@@ -1,14 +1,19 @@
 //! The board that threads share.
 
 ghost use Rattle.std.specs.Prelude.{◌≡◌, ◌+◌, ◌<◌};
+ghost use Rattle.at_board.specs.Conditions.{MayStoreWord};
+ghost use Rattle.at_board.specs.Places.{IsPlace, place_at, record_word};
 ghost use Rattle.at_board.specs.SeatView.{IsOf};
-ghost use Rattle.at_board.specs.Steps.{LoadsLength};
+ghost use Rattle.at_board.specs.Steps.{LoadsLength, StoresWord};
 
-use crate::plays::LoadLength;
+use crate::log_starts::log_starts;
+use crate::plays::{LoadLength, StoreWord};
+use crate::publication::RECORD_WORDS;
 use crate::rule::BoardRule;
 use crate::seat::BoardSeat;
 use crate::steps::Steps;
 use crate::view::View;
+use arrayvec::ArrayVec;
 use at_ledger::Book;
 use atomic_table::Table;
 use std::alloc::Global;
@@ -20,19 +25,22 @@ use std::sync::ledger::Ledger;
 pub struct Board {
     table: Table<(), View, Snapshot<Book>, BoardRule, Global>,
     book: Book,
+    log_starts: ArrayVec<u32, 16>,
 }
 
 impl Model for Board {
-    ghost use Rattle.std.specs.Prelude.{◌≡◌};
+    ghost use Rattle.std.specs.Prelude.{◌≡◌, ℕ, ◌<◌, length, slice_index};
     ghost use Rattle.at_ledger.specs.Book.{IsBook};
-    ghost use Rattle.at_board.specs.Places.{word_count};
+    ghost use Rattle.at_board.specs.Places.{place_at, record_word, word_count};
     ghost use Rattle.at_board.specs.SeatView.{BoardView};
 
     ghost Value = { BoardView };
 
     ghost view = { λ b. record { id = b.table.shared.table_id; book = b.book } };
 
-    ghost invariant = { λ b. (b.table.shared.key.value ≡ b.book) × (b.table.shared.table_id.words ≡ word_count b.book) × IsBook b.book };
+    ghost invariant = { λ b. (b.table.shared.key.value ≡ b.book) × (b.table.shared.table_id.words ≡ word_count b.book) × IsBook b.book
+        × (length b.log_starts.items ≡ b.book.processes)
+        × ((p : ℕ) → p < b.book.processes → slice_index b.log_starts.items p ≡ place_at b.book (record_word p 0 0)) };
 }
 
 impl Board {
@@ -64,5 +72,37 @@ impl Board {
             .shared
             .load::<LoadLength>(&mut seat.seat, p as usize);
         length as u32
+    }
+
+    /// Stores a word of the seat's next record, in one step.
+    pub fn store_record_word<L: Ledger, X: Ledger>(
+        &self,
+        seat: &mut BoardSeat,
+        j: u32,
+        w: u64,
+        steps: &mut Steps<L>,
+        exchanges: &mut Steps<X>,
+    )
+        requires board { IsOf seat.old self.now }
+        requires word { MayStoreWord self.now.book seat.old.view j }
+        ensures stored { StoresWord seat.old.view seat.new.view j w }
+        ensures board { seat.new.board ≡ seat.old.board }
+        ensures steps { steps.new ≡ steps.old + 1 }
+        ensures exchanges { exchanges.new ≡ exchanges.old }
+    {
+        steps.tick();
+        let place = self.record_place(seat.process, seat.published, j);
+        self.table
+            .shared
+            .store::<StoreWord>(&mut seat.seat, place, w);
+    }
+
+    /// Where a word of a record stands.
+    fn record_place(&self, p: u32, i: u32, j: u32) -> usize
+        requires { IsPlace self.now.book (record_word p i j) }
+        ensures place { result ≡ place_at self.now.book (record_word p i j) }
+    {
+        let width = (RECORD_WORDS + self.book.processes()) as usize;
+        self.log_starts[p as usize] as usize + i as usize * width + j as usize
     }
 }

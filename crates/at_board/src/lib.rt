@@ -4,6 +4,7 @@
 #![tactic(auto)]
 
 mod board;
+mod log_starts;
 mod plays;
 mod publication;
 mod request;
