@@ -18,3 +18,5 @@ pub mod PushLaws
 pub mod PublishLaws
 pub mod StepLaws
 pub mod SeatKept
+pub mod FormLaws
+pub mod PublishStep

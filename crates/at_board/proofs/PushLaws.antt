@@ -61,7 +61,7 @@ seen_request : (s : BoardState) (rs : List SeenRequest) (x : SeenRequest) → Al
 seen_request s rs x all (k, within, same) = subst (IsAnnounced s) same (all k x within)
 
 -- what the seat may enter keeps the laws of the board
-IsSoundEntry-MayEnter : (b : BookTerms) (words : List ℕ) (s : BoardState) (v : View) (prefix : List Publication) (e : Entry)
+pub IsSoundEntry-MayEnter : (b : BookTerms) (words : List ℕ) (s : BoardState) (v : View) (prefix : List Publication) (e : Entry)
     → Knows b words s v → MayEnter b v prefix e → IsSoundEntry b s v.first prefix e
 IsSoundEntry-MayEnter b words s v prefix (Own from targets) knows may = may.0
 IsSoundEntry-MayEnter b words s v prefix (Round a r d targets) knows may =

@@ -1,13 +1,14 @@
 //! The board that threads share.
 
 ghost use Rattle.std.specs.Prelude.{◌≡◌, ◌+◌, ◌<◌};
-ghost use Rattle.at_board.specs.Conditions.{MayStoreWord};
+ghost use Rattle.at_board.specs.declared.publication.Publication.{Publication};
+ghost use Rattle.at_board.specs.Conditions.{MayPublish, MayStoreWord};
 ghost use Rattle.at_board.specs.Places.{IsPlace, place_at, record_word};
 ghost use Rattle.at_board.specs.SeatView.{IsOf};
-ghost use Rattle.at_board.specs.Steps.{LoadsLength, StoresWord};
+ghost use Rattle.at_board.specs.Steps.{LoadsLength, Publishes, StoresWord};
 
 use crate::log_starts::log_starts;
-use crate::plays::{LoadLength, StoreWord};
+use crate::plays::{LoadLength, Publish, StoreWord};
 use crate::publication::RECORD_WORDS;
 use crate::rule::BoardRule;
 use crate::seat::BoardSeat;
@@ -95,6 +96,29 @@ impl Board {
         self.table
             .shared
             .store::<StoreWord>(&mut seat.seat, place, w);
+    }
+
+    /// Publishes the seat's next record by a plain store of its length, in one step.
+    pub fn publish<L: Ledger, X: Ledger>(
+        &self,
+        seat: &mut BoardSeat,
+        steps: &mut Steps<L>,
+        exchanges: &mut Steps<X>,
+    )
+        requires board { IsOf seat.old self.now }
+        requires record { (x : Publication) × MayPublish self.now.book seat.old.view x }
+        ensures published { (x : Publication) → MayPublish self.now.book seat.old.view x → Publishes self.now.book seat.old.view seat.new.view x }
+        ensures board { seat.new.board ≡ seat.old.board }
+        ensures steps { steps.new ≡ steps.old + 1 }
+        ensures exchanges { exchanges.new ≡ exchanges.old }
+    {
+        steps.tick();
+        self.table.shared.store::<Publish>(
+            &mut seat.seat,
+            seat.process as usize,
+            u64::from(seat.published) + 1,
+        );
+        seat.published += 1;
     }
 
     /// Where a word of a record stands.
