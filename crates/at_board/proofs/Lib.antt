@@ -20,3 +20,4 @@ pub mod StepLaws
 pub mod SeatKept
 pub mod FormLaws
 pub mod PublishStep
+pub mod CutLaws

@@ -14,6 +14,7 @@ pub mod Views
 pub mod Fresh
 pub mod Conditions
 pub mod Steps
+pub mod Cuts
 pub mod Plays
 pub mod SeatView
 pub mod Seated

@@ -1,0 +1,16 @@
+-- The cuts of a new board's first seat into one seat for each process.
+use Rattle.std.specs.Prelude.{ℕ, ◌+◌, List, [], ◌∷◌, take, drop}
+use Rattle.at_ledger.specs.Book.{BookTerms}
+use Rattle.at_board.specs.declared.view.View.{View}
+use Rattle.at_board.specs.Views.{starting_part, starting_view}
+
+-- the first part alone, and the others
+abbrev pub first_part : View → View
+first_part v = record v { parts = take 1 v.parts }
+
+abbrev pub other_parts : View → View
+other_parts v = record v { first = v.first + 1; parts = drop 1 v.parts }
+
+-- the view of a process's seat on a new board
+abbrev pub starting_seat : BookTerms → ℕ → View
+starting_seat b p = record (starting_view b) { first = p; parts = starting_part b ∷ [] }
