@@ -1,19 +1,25 @@
 -- A seat that stands for several processes may be cut.
-use Rattle.std.proofs.Common.{◌≡◌, ◌≢◌, ℕ, ◌+◌, ◌-◌, ◌<◌, ◌≤◌, ◌==◌, ◌&&◌, zero, suc, eqb, Bool, true, false, cond, List, [], ◌∷◌, ◌++◌, length, get_or, set, take, drop, refl, sym, ap, subst, ◌∙◌, arith, inl, inr, ◌⊎◌, ltb}
+use Rattle.std.proofs.Common.{◌≡◌, ◌≢◌, ℕ, ◌+◌, ◌-◌, ◌<◌, ◌≤◌, ◌==◌, ◌&&◌, zero, suc, eqb, Bool, true, false, cond, List, [], ◌∷◌, ◌++◌, length, get_or, replicate, set, take, drop, refl, sym, ap, subst, ◌∙◌, arith, inl, inr, ◌⊎◌, ltb}
+use Rattle.std.proofs.lemmas.List.{drop-replicate, take-replicate, take_all}
 use lib.ListN.{get_elem?}
 use mathlib.Core.Option.{some, some-injective, some-ne-none}
 use Rattle.std.proofs.lemmas.Bool.{and_cases, and_parts, cases_Bool, cases_eq, cases_lt, eq-eqb, eqb-false, eqb-true, le-ltb, lt-ltb, ltb-false, ltb-true, ne_eqb}
 use Rattle.std.proofs.lemmas.List.{get_or-drop, get_or-take, length-drop, length-set, length-take}
 use Rattle.atomic_table.proofs.Lists.{at_last, at_longer, at_set, set_else, set_here}
-use Rattle.at_ledger.specs.Book.{BookTerms}
+use Rattle.at_ledger.specs.Book.{BookTerms, IsBegun, IsBook}
+use Rattle.at_board.proofs.CountLaws.{publications_of-nil}
+use Rattle.at_board.proofs.PrefixRuns.{IsRun-nil}
+use Rattle.at_board.specs.Moves.{IsRun}
+use Rattle.at_board.specs.SeatView.{IsSeat}
+use Rattle.at_board.specs.Steps.{IsHistory}
 use Rattle.at_board.proofs.SeatLaws.{within_found}
 use Rattle.at_board.proofs.StoreLaws.{HasPart-words}
 use Rattle.at_board.specs.declared.view.Part.{Part}
 use Rattle.at_board.specs.declared.view.View.{View}
 use Rattle.at_board.specs.BoardState.{BoardState}
-use Rattle.at_board.specs.Cuts.{first_part, other_parts}
+use Rattle.at_board.specs.Cuts.{first_part, other_parts, starting_seat}
 use Rattle.at_board.specs.Seated.{AreSeated, Holds, Ruled}
-use Rattle.at_board.specs.Views.{HasPart, Knows, no_part, part_at}
+use Rattle.at_board.specs.Views.{HasPart, Knows, no_part, part_at, starting_part, starting_view}
 
 -- a view after the cut is the first one, the new one, or another that stayed
 record CutCases (views : List View) (id j : ℕ) (v left right u : View) : Type 0 where
@@ -159,3 +165,42 @@ Ruled-cut b words views id v ruled found =
         ];
       seated = AreSeated-cut b ruled.seat views id v ruled.seated found;
     }
+
+-- the list that nobody has published to
+pub IsHistory-nil : (b : BookTerms) → IsBegun b → IsHistory b []
+IsHistory-nil b begun = record {
+  views = λ m within. absurd (omega arith);
+  entries = λ m within. absurd (omega arith);
+  room = λ p within. omega (arith, ap length (publications_of-nil p));
+  runs = λ m within. subst (IsRun b) (sym (take_all m [] (omega arith))) (IsRun-nil b begun);
+}
+
+-- the view of the seats that are still to be cut
+abbrev pub rest_view : BookTerms → ℕ → View
+rest_view b p = record (starting_view b) { first = p; parts = replicate (b.processes - p) (starting_part b) }
+
+-- the seat of a process, and the rest
+pub first_part-rest_view : (b : BookTerms) (p : ℕ) → p < b.processes → first_part (rest_view b p) ≡ starting_seat b p
+first_part-rest_view b p within = ap (λ (parts : List Part). record (starting_view b) { first = p; parts = parts }) (take-replicate 1 (b.processes - p) (starting_part b) (omega arith))
+
+pub other_parts-rest_view : (b : BookTerms) (p : ℕ) → other_parts (rest_view b p) ≡ rest_view b (p + 1)
+other_parts-rest_view b p =
+    let count : b.processes - p - 1 ≡ b.processes - (p + 1) = omega arith in
+    ap (λ (parts : List Part). record (starting_view b) { first = p + 1; parts = parts })
+    (drop-replicate 1 (b.processes - p) (starting_part b) ∙ ap (λ n. replicate n (starting_part b)) count)
+
+-- the last seat is the rest
+pub rest_view-last : (b : BookTerms) (p : ℕ) → p + 1 ≡ b.processes → rest_view b p ≡ starting_seat b p
+rest_view-last b p last =
+    let one : b.processes - p ≡ 1 = omega arith in
+    ap (λ n. record (starting_view b) { first = p; parts = replicate n (starting_part b) }) one
+
+pub IsSeat-starting : (b : BookTerms) (p : ℕ) → IsBook b → p < b.processes → IsSeat (starting_seat b p) p 0
+IsSeat-starting b p book within = record {
+  one_part = refl;
+  process_is = refl;
+  published_is = refl;
+  known = within;
+  begun = book;
+  history = IsHistory-nil b book.begun;
+}

@@ -346,3 +346,7 @@ IsRun-RunsSo b xs begun so =
 -- every prefix of a sound board is a run of the ledger that ends with its balances
 pub AreRuns-Sound : (b : BookTerms) (s : BoardState) → Sound b s → IsBegun b → AreRuns b s.published
 AreRuns-Sound b s sound begun m within = IsRun-RunsSo b (take m s.published) begun (RunsSo-take b s m sound begun within)
+
+-- nothing is a run
+pub IsRun-nil : (b : BookTerms) → IsBegun b → IsRun b []
+IsRun-nil b begun = IsRun-RunsSo b [] begun (RunsSo-nil b)

@@ -1,11 +1,12 @@
 -- How many words the largest board has.
-use Rattle.std.proofs.Common.{◌≡◌, ℕ, ◌+◌, ◌*◌, ◌<◌, ◌≤◌, ◌^◌, ◌==◌, zero, suc, Bool, true, false, cond, List, [], ◌∷◌, length, get_or, refl, sym, ap, ◌∙◌, arith, inl, inr}
+use Rattle.std.proofs.Common.{◌≡◌, ℕ, ◌+◌, ◌*◌, ◌<◌, ◌≤◌, ◌^◌, ◌==◌, zero, suc, Bool, true, false, cond, List, [], ◌∷◌, length, get_or, map, sum, refl, sym, ap, ◌∙◌, arith, inl, inr}
 use Rattle.std.specs.List.{All, position, sum_by, range_with_len}
 use Rattle.std.specs.Option.{is_some}
 use Rattle.std.proofs.lemmas.Bool.{cases_eq, eq-eqb, ne_eqb, lt-ltb}
 use Rattle.std.proofs.lemmas.Bool.Decides.{nat_tests}
 use Rattle.std.proofs.lemmas.List.Elements.{All-head, All-tail}
-use Rattle.std.proofs.lemmas.List.FromFn.{get_or-range_with_len, length-range_with_len}
+use Rattle.std.proofs.lemmas.List.{take_all}
+use Rattle.std.proofs.lemmas.List.FromFn.{get_or-range_with_len, length-map-range_with_len, length-range_with_len}
 use Rattle.std.proofs.lemmas.List.Sums.{get_or-le-sum_by, sum-map, sum_by-cons, sum_by-le-sum_by}
 use Rattle.std.proofs.lemmas.Nat.{mul-le}
 use Rattle.at_ledger.specs.Account.{AccountTerms, rounds_room, rounds_room_of}
@@ -151,3 +152,26 @@ log_start-next b p next room processes begun within here room_is processes_is =
     let same : room * (7 + processes) ≡ log_room_of b p * record_width b = λ t. room_is t * (7 + processes_is t) in
     let step = place_at-record_word_next b p within in
     (omega (arith, step, same, here), omega (arith, step, same, here, place_at-record_word-le b (p + 1) (omega arith), word_count-le b begun))
+
+-- the words of a board: up to the end of the last log, and then an announced word and the requests and rounds of each slot
+pub word_count-slots : (b : BookTerms)
+    → word_count b ≡ place_at b (record_word b.processes 0 0) + (sum_by slots_of b.accounts + 7 * (sum_by slots_of b.accounts * b.request_room))
+unfolding word_count place_at
+word_count-slots b =
+    let q = b.request_room in
+    let f : ℕ → ℕ = λ p. log_room_of b p * record_width b in
+    let logs = map f (range_with_len 0 b.processes) in
+    let announced = sum-map slots_of b.accounts in
+    let requests = sum-map (λ t. slots_of t * q * 6) b.accounts ∙ sum_by-mul (λ t. slots_of t * q) 6 b.accounts in
+    let cells = sum-map (λ t. slots_of t * q) b.accounts in
+    let slots = sum_by-mul slots_of q b.accounts in
+    let all = ap sum (take_all b.processes logs (omega (arith, length-map-range_with_len f 0 b.processes))) in
+    omega (arith, announced, requests, cells, slots, all)
+
+-- as it is computed
+pub word_count-computed : (b : BookTerms) (end slots request_room : ℕ) → end ≡ place_at b (record_word b.processes 0 0)
+    → slots ≡ sum_by slots_of b.accounts → request_room ≡ b.request_room → end + slots * (1 + 7 * request_room) ≡ word_count b
+word_count-computed b end slots request_room end_is slots_is request_is =
+    let product : slots * (1 + 7 * request_room) ≡ sum_by slots_of b.accounts * (1 + 7 * b.request_room) = λ t. slots_is t * (1 + 7 * request_is t) in
+    let spread : sum_by slots_of b.accounts * (1 + 7 * b.request_room) ≡ sum_by slots_of b.accounts + 7 * (sum_by slots_of b.accounts * b.request_room) = omega arith in
+    omega (arith, end_is, product, spread, word_count-slots b)

@@ -4,6 +4,7 @@
 #![tactic(auto)]
 
 mod board;
+mod dealing;
 mod log_starts;
 mod plays;
 mod publication;
@@ -13,6 +14,7 @@ mod seat;
 mod steps;
 mod targets_word;
 mod view;
+mod word_count;
 
 pub use crate::board::Board;
 pub use crate::publication::{Entry, Publication, RECORD_WORDS};

@@ -3,7 +3,7 @@
 ghost use Rattle.at_board.specs.Plays.{loaded_length, published_record, stored_word};
 
 use crate::view::View;
-use atomic_table::Play;
+use atomic_table::{Play, Split};
 
 pub(crate) struct LoadLength;
 
@@ -21,4 +21,14 @@ pub(crate) struct Publish;
 
 impl Play<(), View> for Publish {
     ghost then = { published_record };
+}
+
+pub(crate) struct Cut;
+
+impl Split<View> for Cut {
+    ghost use Rattle.at_board.specs.Cuts.{first_part, other_parts};
+
+    ghost left = { first_part };
+
+    ghost right = { other_parts };
 }

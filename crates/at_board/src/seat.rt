@@ -7,6 +7,7 @@ use atomic_table::Seat;
 use std::marker::Model;
 
 /// The right of one process to make steps on a board, with what it has seen. It takes no memory, and one thread uses it at a time.
+#[derive(Drop)]
 pub struct BoardSeat {
     pub(crate) seat: Seat<(), View>,
     pub(crate) process: u32,
