@@ -1,4 +1,4 @@
-use Rattle.std.proofs.Common.{◌≡◌, ◌<◌, sym, ◌∙◌, arith}
+use Rattle.std.proofs.Common.{sym, ◌∙◌, arith}
 use Rattle.at_board.proofs.PlaceLaws.{place_at-record_word_first}
 use Rattle.at_board.proofs.SizeLaws.{log_start-next}
 use Rattle.at_board.proofs.word_count.records_end.Goals as goal

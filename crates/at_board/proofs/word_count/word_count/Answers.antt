@@ -1,4 +1,3 @@
-use Rattle.std.proofs.Common.{◌≡◌}
 use Rattle.at_board.proofs.SizeLaws.{word_count-computed}
 use Rattle.at_board.proofs.word_count.word_count.Goals as goal
 
