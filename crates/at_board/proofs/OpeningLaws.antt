@@ -128,3 +128,10 @@ Ruled-starting b = record {
     some_view = λ p within. (starting_view b, refl, (omega arith, omega (arith, length-replicate b.processes (starting_part b))));
   };
 }
+
+-- the same of a key that is the book and of words that are all 0
+pub Ruled-new : (key b : BookTerms) (words : List ℕ) (n : ℕ) → key ≡ b → n ≡ word_count b → words ≡ replicate n 0
+    → Ruled key words (starting_view key ∷ [])
+Ruled-new key b words n is count zeros =
+    subst (λ (k : BookTerms). Ruled k words (starting_view k ∷ [])) (sym is)
+    (subst (λ (ws : List ℕ). Ruled b ws (starting_view b ∷ [])) (sym (zeros ∙ ap (λ k. replicate k 0) count)) (Ruled-starting b))

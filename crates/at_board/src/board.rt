@@ -1,12 +1,15 @@
 //! The board that threads share.
 
-ghost use Rattle.std.specs.Prelude.{◌≡◌, ◌+◌, ◌<◌};
+ghost use Rattle.std.specs.Prelude.{◌≡◌, ◌+◌, ◌<◌, IfOk};
 ghost use Rattle.at_board.specs.declared.publication.Publication.{Publication};
 ghost use Rattle.at_board.specs.Conditions.{MayPublish, MayStoreWord};
+ghost use Rattle.at_board.specs.Cuts.{AreNew};
 ghost use Rattle.at_board.specs.Places.{IsPlace, place_at, record_word};
 ghost use Rattle.at_board.specs.SeatView.{IsOf};
 ghost use Rattle.at_board.specs.Steps.{LoadsLength, Publishes, StoresWord};
 
+use crate::NoMemory;
+use crate::dealing::deal;
 use crate::log_starts::log_starts;
 use crate::plays::{LoadLength, Publish, StoreWord};
 use crate::publication::RECORD_WORDS;
@@ -14,6 +17,7 @@ use crate::rule::BoardRule;
 use crate::seat::BoardSeat;
 use crate::steps::Steps;
 use crate::view::View;
+use crate::word_count::word_count;
 use arrayvec::ArrayVec;
 use at_ledger::Book;
 use atomic_table::Table;
@@ -23,6 +27,7 @@ use std::snapshot::Snapshot;
 use std::sync::ledger::Ledger;
 
 /// The words that processes share, under one rule. Threads share it by `&Board`.
+#[derive(Drop)]
 pub struct Board {
     table: Table<(), View, Snapshot<Book>, BoardRule, Global>,
     book: Book,
@@ -45,6 +50,24 @@ impl Model for Board {
 }
 
 impl Board {
+    /// A board for the book with all words 0, and one seat for each process, in order. Takes time in proportion to the words.
+    pub fn new(alloc: Global, book: &Book) -> Result<(Board, Vec<BoardSeat>), NoMemory>
+        ensures book { IfOk result (λ r. r.0.book ≡ book.now) }
+        ensures seats { IfOk result (λ r. AreNew book.now r.0.id r.1.items) }
+    {
+        let _accounts = book.accounts();
+        let words = vec![in alloc; 0u64; word_count(book)]?;
+        let (table, first) = Table::of_words(alloc, words.as_slice(), &Snapshot::of(book))?;
+        let copy = book.copy(alloc)?;
+        let seats = deal(alloc, &table.shared, first, book)?;
+        let board = Board {
+            table,
+            book: copy,
+            log_starts: log_starts(book),
+        };
+        Ok((board, seats))
+    }
+
     /// The book that the board was made for.
     pub fn book(&self) -> &Book
         ensures { result.now ≡ self.now.book }

@@ -16,6 +16,9 @@ mod targets_word;
 mod view;
 mod word_count;
 
+/// What a call answers that found no memory.
+pub type NoMemory = std::alloc::AllocError;
+
 pub use crate::board::Board;
 pub use crate::publication::{Entry, Publication, RECORD_WORDS};
 pub use crate::request::{REQUEST_WORDS, Request};
