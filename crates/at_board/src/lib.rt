@@ -1,6 +1,8 @@
-//! The shared board: the words that processes share, and the one list of publications that no word holds.
+//! The board that processes share: one list of publications that no word holds, kept by one rule over single steps.
 //!
-//! A targets word packs the accounts that a record or a request names, and gives them back.
+//! Between any two steps of any threads the words stand for a sound state, and what each seat has seen is a prefix of the one list.
+//! After a load of a length and after a publication the caller knows that every prefix of what its seat has seen is a run of the
+//! sequential ledger, in which each move is done and which ends with the balances of that prefix.
 #![tactic(auto)]
 
 mod board;
@@ -13,6 +15,8 @@ mod rule;
 mod seat;
 mod steps;
 mod targets_word;
+#[cfg(test)]
+mod tests;
 mod view;
 mod word_count;
 
