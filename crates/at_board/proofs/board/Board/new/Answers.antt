@@ -1,0 +1,8 @@
+use Rattle.std.proofs.Common.{◌∙◌}
+use Rattle.at_board.proofs.OpeningLaws.{Ruled-new}
+use Rattle.at_board.proofs.board.Board.new.Goals as goal
+
+pub of_words-requires : goal.of_words-requires
+of_words-requires c =
+    Ruled-new c.of.result.value c.args.book.now c.as_slice.result.now c.word_count.result c.of.ensures c.word_count.ensures
+    (c.as_slice.ensures.value ∙ c.in_ok-words.ensures.items_if_clones_equal (λ y e. e))

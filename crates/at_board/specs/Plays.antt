@@ -1,0 +1,25 @@
+-- What a step of the table tells its seat: the step, what the seat was, the number found or stored, and what the seat is.
+use Rattle.std.specs.Prelude.{◌≡◌, ℕ, ◌<◌}
+use Rattle.atomic_table.specs.Table.{Me, Step}
+use Rattle.at_ledger.specs.Book.{log_room_of}
+use Rattle.at_board.specs.declared.publication.Publication.{Publication}
+use Rattle.at_board.specs.declared.view.View.{View}
+use Rattle.at_board.specs.Conditions.{MayPublish}
+use Rattle.at_board.specs.Places.{length_of, place_at, record_width, record_word}
+use Rattle.at_board.specs.Steps.{LoadsLength, Publishes, StoresWord}
+use Rattle.at_board.specs.Views.{own_part}
+
+module _ {S : Type 0} where
+  -- at a length
+  abbrev pub loaded_length : Step S → Me S View → ℕ → Me S View → Type 0
+  loaded_length st m n m' = (m'.1 ≡ m.1) × ((p : ℕ) → p < m.0.book.processes → st.word ≡ place_at m.0.book (length_of p) →
+      LoadsLength m.0.book m.0 m'.0 p n)
+
+  -- at a word of the seat's next record
+  abbrev pub stored_word : Step S → Me S View → ℕ → Me S View → Type 0
+  stored_word st m n m' = (m'.1 ≡ m.1) × ((j : ℕ) → j < record_width m.0.book → (own_part m.0).published < log_room_of m.0.book m.0.first →
+      st.word ≡ place_at m.0.book (record_word m.0.first (own_part m.0).published j) → StoresWord m.0 m'.0 j n)
+
+  -- at the seat's own length
+  abbrev pub published_record : Step S → Me S View → ℕ → Me S View → Type 0
+  published_record st m n m' = (m'.1 ≡ m.1) × ((x : Publication) → MayPublish m.0.book m.0 x → Publishes m.0.book m.0 m'.0 x)

@@ -1,0 +1,31 @@
+-- Seats and boards as callers see them.
+use Rattle.std.specs.Prelude.{◌≡◌, ℕ, ◌<◌, length}
+use Rattle.atomic_table.specs.Seated.{TableId}
+use Rattle.at_ledger.specs.Book.{BookTerms, IsBook}
+use Rattle.at_board.specs.declared.view.View.{View}
+use Rattle.at_board.specs.Steps.{IsHistory}
+use Rattle.at_board.specs.Views.{own_part}
+
+-- a board by its identity and its book
+pub record BoardView : Type 0 where
+  pub id : TableId
+  pub book : BookTerms
+
+-- a seat by the identity of its board and what it knows
+pub record SeatView : Type 0 where
+  pub board : TableId
+  pub view : View
+
+-- a seat's view has one part, its process's, and what it has seen is a history
+pub record IsSeat (view : View) (process published : ℕ) : Type 0 where
+  pub one_part : length view.parts ≡ 1
+  pub process_is : view.first ≡ process
+  pub published_is : (own_part view).published ≡ published
+  pub known : view.first < view.book.processes
+  pub begun : IsBook view.book
+  pub history : IsHistory view.book view.seen
+
+-- the seat belongs to the board
+pub record IsOf (seat : SeatView) (board : BoardView) : Type 0 where
+  pub id : seat.board ≡ board.id
+  pub book : seat.view.book ≡ board.book

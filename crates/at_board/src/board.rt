@@ -1,0 +1,155 @@
+//! The board that threads share.
+
+ghost use Rattle.std.specs.Prelude.{◌≡◌, ◌+◌, ◌<◌, IfOk};
+ghost use Rattle.at_board.specs.declared.publication.Publication.{Publication};
+ghost use Rattle.at_board.specs.Conditions.{MayPublish, MayStoreWord};
+ghost use Rattle.at_board.specs.Cuts.{AreNew};
+ghost use Rattle.at_board.specs.Places.{IsPlace, place_at, record_word};
+ghost use Rattle.at_board.specs.SeatView.{IsOf};
+ghost use Rattle.at_board.specs.Steps.{LoadsLength, Publishes, StoresWord};
+
+use crate::NoMemory;
+use crate::dealing::deal;
+use crate::log_starts::log_starts;
+use crate::plays::{LoadLength, Publish, StoreWord};
+use crate::publication::RECORD_WORDS;
+use crate::rule::BoardRule;
+use crate::seat::BoardSeat;
+use crate::steps::Steps;
+use crate::view::View;
+use crate::word_count::word_count;
+use arrayvec::ArrayVec;
+use at_ledger::Book;
+use atomic_table::Table;
+use std::alloc::Global;
+use std::marker::Model;
+use std::snapshot::Snapshot;
+use std::sync::ledger::Ledger;
+
+/// The words that processes share, under one rule. Threads share it by `&Board`.
+#[derive(Drop)]
+pub struct Board {
+    table: Table<(), View, Snapshot<Book>, BoardRule, Global>,
+    book: Book,
+    log_starts: ArrayVec<u32, 16>,
+}
+
+impl Model for Board {
+    ghost use Rattle.std.specs.Prelude.{◌≡◌, ℕ, ◌<◌, length, slice_index};
+    ghost use Rattle.at_ledger.specs.Book.{IsBook};
+    ghost use Rattle.at_board.specs.Places.{place_at, record_word, word_count};
+    ghost use Rattle.at_board.specs.SeatView.{BoardView};
+
+    ghost Value = { BoardView };
+
+    ghost view = { λ b. record { id = b.table.shared.table_id; book = b.book } };
+
+    ghost invariant = { λ b. (b.table.shared.key.value ≡ b.book) × (b.table.shared.table_id.words ≡ word_count b.book) × IsBook b.book
+        × (length b.log_starts.items ≡ b.book.processes)
+        × ((p : ℕ) → p < b.book.processes → slice_index b.log_starts.items p ≡ place_at b.book (record_word p 0 0)) };
+}
+
+impl Board {
+    /// A board for the book with all words 0, and one seat for each process, in order. Takes time in proportion to the words.
+    pub fn new(alloc: Global, book: &Book) -> Result<(Board, Vec<BoardSeat>), NoMemory>
+        ensures book { IfOk result (λ r. r.0.book ≡ book.now) }
+        ensures seats { IfOk result (λ r. AreNew book.now r.0.id r.1.items) }
+    {
+        let _accounts = book.accounts();
+        let words = vec![in alloc; 0u64; word_count(book)]?;
+        let (table, first) = Table::of_words(alloc, words.as_slice(), &Snapshot::of(book))?;
+        let copy = book.copy(alloc)?;
+        let seats = deal(alloc, &table.shared, first, book)?;
+        let board = Board {
+            table,
+            book: copy,
+            log_starts: log_starts(book),
+        };
+        Ok((board, seats))
+    }
+
+    /// The book that the board was made for.
+    pub fn book(&self) -> &Book
+        ensures { result.now ≡ self.now.book }
+    {
+        &self.book
+    }
+
+    /// Loads the length of a process, in one step.
+    pub fn load_length<L: Ledger, X: Ledger>(
+        &self,
+        seat: &mut BoardSeat,
+        p: u32,
+        steps: &mut Steps<L>,
+        exchanges: &mut Steps<X>,
+    ) -> u32
+        requires board { IsOf seat.old self.now }
+        requires process { p < self.now.book.processes }
+        ensures told { LoadsLength self.now.book seat.old.view seat.new.view p result }
+        ensures board { seat.new.board ≡ seat.old.board }
+        ensures steps { steps.new ≡ steps.old + 1 }
+        ensures exchanges { exchanges.new ≡ exchanges.old }
+    {
+        steps.tick();
+        let length = self
+            .table
+            .shared
+            .load::<LoadLength>(&mut seat.seat, p as usize);
+        length as u32
+    }
+
+    /// Stores a word of the seat's next record, in one step.
+    pub fn store_record_word<L: Ledger, X: Ledger>(
+        &self,
+        seat: &mut BoardSeat,
+        j: u32,
+        w: u64,
+        steps: &mut Steps<L>,
+        exchanges: &mut Steps<X>,
+    )
+        requires board { IsOf seat.old self.now }
+        requires word { MayStoreWord self.now.book seat.old.view j }
+        ensures stored { StoresWord seat.old.view seat.new.view j w }
+        ensures board { seat.new.board ≡ seat.old.board }
+        ensures steps { steps.new ≡ steps.old + 1 }
+        ensures exchanges { exchanges.new ≡ exchanges.old }
+    {
+        steps.tick();
+        let place = self.record_place(seat.process, seat.published, j);
+        self.table
+            .shared
+            .store::<StoreWord>(&mut seat.seat, place, w);
+    }
+
+    /// Publishes the seat's next record by a plain store of its length, in one step.
+    pub fn publish<L: Ledger, X: Ledger>(
+        &self,
+        seat: &mut BoardSeat,
+        steps: &mut Steps<L>,
+        exchanges: &mut Steps<X>,
+    )
+        requires board { IsOf seat.old self.now }
+        requires record { (x : Publication) × MayPublish self.now.book seat.old.view x }
+        ensures published { (x : Publication) → MayPublish self.now.book seat.old.view x → Publishes self.now.book seat.old.view seat.new.view x }
+        ensures board { seat.new.board ≡ seat.old.board }
+        ensures steps { steps.new ≡ steps.old + 1 }
+        ensures exchanges { exchanges.new ≡ exchanges.old }
+    {
+        steps.tick();
+        self.table.shared.store::<Publish>(
+            &mut seat.seat,
+            seat.process as usize,
+            u64::from(seat.published) + 1,
+        );
+        seat.published += 1;
+    }
+
+    /// Where a word of a record stands.
+    fn record_place(&self, p: u32, i: u32, j: u32) -> usize
+        requires { IsPlace self.now.book (record_word p i j) }
+        ensures place { result ≡ place_at self.now.book (record_word p i j) }
+    {
+        let width = (RECORD_WORDS + self.book.processes()) as usize;
+        self.log_starts[p as usize] as usize + i as usize * width + j as usize
+    }
+}

@@ -1,0 +1,47 @@
+//! The first seat of a board, cut into one seat for each process.
+
+ghost use Rattle.std.specs.Prelude.{◌≡◌, ℕ, ◌<◌, [], length, slice_index_or, IfOk};
+ghost use Rattle.at_board.specs.Cuts.{AreNew};
+ghost use Rattle.at_board.specs.Places.{word_count};
+ghost use Rattle.at_board.specs.Views.{starting_view};
+
+use crate::plays::Cut;
+use crate::rule::BoardRule;
+use crate::seat::BoardSeat;
+use crate::view::View;
+use at_ledger::Book;
+use atomic_table::{Seat, Shared};
+use std::alloc::{AllocError, Global};
+use std::snapshot::Snapshot;
+
+/// One seat for each process, in order.
+pub(crate) fn deal(
+    alloc: Global,
+    shared: &Shared<(), View, Snapshot<Book>, BoardRule>,
+    first: Seat<(), View>,
+    book: &Book,
+) -> Result<Vec<BoardSeat>, AllocError>
+    requires table { (first.table_id ≡ shared.now.table_id) × (shared.now.key.value ≡ book.now) × (shared.now.table_id.words ≡ word_count book.now) }
+    requires first { first.me ≡ (starting_view book.now, []) }
+    ensures { IfOk result (λ seats. AreNew book.now shared.now.table_id seats.items) }
+{
+    let _accounts = book.accounts();
+    let last = book.processes() - 1;
+    let mut seats = Vec::new(alloc);
+    let mut rest = first;
+    for process in 0..last {
+        let others = shared.split_seat::<Cut>(&mut rest);
+        seats.push(BoardSeat {
+            seat: rest,
+            process,
+            published: 0,
+        })?;
+        rest = others;
+    }
+    seats.push(BoardSeat {
+        seat: rest,
+        process: last,
+        published: 0,
+    })?;
+    Ok(seats)
+}

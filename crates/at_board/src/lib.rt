@@ -1,0 +1,32 @@
+//! The board that processes share: one list of publications that no word holds, kept by one rule over single steps.
+//!
+//! Between any two steps of any threads the words stand for a sound state, and what each seat has seen is a prefix of the one list.
+//! After a load of a length and after a publication the caller knows that every prefix of what its seat has seen is a run of the
+//! sequential ledger, in which each move is done and which ends with the balances of that prefix.
+#![tactic(auto)]
+
+mod board;
+mod dealing;
+mod log_starts;
+mod plays;
+mod publication;
+mod request;
+mod rule;
+mod seat;
+mod steps;
+mod targets_word;
+#[cfg(test)]
+mod tests;
+mod view;
+mod word_count;
+
+/// What a call answers that found no memory.
+pub type NoMemory = std::alloc::AllocError;
+
+pub use crate::board::Board;
+pub use crate::publication::{Entry, Publication, RECORD_WORDS};
+pub use crate::request::{REQUEST_WORDS, Request};
+pub use crate::seat::BoardSeat;
+pub use crate::steps::Steps;
+pub use crate::targets_word::{pack_targets, unpack_targets};
+pub use crate::view::{Asking, Cell, Loads, Part, SeenDecision, SeenRequest, SeenRow, View};

@@ -1,0 +1,34 @@
+//! What each step of the table tells its seat.
+
+ghost use Rattle.at_board.specs.Plays.{loaded_length, published_record, stored_word};
+
+use crate::view::View;
+use atomic_table::{Play, Split};
+
+pub(crate) struct LoadLength;
+
+impl Play<(), View> for LoadLength {
+    ghost then = { loaded_length };
+}
+
+pub(crate) struct StoreWord;
+
+impl Play<(), View> for StoreWord {
+    ghost then = { stored_word };
+}
+
+pub(crate) struct Publish;
+
+impl Play<(), View> for Publish {
+    ghost then = { published_record };
+}
+
+pub(crate) struct Cut;
+
+impl Split<View> for Cut {
+    ghost use Rattle.at_board.specs.Cuts.{first_part, other_parts};
+
+    ghost left = { first_part };
+
+    ghost right = { other_parts };
+}

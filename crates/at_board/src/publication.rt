@@ -1,0 +1,32 @@
+//! What processes publish.
+
+use at_base::{Counts, Decision};
+use at_ledger::Targets;
+
+/// The words of a record before its view: its head, its targets word, its decision and four amounts.
+pub const RECORD_WORDS: u32 = 7;
+
+/// What a record says was done.
+#[derive(Drop)]
+pub enum Entry {
+    /// A pay-out from a single account of the process that publishes it. It succeeded.
+    Own {
+        from: u32,
+        targets: Targets,
+    },
+    /// A round of a shared account: what was decided in it, and the targets of the request that the decision names.
+    Round {
+        account: u32,
+        round: u32,
+        decision: Decision,
+        targets: Targets,
+    },
+}
+
+/// A published record. The view has how many records of each process stand before it for its process.
+#[derive(Drop)]
+pub struct Publication {
+    pub process: u32,
+    pub view: Counts,
+    pub entry: Entry,
+}

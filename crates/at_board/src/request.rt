@@ -1,0 +1,13 @@
+//! What owners of shared accounts ask for.
+
+use at_ledger::Targets;
+
+/// The words of a request: its targets word, four amounts, and its `since`.
+pub const REQUEST_WORDS: u32 = 6;
+
+/// A pay-out that an owner of a shared account asks for. `since` is the place of the snapshot that the owner took just before.
+#[derive(Drop)]
+pub struct Request {
+    pub targets: Targets,
+    pub since: u32,
+}

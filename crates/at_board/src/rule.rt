@@ -1,0 +1,18 @@
+//! The rule of the board's table.
+
+ghost use Rattle.at_board.specs.Seated.{Ruled};
+ghost use Rattle.at_board.specs.Views.{starting_view};
+
+use crate::view::View;
+use at_ledger::Book;
+use atomic_table::TableRule;
+use std::snapshot::Snapshot;
+
+/// The words stand for a sound state of the board, of which each seat and note knows what it has seen.
+pub(crate) struct BoardRule {}
+
+impl TableRule<(), View, Snapshot<Book>> for BoardRule {
+    ghost holds = { λ key s. Ruled key.value s.words s.views };
+
+    ghost first = { λ key. starting_view key.value };
+}

@@ -1,0 +1,44 @@
+//! Seats of a board.
+
+ghost use Rattle.std.specs.Prelude.{◌≡◌};
+
+use crate::view::View;
+use atomic_table::Seat;
+use std::marker::Model;
+
+/// The right of one process to make steps on a board, with what it has seen. It takes no memory, and one thread uses it at a time.
+#[derive(Drop)]
+pub struct BoardSeat {
+    pub(crate) seat: Seat<(), View>,
+    pub(crate) process: u32,
+    pub(crate) published: u32,
+}
+
+impl Model for BoardSeat {
+    ghost use Rattle.std.specs.Prelude.{◌≡◌, []};
+    ghost use Rattle.at_board.specs.SeatView.{IsSeat, SeatView};
+
+    ghost Value = { SeatView };
+
+    ghost view = { λ s. record { board = s.seat.table_id; view = s.seat.me.0 } };
+
+    ghost invariant = { λ s. (s.seat.me.1 ≡ []) × IsSeat s.seat.me.0 s.process s.published };
+}
+
+impl BoardSeat {
+    ghost use Rattle.at_board.specs.Views.{own_part};
+
+    /// The process that the seat belongs to.
+    pub fn process(&self) -> u32
+        ensures { result ≡ self.now.view.first }
+    {
+        self.process
+    }
+
+    /// How many records the process has published.
+    pub fn published(&self) -> u32
+        ensures { result ≡ (own_part self.now.view).published }
+    {
+        self.published
+    }
+}

@@ -1,0 +1,50 @@
+//! How many words a board has.
+
+ghost use Rattle.std.specs.Prelude.{◌≡◌, ◌^◌, ◌<◌, ◌≤◌, length, sum_by};
+ghost use Rattle.at_ledger.specs.Book.{account_of};
+ghost use Rattle.at_board.specs.Places.{place_at, record_word, slots_of, word_count};
+
+use crate::publication::RECORD_WORDS;
+use at_ledger::Book;
+
+/// The words of a board for the book.
+pub(crate) fn word_count(book: &Book) -> usize
+    ensures { result ≡ word_count book.now }
+{
+    records_end(book) + slot_count(book) as usize * (1 + 7 * book.request_room() as usize)
+}
+
+/// Where the last log ends.
+fn records_end(book: &Book) -> usize
+    ensures end { result ≡ place_at book.now (record_word book.now.processes 0 0) }
+    ensures few { result < 2 ^ 32 }
+{
+    let _accounts = book.accounts();
+    let mut end = book.processes() as usize;
+    for p in 0..book.processes() {
+        end += book.log_room(p) as usize * (RECORD_WORDS + book.processes()) as usize;
+    }
+    end
+}
+
+/// The slots of all shared accounts.
+fn slot_count(book: &Book) -> u32
+    ensures count { result ≡ sum_by slots_of book.now.accounts }
+    ensures few { result ≤ 8192 }
+{
+    let mut slots = 0;
+    for account in 0..book.accounts() {
+        slots += slots_at(book, account);
+    }
+    slots
+}
+
+/// The slots of one account: none where no two processes share it.
+fn slots_at(book: &Book, account: u32) -> u32
+    requires { account < length book.now.accounts }
+    ensures count { result ≡ slots_of (account_of book.now account) }
+    ensures few { result ≤ 8 }
+{
+    let owners = book.owner_count(account);
+    if 2 <= owners { owners } else { 0 }
+}
