@@ -1,10 +1,14 @@
 -- The report of a run, and the line of a check.
-use Rattle.std.specs.Prelude.{ℕ, List, [], ◌∷◌, ◌++◌, length, map, codes, decimal, sum}
+use Rattle.std.specs.Prelude.{ℕ, ◌<◌, ◌^◌, ⊤, List, [], ◌∷◌, ◌++◌, length, map, codes, decimal, sum}
 use Rattle.std.specs.List.{range_with_len}
 use Rattle.at_ledger.specs.Book.{BookTerms}
 use Rattle.at_ledger.specs.State.{LedgerState, balance_of}
 use Rattle.at_ledger.specs.Run.{last_state}
+use Rattle.at_ledger.specs.Call.{IsLineOn}
 use Rattle.at_ledger.specs.declared.call.Line.{Line}
+use Rattle.at_ledger.specs.declared.call.Reply.{Reply}
+use Rattle.at_ledger.specs.declared.call.Reply.TheVariants.{Balance}
+use Rattle.at_files.specs.Payments.{HasAmounts}
 use Rattle.at_files.specs.Names.{NameList, account_name}
 use Rattle.at_report.specs.Lines.{Words, journal_words, line_text, lines_text}
 
@@ -33,3 +37,15 @@ report_text b names lines = lines_text (journal_lines names lines ++ audit_lines
 -- how many processes and accounts a book has, and how many calls its files have
 abbrev pub checked_line : BookTerms → ℕ → List ℕ
 checked_line b calls = line_text (codes "checked" ∷ decimal b.processes ∷ decimal (length b.accounts) ∷ decimal calls ∷ [])
+
+-- a balance in a reply is a number of 64 bits
+abbrev pub HasBalance : Reply → Type 0
+HasBalance (Balance n) = n < 2 ^ 64
+HasBalance reply = ⊤
+
+-- the line is one of the book's, and its numbers are of 64 bits
+pub record IsPrinted (b : BookTerms) (l : Line) : Type 0 where
+  pub known : IsLineOn b.processes (length b.accounts) l
+  pub number : l.number < 2 ^ 64
+  pub amounts : HasAmounts l.call
+  pub balance : HasBalance l.reply

@@ -1,11 +1,12 @@
 //! The report of a run, and the line of a check.
 
-ghost use Rattle.std.specs.Prelude.{◌≡◌, ◌++◌, length, All, IfOk, OnOk};
+ghost use Rattle.std.specs.Prelude.{◌≡◌, ◌^◌, ◌<◌, ◌++◌, List, length, All, IfOk, OnOk};
 ghost use Rattle.at_ledger.specs.Call.{IsLineOn};
+ghost use Rattle.at_ledger.specs.declared.call.Line.{Line};
 ghost use Rattle.at_ledger.specs.Run.{asked_in, run_from};
 ghost use Rattle.at_files.specs.Names.{AreNamesOf};
 ghost use Rattle.at_report.specs.Lines.{lines_text};
-ghost use Rattle.at_report.specs.Report.{audit_lines, balance_lines, checked_line, journal_lines, report_text};
+ghost use Rattle.at_report.specs.Report.{IsPrinted, audit_lines, balance_lines, checked_line, journal_lines, report_text};
 
 use crate::NoMemory;
 use crate::lines::{push_line, push_number, push_numbered};
@@ -63,9 +64,8 @@ fn push_journal(
     Ok(())
 }
 
-/// The report of a list of lines: the journal, and the balances and the total after all its lines. `names` are the
-/// book's. The text takes some 40 bytes for each line, and the work grows with lines and accounts alone.
-pub fn report(
+/// The bytes of the report.
+fn write_report(
     alloc: Global,
     book: &Book,
     names: &Names,
@@ -80,6 +80,27 @@ pub fn report(
     push_journal(&mut out, names, &mut state, lines)?;
     push_audit(&mut out, book, names, &state)?;
     Ok(out)
+}
+
+/// The report of a list of lines: the journal, and the balances and the total after all its lines. `names` are the
+/// book's. No other list of lines has this report. The text takes some 40 bytes for each line, and the work grows with
+/// lines and accounts alone.
+pub fn report(
+    alloc: Global,
+    book: &Book,
+    names: &Names,
+    lines: &[Line],
+) -> Result<Vec<u8>, NoMemory>
+    requires names { AreNamesOf book.now names.now }
+    requires lines { All (IsLineOn book.now.processes (length book.now.accounts)) lines.now }
+    ensures text { IfOk result (λ text. text.items ≡ report_text book.now names.now lines.now) }
+    ensures spells { IfOk result (λ text. (others : List Line) → length others < 2 ^ 64 → All (IsPrinted book.now) lines.now → All (IsPrinted book.now) others
+        → text.items ≡ report_text book.now names.now others → lines.now ≡ others) }
+{
+    let _accounts = book.accounts();
+    let _lines = lines.len();
+    let text = write_report(alloc, book, names, lines)?;
+    Ok(text)
 }
 
 /// The line of a check: how many processes and accounts the book has, and how many calls its files have together.

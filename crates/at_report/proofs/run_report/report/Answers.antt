@@ -1,11 +1,9 @@
-use Rattle.std.proofs.Common.{◌∙◌, sym, ap, length}
-use Rattle.at_ledger.specs.State.{LedgerState}
+use Rattle.std.proofs.Common.{◌∙◌, sym, length, ◌<◌, ◌^◌, arith}
+use Rattle.at_report.proofs.ReportLaws.{report_text-injective}
 use Rattle.at_report.proofs.run_report.report.Goals as goal
 
-pub push_journal-requires-clause-processes : goal.push_journal-requires-clause-processes
-push_journal-requires-clause-processes c =
-    c.requires.names.processes ∙ sym (ap (λ (s : LedgerState). s.book.processes) c.in_ok-state.ensures)
-
-pub push_journal-requires-clause-accounts : goal.push_journal-requires-clause-accounts
-push_journal-requires-clause-accounts c =
-    c.requires.names.accounts ∙ sym (ap (λ (s : LedgerState). length s.book.accounts) c.in_ok-state.ensures)
+pub returns-clause-spells : goal.returns-clause-spells
+returns-clause-spells c others few printed printed_others e =
+    let few_lines : length c.args.lines.now < 2 ^ 64 = omega arith in
+    report_text-injective c.args.book.now c.args.names.now c.args.lines.now others c.accounts-accounts.ensures.checked c.requires.names few_lines few printed printed_others
+    (sym c.in_ok-text.ensures ∙ e)

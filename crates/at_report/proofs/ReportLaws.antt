@@ -1,0 +1,309 @@
+-- A report spells its lines: no two lists of lines have one.
+use Rattle.std.proofs.Common.{◌≡◌, ℕ, ◌<◌, ◌≤◌, ◌^◌, ◌⊎◌, inl, inr, List, [], ◌∷◌, ◌++◌, map, length, get_or, All, Some, codes, decimal, refl, sym, ap, ◌∙◌, arith, append_assoc, zero, suc, zero-add, sum}
+use Rattle.std.proofs.lemmas.List.FromFn.{get_or-map-range_with_len}
+use Rattle.std.proofs.lemmas.Fmt.{digits_decimal, first_decimal, decimal_digit}
+use Rattle.at_base.specs.Numbers.{number_of}
+use Rattle.at_base.proofs.NumberLaws.{AreDigits, number_of-decimal, own, tells_digits}
+use Rattle.at_ledger.specs.Book.{BookTerms, IsBook}
+use Rattle.at_ledger.specs.Call.{AreTargetsOn, IsCallOn, IsLineOn, TargetPair}
+use Rattle.at_ledger.specs.declared.call.Call.{Call}
+use Rattle.at_ledger.specs.declared.call.Call.TheVariants.{Transfer, Read, Pay}
+use Rattle.at_ledger.specs.declared.call.Reply.{Reply}
+use Rattle.at_ledger.specs.declared.call.Reply.TheVariants.{Done, Short, NotOwner, Full, Balance}
+use Rattle.at_ledger.specs.declared.call.Line.{Line}
+use Rattle.at_ledger.specs.Run.{asked_in, last_state}
+use Rattle.at_ledger.specs.State.{LedgerState, opening_state}
+use Rattle.at_ledger.proofs.Run.{book-run_from}
+use Rattle.std.proofs.lemmas.Grind.{flat_map-append}
+use Rattle.at_files.specs.Names.{AreNamesOf, NameList, account_name, decimals_below, process_name}
+use Rattle.at_files.specs.Payments.{HasAmounts}
+use Rattle.at_report.specs.Lines.{Words, call_words, journal_words, line_text, lines_text, reply_word, targets_words}
+use Rattle.at_report.specs.Report.{HasBalance, IsPrinted, balance_lines, report_text}
+use Rattle.at_report.proofs.WordLaws.{AreWords, AreWords-append, IsLineOfWords, IsWord, IsWord-decimal, IsWord-from, split_line}
+
+decimal-injective : (n m : ℕ) → n < 2 ^ 64 → m < 2 ^ 64 → decimal n ≡ decimal m → n ≡ m
+decimal-injective n m hn hm e =
+    let both : Some n ≡ Some m = sym (number_of-decimal n hn) ∙ ap number_of e ∙ number_of-decimal m hm in
+    cc
+
+-- names of version 1 are decimals
+name-decimal : (count i : ℕ) → i < count → get_or (decimals_below count) i [] ≡ decimal i
+name-decimal count i below = get_or-map-range_with_len decimal 0 count i i [] below (zero-add i)
+
+-- a number begins with a digit
+head_digit : (w : List ℕ) → AreDigits w → 48 < get_or w 0 0 → get_or w 0 0 ≤ 57
+head_digit [] digits above = absurd (omega arith)
+head_digit (c ∷ cs) digits above = let range = (tells_digits.parts c cs digits).0 in omega (arith, range)
+
+head-decimal : (n : ℕ) → n < 2 ^ 64 → (n < 10) ⊎ (0 < n) → (48 ≤ get_or (decimal n) 0 0) × (get_or (decimal n) 0 0 ≤ 57)
+head-decimal n h (inl small) = rw (decimal_digit n small) (omega arith, omega arith)
+head-decimal n h (inr some) =
+    let above = first_decimal n some h in
+    (omega (arith, above), head_digit (decimal n) (digits_decimal own n h) above)
+
+-- how a reply's word begins
+abbrev head : List ℕ → ℕ
+head w = get_or w 0 0
+
+balance_head : (n : ℕ) → n < 2 ^ 64 → (48 ≤ head (decimal n)) × (head (decimal n) ≤ 57)
+balance_head n h = head-decimal n h (let split : (n < 10) ⊎ (0 < n) = grind arith in split)
+
+reply_word-injective : (r s : Reply) → HasBalance r → HasBalance s → reply_word r ≡ reply_word s → r ≡ s
+reply_word-injective Done Done hr hs e = refl
+reply_word-injective Done Short hr hs e = absurd (omega (arith, ap head e))
+reply_word-injective Done NotOwner hr hs e = absurd (omega (arith, ap head e))
+reply_word-injective Done Full hr hs e = absurd (omega (arith, ap head e))
+reply_word-injective Done (Balance m) hr hs e = absurd (omega (arith, ap head e, balance_head m hs))
+reply_word-injective Short Done hr hs e = absurd (omega (arith, ap head e))
+reply_word-injective Short Short hr hs e = refl
+reply_word-injective Short NotOwner hr hs e = absurd (omega (arith, ap head e))
+reply_word-injective Short Full hr hs e = absurd (omega (arith, ap head e))
+reply_word-injective Short (Balance m) hr hs e = absurd (omega (arith, ap head e, balance_head m hs))
+reply_word-injective NotOwner Done hr hs e = absurd (omega (arith, ap head e))
+reply_word-injective NotOwner Short hr hs e = absurd (omega (arith, ap head e))
+reply_word-injective NotOwner NotOwner hr hs e = refl
+reply_word-injective NotOwner Full hr hs e = absurd (omega (arith, ap head e))
+reply_word-injective NotOwner (Balance m) hr hs e = absurd (omega (arith, ap head e, balance_head m hs))
+reply_word-injective Full Done hr hs e = absurd (omega (arith, ap head e))
+reply_word-injective Full Short hr hs e = absurd (omega (arith, ap head e))
+reply_word-injective Full NotOwner hr hs e = absurd (omega (arith, ap head e))
+reply_word-injective Full Full hr hs e = refl
+reply_word-injective Full (Balance m) hr hs e = absurd (omega (arith, ap head e, balance_head m hs))
+reply_word-injective (Balance n) Done hr hs e = absurd (omega (arith, ap head e, balance_head n hr))
+reply_word-injective (Balance n) Short hr hs e = absurd (omega (arith, ap head e, balance_head n hr))
+reply_word-injective (Balance n) NotOwner hr hs e = absurd (omega (arith, ap head e, balance_head n hr))
+reply_word-injective (Balance n) Full hr hs e = absurd (omega (arith, ap head e, balance_head n hr))
+reply_word-injective (Balance n) (Balance m) hr hs e = ap Balance (decimal-injective n m hr hs e)
+
+IsWord-reply_word : (r : Reply) → HasBalance r → IsWord (reply_word r)
+IsWord-reply_word Done h = IsWord-from (codes "done") refl
+IsWord-reply_word Short h = IsWord-from (codes "short") refl
+IsWord-reply_word NotOwner h = IsWord-from (codes "not-owner") refl
+IsWord-reply_word Full h = IsWord-from (codes "full") refl
+IsWord-reply_word (Balance n) h = IsWord-decimal n h
+
+-- the names that lines cite: each is the decimal of a number of 64 bits
+record AreShort (names : NameList) (processes accounts : ℕ) : Type 0 where
+  processes_fit : processes < 2 ^ 64
+  accounts_fit : accounts < 2 ^ 64
+  process : (p : ℕ) → p < processes → process_name names p ≡ decimal p
+  account : (a : ℕ) → a < accounts → account_name names a ≡ decimal a
+
+AreShort-AreNamesOf : (b : BookTerms) (names : NameList) → IsBook b → AreNamesOf b names → AreShort names b.processes (length b.accounts)
+AreShort-AreNamesOf b names is are = record {
+  processes_fit = omega (arith, is.begun.few_processes);
+  accounts_fit = omega (arith, is.begun.few_accounts);
+  process = λ p below. ap (λ (n : NameList). process_name n p) are.plain ∙ name-decimal b.processes p below;
+  account = λ a below. ap (λ (n : NameList). account_name n a) are.plain ∙ name-decimal (length b.accounts) a below;
+}
+
+account-injective : (names : NameList) (processes accounts a c : ℕ) → AreShort names processes accounts → a < accounts → c < accounts
+    → account_name names a ≡ account_name names c → a ≡ c
+account-injective names processes accounts a c are ha hc e =
+    decimal-injective a c (omega (arith, are.accounts_fit)) (omega (arith, are.accounts_fit)) (sym (are.account a ha) ∙ e ∙ are.account c hc)
+
+IsWord-account : (names : NameList) (processes accounts a : ℕ) → AreShort names processes accounts → a < accounts → IsWord (account_name names a)
+IsWord-account names processes accounts a are ha = rw (are.account a ha) (IsWord-decimal a (omega (arith, are.accounts_fit)))
+
+-- the targets and the reply that end a line are told apart
+record AreSame {X : Type 0} (x y : X) (r s : List ℕ) : Type 0 where
+  first : x ≡ y
+  reply : r ≡ s
+
+same_pair : (t u : TargetPair) → t.0 ≡ u.0 → t.1 ≡ u.1 → t ≡ u
+same_pair t u same equal = λ i. (same i, equal i)
+
+same_targets : (names : NameList) (processes accounts : ℕ) (ts us : List TargetPair) (r s : List ℕ) → AreShort names processes accounts
+    → AreTargetsOn accounts ts → AreTargetsOn accounts us → All (λ t. t.1 < 2 ^ 64) ts → All (λ t. t.1 < 2 ^ 64) us
+    → targets_words names ts ++ r ∷ [] ≡ targets_words names us ++ s ∷ [] → AreSame ts us r s
+same_targets names processes accounts [] [] r s are on_t on_u fit_t fit_u e = record { first = refl; reply = cc }
+same_targets names processes accounts [] (u ∷ us) r s are on_t on_u fit_t fit_u e = absurd (cc)
+same_targets names processes accounts (t ∷ ts) [] r s are on_t on_u fit_t fit_u e = absurd (cc)
+same_targets names processes accounts (t ∷ ts) (u ∷ us) r s are on_t on_u fit_t fit_u e =
+    let account : account_name names t.0 ≡ account_name names u.0 = cc in
+    let amount : decimal t.1 ≡ decimal u.1 = cc in
+    let rest : targets_words names ts ++ r ∷ [] ≡ targets_words names us ++ s ∷ [] = cc in
+    let same : t.0 ≡ u.0 = account-injective names processes accounts t.0 u.0 are (on_t zero t (omega arith)) (on_u zero u (omega arith)) account in
+    let equal : t.1 ≡ u.1 = decimal-injective t.1 u.1 (fit_t zero t (omega arith)) (fit_u zero u (omega arith)) amount in
+    let later = same_targets names processes accounts ts us r s are (λ k d below. on_t (suc k) d (omega arith)) (λ k d below. on_u (suc k) d (omega arith))
+    (λ k d below. fit_t (suc k) d (omega arith)) (λ k d below. fit_u (suc k) d (omega arith)) rest in
+    let firsts = later.first in
+    record { first = let pairs : t ≡ u = same_pair t u same equal in cc; reply = later.reply }
+
+-- the call and the reply that end a line are told apart
+same_call : (names : NameList) (processes accounts : ℕ) (c d : Call) (r s : List ℕ) → AreShort names processes accounts → IsCallOn accounts c → IsCallOn accounts d
+    → HasAmounts c → HasAmounts d → call_words names c ++ r ∷ [] ≡ call_words names d ++ s ∷ [] → AreSame c d r s
+same_call names processes accounts (Transfer from to amount) (Transfer from' to' amount') r s are on_c on_d fit_c fit_d e =
+    let source : account_name names from ≡ account_name names from' = cc in
+    let target : account_name names to ≡ account_name names to' = cc in
+    let text : decimal amount ≡ decimal amount' = cc in
+    let from_is : from ≡ from' = account-injective names processes accounts from from' are on_c.0 on_d.0 source in
+    let to_is : to ≡ to' = account-injective names processes accounts to to' are on_c.1 on_d.1 target in
+    let amount_is : amount ≡ amount' = decimal-injective amount amount' fit_c fit_d text in
+    record { first = cc; reply = cc }
+same_call names processes accounts (Transfer from to amount) (Read account) r s are on_c on_d fit_c fit_d e =
+    absurd (let word : codes "transfer" ≡ codes "read" = cc in omega (arith, ap head word))
+same_call names processes accounts (Transfer from to amount) (Pay from' targets) r s are on_c on_d fit_c fit_d e =
+    absurd (let word : codes "transfer" ≡ codes "pay" = cc in omega (arith, ap head word))
+same_call names processes accounts (Read account) (Transfer from to amount) r s are on_c on_d fit_c fit_d e =
+    absurd (let word : codes "read" ≡ codes "transfer" = cc in omega (arith, ap head word))
+same_call names processes accounts (Read account) (Read account') r s are on_c on_d fit_c fit_d e =
+    let name : account_name names account ≡ account_name names account' = cc in
+    let account_is : account ≡ account' = account-injective names processes accounts account account' are on_c on_d name in
+    record { first = cc; reply = cc }
+same_call names processes accounts (Read account) (Pay from targets) r s are on_c on_d fit_c fit_d e =
+    absurd (let word : codes "read" ≡ codes "pay" = cc in omega (arith, ap head word))
+same_call names processes accounts (Pay from targets) (Transfer from' to amount) r s are on_c on_d fit_c fit_d e =
+    absurd (let word : codes "pay" ≡ codes "transfer" = cc in omega (arith, ap head word))
+same_call names processes accounts (Pay from targets) (Read account) r s are on_c on_d fit_c fit_d e =
+    absurd (let word : codes "pay" ≡ codes "read" = cc in omega (arith, ap head word))
+same_call names processes accounts (Pay from targets) (Pay from' targets') r s are on_c on_d fit_c fit_d e =
+    let name : account_name names from ≡ account_name names from' = cc in
+    let rest : targets_words names targets ++ r ∷ [] ≡ targets_words names targets' ++ s ∷ [] = cc in
+    let from_is : from ≡ from' = account-injective names processes accounts from from' are on_c.0 on_d.0 name in
+    let later = same_targets names processes accounts targets targets' r s are on_c.1 on_d.1 fit_c fit_d rest in
+    let targets_are = later.first in
+    record { first = cc; reply = later.reply }
+
+-- a journal's line is one of words
+
+AreWords-targets : (names : NameList) (processes accounts : ℕ) (ts : List TargetPair) → AreShort names processes accounts → AreTargetsOn accounts ts → All (λ t. t.1 < 2 ^ 64) ts
+    → AreWords (targets_words names ts)
+AreWords-targets names processes accounts [] are on fit = tt
+AreWords-targets names processes accounts (t ∷ ts) are on fit = (
+  IsWord-account names processes accounts t.0 are (on zero t (omega arith)),
+  (
+    IsWord-decimal t.1 (fit zero t (omega arith)),
+    AreWords-targets names processes accounts ts are (λ k d below. on (suc k) d (omega arith)) (λ k d below. fit (suc k) d (omega arith)),
+  ),
+)
+
+AreWords-call : (names : NameList) (processes accounts : ℕ) (c : Call) → AreShort names processes accounts → IsCallOn accounts c → HasAmounts c → AreWords (call_words names c)
+AreWords-call names processes accounts (Transfer from to amount) are on fit = (
+  IsWord-from (codes "transfer") refl,
+  (IsWord-account names processes accounts from are on.0, (IsWord-account names processes accounts to are on.1, (IsWord-decimal amount fit, tt))),
+)
+AreWords-call names processes accounts (Read account) are on fit = (IsWord-from (codes "read") refl, (IsWord-account names processes accounts account are on, tt))
+AreWords-call names processes accounts (Pay from targets) are on fit = (
+  IsWord-from (codes "pay") refl,
+  (IsWord-account names processes accounts from are on.0, AreWords-targets names processes accounts targets are on.1 fit),
+)
+
+-- what is printed of a line
+record IsShort (processes accounts : ℕ) (l : Line) : Type 0 where
+  known : IsLineOn processes accounts l
+  number : l.number < 2 ^ 64
+  amounts : HasAmounts l.call
+  balance : HasBalance l.reply
+
+IsLineOfWords-journal : (names : NameList) (processes accounts : ℕ) (l : Line) → AreShort names processes accounts → IsShort processes accounts l
+    → IsLineOfWords (journal_words names l)
+IsLineOfWords-journal names processes accounts l are is =
+    let process : IsWord (process_name names l.process) = rw (are.process l.process is.known.0) (IsWord-decimal l.process (omega (arith, are.processes_fit, is.known.0))) in (
+      process,
+      (
+        IsWord-decimal l.number is.number,
+        AreWords-append (call_words names l.call) (reply_word l.reply ∷ []) (AreWords-call names processes accounts l.call are is.known.1 is.amounts) (IsWord-reply_word l.reply is.balance, tt),
+      ),
+    )
+
+-- a line of these parts
+line_of : ℕ → ℕ → Call → Reply → Line
+line_of p n c r = record { process = p; number = n; call = c; reply = r }
+
+journal_words-injective : (names : NameList) (processes accounts : ℕ) (l m : Line) → AreShort names processes accounts → IsShort processes accounts l → IsShort processes accounts m
+    → journal_words names l ≡ journal_words names m → l ≡ m
+unfolding line_of
+journal_words-injective names processes accounts l m are is_l is_m e =
+    let name : process_name names l.process ≡ process_name names m.process = cc in
+    let text : decimal l.number ≡ decimal m.number = cc in
+    let rest : call_words names l.call ++ reply_word l.reply ∷ [] ≡ call_words names m.call ++ reply_word m.reply ∷ [] = cc in
+    let process : l.process ≡ m.process =
+    decimal-injective l.process m.process (omega (arith, are.processes_fit, is_l.known.0)) (omega (arith, are.processes_fit, is_m.known.0))
+    (sym (are.process l.process is_l.known.0) ∙ name ∙ are.process m.process is_m.known.0) in
+    let number : l.number ≡ m.number = decimal-injective l.number m.number is_l.number is_m.number text in
+    let same = same_call names processes accounts l.call m.call (reply_word l.reply) (reply_word m.reply) are is_l.known.1 is_m.known.1 is_l.amounts is_m.amounts rest in
+    let call : l.call ≡ m.call = same.first in
+    let reply : l.reply ≡ m.reply = reply_word-injective l.reply m.reply is_l.balance is_m.balance same.reply in
+    λ i. line_of (process i) (number i) (call i) (reply i)
+
+-- the heading of the balances
+abbrev balances_words : ℕ → Words
+balances_words count = codes "balances" ∷ decimal count ∷ []
+
+IsLineOfWords-balances : (count : ℕ) → count < 2 ^ 64 → IsLineOfWords (balances_words count)
+IsLineOfWords-balances count few = (IsWord-from (codes "balances") refl, (IsWord-decimal count few, tt))
+
+not_empty : (ws : Words) (w : List ℕ) → ◌≡◌ {A = Words} [] (ws ++ w ∷ []) → ⊥
+not_empty [] w e = cc
+not_empty (v ∷ ws) w e = cc
+
+-- a journal's line has more words than that heading
+not_balances : (names : NameList) (count : ℕ) (l : Line) → balances_words count ≡ journal_words names l → ⊥
+not_balances names count l e = not_empty (call_words names l.call) (reply_word l.reply) (let rest : ◌≡◌ {A = Words} [] (call_words names l.call ++ reply_word l.reply ∷ []) = cc in rest)
+
+-- the text from the first line of a journal on
+abbrev journal_from : NameList → ℕ → List Line → List ℕ → List ℕ
+journal_from names count ls after = lines_text (map (journal_words names) ls) ++ (line_text (balances_words count) ++ after)
+
+journal_from-cons : (names : NameList) (count : ℕ) (l : Line) (ls : List Line) (after : List ℕ)
+    → journal_from names count (l ∷ ls) after ≡ line_text (journal_words names l) ++ journal_from names count ls after
+journal_from-cons names count l ls after = append_assoc (line_text (journal_words names l)) (lines_text (map (journal_words names) ls)) (line_text (balances_words count) ++ after)
+
+same_lists : (l m : Line) (ls ms : List Line) → l ≡ m → ls ≡ ms → l ∷ ls ≡ m ∷ ms
+same_lists l m ls ms first rest = cc
+
+-- the journal ends where the balances begin
+journal_from-injective : (names : NameList) (processes accounts count : ℕ) (ls ms : List Line) (after later : List ℕ) → AreShort names processes accounts → count < 2 ^ 64
+    → All (IsShort processes accounts) ls → All (IsShort processes accounts) ms → journal_from names count ls after ≡ journal_from names count ms later → ls ≡ ms
+journal_from-injective names processes accounts count [] [] after later are few is_ls is_ms e = refl
+journal_from-injective names processes accounts count [] (m ∷ ms) after later are few is_ls is_ms e =
+    let split = split_line (balances_words count) (journal_words names m) after (journal_from names count ms later) (IsLineOfWords-balances count few)
+    (IsLineOfWords-journal names processes accounts m are (is_ms zero m (omega arith))) (e ∙ journal_from-cons names count m ms later) in
+    absurd (not_balances names count m split.words)
+journal_from-injective names processes accounts count (l ∷ ls) [] after later are few is_ls is_ms e =
+    let split = split_line (balances_words count) (journal_words names l) later (journal_from names count ls after) (IsLineOfWords-balances count few)
+    (IsLineOfWords-journal names processes accounts l are (is_ls zero l (omega arith))) (sym e ∙ journal_from-cons names count l ls after) in
+    absurd (not_balances names count l split.words)
+journal_from-injective names processes accounts count (l ∷ ls) (m ∷ ms) after later are few is_ls is_ms e =
+    let is_l = is_ls zero l (omega arith) in
+    let is_m = is_ms zero m (omega arith) in
+    let split = split_line (journal_words names l) (journal_words names m) (journal_from names count ls after) (journal_from names count ms later)
+    (IsLineOfWords-journal names processes accounts l are is_l) (IsLineOfWords-journal names processes accounts m are is_m)
+    (sym (journal_from-cons names count l ls after) ∙ e ∙ journal_from-cons names count m ms later) in
+    same_lists l m ls ms (journal_words-injective names processes accounts l m are is_l is_m split.words)
+    (journal_from-injective names processes accounts count ls ms after later are few
+    (λ k d below. is_ls (suc k) d (omega arith)) (λ k d below. is_ms (suc k) d (omega arith)) split.rest)
+
+lines_text-append : (ls ms : List Words) → lines_text (ls ++ ms) ≡ lines_text ls ++ lines_text ms
+lines_text-append ls ms = flat_map-append line_text ls ms
+
+-- the text of a report: the heading, the journal, and then the balances
+report_parts : (b : BookTerms) (names : NameList) (ls : List Line)
+    → report_text b names ls
+    ≡ line_text (codes "journal" ∷ decimal (length ls) ∷ [])
+    ++ journal_from names (length b.accounts) ls
+    (lines_text (balance_lines names (last_state b ls) ++ (codes "total" ∷ decimal (sum (last_state b ls).balances) ∷ []) ∷ []))
+report_parts b names ls =
+    let s : LedgerState = last_state b ls in
+    let title : Words = codes "journal" ∷ decimal (length ls) ∷ [] in
+    let journal : List Words = map (journal_words names) ls in
+    let end : List Words = balance_lines names s ++ (codes "total" ∷ decimal (sum s.balances) ∷ []) ∷ [] in
+    let book : s.book ≡ b = book-run_from (opening_state b) (asked_in ls) in
+    lines_text-append (title ∷ journal) (balances_words (length s.book.accounts) ∷ end)
+    ∙ append_assoc (line_text title) (lines_text journal) (lines_text (balances_words (length s.book.accounts) ∷ end))
+    ∙ ap (λ (count : ℕ). line_text title ++ (lines_text journal ++ (line_text (balances_words count) ++ lines_text end))) (ap (λ (c : BookTerms). length c.accounts) book)
+
+-- no two lists of lines have one report
+pub report_text-injective : (b : BookTerms) (names : NameList) (ls ms : List Line) → IsBook b → AreNamesOf b names → length ls < 2 ^ 64 → length ms < 2 ^ 64
+    → All (IsPrinted b) ls → All (IsPrinted b) ms → report_text b names ls ≡ report_text b names ms → ls ≡ ms
+report_text-injective b names ls ms is are few_ls few_ms is_ls is_ms e =
+    let short = AreShort-AreNamesOf b names is are in
+    let split = split_line (codes "journal" ∷ decimal (length ls) ∷ []) (codes "journal" ∷ decimal (length ms) ∷ []) _ _
+    (IsWord-from (codes "journal") refl, (IsWord-decimal (length ls) few_ls, tt)) (IsWord-from (codes "journal") refl, (IsWord-decimal (length ms) few_ms, tt))
+    (sym (report_parts b names ls) ∙ e ∙ report_parts b names ms) in
+    journal_from-injective names b.processes (length b.accounts) (length b.accounts) ls ms _ _ short short.accounts_fit
+    (λ k d below. is_short b (get_or ls k d) (is_ls k d below)) (λ k d below. is_short b (get_or ms k d) (is_ms k d below)) split.rest
+  where
+    is_short : (b : BookTerms) (l : Line) → IsPrinted b l → IsShort b.processes (length b.accounts) l
+    is_short b l is = record { known = is.known; number = is.number; amounts = is.amounts; balance = is.balance }
