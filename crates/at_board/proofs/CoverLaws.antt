@@ -13,6 +13,7 @@ use Rattle.at_board.proofs.FrontLaws.{get_or-IsFront}
 use Rattle.at_board.proofs.RoundLaws.{one_if, published, rounds-push_next, sum_by-firsts_new, sum_by-firsts-take_mono, sum_by-firsts-take_same}
 use Rattle.at_board.proofs.SizeLaws.{is_some-position}
 use Rattle.at_board.proofs.SoundRounds.{IsInitial-take, place-view-le, rounds-take_mono, take-publication_at}
+use Rattle.at_board.proofs.RunRules.{HasRuns, IsRunDecision}
 use Rattle.at_board.specs.declared.publication.Entry.{Entry}
 use Rattle.at_board.specs.declared.publication.Entry.TheVariants.{Own, Round}
 use Rattle.at_board.specs.declared.publication.Publication.{Publication}
@@ -22,7 +23,7 @@ use Rattle.at_board.specs.Entries.{is_round_on}
 use Rattle.at_board.specs.Fronts.{prefix_of, place}
 use Rattle.at_board.specs.Publications.{count_of, no_publication}
 use Rattle.at_board.specs.Rounds.{firsts, repeats, rounds}
-use Rattle.at_board.specs.Sound.{IsSoundDecision, IsSoundEntry, Sound}
+use Rattle.at_board.specs.Sound.{IsSoundEntry}
 
 -- an account isn't both single and shared
 pub single_or_shared : (t : AccountTerms) → is_single t ≡ true → is_shared t ≡ true → ⊥
@@ -71,7 +72,7 @@ IsCovered-take b xs a amount k m before same covered =
     omega (arith, covered, same, sum_by-firsts-take_mono (λ x. credit_of a x.entry) xs k m before)
 
 -- between a record's view and the record its process publishes nothing
-not_own : (b : BookTerms) (s : BoardState) (m i : ℕ) → Sound b s → m < length s.published
+not_own : (b : BookTerms) (s : BoardState) (m i : ℕ) → HasRuns b s → m < length s.published
     → place (publication_at s.published m).view ≤ i → i < m
     → (publication_at s.published i).process ≡ (publication_at s.published m).process → ⊥
 not_own b s m i sound within above below own =
@@ -90,7 +91,7 @@ not_own b s m i sound within above below own =
     )
 
 -- an own record is covered where it stands
-IsCovered-own : (b : BookTerms) (s : BoardState) (m from : ℕ) (targets : List TargetPair) → Sound b s → m < length s.published
+IsCovered-own : (b : BookTerms) (s : BoardState) (m from : ℕ) (targets : List TargetPair) → HasRuns b s → m < length s.published
     → IsSoundEntry b s (publication_at s.published m).process (prefix_of (publication_at s.published m).view s.published) (Own from targets)
     → IsCovered b (take m s.published) from (amount_of targets)
 IsCovered-own b s m from targets sound within law =
@@ -103,7 +104,7 @@ IsCovered-own b s m from targets sound within law =
     IsCovered-take b s.published from (amount_of targets) (place x.view) m before same law.covered
 
 -- a record of an account that is no new round adds no round
-repeats_or_off : (b : BookTerms) (s : BoardState) (a k i m : ℕ) → Sound b s → is_shared (account_of b a) ≡ true
+repeats_or_off : (b : BookTerms) (s : BoardState) (a k i m : ℕ) → HasRuns b s → is_shared (account_of b a) ≡ true
     → rounds a (take m s.published) ≡ rounds a (take k s.published) → k ≤ i → i < m → m ≤ length s.published
     → (repeats (publication_at s.published i) (firsts (take i s.published)) ≡ true)
     ⊎ (debit_of a (publication_at s.published i).entry ≡ 0)
@@ -130,13 +131,13 @@ repeats_or_off b s a k i m sound shared same above below within =
     ]
 
 -- a success of a round is covered where the round's first record stands
-IsCovered-round : (b : BookTerms) (s : BoardState) (m a r : ℕ) (d : Decision) (targets : List TargetPair) → Sound b s → m < length s.published
+IsCovered-round : (b : BookTerms) (s : BoardState) (m a r : ℕ) (d : Decision) (targets : List TargetPair) → HasRuns b s → m < length s.published
     → (publication_at s.published m).entry ≡ Round a r d targets
     → IsSoundEntry b s (publication_at s.published m).process (prefix_of (publication_at s.published m).view s.published) (Round a r d targets)
     → rounds a (take m s.published) ≡ r → d.ok ≡ true → IsCovered b (take m s.published) a (amount_of targets)
 IsCovered-round b s m a r d targets sound within is law next ok =
     let x : Publication = publication_at s.published m in
-    let decision : IsSoundDecision b s a r d = subst (IsSoundDecision b s a r) law.1.decision (sound.decisions a r law.1.decided) in
+    let decision : IsRunDecision b s a r d = subst (IsRunDecision b s a r) law.1.decision (sound.decisions a r law.1.decided) in
     let initial = IsInitial-take b s m sound (omega arith) a in
     let more : rounds a (take (m + 1) s.published) ≡ rounds a (take m s.published) + 1 =
     ap (rounds a) (take-publication_at s.published m within)
@@ -156,7 +157,7 @@ abbrev pub CoversEntry : BookTerms → List Publication → Entry → Type 0
 CoversEntry b xs (Own from targets) = IsCovered b xs from (amount_of targets)
 CoversEntry b xs (Round a r d targets) = rounds a xs ≡ r → d.ok ≡ true → IsCovered b xs a (amount_of targets)
 
-CoversEntry-entry : (b : BookTerms) (s : BoardState) (m : ℕ) (e : Entry) → Sound b s → m < length s.published
+CoversEntry-entry : (b : BookTerms) (s : BoardState) (m : ℕ) (e : Entry) → HasRuns b s → m < length s.published
     → (publication_at s.published m).entry ≡ e
     → IsSoundEntry b s (publication_at s.published m).process (prefix_of (publication_at s.published m).view s.published) e
     → CoversEntry b (take m s.published) e
@@ -164,7 +165,7 @@ CoversEntry-entry b s m (Own from targets) sound within is law = IsCovered-own b
 CoversEntry-entry b s m (Round a r d targets) sound within is law = IsCovered-round b s m a r d targets sound within is law
 
 -- what a publication moves is covered before it
-pub CoversEntry-Sound : (b : BookTerms) (s : BoardState) (m : ℕ) → Sound b s → m < length s.published
+pub CoversEntry-HasRuns : (b : BookTerms) (s : BoardState) (m : ℕ) → HasRuns b s → m < length s.published
     → CoversEntry b (take m s.published) (publication_at s.published m).entry
-CoversEntry-Sound b s m sound within =
+CoversEntry-HasRuns b s m sound within =
     CoversEntry-entry b s m (publication_at s.published m).entry sound within refl (sound.entries m within)

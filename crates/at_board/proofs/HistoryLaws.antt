@@ -1,7 +1,8 @@
 -- What a sound board shows of its list of publications.
 use Rattle.std.proofs.Common.{ℕ, List, subst}
 use Rattle.at_ledger.specs.Book.{BookTerms, IsBegun}
-use Rattle.at_board.proofs.PrefixRuns.{AreRuns-Sound}
+use Rattle.at_board.proofs.PrefixRuns.{AreRuns-HasRuns}
+use Rattle.at_board.proofs.RunRules.{HasRuns-Sound}
 use Rattle.at_board.specs.declared.publication.Entry.{Entry}
 use Rattle.at_board.specs.declared.publication.Entry.TheVariants.{Own, Round}
 use Rattle.at_board.specs.declared.publication.Publication.{Publication}
@@ -26,5 +27,5 @@ IsHistory-Sound b words s shown sound begun = record {
       let x : Publication = publication_at s.published m in
       IsShownEntry-Sound b s x.process (prefix_of x.view s.published) x.entry sound (sound.entries m within);
   room = shown.records.room;
-  runs = AreRuns-Sound b s sound begun;
+  runs = AreRuns-HasRuns b s (HasRuns-Sound b s sound) begun;
 }

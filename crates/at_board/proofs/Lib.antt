@@ -4,6 +4,7 @@ pub mod BlockLaws
 pub mod PlaceLaws
 pub mod SizeLaws
 pub mod RoundLaws
+pub mod RunRules
 pub mod SoundRounds
 pub mod CoverLaws
 pub mod PayLaws

@@ -1,4 +1,4 @@
--- Every prefix of a sound board is a run of the ledger.
+-- Every prefix of a list with such laws is a run of the ledger.
 use Rattle.std.proofs.Common.{◌≡◌, ℕ, ◌+◌, ◌<◌, ◌≤◌, ◌==◌, ◌&&◌, ◌||◌, zero, suc, Bool, true, false, cond, List, [], ◌∷◌, ◌++◌, length, get_or, set, take, replicate, Option, Some, None, refl, sym, ap, subst, ◌∙◌, arith, inl, inr}
 use Rattle.std.specs.List.{cons_option, filter_map}
 use Rattle.std.specs.Option.{is_some}
@@ -17,11 +17,12 @@ use Rattle.at_ledger.specs.declared.call.Call.TheVariants.{Pay}
 use Rattle.at_ledger.specs.declared.call.Reply.TheVariants.{Done}
 use Rattle.at_ledger.proofs.Run.{book-run_from, last-push, replies-push}
 use Rattle.at_ledger.proofs.Slots.{slot_in-owner}
-use Rattle.at_board.proofs.CoverLaws.{CoversEntry, CoversEntry-Sound, single_or_shared}
+use Rattle.at_board.proofs.CoverLaws.{CoversEntry, CoversEntry-HasRuns, single_or_shared}
 use Rattle.at_board.proofs.FollowLaws.{Follows, Follows-nil, Follows-own, Follows-round, Follows-same, MovesNow, MovesSame, balances_after, ledger, owns_of-push_round}
 use Rattle.at_board.proofs.PayLaws.{pay-done}
 use Rattle.at_board.proofs.RoundLaws.{IsNextAtMost, firsts-new, firsts-repeat, one_if, published, repeats-own, repeats-round, sum_by-firsts-le, sum_by-firsts_new, sum_by-firsts_repeat}
-use Rattle.at_board.proofs.SoundRounds.{AreDecided, AreDecided-take, IsInitial-take, IsNextAtMost-Sound, decided_for, names, take-publication_at}
+use Rattle.at_board.proofs.SoundRounds.{AreDecided, AreDecided-take, IsInitial-take, IsNextAtMost-HasRuns, decided_for, names, take-publication_at}
+use Rattle.at_board.proofs.RunRules.{HasRuns, IsRunDecision}
 use Rattle.at_board.specs.declared.publication.Entry.{Entry}
 use Rattle.at_board.specs.declared.publication.Entry.TheVariants.{Own, Round}
 use Rattle.at_board.specs.declared.publication.Publication.{Publication}
@@ -33,7 +34,7 @@ use Rattle.at_board.specs.Moves.{AreRuns, IsRun, decided_owner, move_of, moves}
 use Rattle.at_board.specs.Places.{slots_of}
 use Rattle.at_board.specs.Publications.{no_publication}
 use Rattle.at_board.specs.Rounds.{firsts, owns_of, repeats, rounds}
-use Rattle.at_board.specs.Sound.{IsSoundDecision, IsSoundEntry, Sound}
+use Rattle.at_board.specs.Sound.{IsSoundEntry}
 use Rattle.at_board.specs.Views.{HasSlot}
 
 -- the moves of a list with one more publication
@@ -177,7 +178,7 @@ paid-shared b balances sent asked p a targets shared owner room covered =
     ∙ ap chosen shared
 
 -- an own record has room before it
-own-room : (b : BookTerms) (s : BoardState) (m : ℕ) → Sound b s → m < length s.published
+own-room : (b : BookTerms) (s : BoardState) (m : ℕ) → HasRuns b s → m < length s.published
     → is_own (publication_at s.published m).entry ≡ true
     → owns_of (publication_at s.published m).process (take m s.published) < b.own_room
 own-room b s m sound within own =
@@ -192,7 +193,7 @@ own-room b s m sound within own =
     )
 
 -- one more own record
-RunsSo-own : (b : BookTerms) (s : BoardState) (m from : ℕ) (targets : List TargetPair) → Sound b s → m < length s.published
+RunsSo-own : (b : BookTerms) (s : BoardState) (m from : ℕ) (targets : List TargetPair) → HasRuns b s → m < length s.published
     → let x : Publication = publication_at s.published m in
     is_own x.entry ≡ true
     → IsSoundEntry b s x.process (prefix_of x.view s.published) (Own from targets) → CoversEntry b (take m s.published) (Own from targets)
@@ -252,7 +253,7 @@ owner-slot b a slot begun inside shared within =
 
 -- the first record of a round that succeeded
 RunsSo-round : (b : BookTerms) (s : BoardState) (xs : List Publication) (p : ℕ) (v : List ℕ) (prefix : List Publication) (a r : ℕ) (d : Decision) (targets : List TargetPair)
-    → Sound b s → IsBegun b → repeats (published p v (Round a r d targets)) (firsts xs) ≡ false → d.ok ≡ true
+    → HasRuns b s → IsBegun b → repeats (published p v (Round a r d targets)) (firsts xs) ≡ false → d.ok ≡ true
     → IsSoundEntry b s p prefix (Round a r d targets) → AreDecided s a xs → rounds a xs ≡ r
     → IsCovered b xs a (amount_of targets)
     → RunsSo b xs → RunsSo b (xs ++ published p v (Round a r d targets) ∷ [])
@@ -260,7 +261,7 @@ RunsSo-round b s xs p v prefix a r d targets sound begun new ok law decided at c
     let x : Publication = published p v (Round a r d targets) in
     let st : LedgerState = (run b (moves b xs)).last in
     let q = decided_owner b a d in
-    let decision : IsSoundDecision b s a r d = subst (IsSoundDecision b s a r) law.1.decision (sound.decisions a r law.1.decided) in
+    let decision : IsRunDecision b s a r d = subst (IsRunDecision b s a r) law.1.decision (sound.decisions a r law.1.decided) in
     let numbered : decided_for d.slot r (s.cells a) ≡ d.number =
     subst (λ (e : Decision). decided_for e.slot r (s.cells a) ≡ e.number) law.1.decision (sound.numbers a r law.1.decided) in
     let owner = owner-slot b a d.slot begun law.0.account_in law.0.shared decision.slot_in in
@@ -284,7 +285,7 @@ RunsSo-round b s xs p v prefix a r d targets sound begun new ok law decided at c
     ap (λ (t : Bool). cond t (Some (q, Pay a targets)) None) ok in
     let enough = balance-covers b xs st.balances st.sent st.asked a (amount_of targets) so.follows law.0.account_in covered in
     let known : AreTargetsOn (length b.accounts) targets =
-    subst (AreTargetsOn (length b.accounts)) law.1.same_targets (sound.requests a d.slot d.number decision.announced).targets.accounts in
+    subst (AreTargetsOn (length b.accounts)) law.1.same_targets (sound.targets a d.slot d.number decision.announced).accounts in
     let named_here : names a d.slot x.entry ≡ true =
     ap (λ t. t && (d.slot == d.slot)) (eq-eqb a a refl) ∙ eq-eqb d.slot d.slot refl in
     RunsSo-push b xs (xs ++ x ∷ []) q a targets st.sent (set st.asked (asked_place b q a) (get_or st.asked (asked_place b q a) 0 + 1)) so
@@ -293,7 +294,7 @@ RunsSo-round b s xs p v prefix a r d targets sound begun new ok law decided at c
     (Follows-round b xs x st.balances st.sent st.asked a targets q d.slot so.follows now refl owner.0 has named_here known covered)
 
 -- one more publication
-RunsSo-entry : (b : BookTerms) (s : BoardState) (m : ℕ) (e : Entry) → Sound b s → IsBegun b → m < length s.published
+RunsSo-entry : (b : BookTerms) (s : BoardState) (m : ℕ) (e : Entry) → HasRuns b s → IsBegun b → m < length s.published
     → let x : Publication = publication_at s.published m in
     x.entry ≡ e → IsSoundEntry b s x.process (prefix_of x.view s.published) e → CoversEntry b (take m s.published) e
     → RunsSo b (take m s.published) → RunsSo b (take m s.published ++ published x.process x.view e ∷ [])
@@ -309,7 +310,7 @@ RunsSo-entry b s m (Round a r d targets) sound begun within is law covered so =
       | inr new ↦
           elim (cases_Bool d.ok) as (λ _. RunsSo b (xs ++ x ∷ [])) [
             | inl ok ↦
-                let next : r ≤ rounds a xs = subst (λ (t : Entry). IsNextAtMost xs t) is (IsNextAtMost-Sound b s m sound within) in
+                let next : r ≤ rounds a xs = subst (λ (t : Entry). IsNextAtMost xs t) is (IsNextAtMost-HasRuns b s m sound within) in
                 let initial = IsInitial-take b s m sound (omega arith) a in
                 let at : rounds a xs ≡ r = omega (arith, next, ltb-false r (rounds a xs) (sym (repeats-round p v a r d targets xs initial) ∙ new)) in
                 RunsSo-round b s xs p v (prefix_of v s.published) a r d targets sound begun new ok law (AreDecided-take b s m sound (omega arith) a) at (covered at ok) so
@@ -317,12 +318,12 @@ RunsSo-entry b s m (Round a r d targets) sound begun within is law covered so =
           ]
     ]
 
-RunsSo-take : (b : BookTerms) (s : BoardState) (m : ℕ) → Sound b s → IsBegun b → m ≤ length s.published → RunsSo b (take m s.published)
+RunsSo-take : (b : BookTerms) (s : BoardState) (m : ℕ) → HasRuns b s → IsBegun b → m ≤ length s.published → RunsSo b (take m s.published)
 RunsSo-take b s zero sound begun within = RunsSo-nil b
 RunsSo-take b s (suc m) sound begun within =
     let x : Publication = publication_at s.published m in
     let more = RunsSo-entry b s m x.entry sound begun (omega arith) refl (sound.entries m (omega arith))
-    (CoversEntry-Sound b s m sound (omega arith)) (RunsSo-take b s m sound begun (omega arith)) in
+    (CoversEntry-HasRuns b s m sound (omega arith)) (RunsSo-take b s m sound begun (omega arith)) in
     let e : m + 1 ≡ suc m = omega arith in
     subst (RunsSo b) (sym (take-publication_at s.published m (omega arith)) ∙ ap (λ k. take k s.published) e) more
 
@@ -343,9 +344,9 @@ IsRun-RunsSo b xs begun so =
       );
     }
 
--- every prefix of a sound board is a run of the ledger that ends with its balances
-pub AreRuns-Sound : (b : BookTerms) (s : BoardState) → Sound b s → IsBegun b → AreRuns b s.published
-AreRuns-Sound b s sound begun m within = IsRun-RunsSo b (take m s.published) begun (RunsSo-take b s m sound begun within)
+-- every prefix of a list with such laws is a run of the ledger that ends with its balances
+pub AreRuns-HasRuns : (b : BookTerms) (s : BoardState) → HasRuns b s → IsBegun b → AreRuns b s.published
+AreRuns-HasRuns b s sound begun m within = IsRun-RunsSo b (take m s.published) begun (RunsSo-take b s m sound begun within)
 
 -- nothing is a run
 pub IsRun-nil : (b : BookTerms) → IsBegun b → IsRun b []

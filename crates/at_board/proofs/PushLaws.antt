@@ -11,7 +11,8 @@ use Rattle.at_ledger.specs.Call.{amount_of}
 use Rattle.at_board.proofs.CountLaws.{count_of-append}
 use Rattle.at_board.proofs.FrontLaws.{ArePublishedBy-IsPrefix, IsFront-IsPrefix, place-IsFront-le, prefix_of-IsPrefix}
 use Rattle.at_board.proofs.RoundLaws.{one_if}
-use Rattle.at_board.proofs.SoundRounds.{ArePublishedBy-Sound, place-view-le}
+use Rattle.at_board.proofs.RunRules.{HasRuns-Sound}
+use Rattle.at_board.proofs.SoundRounds.{ArePublishedBy-HasRuns, place-view-le}
 use Rattle.at_board.specs.declared.publication.Entry.{Entry}
 use Rattle.at_board.specs.declared.publication.Entry.TheVariants.{Own, Round}
 use Rattle.at_board.specs.declared.publication.Publication.{Publication}
@@ -227,7 +228,7 @@ pub record MayPush (b : BookTerms) (s : BoardState) (v : View) (x : Publication)
 pub MayPush-MayPublish : (b : BookTerms) (words : List ℕ) (s : BoardState) (v : View) (x : Publication) → Sound b s → Knows b words s v
     → count_of v.first v.seen ≡ count_of v.first s.published → MayPublish b v x → MayPush b s v x
 MayPush-MayPublish b words s v x sound knows own may =
-    let all = ArePublishedBy-Sound b s sound in
+    let all = ArePublishedBy-HasRuns b s (HasRuns-Sound b s sound) in
     let known = ArePublishedBy-IsPrefix b.processes v.seen s.published knows.seen all in
     let front = IsFront-IsPrefix b.processes x.view v.seen s.published may.view.front known knows.seen in
     record {
@@ -251,7 +252,7 @@ Sound-pushed b words s v x sound knows push may =
     record {
       views = push_all (HasView b) xs x sound.views push.view;
       entries = push_entries (λ (y : Publication) (prefix : List Publication). IsSoundEntry b (pushed s v.first x) y.process prefix y.entry) xs x
-          (λ m within. place-view-le b s m sound within)
+          (λ m within. place-view-le b s m (HasRuns-Sound b s sound) within)
           (λ m within. IsSoundEntry-pushed b s v.first x (publication_at xs m).process (prefix_of (publication_at xs m).view xs) (publication_at xs m).entry (sound.entries m within))
           (IsSoundEntry-pushed b s v.first x x.process (prefix_of x.view (xs ++ x ∷ [])) x.entry
           (subst (λ t. IsSoundEntry b s x.process t x.entry) (sym push.prefix) law));

@@ -1,4 +1,4 @@
--- The rounds of the prefixes of a sound board: they are decided one after another.
+-- The rounds of the prefixes of a list with such laws: they are decided one after another.
 use Rattle.std.proofs.Common.{◌≡◌, ℕ, ◌+◌, ◌<◌, ◌≤◌, ◌==◌, ◌&&◌, zero, suc, Bool, true, false, List, [], ◌∷◌, ◌++◌, length, take, refl, sym, ap, subst, ◌∙◌, arith, inl, inr}
 use Rattle.std.specs.List.{sum_by}
 use Rattle.std.proofs.lemmas.Bool.{cases_Bool, cases_eq, eq-eqb, ne_eqb, le-ltb, ltb-false}
@@ -10,6 +10,7 @@ use Rattle.at_ledger.specs.Book.{BookTerms}
 use Rattle.at_ledger.specs.Call.{TargetPair}
 use Rattle.at_board.proofs.FrontLaws.{ArePublishedBy-take, place-IsFront-le}
 use Rattle.at_board.proofs.RoundLaws.{IsInitial, IsInitial-nil, IsInitial-push, IsNextAtMost, one_if, published, repeats-own, repeats-round, rounds-push_next, sum_by-firsts_new, sum_by-firsts_repeat, sum_by-firsts-take_mono}
+use Rattle.at_board.proofs.RunRules.{HasRuns}
 use Rattle.at_board.specs.declared.publication.Entry.{Entry}
 use Rattle.at_board.specs.declared.publication.Entry.TheVariants.{Own, Round}
 use Rattle.at_board.specs.declared.publication.Publication.{Publication}
@@ -18,18 +19,18 @@ use Rattle.at_board.specs.Entries.{is_round_on}
 use Rattle.at_board.specs.Fronts.{prefix_of, place}
 use Rattle.at_board.specs.Publications.{ArePublishedBy, no_publication}
 use Rattle.at_board.specs.Rounds.{firsts, repeats, rounds}
-use Rattle.at_board.specs.Sound.{IsDecidedSo, IsSoundEntry, Sound}
+use Rattle.at_board.specs.Sound.{IsDecidedSo, IsSoundEntry}
 
 -- each publication is of a process of the book
-pub ArePublishedBy-Sound : (b : BookTerms) (s : BoardState) → Sound b s → ArePublishedBy b.processes s.published
-ArePublishedBy-Sound b s sound =
+pub ArePublishedBy-HasRuns : (b : BookTerms) (s : BoardState) → HasRuns b s → ArePublishedBy b.processes s.published
+ArePublishedBy-HasRuns b s sound =
     All-from_get_or (λ x. x.process < b.processes) s.published no_publication (λ i within. (sound.views i within).process)
 
 -- a view is of publications before it
-pub place-view-le : (b : BookTerms) (s : BoardState) (m : ℕ) → Sound b s → m < length s.published
+pub place-view-le : (b : BookTerms) (s : BoardState) (m : ℕ) → HasRuns b s → m < length s.published
     → place (publication_at s.published m).view ≤ m
 place-view-le b s m sound within =
-    let known = ArePublishedBy-take b.processes m s.published (ArePublishedBy-Sound b s sound) in
+    let known = ArePublishedBy-take b.processes m s.published (ArePublishedBy-HasRuns b s sound) in
     omega (
       arith,
       place-IsFront-le b.processes (publication_at s.published m).view (take m s.published) (sound.views m within).front known,
@@ -46,9 +47,9 @@ IsNextAtMost-entry : (b : BookTerms) (s : BoardState) (p : ℕ) (prefix xs : Lis
 IsNextAtMost-entry b s p prefix xs (Own from targets) law more = tt
 IsNextAtMost-entry b s p prefix xs (Round a r d targets) law more = omega (arith, more a, law.0.next)
 
-pub IsNextAtMost-Sound : (b : BookTerms) (s : BoardState) (m : ℕ) → Sound b s → m < length s.published
+pub IsNextAtMost-HasRuns : (b : BookTerms) (s : BoardState) (m : ℕ) → HasRuns b s → m < length s.published
     → IsNextAtMost (take m s.published) (publication_at s.published m).entry
-IsNextAtMost-Sound b s m sound within =
+IsNextAtMost-HasRuns b s m sound within =
     let x : Publication = publication_at s.published m in
     IsNextAtMost-entry b s x.process (prefix_of x.view s.published) (take m s.published) x.entry (sound.entries m within)
     (λ a. rounds-take_mono a (place x.view) m s.published (place-view-le b s m sound within))
@@ -58,13 +59,13 @@ pub take-publication_at : (xs : List Publication) (m : ℕ) → m < length xs �
 take-publication_at xs m within = take_more xs m no_publication within
 
 -- the rounds of a prefix are all numbers below their count
-pub IsInitial-take : (b : BookTerms) (s : BoardState) (m : ℕ) → Sound b s → m ≤ length s.published
+pub IsInitial-take : (b : BookTerms) (s : BoardState) (m : ℕ) → HasRuns b s → m ≤ length s.published
     → (a : ℕ) → IsInitial a (take m s.published)
 IsInitial-take b s zero sound within a = IsInitial-nil a
 IsInitial-take b s (suc m) sound within a =
     let x : Publication = publication_at s.published m in
     let more = IsInitial-push a (take m s.published) x.process x.view x.entry (IsInitial-take b s m sound (omega arith))
-    (IsNextAtMost-Sound b s m sound (omega arith)) in
+    (IsNextAtMost-HasRuns b s m sound (omega arith)) in
     let e : m + 1 ≡ suc m = omega arith in
     subst (IsInitial a) (sym (take-publication_at s.published m (omega arith)) ∙ ap (λ k. take k s.published) e) more
 
@@ -151,13 +152,13 @@ AreDecided-push b s c prefix xs p v (Round a r d targets) initial decided law ne
     ]
 
 -- the rounds of a prefix are the first ones that are decided
-pub AreDecided-take : (b : BookTerms) (s : BoardState) (m : ℕ) → Sound b s → m ≤ length s.published
+pub AreDecided-take : (b : BookTerms) (s : BoardState) (m : ℕ) → HasRuns b s → m ≤ length s.published
     → (a : ℕ) → AreDecided s a (take m s.published)
 AreDecided-take b s zero sound within a = AreDecided-nil s a
 AreDecided-take b s (suc m) sound within a =
     let x : Publication = publication_at s.published m in
     let more = AreDecided-push b s a (prefix_of x.view s.published) (take m s.published) x.process x.view x.entry
     (IsInitial-take b s m sound (omega arith)) (AreDecided-take b s m sound (omega arith)) (sound.entries m (omega arith))
-    (IsNextAtMost-Sound b s m sound (omega arith)) in
+    (IsNextAtMost-HasRuns b s m sound (omega arith)) in
     let e : m + 1 ≡ suc m = omega arith in
     subst (AreDecided s a) (sym (take-publication_at s.published m (omega arith)) ∙ ap (λ k. take k s.published) e) more

@@ -1,0 +1,4 @@
+pub mod KeyLaws
+pub mod BucketLaws
+pub mod OrderLaws
+pub mod ViewLaws

@@ -1,0 +1,68 @@
+-- Closings that a ledger can have left: their journal is a legal run.
+use Rattle.std.specs.Prelude.{◌≡◌, ℕ, ◌<◌, ◌≤◌, ◌⊎◌, ◌↔◌, Bool, true, false, ◌&&◌, ◌==◌, List, length, nat_lt, slice_index, count_by, All, Contains}
+use Rattle.at_base.specs.Counts.{Covers}
+use Rattle.at_base.specs.declared.decision.Decision.{Decision}
+use Rattle.at_ledger.specs.Book.{BookTerms, account_of}
+use Rattle.at_ledger.specs.Call.{TargetPair, amount_of}
+use Rattle.at_board.specs.declared.publication.Entry.{Entry}
+use Rattle.at_board.specs.declared.publication.Publication.{Publication}
+use Rattle.at_board.specs.Balances.{IsCovered}
+use Rattle.at_board.specs.BoardState.{publication_at}
+use Rattle.at_board.specs.Fronts.{place, prefix_of}
+use Rattle.at_board.specs.Places.{slots_of}
+use Rattle.at_board.specs.Rounds.{firsts, owns_of}
+use Rattle.at_board.specs.Sound.{AreTargets, IsSoundOwn, IsSoundRound}
+use Rattle.at_log.specs.ClosingTerms.{ClosingTerms, log_lengths, log_of, log_published, receipts_of}
+use Rattle.at_log.specs.HeldFronts.{held_fronts}
+use Rattle.at_log.specs.JournalOrder.{journal_order}
+use Rattle.at_log.specs.Told.{Told}
+
+-- of two held fronts one covers the other, and the lengths of the logs cover all
+pub record AreChained (b : BookTerms) (c : ClosingTerms) : Type 0 where
+  pub sized : All (λ view. length view ≡ b.processes) (held_fronts c)
+  pub chain : (view other : List ℕ) → Contains (held_fronts c) view → Contains (held_fronts c) other → Covers view other ⊎ Covers other view
+  pub ends : (view : List ℕ) → Contains (held_fronts c) view → Covers (log_lengths c) view
+
+-- records of one round of one account agree
+abbrev pub IsAgreed : ClosingTerms → ℕ → ℕ → Decision → List TargetPair → Type 0
+IsAgreed c account round decision targets = (x : Publication) (d : Decision) (ts : List TargetPair) → Contains (journal_order c) x
+    → x.entry ≡ Entry.Round account round d ts → (d ≡ decision) × (ts ≡ targets)
+
+-- one of the records of a round has the view from which the decision was proposed, and the decision says whether the balance
+-- there covers the request
+pub record IsProposed (b : BookTerms) (c : ClosingTerms) (account round : ℕ) (decision : Decision) (targets : List TargetPair) : Type 0 where
+  pub winner : Publication
+  pub published : Contains (journal_order c) winner
+  pub entry : winner.entry ≡ Entry.Round account round decision targets
+  pub place : place winner.view ≡ decision.place
+  pub ok : (decision.ok ≡ true) ↔ IsCovered b (prefix_of winner.view (journal_order c)) account (amount_of targets)
+
+-- a record of an earlier round of the account that decided a request of this slot
+abbrev pub is_earlier_for : ℕ → ℕ → ℕ → Entry → Bool
+is_earlier_for account round slot (Entry.Own from targets) = false
+is_earlier_for account round slot (Entry.Round on at decision targets) =
+    (on == account) && (nat_lt at round && (decision.slot == slot))
+
+-- the decision names the next request of an owner, and that owner has room for it
+pub record IsNumbered (b : BookTerms) (c : ClosingTerms) (account round : ℕ) (decision : Decision) : Type 0 where
+  pub slot_in : decision.slot < slots_of (account_of b account)
+  pub next : count_by (λ x. is_earlier_for account round decision.slot x.entry) (firsts (journal_order c)) ≡ decision.number
+  pub room : decision.number < b.request_room
+
+-- the laws of an entry, by its kind
+abbrev pub IsCoherentEntry : BookTerms → ClosingTerms → ℕ → List Publication → Entry → Type 0
+IsCoherentEntry b c process prefix (Entry.Own from targets) = IsSoundOwn b process prefix from targets
+IsCoherentEntry b c process prefix (Entry.Round account round decision targets) =
+    IsSoundRound b process prefix account round × AreTargets b targets × IsAgreed c account round decision targets
+    × IsProposed b c account round decision targets × IsNumbered b c account round decision
+
+-- the laws of a closing: of its fronts, of each record's view and entry, of own records' number, and of each process's receipts
+pub record Coherent (b : BookTerms) (c : ClosingTerms) : Type 0 where
+  pub logs : length c.logs ≡ b.processes
+  pub receipts : length c.receipts ≡ b.processes
+  pub fronts : AreChained b c
+  pub views : (p i : ℕ) → i < length (log_of c p) → slice_index (publication_at (log_published c p) i).view p ≡ i
+  pub entries : (p i : ℕ) → i < length (log_of c p) → let x : Publication = publication_at (log_published c p) i in
+      IsCoherentEntry b c p (prefix_of x.view (journal_order c)) x.entry
+  pub own_room : (p : ℕ) → owns_of p (log_published c p) ≤ b.own_room
+  pub told : (p : ℕ) → p < b.processes → Told b p (journal_order c) (receipts_of c p)
