@@ -2,3 +2,5 @@ pub mod KeyLaws
 pub mod BucketLaws
 pub mod OrderLaws
 pub mod ViewLaws
+pub mod PickLaws
+pub mod FirstLaws
