@@ -4,3 +4,4 @@ pub mod OrderLaws
 pub mod ViewLaws
 pub mod PickLaws
 pub mod FirstLaws
+pub mod OrderRounds
