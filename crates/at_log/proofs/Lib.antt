@@ -5,3 +5,4 @@ pub mod ViewLaws
 pub mod PickLaws
 pub mod FirstLaws
 pub mod OrderRounds
+pub mod OrderRuns
