@@ -6,3 +6,4 @@ pub mod PickLaws
 pub mod FirstLaws
 pub mod OrderRounds
 pub mod OrderRuns
+pub mod OrderHasRuns

@@ -67,14 +67,14 @@ is_some-request_in a slot (Round account round decision targets) =
     is_some-cond ((account == a) && (decision.slot == slot)) (record { targets = targets; since = decision.place })
 
 -- counts by what is picked
-count_by-decisions : (a : ℕ) (xs : List Publication) → count_by (picks (λ x. decision_in a x.entry)) xs ≡ count_by (λ x. is_round_on a x.entry) xs
+pub count_by-decisions : (a : ℕ) (xs : List Publication) → count_by (picks (λ x. decision_in a x.entry)) xs ≡ count_by (λ x. is_round_on a x.entry) xs
 count_by-decisions a xs = λ t. count_by (λ (x : Publication). is_some-decision_in a x.entry t) xs
 
-count_by-requests : (a slot : ℕ) (xs : List Publication) → count_by (picks (λ x. request_in a slot x.entry)) xs ≡ count_by (λ x. names a slot x.entry) xs
+pub count_by-requests : (a slot : ℕ) (xs : List Publication) → count_by (picks (λ x. request_in a slot x.entry)) xs ≡ count_by (λ x. names a slot x.entry) xs
 count_by-requests a slot xs = λ t. count_by (λ (x : Publication). is_some-request_in a slot x.entry t) xs
 
 -- an entry from which a decision is picked
-decision_in-some : (a : ℕ) (e : Entry) (d : Decision) → decision_in a e ≡ Some d → (r : ℕ) × (targets : List TargetPair) × (e ≡ Round a r d targets)
+pub decision_in-some : (a : ℕ) (e : Entry) (d : Decision) → decision_in a e ≡ Some d → (r : ℕ) × (targets : List TargetPair) × (e ≡ Round a r d targets)
 decision_in-some a (Own from targets) d is = absurd (cc is)
 decision_in-some a (Round account round decision targets) d is =
     elim (cases_eq account a) as (λ _. (r : ℕ) × (ts : List TargetPair) × (Round account round decision targets ≡ Round a r d ts)) [
@@ -86,7 +86,7 @@ decision_in-some a (Round account round decision targets) d is =
     ]
 
 -- and one from which a request is
-request_in-some : (a slot : ℕ) (e : Entry) (q : Request) → request_in a slot e ≡ Some q
+pub request_in-some : (a slot : ℕ) (e : Entry) (q : Request) → request_in a slot e ≡ Some q
     → (r : ℕ) × (d : Decision) × (e ≡ Round a r d q.targets) × (d.slot ≡ slot)
 request_in-some a slot (Own from targets) q is = absurd (cc is)
 request_in-some a slot (Round account round d targets) q is =
@@ -136,7 +136,7 @@ count_by-take_mono test m k xs few =
     omega (arith, ap (count_by test) (take-take m k xs few), sum_by-take-le (λ x. one_if (test x)) (take k xs) m)
 
 -- the requests of a slot that were decided before a round are those that the first records before it name
-named_before : (b : BookTerms) (c : ClosingTerms) (a r slot : ℕ) (d : Decision) (targets : List TargetPair) → Coherent b c
+pub named_before : (b : BookTerms) (c : ClosingTerms) (a r slot : ℕ) (d : Decision) (targets : List TargetPair) → Coherent b c
     → (first : IsFirst (journal_order c) a r d targets)
     → count_by (λ x. is_earlier_for a r slot x.entry) (firsts (journal_order c))
     ≡ count_by (λ x. names a slot x.entry) (take first.number (firsts (journal_order c)))
