@@ -80,12 +80,12 @@ abbrev pub balances_after : List ℕ → ℕ → List TargetPair → List ℕ
 balances_after balances source targets = credited (set balances source (get_or balances source 0 - amount_of targets)) targets
 
 -- what follows of the balances after one more publication that moved
-record BalancesFollow (b : BookTerms) (xs : List Publication) (balances : List ℕ) : Type 0 where
-  accounts : length balances ≡ length b.accounts
-  balanced : (a : ℕ) → a < length b.accounts → get_or balances a 0 + debits a xs ≡ (account_of b a).opening + credits a xs
-  total : sum balances ≡ total_of b
+pub record BalancesFollow (b : BookTerms) (xs : List Publication) (balances : List ℕ) : Type 0 where
+  pub accounts : length balances ≡ length b.accounts
+  pub balanced : (a : ℕ) → a < length b.accounts → get_or balances a 0 + debits a xs ≡ (account_of b a).opening + credits a xs
+  pub total : sum balances ≡ total_of b
 
-BalancesFollow-push : (b : BookTerms) (xs : List Publication) (x : Publication) (balances : List ℕ) (source : ℕ) (targets : List TargetPair)
+pub BalancesFollow-push : (b : BookTerms) (xs : List Publication) (x : Publication) (balances : List ℕ) (source : ℕ) (targets : List TargetPair)
     → BalancesFollow b xs balances → MovesNow xs x source targets → source < length b.accounts → AreTargetsOn (length b.accounts) targets
     → IsCovered b xs source (amount_of targets) → BalancesFollow b (xs ++ x ∷ []) (balances_after balances source targets)
 BalancesFollow-push b xs x balances source targets f now inside known covered =

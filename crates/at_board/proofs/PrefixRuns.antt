@@ -105,7 +105,7 @@ RunsSo-push b xs ys q source targets sent asked so more paid follows =
     }
 
 -- a publication that repeats a round
-MovesSame-repeat : (b : BookTerms) (xs : List Publication) (x : Publication) → repeats x (firsts xs) ≡ true → is_own x.entry ≡ false
+pub MovesSame-repeat : (b : BookTerms) (xs : List Publication) (x : Publication) → repeats x (firsts xs) ≡ true → is_own x.entry ≡ false
     → MovesSame b xs (xs ++ x ∷ [])
 MovesSame-repeat b xs x again round = record {
   credits_same = λ a. sum_by-firsts_repeat (λ y. credit_of a y.entry) xs x again;
@@ -115,7 +115,7 @@ MovesSame-repeat b xs x again round = record {
 }
 
 -- a round that was refused
-MovesSame-refused : (b : BookTerms) (xs : List Publication) (x : Publication) → repeats x (firsts xs) ≡ false → is_own x.entry ≡ false
+pub MovesSame-refused : (b : BookTerms) (xs : List Publication) (x : Publication) → repeats x (firsts xs) ≡ false → is_own x.entry ≡ false
     → ((a : ℕ) → credit_of a x.entry ≡ 0) → ((a : ℕ) → debit_of a x.entry ≡ 0) → MovesSame b xs (xs ++ x ∷ [])
 MovesSame-refused b xs x new round no_credit no_debit = record {
   credits_same = λ a. omega (arith, sum_by-firsts_new (λ y. credit_of a y.entry) xs x new, no_credit a);
@@ -129,10 +129,10 @@ balance-covers : (b : BookTerms) (xs : List Publication) (balances sent asked : 
     → a < length b.accounts → IsCovered b xs a amount → amount ≤ get_or balances a 0
 balance-covers b xs balances sent asked a amount f within covered = omega (arith, f.balanced a within, covered)
 
-is_shared-single : (b : BookTerms) (a : ℕ) → is_single (account_of b a) ≡ true → is_shared (account_of b a) ≡ false
+pub is_shared-single : (b : BookTerms) (a : ℕ) → is_single (account_of b a) ≡ true → is_shared (account_of b a) ≡ false
 is_shared-single b a single = false_from_ne_true (is_shared (account_of b a)) (λ shared. single_or_shared (account_of b a) single shared)
 
-is_single-shared : (b : BookTerms) (a : ℕ) → is_shared (account_of b a) ≡ true → is_single (account_of b a) ≡ false
+pub is_single-shared : (b : BookTerms) (a : ℕ) → is_shared (account_of b a) ≡ true → is_single (account_of b a) ≡ false
 is_single-shared b a shared = false_from_ne_true (is_single (account_of b a)) (λ single. single_or_shared (account_of b a) single shared)
 
 or_false : (s t : Bool) → s ≡ false → t ≡ false → (s || t) ≡ false
@@ -154,7 +154,7 @@ not_full-shared b balances sent asked p a shared room =
     (and_right (is_shared (account_of b a)) (get_or asked (asked_place b p a) 0 == b.request_room) (ne_eqb (get_or asked (asked_place b p a) 0) b.request_room (λ e. omega arith)))
 
 -- the success of a process on its single account
-paid-single : (b : BookTerms) (balances sent asked : List ℕ) (p a : ℕ) (targets : List TargetPair) → is_single (account_of b a) ≡ true
+pub paid-single : (b : BookTerms) (balances sent asked : List ℕ) (p a : ℕ) (targets : List TargetPair) → is_single (account_of b a) ≡ true
     → is_owner b p a ≡ true → get_or sent p 0 < b.own_room → amount_of targets ≤ get_or balances a 0
     → pay (ledger b balances sent asked) p a targets
     ≡ record { ledger = ledger b (balances_after balances a targets) (set sent p (get_or sent p 0 + 1)) asked; reply = Done }
@@ -166,7 +166,7 @@ paid-single b balances sent asked p a targets single owner room covered =
     ∙ ap chosen (is_shared-single b a single)
 
 -- the success of a process on an account that it shares
-paid-shared : (b : BookTerms) (balances sent asked : List ℕ) (p a : ℕ) (targets : List TargetPair) → is_shared (account_of b a) ≡ true
+pub paid-shared : (b : BookTerms) (balances sent asked : List ℕ) (p a : ℕ) (targets : List TargetPair) → is_shared (account_of b a) ≡ true
     → is_owner b p a ≡ true → get_or asked (asked_place b p a) 0 < b.request_room → amount_of targets ≤ get_or balances a 0
     → pay (ledger b balances sent asked) p a targets
     ≡ record { ledger = ledger b (balances_after balances a targets) sent (set asked (asked_place b p a) (get_or asked (asked_place b p a) 0 + 1)); reply = Done }

@@ -1,0 +1,4 @@
+pub mod LineKeys
+pub mod ReplyLaws
+pub mod KeepLaws
+pub mod StillLaws
