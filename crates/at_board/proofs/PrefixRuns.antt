@@ -240,7 +240,7 @@ RunsSo-refused b xs p v a r d targets new refused so =
     so
 
 -- the owner at a slot
-owner-slot : (b : BookTerms) (a slot : ℕ) → IsBegun b → a < length b.accounts → is_shared (account_of b a) ≡ true
+pub owner-slot : (b : BookTerms) (a slot : ℕ) → IsBegun b → a < length b.accounts → is_shared (account_of b a) ≡ true
     → slot < slots_of (account_of b a)
     → (get_or (account_of b a).owners slot 0 < b.processes) × HasSlot b (get_or (account_of b a).owners slot 0) a slot
 owner-slot b a slot begun inside shared within =

@@ -2,3 +2,5 @@ pub mod LineKeys
 pub mod ReplyLaws
 pub mod KeepLaws
 pub mod StillLaws
+pub mod PositionLaws
+pub mod MoveLaws

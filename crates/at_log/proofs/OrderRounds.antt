@@ -74,7 +74,7 @@ IsInitial-journal_order b c (suc m) coherent within a =
     let e : m + 1 ≡ suc m = omega arith in
     subst (IsInitial a) (sym (take-publication_at order m (omega arith)) ∙ ap (λ k. take k order) e) more
 
-AreFirsts-take : (b : BookTerms) (c : ClosingTerms) (m : ℕ) → Coherent b c → m ≤ length (journal_order c)
+pub AreFirsts-take : (b : BookTerms) (c : ClosingTerms) (m : ℕ) → Coherent b c → m ≤ length (journal_order c)
     → AreFirsts (take m (journal_order c)) (firsts (take m (journal_order c)))
 AreFirsts-take b c zero coherent within = subst (AreFirsts []) (sym firsts-nil) AreFirsts-nil
 AreFirsts-take b c (suc m) coherent within =
