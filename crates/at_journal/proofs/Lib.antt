@@ -4,3 +4,5 @@ pub mod KeepLaws
 pub mod StillLaws
 pub mod PositionLaws
 pub mod MoveLaws
+pub mod CountingLaws
+pub mod SameMove

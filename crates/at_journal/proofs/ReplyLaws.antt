@@ -12,7 +12,7 @@ use Rattle.at_ledger.specs.declared.call.Reply.TheVariants.{Done, Full, NotOwner
 use Rattle.at_log.specs.Receipts.{is_payout_from, payout_of}
 
 -- a pay-out has one source and one list of targets
-same_payout : (x y : ℕ × List TargetPair) → Some x ≡ Some y → x ≡ y
+pub same_payout : (x y : ℕ × List TargetPair) → Some x ≡ Some y → x ≡ y
 same_payout x y is = cc is
 
 -- a step of a pay-out is that of its source and targets
