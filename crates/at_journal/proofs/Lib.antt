@@ -6,3 +6,5 @@ pub mod PositionLaws
 pub mod MoveLaws
 pub mod CountingLaws
 pub mod SameMove
+pub mod KeyCases
+pub mod Movers
