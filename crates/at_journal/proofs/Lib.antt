@@ -8,3 +8,5 @@ pub mod CountingLaws
 pub mod SameMove
 pub mod KeyCases
 pub mod Movers
+pub mod LineRuns
+pub mod BucketRuns
