@@ -36,7 +36,7 @@ pub process_lines_at-range : (b : BookTerms) (c : ClosingTerms) (key p : ℕ) �
 process_lines_at-range b c key p coherent known =
     ap (map (line c p)) (filter-key (line_key c p) key (length (receipts_of c p)) (line_key-sorted b c p coherent known))
 
-reached-mono : (b : BookTerms) (c : ClosingTerms) (key p : ℕ) → Coherent b c → p < b.processes → reached c p key ≤ reached c p (key + 1)
+pub reached-mono : (b : BookTerms) (c : ClosingTerms) (key p : ℕ) → Coherent b c → p < b.processes → reached c p key ≤ reached c p (key + 1)
 reached-mono b c key p coherent known = reach_mono (line_key c p) key (length (receipts_of c p)) (line_key-sorted b c p coherent known)
 
 -- such a line has the key
@@ -49,11 +49,11 @@ key_of-reached b c key p j coherent known from to =
     reach-below (line_key c p) (key + 1) n sorted j to)
 
 -- a line is short of the end
-within-reached : (c : ClosingTerms) (key p : ℕ) → reached c p key ≤ length (receipts_of c p)
+pub within-reached : (c : ClosingTerms) (key p : ℕ) → reached c p key ≤ length (receipts_of c p)
 within-reached c key p = reach-le (line_key c p) key (length (receipts_of c p))
 
 -- the lines of a process with an even key
-Ran-even : (b : BookTerms) (c : ClosingTerms) (m : ℕ) (count : ℕ → ℕ) (balances sent asked : List ℕ) (p : ℕ) → Coherent b c
+pub Ran-even : (b : BookTerms) (c : ClosingTerms) (m : ℕ) (count : ℕ → ℕ) (balances sent asked : List ℕ) (p : ℕ) → Coherent b c
     → Keeps b c m count balances sent asked → p < b.processes → count p ≡ reached c p (2 * m)
     → Ran b c m balances sent asked (process_lines_at c (2 * m) p) (IsCounted count p (reached c p (2 * m + 1)))
 Ran-even b c m count balances sent asked p coherent keeps known here =
@@ -77,7 +77,7 @@ record Moved (b : BookTerms) (c : ClosingTerms) (m : ℕ) (count : ℕ → ℕ) 
   move : IsMove b c p i m
 
 -- that a line moves is all that its key says of it
-move_of : (b : BookTerms) (c : ClosingTerms) (p i m : ℕ) → Coherent b c
+pub move_of : (b : BookTerms) (c : ClosingTerms) (p i m : ℕ) → Coherent b c
     → IsPlaced b p (journal_order c) (take i (receipts_of c p)) (receipt_at (receipts_of c p) i)
     → moves_at m p (journal_order c) (receipt_at (receipts_of c p) i).call (is_success (receipt_at (receipts_of c p) i).reply) (receipt_at (receipts_of c p) i).at
     → IsMove b c p i m
@@ -126,7 +126,7 @@ moved-answered b c m count balances sent asked p i coherent keeps known here wit
     done_decision false is = absurd (cc is)
 
 -- the first line of a process with an odd key moved
-first_moves : (b : BookTerms) (c : ClosingTerms) (m p : ℕ) → Coherent b c → p < b.processes → reached c p (2 * m + 1) < reached c p (2 * m + 1 + 1)
+pub first_moves : (b : BookTerms) (c : ClosingTerms) (m p : ℕ) → Coherent b c → p < b.processes → reached c p (2 * m + 1) < reached c p (2 * m + 1 + 1)
     → let r = receipt_at (receipts_of c p) (reached c p (2 * m + 1)) in moves_at m p (journal_order c) r.call (is_success r.reply) r.at
 first_moves b c m p coherent known some =
     let key = 2 * m + 1 in
@@ -166,7 +166,7 @@ later_still b c m p j coherent known from to =
     ]
 
 -- the lines of a process with an odd key, where there are some: the first moves
-Ran-odd : (b : BookTerms) (c : ClosingTerms) (m : ℕ) (count : ℕ → ℕ) (balances sent asked : List ℕ) (p : ℕ) → Coherent b c
+pub Ran-odd : (b : BookTerms) (c : ClosingTerms) (m : ℕ) (count : ℕ → ℕ) (balances sent asked : List ℕ) (p : ℕ) → Coherent b c
     → Keeps b c m count balances sent asked → p < b.processes → count p ≡ reached c p (2 * m + 1) → reached c p (2 * m + 1) < reached c p (2 * m + 1 + 1)
     → Ran b c (m + 1) balances sent asked (process_lines_at c (2 * m + 1) p) (IsCounted count p (reached c p (2 * m + 1 + 1)))
 Ran-odd b c m count balances sent asked p coherent keeps known here some =
@@ -189,7 +189,7 @@ Ran-odd b c m count balances sent asked p coherent keeps known here some =
     (sym (process_lines_at-range b c key p coherent known ∙ ap (λ k. map (line c p) (range_with_len i k)) more)) ran
 
 -- where a process has no line of a key
-no_lines : (b : BookTerms) (c : ClosingTerms) (key p : ℕ) → Coherent b c → p < b.processes → reached c p (key + 1) ≤ reached c p key
+pub no_lines : (b : BookTerms) (c : ClosingTerms) (key p : ℕ) → Coherent b c → p < b.processes → reached c p (key + 1) ≤ reached c p key
     → process_lines_at c key p ≡ []
 no_lines b c key p coherent known none =
     let nothing : reached c p (key + 1) - reached c p key ≡ 0 = omega (arith, none) in

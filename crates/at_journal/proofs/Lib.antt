@@ -10,3 +10,4 @@ pub mod KeyCases
 pub mod Movers
 pub mod LineRuns
 pub mod BucketRuns
+pub mod KeyRuns
