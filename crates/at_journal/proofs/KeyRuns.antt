@@ -48,7 +48,7 @@ CountsAt-next b c key a count count2 counts one q known =
     )
 
 -- the lines of an even key
-Ran-even_all : (b : BookTerms) (c : ClosingTerms) (m a n : ℕ) (count : ℕ → ℕ) (balances sent asked : List ℕ) → Coherent b c → a + n ≡ b.processes
+pub Ran-even_all : (b : BookTerms) (c : ClosingTerms) (m a n : ℕ) (count : ℕ → ℕ) (balances sent asked : List ℕ) → Coherent b c → a + n ≡ b.processes
     → Keeps b c m count balances sent asked → CountsAt b c (2 * m) a count
     → Ran b c m balances sent asked (flat_map (process_lines_at c (2 * m)) (range_with_len a n)) (CountsAt b c (2 * m) b.processes)
 Ran-even_all b c m a zero count balances sent asked coherent all keeps counts =
@@ -161,7 +161,7 @@ unmoved b c m balances (Entry.Round a r d targets) coherent begun within none is
     refused_debit account source ok refused amount = ap (λ (t : Bool). cond (t && (source == account)) amount 0) refused
 
 -- the lines of an odd key
-Ran-odd_all : (b : BookTerms) (c : ClosingTerms) (m : ℕ) (count : ℕ → ℕ) (balances sent asked : List ℕ) → Coherent b c → IsBegun b → m < length (journal_order c)
+pub Ran-odd_all : (b : BookTerms) (c : ClosingTerms) (m : ℕ) (count : ℕ → ℕ) (balances sent asked : List ℕ) → Coherent b c → IsBegun b → m < length (journal_order c)
     → Keeps b c m count balances sent asked → CountsAt b c (2 * m + 1) 0 count
     → Ran b c (m + 1) balances sent asked (flat_map (process_lines_at c (2 * m + 1)) (range_with_len 0 b.processes)) (CountsAt b c (2 * m + 1) b.processes)
 Ran-odd_all b c m count balances sent asked coherent begun within keeps counts =

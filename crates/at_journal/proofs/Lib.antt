@@ -11,3 +11,4 @@ pub mod Movers
 pub mod LineRuns
 pub mod BucketRuns
 pub mod KeyRuns
+pub mod JournalRuns
