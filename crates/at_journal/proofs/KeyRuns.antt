@@ -63,11 +63,11 @@ Ran-even_all b c m a (suc n) count balances sent asked coherent all keeps counts
     (IsCounted count a (reached c a (2 * m + 1))) (CountsAt b c (2 * m) b.processes) one rest
 
 -- lists one after another of which none has an element, or one
-flat_map-none : {X : Type 0} (g : ℕ → List X) (a n : ℕ) → ((p : ℕ) → a ≤ p → p < a + n → g p ≡ []) → flat_map g (range_with_len a n) ≡ []
+pub flat_map-none : {X : Type 0} (g : ℕ → List X) (a n : ℕ) → ((p : ℕ) → a ≤ p → p < a + n → g p ≡ []) → flat_map g (range_with_len a n) ≡ []
 flat_map-none g a zero none = refl
 flat_map-none g a (suc n) none = λ t. none a (omega arith) (omega arith) t ++ flat_map-none g (a + 1) n (λ p from to. none p (omega arith) (omega arith)) t
 
-flat_map-only : {X : Type 0} (g : ℕ → List X) (a n q : ℕ) → a ≤ q → q < a + n → ((p : ℕ) → a ≤ p → p < a + n → (p ≡ q → ⊥) → g p ≡ [])
+pub flat_map-only : {X : Type 0} (g : ℕ → List X) (a n q : ℕ) → a ≤ q → q < a + n → ((p : ℕ) → a ≤ p → p < a + n → (p ≡ q → ⊥) → g p ≡ [])
     → flat_map g (range_with_len a n) ≡ g q
 flat_map-only g a zero q from to others = absurd (omega (arith, from, to))
 flat_map-only g a (suc n) q from to others =

@@ -12,3 +12,5 @@ pub mod LineRuns
 pub mod BucketRuns
 pub mod KeyRuns
 pub mod JournalRuns
+pub mod KeyBounds
+pub mod WholeLaws

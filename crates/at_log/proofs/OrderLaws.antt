@@ -78,12 +78,12 @@ publications_of-each process g a (suc n) own above below =
         ∙ (λ t. publications_of-others process a (g a) (λ e. omega (arith, e)) (own a) t ++ publications_of-none process g (a + 1) n own (omega arith) t)
 
 -- lists of a function's values one after another are the function's values
-flat_map-values : {X Y Z : Type 0} (f : Y → Z) (g : X → List Y) (ks : List X) → flat_map (λ k. map f (g k)) ks ≡ map f (flat_map g ks)
+pub flat_map-values : {X Y Z : Type 0} (f : Y → Z) (g : X → List Y) (ks : List X) → flat_map (λ k. map f (g k)) ks ≡ map f (flat_map g ks)
 flat_map-values f g [] = refl
 flat_map-values f g (k ∷ ks) = ap (λ ys. map f (g k) ++ ys) (flat_map-values f g ks) ∙ sym (map-append f (g k) (flat_map g ks))
 
 -- the numbers below a limit, where the test passes at just these
-filter-first : (test : ℕ → Bool) (a n m : ℕ) → m ≤ n → ((i : ℕ) → i < a + m → test i ≡ true)
+pub filter-first : (test : ℕ → Bool) (a n m : ℕ) → m ≤ n → ((i : ℕ) → i < a + m → test i ≡ true)
     → ((i : ℕ) → a + m ≤ i → i < a + n → test i ≡ false) → filter test (range_with_len a n) ≡ range_with_len a m
 filter-first test a n zero few passes fails =
     filter-none test (range_with_len a n) (λ i d within.
@@ -166,7 +166,7 @@ publications_of-journal_order c process known =
     ∙ (ap (λ m. take m log) (sym (length-map (log_of c process) (published_by process))) ∙ take_all (length log) log (omega arith))
 
 -- all of lists one after another
-All-flat_map : {X Y : Type 0} (P : Y → Type 0) (g : X → List Y) (ks : List X) → All (λ k. All P (g k)) ks → All P (flat_map g ks)
+pub All-flat_map : {X Y : Type 0} (P : Y → Type 0) (g : X → List Y) (ks : List X) → All (λ k. All P (g k)) ks → All P (flat_map g ks)
 All-flat_map P g [] each = λ i d within. absurd (omega arith)
 All-flat_map P g (k ∷ ks) each =
     All-append P (g k) (flat_map g ks) (each zero k (omega arith)) (All-flat_map P g ks (λ i d within. each (suc i) d (omega arith)))
