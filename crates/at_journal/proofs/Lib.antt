@@ -1,3 +1,4 @@
+pub mod FrontLists
 pub mod LineKeys
 pub mod ReplyLaws
 pub mod KeepLaws
