@@ -32,7 +32,7 @@ use Rattle.at_files.specs.declared.book_fault.ReadBookFault.{ReadBookFault}
 use Rattle.at_files.specs.declared.book_fault.ReadBookFault.TheVariants.{Bad, NoMemory}
 use Rattle.at_files.proofs.AccountLaws.{map-name_in, name_in}
 use Rattle.at_files.proofs.BookLimits.{accounts_fault-IsBook, limits_fault-within}
-use Rattle.at_files.proofs.NameLaws.{decimal-AreNames, known_version, place_of-at}
+use Rattle.at_files.proofs.NameLaws.{decimal-AreNames, known_version, name-bytes, name-some, name_byte-above, place_of-at}
 use Rattle.at_files.specs.declared.name_set.TheConstants.{NAME_MAX}
 use Rattle.at_files.proofs.OwnerLaws.{pieces_of-some}
 use Rattle.at_files.proofs.RecordLaws.{both_tests}
@@ -77,20 +77,7 @@ IsSolid-decimal n h = record {
 
 -- no byte of a name is a space
 name_byte-solid : (byte : ℕ) → is_name_byte byte ≡ true → (byte == 32) ≡ false
-name_byte-solid byte h = by (byte == 32) refl
-  where
-    by : (b : Bool) → (byte == 32) ≡ b → b ≡ false
-    by false e = refl
-    by true e = absurd (let wrong : is_name_byte 32 ≡ true = rw (eqb-true byte 32 e) at h in cc)
-
-name-bytes : (name : List ℕ) → is_name name ≡ true → list_all is_name_byte name ≡ true
-name-bytes name h =
-    let first = both_tests (nat_le (length name) NAME_MAX && list_all is_name_byte name) (is_ascii_lowercase (slice_index name 0)) h in
-    (both_tests (nat_le (length name) NAME_MAX) (list_all is_name_byte name) first.0).1
-
-name-some : (name : List ℕ) → is_name name ≡ true → 0 < length name
-name-some [] h = absurd (cc)
-name-some (byte ∷ name) h = omega arith
+name_byte-solid byte h = let above = name_byte-above byte h in grind (arith, nat_tests)
 
 IsSolid-name : (name : List ℕ) → is_name name ≡ true → IsSolid name
 IsSolid-name name h = record {

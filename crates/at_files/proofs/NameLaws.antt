@@ -1,7 +1,8 @@
 -- Names and their places: those of version 1 are the canonical decimals.
-use Rattle.std.proofs.Common.{◌≡◌, ℕ, zero, suc, ◌+◌, ◌^◌, ◌<◌, ◌≤◌, Bool, true, false, not, nat_lt, ◌⊎◌, inl, inr, if◌then◌else◌, List, [], ◌∷◌, ◌++◌, length, map, All, Some, None, bytes_eq, decimal, get_or, refl, sym, ◌∙◌, ap, subst, arith}
+use Rattle.std.proofs.Common.{◌≡◌, ℕ, zero, suc, ◌+◌, ◌^◌, ◌<◌, ◌≤◌, Bool, true, false, not, ◌&&◌, nat_le, nat_lt, slice_index, ◌⊎◌, inl, inr, if◌then◌else◌, List, [], ◌∷◌, ◌++◌, length, map, All, Some, None, bytes_eq, decimal, get_or, refl, sym, ◌∙◌, ap, subst, arith}
 use Rattle.std.specs.Prelude.{Contains, slice_get}
-use Rattle.std.specs.List.{IsDistinct, position_or_len}
+use Rattle.std.specs.Char.{is_ascii_lowercase}
+use Rattle.std.specs.List.{IsDistinct, list_all, position_or_len}
 use Rattle.std.proofs.lemmas.Bool.Decides.{nat_tests}
 use Rattle.std.proofs.lemmas.Cmp.{nat_list_eq_equiv}
 use Rattle.std.proofs.lemmas.List.Folds.{list_any_none}
@@ -15,7 +16,9 @@ use Rattle.at_base.specs.Numbers.{number_of}
 use Rattle.at_base.proofs.NumberLaws.{number_of-decimal}
 use Rattle.at_ledger.specs.Book.{BookTerms}
 use Rattle.at_ledger.specs.declared.draft.TheConstants.{ACCOUNTS_MAX}
-use Rattle.at_files.specs.Names.{AreFormed, AreNames, AreNamesOf, IsNameList, decimals_below, has_name, place_of, plain_names}
+use Rattle.at_files.specs.declared.name_set.TheConstants.{NAME_MAX}
+use Rattle.at_files.proofs.RecordLaws.{both_tests}
+use Rattle.at_files.specs.Names.{AreFormed, AreNames, AreNamesOf, IsNameList, decimals_below, has_name, is_name, is_name_byte, place_of, plain_names}
 
 -- the name at the place that was found
 pub place_of-Some : (names : List (List ℕ)) (name : List ℕ) (n : ℕ) → place_of names name ≡ Some n → (n < length names) × (get_or names n [] ≡ name)
@@ -125,3 +128,17 @@ AreNamesOf-plain_names b few many = record {
     few_accounts = rw (length-decimals_below (length b.accounts)) many;
   };
 }
+
+-- the bytes of a name of version 2
+pub name-bytes : (name : List ℕ) → is_name name ≡ true → list_all is_name_byte name ≡ true
+name-bytes name h =
+    let first = both_tests (nat_le (length name) NAME_MAX && list_all is_name_byte name) (is_ascii_lowercase (slice_index name 0)) h in
+    (both_tests (nat_le (length name) NAME_MAX) (list_all is_name_byte name) first.0).1
+
+pub name-some : (name : List ℕ) → is_name name ≡ true → 0 < length name
+name-some [] h = absurd (cc)
+name-some (byte ∷ name) h = omega arith
+
+-- each of them is above a space
+pub name_byte-above : (byte : ℕ) → is_name_byte byte ≡ true → 32 < byte
+name_byte-above byte h = grind (arith, nat_tests)

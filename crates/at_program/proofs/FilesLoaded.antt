@@ -7,7 +7,8 @@ use Rattle.std.proofs.Math.ListN.{get_or-append}
 use Rattle.std.proofs.Math.Nat.{eq-or-lt_of_le}
 use Rattle.at_ledger.specs.Book.{BookTerms}
 use Rattle.at_ledger.specs.declared.call.Call.{Call}
-use Rattle.at_files.specs.Names.{NameList, plain_names}
+use Rattle.at_files.specs.Names.{NameList}
+use Rattle.at_files.specs.BookRecords.{NamedBook}
 use Rattle.at_report.specs.declared.status.Status.{Status}
 use Rattle.at_program.specs.Words.{Form, Word, words_of}
 use Rattle.at_program.specs.Loading.{EachSpells, Files, IsFileReached, MayReach, SpellsCalls, after, book_loaded, calls_before, calls_loaded, calls_of, files_loaded, loaded}
@@ -114,19 +115,19 @@ pub calls_of-push : (files : List (Vec Call Global)) (file : Vec Call Global) �
 calls_of-push files file = map-append (λ (f : Vec Call Global). f.items) files (file ∷ [])
 
 -- what stands before a payment file that was reached is good
-pub MayReach-file : (tells : Bool) (files : Files) (form : Form) (b : BookTerms) (file : ℕ)
-    → (tells ≡ true → book_loaded files form.book ≡ Ok b) → length form.payments ≡ b.processes
-    → IsFileReached tells files (plain_names b) form.payments file → MayReach tells files form file
-MayReach-file tells files form b file read enough reached =
+pub MayReach-file : (tells : Bool) (files : Files) (form : Form) (b : NamedBook) (file : ℕ)
+    → (tells ≡ true → book_loaded files form.book ≡ Ok b) → length form.payments ≡ b.book.processes
+    → IsFileReached tells files b.names form.payments file → MayReach tells files form file
+MayReach-file tells files form b file loaded_is enough reached =
     let file_is : file ≡ suc reached.0 = omega (arith, reached.1.0) in
     record {
       named = omega (arith, reached.1.0, reached.1.1);
-      reached = λ told. rw file_is (record { book = b; read = read told; enough = enough; before = reached.1.2 told });
+      reached = λ told. rw file_is (record { read = b; loaded_is = loaded_is told; enough = enough; before = reached.1.2 told });
     }
 
 -- a payment file that is refused after the book was read
-pub loaded-refused : (files : Files) (form : Form) (b : BookTerms) (refusal : Status) → book_loaded files form.book ≡ Ok b → length form.payments ≡ b.processes
-    → files_loaded files (plain_names b) 0 form.payments ≡ Err refusal → loaded files form ≡ Err refusal
+pub loaded-refused : (files : Files) (form : Form) (b : NamedBook) (refusal : Status) → book_loaded files form.book ≡ Ok b → length form.payments ≡ b.book.processes
+    → files_loaded files b.names 0 form.payments ≡ Err refusal → loaded files form ≡ Err refusal
 loaded-refused files form b refusal read enough refused =
-    let as_many : length form.payments == b.processes ≡ true = eq-eqb _ _ enough in
+    let as_many : length form.payments == b.book.processes ≡ true = eq-eqb _ _ enough in
     rw (read, as_many, refused) refl

@@ -13,10 +13,10 @@ use Rattle.at_program.proofs.loading.load.Goals as goal
 pub returns-in-Err-load_files-clause-reached : goal.returns-in-Err-load_files-clause-reached
 returns-in-Err-load_files-clause-reached g c file is =
     let done = c.in-Ok.ensures in
-    let refused = rw (done.files.as_told, done.files.files, done.names.plain) at c.in-Err-load_files.ensures.file file in
+    let refused = rw (done.files.as_told, done.files.files) at c.in-Err-load_files.ensures.file file in
     let refusal : c.in-Err-load_files.refusal ≡ ReadFault file = cc is in
     let enough : length c.args.form.now.payments.now ≡ c.in-Ok.read.0.processes = omega arith in
-    MayReach-file _ (g.F.Shelf.file c.args.shelf.now) (form_shown c.args.form.now) c.in-Ok.read.0 file done.ok
+    MayReach-file _ (g.F.Shelf.file c.args.shelf.now) (form_shown c.args.form.now) (record { book = c.in-Ok.read.0; names = c.in-Ok.read.1 }) file done.ok
     (length-map c.args.form.now.payments.now string_bytes ∙ enough) (refused (ap Err refusal))
 
 pub returns-in-Err-clause-numbered : goal.returns-in-Err-clause-numbered
@@ -25,10 +25,10 @@ returns-in-Err-clause-numbered g c = c.in-Err.ensures.numbered (length c.args.fo
 pub returns-in-Err-load_files-clause-err : goal.returns-in-Err-load_files-clause-err
 returns-in-Err-load_files-clause-err g c =
     let done = c.in-Ok.ensures in
-    let part = rw (done.files.as_told, done.files.files, done.kept, done.names.plain) at c.in-Err-load_files.ensures.err in
+    let part = rw (done.files.as_told, done.files.files, done.kept) at c.in-Err-load_files.ensures.err in
     let enough : length c.args.form.now.payments.now ≡ c.in-Ok.read.0.processes = omega arith in
     MayRefuse-whole _ _ (loaded (g.F.Shelf.file c.args.shelf.now) (form_shown c.args.form.now)) _ _ c.in-Err-load_files.refusal
-    (λ told refused. loaded-refused (g.F.Shelf.file c.args.shelf.now) (form_shown c.args.form.now) c.in-Ok.read.0 c.in-Err-load_files.refusal (done.ok told)
+    (λ told refused. loaded-refused (g.F.Shelf.file c.args.shelf.now) (form_shown c.args.form.now) (record { book = c.in-Ok.read.0; names = c.in-Ok.read.1 }) c.in-Err-load_files.refusal (done.ok told)
     (length-map c.args.form.now.payments.now string_bytes ∙ enough) refused)
     part
 
