@@ -5,6 +5,7 @@
 //! run of the calls that the files' bytes spell, and each refusal names the first cause.
 #![tactic(auto)]
 
+mod generating;
 mod loading;
 mod playing;
 mod serving;

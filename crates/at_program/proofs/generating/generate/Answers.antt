@@ -1,0 +1,19 @@
+use Rattle.at_program.specs.Loading.{calls_of}
+use Rattle.at_program.proofs.DrawnCalls.{IsFileOn-files_made}
+use Rattle.at_program.proofs.GeneratedRuns.{AllDone-made, AllSum-made, length-book_made}
+use Rattle.at_program.proofs.generating.generate.Goals as goal
+
+pub returns-clause-known : goal.returns-clause-known
+returns-clause-known c =
+    rw (c.in_ok-files.ensures, c.in_ok-book.ensures.book, length-book_made c.args.processes c.args.calls)
+    (IsFileOn-files_made c.args.first c.args.processes c.args.calls c.requires)
+
+pub returns-clause-all_done : goal.returns-clause-all_done
+returns-clause-all_done c =
+    AllDone-made c.args.first c.args.processes c.args.calls c.in_ok-book.book (calls_of c.in_ok-files.files.items)
+    c.in_ok-book.ensures.book c.in_ok-files.ensures c.in_ok-book.ensures.checked.begun
+
+pub returns-clause-all_sum : goal.returns-clause-all_sum
+returns-clause-all_sum c =
+    AllSum-made c.args.first c.args.processes c.args.calls c.in_ok-book.book (calls_of c.in_ok-files.files.items)
+    c.in_ok-book.ensures.book c.in_ok-files.ensures c.in_ok-book.ensures.checked.begun
