@@ -156,6 +156,7 @@ pub fn generate(alloc: Global, first: u64, processes: u32, calls: u32) -> Result
     requires { MayMake processes calls }
     ensures book { IfOk result (λ m. m.book ≡ book_made processes calls) }
     ensures files { IfOk result (λ m. calls_of m.files.items ≡ files_made first processes calls) }
+    ensures count { IfOk result (λ m. length m.files.items ≡ m.book.processes) }
     ensures known { IfOk result (λ m. All (IsFileOn (length m.book.accounts)) (calls_of m.files.items)) }
     ensures all_done { IfOk result (λ m. AllDone m.book (calls_of m.files.items)) }
     ensures all_sum { IfOk result (λ m. AllSum m.book (calls_of m.files.items) first calls (made first processes calls)) }
