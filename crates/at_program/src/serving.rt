@@ -165,9 +165,10 @@ fn answer_made<O: Sink>(alloc: Global, words: &[String], out: &mut O) -> Status
     }
 }
 
-/// Does all that the program does: reads the files that the words name, one after another, or makes those that they
-/// ask for, and writes the command's text to `out`, or the line of the first refusal to `err`. The whole text is made before the first write. `words`
-/// are those after the program's name. The work grows with the bytes of the files alone.
+/// Does all that the program does: reads the files that the words name, one after another, or makes the calls that
+/// they ask for, and writes the command's text to `out`, or the line of the first refusal to `err`. The whole text is
+/// made before the first write. `words` are those after the program's name. The work grows with the bytes of the
+/// files, or with the calls that are made.
 pub fn serve<R: Threads + Sync, F: Shelf, O: Sink, E: Sink>(
     _rt: &R,
     alloc: Global,
