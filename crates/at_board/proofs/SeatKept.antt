@@ -26,6 +26,7 @@ IsSeat-with_part v list q process k seat published same history = record {
   known = seat.known;
   begun = seat.begun;
   history = history;
+  joined = seat.joined;
 }
 
 pub IsSeat-load : (b : BookTerms) (v w : View) (process k p n : ℕ) → v.book ≡ b → IsSeat v process k → LoadsLength b v w p n → IsSeat w process k

@@ -11,6 +11,7 @@ pub mod BoardState
 pub mod Sound
 pub mod Shown
 pub mod Views
+pub mod RecordWords
 pub mod Fresh
 pub mod Conditions
 pub mod Steps
