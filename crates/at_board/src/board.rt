@@ -29,9 +29,9 @@ use std::sync::ledger::Ledger;
 /// The words that processes share, under one rule. Threads share it by `&Board`.
 #[derive(Drop)]
 pub struct Board {
-    table: Table<(), View, Snapshot<Book>, BoardRule, Global>,
-    book: Book,
-    log_starts: ArrayVec<u32, 16>,
+    pub(crate) table: Table<(), View, Snapshot<Book>, BoardRule, Global>,
+    pub(crate) book: Book,
+    pub(crate) log_starts: ArrayVec<u32, 16>,
 }
 
 impl Model for Board {
@@ -145,7 +145,7 @@ impl Board {
     }
 
     /// Where a word of a record stands.
-    fn record_place(&self, p: u32, i: u32, j: u32) -> usize
+    pub(crate) fn record_place(&self, p: u32, i: u32, j: u32) -> usize
         requires { IsPlace self.now.book (record_word p i j) }
         ensures place { result ≡ place_at self.now.book (record_word p i j) }
     {

@@ -10,6 +10,7 @@ mod dealing;
 mod log_starts;
 mod plays;
 mod publication;
+mod records;
 mod request;
 mod rule;
 mod seat;

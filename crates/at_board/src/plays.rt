@@ -1,6 +1,7 @@
 //! What each step of the table tells its seat.
 
 ghost use Rattle.at_board.specs.Plays.{loaded_length, published_record, stored_word};
+ghost use Rattle.at_board.specs.RecordWords.{loaded_word};
 
 use crate::view::View;
 use atomic_table::{Play, Split};
@@ -9,6 +10,12 @@ pub(crate) struct LoadLength;
 
 impl Play<(), View> for LoadLength {
     ghost then = { loaded_length };
+}
+
+pub(crate) struct LoadWord;
+
+impl Play<(), View> for LoadWord {
+    ghost then = { loaded_word };
 }
 
 pub(crate) struct StoreWord;
