@@ -22,3 +22,4 @@ pub mod FormLaws
 pub mod PublishStep
 pub mod CutLaws
 pub mod RecordLaws
+pub mod NoteLaws

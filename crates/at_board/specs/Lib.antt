@@ -15,6 +15,7 @@ pub mod RecordWords
 pub mod Fresh
 pub mod Conditions
 pub mod Steps
+pub mod NoteSteps
 pub mod Cuts
 pub mod Plays
 pub mod SeatView

@@ -8,6 +8,8 @@
 mod board;
 mod dealing;
 mod log_starts;
+mod note;
+mod notes;
 mod plays;
 mod publication;
 mod records;
@@ -25,6 +27,7 @@ mod word_count;
 pub type NoMemory = std::alloc::AllocError;
 
 pub use crate::board::Board;
+pub use crate::note::BoardNote;
 pub use crate::publication::{Entry, Publication, RECORD_WORDS};
 pub use crate::request::{REQUEST_WORDS, Request};
 pub use crate::seat::BoardSeat;

@@ -39,3 +39,13 @@ impl Split<View> for Cut {
 
     ghost right = { other_parts };
 }
+
+pub(crate) struct Note;
+
+impl Split<View> for Note {
+    ghost use Rattle.at_board.specs.NoteSteps.{noted};
+
+    ghost left = { λ v. v };
+
+    ghost right = { noted };
+}
