@@ -23,3 +23,6 @@ pub mod PublishStep
 pub mod CutLaws
 pub mod RecordLaws
 pub mod NoteLaws
+pub mod SameLaws
+pub mod MoreLaws
+pub mod LearnLaws

@@ -16,6 +16,8 @@ pub mod Fresh
 pub mod Conditions
 pub mod Steps
 pub mod NoteSteps
+pub mod Same
+pub mod LearnSteps
 pub mod Cuts
 pub mod Plays
 pub mod SeatView

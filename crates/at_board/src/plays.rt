@@ -4,7 +4,7 @@ ghost use Rattle.at_board.specs.Plays.{loaded_length, published_record, stored_w
 ghost use Rattle.at_board.specs.RecordWords.{loaded_word};
 
 use crate::view::View;
-use atomic_table::{Play, Split};
+use atomic_table::{Join, Play, Split};
 
 pub(crate) struct LoadLength;
 
@@ -48,4 +48,14 @@ impl Split<View> for Note {
     ghost left = { λ v. v };
 
     ghost right = { noted };
+}
+
+pub(crate) struct Learn;
+
+impl Join<View> for Learn {
+    ghost use Rattle.at_board.specs.LearnSteps.{learned, spent_view};
+
+    ghost both = { learned };
+
+    ghost spent = { spent_view };
 }
