@@ -21,3 +21,4 @@ pub mod SeatKept
 pub mod FormLaws
 pub mod PublishStep
 pub mod CutLaws
+pub mod SeatCountLaws

@@ -17,4 +17,5 @@ pub mod Steps
 pub mod Cuts
 pub mod Plays
 pub mod SeatView
+pub mod SeatCounts
 pub mod Seated

@@ -11,6 +11,7 @@ mod log_starts;
 mod plays;
 mod publication;
 mod request;
+mod requests;
 mod rule;
 mod seat;
 mod steps;
