@@ -22,3 +22,8 @@ pub mod FormLaws
 pub mod PublishStep
 pub mod CutLaws
 pub mod SeatCountLaws
+pub mod AskLaws
+pub mod AnnouncedLaws
+pub mod TableSteps
+pub mod AnnouncedStep
+pub mod SlotPlaces

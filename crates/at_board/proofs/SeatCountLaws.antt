@@ -1,10 +1,12 @@
 -- What a seat keeps of its requests stays so after its steps.
-use Rattle.std.proofs.Common.{◌≡◌, ℕ, ◌<◌, List, length, get_or, replicate, refl, sym, ap, subst, ◌∙◌}
-use Rattle.std.proofs.lemmas.List.{get_or-replicate, length-replicate}
+use Rattle.std.proofs.Common.{◌≡◌, ℕ, ◌<◌, List, length, get_or, replicate, set, refl, sym, ap, subst, ◌∙◌, arith, inl, inr}
+use Rattle.std.specs.List.{All}
+use Rattle.std.proofs.lemmas.Bool.{cases_eq}
+use Rattle.std.proofs.lemmas.List.{get_or-replicate, get_or-set_other, get_or-set_same, length-replicate, length-set}
 use Rattle.std.proofs.lemmas.List.Elements.{All-nil}
 use Rattle.at_ledger.specs.Book.{BookTerms}
 use Rattle.at_board.proofs.OpeningLaws.{get_or-zeros}
-use Rattle.at_board.proofs.SeatKept.{own_part-with_part}
+use Rattle.at_board.proofs.SeatKept.{IsSeat-with_part, own_part-with_part}
 use Rattle.at_board.specs.declared.publication.Publication.{Publication}
 use Rattle.at_board.specs.declared.view.Asking.{Asking}
 use Rattle.at_board.specs.declared.view.Part.{Part}
@@ -13,8 +15,10 @@ use Rattle.at_board.specs.declared.view.SeenRequest.{SeenRequest}
 use Rattle.at_board.specs.declared.view.View.{View}
 use Rattle.at_board.specs.Cuts.{starting_seat}
 use Rattle.at_board.specs.Places.{IsPlace, request_word}
+use Rattle.at_board.specs.RequestSteps.{part_asking, with_asking}
 use Rattle.at_board.specs.SeatCounts.{HasCounts, SeesPlaces}
-use Rattle.at_board.specs.Steps.{LoadsLength, Publishes, StoresWord, with_load, with_part, with_record, with_word}
+use Rattle.at_board.specs.SeatView.{IsSeat}
+use Rattle.at_board.specs.Steps.{IsHistory, LoadsLength, Publishes, StoresWord, with_load, with_part, with_record, with_word}
 use Rattle.at_board.specs.Views.{asking_on, no_asking, own_part, starting_asking}
 
 -- a view with another part, in which as many requests are announced
@@ -76,3 +80,37 @@ SeesPlaces-starting b p = record {
   requests = All-nil (λ (x : SeenRequest). IsPlace b (request_word x.account x.slot x.number 0));
   decisions = All-nil (λ (x : SeenDecision). IsPlace b (request_word x.account x.decision.slot x.decision.number 0));
 }
+
+-- a seat whose part has something new on an account
+pub IsSeat-asking : (v : View) (list : List Publication) (requests : List SeenRequest) (process k a : ℕ) (w : Asking) → IsSeat v process k
+    → IsHistory v.book list → IsSeat (with_asking (record v { seen = list; requests = requests }) a w) process k
+IsSeat-asking v list requests process k a w seat history =
+    let before : IsSeat (record v { requests = requests }) process k = record {
+      one_part = seat.one_part;
+      process_is = seat.process_is;
+      published_is = seat.published_is;
+      known = seat.known;
+      begun = seat.begun;
+      history = seat.history;
+    } in
+    IsSeat-with_part (record v { requests = requests }) list (part_asking (own_part v) a w) process k before k seat.published_is history
+
+pub HasCounts-asking : (v : View) (list : List Publication) (requests : List SeenRequest) (a : ℕ) (w : Asking) (counts : List ℕ) → 0 < length v.parts
+    → length w.announced ≡ length (asking_on (own_part v) a).announced → HasCounts v counts
+    → HasCounts (with_asking (record v { seen = list; requests = requests }) a w) counts
+HasCounts-asking v list requests a w counts part same has =
+    let q : Part = own_part v in
+    let before : HasCounts (record v { seen = list; requests = requests }) counts = record { accounts = has.accounts; sized = has.sized; counted = has.counted } in
+    HasCounts-with_part (record v { seen = list; requests = requests }) (part_asking q a w) counts part (length-set q.asking a w)
+    (λ c within. elim (cases_eq c a) as (λ _. length (get_or (set q.asking a w) c no_asking).announced ≡ length (asking_on q c).announced) [
+      | inl here ↦
+          let inside : a < length q.asking = omega (arith, within, has.accounts, here) in
+          ap (λ k. length (get_or (set q.asking a w) k no_asking).announced) here
+          ∙ (ap (λ (t : Asking). length t.announced) (get_or-set_same q.asking a w no_asking inside) ∙ (same ∙ ap (λ k. length (asking_on q k).announced) (sym here)))
+      | inr apart ↦ ap (λ (t : Asking). length t.announced) (get_or-set_other q.asking a c w no_asking apart)
+    ]) before
+
+pub SeesPlaces-asking : (v : View) (list : List Publication) (requests : List SeenRequest) (a : ℕ) (w : Asking) → SeesPlaces v
+    → All (λ x. IsPlace v.book (request_word x.account x.slot x.number 0)) requests
+    → SeesPlaces (with_asking (record v { seen = list; requests = requests }) a w)
+SeesPlaces-asking v list requests a w sees places = record { requests = places; decisions = sees.decisions }

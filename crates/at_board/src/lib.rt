@@ -14,6 +14,7 @@ mod request;
 mod requests;
 mod rule;
 mod seat;
+mod slots_before;
 mod steps;
 mod targets_word;
 #[cfg(test)]
