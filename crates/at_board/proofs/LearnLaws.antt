@@ -17,9 +17,11 @@ use Rattle.at_board.specs.declared.view.View.{View}
 use Rattle.at_board.specs.BoardState.{BoardState}
 use Rattle.at_board.specs.LearnSteps.{Learns, learned, longer, spent_view}
 use Rattle.at_board.specs.NoteSteps.{IsNote}
+use Rattle.at_board.specs.Places.{IsPlace, request_word}
 use Rattle.at_board.specs.Publications.{IsPrefix, count_of}
 use Rattle.at_board.specs.Same.{begins_with}
 use Rattle.at_board.specs.Seated.{AreSeated, Holds, Ruled}
+use Rattle.at_board.specs.SeatCounts.{HasCounts, SeesPlaces}
 use Rattle.at_board.specs.SeatView.{IsSeat}
 use Rattle.at_board.specs.Steps.{IsHistory}
 use Rattle.at_board.specs.Views.{IsAnnounced, IsDecided, Knows, part_at}
@@ -182,3 +184,15 @@ IsSeat-learned b v w process published book note_book seat note =
       joined = All-cons (IsHistory v.book) w.seen (v.joined ++ w.joined) theirs
           (All-append (IsHistory v.book) v.joined w.joined seat.joined (subst (λ t. All (IsHistory t) w.joined) same note.joined));
     }
+
+-- the seat's own part is the same
+pub HasCounts-learned : (v w : View) (announced : List ℕ) → HasCounts v announced → HasCounts (learned v w) announced
+HasCounts-learned v w announced has = record { accounts = has.accounts; sized = has.sized; counted = has.counted }
+
+pub SeesPlaces-learned : (v w : View) → w.book ≡ v.book → SeesPlaces v → SeesPlaces w → SeesPlaces (learned v w)
+SeesPlaces-learned v w same mine theirs = record {
+  requests = All-append (λ x. IsPlace v.book (request_word x.account x.slot x.number 0)) v.requests w.requests mine.requests
+      (subst (λ t. All (λ x. IsPlace t (request_word x.account x.slot x.number 0)) w.requests) same theirs.requests);
+  decisions = All-append (λ x. IsPlace v.book (request_word x.account x.decision.slot x.decision.number 0)) v.decisions w.decisions mine.decisions
+      (subst (λ t. All (λ x. IsPlace t (request_word x.account x.decision.slot x.decision.number 0)) w.decisions) same theirs.decisions);
+}

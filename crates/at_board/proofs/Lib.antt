@@ -26,3 +26,9 @@ pub mod NoteLaws
 pub mod SameLaws
 pub mod MoreLaws
 pub mod LearnLaws
+pub mod SeatCountLaws
+pub mod AskLaws
+pub mod AnnouncedLaws
+pub mod TableSteps
+pub mod AnnouncedStep
+pub mod SlotPlaces

@@ -19,6 +19,8 @@ pub mod NoteSteps
 pub mod Same
 pub mod LearnSteps
 pub mod Cuts
+pub mod RequestSteps
 pub mod Plays
 pub mod SeatView
+pub mod SeatCounts
 pub mod Seated

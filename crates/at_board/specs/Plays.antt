@@ -5,7 +5,8 @@ use Rattle.at_ledger.specs.Book.{log_room_of}
 use Rattle.at_board.specs.declared.publication.Publication.{Publication}
 use Rattle.at_board.specs.declared.view.View.{View}
 use Rattle.at_board.specs.Conditions.{MayPublish}
-use Rattle.at_board.specs.Places.{length_of, place_at, record_width, record_word}
+use Rattle.at_board.specs.Places.{IsPlace, announced_of, length_of, place_at, record_width, record_word}
+use Rattle.at_board.specs.RequestSteps.{LoadsAnnounced}
 use Rattle.at_board.specs.Steps.{LoadsLength, Publishes, StoresWord}
 use Rattle.at_board.specs.Views.{own_part}
 
@@ -23,3 +24,8 @@ module _ {S : Type 0} where
   -- at the seat's own length
   abbrev pub published_record : Step S → Me S View → ℕ → Me S View → Type 0
   published_record st m n m' = (m'.1 ≡ m.1) × ((x : Publication) → MayPublish m.0.book m.0 x → Publishes m.0.book m.0 m'.0 x)
+
+  -- at an announced word
+  abbrev pub loaded_announced : Step S → Me S View → ℕ → Me S View → Type 0
+  loaded_announced st m n m' = (m'.1 ≡ m.1) × ((a slot : ℕ) → IsPlace m.0.book (announced_of a slot) →
+      st.word ≡ place_at m.0.book (announced_of a slot) → LoadsAnnounced m.0.book m.0 m'.0 a slot n)

@@ -14,8 +14,10 @@ mod plays;
 mod publication;
 mod records;
 mod request;
+mod requests;
 mod rule;
 mod seat;
+mod slots_before;
 mod steps;
 mod targets_word;
 #[cfg(test)]

@@ -1,6 +1,6 @@
 //! What each step of the table tells its seat.
 
-ghost use Rattle.at_board.specs.Plays.{loaded_length, published_record, stored_word};
+ghost use Rattle.at_board.specs.Plays.{loaded_announced, loaded_length, published_record, stored_word};
 ghost use Rattle.at_board.specs.RecordWords.{loaded_word};
 
 use crate::view::View;
@@ -28,6 +28,12 @@ pub(crate) struct Publish;
 
 impl Play<(), View> for Publish {
     ghost then = { published_record };
+}
+
+pub(crate) struct LoadAnnounced;
+
+impl Play<(), View> for LoadAnnounced {
+    ghost then = { loaded_announced };
 }
 
 pub(crate) struct Cut;

@@ -1,9 +1,10 @@
 use Rattle.std.proofs.Common.{◌≡◌, sym, ap, subst, ◌∙◌, arith}
 use Rattle.at_ledger.specs.Book.{BookTerms}
-use Rattle.at_board.proofs.LearnLaws.{IsSeat-learned, Learns-learned, learns}
+use Rattle.at_board.proofs.LearnLaws.{HasCounts-learned, IsSeat-learned, Learns-learned, SeesPlaces-learned, learns}
 use Rattle.at_board.proofs.NoteLaws.{word_count-some}
 use Rattle.at_board.specs.declared.view.View.{View}
 use Rattle.at_board.specs.LearnSteps.{Learns}
+use Rattle.at_board.specs.SeatCounts.{HasCounts, SeesPlaces}
 use Rattle.at_board.specs.SeatView.{IsSeat}
 use Rattle.at_board.proofs.board.Board.learn.Goals as goal
 
@@ -24,10 +25,13 @@ invariant_of-seat g c =
     let v : View = c.seat.inside.seat.me.0 in
     let w : View = c.note.inside.seat.me.0 in
     let book : v.book ≡ b = ap (λ s. s.view.book) c.seat.view_is ∙ c.requires.board.book in
-    let note_book : w.book ≡ b = ap (λ s. s.view.book) c.note.view_is ∙ c.requires.note.book in (
+    let note_book : w.book ≡ b = ap (λ s. s.view.book) c.note.view_is ∙ c.requires.note.book in
+    let after = sym (ap (λ m. m.0) c.join_seat.ensures.2) in (
       ap (λ m. m.1) c.join_seat.ensures.2 ∙ c.seat.invariant.0,
-      subst (λ t. IsSeat t c.seat.inside.process c.seat.inside.published) (sym (ap (λ m. m.0) c.join_seat.ensures.2))
+      subst (λ t. IsSeat t c.seat.inside.process c.seat.inside.published) after
           (IsSeat-learned b v w c.seat.inside.process c.seat.inside.published book note_book c.seat.invariant.1 c.note.invariant.1),
+      subst (λ t. HasCounts t c.seat.inside.announced.items) after (HasCounts-learned v w c.seat.inside.announced.items c.seat.invariant.2),
+      subst SeesPlaces after (SeesPlaces-learned v w (note_book ∙ sym book) c.seat.invariant.3 c.note.invariant.1.places),
     )
 
 pub returns-clause-learned : goal.returns-clause-learned

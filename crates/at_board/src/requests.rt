@@ -1,0 +1,67 @@
+//! What owners ask on shared accounts.
+
+ghost use Rattle.std.specs.Prelude.{◌≡◌, ℕ, ◌+◌, ◌<◌, ◌≤◌, length, sum_by, take};
+ghost use Rattle.at_ledger.specs.Book.{account_of};
+ghost use Rattle.at_board.specs.Places.{IsPlace, announced_of, place_at, slots_of};
+ghost use Rattle.at_board.specs.RequestSteps.{LoadsAnnounced};
+ghost use Rattle.at_board.specs.SeatView.{IsOf};
+ghost use Rattle.at_board.specs.Views.{HasSlot, asking_on, own_part};
+
+use crate::board::Board;
+use crate::plays::LoadAnnounced;
+use crate::seat::BoardSeat;
+use crate::steps::Steps;
+use std::sync::ledger::Ledger;
+
+impl Board {
+    /// How many requests the seat's process has announced on an account that it shares. It makes no step.
+    pub fn announced(&self, seat: &BoardSeat, account: u32) -> u32
+        requires board { IsOf seat.now self.now }
+        requires slot { (slot : ℕ) × HasSlot self.now.book seat.now.view.first account slot }
+        ensures { result ≡ length (asking_on (own_part seat.now.view) account).announced }
+    {
+        seat.announced[account as usize]
+    }
+
+    /// Loads how many requests the owner at a slot of a shared account has announced, in one step.
+    pub fn load_announced<L: Ledger, X: Ledger>(
+        &self,
+        seat: &mut BoardSeat,
+        account: u32,
+        slot: u32,
+        steps: &mut Steps<L>,
+        exchanges: &mut Steps<X>,
+    ) -> u32
+        requires board { IsOf seat.old self.now }
+        requires account { account < length self.now.book.accounts }
+        requires slot { slot < slots_of (account_of self.now.book account) }
+        ensures told { LoadsAnnounced self.now.book seat.old.view seat.new.view account slot result }
+        ensures board { seat.new.board ≡ seat.old.board }
+        ensures steps { steps.new ≡ steps.old + 1 }
+        ensures exchanges { exchanges.new ≡ exchanges.old }
+    {
+        steps.tick();
+        let place = self.announced_place(account, slot);
+        let count = self
+            .table
+            .shared
+            .load::<LoadAnnounced>(&mut seat.seat, place);
+        count as u32
+    }
+
+    /// Where the announced word of a slot stands.
+    fn announced_place(&self, account: u32, slot: u32) -> usize
+        requires { IsPlace self.now.book (announced_of account slot) }
+        ensures place { result ≡ place_at self.now.book (announced_of account slot) }
+    {
+        self.slots_start + self.first_slot(account) + slot as usize
+    }
+
+    /// How many slots the accounts before this one have.
+    fn first_slot(&self, account: u32) -> usize
+        requires { account ≤ length self.now.book.accounts }
+        ensures { result ≡ sum_by slots_of (take account self.now.book.accounts) }
+    {
+        self.slots_before[account as usize] as usize
+    }
+}
