@@ -26,6 +26,7 @@ pub mod NoteLaws
 pub mod SameLaws
 pub mod MoreLaws
 pub mod LearnLaws
+pub mod DecisionLaws
 pub mod SeatCountLaws
 pub mod AskLaws
 pub mod AnnouncedLaws

@@ -18,6 +18,7 @@ pub mod Steps
 pub mod NoteSteps
 pub mod Same
 pub mod LearnSteps
+pub mod DecideSteps
 pub mod Cuts
 pub mod RequestSteps
 pub mod Plays
