@@ -27,6 +27,8 @@ pub mod SameLaws
 pub mod MoreLaws
 pub mod LearnLaws
 pub mod DecisionLaws
+pub mod CellLaws
+pub mod DecideLaws
 pub mod SeatCountLaws
 pub mod AskLaws
 pub mod AnnouncedLaws
