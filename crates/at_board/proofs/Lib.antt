@@ -29,6 +29,7 @@ pub mod LearnLaws
 pub mod DecisionLaws
 pub mod CellLaws
 pub mod DecideLaws
+pub mod DecideParts
 pub mod SeatCountLaws
 pub mod AskLaws
 pub mod AnnouncedLaws
