@@ -12,7 +12,6 @@ use Rattle.at_board.proofs.FrontLaws.{IsPrefix-refl}
 use Rattle.at_board.proofs.LoadLaws.{parts_after}
 use Rattle.at_board.proofs.SeatLaws.{HasPart-all, rounds-IsPrefix}
 use Rattle.at_board.proofs.StoreLaws.{SameRecordWords, SameRequestWords}
-use Rattle.at_board.specs.declared.publication.Publication.{Publication}
 use Rattle.at_board.specs.declared.view.Asking.{Asking}
 use Rattle.at_board.specs.declared.view.Cell.{Cell}
 use Rattle.at_board.specs.declared.view.Part.{Part}
@@ -23,7 +22,7 @@ use Rattle.at_board.specs.BoardState.{BoardState, decision_at, request_at}
 use Rattle.at_board.specs.DecideSteps.{with_count, with_decide, with_decision}
 use Rattle.at_board.specs.Publications.{IsPrefix, count_of}
 use Rattle.at_board.specs.Steps.{with_part}
-use Rattle.at_board.specs.Views.{HasAsking, HasPart, HasSlot, IsDecided, Knows, asking_on, no_asking, own_part, part_at}
+use Rattle.at_board.specs.Views.{HasAsking, HasPart, IsDecided, Knows, asking_on, no_asking, own_part, part_at}
 
 -- a counted step on a cell is no matter of what is asked
 HasAsking-count : (b : BookTerms) (words : List ℕ) (s : BoardState) (v : View) (a slot n : ℕ) (w : Asking)
@@ -166,7 +165,7 @@ Knows-proposed b words after s a round d v part same record_same full knows =
     let u : View = with_part (with_decision v s.published a round d) (with_decide q a held) in
     let first : v.first + 0 ≡ v.first = omega arith in
     let moved : (k : ℕ) → k < length v.parts → (h : Option Cell) → h ≡ s'.held (v.first + k)
-        → HasPart b after s' u (v.first + k) (record (part_at v k) { held = h }) =
+    → HasPart b after s' u (v.first + k) (record (part_at v k) { held = h }) =
     λ k inside h is.
     let has = knows.parts k inside in
     HasPart-decided b words after s v.first a d v u (v.first + k) (part_at v k) h knows.seen refl same

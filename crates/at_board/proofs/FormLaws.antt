@@ -127,7 +127,7 @@ same_fields : (a b c d a' b' c' d' : ℕ) → a < 2 → b < 8 → c < 1024 → a
     → 1 + a + 2 * b + 16 * c + 262144 * d ≡ 1 + a' + 2 * b' + 16 * c' + 262144 * d' → (a ≡ a') × (b ≡ b') × (c ≡ c') × (d ≡ d')
 same_fields a b c d a' b' c' d' p0 p1 p2 q0 q1 q2 e = (omega arith, omega arith, omega arith, omega arith)
 
-same_decision : (d e : Decision) → InRange d → InRange e → word_of d ≡ word_of e → d ≡ e
+pub same_decision : (d e : Decision) → InRange d → InRange e → word_of d ≡ word_of e → d ≡ e
 same_decision d e one other same =
     let fields = same_fields (cond d.ok 1 0) d.slot d.number d.place (cond e.ok 1 0) e.slot e.number e.place
     (small_bit d.ok) one.slot one.number (small_bit e.ok) other.slot other.number same in

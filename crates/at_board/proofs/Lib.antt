@@ -30,6 +30,9 @@ pub mod DecisionLaws
 pub mod CellLaws
 pub mod DecideLaws
 pub mod DecideParts
+pub mod RoundSteps
+pub mod CellPlaces
+pub mod DecideStep
 pub mod SeatCountLaws
 pub mod AskLaws
 pub mod AnnouncedLaws

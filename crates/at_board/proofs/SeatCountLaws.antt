@@ -92,7 +92,7 @@ IsSeat-asking v list requests process k a w seat history =
       known = seat.known;
       begun = seat.begun;
       history = seat.history;
-  joined = seat.joined;
+      joined = seat.joined;
     } in
     IsSeat-with_part (record v { requests = requests }) list (part_asking (own_part v) a w) process k before k seat.published_is history
 

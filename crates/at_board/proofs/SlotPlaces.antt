@@ -10,11 +10,11 @@ use Rattle.at_board.proofs.SizeLaws.{sum_by-mul}
 use Rattle.at_board.specs.Places.{announced_of, place_at, record_width, record_word, request_word, slots_of, start_of}
 
 -- a block of a group of accounts begins after those of the accounts before
-start_of-accounts : (f : AccountTerms → ℕ) (accounts : List AccountTerms) (a : ℕ) → start_of (map f accounts) a ≡ sum_by f (take a accounts)
+pub start_of-accounts : (f : AccountTerms → ℕ) (accounts : List AccountTerms) (a : ℕ) → start_of (map f accounts) a ≡ sum_by f (take a accounts)
 start_of-accounts f accounts a = ap sum (take-map f a accounts) ∙ sum-map f (take a accounts)
 
 -- the logs end where the announced words begin
-logs_end : (b : BookTerms) → let f : ℕ → ℕ = λ p. log_room_of b p * record_width b in
+pub logs_end : (b : BookTerms) → let f : ℕ → ℕ = λ p. log_room_of b p * record_width b in
     sum (take b.processes (map f (range_with_len 0 b.processes))) ≡ sum (map f (range_with_len 0 b.processes))
 logs_end b =
     let f : ℕ → ℕ = λ p. log_room_of b p * record_width b in

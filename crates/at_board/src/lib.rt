@@ -15,6 +15,7 @@ mod publication;
 mod records;
 mod request;
 mod requests;
+mod rounds;
 mod rule;
 mod seat;
 mod slots_before;

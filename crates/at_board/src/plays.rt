@@ -1,5 +1,6 @@
 //! What each step of the table tells its seat.
 
+ghost use Rattle.at_board.specs.DecideSteps.{decided_round};
 ghost use Rattle.at_board.specs.Plays.{loaded_announced, loaded_length, published_record, stored_word};
 ghost use Rattle.at_board.specs.RecordWords.{loaded_word};
 
@@ -34,6 +35,12 @@ pub(crate) struct LoadAnnounced;
 
 impl Play<(), View> for LoadAnnounced {
     ghost then = { loaded_announced };
+}
+
+pub(crate) struct Decide;
+
+impl Play<(), View> for Decide {
+    ghost then = { decided_round };
 }
 
 pub(crate) struct Cut;

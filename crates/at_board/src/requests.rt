@@ -58,7 +58,7 @@ impl Board {
     }
 
     /// How many slots the accounts before this one have.
-    fn first_slot(&self, account: u32) -> usize
+    pub(crate) fn first_slot(&self, account: u32) -> usize
         requires { account ≤ length self.now.book.accounts }
         ensures { result ≡ sum_by slots_of (take account self.now.book.accounts) }
     {
