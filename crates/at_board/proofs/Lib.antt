@@ -33,6 +33,8 @@ pub mod DecideParts
 pub mod RoundSteps
 pub mod CellPlaces
 pub mod DecideStep
+pub mod GatherLaws
+pub mod EndLaws
 pub mod SeatCountLaws
 pub mod AskLaws
 pub mod AnnouncedLaws

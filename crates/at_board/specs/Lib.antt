@@ -25,3 +25,4 @@ pub mod Plays
 pub mod SeatView
 pub mod SeatCounts
 pub mod Seated
+pub mod Ends
