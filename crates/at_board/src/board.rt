@@ -10,9 +10,8 @@ ghost use Rattle.at_board.specs.Steps.{LoadsLength, Publishes, StoresWord};
 
 use crate::NoMemory;
 use crate::dealing::deal;
-use crate::log_starts::log_starts;
+use crate::log_starts::{log_starts, record_index};
 use crate::plays::{LoadLength, Publish, StoreWord};
-use crate::publication::RECORD_WORDS;
 use crate::rule::BoardRule;
 use crate::seat::BoardSeat;
 use crate::slots_before::slots_before;
@@ -54,7 +53,8 @@ impl Model for Board {
         × ((p : ℕ) → p < b.book.processes → slice_index b.log_starts.items p ≡ place_at b.book (record_word p 0 0))
         × (b.slots_start ≡ place_at b.book (record_word b.book.processes 0 0))
         × (length b.slots_before.items ≡ length b.book.accounts + 1)
-        × ((a : ℕ) → a ≤ length b.book.accounts → slice_index b.slots_before.items a ≡ sum_by slots_of (take a b.book.accounts)) };
+        × ((a : ℕ) → a ≤ length b.book.accounts → slice_index b.slots_before.items a ≡ sum_by slots_of (take a b.book.accounts))
+        × (b.table.shared.table_id.slots ≡ 0) };
 }
 
 impl Board {
@@ -160,7 +160,6 @@ impl Board {
         requires { IsPlace self.now.book (record_word p i j) }
         ensures place { result ≡ place_at self.now.book (record_word p i j) }
     {
-        let width = (RECORD_WORDS + self.book.processes()) as usize;
-        self.log_starts[p as usize] as usize + i as usize * width + j as usize
+        record_index(&self.book, &self.log_starts, p, i, j)
     }
 }

@@ -6,7 +6,9 @@
 #![tactic(auto)]
 
 mod board;
+mod board_end;
 mod dealing;
+mod ending;
 mod log_starts;
 mod note;
 mod notes;
@@ -30,6 +32,8 @@ mod word_count;
 pub type NoMemory = std::alloc::AllocError;
 
 pub use crate::board::Board;
+pub use crate::board_end::BoardEnd;
+pub use crate::ending::BoardRefused;
 pub use crate::note::BoardNote;
 pub use crate::publication::{Entry, Publication, RECORD_WORDS};
 pub use crate::request::{REQUEST_WORDS, Request};

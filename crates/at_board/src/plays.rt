@@ -72,3 +72,14 @@ impl Join<View> for Learn {
 
     ghost spent = { spent_view };
 }
+
+pub(crate) struct Gather;
+
+impl Join<View> for Gather {
+    ghost use Rattle.at_board.specs.Ends.{gathered};
+    ghost use Rattle.at_board.specs.LearnSteps.{spent_view};
+
+    ghost both = { gathered };
+
+    ghost spent = { spent_view };
+}

@@ -1,6 +1,6 @@
 //! Seats of a board.
 
-ghost use Rattle.std.specs.Prelude.{◌≡◌};
+ghost use Rattle.std.specs.Prelude.{◌≡◌, [], length};
 
 use crate::view::View;
 use atomic_table::Seat;
@@ -44,5 +44,21 @@ impl BoardSeat {
         ensures { result ≡ (own_part self.now.view).published }
     {
         self.published
+    }
+
+    /// The seat of the table.
+    pub(crate) fn into_seat(self) -> Seat<(), View>
+        ensures table { result.table_id ≡ self.board }
+        ensures empty { result.me.1 ≡ [] }
+        ensures view { result.me.0 ≡ self.view }
+        ensures one_part { length self.view.parts ≡ 1 }
+    {
+        let BoardSeat {
+            seat,
+            process: _,
+            published: _,
+            announced: _,
+        } = self;
+        seat
     }
 }
