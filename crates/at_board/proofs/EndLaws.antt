@@ -1,5 +1,5 @@
 -- What is known at the end of a board.
-use Rattle.std.proofs.Common.{◌≡◌, ℕ, ◌+◌, ◌-◌, ◌<◌, ◌≤◌, List, [], ◌∷◌, ◌++◌, length, get_or, None, refl, sym, ap, subst, ◌∙◌, arith, inl, inr}
+use Rattle.std.proofs.Common.{◌≡◌, ℕ, ◌+◌, ◌-◌, ◌<◌, List, [], ◌∷◌, ◌++◌, length, get_or, None, refl, sym, subst, ◌∙◌, arith, inl, inr}
 use Rattle.std.specs.List.{All, Contains}
 use Rattle.std.proofs.lemmas.Bool.{cases_lt}
 use Rattle.std.proofs.lemmas.List.{get_or-append_right, get_or_append_left, get_or_default, length-append, length_push}
@@ -11,13 +11,13 @@ use Rattle.at_board.proofs.RecordLaws.{All-Contains, lists_of-Knows}
 use Rattle.at_board.specs.declared.publication.Publication.{Publication}
 use Rattle.at_board.specs.declared.view.View.{View}
 use Rattle.at_board.specs.BoardState.{BoardState}
-use Rattle.at_board.specs.Ends.{EndView, Gathers, HasWords, IsEnd, IsFreeSeat, gathered}
+use Rattle.at_board.specs.Ends.{Gathers, HasWords, IsEnd, IsFreeSeat, gathered}
 use Rattle.at_board.specs.Publications.{IsPrefix}
 use Rattle.at_board.specs.RecordWords.{lists_of}
 use Rattle.at_board.specs.Seated.{Ruled}
 use Rattle.at_board.specs.SeatView.{BoardView, SeatView}
 use Rattle.at_board.specs.Shown.{Shown}
-use Rattle.at_board.specs.Views.{HasPart, Knows, no_part, own_part, part_at}
+use Rattle.at_board.specs.Views.{HasPart, Knows, no_part, part_at}
 
 -- the view has all lists that the seat has seen
 abbrev pub HasLists : View → SeatView → Type 0

@@ -23,13 +23,7 @@ pub(crate) fn log_starts(book: &Book) -> ArrayVec<u32, 16>
 }
 
 /// The index of a word of a record.
-pub(crate) fn record_index(
-    book: &Book,
-    starts: &ArrayVec<u32, 16>,
-    p: u32,
-    i: u32,
-    j: u32,
-) -> usize
+pub(crate) fn record_index(book: &Book, starts: &ArrayVec<u32, 16>, p: u32, i: u32, j: u32) -> usize
     requires place { IsPlace book.now (record_word p i j) }
     requires count { length starts.now.items ≡ book.now.processes }
     requires starts { (q : ℕ) → q < book.now.processes → slice_index starts.now.items q ≡ place_at book.now (record_word q 0 0) }

@@ -3,7 +3,7 @@ use Rattle.std.proofs.lemmas.List.{get_or_read}
 use Rattle.at_ledger.specs.Book.{BookTerms}
 use Rattle.at_board.proofs.PlaceLaws.{place_at-below}
 use Rattle.at_board.specs.Ends.{EndView, HasWords}
-use Rattle.at_board.specs.Places.{IsPlace, length_of, place_at, record_width, record_word, word_at}
+use Rattle.at_board.specs.Places.{IsPlace, length_of, record_width, record_word, word_at}
 use Rattle.at_board.proofs.board_end.BoardEnd.record_word.Goals as goal
 
 -- the board has the word
