@@ -176,6 +176,8 @@ pub IsHistory-nil : (b : BookTerms) → IsBegun b → IsHistory b []
 IsHistory-nil b begun = record {
   views = λ m within. absurd (omega arith);
   entries = λ m within. absurd (omega arith);
+  decisions = λ m within. absurd (omega arith);
+  agree = λ m k within inside. absurd (omega arith);
   room = λ p within. omega (arith, ap length (publications_of-nil p));
   runs = λ m within. subst (IsRun b) (sym (take_all m [] (omega arith))) (IsRun-nil b begun);
 }

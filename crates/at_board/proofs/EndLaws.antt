@@ -11,7 +11,7 @@ use Rattle.at_board.proofs.RecordLaws.{All-Contains, lists_of-Knows}
 use Rattle.at_board.specs.declared.publication.Publication.{Publication}
 use Rattle.at_board.specs.declared.view.View.{View}
 use Rattle.at_board.specs.BoardState.{BoardState}
-use Rattle.at_board.specs.Ends.{Gathers, HasWords, IsEnd, IsFreeSeat, gathered}
+use Rattle.at_board.specs.Ends.{Gathers, IsEnd, IsFreeSeat, gathered}
 use Rattle.at_board.specs.Publications.{IsPrefix}
 use Rattle.at_board.specs.RecordWords.{lists_of}
 use Rattle.at_board.specs.Seated.{Ruled}
@@ -91,12 +91,3 @@ module _ {S : Type 0} where
             (lists_of-Knows b last.0.words s v knows) (gathers.seen k d within i list inside);
         history = IsHistory-Sound b last.0.words s ruled.shown ruled.sound book.begun;
       }
-
--- the words of the end have the form of a board's
-pub HasWords-IsEnd : (b : BookTerms) (words : List ℕ) (seats : List SeatView) → IsBook b → IsEnd (record { book = b; words = words }) seats
-    → HasWords (record { book = b; words = words })
-HasWords-IsEnd b words seats book end = record {
-  book = book;
-  sized = end.shown.sized;
-  room = λ p within. omega (arith, end.shown.records.lengths p within, end.shown.records.room p within);
-}

@@ -10,6 +10,7 @@ pub mod Words
 pub mod BoardState
 pub mod Sound
 pub mod Shown
+pub mod ShownRounds
 pub mod Views
 pub mod RecordWords
 pub mod Fresh

@@ -13,6 +13,7 @@ use Rattle.at_board.specs.Fronts.{place, prefix_of}
 use Rattle.at_board.specs.Moves.{AreRuns}
 use Rattle.at_board.specs.Places.{record_width, slots_of}
 use Rattle.at_board.specs.Publications.{IsPrefix, count_of}
+use Rattle.at_board.specs.ShownRounds.{AgreeOnRound, IsShownDecision}
 use Rattle.at_board.specs.Sound.{AreTargets, HasView, IsSoundOwn, IsSoundRound}
 use Rattle.at_board.specs.Views.{loads_of, own_part}
 
@@ -59,6 +60,8 @@ pub record IsHistory (b : BookTerms) (list : List Publication) : Type 0 where
   pub views : (m : ℕ) → m < length list → HasView b (take m list) (publication_at list m)
   pub entries : (m : ℕ) → m < length list → let x : Publication = publication_at list m in
       IsShownEntry b x.process (prefix_of x.view list) x.entry
+  pub decisions : (m : ℕ) → m < length list → IsShownDecision b list (publication_at list m).entry
+  pub agree : (m k : ℕ) → m < length list → k < length list → AgreeOnRound (publication_at list m).entry (publication_at list k).entry
   pub room : (p : ℕ) → p < b.processes → count_of p list ≤ log_room_of b p
   pub runs : AreRuns b list
 

@@ -7,6 +7,7 @@
 
 mod board;
 mod board_end;
+mod crossing;
 mod dealing;
 mod ending;
 mod log_starts;
