@@ -27,3 +27,5 @@ pub mod AnnouncedLaws
 pub mod TableSteps
 pub mod AnnouncedStep
 pub mod SlotPlaces
+pub mod RequestWordLaws
+pub mod RequestWordStep

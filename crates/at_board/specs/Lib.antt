@@ -15,6 +15,7 @@ pub mod Fresh
 pub mod Conditions
 pub mod Steps
 pub mod Cuts
+pub mod RequestConditions
 pub mod RequestSteps
 pub mod Plays
 pub mod SeatView

@@ -5,8 +5,9 @@ use Rattle.at_ledger.specs.Book.{log_room_of}
 use Rattle.at_board.specs.declared.publication.Publication.{Publication}
 use Rattle.at_board.specs.declared.view.View.{View}
 use Rattle.at_board.specs.Conditions.{MayPublish}
-use Rattle.at_board.specs.Places.{IsPlace, announced_of, length_of, place_at, record_width, record_word}
-use Rattle.at_board.specs.RequestSteps.{LoadsAnnounced}
+use Rattle.at_board.specs.Places.{IsPlace, announced_of, length_of, place_at, record_width, record_word, request_word}
+use Rattle.at_board.specs.RequestConditions.{MayLoadRequest}
+use Rattle.at_board.specs.RequestSteps.{LoadsAnnounced, LoadsRequestWord}
 use Rattle.at_board.specs.Steps.{LoadsLength, Publishes, StoresWord}
 use Rattle.at_board.specs.Views.{own_part}
 
@@ -29,3 +30,9 @@ module _ {S : Type 0} where
   abbrev pub loaded_announced : Step S → Me S View → ℕ → Me S View → Type 0
   loaded_announced st m n m' = (m'.1 ≡ m.1) × ((a slot : ℕ) → IsPlace m.0.book (announced_of a slot) →
       st.word ≡ place_at m.0.book (announced_of a slot) → LoadsAnnounced m.0.book m.0 m'.0 a slot n)
+
+  -- at a word of an announced request
+  abbrev pub loaded_request_word : Step S → Me S View → ℕ → Me S View → Type 0
+  loaded_request_word st m n m' = (m'.1 ≡ m.1) × ((a slot number j : ℕ) → IsPlace m.0.book (request_word a slot number j) →
+      MayLoadRequest m.0 a slot number j → st.word ≡ place_at m.0.book (request_word a slot number j) →
+      LoadsRequestWord m.0.book m.0 m'.0 a slot number j n)

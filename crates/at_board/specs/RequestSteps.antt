@@ -1,5 +1,5 @@
 -- What a step on requests changes in the view of its seat.
-use Rattle.std.specs.Prelude.{◌≡◌, ℕ, ◌<◌, ◌≤◌, ◌++◌, List, [], ◌∷◌, length, map, slice_set, All}
+use Rattle.std.specs.Prelude.{◌≡◌, ℕ, ◌<◌, ◌≤◌, ◌++◌, List, [], ◌∷◌, length, map, slice_index, slice_set, All}
 use Rattle.std.specs.List.{range_with_len}
 use Rattle.at_ledger.specs.Book.{BookTerms}
 use Rattle.at_board.specs.declared.request.Request.{Request}
@@ -12,6 +12,7 @@ use Rattle.at_board.specs.Publications.{IsPrefix, count_of}
 use Rattle.at_board.specs.Sound.{AreTargets}
 use Rattle.at_board.specs.Steps.{IsHistory, with_part}
 use Rattle.at_board.specs.Views.{SeesRequest, asking_on, own_part}
+use Rattle.at_board.specs.Words.{request_words}
 
 -- the part that has this on an account
 abbrev pub part_asking : Part → ℕ → Asking → Part
@@ -47,3 +48,16 @@ pub record LoadsAnnounced (b : BookTerms) (before after : View) (a slot n : ℕ)
   pub history : IsHistory b after.seen
   pub same : after ≡ with_asking (record before { seen = after.seen; requests = before.requests ++ all_of a slot row }) a
       (with_row (asking_on (own_part before) a) slot n)
+
+-- a word of this request was loaded
+abbrev pub with_loaded : Asking → SeenRequest → Asking
+with_loaded w x = record w { requests = w.requests ++ x ∷ [] }
+
+-- a load of a word of an announced request: the seat has then seen the request, which no other was seen in place of
+pub record LoadsRequestWord (b : BookTerms) (before after : View) (a slot number j w : ℕ) : Type 0 where
+  pub request : Request
+  pub word : w ≡ slice_index (request_words request) j
+  pub known : (r : Request) → SeesRequest before a slot number r → r ≡ request
+  pub targets : AreTargets b request.targets
+  pub same : let x : SeenRequest = seen_as a slot number request in
+      after ≡ with_asking (record before { requests = before.requests ++ x ∷ [] }) a (with_loaded (asking_on (own_part before) a) x)

@@ -1,6 +1,6 @@
 //! What each step of the table tells its seat.
 
-ghost use Rattle.at_board.specs.Plays.{loaded_announced, loaded_length, published_record, stored_word};
+ghost use Rattle.at_board.specs.Plays.{loaded_announced, loaded_length, loaded_request_word, published_record, stored_word};
 
 use crate::view::View;
 use atomic_table::{Play, Split};
@@ -27,6 +27,12 @@ pub(crate) struct LoadAnnounced;
 
 impl Play<(), View> for LoadAnnounced {
     ghost then = { loaded_announced };
+}
+
+pub(crate) struct LoadRequestWord;
+
+impl Play<(), View> for LoadRequestWord {
+    ghost then = { loaded_request_word };
 }
 
 pub(crate) struct Cut;

@@ -2,13 +2,15 @@
 
 ghost use Rattle.std.specs.Prelude.{◌≡◌, ℕ, ◌+◌, ◌<◌, ◌≤◌, length, sum_by, take};
 ghost use Rattle.at_ledger.specs.Book.{account_of};
-ghost use Rattle.at_board.specs.Places.{IsPlace, announced_of, place_at, slots_of};
-ghost use Rattle.at_board.specs.RequestSteps.{LoadsAnnounced};
+ghost use Rattle.at_board.specs.Places.{IsPlace, announced_of, place_at, request_word, slots_of};
+ghost use Rattle.at_board.specs.RequestConditions.{MayLoadRequest};
+ghost use Rattle.at_board.specs.RequestSteps.{LoadsAnnounced, LoadsRequestWord};
 ghost use Rattle.at_board.specs.SeatView.{IsOf};
 ghost use Rattle.at_board.specs.Views.{HasSlot, asking_on, own_part};
 
 use crate::board::Board;
-use crate::plays::LoadAnnounced;
+use crate::plays::{LoadAnnounced, LoadRequestWord};
+use crate::request::REQUEST_WORDS;
 use crate::seat::BoardSeat;
 use crate::steps::Steps;
 use std::sync::ledger::Ledger;
@@ -49,12 +51,49 @@ impl Board {
         count as u32
     }
 
+    /// Loads a word of an announced request, in one step.
+    pub fn load_request_word<L: Ledger, X: Ledger>(
+        &self,
+        seat: &mut BoardSeat,
+        account: u32,
+        slot: u32,
+        number: u32,
+        j: u32,
+        steps: &mut Steps<L>,
+        exchanges: &mut Steps<X>,
+    ) -> u64
+        requires board { IsOf seat.old self.now }
+        requires request { MayLoadRequest seat.old.view account slot number j }
+        ensures told { LoadsRequestWord self.now.book seat.old.view seat.new.view account slot number j result }
+        ensures board { seat.new.board ≡ seat.old.board }
+        ensures steps { steps.new ≡ steps.old + 1 }
+        ensures exchanges { exchanges.new ≡ exchanges.old }
+    {
+        steps.tick();
+        let _process = seat.process();
+        let place = self.request_place(account, slot, number, j);
+        self.table
+            .shared
+            .load::<LoadRequestWord>(&mut seat.seat, place)
+    }
+
     /// Where the announced word of a slot stands.
     fn announced_place(&self, account: u32, slot: u32) -> usize
         requires { IsPlace self.now.book (announced_of account slot) }
         ensures place { result ≡ place_at self.now.book (announced_of account slot) }
     {
         self.slots_start + self.first_slot(account) + slot as usize
+    }
+
+    /// Where a word of a request stands.
+    fn request_place(&self, account: u32, slot: u32, number: u32, j: u32) -> usize
+        requires { IsPlace self.now.book (request_word account slot number j) }
+        ensures place { result ≡ place_at self.now.book (request_word account slot number j) }
+    {
+        let start = self.slots_start + self.first_slot(self.book.accounts());
+        let slots = self.first_slot(account) + slot as usize;
+        let requests = slots * self.book.request_room() as usize + number as usize;
+        start + requests * REQUEST_WORDS as usize + j as usize
     }
 
     /// How many slots the accounts before this one have.
