@@ -29,3 +29,5 @@ pub mod AnnouncedStep
 pub mod SlotPlaces
 pub mod RequestWordLaws
 pub mod RequestWordStep
+pub mod RequestStoreLaws
+pub mod RequestStoreStep

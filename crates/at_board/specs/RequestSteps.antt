@@ -61,3 +61,10 @@ pub record LoadsRequestWord (b : BookTerms) (before after : View) (a slot number
   pub targets : AreTargets b request.targets
   pub same : let x : SeenRequest = seen_as a slot number request in
       after ≡ with_asking (record before { requests = before.requests ++ x ∷ [] }) a (with_loaded (asking_on (own_part before) a) x)
+
+-- a word of the next request on an account is stored
+abbrev pub with_request_word : Asking → ℕ → ℕ → Asking
+with_request_word w j n = record w { stored = slice_set w.stored j n }
+
+abbrev pub StoresRequestWord : View → View → ℕ → ℕ → ℕ → Type 0
+StoresRequestWord before after a j n = after ≡ with_asking before a (with_request_word (asking_on (own_part before) a) j n)

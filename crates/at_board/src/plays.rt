@@ -1,6 +1,6 @@
 //! What each step of the table tells its seat.
 
-ghost use Rattle.at_board.specs.Plays.{loaded_announced, loaded_length, loaded_request_word, published_record, stored_word};
+ghost use Rattle.at_board.specs.Plays.{loaded_announced, loaded_length, loaded_request_word, published_record, stored_request_word, stored_word};
 
 use crate::view::View;
 use atomic_table::{Play, Split};
@@ -33,6 +33,12 @@ pub(crate) struct LoadRequestWord;
 
 impl Play<(), View> for LoadRequestWord {
     ghost then = { loaded_request_word };
+}
+
+pub(crate) struct StoreRequestWord;
+
+impl Play<(), View> for StoreRequestWord {
+    ghost then = { stored_request_word };
 }
 
 pub(crate) struct Cut;

@@ -2,14 +2,15 @@
 
 ghost use Rattle.std.specs.Prelude.{◌≡◌, ℕ, ◌+◌, ◌<◌, ◌≤◌, length, sum_by, take};
 ghost use Rattle.at_ledger.specs.Book.{account_of};
+ghost use Rattle.at_board.specs.Conditions.{MayAsk};
 ghost use Rattle.at_board.specs.Places.{IsPlace, announced_of, place_at, request_word, slots_of};
 ghost use Rattle.at_board.specs.RequestConditions.{MayLoadRequest};
-ghost use Rattle.at_board.specs.RequestSteps.{LoadsAnnounced, LoadsRequestWord};
+ghost use Rattle.at_board.specs.RequestSteps.{LoadsAnnounced, LoadsRequestWord, StoresRequestWord};
 ghost use Rattle.at_board.specs.SeatView.{IsOf};
 ghost use Rattle.at_board.specs.Views.{HasSlot, asking_on, own_part};
 
 use crate::board::Board;
-use crate::plays::{LoadAnnounced, LoadRequestWord};
+use crate::plays::{LoadAnnounced, LoadRequestWord, StoreRequestWord};
 use crate::request::REQUEST_WORDS;
 use crate::seat::BoardSeat;
 use crate::steps::Steps;
@@ -23,6 +24,33 @@ impl Board {
         ensures { result ≡ length (asking_on (own_part seat.now.view) account).announced }
     {
         seat.announced[account as usize]
+    }
+
+    /// Stores a word of the next request of the seat's process on an account, in one step.
+    pub fn store_request_word<L: Ledger, X: Ledger>(
+        &self,
+        seat: &mut BoardSeat,
+        account: u32,
+        j: u32,
+        w: u64,
+        steps: &mut Steps<L>,
+        exchanges: &mut Steps<X>,
+    )
+        requires board { IsOf seat.old self.now }
+        requires asks { (slot : ℕ) × MayAsk self.now.book seat.old.view account slot }
+        requires word { j < REQUEST_WORDS }
+        ensures stored { StoresRequestWord seat.old.view seat.new.view account j w }
+        ensures board { seat.new.board ≡ seat.old.board }
+        ensures steps { steps.new ≡ steps.old + 1 }
+        ensures exchanges { exchanges.new ≡ exchanges.old }
+    {
+        steps.tick();
+        let slot = self.own_slot(account, seat.process());
+        let number = self.announced(seat, account);
+        let place = self.request_place(account, slot, number, j);
+        self.table
+            .shared
+            .store::<StoreRequestWord>(&mut seat.seat, place, w);
     }
 
     /// Loads how many requests the owner at a slot of a shared account has announced, in one step.
@@ -75,6 +103,14 @@ impl Board {
         self.table
             .shared
             .load::<LoadRequestWord>(&mut seat.seat, place)
+    }
+
+    /// The slot of a process on an account that it shares.
+    fn own_slot(&self, account: u32, process: u32) -> u32
+        requires { (slot : ℕ) × HasSlot self.now.book process account slot }
+        ensures slot { HasSlot self.now.book process account result }
+    {
+        self.book.slot_of(account, process).unwrap()
     }
 
     /// Where the announced word of a slot stands.
