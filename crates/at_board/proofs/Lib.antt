@@ -31,3 +31,6 @@ pub mod RequestWordLaws
 pub mod RequestWordStep
 pub mod RequestStoreLaws
 pub mod RequestStoreStep
+pub mod AnnounceSound
+pub mod AnnounceLaws
+pub mod AnnounceStep

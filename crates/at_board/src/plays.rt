@@ -1,6 +1,6 @@
 //! What each step of the table tells its seat.
 
-ghost use Rattle.at_board.specs.Plays.{loaded_announced, loaded_length, loaded_request_word, published_record, stored_request_word, stored_word};
+ghost use Rattle.at_board.specs.Plays.{announced_request, loaded_announced, loaded_length, loaded_request_word, published_record, stored_request_word, stored_word};
 
 use crate::view::View;
 use atomic_table::{Play, Split};
@@ -39,6 +39,12 @@ pub(crate) struct StoreRequestWord;
 
 impl Play<(), View> for StoreRequestWord {
     ghost then = { stored_request_word };
+}
+
+pub(crate) struct Announce;
+
+impl Play<(), View> for Announce {
+    ghost then = { announced_request };
 }
 
 pub(crate) struct Cut;

@@ -2,15 +2,16 @@
 
 ghost use Rattle.std.specs.Prelude.{◌≡◌, ℕ, ◌+◌, ◌<◌, ◌≤◌, length, sum_by, take};
 ghost use Rattle.at_ledger.specs.Book.{account_of};
-ghost use Rattle.at_board.specs.Conditions.{MayAsk};
+ghost use Rattle.at_board.specs.declared.request.Request.{Request};
+ghost use Rattle.at_board.specs.Conditions.{MayAnnounce, MayAsk};
 ghost use Rattle.at_board.specs.Places.{IsPlace, announced_of, place_at, request_word, slots_of};
 ghost use Rattle.at_board.specs.RequestConditions.{MayLoadRequest};
-ghost use Rattle.at_board.specs.RequestSteps.{LoadsAnnounced, LoadsRequestWord, StoresRequestWord};
+ghost use Rattle.at_board.specs.RequestSteps.{Announces, LoadsAnnounced, LoadsRequestWord, StoresRequestWord};
 ghost use Rattle.at_board.specs.SeatView.{IsOf};
 ghost use Rattle.at_board.specs.Views.{HasSlot, asking_on, own_part};
 
 use crate::board::Board;
-use crate::plays::{LoadAnnounced, LoadRequestWord, StoreRequestWord};
+use crate::plays::{Announce, LoadAnnounced, LoadRequestWord, StoreRequestWord};
 use crate::request::REQUEST_WORDS;
 use crate::seat::BoardSeat;
 use crate::steps::Steps;
@@ -51,6 +52,31 @@ impl Board {
         self.table
             .shared
             .store::<StoreRequestWord>(&mut seat.seat, place, w);
+    }
+
+    /// Announces the next request of the seat's process on an account by a plain store of its announced word, in one step.
+    pub fn announce<L: Ledger, X: Ledger>(
+        &self,
+        seat: &mut BoardSeat,
+        account: u32,
+        steps: &mut Steps<L>,
+        exchanges: &mut Steps<X>,
+    )
+        requires board { IsOf seat.old self.now }
+        requires request { (slot : ℕ) × (r : Request) × MayAnnounce self.now.book seat.old.view account slot r }
+        ensures announced { (slot : ℕ) (r : Request) → MayAnnounce self.now.book seat.old.view account slot r → Announces self.now.book seat.old.view seat.new.view account slot r }
+        ensures board { seat.new.board ≡ seat.old.board }
+        ensures steps { steps.new ≡ steps.old + 1 }
+        ensures exchanges { exchanges.new ≡ exchanges.old }
+    {
+        steps.tick();
+        let slot = self.own_slot(account, seat.process());
+        let count = self.announced(seat, account) + 1;
+        let place = self.announced_place(account, slot);
+        self.table
+            .shared
+            .store::<Announce>(&mut seat.seat, place, u64::from(count));
+        seat.announced[account as usize] = count;
     }
 
     /// Loads how many requests the owner at a slot of a shared account has announced, in one step.
