@@ -34,3 +34,4 @@ pub mod RequestStoreStep
 pub mod AnnounceSound
 pub mod AnnounceLaws
 pub mod AnnounceStep
+pub mod AskingFacts

@@ -11,6 +11,8 @@ mod log_starts;
 mod plays;
 mod publication;
 mod request;
+#[cfg(test)]
+mod request_tests;
 mod requests;
 mod rule;
 mod seat;
