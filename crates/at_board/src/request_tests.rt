@@ -1,23 +1,29 @@
 //! A request is asked on a small board, and another process sees it.
 
-ghost use Rattle.std.specs.Prelude.{◌≡◌, ℕ, ◌<◌, length, IfSome};
+ghost use Rattle.std.specs.Prelude.{◌≡◌, ℕ, ◌<◌, length, slice_index_or, IfSome};
 ghost use Rattle.at_ledger.specs.Book.{account_of};
-ghost use Rattle.at_board.specs.Cuts.{AreNew, starting_seat};
+ghost use Rattle.at_board.specs.Cuts.{starting_seat};
 ghost use Rattle.at_board.specs.Places.{slots_of};
-ghost use Rattle.at_board.specs.SeatView.{IsOf};
+ghost use Rattle.at_board.specs.SeatView.{IsOf, SeatView};
 ghost use Rattle.at_board.specs.Views.{HasSlot};
 
 use crate::{Board, BoardSeat, Steps};
 use at_ledger::{Book, Draft, DraftAccount};
 use std::alloc::Global;
 use std::marker::Brand;
+use std::process::Abort;
 use std::sync::ledger::{Blank, Ledger};
 use std::test::Fail;
 
 /// A book of two processes that share its only account.
 fn small_book(alloc: Global) -> Result<Book, Fail> {
     let owners = vec![in alloc; 0u64, 1]?;
-    let accounts = vec![in alloc; DraftAccount { opening: 100, owners }]?;
+    let accounts = vec![in alloc;
+        DraftAccount {
+            opening: 100,
+            owners
+        },
+    ]?;
     let draft = Draft {
         processes: 2,
         own_room: 4,
@@ -38,10 +44,11 @@ fn slot_on(book: &Book, account: u32, process: u32) -> Option<u32>
     }
 }
 
-/// The last seat of a new board.
+/// The last of the seats that are left of a new board's.
 fn last_seat(board: &Board, seats: &mut Vec<BoardSeat>) -> Option<BoardSeat>
-    requires { AreNew board.now.book board.now.id seats.old.items }
-    ensures { IfSome result (λ seat. (seat.board ≡ board.now.id) × (seat.view ≡ starting_seat board.now.book seat.view.first)) }
+    requires { (p : ℕ) (d : SeatView) → p < length seats.old.items → slice_index_or seats.old.items p d ≡ record { board = board.now.id; view = starting_seat board.now.book p } }
+    ensures seat { IfSome result (λ seat. (seat.board ≡ board.now.id) × (seat.view ≡ starting_seat board.now.book seat.view.first)) }
+    ensures rest { (p : ℕ) (d : SeatView) → p < length seats.new.items → slice_index_or seats.new.items p d ≡ record { board = board.now.id; view = starting_seat board.now.book p } }
 {
     seats.pop()
 }
@@ -84,4 +91,40 @@ fn first_amount<L: Ledger, X: Ledger>(
         return None;
     }
     Some(board.load_request_word(seat, 0, slot, 0, 1, steps, exchanges))
+}
+
+/// One process asks, and the other sees what.
+fn asks_and_sees<L: Ledger, X: Ledger, R: Abort>(
+    rt: &R,
+    alloc: Global,
+    one: Blank,
+    other: Blank,
+) -> Result<(), Fail>
+    requires names { (one.name ≡ L.name) × (other.name ≡ X.name) }
+    requires parts { (one.parts ≡ L.parts) × (other.parts ≡ X.parts) }
+    requires some { (0 < one.parts) × (0 < other.parts) }
+{
+    let (steps, exchanges) = (&mut Steps::<L>::new(one), &mut Steps::<X>::new(other));
+    let book = small_book(alloc)?;
+    let (board, mut seats) = Board::new(alloc, &book)?;
+    assert_eq!(rt; board.book().request_room(), 4);
+    let mut seat = last_seat(&board, &mut seats).expect(rt, "a seat");
+    let slot = slot_on(board.book(), 0, seat.process()).expect(rt, "an owner");
+    assert_eq!(rt; (seat.process(), seat.published(), slot), (1, 0, 1));
+    assert_eq!(rt; board.announced(&seat, 0), 0);
+    ask(&board, &mut seat, steps, exchanges);
+    assert_eq!(rt; board.announced(&seat, 0), 1);
+    let mut second = last_seat(&board, &mut seats).expect(rt, "a seat");
+    assert!(rt; second.process() < board.book().processes());
+    assert_eq!(rt; board.load_length(&mut second, 0, steps, exchanges), 0);
+    assert_eq!(rt;
+        first_amount(&board, &mut second, slot, steps, exchanges),
+        Some(7)
+    );
+    Ok(())
+}
+
+#[test]
+fn a_request_is_seen(rt: HostRuntime) -> Result<(), Fail> {
+    asks_and_sees::<Brand, Brand, _>(&rt, rt.alloc(), Blank::new(1), Blank::new(1))
 }
