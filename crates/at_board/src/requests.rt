@@ -47,8 +47,8 @@ impl Board {
     {
         steps.tick();
         let slot = self.own_slot(account, seat.process());
-        let number = self.announced(seat, account);
-        let place = self.request_place(account, slot, number, j);
+        let next = self.announced(seat, account);
+        let place = self.request_place(account, slot, next, j);
         self.table
             .shared
             .store::<StoreRequestWord>(&mut seat.seat, place, w);
@@ -70,13 +70,14 @@ impl Board {
         ensures exchanges { exchanges.new ≡ exchanges.old }
     {
         steps.tick();
-        let slot = self.own_slot(account, seat.process());
+        let own = self.own_slot(account, seat.process());
         let count = self.announced(seat, account) + 1;
-        let place = self.announced_place(account, slot);
+        let place = self.announced_place(account, own);
         self.table
             .shared
             .store::<Announce>(&mut seat.seat, place, u64::from(count));
-        seat.announced[account as usize] = count;
+        let index = account as usize;
+        seat.announced[index] = count;
     }
 
     /// Loads how many requests the owner at a slot of a shared account has announced, in one step.

@@ -18,12 +18,12 @@ store-requires g c =
     let b : BookTerms = c.self.inside.book in
     let v : View = c.seat.inside.seat.me.0 in
     let a = c.args.account in
-    let slot = c.own_slot-slot.result in
+    let slot = c.own_slot-own.result in
     let mine : v ≡ c.args.seat.now.view = ap (λ s. s.view) c.seat.view_is in
     let ours : b ≡ c.args.self.now.book = ap (λ t. t.book) c.self.view_is in
     let book : v.book ≡ b = ap (λ (t : View). t.book) mine ∙ (c.requires.board.book ∙ sym ours) in
     let has : HasSlot c.args.self.now.book c.args.seat.now.view.first a slot =
-    subst (λ p. HasSlot c.args.self.now.book p a slot) c.process.ensures.process c.own_slot-slot.ensures.slot in
+    subst (λ p. HasSlot c.args.self.now.book p a slot) c.process.ensures.process c.own_slot-own.ensures.slot in
     let at : c.announced_place-place.result ≡ place_at b (announced_of a slot) =
     subst (λ (t : BookTerms). c.announced_place-place.result ≡ place_at t (announced_of a slot)) (sym ours) c.announced_place-place.ensures.place in
     let may : (k : ℕ) (q : Request) → MayAnnounce c.args.self.now.book c.args.seat.now.view a k q → MayAnnounce b v a slot q = λ k q asked.
@@ -44,12 +44,12 @@ invariant_of-seat g c =
     let b : BookTerms = c.self.inside.book in
     let v : View = c.seat.inside.seat.me.0 in
     let a = c.args.account in
-    let slot = c.own_slot-slot.result in
+    let slot = c.own_slot-own.result in
     let mine : v ≡ c.args.seat.now.view = ap (λ s. s.view) c.seat.view_is in
     let ours : b ≡ c.args.self.now.book = ap (λ t. t.book) c.self.view_is in
     let book : v.book ≡ b = ap (λ (t : View). t.book) mine ∙ (c.requires.board.book ∙ sym ours) in
     let has : HasSlot c.args.self.now.book c.args.seat.now.view.first a slot =
-    subst (λ p. HasSlot c.args.self.now.book p a slot) c.process.ensures.process c.own_slot-slot.ensures.slot in
+    subst (λ p. HasSlot c.args.self.now.book p a slot) c.process.ensures.process c.own_slot-own.ensures.slot in
     let at : c.announced_place-place.result ≡ place_at b (announced_of a slot) =
     subst (λ (t : BookTerms). c.announced_place-place.result ≡ place_at t (announced_of a slot)) (sym ours) c.announced_place-place.ensures.place in
     let may : (k : ℕ) (q : Request) → MayAnnounce c.args.self.now.book c.args.seat.now.view a k q → MayAnnounce b v a slot q = λ k q asked.
@@ -73,12 +73,12 @@ returns-clause-announced g c = λ k q asks.
     let b : BookTerms = c.self.inside.book in
     let v : View = c.seat.inside.seat.me.0 in
     let a = c.args.account in
-    let slot = c.own_slot-slot.result in
+    let slot = c.own_slot-own.result in
     let mine : v ≡ c.args.seat.now.view = ap (λ s. s.view) c.seat.view_is in
     let ours : b ≡ c.args.self.now.book = ap (λ t. t.book) c.self.view_is in
     let book : v.book ≡ b = ap (λ (t : View). t.book) mine ∙ (c.requires.board.book ∙ sym ours) in
     let has : HasSlot c.args.self.now.book c.args.seat.now.view.first a slot =
-    subst (λ p. HasSlot c.args.self.now.book p a slot) c.process.ensures.process c.own_slot-slot.ensures.slot in
+    subst (λ p. HasSlot c.args.self.now.book p a slot) c.process.ensures.process c.own_slot-own.ensures.slot in
     let at : c.announced_place-place.result ≡ place_at b (announced_of a slot) =
     subst (λ (t : BookTerms). c.announced_place-place.result ≡ place_at t (announced_of a slot)) (sym ours) c.announced_place-place.ensures.place in
     let may : (k : ℕ) (q : Request) → MayAnnounce c.args.self.now.book c.args.seat.now.view a k q → MayAnnounce b v a slot q = λ k q asked.

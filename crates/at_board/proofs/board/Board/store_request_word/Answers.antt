@@ -24,7 +24,7 @@ store-requires g c =
     (subst (λ p. HasSlot c.args.self.now.book p a slot) c.process.ensures.process c.own_slot-slot.ensures.slot) in
     let may : MayAsk b v a slot = subst (λ (t : BookTerms). MayAsk t v a slot) (sym ours) (subst (λ (t : View). MayAsk c.args.self.now.book t a slot) (sym mine) asks) in
     let at : c.request_place-place.result ≡ place_at b (request_word a slot (next_number v a) c.args.j) =
-    c.request_place-place.ensures.place ∙ (λ t. place_at (sym ours t) (request_word a slot ((c.announced-number.ensures ∙ ap (λ u. next_number u a) (sym mine)) t) c.args.j)) in (
+    c.request_place-place.ensures.place ∙ (λ t. place_at (sym ours t) (request_word a slot ((c.announced-next.ensures ∙ ap (λ u. next_number u a) (sym mine)) t) c.args.j)) in (
       ap (λ s. s.board) c.seat.view_is ∙ (c.requires.board.id ∙ sym (ap (λ t. t.id) c.self.view_is)),
       omega (arith, c.self.invariant.1, at, place_at-below b (request_word a slot (next_number v a) c.args.j) (place-MayAsk b v a slot c.args.j may c.requires.word)),
       stores_request_word_at c.self.inside.table.shared.key.value b c.self.inside.table.shared.table_id.slots c.seat.inside.seat.id c.seat.inside.seat.me
@@ -46,7 +46,7 @@ invariant_of-seat g c =
     (subst (λ p. HasSlot c.args.self.now.book p a slot) c.process.ensures.process c.own_slot-slot.ensures.slot) in
     let may : MayAsk b v a slot = subst (λ (t : BookTerms). MayAsk t v a slot) (sym ours) (subst (λ (t : View). MayAsk c.args.self.now.book t a slot) (sym mine) asks) in
     let at : c.request_place-place.result ≡ place_at b (request_word a slot (next_number v a) c.args.j) =
-    c.request_place-place.ensures.place ∙ (λ t. place_at (sym ours t) (request_word a slot ((c.announced-number.ensures ∙ ap (λ u. next_number u a) (sym mine)) t) c.args.j)) in
+    c.request_place-place.ensures.place ∙ (λ t. place_at (sym ours t) (request_word a slot ((c.announced-next.ensures ∙ ap (λ u. next_number u a) (sym mine)) t) c.args.j)) in
     let w : View = c.store.new.seat.me.0 in
     let told : StoresRequestWord v w a c.args.j c.args.w =
     StoresRequestWord-played b c.self.inside.table.shared.table_id.slots c.seat.inside.seat.me c.store.new.seat.me a slot c.args.j c.args.w
@@ -71,7 +71,7 @@ returns-clause-stored g c =
     (subst (λ p. HasSlot c.args.self.now.book p a slot) c.process.ensures.process c.own_slot-slot.ensures.slot) in
     let may : MayAsk b v a slot = subst (λ (t : BookTerms). MayAsk t v a slot) (sym ours) (subst (λ (t : View). MayAsk c.args.self.now.book t a slot) (sym mine) asks) in
     let at : c.request_place-place.result ≡ place_at b (request_word a slot (next_number v a) c.args.j) =
-    c.request_place-place.ensures.place ∙ (λ t. place_at (sym ours t) (request_word a slot ((c.announced-number.ensures ∙ ap (λ u. next_number u a) (sym mine)) t) c.args.j)) in
+    c.request_place-place.ensures.place ∙ (λ t. place_at (sym ours t) (request_word a slot ((c.announced-next.ensures ∙ ap (λ u. next_number u a) (sym mine)) t) c.args.j)) in
     let w : View = c.store.new.seat.me.0 in
     let told : StoresRequestWord v w a c.args.j c.args.w =
     StoresRequestWord-played b c.self.inside.table.shared.table_id.slots c.seat.inside.seat.me c.store.new.seat.me a slot c.args.j c.args.w
