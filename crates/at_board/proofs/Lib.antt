@@ -41,3 +41,11 @@ pub mod AnnouncedLaws
 pub mod TableSteps
 pub mod AnnouncedStep
 pub mod SlotPlaces
+pub mod RequestWordLaws
+pub mod RequestWordStep
+pub mod RequestStoreLaws
+pub mod RequestStoreStep
+pub mod AnnounceSound
+pub mod AnnounceLaws
+pub mod AnnounceStep
+pub mod AskingFacts

@@ -115,3 +115,27 @@ pub SeesPlaces-asking : (v : View) (list : List Publication) (requests : List Se
     → All (λ x. IsPlace v.book (request_word x.account x.slot x.number 0)) requests
     → SeesPlaces (with_asking (record v { seen = list; requests = requests }) a w)
 SeesPlaces-asking v list requests a w sees places = record { requests = places; decisions = sees.decisions }
+
+-- one count is that of what is new on an account
+pub HasCounts-counted : (v : View) (list : List Publication) (requests : List SeenRequest) (a n : ℕ) (w : Asking) (counts : List ℕ) → 0 < length v.parts
+    → n ≡ length w.announced → HasCounts v counts → HasCounts (with_asking (record v { seen = list; requests = requests }) a w) (set counts a n)
+HasCounts-counted v list requests a n w counts part counted has =
+    let q : Part = own_part v in
+    let u : View = record v { seen = list; requests = requests } in
+    let own = own_part-with_part u (part_asking q a w) part in
+    record {
+      accounts = ap (λ (t : Part). length t.asking) own ∙ (length-set q.asking a w ∙ has.accounts);
+      sized = length-set counts a n ∙ has.sized;
+      counted = λ c within. elim (cases_eq c a) as (λ _. get_or (set counts a n) c 0 ≡ length (asking_on (own_part (with_asking u a w)) c).announced) [
+        | inl here ↦
+            let inside : (a < length counts) × (a < length q.asking) = (omega (arith, within, has.sized, here), omega (arith, within, has.accounts, here)) in
+            let left : get_or (set counts a n) c 0 ≡ n = ap (λ k. get_or (set counts a n) k 0) here ∙ get_or-set_same counts a n 0 inside.0 in
+            let right : asking_on (own_part (with_asking u a w)) c ≡ w =
+            ap (λ (t : Part). asking_on t c) own ∙ (ap (λ k. get_or (set q.asking a w) k no_asking) here ∙ get_or-set_same q.asking a w no_asking inside.1) in
+            left ∙ (counted ∙ sym (ap (λ (t : Asking). length t.announced) right))
+        | inr apart ↦
+            let right : asking_on (own_part (with_asking u a w)) c ≡ asking_on q c =
+            ap (λ (t : Part). asking_on t c) own ∙ get_or-set_other q.asking a c w no_asking apart in
+            get_or-set_other counts a c n 0 apart ∙ (has.counted c within ∙ sym (ap (λ (t : Asking). length t.announced) right))
+      ];
+    }

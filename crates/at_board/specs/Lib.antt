@@ -21,6 +21,7 @@ pub mod Same
 pub mod LearnSteps
 pub mod DecideSteps
 pub mod Cuts
+pub mod RequestConditions
 pub mod RequestSteps
 pub mod Plays
 pub mod SeatView

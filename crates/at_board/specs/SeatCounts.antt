@@ -14,3 +14,8 @@ pub record HasCounts (view : View) (announced : List ℕ) : Type 0 where
 pub record SeesPlaces (view : View) : Type 0 where
   pub requests : All (λ x. IsPlace view.book (request_word x.account x.slot x.number 0)) view.requests
   pub decisions : All (λ x. IsPlace view.book (request_word x.account x.decision.slot x.decision.number 0)) view.decisions
+
+-- the view has one part, which has something on each account
+pub record HasOwnPart (view : View) : Type 0 where
+  pub one_part : length view.parts ≡ 1
+  pub accounts : length (own_part view).asking ≡ length view.book.accounts

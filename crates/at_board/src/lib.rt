@@ -17,6 +17,8 @@ mod plays;
 mod publication;
 mod records;
 mod request;
+#[cfg(test)]
+mod request_tests;
 mod requests;
 mod rounds;
 mod rule;

@@ -1,7 +1,7 @@
 //! What each step of the table tells its seat.
 
 ghost use Rattle.at_board.specs.DecideSteps.{decided_round};
-ghost use Rattle.at_board.specs.Plays.{loaded_announced, loaded_length, published_record, stored_word};
+ghost use Rattle.at_board.specs.Plays.{announced_request, loaded_announced, loaded_length, loaded_request_word, published_record, stored_request_word, stored_word};
 ghost use Rattle.at_board.specs.RecordWords.{loaded_word};
 
 use crate::view::View;
@@ -35,6 +35,24 @@ pub(crate) struct LoadAnnounced;
 
 impl Play<(), View> for LoadAnnounced {
     ghost then = { loaded_announced };
+}
+
+pub(crate) struct LoadRequestWord;
+
+impl Play<(), View> for LoadRequestWord {
+    ghost then = { loaded_request_word };
+}
+
+pub(crate) struct StoreRequestWord;
+
+impl Play<(), View> for StoreRequestWord {
+    ghost then = { stored_request_word };
+}
+
+pub(crate) struct Announce;
+
+impl Play<(), View> for Announce {
+    ghost then = { announced_request };
 }
 
 pub(crate) struct Decide;

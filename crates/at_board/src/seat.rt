@@ -30,11 +30,14 @@ impl Model for BoardSeat {
 }
 
 impl BoardSeat {
+    ghost use Rattle.at_board.specs.SeatCounts.{HasOwnPart, SeesPlaces};
     ghost use Rattle.at_board.specs.Views.{own_part};
 
     /// The process that the seat belongs to.
     pub fn process(&self) -> u32
-        ensures { result ≡ self.now.view.first }
+        ensures process { result ≡ self.now.view.first }
+        ensures part { HasOwnPart self.now.view }
+        ensures places { SeesPlaces self.now.view }
     {
         self.process
     }
