@@ -1,5 +1,5 @@
 -- What is known at the end of a board.
-use Rattle.std.proofs.Common.{◌≡◌, ℕ, ◌+◌, ◌-◌, ◌<◌, List, [], ◌∷◌, ◌++◌, length, get_or, None, refl, sym, subst, ◌∙◌, arith, inl, inr}
+use Rattle.std.proofs.Common.{ap, ◌≡◌, ℕ, ◌+◌, ◌-◌, ◌<◌, List, [], ◌∷◌, ◌++◌, length, get_or, None, refl, sym, subst, ◌∙◌, arith, inl, inr}
 use Rattle.std.specs.List.{All, Contains}
 use Rattle.std.proofs.lemmas.Bool.{cases_lt}
 use Rattle.std.proofs.lemmas.List.{get_or-append_right, get_or_append_left, get_or_default, length-append, length_push}
@@ -11,7 +11,8 @@ use Rattle.at_board.proofs.RecordLaws.{All-Contains, lists_of-Knows}
 use Rattle.at_board.specs.declared.publication.Publication.{Publication}
 use Rattle.at_board.specs.declared.view.View.{View}
 use Rattle.at_board.specs.BoardState.{BoardState}
-use Rattle.at_board.specs.Ends.{Gathers, IsEnd, IsFreeSeat, gathered}
+use Rattle.at_board.specs.Cuts.{AreNew, starting_seat}
+use Rattle.at_board.specs.Ends.{AreAllFree, Gathers, IsEnd, IsFreeSeat, gathered}
 use Rattle.at_board.specs.Publications.{IsPrefix}
 use Rattle.at_board.specs.RecordWords.{lists_of}
 use Rattle.at_board.specs.Seated.{Ruled}
@@ -91,3 +92,17 @@ module _ {S : Type 0} where
             (lists_of-Knows b last.0.words s v knows) (gathers.seen k d within i list inside);
         history = IsHistory-Sound b last.0.words s ruled.shown ruled.sound book.begun;
       }
+
+-- all seats of a new board hold no cell
+pub AreAllFree-AreNew : (b : BookTerms) (board : BoardView) (seats : List SeatView) → board.book ≡ b → AreNew b board.id seats → AreAllFree board seats
+AreAllFree-AreNew b board seats same new = record {
+  count = new.count ∙ sym (ap (λ (t : BookTerms). t.processes) same);
+  each = λ p d within.
+      let inside : p < b.processes = subst (λ (t : BookTerms). p < t.processes) same within in
+      let first : IsFreeSeat board p (record { board = board.id; view = starting_seat b p }) = record {
+        of_board = record { id = refl; book = sym same };
+        process = refl;
+        free = refl;
+      } in
+      subst (IsFreeSeat board p) (sym (new.each p d inside)) first;
+}

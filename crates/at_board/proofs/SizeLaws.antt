@@ -24,7 +24,7 @@ sum_by-mul f k [] = omega arith
 sum_by-mul f k (x ∷ xs) =
     omega (arith, sum_by-cons (λ y. f y * k) x xs, ap (λ n. n * k) (sum_by-cons f x xs), sum_by-mul f k xs)
 
-mul-one-le : (k q : ℕ) → 1 ≤ q → k ≤ k * q
+pub mul-one-le : (k q : ℕ) → 1 ≤ q → k ≤ k * q
 mul-one-le k q some = omega (arith, mul-le k 1 k q (omega arith) some)
 
 sum_by-range_const : (k a n : ℕ) → sum_by (λ (p : ℕ). k) (range_with_len a n) ≡ n * k

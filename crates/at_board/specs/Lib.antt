@@ -28,3 +28,4 @@ pub mod SeatView
 pub mod SeatCounts
 pub mod Seated
 pub mod Ends
+pub mod SmallBoard

@@ -22,6 +22,8 @@ mod request;
 #[cfg(test)]
 mod request_tests;
 mod requests;
+#[cfg(test)]
+mod round_tests;
 mod rounds;
 mod rule;
 mod seat;

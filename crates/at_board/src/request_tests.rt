@@ -1,11 +1,12 @@
 //! A request is asked on a small board, and another process sees it.
 
-ghost use Rattle.std.specs.Prelude.{◌≡◌, ℕ, ◌<◌, length, slice_index_or, IfSome};
+ghost use Rattle.std.specs.Prelude.{◌≡◌, ℕ, ◌<◌, length, slice_index_or, IfSome, None};
 ghost use Rattle.at_ledger.specs.Book.{account_of};
 ghost use Rattle.at_board.specs.Cuts.{starting_seat};
 ghost use Rattle.at_board.specs.Places.{slots_of};
 ghost use Rattle.at_board.specs.SeatView.{IsOf, SeatView};
-ghost use Rattle.at_board.specs.Views.{HasSlot};
+ghost use Rattle.at_board.specs.SmallBoard.{payment};
+ghost use Rattle.at_board.specs.Views.{HasSlot, SeesRequest, own_part};
 
 use crate::{Board, BoardSeat, Steps};
 use at_ledger::{Book, Draft, DraftAccount};
@@ -16,7 +17,7 @@ use std::sync::ledger::{Blank, Ledger};
 use std::test::Fail;
 
 /// A book of two processes that share its only account.
-fn small_book(alloc: Global) -> Result<Book, Fail> {
+pub(crate) fn small_book(alloc: Global) -> Result<Book, Fail> {
     let owners = vec![in alloc; 0u64, 1]?;
     let accounts = vec![in alloc;
         DraftAccount {
@@ -34,7 +35,7 @@ fn small_book(alloc: Global) -> Result<Book, Fail> {
 }
 
 /// The slot of a process on an account that it shares.
-fn slot_on(book: &Book, account: u32, process: u32) -> Option<u32>
+pub(crate) fn slot_on(book: &Book, account: u32, process: u32) -> Option<u32>
     ensures { IfSome result (λ slot. HasSlot book.now process account slot) }
 {
     if account < book.accounts() && 2 <= book.owner_count(account) {
@@ -54,7 +55,7 @@ pub(crate) fn last_seat(board: &Board, seats: &mut Vec<BoardSeat>) -> Option<Boa
 }
 
 /// Asks for a payment of 7 to account 0, as the first request of the seat's process.
-fn ask<L: Ledger, X: Ledger>(
+pub(crate) fn ask<L: Ledger, X: Ledger>(
     board: &Board,
     seat: &mut BoardSeat,
     steps: &mut Steps<L>,
@@ -65,6 +66,8 @@ fn ask<L: Ledger, X: Ledger>(
     requires slot { (slot : ℕ) × HasSlot board.now.book seat.old.view.first 0 slot }
     ensures board { IsOf seat.new board.now }
     ensures process { seat.new.view.first ≡ seat.old.view.first }
+    ensures request { (slot : ℕ) → HasSlot board.now.book seat.old.view.first 0 slot → SeesRequest seat.new.view 0 slot 0 payment }
+    ensures free { (own_part seat.new.view).held ≡ None }
 {
     let _accounts = board.book().accounts();
     let _process = seat.process();
