@@ -15,6 +15,8 @@ mod note;
 mod notes;
 mod plays;
 mod publication;
+#[cfg(test)]
+mod record_tests;
 mod records;
 mod request;
 #[cfg(test)]
