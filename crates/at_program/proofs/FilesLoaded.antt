@@ -1,6 +1,7 @@
 -- Files loaded one after another.
-use Rattle.std.proofs.Common.{◌≡◌, ℕ, ◌+◌, ◌<◌, List, [], ◌∷◌, ◌++◌, length, take, drop, get_or, Result, Ok, Err, Bool, true, ◌==◌, eq-eqb, refl, sym, ap, ◌∙◌, arith, suc, ◌⊎◌, inl, inr, length-append, String, string_bytes, Vec}
+use Rattle.std.proofs.Common.{◌≡◌, ℕ, ◌+◌, ◌<◌, List, [], ◌∷◌, ◌++◌, length, take, drop, get_or, Result, Ok, Err, Bool, true, false, ◌==◌, eq-eqb, refl, sym, ap, ◌∙◌, arith, suc, ◌⊎◌, inl, inr, length-append, String, string_bytes, Vec}
 use Rattle.std.specs.Global.{Global}
+use Rattle.std.proofs.lemmas.Bool.Decides.{nat_tests}
 use Rattle.std.proofs.lemmas.List.{take_more, take-append-drop, length-take-le, get_or-map, map-append}
 use Rattle.std.proofs.Math.Seq.{drop-cons, get_or-append_seam}
 use Rattle.std.proofs.Math.ListN.{get_or-append}
@@ -10,6 +11,8 @@ use Rattle.at_ledger.specs.declared.call.Call.{Call}
 use Rattle.at_files.specs.Names.{NameList}
 use Rattle.at_files.specs.BookRecords.{NamedBook}
 use Rattle.at_report.specs.declared.status.Status.{Status}
+use Rattle.at_report.specs.declared.status.Status.TheVariants as status
+use Rattle.at_report.specs.declared.status.UsageFault.TheVariants as usage
 use Rattle.at_program.specs.Words.{Form, Word, words_of}
 use Rattle.at_program.specs.Loading.{EachSpells, Files, IsFileReached, MayReach, SpellsCalls, after, book_loaded, calls_before, calls_loaded, calls_of, files_loaded, loaded}
 
@@ -131,3 +134,17 @@ pub loaded-refused : (files : Files) (form : Form) (b : NamedBook) (refusal : St
 loaded-refused files form b refusal read enough refused =
     let as_many : length form.payments == b.book.processes ≡ true = eq-eqb _ _ enough in
     rw (read, as_many, refused) refl
+
+-- a form that doesn't name a file for each process
+pub loaded-count : (files : Files) (form : Form) (b : NamedBook) (wanted given : ℕ) → book_loaded files form.book ≡ Ok b → length form.payments ≡ given → wanted ≡ b.book.processes
+    → ¬ (given ≡ wanted) → loaded files form ≡ Err (status.Usage (usage.Files wanted given))
+loaded-count files form b wanted given read given_is wanted_is other =
+    let test : (length form.payments == b.book.processes) ≡ false = grind (arith, nat_tests) in
+    rw (read, test, wanted_is, ← given_is) refl
+
+-- the calls beside the book that was read
+pub loaded-files : (files : Files) (form : Form) (b : NamedBook) (calls : List (List Call)) → book_loaded files form.book ≡ Ok b → length form.payments ≡ b.book.processes
+    → files_loaded files b.names 0 form.payments ≡ Ok calls → loaded files form ≡ Ok (record { book = b.book; names = b.names; files = calls })
+loaded-files files form b calls read enough all =
+    let as_many : length form.payments == b.book.processes ≡ true = eq-eqb _ _ enough in
+    rw (read, as_many, all) refl
