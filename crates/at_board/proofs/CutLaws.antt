@@ -4,6 +4,7 @@ use Rattle.std.proofs.lemmas.List.{drop-replicate, get_or_append_left, get_or_pu
 use lib.ListN.{get_elem?}
 use mathlib.Core.Option.{some, some-injective, some-ne-none}
 use Rattle.std.proofs.lemmas.Bool.{cases_eq, cases_lt, eq-eqb, le-ltb, lt-ltb, ne_eqb}
+use Rattle.std.proofs.lemmas.List.Elements.{All-nil}
 use Rattle.std.proofs.lemmas.List.{get_or-drop, get_or-take, length-drop, length-set, length-take}
 use Rattle.atomic_table.proofs.Lists.{at_last, at_longer, at_set, set_else, set_here}
 use Rattle.at_ledger.specs.Book.{BookTerms, IsBegun, IsBook}
@@ -175,6 +176,8 @@ pub IsHistory-nil : (b : BookTerms) → IsBegun b → IsHistory b []
 IsHistory-nil b begun = record {
   views = λ m within. absurd (omega arith);
   entries = λ m within. absurd (omega arith);
+  decisions = λ m within. absurd (omega arith);
+  agree = λ m k within inside. absurd (omega arith);
   room = λ p within. omega (arith, ap length (publications_of-nil p));
   runs = λ m within. subst (IsRun b) (sym (take_all m [] (omega arith))) (IsRun-nil b begun);
 }
@@ -207,6 +210,7 @@ IsSeat-starting b p book within = record {
   known = within;
   begun = book;
   history = IsHistory-nil b book.begun;
+  joined = All-nil (IsHistory b);
 }
 
 -- the seat of a process on a new board

@@ -10,11 +10,10 @@ use Rattle.at_ledger.specs.Call.{AreTargetsOn, TargetPair, amount_of}
 use Rattle.at_ledger.specs.State.{LedgerState, asked_place, credited}
 use Rattle.at_board.proofs.PayLaws.{get_or-credited, length-credited, sum-credited}
 use Rattle.at_board.proofs.RoundLaws.{one_if, sum_by-firsts-le, sum_by-firsts_new}
-use Rattle.at_board.proofs.SoundRounds.{named, names}
 use Rattle.at_board.specs.declared.publication.Publication.{Publication}
 use Rattle.at_board.specs.Balances.{IsCovered, amount_for, credit_of, credits, debit_of, debits}
-use Rattle.at_board.specs.Entries.{is_own}
-use Rattle.at_board.specs.Rounds.{firsts, owns_of, repeats}
+use Rattle.at_board.specs.Entries.{is_own, names}
+use Rattle.at_board.specs.Rounds.{firsts, named, owns_of, repeats}
 use Rattle.at_board.specs.Views.{HasSlot}
 
 -- a state of the ledger over the book

@@ -12,11 +12,12 @@ use Rattle.at_ledger.specs.Call.{TargetPair}
 use Rattle.at_board.specs.declared.publication.Entry.{Entry}
 use Rattle.at_board.specs.declared.publication.Entry.TheVariants.{Own, Round}
 use Rattle.at_board.specs.declared.publication.Publication.{Publication}
+use Rattle.at_board.specs.declared.request.Request.{Request}
 use Rattle.at_board.specs.BoardState.{BoardState}
 use Rattle.at_board.specs.Entries.{targets_of}
 use Rattle.at_board.specs.Sound.{AreTargets, IsSoundDecision, IsSoundEntry, Sound}
 use Rattle.at_board.specs.TargetsWord.{ArePacked, accounts_of, targets_word}
-use Rattle.at_board.specs.Words.{amount_words, decision_word, head_of, record_words}
+use Rattle.at_board.specs.Words.{amount_words, decision_word, head_of, record_words, request_words}
 
 -- the numbers of an entry fit its words
 abbrev pub IsForm : Entry → Type 0
@@ -24,7 +25,7 @@ IsForm (Own from targets) = (from < 2 ^ 16) × ArePacked (accounts_of targets)
 IsForm (Round account round decision targets) =
     (account < 2 ^ 16) × (round < 2 ^ 31) × InRange decision × ArePacked (accounts_of targets)
 
-ArePacked-AreTargets : (b : BookTerms) (targets : List TargetPair) → IsBegun b → AreTargets b targets → ArePacked (accounts_of targets)
+pub ArePacked-AreTargets : (b : BookTerms) (targets : List TargetPair) → IsBegun b → AreTargets b targets → ArePacked (accounts_of targets)
 ArePacked-AreTargets b targets begun good = record {
   some = omega (arith, good.some, length-map targets (λ (t : TargetPair). t.0));
   few = omega (arith, good.few, length-map targets (λ (t : TargetPair). t.0));
@@ -99,7 +100,7 @@ same_target xs ys k sized account amount within d =
     let pair : get_or xs k (0, 0) ≡ get_or ys k (0, 0) = λ t. (first t, amount t) in
     get_or_default xs k d (0, 0) within ∙ (pair ∙ get_or_default ys k (0, 0) d there)
 
-same_targets : (xs ys : List TargetPair) → ArePacked (accounts_of xs) → ArePacked (accounts_of ys)
+pub same_targets : (xs ys : List TargetPair) → ArePacked (accounts_of xs) → ArePacked (accounts_of ys)
     → targets_word (accounts_of xs) ≡ targets_word (accounts_of ys) → amount_words xs ≡ amount_words ys → xs ≡ ys
 same_targets xs ys one other word amounts =
     let f : TargetPair → ℕ = λ t. t.0 in
@@ -127,7 +128,7 @@ same_fields : (a b c d a' b' c' d' : ℕ) → a < 2 → b < 8 → c < 1024 → a
     → 1 + a + 2 * b + 16 * c + 262144 * d ≡ 1 + a' + 2 * b' + 16 * c' + 262144 * d' → (a ≡ a') × (b ≡ b') × (c ≡ c') × (d ≡ d')
 same_fields a b c d a' b' c' d' p0 p1 p2 q0 q1 q2 e = (omega arith, omega arith, omega arith, omega arith)
 
-same_decision : (d e : Decision) → InRange d → InRange e → word_of d ≡ word_of e → d ≡ e
+pub same_decision : (d e : Decision) → InRange d → InRange e → word_of d ≡ word_of e → d ≡ e
 same_decision d e one other same =
     let fields = same_fields (cond d.ok 1 0) d.slot d.number d.place (cond e.ok 1 0) e.slot e.number e.place
     (small_bit d.ok) one.slot one.number (small_bit e.ok) other.slot other.number same in
@@ -167,3 +168,12 @@ record_words-injective x y one other process same =
     let view : x.view ≡ y.view = cc same in
     let entry = same_entry x.entry y.entry one other (record { head = head; targets = targets; decision = decision; amounts = amounts }) in
     λ t. record { process = process t; view = view t; entry = entry t }
+
+-- two requests with the same words are one
+pub request_words-injective : (r q : Request) → ArePacked (accounts_of r.targets) → ArePacked (accounts_of q.targets) → request_words r ≡ request_words q → r ≡ q
+request_words-injective r q one other same =
+    let word : targets_word (accounts_of r.targets) ≡ targets_word (accounts_of q.targets) = cc same in
+    let amounts : amount_words r.targets ≡ amount_words q.targets = cc same in
+    let since : r.since ≡ q.since = cc same in
+    let targets = same_targets r.targets q.targets one other word amounts in
+    λ t. record { targets = targets t; since = since t }

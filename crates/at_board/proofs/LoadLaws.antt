@@ -82,6 +82,7 @@ LoadsLength-Ruled b words views id v p ruled begun found part within =
         more = knows.seen;
         counted = sym (ruled.shown.records.lengths p within);
         own = ap (λ k. count_of k s.published) (sym first) ∙ sym own.published;
+        joined = knows.joined;
         history = IsHistory-Sound b words s ruled.shown ruled.sound begun;
         same = refl;
       },

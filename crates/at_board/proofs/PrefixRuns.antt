@@ -21,14 +21,14 @@ use Rattle.at_board.proofs.CoverLaws.{CoversEntry, CoversEntry-HasRuns, single_o
 use Rattle.at_board.proofs.FollowLaws.{Follows, Follows-nil, Follows-own, Follows-round, Follows-same, MovesNow, MovesSame, balances_after, ledger, owns_of-push_round}
 use Rattle.at_board.proofs.PayLaws.{pay-done}
 use Rattle.at_board.proofs.RoundLaws.{IsNextAtMost, firsts-new, firsts-repeat, one_if, published, repeats-own, repeats-round, sum_by-firsts-le, sum_by-firsts_new, sum_by-firsts_repeat}
-use Rattle.at_board.proofs.SoundRounds.{AreDecided, AreDecided-take, IsInitial-take, IsNextAtMost-HasRuns, decided_for, names, take-publication_at}
+use Rattle.at_board.proofs.SoundRounds.{AreDecided, AreDecided-take, IsInitial-take, IsNextAtMost-HasRuns, decided_for, take-publication_at}
 use Rattle.at_board.proofs.RunRules.{HasRuns, IsRunDecision}
 use Rattle.at_board.specs.declared.publication.Entry.{Entry}
 use Rattle.at_board.specs.declared.publication.Entry.TheVariants.{Own, Round}
 use Rattle.at_board.specs.declared.publication.Publication.{Publication}
 use Rattle.at_board.specs.Balances.{IsCovered, amount_for, credit_of, debit_of}
 use Rattle.at_board.specs.BoardState.{BoardState, publication_at}
-use Rattle.at_board.specs.Entries.{is_own}
+use Rattle.at_board.specs.Entries.{is_own, names}
 use Rattle.at_board.specs.Fronts.{prefix_of}
 use Rattle.at_board.specs.Moves.{AreRuns, IsRun, decided_owner, move_of, moves}
 use Rattle.at_board.specs.Places.{slots_of}

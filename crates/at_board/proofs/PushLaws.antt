@@ -55,10 +55,10 @@ push_all F xs x old new m within =
     ]
 
 -- what a seat has seen is so on the board
-seen_decision : (s : BoardState) (ds : List SeenDecision) (x : SeenDecision) → All (IsDecided s) ds → Contains ds x → IsDecided s x
+pub seen_decision : (s : BoardState) (ds : List SeenDecision) (x : SeenDecision) → All (IsDecided s) ds → Contains ds x → IsDecided s x
 seen_decision s ds x all (k, within, same) = subst (IsDecided s) same (all k x within)
 
-seen_request : (s : BoardState) (rs : List SeenRequest) (x : SeenRequest) → All (IsAnnounced s) rs → Contains rs x → IsAnnounced s x
+pub seen_request : (s : BoardState) (rs : List SeenRequest) (x : SeenRequest) → All (IsAnnounced s) rs → Contains rs x → IsAnnounced s x
 seen_request s rs x all (k, within, same) = subst (IsAnnounced s) same (all k x within)
 
 -- what the seat may enter keeps the laws of the board

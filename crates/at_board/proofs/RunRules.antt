@@ -1,5 +1,5 @@
 -- What the runs of a list of publications rest on: a sound board has it, and so has a list that no board ever held.
-use Rattle.std.proofs.Common.{◌≡◌, ℕ, ◌<◌, ◌≤◌, ◌↔◌, ◌==◌, true, List, length, take}
+use Rattle.std.proofs.Common.{◌≡◌, ℕ, ◌<◌, ◌≤◌, ◌↔◌, ◌==◌, true, length, take}
 use Rattle.std.specs.List.{count_by}
 use Rattle.at_base.specs.declared.decision.Decision.{Decision}
 use Rattle.at_ledger.specs.Book.{BookTerms, account_of}

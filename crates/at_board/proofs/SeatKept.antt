@@ -13,7 +13,7 @@ use Rattle.at_board.specs.Steps.{IsHistory, LoadsLength, StoresWord, with_load, 
 use Rattle.at_board.specs.Views.{no_part, own_part}
 
 -- the part that was set is the view's own
-own_part-with_part : (v : View) (q : Part) → 0 < length v.parts → own_part (with_part v q) ≡ q
+pub own_part-with_part : (v : View) (q : Part) → 0 < length v.parts → own_part (with_part v q) ≡ q
 own_part-with_part v q part = get_or-set_same v.parts 0 q no_part part
 
 -- a view that has seen a history, with another part of as many records
@@ -26,6 +26,7 @@ IsSeat-with_part v list q process k seat published same history = record {
   known = seat.known;
   begun = seat.begun;
   history = history;
+  joined = seat.joined;
 }
 
 pub IsSeat-load : (b : BookTerms) (v w : View) (process k p n : ℕ) → v.book ≡ b → IsSeat v process k → LoadsLength b v w p n → IsSeat w process k

@@ -19,12 +19,12 @@ sum_by-add f g [] = refl
 sum_by-add f g (x ∷ xs) =
     omega (arith, sum_by-cons (λ y. f y + g y) x xs, sum_by-cons f x xs, sum_by-cons g x xs, sum_by-add f g xs)
 
-sum_by-mul : {X : Type 0} (f : X → ℕ) (k : ℕ) (xs : List X) → sum_by (λ x. f x * k) xs ≡ sum_by f xs * k
+pub sum_by-mul : {X : Type 0} (f : X → ℕ) (k : ℕ) (xs : List X) → sum_by (λ x. f x * k) xs ≡ sum_by f xs * k
 sum_by-mul f k [] = omega arith
 sum_by-mul f k (x ∷ xs) =
     omega (arith, sum_by-cons (λ y. f y * k) x xs, ap (λ n. n * k) (sum_by-cons f x xs), sum_by-mul f k xs)
 
-mul-one-le : (k q : ℕ) → 1 ≤ q → k ≤ k * q
+pub mul-one-le : (k q : ℕ) → 1 ≤ q → k ≤ k * q
 mul-one-le k q some = omega (arith, mul-le k 1 k q (omega arith) some)
 
 sum_by-range_const : (k a n : ℕ) → sum_by (λ (p : ℕ). k) (range_with_len a n) ≡ n * k

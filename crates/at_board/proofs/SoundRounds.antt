@@ -1,5 +1,5 @@
 -- The rounds of the prefixes of a list with such laws: they are decided one after another.
-use Rattle.std.proofs.Common.{◌≡◌, ℕ, ◌+◌, ◌<◌, ◌≤◌, ◌==◌, ◌&&◌, zero, suc, Bool, true, false, List, [], ◌∷◌, ◌++◌, length, take, refl, sym, ap, subst, ◌∙◌, arith, inl, inr}
+use Rattle.std.proofs.Common.{◌≡◌, ℕ, ◌+◌, ◌<◌, ◌≤◌, ◌==◌, ◌&&◌, zero, suc, true, false, List, [], ◌∷◌, ◌++◌, length, take, refl, sym, ap, subst, ◌∙◌, arith, inl, inr}
 use Rattle.std.specs.List.{sum_by}
 use Rattle.std.proofs.lemmas.Bool.{cases_Bool, cases_eq, eq-eqb, ne_eqb, le-ltb, ltb-false}
 use Rattle.std.proofs.lemmas.List.{length-take, take_more}
@@ -15,10 +15,10 @@ use Rattle.at_board.specs.declared.publication.Entry.{Entry}
 use Rattle.at_board.specs.declared.publication.Entry.TheVariants.{Own, Round}
 use Rattle.at_board.specs.declared.publication.Publication.{Publication}
 use Rattle.at_board.specs.BoardState.{BoardState, decision_at, publication_at}
-use Rattle.at_board.specs.Entries.{is_round_on}
+use Rattle.at_board.specs.Entries.{is_round_on, names}
 use Rattle.at_board.specs.Fronts.{prefix_of, place}
 use Rattle.at_board.specs.Publications.{ArePublishedBy, no_publication}
-use Rattle.at_board.specs.Rounds.{firsts, repeats, rounds}
+use Rattle.at_board.specs.Rounds.{firsts, named, repeats, rounds}
 use Rattle.at_board.specs.Sound.{IsDecidedSo, IsSoundEntry}
 
 -- each publication is of a process of the book
@@ -68,15 +68,6 @@ IsInitial-take b s (suc m) sound within a =
     (IsNextAtMost-HasRuns b s m sound (omega arith)) in
     let e : m + 1 ≡ suc m = omega arith in
     subst (IsInitial a) (sym (take-publication_at s.published m (omega arith)) ∙ ap (λ k. take k s.published) e) more
-
--- a record of a round of an account whose decision names a slot
-abbrev pub names : ℕ → ℕ → Entry → Bool
-names a slot (Own from targets) = false
-names a slot (Round account round decision targets) = (account == a) && (decision.slot == slot)
-
--- how many distinct rounds of an account name a slot
-abbrev pub named : ℕ → ℕ → List Publication → ℕ
-named a slot list = sum_by (λ x. one_if (names a slot x.entry)) (firsts list)
 
 -- how many of the first decisions name a slot
 abbrev pub decided_for : ℕ → ℕ → List Decision → ℕ

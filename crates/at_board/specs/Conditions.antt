@@ -13,7 +13,7 @@ use Rattle.at_board.specs.declared.view.View.{View}
 use Rattle.at_board.specs.Balances.{IsCovered}
 use Rattle.at_board.specs.Fronts.{prefix_of}
 use Rattle.at_board.specs.Places.{record_width}
-use Rattle.at_board.specs.Publications.{count_of}
+use Rattle.at_board.specs.RecordWords.{SeesRecord}
 use Rattle.at_board.specs.Rounds.{is_settled, owns_of, rounds}
 use Rattle.at_board.specs.Sound.{AreTargets, HasView, IsSoundOwn, IsSoundRound}
 use Rattle.at_board.specs.Views.{HasSlot, SeesDecision, SeesRequest, asking_on, own_part}
@@ -41,7 +41,7 @@ pub record MayPublish (b : BookTerms) (v : View) (x : Publication) : Type 0 wher
 
 -- the seat has seen this record, which has this word
 pub record MayLoadWord (b : BookTerms) (v : View) (p i j : ℕ) : Type 0 where
-  pub seen : i < count_of p v.seen
+  pub seen : SeesRecord v p i
   pub word : j < record_width b
 
 -- the seat's process may ask on the account: it has room there, and all that it asked is decided in what it has seen

@@ -37,6 +37,11 @@ abbrev pub is_same_round : Entry → Entry → Bool
 is_same_round (Own from targets) other = false
 is_same_round (Round account round decision targets) other = is_round account round other
 
+-- a record of a round of this account whose decision names this slot
+abbrev pub names : ℕ → ℕ → Entry → Bool
+names a slot (Own from targets) = false
+names a slot (Round account round decision targets) = (account == a) && (decision.slot == slot)
+
 -- a record of a round of this account in which this request is decided
 abbrev pub settles : ℕ → ℕ → ℕ → Entry → Bool
 settles a slot number (Own from targets) = false

@@ -2,7 +2,7 @@
 use Rattle.std.specs.Prelude.{ℕ, Bool, ◌&&◌, ◌==◌, List, [], ◌∷◌, ◌++◌, fold, count_by, if◌then◌else◌}
 use Rattle.std.specs.List.{list_any}
 use Rattle.at_board.specs.declared.publication.Publication.{Publication}
-use Rattle.at_board.specs.Entries.{is_own, is_round_on, is_same_round, settles}
+use Rattle.at_board.specs.Entries.{is_own, is_round_on, is_same_round, names, settles}
 
 -- whether one of the earlier publications is of the same round
 abbrev pub repeats : Publication → List Publication → Bool
@@ -19,6 +19,10 @@ firsts list = fold with_first [] list
 -- how many distinct rounds of an account the list has
 abbrev pub rounds : ℕ → List Publication → ℕ
 rounds account list = count_by (λ x. is_round_on account x.entry) (firsts list)
+
+-- how many distinct rounds of an account name a slot
+abbrev pub named : ℕ → ℕ → List Publication → ℕ
+named account slot list = count_by (λ x. names account slot x.entry) (firsts list)
 
 -- whether a request is decided in a list
 abbrev pub is_settled : ℕ → ℕ → ℕ → List Publication → Bool

@@ -1,5 +1,5 @@
 -- Seats and boards as callers see them.
-use Rattle.std.specs.Prelude.{◌≡◌, ℕ, ◌<◌, length}
+use Rattle.std.specs.Prelude.{◌≡◌, ℕ, ◌<◌, length, All}
 use Rattle.atomic_table.specs.Seated.{TableId}
 use Rattle.at_ledger.specs.Book.{BookTerms, IsBook}
 use Rattle.at_board.specs.declared.view.View.{View}
@@ -16,7 +16,7 @@ pub record SeatView : Type 0 where
   pub board : TableId
   pub view : View
 
--- a seat's view has one part, its process's, and what it has seen is a history
+-- a seat's view has one part, its process's, and what it and those joined to it have seen are histories
 pub record IsSeat (view : View) (process published : ℕ) : Type 0 where
   pub one_part : length view.parts ≡ 1
   pub process_is : view.first ≡ process
@@ -24,6 +24,7 @@ pub record IsSeat (view : View) (process published : ℕ) : Type 0 where
   pub known : view.first < view.book.processes
   pub begun : IsBook view.book
   pub history : IsHistory view.book view.seen
+  pub joined : All (IsHistory view.book) view.joined
 
 -- the seat belongs to the board
 pub record IsOf (seat : SeatView) (board : BoardView) : Type 0 where

@@ -1,5 +1,5 @@
 -- What a step changes in the view of its seat.
-use Rattle.std.specs.Prelude.{◌≡◌, ℕ, ◌+◌, ◌<◌, ◌≤◌, ◌==◌, ◌&&◌, ◌++◌, Bool, false, List, [], ◌∷◌, length, take, replicate, slice_set, Option, Some, None, if◌then◌else◌}
+use Rattle.std.specs.Prelude.{◌≡◌, ℕ, ◌+◌, ◌<◌, ◌≤◌, ◌==◌, ◌&&◌, ◌++◌, Bool, false, List, [], ◌∷◌, length, take, replicate, slice_set, All, Option, Some, None, if◌then◌else◌}
 use Rattle.at_base.specs.Decision.{InRange}
 use Rattle.at_ledger.specs.Book.{BookTerms, account_of, log_room_of}
 use Rattle.at_board.specs.declared.publication.Entry.{Entry}
@@ -13,6 +13,7 @@ use Rattle.at_board.specs.Fronts.{place, prefix_of}
 use Rattle.at_board.specs.Moves.{AreRuns}
 use Rattle.at_board.specs.Places.{record_width, slots_of}
 use Rattle.at_board.specs.Publications.{IsPrefix, count_of}
+use Rattle.at_board.specs.ShownRounds.{AgreeOnRound, IsShownDecision}
 use Rattle.at_board.specs.Sound.{AreTargets, HasView, IsSoundOwn, IsSoundRound}
 use Rattle.at_board.specs.Views.{loads_of, own_part}
 
@@ -59,14 +60,18 @@ pub record IsHistory (b : BookTerms) (list : List Publication) : Type 0 where
   pub views : (m : ℕ) → m < length list → HasView b (take m list) (publication_at list m)
   pub entries : (m : ℕ) → m < length list → let x : Publication = publication_at list m in
       IsShownEntry b x.process (prefix_of x.view list) x.entry
+  pub decisions : (m : ℕ) → m < length list → IsShownDecision b list (publication_at list m).entry
+  pub agree : (m k : ℕ) → m < length list → k < length list → AgreeOnRound (publication_at list m).entry (publication_at list k).entry
   pub room : (p : ℕ) → p < b.processes → count_of p list ≤ log_room_of b p
   pub runs : AreRuns b list
 
--- a load of a length: the seat has then seen a list that begins with the old one and has so many publications of the process
+-- a load of a length: the seat has then seen a list that begins with the old one and with all that was joined, and has
+-- so many publications of the process
 pub record LoadsLength (b : BookTerms) (before after : View) (p n : ℕ) : Type 0 where
   pub more : IsPrefix before.seen after.seen
   pub counted : count_of p after.seen ≡ n
   pub own : count_of before.first after.seen ≡ (own_part before).published
+  pub joined : All (λ list. IsPrefix list after.seen) before.joined
   pub history : IsHistory b after.seen
   pub same : after ≡ with_part (record before { seen = after.seen }) (with_load (own_part before) p n)
 
@@ -79,5 +84,6 @@ pub record Publishes (b : BookTerms) (before after : View) (x : Publication) : T
   pub between : List Publication
   pub seen : after.seen ≡ (before.seen ++ between) ++ x ∷ []
   pub own : count_of before.first after.seen ≡ (own_part before).published + 1
+  pub joined : All (λ list. IsPrefix list after.seen) before.joined
   pub history : IsHistory b after.seen
   pub same : after ≡ with_part (record before { seen = after.seen }) (with_record b (own_part before) x)

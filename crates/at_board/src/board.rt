@@ -10,14 +10,14 @@ ghost use Rattle.at_board.specs.Steps.{LoadsLength, Publishes, StoresWord};
 
 use crate::NoMemory;
 use crate::dealing::deal;
-use crate::log_starts::log_starts;
+use crate::log_starts::{log_starts, record_index};
 use crate::plays::{LoadLength, Publish, StoreWord};
-use crate::publication::RECORD_WORDS;
 use crate::rule::BoardRule;
 use crate::seat::BoardSeat;
+use crate::slots_before::slots_before;
 use crate::steps::Steps;
 use crate::view::View;
-use crate::word_count::word_count;
+use crate::word_count::{records_end, word_count};
 use arrayvec::ArrayVec;
 use at_ledger::Book;
 use atomic_table::Table;
@@ -29,15 +29,19 @@ use std::sync::ledger::Ledger;
 /// The words that processes share, under one rule. Threads share it by `&Board`.
 #[derive(Drop)]
 pub struct Board {
-    table: Table<(), View, Snapshot<Book>, BoardRule, Global>,
-    book: Book,
-    log_starts: ArrayVec<u32, 16>,
+    pub(crate) table: Table<(), View, Snapshot<Book>, BoardRule, Global>,
+    pub(crate) book: Book,
+    pub(crate) log_starts: ArrayVec<u32, 16>,
+    /// Where the announced words begin.
+    pub(crate) slots_start: usize,
+    /// How many slots stand before those of each account, and at the end how many there are.
+    pub(crate) slots_before: Vec<u32>,
 }
 
 impl Model for Board {
-    ghost use Rattle.std.specs.Prelude.{◌≡◌, ℕ, ◌<◌, length, slice_index};
+    ghost use Rattle.std.specs.Prelude.{◌≡◌, ℕ, ◌+◌, ◌<◌, ◌≤◌, length, slice_index, sum_by, take};
     ghost use Rattle.at_ledger.specs.Book.{IsBook};
-    ghost use Rattle.at_board.specs.Places.{place_at, record_word, word_count};
+    ghost use Rattle.at_board.specs.Places.{place_at, record_word, slots_of, word_count};
     ghost use Rattle.at_board.specs.SeatView.{BoardView};
 
     ghost Value = { BoardView };
@@ -46,7 +50,11 @@ impl Model for Board {
 
     ghost invariant = { λ b. (b.table.shared.key.value ≡ b.book) × (b.table.shared.table_id.words ≡ word_count b.book) × IsBook b.book
         × (length b.log_starts.items ≡ b.book.processes)
-        × ((p : ℕ) → p < b.book.processes → slice_index b.log_starts.items p ≡ place_at b.book (record_word p 0 0)) };
+        × ((p : ℕ) → p < b.book.processes → slice_index b.log_starts.items p ≡ place_at b.book (record_word p 0 0))
+        × (b.slots_start ≡ place_at b.book (record_word b.book.processes 0 0))
+        × (length b.slots_before.items ≡ length b.book.accounts + 1)
+        × ((a : ℕ) → a ≤ length b.book.accounts → slice_index b.slots_before.items a ≡ sum_by slots_of (take a b.book.accounts))
+        × (b.table.shared.table_id.slots ≡ 0) };
 }
 
 impl Board {
@@ -59,11 +67,14 @@ impl Board {
         let words = vec![in alloc; 0u64; word_count(book)]?;
         let (table, first) = Table::of_words(alloc, words.as_slice(), &Snapshot::of(book))?;
         let copy = book.copy(alloc)?;
+        let before = slots_before(alloc, book)?;
         let seats = deal(alloc, &table.shared, first, book)?;
         let board = Board {
             table,
             book: copy,
             log_starts: log_starts(book),
+            slots_start: records_end(book),
+            slots_before: before,
         };
         Ok((board, seats))
     }
@@ -145,11 +156,10 @@ impl Board {
     }
 
     /// Where a word of a record stands.
-    fn record_place(&self, p: u32, i: u32, j: u32) -> usize
+    pub(crate) fn record_place(&self, p: u32, i: u32, j: u32) -> usize
         requires { IsPlace self.now.book (record_word p i j) }
         ensures place { result ≡ place_at self.now.book (record_word p i j) }
     {
-        let width = (RECORD_WORDS + self.book.processes()) as usize;
-        self.log_starts[p as usize] as usize + i as usize * width + j as usize
+        record_index(&self.book, &self.log_starts, p, i, j)
     }
 }

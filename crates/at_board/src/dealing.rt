@@ -1,6 +1,6 @@
 //! The first seat of a board, cut into one seat for each process.
 
-ghost use Rattle.std.specs.Prelude.{◌≡◌, ℕ, ◌<◌, [], length, slice_index_or, IfOk};
+ghost use Rattle.std.specs.Prelude.{◌≡◌, ℕ, ◌<◌, [], length, replicate, slice_index_or, IfOk};
 ghost use Rattle.at_board.specs.Cuts.{AreNew};
 ghost use Rattle.at_board.specs.Places.{word_count};
 ghost use Rattle.at_board.specs.Views.{starting_view};
@@ -35,6 +35,7 @@ pub(crate) fn deal(
             seat: rest,
             process,
             published: 0,
+            announced: no_requests(alloc, book)?,
         })?;
         rest = others;
     }
@@ -42,6 +43,14 @@ pub(crate) fn deal(
         seat: rest,
         process: last,
         published: 0,
+        announced: no_requests(alloc, book)?,
     })?;
     Ok(seats)
+}
+
+/// For each account that no request is announced on it.
+fn no_requests(alloc: Global, book: &Book) -> Result<Vec<u32>, AllocError>
+    ensures { IfOk result (λ counts. counts.items ≡ replicate (length book.now.accounts) 0) }
+{
+    Ok(vec![in alloc; 0u32; book.accounts() as usize]?)
 }

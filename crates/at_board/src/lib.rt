@@ -6,13 +6,28 @@
 #![tactic(auto)]
 
 mod board;
+mod board_end;
+mod crossing;
 mod dealing;
+mod ending;
 mod log_starts;
+mod note;
+mod notes;
 mod plays;
 mod publication;
+#[cfg(test)]
+mod record_tests;
+mod records;
 mod request;
+#[cfg(test)]
+mod request_tests;
+mod requests;
+#[cfg(test)]
+mod round_tests;
+mod rounds;
 mod rule;
 mod seat;
+mod slots_before;
 mod steps;
 mod targets_word;
 #[cfg(test)]
@@ -24,6 +39,9 @@ mod word_count;
 pub type NoMemory = std::alloc::AllocError;
 
 pub use crate::board::Board;
+pub use crate::board_end::BoardEnd;
+pub use crate::ending::BoardRefused;
+pub use crate::note::BoardNote;
 pub use crate::publication::{Entry, Publication, RECORD_WORDS};
 pub use crate::request::{REQUEST_WORDS, Request};
 pub use crate::seat::BoardSeat;

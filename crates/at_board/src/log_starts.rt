@@ -1,7 +1,7 @@
-//! Where the log of each process begins among the words.
+//! Where the log of each process begins among the words, and where its records stand.
 
 ghost use Rattle.std.specs.Prelude.{◌≡◌, ℕ, ◌<◌, length, slice_index};
-ghost use Rattle.at_board.specs.Places.{place_at, record_word};
+ghost use Rattle.at_board.specs.Places.{IsPlace, place_at, record_word};
 
 use crate::publication::RECORD_WORDS;
 use arrayvec::ArrayVec;
@@ -20,4 +20,16 @@ pub(crate) fn log_starts(book: &Book) -> ArrayVec<u32, 16>
         next += book.log_room(p) * (RECORD_WORDS + book.processes());
     }
     starts
+}
+
+/// The index of a word of a record.
+pub(crate) fn record_index(book: &Book, starts: &ArrayVec<u32, 16>, p: u32, i: u32, j: u32) -> usize
+    requires place { IsPlace book.now (record_word p i j) }
+    requires count { length starts.now.items ≡ book.now.processes }
+    requires starts { (q : ℕ) → q < book.now.processes → slice_index starts.now.items q ≡ place_at book.now (record_word q 0 0) }
+    ensures { result ≡ place_at book.now (record_word p i j) }
+{
+    let _accounts = book.accounts();
+    let width = (RECORD_WORDS + book.processes()) as usize;
+    starts[p as usize] as usize + i as usize * width + j as usize
 }

@@ -1,36 +1,43 @@
 //! Seats of a board.
 
-ghost use Rattle.std.specs.Prelude.{◌≡◌};
+ghost use Rattle.std.specs.Prelude.{◌≡◌, [], length};
 
 use crate::view::View;
 use atomic_table::Seat;
 use std::marker::Model;
 
-/// The right of one process to make steps on a board, with what it has seen. It takes no memory, and one thread uses it at a time.
+/// The right of one process to make steps on a board, with what it has seen. One thread uses it at a time.
 #[derive(Drop)]
 pub struct BoardSeat {
     pub(crate) seat: Seat<(), View>,
     pub(crate) process: u32,
     pub(crate) published: u32,
+    /// How many requests the process has announced on each account.
+    pub(crate) announced: Vec<u32>,
 }
 
 impl Model for BoardSeat {
     ghost use Rattle.std.specs.Prelude.{◌≡◌, []};
+    ghost use Rattle.at_board.specs.SeatCounts.{HasCounts, SeesPlaces};
     ghost use Rattle.at_board.specs.SeatView.{IsSeat, SeatView};
 
     ghost Value = { SeatView };
 
     ghost view = { λ s. record { board = s.seat.table_id; view = s.seat.me.0 } };
 
-    ghost invariant = { λ s. (s.seat.me.1 ≡ []) × IsSeat s.seat.me.0 s.process s.published };
+    ghost invariant = { λ s. (s.seat.me.1 ≡ []) × IsSeat s.seat.me.0 s.process s.published
+        × HasCounts s.seat.me.0 s.announced.items × SeesPlaces s.seat.me.0 };
 }
 
 impl BoardSeat {
+    ghost use Rattle.at_board.specs.SeatCounts.{HasOwnPart, SeesPlaces};
     ghost use Rattle.at_board.specs.Views.{own_part};
 
     /// The process that the seat belongs to.
     pub fn process(&self) -> u32
-        ensures { result ≡ self.now.view.first }
+        ensures process { result ≡ self.now.view.first }
+        ensures part { HasOwnPart self.now.view }
+        ensures places { SeesPlaces self.now.view }
     {
         self.process
     }
@@ -40,5 +47,21 @@ impl BoardSeat {
         ensures { result ≡ (own_part self.now.view).published }
     {
         self.published
+    }
+
+    /// The seat of the table.
+    pub(crate) fn into_seat(self) -> Seat<(), View>
+        ensures table { result.table_id ≡ self.board }
+        ensures empty { result.me.1 ≡ [] }
+        ensures view { result.me.0 ≡ self.view }
+        ensures one_part { length self.view.parts ≡ 1 }
+    {
+        let BoardSeat {
+            seat,
+            process: _,
+            published: _,
+            announced: _,
+        } = self;
+        seat
     }
 }

@@ -15,7 +15,7 @@ pub(crate) fn word_count(book: &Book) -> usize
 }
 
 /// Where the last log ends.
-fn records_end(book: &Book) -> usize
+pub(crate) fn records_end(book: &Book) -> usize
     ensures end { result ≡ place_at book.now (record_word book.now.processes 0 0) }
     ensures few { result < 2 ^ 32 }
 {
@@ -40,7 +40,7 @@ fn slot_count(book: &Book) -> u32
 }
 
 /// The slots of one account: none where no two processes share it.
-fn slots_at(book: &Book, account: u32) -> u32
+pub(crate) fn slots_at(book: &Book, account: u32) -> u32
     requires { account < length book.now.accounts }
     ensures count { result ≡ slots_of (account_of book.now account) }
     ensures few { result ≤ 8 }

@@ -1,141 +1,185 @@
--- The records of a book file are the book, written out.
-use Rattle.std.proofs.Common.{◌≡◌, ℕ, ◌+◌, Bool, true, false, ◌==◌, List, [], ◌∷◌, ◌++◌, length, Option, Some, None, Result, Ok, Err, if◌then◌else◌, bytes_eq, codes, decimal, refl, sym, ◌∙◌, append_assoc, append-nil, length-append}
+-- The records of a book file are the book with its names, written out.
+use Rattle.std.proofs.Common.{◌≡◌, ℕ, ◌+◌, Bool, true, false, ◌⊎◌, inl, inr, ◌==◌, nat_le, List, [], ◌∷◌, ◌++◌, length, drop, Option, Some, None, Result, Ok, Err, if◌then◌else◌, bytes_eq, codes, decimal, refl, sym, ◌∙◌, ap, subst, append_assoc, append-nil, arith}
+use Rattle.std.proofs.lemmas.Fmt.{decimal_digit}
 use Rattle.std.proofs.lemmas.Slice.Eq.{bytes_eq-Decides}
+use Rattle.csv.specs.Records.{field_at}
 use Rattle.at_ledger.specs.Account.{AccountTerms}
 use Rattle.at_ledger.specs.Book.{IsBook, BookTerms}
-use Rattle.at_ledger.specs.Draft.{limits_fault, book_without_accounts}
-use Rattle.at_ledger.specs.declared.draft.BookError.TheVariants.{NoAccount}
+use Rattle.at_ledger.specs.declared.draft.BookError.TheVariants.{NoAccount, NoProcess, TooManyProcesses}
+use Rattle.at_ledger.specs.declared.draft.TheConstants.{PROCESSES_MAX}
 use Rattle.at_files.specs.Names.{NameList, AreNamesOf}
-use Rattle.at_files.specs.Rows.{Fields, field_of, number_at, has_shape}
-use Rattle.at_files.specs.BookFile.{version_of, process_count, processes_of, book_with_rooms, limits_of, with_row, at_line, after, book_at_end, accounts_from, limits_from, processes_from, book_of_rows, account_rows, rows_of_book, Spells}
+use Rattle.at_files.specs.Rows.{Fields, field_of, has_shape}
+use Rattle.at_files.specs.BookRecords.{NamedBook, book_begun, counted_processes, limits_of, named_processes, processes_of, version_of, with_name, with_process, with_processes, with_row}
+use Rattle.at_files.specs.BookFile.{at_line, after, book_at_end, accounts_from, limits_from, processes_from, book_of_rows, account_rows, fields_of_processes, rows_of_book, Spells}
 use Rattle.at_files.specs.declared.book_fault.BookWhy.{BookWhy}
 use Rattle.at_files.specs.declared.book_fault.BookWhy.TheVariants as why
 use Rattle.at_files.specs.declared.book_fault.BadBook.{BadBook}
+use Rattle.at_files.proofs.NameLaws.{length-decimals_below}
 use Rattle.at_files.proofs.RecordLaws.{length-has_shape, first-has_shape, two_fields, three_fields, field_of-number_at}
-use Rattle.at_files.proofs.AccountLaws.{Adds, with_row-adds, within_limits-ok}
+use Rattle.at_files.proofs.AccountLaws.{Adds, and_then-leads, with_name-added, with_row-adds}
+use Rattle.at_files.proofs.BookWalk.{AreNamesOf-limits_of, AreNames-processes_of, HasRooms, counted_processes-AreCounted, limits_of-rooms, version_of-known}
 
 -- a book came only where the record gave a value, and the records after it the book
-record Goes {A : Type 0} (r : Result A BookWhy) (more : A → Result BookTerms BadBook) (whole : BookTerms) : Type 0 where
+record Goes {A : Type 0} (r : Result A BookWhy) (more : A → Result NamedBook BadBook) (whole : NamedBook) : Type 0 where
   value : A
   is : r ≡ Ok value
   later : more value ≡ Ok whole
 
-after-goes : {A : Type 0} (line : ℕ) (r : Result A BookWhy) (more : A → Result BookTerms BadBook) (whole : BookTerms) → after (at_line line r) more ≡ Ok whole → Goes r more whole
+after-goes : {A : Type 0} (line : ℕ) (r : Result A BookWhy) (more : A → Result NamedBook BadBook) (whole : NamedBook) → after (at_line line r) more ≡ Ok whole → Goes r more whole
 after-goes line (Ok x) more whole h = record { value = x; is = refl; later = h }
 after-goes line (Err w) more whole h = absurd (cc)
 
--- the accounts of these records follow those of the book so far
-record Follows (b : BookTerms) (rows : List Fields) (whole : BookTerms) : Type 0 where
-  accounts : List AccountTerms
-  whole_is : whole ≡ record b { accounts = b.accounts ++ accounts }
-  spelled : rows ≡ account_rows (length b.accounts) accounts
+-- a book with further accounts and their names
+abbrev with_all : NamedBook → List (List ℕ) → List AccountTerms → NamedBook
+with_all b names ts = record {
+  book = record b.book { accounts = b.book.accounts ++ ts };
+  names = record b.names { accounts = b.names.accounts ++ names };
+}
 
-Follows-none : (b whole : BookTerms) → book_at_end b ≡ Ok whole → Follows b [] whole
+-- the accounts of these records follow those of the book so far
+record Follows (b : NamedBook) (rows : List Fields) (whole : NamedBook) : Type 0 where
+  names : List (List ℕ)
+  accounts : List AccountTerms
+  whole_is : whole ≡ with_all b names accounts
+  spelled : rows ≡ account_rows b.names.processes names accounts
+
+Follows-none : (b whole : NamedBook) → book_at_end b ≡ Ok whole → Follows b [] whole
 unfolding account_rows
-Follows-none b whole h = by (length b.accounts == 0) h
+Follows-none b whole h = by (length b.book.accounts == 0) h
   where
     by : (none : Bool) → (if none then at_line 4 (Err (why.Book NoAccount)) else Ok b) ≡ Ok whole → Follows b [] whole
     by true is = absurd (cc)
     by false is =
         let same : b ≡ whole = cc in
-        record { accounts = []; whole_is = sym same ∙ rw (append-nil b.accounts) refl; spelled = refl }
+        record { names = []; accounts = []; whole_is = sym same ∙ rw (append-nil b.book.accounts, append-nil b.names.accounts) refl; spelled = refl }
 
-Follows-cons : (b more whole : BookTerms) (row : Fields) (rows : List Fields) → Adds b row more → Follows more rows whole → Follows b (row ∷ rows) whole
+Follows-cons : (b more whole : NamedBook) (fields : Fields) (rows : List Fields) → Adds b fields more → Follows more rows whole → Follows b (fields ∷ rows) whole
 unfolding account_rows
-Follows-cons b more whole row rows adds follows = record {
+Follows-cons b more whole fields rows adds follows = record {
+  names = adds.name ∷ follows.names;
   accounts = adds.account ∷ follows.accounts;
-  whole_is = follows.whole_is ∙ rw (adds.whole_is, append_assoc b.accounts (adds.account ∷ []) follows.accounts) refl;
+  whole_is =
+      follows.whole_is
+      ∙ rw (
+        adds.whole_is,
+        append_assoc b.book.accounts (adds.account ∷ []) follows.accounts,
+        append_assoc b.names.accounts (adds.name ∷ []) follows.names,
+      ) refl;
   spelled =
-      let later : rows ≡ account_rows (length b.accounts + 1) follows.accounts =
-      follows.spelled ∙ rw (adds.whole_is, length-append b.accounts (adds.account ∷ [])) refl in
+      let later : rows ≡ account_rows b.names.processes follows.names follows.accounts = follows.spelled ∙ rw adds.whole_is refl in
       rw (adds.spelled, later) refl;
 }
 
-accounts_from-follows : (b whole : BookTerms) (rows : List Fields) → accounts_from b rows ≡ Ok whole → Follows b rows whole
+accounts_from-follows : (b whole : NamedBook) (rows : List Fields) → AreNamesOf b.book b.names → accounts_from b rows ≡ Ok whole → Follows b rows whole
 unfolding accounts_from
-accounts_from-follows b whole [] h = Follows-none b whole h
-accounts_from-follows b whole (row ∷ rows) h =
-    let goes = after-goes (length b.accounts + 4) (with_row b row) (λ more. accounts_from more rows) whole h in
-    Follows-cons b goes.value whole row rows (with_row-adds b row goes.value goes.is) (accounts_from-follows goes.value whole rows goes.later)
+accounts_from-follows b whole [] are h = Follows-none b whole h
+accounts_from-follows b whole (fields ∷ rows) are h =
+    let goes = after-goes (length b.book.accounts + 4) (with_row b fields) (λ more. accounts_from more rows) whole h in
+    let adds = with_row-adds b fields goes.value are goes.is in
+    Follows-cons b goes.value whole fields rows adds (accounts_from-follows goes.value whole rows adds.named goes.later)
 
-version_of-spelled : (row : Fields) (version : ℕ) → version_of row ≡ Ok version → row ≡ codes "book" ∷ codes "1" ∷ []
-version_of-spelled row version h = by (has_shape (codes "book") 2 row) (bytes_eq (field_of row 1) (codes "1")) refl refl h
+version_of-spelled : (fields : Fields) (version : ℕ) → version_of fields ≡ Ok version → fields ≡ codes "book" ∷ decimal version ∷ []
+version_of-spelled fields version h =
+    by (has_shape (codes "book") 2 fields) (bytes_eq (field_of fields 1) (codes "1")) (bytes_eq (field_of fields 1) (codes "2")) refl refl refl h
   where
-    by : (shape one : Bool) → has_shape (codes "book") 2 row ≡ shape → bytes_eq (field_of row 1) (codes "1") ≡ one
-        → (if shape then (if one then Ok 1 else Err why.Version) else Err why.Shape) ≡ Ok version → row ≡ codes "book" ∷ codes "1" ∷ []
-    by false one e f is = absurd (cc)
-    by true false e f is = absurd (cc)
-    by true true e f is =
-        two_fields row (length-has_shape (codes "book") 2 row e)
-        ∙ rw (first-has_shape (codes "book") 2 row e, (bytes_eq-Decides (field_of row 1) (codes "1")).0 f) refl
+    whole : (word : List ℕ) → has_shape (codes "book") 2 fields ≡ true → bytes_eq (field_of fields 1) word ≡ true → fields ≡ codes "book" ∷ word ∷ []
+    whole word e f =
+        two_fields fields (length-has_shape (codes "book") 2 fields e)
+        ∙ rw (first-has_shape (codes "book") 2 fields e, (bytes_eq-Decides (field_of fields 1) word).0 f) refl
 
-processes_of-spelled : (row : Fields) (n : ℕ) → processes_of row ≡ Ok n → row ≡ codes "processes" ∷ decimal n ∷ []
-processes_of-spelled row n h = by (has_shape (codes "processes") 2 row) (number_at row 1) refl refl h
+    by : (shape one two : Bool) → has_shape (codes "book") 2 fields ≡ shape → bytes_eq (field_of fields 1) (codes "1") ≡ one → bytes_eq (field_of fields 1) (codes "2") ≡ two
+        → (if shape then (if one then Ok 1 else if two then Ok 2 else Err why.Version) else Err why.Shape) ≡ Ok version → fields ≡ codes "book" ∷ decimal version ∷ []
+    by false one two e f g is = absurd (cc)
+    by true true two e f g is = let same : 1 ≡ version = cc in rw (← same, decimal_digit 1 (omega arith)) (whole (codes "1") e f)
+    by true false true e f g is = let same : 2 ≡ version = cc in rw (← same, decimal_digit 2 (omega arith)) (whole (codes "2") e g)
+    by true false false e f g is = absurd (cc)
+
+-- processes that were named are those of the fields
+with_process-spelled : (names more : List (List ℕ)) (name : List ℕ) → with_process names name ≡ Ok more → more ≡ names ++ name ∷ []
+with_process-spelled names more name h = by (nat_le PROCESSES_MAX (length names)) h
   where
-    by : (shape : Bool) (count : Option ℕ) → has_shape (codes "processes") 2 row ≡ shape → number_at row 1 ≡ count
-        → (if shape then process_count count else Err why.Shape) ≡ Ok n → row ≡ codes "processes" ∷ decimal n ∷ []
-    by false count e f is = absurd (cc)
-    by true None e f is = absurd (cc)
-    by true (Some m) e f is =
-        two_fields row (length-has_shape (codes "processes") 2 row e)
-        ∙ rw (first-has_shape (codes "processes") 2 row e, field_of-number_at row 1 m f, (within_limits-ok (limits_fault m 1 1) m n is).1) refl
+    by : (full : Bool) → (if full then Err (why.Book TooManyProcesses) else with_name names name) ≡ Ok more → more ≡ names ++ name ∷ []
+    by true is = absurd (cc)
+    by false is = (with_name-added names more name is).more_is
 
--- record 3 gives a book without accounts that has its rooms
-record HasRooms (processes : ℕ) (row : Fields) (b : BookTerms) : Type 0 where
-  own_room : ℕ
-  request_room : ℕ
-  book_is : b ≡ book_without_accounts processes own_room request_room
-  spelled : row ≡ codes "limits" ∷ decimal own_room ∷ decimal request_room ∷ []
+with_processes-spelled : (names : List (List ℕ)) (fields : Fields) (more : List (List ℕ)) → with_processes names fields ≡ Ok more → more ≡ names ++ fields
+unfolding with_processes
+with_processes-spelled names [] more h = let same : names ≡ more = cc in sym same ∙ sym (append-nil names)
+with_processes-spelled names (name ∷ rest) more h =
+    let leads = and_then-leads (with_process names name) (λ xs. with_processes xs rest) more h in
+    with_processes-spelled leads.value rest more leads.later
+    ∙ ap (λ (xs : List (List ℕ)). xs ++ rest) (with_process-spelled names leads.value name leads.is)
+    ∙ append_assoc names (name ∷ []) rest
 
-limits_of-rooms : (processes : ℕ) (row : Fields) (b : BookTerms) → limits_of processes row ≡ Ok b → HasRooms processes row b
-limits_of-rooms processes row b h = by (has_shape (codes "limits") 3 row) (number_at row 1) (number_at row 2) refl refl refl h
+named_processes-spelled : (fields : Fields) (names : List (List ℕ)) → named_processes fields ≡ Ok names → fields ≡ codes "processes" ∷ names
+unfolding field_at
+named_processes-spelled [] names h = absurd (cc)
+named_processes-spelled (first ∷ rest) names h = by (bytes_eq first (codes "processes")) (length (first ∷ rest) == 1) refl h
   where
-    by : (shape : Bool) (own request : Option ℕ) → has_shape (codes "limits") 3 row ≡ shape → number_at row 1 ≡ own → number_at row 2 ≡ request
-        → (if shape then book_with_rooms processes own request else Err why.Shape) ≡ Ok b → HasRooms processes row b
-    by false own request e f g is = absurd (cc)
-    by true None request e f g is = absurd (cc)
-    by true (Some own) None e f g is = absurd (cc)
-    by true (Some own) (Some request) e f g is = record {
-      own_room = own;
-      request_room = request;
-      book_is = sym (within_limits-ok (limits_fault processes own request) (book_without_accounts processes own request) b is).1;
-      spelled =
-          three_fields row (length-has_shape (codes "limits") 3 row e)
-          ∙ rw (first-has_shape (codes "limits") 3 row e, field_of-number_at row 1 own f, field_of-number_at row 2 request g) refl;
-    }
+    by : (word none : Bool) → bytes_eq first (codes "processes") ≡ word
+        → (if word then (if none then Err (why.Book NoProcess) else with_processes [] rest) else Err why.Shape) ≡ Ok names → first ∷ rest ≡ codes "processes" ∷ names
+    by false none e is = absurd (cc)
+    by true true e is = absurd (cc)
+    by true false e is = rw ((bytes_eq-Decides first (codes "processes")).0 e, with_processes-spelled [] rest names is) refl
 
--- the records from the third on, and those of the whole file, put together
-limits_rows : (processes own_room request_room : ℕ) (whole : BookTerms) (row : Fields) (rows : List Fields) (accounts : List AccountTerms)
-    → whole ≡ record { processes = processes; own_room = own_room; request_room = request_room; accounts = accounts }
-    → row ≡ codes "limits" ∷ decimal own_room ∷ decimal request_room ∷ [] → rows ≡ account_rows 0 accounts
-    → (row ∷ rows ≡ (codes "limits" ∷ decimal whole.own_room ∷ decimal whole.request_room ∷ []) ∷ account_rows 0 whole.accounts) × (processes ≡ whole.processes)
-limits_rows processes own_room request_room whole row rows accounts is first later = (rw (is, first, later) refl, rw is refl)
+-- the second record, of a version and its processes
+abbrev second_record : ℕ → List (List ℕ) → Fields
+second_record version processes = fields_of_processes (record { version = version; processes = processes; accounts = [] })
 
-whole_rows : (b : BookTerms) (row second : Fields) (rows : List Fields) (processes : ℕ) → row ≡ codes "book" ∷ codes "1" ∷ []
-    → second ≡ codes "processes" ∷ decimal processes ∷ []
-    → (rows ≡ (codes "limits" ∷ decimal b.own_room ∷ decimal b.request_room ∷ []) ∷ account_rows 0 b.accounts) × (processes ≡ b.processes)
-    → row ∷ second ∷ rows ≡ rows_of_book b
-whole_rows b row second rows processes first next later = rw (first, next, later.0, later.1) refl
+counted_processes-spelled : (fields : Fields) (names : List (List ℕ)) → counted_processes fields ≡ Ok names → fields ≡ codes "processes" ∷ decimal (length names) ∷ []
+counted_processes-spelled fields names h =
+    let counted = counted_processes-AreCounted fields names h in
+    let count : length names ≡ counted.count = ap length counted.names_are ∙ length-decimals_below counted.count in
+    two_fields fields (length-has_shape (codes "processes") 2 fields counted.shape)
+    ∙ rw (count, first-has_shape (codes "processes") 2 fields counted.shape, field_of-number_at fields 1 counted.count counted.count_is) refl
 
-limits_from-spelled : (processes : ℕ) (rows : List Fields) (whole : BookTerms) → limits_from processes rows ≡ Ok whole
-    → (rows ≡ (codes "limits" ∷ decimal whole.own_room ∷ decimal whole.request_room ∷ []) ∷ account_rows 0 whole.accounts) × (processes ≡ whole.processes)
-limits_from-spelled processes [] whole h = absurd (cc)
-limits_from-spelled processes (row ∷ rows) whole h =
-    let goes = after-goes 3 (limits_of processes row) (λ b. accounts_from b rows) whole h in
-    let rooms = limits_of-rooms processes row goes.value goes.is in
-    let follows = accounts_from-follows (book_without_accounts processes rooms.own_room rooms.request_room) whole rows (rw rooms.book_is at goes.later) in
-    limits_rows processes rooms.own_room rooms.request_room whole row rows follows.accounts follows.whole_is rooms.spelled follows.spelled
+processes_of-spelled : (version : ℕ) (fields : Fields) (names : List (List ℕ)) → (version ≡ 1) ⊎ (version ≡ 2) → processes_of version fields ≡ Ok names
+    → fields ≡ second_record version names
+processes_of-spelled version fields names (inr second) h = rw second (named_processes-spelled fields names (rw second at h))
+processes_of-spelled version fields names (inl first) h = rw first (counted_processes-spelled fields names (rw first at h))
 
-pub Spells-book_of_rows : (rows : List Fields) (b : BookTerms) (names : NameList) → book_of_rows rows ≡ Ok b → IsBook b → AreNamesOf b names → Spells rows b names
-Spells-book_of_rows [] b names h book are = absurd (cc)
-Spells-book_of_rows (row ∷ []) b names h book are = absurd (let goes = after-goes 1 (version_of row) (λ version. processes_from []) b h in let wrong = goes.later in cc)
-Spells-book_of_rows (row ∷ second ∷ rows) b names h book are =
-    let version = after-goes 1 (version_of row) (λ version. processes_from (second ∷ rows)) b h in
-    let processes = after-goes 2 (processes_of second) (λ processes. limits_from processes rows) b version.later in
-    record {
-      book = book;
-      spelled =
-          whole_rows b row second rows processes.value (version_of-spelled row version.value version.is)
-          (processes_of-spelled second processes.value processes.is) (limits_from-spelled processes.value rows b processes.later);
-      named = are;
-    }
+limits_of-spelled : (version : ℕ) (processes : List (List ℕ)) (fields : Fields) (b : NamedBook) (rooms : HasRooms version processes fields b)
+    → fields ≡ codes "limits" ∷ decimal rooms.own_room ∷ decimal rooms.request_room ∷ []
+limits_of-spelled version processes fields b rooms =
+    three_fields fields (length-has_shape (codes "limits") 3 fields rooms.shape)
+    ∙ rw (
+      first-has_shape (codes "limits") 3 fields rooms.shape,
+      field_of-number_at fields 1 rooms.own_room rooms.own_is,
+      field_of-number_at fields 2 rooms.request_room rooms.request_is,
+    ) refl
+
+-- the records of a whole file, put together
+whole_rows : (version own_room request_room : ℕ) (processes names : List (List ℕ)) (accounts : List AccountTerms) (whole : NamedBook) (first second third : Fields) (rows : List Fields)
+    → first ≡ codes "book" ∷ decimal version ∷ [] → second ≡ second_record version processes → third ≡ codes "limits" ∷ decimal own_room ∷ decimal request_room ∷ []
+    → rows ≡ account_rows processes names accounts → whole ≡ with_all (book_begun version processes own_room request_room) names accounts
+    → first ∷ second ∷ third ∷ rows ≡ rows_of_book whole.book whole.names
+whole_rows version own_room request_room processes names accounts whole first second third rows is next last later all = rw (is, next, last, later, all) refl
+
+pub book_of_rows-spelled : (rows : List Fields) (b : NamedBook) → book_of_rows rows ≡ Ok b → rows ≡ rows_of_book b.book b.names
+book_of_rows-spelled [] b h = absurd (cc)
+book_of_rows-spelled (first ∷ []) b h =
+    absurd (let goes = after-goes 1 (version_of first) (λ version. processes_from version []) b h in let wrong = goes.later in cc)
+book_of_rows-spelled (first ∷ second ∷ []) b h =
+    absurd (let goes = after-goes 1 (version_of first) (λ version. processes_from version (second ∷ [])) b h in
+    let next = after-goes 2 (processes_of goes.value second) (λ processes. limits_from goes.value processes []) b goes.later in
+    let wrong = next.later in cc)
+book_of_rows-spelled (first ∷ second ∷ third ∷ rows) b h =
+    let version = after-goes 1 (version_of first) (λ version. processes_from version (second ∷ third ∷ rows)) b h in
+    let known = version_of-known first version.value version.is in
+    let processes = after-goes 2 (processes_of version.value second) (λ processes. limits_from version.value processes (third ∷ rows)) b version.later in
+    let limits = after-goes 3 (limits_of version.value processes.value third) (λ x. accounts_from x rows) b processes.later in
+    let are = AreNamesOf-limits_of version.value processes.value third limits.value (AreNames-processes_of version.value second processes.value known processes.is) limits.is in
+    let rooms = limits_of-rooms version.value processes.value third limits.value limits.is in
+    let P : NamedBook → Type 0 = λ x. Follows x rows b in
+    let follows = subst P rooms.book_is (accounts_from-follows limits.value b rows are limits.later) in
+    whole_rows version.value rooms.own_room rooms.request_room processes.value follows.names follows.accounts b first second third rows
+    (version_of-spelled first version.value version.is) (processes_of-spelled version.value second processes.value known processes.is)
+    (limits_of-spelled version.value processes.value third limits.value rooms) follows.spelled follows.whole_is
+
+pub Spells-book_of_rows : (rows : List Fields) (b : BookTerms) (names : NameList) → book_of_rows rows ≡ Ok (record { book = b; names = names }) → IsBook b → AreNamesOf b names
+    → Spells rows b names
+Spells-book_of_rows rows b names h book are = record {
+  book = book;
+  spelled = book_of_rows-spelled rows (record { book = b; names = names }) h;
+  named = are;
+}

@@ -1,77 +1,184 @@
 -- The walk over the records of a book file.
-use Rattle.std.proofs.Common.{◌≡◌, ℕ, ◌+◌, Bool, true, false, List, [], ◌∷◌, length, Result, Ok, Err, if◌then◌else◌, refl, ◌∙◌, ap, length-append, arith}
-use Rattle.at_ledger.specs.Book.{BookTerms}
-use Rattle.at_ledger.specs.declared.draft.BookError.TheVariants.{TooManyAccounts}
-use Rattle.at_ledger.specs.declared.draft.TheConstants.{ACCOUNTS_MAX}
-use Rattle.at_files.specs.Rows.{Fields}
-use Rattle.at_files.specs.BookFile.{at_line, after, with_row, accounts_from, book_at_end}
-use Rattle.at_files.proofs.AccountLaws.{with_row-adds}
+use Rattle.std.proofs.Common.{◌≡◌, ℕ, ◌+◌, ◌≤◌, Bool, true, false, ◌⊎◌, inl, inr, ◌==◌, nat_le, nat_lt, List, [], ◌∷◌, ◌++◌, length, drop, Option, Some, None, Result, Ok, Err, bytes_eq, codes, if◌then◌else◌, refl, sym, ◌∙◌, ap, subst, arith}
+use Rattle.std.specs.List.{IsDistinct}
+use Rattle.std.proofs.lemmas.Bool.Decides.{nat_tests}
+use Rattle.std.proofs.lemmas.List.{length_push}
+use Rattle.at_ledger.specs.Draft.{limits_fault}
+use Rattle.at_ledger.specs.declared.draft.BookError.TheVariants.{NoProcess, TooManyAccounts, TooManyProcesses}
+use Rattle.at_ledger.specs.declared.draft.TheConstants.{ACCOUNTS_MAX, PROCESSES_MAX}
+use Rattle.at_files.specs.Names.{AreNames, AreNamesOf, decimals_below}
+use Rattle.at_files.specs.Rows.{Fields, field_of, number_at, has_shape}
+use Rattle.at_files.specs.BookRecords.{NamedBook, and_then, book_begun, book_with_rooms, counted_processes, limits_of, named_processes, process_count, processes_of, version_of, with_name, with_process, with_processes, with_row}
+use Rattle.at_files.specs.BookFile.{at_line, after, accounts_from, book_at_end}
 use Rattle.at_files.specs.declared.book_fault.BookWhy.TheVariants as why
 use Rattle.at_files.specs.declared.book_fault.BadBook.{BadBook}
-use Rattle.at_files.specs.declared.book_fault.ReadBookFault.{ReadBookFault}
-use Rattle.at_files.specs.declared.book_fault.ReadBookFault.TheVariants.{Bad}
+use Rattle.at_files.proofs.AccountLaws.{AreNames-name, and_then-leads, with_name-added, with_row-adds, within_limits-ok}
+use Rattle.at_files.proofs.NameLaws.{AreNames-decimals_below, AreNames-none, known_version}
+
+-- the version of a book is one of two
+pub version_of-known : (fields : Fields) (version : ℕ) → version_of fields ≡ Ok version → (version ≡ 1) ⊎ (version ≡ 2)
+version_of-known fields version h = by (has_shape (codes "book") 2 fields) (bytes_eq (field_of fields 1) (codes "1")) (bytes_eq (field_of fields 1) (codes "2")) h
+  where
+    by : (shape one two : Bool) → (if shape then (if one then Ok 1 else if two then Ok 2 else Err why.Version) else Err why.Shape) ≡ Ok version → (version ≡ 1) ⊎ (version ≡ 2)
+    by false one two is = absurd (cc)
+    by true true two is = inl (cc)
+    by true false true is = inr (cc)
+    by true false false is = absurd (cc)
+
+-- one process more
+AreNames-with_process : (names more : List (List ℕ)) (name : List ℕ) → AreNames 2 names → with_process names name ≡ Ok more → AreNames 2 more
+AreNames-with_process names more name are h = by (nat_le PROCESSES_MAX (length names)) h
+  where
+    by : (full : Bool) → (if full then Err (why.Book TooManyProcesses) else with_name names name) ≡ Ok more → AreNames 2 more
+    by true is = absurd (cc)
+    by false is =
+        let added = with_name-added names more name is in
+        subst (AreNames 2) (sym added.more_is) (AreNames-name 2 names name are refl added.form added.new)
+
+AreNames-with_processes : (names : List (List ℕ)) (fields : Fields) (more : List (List ℕ)) → AreNames 2 names → with_processes names fields ≡ Ok more → AreNames 2 more
+unfolding with_processes
+AreNames-with_processes names [] more are h = let same : names ≡ more = cc in subst (AreNames 2) same are
+AreNames-with_processes names (name ∷ rest) more are h =
+    let leads = and_then-leads (with_process names name) (λ xs. with_processes xs rest) more h in
+    AreNames-with_processes leads.value rest more (AreNames-with_process names leads.value name are leads.is) leads.later
+
+AreNames-named_processes : (fields : Fields) (names : List (List ℕ)) → named_processes fields ≡ Ok names → AreNames 2 names
+AreNames-named_processes fields names h = by (bytes_eq (field_of fields 0) (codes "processes")) (length fields == 1) h
+  where
+    by : (word none : Bool) → (if word then (if none then Err (why.Book NoProcess) else with_processes [] (drop 1 fields)) else Err why.Shape) ≡ Ok names → AreNames 2 names
+    by false none is = absurd (cc)
+    by true true is = absurd (cc)
+    by true false is = AreNames-with_processes [] (drop 1 fields) names (AreNames-none 2 (inr refl)) is
+
+-- a number of processes is small
+process_count-few : (processes : Option ℕ) (count : ℕ) → process_count processes ≡ Ok count → (processes ≡ Some count) × (count ≤ PROCESSES_MAX)
+process_count-few None count h = absurd (cc)
+process_count-few (Some n) count h =
+    let both = within_limits-ok (limits_fault n 1 1) n count h in
+    (ap Some both.1, rw (← both.1) (by (n == 0) (nat_lt PROCESSES_MAX n) refl both.0))
+  where
+    by : (none many : Bool) → nat_lt PROCESSES_MAX n ≡ many → (if none then Some NoProcess else if many then Some TooManyProcesses else None) ≡ None → n ≤ PROCESSES_MAX
+    by true many e is = absurd (cc)
+    by false true e is = absurd (cc)
+    by false false e is = grind (arith, nat_tests)
+
+-- counted processes
+pub record AreCounted (fields : Fields) (names : List (List ℕ)) : Type 0 where
+  pub count : ℕ
+  pub shape : has_shape (codes "processes") 2 fields ≡ true
+  pub count_is : number_at fields 1 ≡ Some count
+  pub few : count ≤ PROCESSES_MAX
+  pub names_are : names ≡ decimals_below count
+
+pub counted_processes-AreCounted : (fields : Fields) (names : List (List ℕ)) → counted_processes fields ≡ Ok names → AreCounted fields names
+counted_processes-AreCounted fields names h = by (has_shape (codes "processes") 2 fields) refl h
+  where
+    by : (shape : Bool) → has_shape (codes "processes") 2 fields ≡ shape
+        → (if shape then and_then (process_count (number_at fields 1)) (λ count. Ok (decimals_below count)) else Err why.Shape) ≡ Ok names → AreCounted fields names
+    by false e is = absurd (cc)
+    by true e is =
+        let leads = and_then-leads (process_count (number_at fields 1)) (λ count. Ok (decimals_below count)) names is in
+        let count = process_count-few (number_at fields 1) leads.value leads.is in
+        record { count = leads.value; shape = e; count_is = count.0; few = count.1; names_are = let same : decimals_below leads.value ≡ names = let later = leads.later in cc in sym same }
+
+pub AreNames-processes_of : (version : ℕ) (fields : Fields) (names : List (List ℕ)) → (version ≡ 1) ⊎ (version ≡ 2) → processes_of version fields ≡ Ok names → AreNames version names
+AreNames-processes_of version fields names (inl first) h =
+    let counted = counted_processes-AreCounted fields names (rw first at h) in
+    rw (first, counted.names_are) (AreNames-decimals_below counted.count (let few = counted.few in omega arith))
+AreNames-processes_of version fields names (inr second) h = rw second (AreNames-named_processes fields names (rw second at h))
+
+-- record 3 gives a book that has its rooms
+pub record HasRooms (version : ℕ) (processes : List (List ℕ)) (fields : Fields) (b : NamedBook) : Type 0 where
+  pub own_room : ℕ
+  pub request_room : ℕ
+  pub shape : has_shape (codes "limits") 3 fields ≡ true
+  pub own_is : number_at fields 1 ≡ Some own_room
+  pub request_is : number_at fields 2 ≡ Some request_room
+  pub book_is : b ≡ book_begun version processes own_room request_room
+
+pub limits_of-rooms : (version : ℕ) (processes : List (List ℕ)) (fields : Fields) (b : NamedBook) → limits_of version processes fields ≡ Ok b → HasRooms version processes fields b
+limits_of-rooms version processes fields b h = by (has_shape (codes "limits") 3 fields) (number_at fields 1) (number_at fields 2) refl refl refl h
+  where
+    by : (shape : Bool) (own request : Option ℕ) → has_shape (codes "limits") 3 fields ≡ shape → number_at fields 1 ≡ own → number_at fields 2 ≡ request
+        → (if shape then book_with_rooms version processes own request else Err why.Shape) ≡ Ok b → HasRooms version processes fields b
+    by false own request e f g is = absurd (cc)
+    by true None request e f g is = absurd (cc)
+    by true (Some own) None e f g is = absurd (cc)
+    by true (Some own) (Some request) e f g is = record {
+      own_room = own;
+      request_room = request;
+      shape = e;
+      own_is = f;
+      request_is = g;
+      book_is = sym (within_limits-ok (limits_fault (length processes) own request) (book_begun version processes own request) b is).1;
+    }
+
+pub AreNamesOf-limits_of : (version : ℕ) (processes : List (List ℕ)) (fields : Fields) (b : NamedBook) → AreNames version processes → limits_of version processes fields ≡ Ok b
+    → AreNamesOf b.book b.names
+AreNamesOf-limits_of version processes fields b are h =
+    let rooms = limits_of-rooms version processes fields b h in
+    let P : NamedBook → Type 0 = λ x. AreNamesOf x.book x.names in
+    subst P (sym rooms.book_is) (record {
+      processes = refl;
+      accounts = refl;
+      formed = record { processes = are; accounts = AreNames-none version (known_version version processes are); few_accounts = omega arith };
+    })
 
 -- the records give what those from here on give, beside the book so far
-pub record Added (whole : Result BookTerms BadBook) (b : BookTerms) (line : ℕ) (rows : List Fields) : Type 0 where
+pub record Added (whole : Result NamedBook BadBook) (b : NamedBook) (account : ℕ) (rows : List Fields) : Type 0 where
   pub walk : whole ≡ accounts_from b rows
-  pub line_is : line ≡ length b.accounts + 4
+  pub count : account ≡ length b.book.accounts
+  pub named : AreNamesOf b.book b.names
 
 -- a record was read, or there was none
 abbrev pub IsNext : List Fields → Bool → Fields → List Fields → Type 0
-IsNext rows found row rest = rows ≡ (if found then row ∷ rest else [])
+IsNext rows found fields rest = rows ≡ (if found then fields ∷ rest else [])
 
-accounts_from-row : (b : BookTerms) (row : Fields) (rows : List Fields)
-    → accounts_from b (row ∷ rows) ≡ after (at_line (length b.accounts + 4) (with_row b row)) (λ more. accounts_from more rows)
+accounts_from-row : (b : NamedBook) (fields : Fields) (rows : List Fields)
+    → accounts_from b (fields ∷ rows) ≡ after (at_line (length b.book.accounts + 4) (with_row b fields)) (λ more. accounts_from more rows)
 unfolding accounts_from
-accounts_from-row b row rows = refl
+accounts_from-row b fields rows = refl
 
 -- an added account makes the book longer by one
-length-with_row : (b more : BookTerms) (row : Fields) → with_row b row ≡ Ok more → length more.accounts ≡ length b.accounts + 1
-length-with_row b more row h =
-    let adds = with_row-adds b row more h in
-    rw adds.whole_is (length-append b.accounts (adds.account ∷ []))
+length-with_row : (b more : NamedBook) (fields : Fields) → AreNamesOf b.book b.names → with_row b fields ≡ Ok more → length more.book.accounts ≡ length b.book.accounts + 1
+length-with_row b more fields are h =
+    let adds = with_row-adds b fields more are h in
+    rw adds.whole_is (length_push b.book.accounts adds.account)
 
-pub Added-start : (b : BookTerms) (rows : List Fields) → b.accounts ≡ [] → Added (accounts_from b rows) b 4 rows
-Added-start b rows none = record { walk = refl; line_is = rw none refl }
+pub Added-start : (b : NamedBook) (rows : List Fields) → b.book.accounts ≡ [] → AreNamesOf b.book b.names → Added (accounts_from b rows) b 0 rows
+Added-start b rows none are = record { walk = refl; count = rw none refl; named = are }
 
-pub Added-more : (whole : Result BookTerms BadBook) (b : BookTerms) (line : ℕ) (rows : List Fields) (found : Bool) (row : Fields) (rest : List Fields) (more : BookTerms)
-    → Added whole b line rows → IsNext rows found row rest → found ≡ true → with_row b row ≡ Ok more → Added whole more (line + 1) rest
-Added-more whole b line rows found row rest more added next some is =
-    let here : rows ≡ row ∷ rest = next ∙ rw some refl in
+pub Added-more : (whole : Result NamedBook BadBook) (b : NamedBook) (account : ℕ) (rows : List Fields) (found : Bool) (fields : Fields) (rest : List Fields) (more : NamedBook)
+    → Added whole b account rows → IsNext rows found fields rest → found ≡ true → with_row b fields ≡ Ok more → AreNamesOf more.book more.names → Added whole more (account + 1) rest
+Added-more whole b account rows found fields rest more added next some is are =
+    let here : rows ≡ fields ∷ rest = next ∙ rw some refl in
     record {
-      walk = added.walk ∙ rw (here, accounts_from-row b row rest, is) refl;
-      line_is = let longer = length-with_row b more row is in let at = added.line_is in omega arith;
+      walk = added.walk ∙ rw (here, accounts_from-row b fields rest, is) refl;
+      count = let longer = length-with_row b more fields added.named is in let at = added.count in omega arith;
+      named = are;
     }
 
-pub Added-bad : (whole : Result BookTerms BadBook) (b : BookTerms) (line : ℕ) (rows : List Fields) (found : Bool) (row : Fields) (rest : List Fields) (bad : BadBook)
-    → Added whole b line rows → IsNext rows found row rest → found ≡ true → at_line line (with_row b row) ≡ Err bad → whole ≡ Err bad
-Added-bad whole b line rows found row rest bad added next some is =
-    let here : rows ≡ row ∷ rest = next ∙ rw some refl in
-    added.walk ∙ rw (here, accounts_from-row b row rest, ← added.line_is, is) refl
+pub Added-bad : (whole : Result NamedBook BadBook) (b : NamedBook) (account : ℕ) (rows : List Fields) (found : Bool) (fields : Fields) (rest : List Fields) (bad : BadBook)
+    → Added whole b account rows → IsNext rows found fields rest → found ≡ true → at_line (account + 4) (with_row b fields) ≡ Err bad → whole ≡ Err bad
+Added-bad whole b account rows found fields rest bad added next some is =
+    let here : rows ≡ fields ∷ rest = next ∙ rw some refl in
+    added.walk ∙ rw (here, accounts_from-row b fields rest, rw added.count at is) refl
 
-pub Added-end : (whole : Result BookTerms BadBook) (b : BookTerms) (line : ℕ) (rows : List Fields) (found : Bool) (row : Fields) (rest : List Fields)
-    → Added whole b line rows → IsNext rows found row rest → found ≡ false → whole ≡ book_at_end b
+pub Added-end : (whole : Result NamedBook BadBook) (b : NamedBook) (account : ℕ) (rows : List Fields) (found : Bool) (fields : Fields) (rest : List Fields)
+    → Added whole b account rows → IsNext rows found fields rest → found ≡ false → whole ≡ book_at_end b
 unfolding accounts_from
-Added-end whole b line rows found row rest added next none =
+Added-end whole b account rows found fields rest added next none =
     let here : rows ≡ [] = next ∙ rw none refl in
     added.walk ∙ rw here refl
 
 -- a book that is full takes no further record
-with_row-full : (b : BookTerms) (row : Fields) → length b.accounts ≡ ACCOUNTS_MAX → with_row b row ≡ Err (why.Book TooManyAccounts)
-with_row-full b row full = rw full refl
+with_row-full : (b : NamedBook) (fields : Fields) → length b.book.accounts ≡ ACCOUNTS_MAX → with_row b fields ≡ Err (why.Book TooManyAccounts)
+with_row-full b fields full = rw full refl
 
-pub Added-full : (whole : Result BookTerms BadBook) (b : BookTerms) (line : ℕ) (rows : List Fields) (found : Bool) (row : Fields) (rest : List Fields)
-    → Added whole b line rows → IsNext rows found row rest → found ≡ true → line ≡ ACCOUNTS_MAX + 4
+pub Added-full : (whole : Result NamedBook BadBook) (b : NamedBook) (account : ℕ) (rows : List Fields) (found : Bool) (fields : Fields) (rest : List Fields)
+    → Added whole b account rows → IsNext rows found fields rest → found ≡ true → account ≡ ACCOUNTS_MAX
     → whole ≡ Err (record { line = ACCOUNTS_MAX + 4; why = why.Book TooManyAccounts })
-Added-full whole b line rows found row rest added next some last =
-    let here : rows ≡ row ∷ rest = next ∙ rw some refl in
-    let full : length b.accounts ≡ ACCOUNTS_MAX = let at = added.line_is in omega arith in
-    added.walk ∙ rw (here, accounts_from-row b row rest, with_row-full b row full, full) refl
-
--- the offence that an answer carries
-pub Bad-same : {T : Type 0} (x b : BadBook) → ◌≡◌ {A = Result T ReadBookFault} (Err (Bad x)) (Err (Bad b)) → x ≡ b
-Bad-same x b h = cc
-
--- the same answer, of two calls that give other values
-pub Err-same : {T U : Type 0} (fault other : ReadBookFault) → ◌≡◌ {A = Result T ReadBookFault} (Err fault) (Err other) → ◌≡◌ {A = Result U ReadBookFault} (Err fault) (Err other)
-Err-same fault other h = let same : fault ≡ other = cc in ap Err same
+Added-full whole b account rows found fields rest added next some last =
+    let here : rows ≡ fields ∷ rest = next ∙ rw some refl in
+    let full : length b.book.accounts ≡ ACCOUNTS_MAX = let at = added.count in omega arith in
+    added.walk ∙ rw (here, accounts_from-row b fields rest, with_row-full b fields full, full) refl

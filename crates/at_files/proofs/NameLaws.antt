@@ -1,80 +1,144 @@
--- The names of version 1 are the canonical decimals.
-use Rattle.std.proofs.Common.{◌≡◌, ℕ, ◌+◌, ◌^◌, ◌<◌, ◌≤◌, List, [], ◌∷◌, ◌++◌, length, map, Some, None, decimal, get_or, refl, sym, ◌∙◌, ap, arith}
+-- Names and their places: those of version 1 are the canonical decimals.
+use Rattle.std.proofs.Common.{◌≡◌, ℕ, zero, suc, ◌+◌, ◌^◌, ◌<◌, ◌≤◌, Bool, true, false, not, ◌&&◌, nat_le, nat_lt, slice_index, ◌⊎◌, inl, inr, if◌then◌else◌, List, [], ◌∷◌, ◌++◌, length, map, All, Some, None, bytes_eq, decimal, get_or, refl, sym, ◌∙◌, ap, subst, arith}
 use Rattle.std.specs.Prelude.{Contains, slice_get}
+use Rattle.std.specs.Char.{is_ascii_lowercase}
+use Rattle.std.specs.List.{IsDistinct, list_all, position_or_len}
+use Rattle.std.proofs.lemmas.Bool.Decides.{nat_tests}
+use Rattle.std.proofs.lemmas.Cmp.{nat_list_eq_equiv}
+use Rattle.std.proofs.lemmas.List.Folds.{list_any_none}
 use Rattle.std.proofs.lemmas.List.FromFn.{get_or-map-range_with_len, length-map-range_with_len, map-range_with_len_more}
-use Rattle.std.proofs.lemmas.List.{map-append, length-map, get_or-map}
+use Rattle.std.proofs.lemmas.List.Quantifiers.{position-Some}
+use Rattle.std.proofs.lemmas.List.Sums.{position_or_len_is, prefix_len_passes}
+use Rattle.std.proofs.lemmas.Map.Keys.{IsDistinct-push, apart_from_distinct}
 use Rattle.std.proofs.lemmas.Option.{slice_get-get_or}
+use Rattle.std.proofs.lemmas.Slice.Eq.{bytes_eq-Decides}
 use Rattle.at_base.specs.Numbers.{number_of}
-use Rattle.at_base.proofs.NumberLaws.{number_of-some, number_of-decimal}
+use Rattle.at_base.proofs.NumberLaws.{number_of-decimal}
 use Rattle.at_ledger.specs.Book.{BookTerms}
 use Rattle.at_ledger.specs.declared.draft.TheConstants.{ACCOUNTS_MAX}
-use Rattle.at_files.specs.Names.{NameList, AreNamesOf, IsNameList, decimals_below}
+use Rattle.at_files.specs.declared.name_set.TheConstants.{NAME_MAX}
+use Rattle.at_files.proofs.RecordLaws.{both_tests}
+use Rattle.at_files.specs.Names.{AreFormed, AreNames, AreNamesOf, IsNameList, decimals_below, has_name, is_name, is_name_byte, place_of, plain_names}
 
--- a name of version 1 is its number
-pub decimals_below-at : (names : List (List ℕ)) (n : ℕ) → names ≡ decimals_below (length names) → n < length names → get_or names n [] ≡ decimal n
-decimals_below-at names n are h = rw are (get_or-map-range_with_len decimal 0 (length names) n n [] h (omega arith))
+-- the name at the place that was found
+pub place_of-Some : (names : List (List ℕ)) (name : List ℕ) (n : ℕ) → place_of names name ≡ Some n → (n < length names) × (get_or names n [] ≡ name)
+place_of-Some names name n is =
+    let at = position-Some (bytes_eq name) names n [] is in
+    (at.0, sym ((bytes_eq-Decides name (get_or names n [])).0 at.1))
 
--- the number that a text is, as a place among the numbers
-pub slice_get-number_of : (names : List (List ℕ)) (text : List ℕ) (n : ℕ) → names ≡ decimals_below (length names) → number_of text ≡ Some n → n < length names
-    → slice_get names n ≡ Some text
-slice_get-number_of names text n are is h =
-    slice_get-get_or names n [] h
-    ∙ ap Some (decimals_below-at names n are h ∙ sym (number_of-some text n is).0)
+pub slice_get-place_of : (names : List (List ℕ)) (name : List ℕ) (n : ℕ) → place_of names name ≡ Some n → slice_get names n ≡ Some name
+slice_get-place_of names name n is = let at = place_of-Some names name n is in slice_get-get_or names n [] at.0 ∙ ap Some at.1
 
--- a name among the numbers is a number below their count
-pub number_of-Contains : (names : List (List ℕ)) (text : List ℕ) → names ≡ decimals_below (length names) → length names < 2 ^ 64 → Contains names text
-    → (n : ℕ) × (n < length names) × (number_of text ≡ Some n)
-number_of-Contains names text are small (n, h, is) =
-    let name : decimal n ≡ text = sym (get_or-map-range_with_len decimal 0 (length names) n n text h (omega arith)) ∙ rw (← are) is in
-    (n, h, rw (← name) (number_of-decimal n (omega arith)))
+bytes_eq-refl : (name : List ℕ) → bytes_eq name name ≡ true
+bytes_eq-refl name = (bytes_eq-Decides name name).1 refl
 
--- one more number
-pub decimals_below-more : {N : Type 0} (f : N → List ℕ) (names : List N) (name : N) (n : ℕ) → map f names ≡ decimals_below n → f name ≡ decimal n
-    → map f (names ++ name ∷ []) ≡ decimals_below (n + 1)
-decimals_below-more f names name n are is =
-    map-append f names (name ∷ []) ∙ rw (are, is) (sym (map-range_with_len_more decimal 0 n n (omega arith)))
-
-count_of : (names : List (List ℕ)) (n : ℕ) → names ≡ decimals_below n → names ≡ decimals_below (length names)
-count_of names n are = are ∙ rw (are, length-map-range_with_len decimal 0 n) refl
-
-pub IsNameList-plain : (processes accounts : List (List ℕ)) (m n : ℕ) → processes ≡ decimals_below m → accounts ≡ decimals_below n → n ≤ ACCOUNTS_MAX
-    → IsNameList (record { version = 1; processes = processes; accounts = accounts })
-IsNameList-plain processes accounts m n these those few = record {
-  version = refl;
-  processes = count_of processes m these;
-  accounts = count_of accounts n those;
-  few_accounts = rw (those, length-map-range_with_len decimal 0 n) few;
-}
-
-pub find-found : (all whole : NameList) (text : List ℕ) (n : ℕ) → all ≡ whole → IsNameList all → number_of text ≡ Some n → n < length all.accounts
-    → slice_get whole.accounts n ≡ Some text
-find-found all whole text n same are is h = rw (← same) (slice_get-number_of all.accounts text n are.accounts is h)
-
-pub find-none : (all whole : NameList) (text : List ℕ) → all ≡ whole → IsNameList all → number_of text ≡ None → Contains whole.accounts text → ⊥
-find-none all whole text same are is has =
-    let n = number_of-Contains all.accounts text are.accounts (omega (arith, are.few_accounts)) (rw (← same) at has) in
-    let wrong : None ≡ Some n.0 = sym is ∙ n.2 in
+-- a name with no place isn't among them
+pub place_of-None : (names : List (List ℕ)) (name : List ℕ) → place_of names name ≡ None → Contains names name → ⊥
+place_of-None names name is (k, within, same) =
+    let past : length names ≤ position_or_len (bytes_eq name) names = grind (arith, nat_tests) in
+    let fails : not (bytes_eq name (get_or names k name)) ≡ true = prefix_len_passes (λ other. not (bytes_eq name other)) names k name (omega arith) in
+    let wrong : not true ≡ true = rw (same, bytes_eq-refl name) at fails in
     cc
 
-pub find-past : (all whole : NameList) (text : List ℕ) (n : ℕ) → all ≡ whole → IsNameList all → number_of text ≡ Some n → length all.accounts ≤ n → Contains whole.accounts text → ⊥
-find-past all whole text n same are is h has =
-    let k = number_of-Contains all.accounts text are.accounts (omega (arith, are.few_accounts)) (rw (← same) at has) in
-    let one : n ≡ k.0 = let both : Some n ≡ Some k.0 = sym is ∙ k.2 in cc in
-    let below : k.0 < length all.accounts = k.1 in
-    omega arith
+-- each of names that differ is found at its place
+pub place_of-at : (names : List (List ℕ)) (n : ℕ) → IsDistinct bytes_eq names → n < length names → place_of names (get_or names n []) ≡ Some n
+place_of-at names n distinct within =
+    let first : position_or_len (bytes_eq (get_or names n [])) names ≡ n =
+    position_or_len_is (bytes_eq (get_or names n [])) names n [] (omega arith)
+    (λ k before. nat_list_eq_equiv.symm (get_or names n []) (get_or names k []) ∙ apart_from_distinct bytes_eq names k n [] distinct before within)
+    (λ h. bytes_eq-refl (get_or names n [])) in
+    let inside : nat_lt n (length names) ≡ true = grind (arith, nat_tests) in
+    rw (first, inside) refl
 
--- the numbers below the counts of a book are its names
-pub AreNamesOf-decimals : (b : BookTerms) (processes accounts : List (List ℕ)) (m n : ℕ) → processes ≡ decimals_below m → accounts ≡ decimals_below n
-    → m ≡ b.processes → n ≡ length b.accounts → AreNamesOf b (record { version = 1; processes = processes; accounts = accounts })
-AreNamesOf-decimals b processes accounts m n these those few many = record {
-  processes = rw (these, few) (length-map-range_with_len decimal 0 b.processes);
-  accounts = rw (those, many) (length-map-range_with_len decimal 0 (length b.accounts));
-  plain = rw (these, those, few, many) refl;
+-- one more number
+pub decimals_below-more : (n : ℕ) → decimals_below (n + 1) ≡ decimals_below n ++ decimal n ∷ []
+decimals_below-more n = map-range_with_len_more decimal 0 n n (omega arith)
+
+pub length-decimals_below : (n : ℕ) → length (decimals_below n) ≡ n
+length-decimals_below n = length-map-range_with_len decimal 0 n
+
+pub get_or-decimals_below : (count n : ℕ) → n < count → get_or (decimals_below count) n [] ≡ decimal n
+get_or-decimals_below count n h = get_or-map-range_with_len decimal 0 count n n [] h (omega arith)
+
+decimal-injective : (n m : ℕ) → n < 2 ^ 64 → m < 2 ^ 64 → decimal n ≡ decimal m → n ≡ m
+decimal-injective n m h k same =
+    let both : Some n ≡ Some m = sym (number_of-decimal n h) ∙ ap number_of same ∙ number_of-decimal m k in
+    cc
+
+-- no number is the text of a lower one
+pub has_name-decimals_below : (n : ℕ) → n < 2 ^ 64 → has_name (decimals_below n) (decimal n) ≡ false
+has_name-decimals_below n small = list_any_none (bytes_eq (decimal n)) (decimals_below n) (λ k d within. by k d (rw (length-decimals_below n) at within) (bytes_eq (decimal n) (get_or (decimals_below n) k d)) refl)
+  where
+    by : (k : ℕ) (d : List ℕ) → k < n → (b : Bool) → bytes_eq (decimal n) (get_or (decimals_below n) k d) ≡ b → b ≡ false
+    by k d within false is = refl
+    by k d within true is =
+        let same : decimal n ≡ decimal k = (bytes_eq-Decides (decimal n) (get_or (decimals_below n) k d)).0 is ∙ get_or-map-range_with_len decimal 0 n k k d within (omega arith) in
+        absurd (let one = decimal-injective n k small (omega arith) same in omega arith)
+
+decimals_below-distinct : (n : ℕ) → n ≤ 2 ^ 64 → IsDistinct bytes_eq (decimals_below n)
+unfolding IsDistinct
+decimals_below-distinct zero small = tt
+decimals_below-distinct (suc n) small =
+    let one : suc n ≡ n + 1 = omega arith in
+    subst (IsDistinct bytes_eq) (sym (ap decimals_below one ∙ decimals_below-more n))
+    (IsDistinct-push nat_list_eq_equiv (decimals_below n) (decimal n) (decimals_below-distinct n (omega arith)) (has_name-decimals_below n (omega arith)))
+
+pub AreNames-decimals_below : (n : ℕ) → n ≤ 2 ^ 64 → AreNames 1 (decimals_below n)
+AreNames-decimals_below n small = record {
+  formed = inl (refl, ap decimals_below (sym (length-decimals_below n)));
+  distinct = decimals_below-distinct n small;
 }
 
--- the same of a list whose elements show their text
-pub shown-decimal : {N : Type 0} (shown : N → List ℕ) (names : List N) (n : ℕ) (name : N) → map shown names ≡ decimals_below (length (map shown names)) → n < length (map shown names)
-    → name ≡ get_or names n name → shown name ≡ decimal n
-shown-decimal shown names n name are h is =
-    let within : n < length names = rw length-map at h in
-    ap shown is ∙ sym (get_or-map shown names n name [] within) ∙ decimals_below-at (map shown names) n are h
+-- no name
+pub AreNames-none : (version : ℕ) → (version ≡ 1) ⊎ (version ≡ 2) → AreNames version []
+unfolding IsDistinct
+AreNames-none version (inl first) = record { formed = inl (first, refl); distinct = tt }
+AreNames-none version (inr second) = record { formed = inr (second, λ k d within. absurd (omega arith)); distinct = tt }
+
+-- one more number after those that were added
+pub decimals_below-add : (names more : List (List ℕ)) (name : List ℕ) (added : Bool) (n : ℕ) → n < 2 ^ 64 → names ≡ decimals_below n → name ≡ decimal n
+    → added ≡ not (has_name names name) → more ≡ (if added then names ++ name ∷ [] else names) → more ≡ decimals_below (n + 1)
+decimals_below-add names more name added n small are is new all =
+    let yes : added ≡ true = new ∙ rw (are, is, has_name-decimals_below n small) refl in
+    all ∙ rw (yes, are, is) (sym (decimals_below-more n))
+
+-- the name of version 1 at a place
+pub decimal-AreNames : (version : ℕ) (names : List (List ℕ)) (n : ℕ) → AreNames version names → version ≡ 1 → n < length names → get_or names n [] ≡ decimal n
+decimal-AreNames version names n are first within = by are.formed
+  where
+    by : AreFormed version names → get_or names n [] ≡ decimal n
+    by (inl (v, formed)) = rw formed (get_or-decimals_below (length names) n within)
+    by (inr (v, formed)) = absurd (omega arith)
+
+pub known_version : (version : ℕ) (names : List (List ℕ)) → AreNames version names → (version ≡ 1) ⊎ (version ≡ 2)
+known_version version names are = by are.formed
+  where
+    by : AreFormed version names → (version ≡ 1) ⊎ (version ≡ 2)
+    by (inl (v, formed)) = inl v
+    by (inr (v, formed)) = inr v
+
+-- the numbers below the counts of a book are its names
+pub AreNamesOf-plain_names : (b : BookTerms) → b.processes ≤ 2 ^ 64 → length b.accounts ≤ ACCOUNTS_MAX → AreNamesOf b (plain_names b)
+AreNamesOf-plain_names b few many = record {
+  processes = length-decimals_below b.processes;
+  accounts = length-decimals_below (length b.accounts);
+  formed = record {
+    processes = AreNames-decimals_below b.processes few;
+    accounts = AreNames-decimals_below (length b.accounts) (omega arith);
+    few_accounts = rw (length-decimals_below (length b.accounts)) many;
+  };
+}
+
+-- the bytes of a name of version 2
+pub name-bytes : (name : List ℕ) → is_name name ≡ true → list_all is_name_byte name ≡ true
+name-bytes name h =
+    let first = both_tests (nat_le (length name) NAME_MAX && list_all is_name_byte name) (is_ascii_lowercase (slice_index name 0)) h in
+    (both_tests (nat_le (length name) NAME_MAX) (list_all is_name_byte name) first.0).1
+
+pub name-some : (name : List ℕ) → is_name name ≡ true → 0 < length name
+name-some [] h = absurd (cc)
+name-some (byte ∷ name) h = omega arith
+
+-- each of them is above a space
+pub name_byte-above : (byte : ℕ) → is_name_byte byte ≡ true → 32 < byte
+name_byte-above byte h = grind (arith, nat_tests)

@@ -3,7 +3,8 @@ use Rattle.std.proofs.Common.{◌≡◌, ℕ, ◌+◌, ◌<◌, ◌≤◌, ◌==
 use Rattle.std.proofs.lemmas.List.{at_drop_more, at_drop_all}
 use Rattle.at_base.specs.Numbers.{number_of}
 use Rattle.std.specs.List.{slice_split}
-use Rattle.at_files.specs.BookFile.{number_before, numbers_of, pieces_of}
+use Rattle.at_files.specs.Rows.{before}
+use Rattle.at_files.specs.BookRecords.{numbers_of, pieces_of}
 
 -- numbers in front of those that come later, if each of these is one
 abbrev pub numbers_before : List ℕ → Option (List ℕ) → Option (List ℕ)
@@ -18,19 +19,19 @@ numbers_before-none : (later : Option (List ℕ)) → numbers_before [] later �
 numbers_before-none (Some later) = refl
 numbers_before-none None = refl
 
-numbers_before-push : (numbers : List ℕ) (n : ℕ) (later : Option (List ℕ)) → numbers_before numbers (number_before (Some n) later) ≡ numbers_before (numbers ++ n ∷ []) later
+numbers_before-push : (numbers : List ℕ) (n : ℕ) (later : Option (List ℕ)) → numbers_before numbers (before (Some n) later) ≡ numbers_before (numbers ++ n ∷ []) later
 numbers_before-push numbers n (Some later) = ap Some (sym (append_assoc numbers (n ∷ []) later))
 numbers_before-push numbers n None = refl
 
-number_before-none : (later : Option (List ℕ)) → number_before None later ≡ None
-number_before-none (Some later) = refl
-number_before-none None = refl
+before-none : (later : Option (List ℕ)) → before None later ≡ None
+before-none (Some later) = refl
+before-none None = refl
 
 numbers_of-drop : (pieces : List (List ℕ)) (count : ℕ) (piece : List ℕ) → (count < length pieces) × (piece ≡ get_or pieces count piece)
-    → numbers_of (drop count pieces) ≡ number_before (number_of piece) (numbers_of (drop (count + 1) pieces))
+    → numbers_of (drop count pieces) ≡ before (number_of piece) (numbers_of (drop (count + 1) pieces))
 unfolding numbers_of
 numbers_of-drop pieces count piece turn =
-    at_drop_more numbers_of pieces count piece turn.0 ∙ ap (λ p. number_before (number_of p) (numbers_of (drop (count + 1) pieces))) (sym turn.1)
+    at_drop_more numbers_of pieces count piece turn.0 ∙ ap (λ p. before (number_of p) (numbers_of (drop (count + 1) pieces))) (sym turn.1)
 
 pub AreRead-start : (pieces : List (List ℕ)) → AreRead pieces [] 0
 AreRead-start pieces = record { read = sym (numbers_before-none (numbers_of pieces)) }
@@ -44,7 +45,7 @@ AreRead-more pieces numbers count piece n are turn is = record {
 pub AreRead-bad : (pieces : List (List ℕ)) (numbers : List ℕ) (count : ℕ) (piece : List ℕ) → AreRead pieces numbers count
     → (count < length pieces) × (piece ≡ get_or pieces count piece) → number_of piece ≡ None → numbers_of pieces ≡ None
 AreRead-bad pieces numbers count piece are turn is =
-    are.read ∙ rw (numbers_of-drop pieces count piece turn, is, number_before-none (numbers_of (drop (count + 1) pieces))) refl
+    are.read ∙ rw (numbers_of-drop pieces count piece turn, is, before-none (numbers_of (drop (count + 1) pieces))) refl
 
 pub AreRead-end : (pieces : List (List ℕ)) (numbers : List ℕ) (count : ℕ) → AreRead pieces numbers count → length pieces ≤ count → numbers_of pieces ≡ Some numbers
 unfolding numbers_of

@@ -1,22 +1,26 @@
 -- A payment file that is calls, written out, is read as these calls.
-use Rattle.std.proofs.Common.{◌≡◌, ℕ, ◌+◌, ◌^◌, ◌<◌, ◌≤◌, true, nat_lt, List, [], ◌∷◌, length, map, All, Ok, Err, codes, decimal, refl, sym, ◌∙◌, ap, arith}
+use Rattle.std.proofs.Common.{◌≡◌, ℕ, ◌+◌, ◌^◌, ◌<◌, ◌≤◌, Bool, true, false, ◌&&◌, ◌⊎◌, inl, inr, ◌==◌, nat_lt, Some, bytes_eq, List, [], ◌∷◌, length, map, All, Ok, Err, codes, decimal, refl, sym, ◌∙◌, ap, arith}
+use Rattle.std.specs.List.{IsDistinct}
+use Rattle.std.proofs.lemmas.Bool.{eq-eqb}
 use Rattle.std.proofs.lemmas.Bool.Decides.{nat_tests}
 use Rattle.std.proofs.lemmas.List.Elements.{All-head, All-tail}
 use Rattle.csv.specs.Records.{field_at}
 use Rattle.at_base.proofs.NumberLaws.{number_of-decimal}
 use Rattle.at_ledger.specs.Book.{BookTerms}
-use Rattle.at_ledger.specs.Call.{IsCallOn}
+use Rattle.at_ledger.specs.Call.{AreTargetsOn, IsCallOn, TargetPair}
 use Rattle.at_ledger.specs.declared.call.Call.{Call}
 use Rattle.at_ledger.specs.declared.call.Call.TheVariants.{Transfer, Read, Pay}
-use Rattle.at_files.specs.Names.{NameList, AreNamesOf}
-use Rattle.at_files.specs.Rows.{Fields}
-use Rattle.at_files.specs.Payments.{plain_call_of, call_of, payments_from, payments_of, fields_of_call, IsCallOfVersion, HasAmounts, Pays}
+use Rattle.at_ledger.specs.declared.targets.TheConstants.{TARGETS_MAX}
+use Rattle.at_files.specs.Names.{AreNames, NameList, AreNamesOf, account_name}
+use Rattle.at_files.specs.Rows.{Fields, has_shape}
+use Rattle.at_files.specs.Payments.{plain_call_of, named_call_of, call_of, has_amounts, is_pay, targets_of, fields_of_targets, payments_from, payments_of, fields_of_call, IsCallOfVersion, HasAmounts, Pays}
 use Rattle.at_files.specs.declared.payments_fault.TheConstants.{CALLS_MAX}
 use Rattle.at_files.specs.declared.payments_fault.BadPayments.{BadPayments}
 use Rattle.at_files.specs.declared.payments_fault.ReadPaymentsFault.{ReadPaymentsFault}
 use Rattle.at_files.specs.declared.payments_fault.ReadPaymentsFault.TheVariants.{NoMemory}
+use Rattle.at_files.proofs.NameLaws.{known_version, place_of-at}
 use Rattle.at_files.proofs.PaymentsWalk.{payments_from-more}
-use Rattle.at_files.proofs.PaymentsSpelled.{AreNumbered, AreNumbered-names, account_name-decimal}
+use Rattle.at_files.proofs.PaymentsSpelled.{AreNumbered, account_name-decimal}
 
 plain_call_of-transfer : (accounts from to amount : ℕ) → from < accounts → to < accounts → accounts ≤ 2 ^ 64 → amount < 2 ^ 64
     → plain_call_of accounts (codes "transfer" ∷ decimal from ∷ decimal to ∷ decimal amount ∷ []) ≡ Ok (Transfer from to amount)
@@ -32,43 +36,112 @@ plain_call_of-read accounts account within few =
     let known : nat_lt account accounts ≡ true = grind (arith, nat_tests) in
     rw (number_of-decimal account (omega arith), known) refl
 
-call_of-fields : (names : NameList) (call : Call) → AreNumbered names → length names.accounts ≤ 2 ^ 64 → names.version ≡ 1
-    → IsCallOn (length names.accounts) call → HasAmounts call → IsCallOfVersion names.version call → call_of names (fields_of_call names call) ≡ Ok call
-call_of-fields names (Transfer from to amount) numbered few first known amounts version =
+plain_call_of-fields : (names : NameList) (call : Call) → AreNumbered names → length names.accounts ≤ 2 ^ 64
+    → IsCallOn (length names.accounts) call → HasAmounts call → IsCallOfVersion names.version call → plain_call_of (length names.accounts) (fields_of_call names call) ≡ Ok call
+plain_call_of-fields names (Transfer from to amount) numbered few known amounts version =
     rw (account_name-decimal names from numbered known.0, account_name-decimal names to numbered known.1)
     (plain_call_of-transfer (length names.accounts) from to amount known.0 known.1 few amounts)
-call_of-fields names (Read account) numbered few first known amounts version =
+plain_call_of-fields names (Read account) numbered few known amounts version =
     rw (account_name-decimal names account numbered known) (plain_call_of-read (length names.accounts) account known few)
-call_of-fields names (Pay from targets) numbered few first known amounts version = absurd (omega arith)
+plain_call_of-fields names (Pay from targets) numbered few known amounts version = absurd (let second = version.0 in let first = numbered.0 in omega arith)
 
-payments_from-calls : (names : NameList) (line : ℕ) (calls : List Call) → AreNumbered names → length names.accounts ≤ 2 ^ 64 → names.version ≡ 1
+-- the fields of targets, read back
+targets_of-fields : (names : NameList) (targets : List TargetPair) → IsDistinct bytes_eq names.accounts → AreTargetsOn (length names.accounts) targets
+    → All (λ t. t.1 < 2 ^ 64) targets → targets_of names.accounts (fields_of_targets names targets) ≡ Some targets
+unfolding targets_of fields_of_targets
+targets_of-fields names [] distinct known fits = refl
+targets_of-fields names (t ∷ ts) distinct known fits =
+    rw (
+      place_of-at names.accounts t.0 distinct (All-head (λ (x : TargetPair). x.0 < length names.accounts) t ts known),
+      number_of-decimal t.1 (All-head (λ (x : TargetPair). x.1 < 2 ^ 64) t ts fits),
+      targets_of-fields names ts distinct (All-tail (λ (x : TargetPair). x.0 < length names.accounts) t ts known) (All-tail (λ (x : TargetPair). x.1 < 2 ^ 64) t ts fits),
+    ) refl
+
+has_amounts-fields : (names : NameList) (targets : List TargetPair) → All (λ t. t.1 < 2 ^ 64) targets → has_amounts (fields_of_targets names targets) ≡ true
+unfolding has_amounts fields_of_targets
+has_amounts-fields names [] fits = refl
+has_amounts-fields names (t ∷ ts) fits =
+    rw (number_of-decimal t.1 (All-head (λ (x : TargetPair). x.1 < 2 ^ 64) t ts fits)) (has_amounts-fields names ts (All-tail (λ (x : TargetPair). x.1 < 2 ^ 64) t ts fits))
+
+is_pay-fields : (names : NameList) (from : ℕ) (targets : List TargetPair) → 1 ≤ length targets → length targets ≤ TARGETS_MAX
+    → is_pay (fields_of_call names (Pay from targets)) ≡ true
+unfolding field_at fields_of_targets
+is_pay-fields names from [] some few = absurd (omega arith)
+is_pay-fields names from (a ∷ []) some few = refl
+is_pay-fields names from (a ∷ b ∷ []) some few = refl
+is_pay-fields names from (a ∷ b ∷ c ∷ []) some few = refl
+is_pay-fields names from (a ∷ b ∷ c ∷ d ∷ []) some few = refl
+is_pay-fields names from (a ∷ b ∷ c ∷ d ∷ e ∷ targets) some few = absurd (omega arith)
+
+-- a pay-out is neither a transfer nor a read
+no_test : (b : Bool) → (b && false) ≡ false
+no_test true = refl
+no_test false = refl
+
+not_transfer : (rest : Fields) → has_shape (codes "transfer") 4 (codes "pay" ∷ rest) ≡ false
+unfolding field_at
+not_transfer rest = no_test (length (codes "pay" ∷ rest) == 4)
+
+not_read : (rest : Fields) → has_shape (codes "read") 2 (codes "pay" ∷ rest) ≡ false
+unfolding field_at
+not_read rest = no_test (length (codes "pay" ∷ rest) == 2)
+
+named_call_of-fields : (names : NameList) (call : Call) → IsDistinct bytes_eq names.accounts
+    → IsCallOn (length names.accounts) call → HasAmounts call → IsCallOfVersion names.version call → named_call_of names.accounts (fields_of_call names call) ≡ Ok call
+unfolding field_at
+named_call_of-fields names (Transfer from to amount) distinct known fits version =
+    rw (place_of-at names.accounts from distinct known.0, place_of-at names.accounts to distinct known.1, number_of-decimal amount fits) refl
+named_call_of-fields names (Read account) distinct known fits version = rw (place_of-at names.accounts account distinct known) refl
+named_call_of-fields names (Pay from targets) distinct known fits version =
+    let pay : is_pay (fields_of_call names (Pay from targets)) ≡ true = is_pay-fields names from targets version.1 version.2 in
+    rw (
+      not_transfer (account_name names from ∷ fields_of_targets names targets),
+      not_read (account_name names from ∷ fields_of_targets names targets),
+      pay,
+      place_of-at names.accounts from distinct known.0,
+      has_amounts-fields names targets fits,
+      targets_of-fields names targets distinct known.1 fits,
+    ) refl
+
+call_of-fields : (names : NameList) (call : Call) → AreNames names.version names.accounts → length names.accounts ≤ 2 ^ 64
+    → IsCallOn (length names.accounts) call → HasAmounts call → IsCallOfVersion names.version call → call_of names (fields_of_call names call) ≡ Ok call
+call_of-fields names call are few known amounts version = by (known_version names.version names.accounts are)
+  where
+    by : (names.version ≡ 1) ⊎ (names.version ≡ 2) → call_of names (fields_of_call names call) ≡ Ok call
+    by (inl first) =
+        let test : (names.version == 2) ≡ false = grind (arith, nat_tests) in
+        rw test (plain_call_of-fields names call (first, are) few known amounts version)
+    by (inr second) =
+        let test : (names.version == 2) ≡ true = eq-eqb names.version 2 second in
+        rw test (named_call_of-fields names call are.distinct known amounts version)
+
+payments_from-calls : (names : NameList) (line : ℕ) (calls : List Call) → AreNames names.version names.accounts → length names.accounts ≤ 2 ^ 64
     → All (IsCallOn (length names.accounts)) calls → All HasAmounts calls → All (IsCallOfVersion names.version) calls → length calls + line ≤ CALLS_MAX + 1
     → payments_from names line (map (fields_of_call names) calls) ≡ Ok calls
 unfolding payments_from
-payments_from-calls names line [] numbered few first known amounts versions within = refl
-payments_from-calls names line (call ∷ calls) numbered few first known amounts versions within =
+payments_from-calls names line [] are few known amounts versions within = refl
+payments_from-calls names line (call ∷ calls) are few known amounts versions within =
     let here : call_of names (fields_of_call names call) ≡ Ok call =
-    call_of-fields names call numbered few first
+    call_of-fields names call are few
     (All-head (IsCallOn (length names.accounts)) call calls known) (All-head HasAmounts call calls amounts)
     (All-head (IsCallOfVersion names.version) call calls versions) in
     let later : payments_from names (line + 1) (map (fields_of_call names) calls) ≡ Ok calls =
-    payments_from-calls names (line + 1) calls numbered few first
+    payments_from-calls names (line + 1) calls are few
     (All-tail (IsCallOn (length names.accounts)) call calls known) (All-tail HasAmounts call calls amounts)
     (All-tail (IsCallOfVersion names.version) call calls versions) (omega arith) in
     payments_from-more names line (fields_of_call names call) (map (fields_of_call names) calls) (omega arith) ∙ rw (here, later) refl
 
 -- what the file pays is what the walk gives
-pub payments_of-Pays : (b : BookTerms) (names : NameList) (rows : List Fields) (calls : List Call) → AreNamesOf b names → length b.accounts ≤ 2 ^ 64
+pub payments_of-Pays : (b : BookTerms) (names : NameList) (rows : List Fields) (calls : List Call) → AreNamesOf b names
     → Pays b names rows calls → payments_of names rows ≡ Ok calls
-payments_of-Pays b names rows calls are few pays =
-    let first : names.version ≡ 1 = ap (λ (n : NameList). n.version) are.plain in
+payments_of-Pays b names rows calls are pays =
     rw pays.spelled
-    (payments_from-calls names 1 calls (AreNumbered-names b names are) (rw are.accounts few) first (rw are.accounts pays.known) pays.amounts pays.versions
+    (payments_from-calls names 1 calls are.formed.accounts (omega (arith, are.formed.few_accounts)) (rw are.accounts pays.known) pays.amounts pays.versions
     (let fits : length calls ≤ CALLS_MAX = pays.few in omega arith))
 
 -- a file that pays calls isn't refused
 pub Pays-not_bad : (b : BookTerms) (names : NameList) (rows : List Fields) (calls : List Call) (bad : BadPayments) (fault : ReadPaymentsFault) → AreNamesOf b names
-    → length b.accounts ≤ 2 ^ 64 → Pays b names rows calls → payments_of names rows ≡ Err bad → fault ≡ NoMemory
-Pays-not_bad b names rows calls bad fault are few pays is =
-    let wrong : Ok calls ≡ Err bad = sym (payments_of-Pays b names rows calls are few pays) ∙ is in
+    → Pays b names rows calls → payments_of names rows ≡ Err bad → fault ≡ NoMemory
+Pays-not_bad b names rows calls bad fault are pays is =
+    let wrong : Ok calls ≡ Err bad = sym (payments_of-Pays b names rows calls are pays) ∙ is in
     cc

@@ -1,14 +1,31 @@
 -- The names of a book's processes and accounts.
-use Rattle.std.specs.Prelude.{◌≡◌, ℕ, ◌≤◌, List, [], length, map, decimal, slice_index_or}
-use Rattle.std.specs.List.{range_with_len}
+use Rattle.std.specs.Prelude.{◌≡◌, ℕ, ◌≤◌, ◌==◌, Bool, true, ◌&&◌, ◌||◌, ◌⊎◌, List, [], length, map, All, bytes_eq, decimal, nat_le, position, slice_index, slice_index_or, Option}
+use Rattle.std.specs.Char.{is_ascii_digit, is_ascii_lowercase}
+use Rattle.std.specs.List.{IsDistinct, list_all, list_any, range_with_len}
 use Rattle.at_ledger.specs.Book.{BookTerms}
 use Rattle.at_ledger.specs.declared.draft.TheConstants.{ACCOUNTS_MAX}
+use Rattle.at_files.specs.declared.name_set.TheConstants.{NAME_MAX}
 
 -- the version of the book that gives them, and a name for each process and each account, in order
 pub record NameList : Type 0 where
   pub version : ℕ
   pub processes : List (List ℕ)
   pub accounts : List (List ℕ)
+
+-- the name of a process, of an account
+abbrev pub process_name : NameList → ℕ → List ℕ
+process_name names process = slice_index_or names.processes process []
+
+abbrev pub account_name : NameList → ℕ → List ℕ
+account_name names account = slice_index_or names.accounts account []
+
+-- the place of a name among others, from 0
+abbrev pub place_of : List (List ℕ) → List ℕ → Option ℕ
+place_of names name = position (bytes_eq name) names
+
+-- whether the name is among them
+abbrev pub has_name : List (List ℕ) → List ℕ → Bool
+has_name names name = list_any (bytes_eq name) names
 
 -- the numbers below `count`, as text
 abbrev pub decimals_below : ℕ → List (List ℕ)
@@ -18,22 +35,32 @@ decimals_below count = map decimal (range_with_len 0 count)
 abbrev pub plain_names : BookTerms → NameList
 plain_names b = record { version = 1; processes = decimals_below b.processes; accounts = decimals_below (length b.accounts) }
 
--- these are the names of the book: one for each process and each account, in version 1 its number
+-- a small letter, a digit or a hyphen
+abbrev pub is_name_byte : ℕ → Bool
+is_name_byte byte = is_ascii_lowercase byte || is_ascii_digit byte || (byte == 45)
+
+-- a name of version 2: 1 to 16 of these bytes, the first of which is a letter
+abbrev pub is_name : List ℕ → Bool
+is_name text = nat_le (length text) NAME_MAX && list_all is_name_byte text && is_ascii_lowercase (slice_index text 0)
+
+-- what each name of a book of this version is: its number in version 1, and of the form above in version 2
+abbrev pub AreFormed : ℕ → List (List ℕ) → Type 0
+AreFormed version names =
+    ((version ≡ 1) × (names ≡ decimals_below (length names))) ⊎ ((version ≡ 2) × All (λ name. is_name name ≡ true) names)
+
+-- the names of the processes, or of the accounts, of a book of this version: no two are the same
+pub record AreNames (version : ℕ) (names : List (List ℕ)) : Type 0 where
+  pub formed : AreFormed version names
+  pub distinct : IsDistinct bytes_eq names
+
+-- what holds of the names of every book
+pub record IsNameList (names : NameList) : Type 0 where
+  pub processes : AreNames names.version names.processes
+  pub accounts : AreNames names.version names.accounts
+  pub few_accounts : length names.accounts ≤ ACCOUNTS_MAX
+
+-- these are the names of the book: one for each process and each account
 pub record AreNamesOf (b : BookTerms) (names : NameList) : Type 0 where
   pub processes : length names.processes ≡ b.processes
   pub accounts : length names.accounts ≡ length b.accounts
-  pub plain : names ≡ plain_names b
-
--- the name of a process, of an account
-abbrev pub process_name : NameList → ℕ → List ℕ
-process_name names process = slice_index_or names.processes process []
-
-abbrev pub account_name : NameList → ℕ → List ℕ
-account_name names account = slice_index_or names.accounts account []
-
--- what holds of all names: those of version 1 are the numbers, so no two of one kind are the same
-pub record IsNameList (names : NameList) : Type 0 where
-  pub version : names.version ≡ 1
-  pub processes : names.processes ≡ decimals_below (length names.processes)
-  pub accounts : names.accounts ≡ decimals_below (length names.accounts)
-  pub few_accounts : length names.accounts ≤ ACCOUNTS_MAX
+  pub formed : IsNameList names

@@ -1,11 +1,13 @@
 -- The payments of one process: the calls that the records of its file spell, or the first offence.
-use Rattle.std.specs.Prelude.{◌≡◌, ℕ, ◌+◌, ◌^◌, ◌<◌, ◌≤◌, ◌==◌, ◌&&◌, List, [], ◌∷◌, ◌++◌, length, map, All, codes, decimal, nat_lt, Option, Some, None, Result, Ok, Err, if◌then◌else◌}
+use Rattle.std.specs.Prelude.{◌≡◌, ℕ, ◌+◌, ◌^◌, ◌<◌, ◌≤◌, ◌==◌, Bool, true, false, ◌&&◌, ◌||◌, List, [], ◌∷◌, ◌++◌, length, drop, is_some, map, All, codes, decimal, nat_lt, Option, Some, None, Result, Ok, Err, if◌then◌else◌}
+use Rattle.at_base.specs.Numbers.{number_of}
 use Rattle.at_ledger.specs.Book.{BookTerms}
 use Rattle.at_ledger.specs.Call.{TargetPair, IsCallOn}
 use Rattle.at_ledger.specs.declared.call.Call.{Call}
 use Rattle.at_ledger.specs.declared.call.Call.TheVariants.{Transfer, Read, Pay}
-use Rattle.at_files.specs.Names.{NameList, account_name}
-use Rattle.at_files.specs.Rows.{Fields, number_at, has_shape}
+use Rattle.at_ledger.specs.declared.targets.TheConstants.{TARGETS_MAX}
+use Rattle.at_files.specs.Names.{NameList, account_name, place_of}
+use Rattle.at_files.specs.Rows.{Fields, before, field_of, number_at, has_shape}
 use Rattle.at_files.specs.declared.payments_fault.TheConstants.{CALLS_MAX}
 use Rattle.at_files.specs.declared.payments_fault.PaymentsWhy.{PaymentsWhy}
 use Rattle.at_files.specs.declared.payments_fault.PaymentsWhy.TheVariants.{Shape, Number, UnknownAccount, TooManyCalls}
@@ -24,14 +26,64 @@ read_of accounts None = Err Number
 
 -- the call that a record spells, where accounts are given by their numbers
 abbrev pub plain_call_of : ℕ → Fields → Result Call PaymentsWhy
-plain_call_of accounts row =
-    if has_shape (codes "transfer") 4 row then transfer_of accounts (number_at row 1) (number_at row 2) (number_at row 3)
-    else if has_shape (codes "read") 2 row then read_of accounts (number_at row 1)
+plain_call_of accounts fields =
+    if has_shape (codes "transfer") 4 fields then transfer_of accounts (number_at fields 1) (number_at fields 2) (number_at fields 3)
+    else if has_shape (codes "read") 2 fields then read_of accounts (number_at fields 1)
     else Err Shape
 
--- the same beside these names, which are those of version 1
+-- a transfer between accounts that are given by their names
+abbrev pub named_transfer : Option ℕ → Option ℕ → Option ℕ → Result Call PaymentsWhy
+named_transfer from to None = Err Number
+named_transfer None to (Some amount) = Err UnknownAccount
+named_transfer (Some from) None (Some amount) = Err UnknownAccount
+named_transfer (Some from) (Some to) (Some amount) = Ok (Transfer from to amount)
+
+-- a read of an account that is given by its name
+abbrev pub named_read : Option ℕ → Result Call PaymentsWhy
+named_read (Some account) = Ok (Read account)
+named_read None = Err UnknownAccount
+
+-- whether the fields of a pay-out's targets have numbers as amounts
+unfoldable pub has_amounts : Fields → Bool
+has_amounts (name ∷ amount ∷ rest) = is_some (number_of amount) && has_amounts rest
+has_amounts _ = true
+
+-- an account with an amount, if both are there
+abbrev pub target_of : Option ℕ → Option ℕ → Option TargetPair
+target_of (Some to) (Some amount) = Some (to, amount)
+target_of _ _ = None
+
+-- the targets that these fields give, a name and an amount for each
+unfoldable pub targets_of : List (List ℕ) → Fields → Option (List TargetPair)
+targets_of names [] = Some []
+targets_of names (name ∷ []) = None
+targets_of names (name ∷ amount ∷ rest) = before (target_of (place_of names name) (number_of amount)) (targets_of names rest)
+
+-- a pay-out between accounts that are given by their names
+abbrev pub named_pay : Option ℕ → Bool → Option (List TargetPair) → Result Call PaymentsWhy
+named_pay from false targets = Err Number
+named_pay None true targets = Err UnknownAccount
+named_pay (Some from) true None = Err UnknownAccount
+named_pay (Some from) true (Some targets) = Ok (Pay from targets)
+
+-- whether the record is a pay-out to one, two, three or four targets
+abbrev pub is_pay : Fields → Bool
+is_pay fields =
+    has_shape (codes "pay") 4 fields || has_shape (codes "pay") 6 fields || has_shape (codes "pay") 8 fields || has_shape (codes "pay") 10 fields
+
+-- the call that a record spells, where accounts are given by these names
+abbrev pub named_call_of : List (List ℕ) → Fields → Result Call PaymentsWhy
+named_call_of names fields =
+    if has_shape (codes "transfer") 4 fields
+    then named_transfer (place_of names (field_of fields 1)) (place_of names (field_of fields 2)) (number_at fields 3)
+    else if has_shape (codes "read") 2 fields then named_read (place_of names (field_of fields 1))
+    else if is_pay fields then named_pay (place_of names (field_of fields 1)) (has_amounts (drop 2 fields)) (targets_of names (drop 2 fields))
+    else Err Shape
+
+-- the call that a record spells beside a book's names
 abbrev pub call_of : NameList → Fields → Result Call PaymentsWhy
-call_of names row = plain_call_of (length names.accounts) row
+call_of names fields =
+    if names.version == 2 then named_call_of names.accounts fields else plain_call_of (length names.accounts) fields
 
 -- an offence at this line
 abbrev pub bad_payments : ℕ → PaymentsWhy → Result (List Call) BadPayments
@@ -50,9 +102,9 @@ call_before line (Err why) later = bad_payments line why
 -- the calls of the records from this line on, or the first offence
 unfoldable pub payments_from : NameList → ℕ → List Fields → Result (List Call) BadPayments
 payments_from names line [] = Ok []
-payments_from names line (row ∷ rows) =
+payments_from names line (fields ∷ rows) =
     if line == CALLS_MAX + 1 then bad_payments line TooManyCalls
-    else call_before line (call_of names row) (payments_from names (line + 1) rows)
+    else call_before line (call_of names fields) (payments_from names (line + 1) rows)
 
 -- the calls of a file's records, or the first offence
 abbrev pub payments_of : NameList → List Fields → Result (List Call) BadPayments
@@ -70,11 +122,11 @@ fields_of_call names (Transfer from to amount) =
 fields_of_call names (Read account) = codes "read" ∷ account_name names account ∷ []
 fields_of_call names (Pay from targets) = codes "pay" ∷ account_name names from ∷ fields_of_targets names targets
 
--- files beside a book of this version may have the call: pay-outs came with version 2
+-- files beside a book of this version may have the call: pay-outs, of one to four targets, came with version 2
 abbrev pub IsCallOfVersion : ℕ → Call → Type 0
 IsCallOfVersion version (Transfer from to amount) = Unit {0}
 IsCallOfVersion version (Read account) = Unit {0}
-IsCallOfVersion version (Pay from targets) = 2 ≤ version
+IsCallOfVersion version (Pay from targets) = (version ≡ 2) × (1 ≤ length targets) × (length targets ≤ TARGETS_MAX)
 
 -- the amounts of a call are numbers that a file can hold
 abbrev pub HasAmounts : Call → Type 0

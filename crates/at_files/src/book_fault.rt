@@ -6,7 +6,7 @@ use thiserror::Error;
 /// The cause of a book file's first offence.
 #[derive(Clone, Copy, Debug, PartialEq, Eq, Error)]
 pub enum BookWhy {
-    /// The second field of the first record is neither `1` nor `2`. Version 2 is not read yet, and refused as well.
+    /// The second field of the first record is neither `1` nor `2`.
     #[error("version")]
     Version,
     /// The record isn't there, has another number of fields, or begins with another word.

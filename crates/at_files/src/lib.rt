@@ -3,13 +3,17 @@
 //! `read_book` and `read_payments` accept exactly the forms, and name the first offence of every other file.
 #![tactic(auto)]
 
+mod accounts;
 mod book;
 mod book_fault;
+mod calls;
 mod fields;
+mod name_set;
 mod names;
 mod owners;
 mod payments;
 mod payments_fault;
+mod records;
 mod rows;
 #[cfg(test)]
 mod tests;

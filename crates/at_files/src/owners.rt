@@ -1,11 +1,16 @@
 //! The owners field of an account's record.
 
-ghost use Rattle.std.specs.Prelude.{◌≡◌, ◌==◌, IfOk, option_map};
+ghost use Rattle.std.specs.Prelude.{◌≡◌, ◌+◌, ◌<◌, ◌==◌, Err, IfOk, Ok, Some, option_map};
 ghost use Rattle.std.specs.List.{slice_split};
-ghost use Rattle.at_files.specs.BookFile.{numbers_of, pieces_of};
+ghost use Rattle.at_files.specs.BookFile.{at_line};
+ghost use Rattle.at_files.specs.BookRecords.{numbers_of, owner_known, owners_named, pieces_of};
 
 use crate::NoMemory;
+use crate::book_fault::{BadBook, BookWhy, ReadBookFault};
+use crate::name_set::NameSet;
+use crate::records::bad_book;
 use at_base::parse_number;
+use at_ledger::{ACCOUNTS_MAX, BookError, OWNERS_MAX};
 use std::alloc::{AllocError, Global};
 
 /// The numbers of an owners field, or `None` where a piece is no number.
@@ -33,4 +38,68 @@ fn read_numbers(alloc: Global, text: &[u8]) -> Result<Option<Vec<u64>>, NoMemory
         }
     }
     Ok(Some(numbers))
+}
+
+/// The process at a place, where the account has `count` owners and the next one has to be at least `least`.
+fn owner_known(account: u32, count: usize, least: u64, place: Option<usize>) -> Result<u64, BookWhy>
+    ensures known { result ≡ owner_known account count least place }
+    ensures place { IfOk result (λ owner. place ≡ Some owner) }
+{
+    let Some(place) = place else {
+        return Err(BookWhy::UnknownOwner);
+    };
+    let owner = place as u64;
+    if owner < least {
+        Err(BookWhy::Book(BookError::OwnersNotRising { account }))
+    } else if OWNERS_MAX <= count {
+        Err(BookWhy::Book(BookError::TooManyOwners { account }))
+    } else {
+        Ok(owner)
+    }
+}
+
+/// The owners that a field names.
+pub(crate) fn owners_named(
+    alloc: Global,
+    processes: &NameSet,
+    account: u32,
+    text: &[u8],
+) -> Result<Vec<u64>, ReadBookFault>
+    requires { account < ACCOUNTS_MAX }
+    ensures ok { IfOk result (λ owners. owners_named processes.now account 0 0 (pieces_of text.now) ≡ Ok owners.items) }
+    ensures bad { (b : BadBook) → result ≡ Err (ReadBookFault.Bad b) → at_line (account + 4) (owners_named processes.now account 0 0 (pieces_of text.now)) ≡ Err b }
+{
+    if text.is_empty() {
+        Ok(Vec::new(alloc))
+    } else {
+        pieces_named(alloc, processes, account, text)
+    }
+}
+
+/// The owners that the pieces between spaces name.
+fn pieces_named(
+    alloc: Global,
+    processes: &NameSet,
+    account: u32,
+    text: &[u8],
+) -> Result<Vec<u64>, ReadBookFault>
+    requires { account < ACCOUNTS_MAX }
+    ensures ok { IfOk result (λ owners. owners_named processes.now account 0 0 (slice_split (λ byte. byte == 32) text.now) ≡ Ok owners.items) }
+    ensures bad { (b : BadBook) → result ≡ Err (ReadBookFault.Bad b)
+        → at_line (account + 4) (owners_named processes.now account 0 0 (slice_split (λ byte. byte == 32) text.now)) ≡ Err b }
+{
+    let _count = processes.len();
+    let mut owners = Vec::new(alloc);
+    let mut least = 0;
+    for piece in text.split(|byte| *byte == b' ') {
+        let owner = match owner_known(account, owners.len(), least, processes.place(piece)) {
+            Ok(owner) => owner,
+            Err(why) => return Err(bad_book(account + 4, why)),
+        };
+        if owners.push(owner).is_err() {
+            return Err(ReadBookFault::NoMemory);
+        }
+        least = owner + 1;
+    }
+    Ok(owners)
 }

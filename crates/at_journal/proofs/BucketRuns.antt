@@ -45,8 +45,11 @@ key_of-reached : (b : BookTerms) (c : ClosingTerms) (key p j : ℕ) → Coherent
 key_of-reached b c key p j coherent known from to =
     let sorted = line_key-sorted b c p coherent known in
     let n = length (receipts_of c p) in
-    omega (arith, reach-above (line_key c p) key n sorted j from (omega (arith, to, reach-le (line_key c p) (key + 1) n)),
-    reach-below (line_key c p) (key + 1) n sorted j to)
+    omega (
+      arith,
+      reach-above (line_key c p) key n sorted j from (omega (arith, to, reach-le (line_key c p) (key + 1) n)),
+      reach-below (line_key c p) (key + 1) n sorted j to,
+    )
 
 -- a line is short of the end
 pub within-reached : (c : ClosingTerms) (key p : ℕ) → reached c p key ≤ length (receipts_of c p)
@@ -64,10 +67,10 @@ Ran-even b c m count balances sent asked p coherent keeps known here =
     let to : i + n ≡ reached c p (key + 1) = omega (arith, mono) in
     let ran = Ran-still b c m count balances sent asked p i n coherent keeps known here (omega (arith, to, within-reached c (key + 1) p))
     (λ j from below.
-        let inside : j < reached c p (key + 1) = omega (arith, below, to) in
-        let r = receipt_at (receipts_of c p) j in
-        key_at-even m p (journal_order c) (previous_key c p j) r.call (is_success r.reply) r.at
-        (sym (line_key-receipt c p j (omega (arith, inside, within-reached c (key + 1) p))) ∙ key_of-reached b c key p j coherent known from inside)) in
+    let inside : j < reached c p (key + 1) = omega (arith, below, to) in
+    let r = receipt_at (receipts_of c p) j in
+    key_at-even m p (journal_order c) (previous_key c p j) r.call (is_success r.reply) r.at
+    (sym (line_key-receipt c p j (omega (arith, inside, within-reached c (key + 1) p))) ∙ key_of-reached b c key p j coherent known from inside)) in
     subst (λ xs. Ran b c m balances sent asked xs (IsCounted count p (reached c p (key + 1)))) (sym (process_lines_at-range b c key p coherent known))
     (subst (λ k. Ran b c m balances sent asked (map (line c p) (range_with_len i n)) (IsCounted count p k)) to ran)
 
@@ -158,10 +161,10 @@ later_still b c m p j coherent known from to =
     (sym (line_key-receipt c p j (omega (arith, to, end))) ∙ key_of-reached b c key p j coherent known (omega (arith, from)) to))
     as (λ _. still_at (m + 1) (is_success r.reply) r.at) [
       | inl moves ↦
-            let told = coherent.told p known in
-            let first = move_of b c p i m coherent (told.placed i (omega (arith, from, to, end))) (first_moves b c m p coherent known (omega (arith, from, to))) in
-            let second = move_of b c p j m coherent (told.placed j (omega (arith, to, end))) moves in
-            absurd (IsMove-same b c p i j m (omega (arith, from, to, end)) first second from)
+          let told = coherent.told p known in
+          let first = move_of b c p i m coherent (told.placed i (omega (arith, from, to, end))) (first_moves b c m p coherent known (omega (arith, from, to))) in
+          let second = move_of b c p j m coherent (told.placed j (omega (arith, to, end))) moves in
+          absurd (IsMove-same b c p i j m (omega (arith, from, to, end)) first second from)
       | inr previous ↦ subst (still_at (m + 1) (is_success r.reply)) (sym previous.0) tt
     ]
 

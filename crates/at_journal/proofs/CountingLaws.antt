@@ -20,25 +20,25 @@ module _ {X : Type 0} where
       let split = sum_by-cons (λ y. one_if (test y)) x xs in
       elim (cases_Bool (test x)) as (λ _. IsPassing test (x ∷ xs) k d) [
         | inl passes ↦
-              elim (cases_eq k 0) as (λ _. IsPassing test (x ∷ xs) k d) [
-                | inl first ↦ record { index = 0; within = omega arith; passes = passes; before = sym first }
-                | inr later ↦
-                      let rest = IsPassing-from_count test xs (k - 1) d (omega (arith, some, split, ap one_if passes, later)) in
-                      record {
-                        index = suc rest.index;
-                        within = omega (arith, rest.within);
-                        passes = rest.passes;
-                        before = omega (arith, sum_by-cons (λ y. one_if (test y)) x (take rest.index xs), ap one_if passes, rest.before, later);
-                      }
-              ]
+            elim (cases_eq k 0) as (λ _. IsPassing test (x ∷ xs) k d) [
+              | inl first ↦ record { index = 0; within = omega arith; passes = passes; before = sym first }
+              | inr later ↦
+                  let rest = IsPassing-from_count test xs (k - 1) d (omega (arith, some, split, ap one_if passes, later)) in
+                  record {
+                    index = suc rest.index;
+                    within = omega (arith, rest.within);
+                    passes = rest.passes;
+                    before = omega (arith, sum_by-cons (λ y. one_if (test y)) x (take rest.index xs), ap one_if passes, rest.before, later);
+                  }
+            ]
         | inr fails ↦
-              let rest = IsPassing-from_count test xs k d (omega (arith, some, split, ap one_if fails)) in
-              record {
-                index = suc rest.index;
-                within = omega (arith, rest.within);
-                passes = rest.passes;
-                before = omega (arith, sum_by-cons (λ y. one_if (test y)) x (take rest.index xs), ap one_if fails, rest.before);
-              }
+            let rest = IsPassing-from_count test xs k d (omega (arith, some, split, ap one_if fails)) in
+            record {
+              index = suc rest.index;
+              within = omega (arith, rest.within);
+              passes = rest.passes;
+              before = omega (arith, sum_by-cons (λ y. one_if (test y)) x (take rest.index xs), ap one_if fails, rest.before);
+            }
       ]
 
   pub count_by-take_le : (test : X → Bool) (m k : ℕ) (xs : List X) → m ≤ k → count_by test (take m xs) ≤ count_by test (take k xs)
@@ -58,10 +58,10 @@ module _ {X : Type 0} where
       elim (cases_lt j k) as (λ _. j ≡ k) [
         | inl below ↦ absurd (omega (arith, same, count_by-past test xs j k d one passes below))
         | inr rest ↦
-              elim (cases_lt k j) as (λ _. j ≡ k) [
-                | inl above ↦ absurd (omega (arith, same, count_by-past test xs k j d two also above))
-                | inr equal ↦ omega (arith, rest, equal)
-              ]
+            elim (cases_lt k j) as (λ _. j ≡ k) [
+              | inl above ↦ absurd (omega (arith, same, count_by-past test xs k j d two also above))
+              | inr equal ↦ omega (arith, rest, equal)
+            ]
       ]
 
   -- counting by two tests is counting by one what the other keeps
@@ -73,10 +73,10 @@ module _ {X : Type 0} where
       let split = sum_by-cons (λ y. one_if (keep y && test y)) x xs in
       elim (cases_Bool (keep x)) as (λ _. count_by test (cond (keep x) (x ∷ kept) kept) ≡ count_by (λ y. keep y && test y) (x ∷ xs)) [
         | inl stays ↦
-              let both : one_if (keep x && test x) ≡ one_if (test x) = ap (λ t. one_if (t && test x)) stays in
-              ap (λ t. count_by test (cond t (x ∷ kept) kept)) stays
-              ∙ omega (arith, sum_by-cons (λ y. one_if (test y)) x kept, split, rest, both)
+            let both : one_if (keep x && test x) ≡ one_if (test x) = ap (λ t. one_if (t && test x)) stays in
+            ap (λ t. count_by test (cond t (x ∷ kept) kept)) stays
+            ∙ omega (arith, sum_by-cons (λ y. one_if (test y)) x kept, split, rest, both)
         | inr goes ↦
-              let none : one_if (keep x && test x) ≡ one_if false = ap (λ t. one_if (t && test x)) goes in
-              ap (λ t. count_by test (cond t (x ∷ kept) kept)) goes ∙ omega (arith, split, rest, none)
+            let none : one_if (keep x && test x) ≡ one_if false = ap (λ t. one_if (t && test x)) goes in
+            ap (λ t. count_by test (cond t (x ∷ kept) kept)) goes ∙ omega (arith, split, rest, none)
       ]

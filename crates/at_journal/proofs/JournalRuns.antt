@@ -36,10 +36,10 @@ length-journal_order c =
     let same : counts n order ≡ log_lengths c =
     ext_get_or 0 (counts n order) (log_lengths c) (length-counts n order ∙ sym (length-map c.logs length))
     (λ p within.
-        let known : p < n = omega (arith, within, length-counts n order) in
-        get_or-counts n order p 0 known
-        ∙ (ap length (publications_of-journal_order c p known)
-        ∙ (length-map (log_of c p) (published_by p) ∙ sym (get_or-log_lengths c p known)))) in
+    let known : p < n = omega (arith, within, length-counts n order) in
+    get_or-counts n order p 0 known
+    ∙ (ap length (publications_of-journal_order c p known)
+    ∙ (length-map (log_of c p) (published_by p) ∙ sym (get_or-log_lengths c p known)))) in
     sym (sum-counts n order ours) ∙ ap sum same
 
 -- the lines of a key
@@ -114,7 +114,7 @@ Ran-below b c (suc m) coherent begun within =
     ∙ (one_more c (2 * m + 1) ∙ ((λ t. one_more c (2 * m) t ++ lines_at c (2 * m + 1))
     ∙ (append_assoc (flat_map (lines_at c) keys) (lines_at c (2 * m)) (lines_at c (2 * m + 1))
     ∙ (λ t. flat_map (lines_at c) keys ++ (flat_map (process_lines_at c (2 * m)) (range_with_len 0 (coherent.receipts t))
-      ++ flat_map (process_lines_at c (2 * m + 1)) (range_with_len 0 (coherent.receipts t))))))) in
+    ++ flat_map (process_lines_at c (2 * m + 1)) (range_with_len 0 (coherent.receipts t))))))) in
     subst (λ xs. Ran b c (suc m) (openings b) (no_sent b) (no_asked b) xs (CountsAt b c (2 * suc m) 0)) (sym lines_is)
     (subst (λ k. Ran b c k (openings b) (no_sent b) (no_asked b) (flat_map (lines_at c) keys ++ (evens ++ odds)) (CountsAt b c (2 * suc m) 0)) next done)
 

@@ -55,7 +55,7 @@ pub Keeps-next : (b : BookTerms) (c : ClosingTerms) (m next : ℕ) (done : ℕ �
     → BalancesFollow b (take next (journal_order c)) balances2 → length sent2 ≡ length sent → length asked2 ≡ length asked
     → ((q : ℕ) → q < b.processes → get_or sent2 q 0 ≡ get_or sent q 0 + one_if ((q == p) && is_at_own (receipt_at (receipts_of c p) i).at))
     → ((q a : ℕ) → q < b.processes → a < length b.accounts → get_or asked2 (asked_place b q a) 0 ≡ get_or asked (asked_place b q a) 0
-      + one_if ((q == p) && (is_at_round (receipt_at (receipts_of c p) i).at && is_payout_from a (receipt_at (receipts_of c p) i).call)))
+    + one_if ((q == p) && (is_at_round (receipt_at (receipts_of c p) i).at && is_payout_from a (receipt_at (receipts_of c p) i).call)))
     → Keeps b c next (with_count done p (i + 1)) balances2 sent2 asked2
 Keeps-next b c m next done balances sent asked balances2 sent2 asked2 p i keeps here within money senders askers sent_more asked_more = record {
   money = money;
@@ -65,34 +65,34 @@ Keeps-next b c m next done balances sent asked balances2 sent2 asked2 p i keeps 
       let r = receipt_at (receipts_of c p) i in
       elim (cases_eq q p) as (λ _. get_or sent2 q 0 ≡ owns_in (take (with_count done p (i + 1) q) (receipts_of c q))) [
         | inl same ↦
-              let counted : owns_in (take (with_count done p (i + 1) q) (receipts_of c q)) ≡ owns_in (take (i + 1) (receipts_of c p)) =
-              λ t. owns_in (take (with_count-own done p (i + 1) q same t) (receipts_of c (same t))) in
-              let before : owns_in (take (done q) (receipts_of c q)) ≡ owns_in (take i (receipts_of c p)) =
-              λ t. owns_in (take ((ap done same ∙ here) t) (receipts_of c (same t))) in
-              let one : one_if ((q == p) && is_at_own r.at) ≡ one_if (is_at_own r.at) = ap (λ t. one_if (t && is_at_own r.at)) (eq-eqb q p same) in
-              omega (arith, counted, before, one, sent_more q known, keeps.sent_so q known, owns_in-more (receipts_of c p) i within)
+            let counted : owns_in (take (with_count done p (i + 1) q) (receipts_of c q)) ≡ owns_in (take (i + 1) (receipts_of c p)) =
+            λ t. owns_in (take (with_count-own done p (i + 1) q same t) (receipts_of c (same t))) in
+            let before : owns_in (take (done q) (receipts_of c q)) ≡ owns_in (take i (receipts_of c p)) =
+            λ t. owns_in (take ((ap done same ∙ here) t) (receipts_of c (same t))) in
+            let one : one_if ((q == p) && is_at_own r.at) ≡ one_if (is_at_own r.at) = ap (λ t. one_if (t && is_at_own r.at)) (eq-eqb q p same) in
+            omega (arith, counted, before, one, sent_more q known, keeps.sent_so q known, owns_in-more (receipts_of c p) i within)
         | inr apart ↦
-              let counted : owns_in (take (with_count done p (i + 1) q) (receipts_of c q)) ≡ owns_in (take (done q) (receipts_of c q)) =
-              ap (λ k. owns_in (take k (receipts_of c q))) (with_count-other done p (i + 1) q apart) in
-              let none : one_if ((q == p) && is_at_own r.at) ≡ one_if false = ap (λ t. one_if (t && is_at_own r.at)) (ne_eqb q p apart) in
-              omega (arith, counted, none, sent_more q known, keeps.sent_so q known)
+            let counted : owns_in (take (with_count done p (i + 1) q) (receipts_of c q)) ≡ owns_in (take (done q) (receipts_of c q)) =
+            ap (λ k. owns_in (take k (receipts_of c q))) (with_count-other done p (i + 1) q apart) in
+            let none : one_if ((q == p) && is_at_own r.at) ≡ one_if false = ap (λ t. one_if (t && is_at_own r.at)) (ne_eqb q p apart) in
+            omega (arith, counted, none, sent_more q known, keeps.sent_so q known)
       ];
   asked_so = λ q a known inside.
       let r = receipt_at (receipts_of c p) i in
       let asks = is_at_round r.at && is_payout_from a r.call in
       elim (cases_eq q p) as (λ _. get_or asked2 (asked_place b q a) 0 ≡ asks_in a (take (with_count done p (i + 1) q) (receipts_of c q))) [
         | inl same ↦
-              let counted : asks_in a (take (with_count done p (i + 1) q) (receipts_of c q)) ≡ asks_in a (take (i + 1) (receipts_of c p)) =
-              λ t. asks_in a (take (with_count-own done p (i + 1) q same t) (receipts_of c (same t))) in
-              let before : asks_in a (take (done q) (receipts_of c q)) ≡ asks_in a (take i (receipts_of c p)) =
-              λ t. asks_in a (take ((ap done same ∙ here) t) (receipts_of c (same t))) in
-              let one : one_if ((q == p) && asks) ≡ one_if asks = ap (λ t. one_if (t && asks)) (eq-eqb q p same) in
-              omega (arith, counted, before, one, asked_more q a known inside, keeps.asked_so q a known inside, asks_in-more a (receipts_of c p) i within)
+            let counted : asks_in a (take (with_count done p (i + 1) q) (receipts_of c q)) ≡ asks_in a (take (i + 1) (receipts_of c p)) =
+            λ t. asks_in a (take (with_count-own done p (i + 1) q same t) (receipts_of c (same t))) in
+            let before : asks_in a (take (done q) (receipts_of c q)) ≡ asks_in a (take i (receipts_of c p)) =
+            λ t. asks_in a (take ((ap done same ∙ here) t) (receipts_of c (same t))) in
+            let one : one_if ((q == p) && asks) ≡ one_if asks = ap (λ t. one_if (t && asks)) (eq-eqb q p same) in
+            omega (arith, counted, before, one, asked_more q a known inside, keeps.asked_so q a known inside, asks_in-more a (receipts_of c p) i within)
         | inr apart ↦
-              let counted : asks_in a (take (with_count done p (i + 1) q) (receipts_of c q)) ≡ asks_in a (take (done q) (receipts_of c q)) =
-              ap (λ k. asks_in a (take k (receipts_of c q))) (with_count-other done p (i + 1) q apart) in
-              let none : one_if ((q == p) && asks) ≡ one_if false = ap (λ t. one_if (t && asks)) (ne_eqb q p apart) in
-              omega (arith, counted, none, asked_more q a known inside, keeps.asked_so q a known inside)
+            let counted : asks_in a (take (with_count done p (i + 1) q) (receipts_of c q)) ≡ asks_in a (take (done q) (receipts_of c q)) =
+            ap (λ k. asks_in a (take k (receipts_of c q))) (with_count-other done p (i + 1) q apart) in
+            let none : one_if ((q == p) && asks) ≡ one_if false = ap (λ t. one_if (t && asks)) (ne_eqb q p apart) in
+            omega (arith, counted, none, asked_more q a known inside, keeps.asked_so q a known inside)
       ];
 }
 

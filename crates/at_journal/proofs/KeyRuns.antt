@@ -37,15 +37,14 @@ CountsAt b c key a count = (q : ℕ) → q < b.processes → (q < a → count q 
 -- the processes of which one has made its calls
 CountsAt-next : (b : BookTerms) (c : ClosingTerms) (key a : ℕ) (count count2 : ℕ → ℕ) → CountsAt b c key a count
     → IsCounted count a (reached c a (key + 1)) count2 → CountsAt b c key (a + 1) count2
-CountsAt-next b c key a count count2 counts one q known =
-    (
-      λ before.
-          elim (cases_eq q a) as (λ _. count2 q ≡ reached c q (key + 1)) [
-            | inl same ↦ ap count2 same ∙ (one.own ∙ ap (λ p. reached c p (key + 1)) (sym same))
-            | inr apart ↦ one.others q apart ∙ (counts q known).0 (omega (arith, before, apart))
-          ],
-      λ after. one.others q (λ e. omega (arith, after, e)) ∙ (counts q known).1 (omega (arith, after)),
-    )
+CountsAt-next b c key a count count2 counts one q known = (
+  λ before.
+      elim (cases_eq q a) as (λ _. count2 q ≡ reached c q (key + 1)) [
+        | inl same ↦ ap count2 same ∙ (one.own ∙ ap (λ p. reached c p (key + 1)) (sym same))
+        | inr apart ↦ one.others q apart ∙ (counts q known).0 (omega (arith, before, apart))
+      ],
+  λ after. one.others q (λ e. omega (arith, after, e)) ∙ (counts q known).1 (omega (arith, after)),
+)
 
 -- the lines of an even key
 pub Ran-even_all : (b : BookTerms) (c : ClosingTerms) (m a n : ℕ) (count : ℕ → ℕ) (balances sent asked : List ℕ) → Coherent b c → a + n ≡ b.processes
@@ -73,11 +72,11 @@ flat_map-only g a zero q from to others = absurd (omega (arith, from, to))
 flat_map-only g a (suc n) q from to others =
     elim (cases_eq a q) as (λ _. g a ++ flat_map g (range_with_len (a + 1) n) ≡ g q) [
       | inl here ↦
-            (λ t. g (here t) ++ flat_map-none g (a + 1) n (λ p above below. others p (omega arith) (omega arith) (λ e. omega (arith, e, here, above))) t)
-            ∙ append-nil (g q)
+          (λ t. g (here t) ++ flat_map-none g (a + 1) n (λ p above below. others p (omega arith) (omega arith) (λ e. omega (arith, e, here, above))) t)
+          ∙ append-nil (g q)
       | inr apart ↦
-            (λ t. others a (omega arith) (omega arith) apart t ++ flat_map g (range_with_len (a + 1) n))
-            ∙ flat_map-only g (a + 1) n q (omega (arith, from, apart)) (omega (arith, to)) (λ p above below differs. others p (omega arith) (omega arith) differs)
+          (λ t. others a (omega arith) (omega arith) apart t ++ flat_map g (range_with_len (a + 1) n))
+          ∙ flat_map-only g (a + 1) n q (omega (arith, from, apart)) (omega (arith, to)) (λ p above below differs. others p (omega arith) (omega arith) differs)
     ]
 
 -- some process has a line of a key, or none has
@@ -86,18 +85,18 @@ find_lines : (c : ClosingTerms) (key a n : ℕ)
 find_lines c key a zero = inl (λ p from to. absurd (omega (arith, from, to)))
 find_lines c key a (suc n) =
     let Goal : Type 0 = ((p : ℕ) → a ≤ p → p < a + suc n → reached c p (key + 1) ≤ reached c p key)
-        ⊎ ((q : ℕ) × (a ≤ q) × (q < a + suc n) × (reached c q key < reached c q (key + 1))) in
+    ⊎ ((q : ℕ) × (a ≤ q) × (q < a + suc n) × (reached c q key < reached c q (key + 1))) in
     elim (cases_lt (reached c a key) (reached c a (key + 1))) as (λ _. Goal) [
       | inl some ↦ inr (a, omega arith, omega arith, some)
       | inr none ↦
-            elim (find_lines c key (a + 1) n) as (λ _. Goal) [
-              | inl rest ↦ inl (λ p from to.
-                    elim (cases_eq p a) as (λ _. reached c p (key + 1) ≤ reached c p key) [
-                      | inl here ↦ subst (λ k. reached c k (key + 1) ≤ reached c k key) (sym here) none
-                      | inr apart ↦ rest p (omega (arith, from, apart)) (omega (arith, to))
-                    ])
-              | inr found ↦ inr (found.0, omega (arith, found.1), omega (arith, found.2), found.3)
-            ]
+          elim (find_lines c key (a + 1) n) as (λ _. Goal) [
+            | inl rest ↦ inl (λ p from to.
+                elim (cases_eq p a) as (λ _. reached c p (key + 1) ≤ reached c p key) [
+                  | inl here ↦ subst (λ k. reached c k (key + 1) ≤ reached c k key) (sym here) none
+                  | inr apart ↦ rest p (omega (arith, from, apart)) (omega (arith, to))
+                ])
+            | inr found ↦ inr (found.0, omega (arith, found.1), omega (arith, found.2), found.3)
+          ]
     ]
 
 -- where some line has a key, its process has one
@@ -136,25 +135,25 @@ unmoved b c m balances (Entry.Round a r d targets) coherent begun within none is
     (elim (cases_Bool (repeats x (firsts xs))) as (λ _. BalancesFollow b (xs ++ x ∷ []) balances) [
       | inl again ↦ same_money b xs (xs ++ x ∷ []) balances (MovesSame-repeat b xs x again off) money
       | inr fresh ↦
-            elim (cases_Bool d.ok) as (λ _. BalancesFollow b (xs ++ x ∷ []) balances) [
-              | inl ok ↦
-                    let at_most : r ≤ rounds a xs = subst (λ t. IsNextAtMost xs t) is (IsNextAtMost-journal_order b c m coherent within) in
-                    let initial = IsInitial-journal_order b c m coherent (omega (arith, within)) a in
-                    let absent = sym (ap (λ t. list_any (λ (y : Publication). is_same_round t y.entry) (firsts xs)) is) ∙ fresh in
-                    let new : IsNewRound c m a r d targets = record {
-                      within = within;
-                      entry = is;
-                      new = fresh;
-                      next = omega (arith, at_most, ltb-false r (rounds a xs) (sym (repeats-round x.process x.view a r d targets xs initial) ∙ absent));
-                    } in
-                    absurd (no_line b c (2 * m + 1) coherent none (HasLine-round b c m a r d targets coherent begun new ok))
-              | inr refused ↦
-                    same_money b xs (xs ++ x ∷ []) balances
-                    (MovesSame-refused b xs x fresh off
-                    (λ account. ap (credit_of account) is ∙ ap (λ (t : Bool). cond t (amount_for account targets) zero) refused)
-                    (λ account. ap (debit_of account) is ∙ refused_debit account a d.ok refused (amount_of targets)))
-                    money
-            ]
+          elim (cases_Bool d.ok) as (λ _. BalancesFollow b (xs ++ x ∷ []) balances) [
+            | inl ok ↦
+                let at_most : r ≤ rounds a xs = subst (λ t. IsNextAtMost xs t) is (IsNextAtMost-journal_order b c m coherent within) in
+                let initial = IsInitial-journal_order b c m coherent (omega (arith, within)) a in
+                let absent = sym (ap (λ t. list_any (λ (y : Publication). is_same_round t y.entry) (firsts xs)) is) ∙ fresh in
+                let new : IsNewRound c m a r d targets = record {
+                  within = within;
+                  entry = is;
+                  new = fresh;
+                  next = omega (arith, at_most, ltb-false r (rounds a xs) (sym (repeats-round x.process x.view a r d targets xs initial) ∙ absent));
+                } in
+                absurd (no_line b c (2 * m + 1) coherent none (HasLine-round b c m a r d targets coherent begun new ok))
+            | inr refused ↦
+                same_money b xs (xs ++ x ∷ []) balances
+                (MovesSame-refused b xs x fresh off
+                (λ account. ap (credit_of account) is ∙ ap (λ (t : Bool). cond t (amount_for account targets) zero) refused)
+                (λ account. ap (debit_of account) is ∙ refused_debit account a d.ok refused (amount_of targets)))
+                money
+          ]
     ])
   where
     refused_debit : (account source : ℕ) (ok : Bool) → ok ≡ false → (amount : ℕ) → cond (ok && (source == account)) amount 0 ≡ 0
@@ -171,44 +170,46 @@ Ran-odd_all b c m count balances sent asked coherent begun within keeps counts =
     let Goal : Type 0 = Ran b c (m + 1) balances sent asked (flat_map lines (range_with_len 0 n)) (CountsAt b c key n) in
     elim (find_lines c key 0 n) as (λ _. Goal) [
       | inl none ↦
-            let empty : (p : ℕ) → p < n → reached c p (key + 1) ≤ reached c p key = λ p known. none p (omega arith) (omega (arith, known)) in
-            let kept : Keeps b c (m + 1) count balances sent asked = record {
-              money = unmoved b c m balances (publication_at (journal_order c) m).entry coherent begun within empty refl keeps.money;
-              senders = keeps.senders;
-              askers = keeps.askers;
-              sent_so = keeps.sent_so;
-              asked_so = keeps.asked_so;
-            } in
-            subst (λ xs. Ran b c (m + 1) balances sent asked xs (CountsAt b c key n))
-            (sym (flat_map-none lines 0 n (λ p from to. no_lines b c key p coherent (omega (arith, to)) (none p from to))))
-            (Ran-nil b c (m + 1) count balances sent asked (CountsAt b c key n) kept (λ q known.
-                (λ before. (counts q known).1 (omega arith) ∙ same_reach (reached c q key) (reached c q (key + 1)) (empty q known) (reached-mono b c key q coherent known),
-                λ after. absurd (omega (arith, known, after)))))
+          let empty : (p : ℕ) → p < n → reached c p (key + 1) ≤ reached c p key = λ p known. none p (omega arith) (omega (arith, known)) in
+          let kept : Keeps b c (m + 1) count balances sent asked = record {
+            money = unmoved b c m balances (publication_at (journal_order c) m).entry coherent begun within empty refl keeps.money;
+            senders = keeps.senders;
+            askers = keeps.askers;
+            sent_so = keeps.sent_so;
+            asked_so = keeps.asked_so;
+          } in
+          subst (λ xs. Ran b c (m + 1) balances sent asked xs (CountsAt b c key n))
+          (sym (flat_map-none lines 0 n (λ p from to. no_lines b c key p coherent (omega (arith, to)) (none p from to))))
+          (Ran-nil b c (m + 1) count balances sent asked (CountsAt b c key n) kept (λ q known. (
+            λ before. (counts q known).1 (omega arith) ∙ same_reach (reached c q key) (reached c q (key + 1)) (empty q known) (reached-mono b c key q coherent known),
+            λ after. absurd (omega (arith, known, after)),
+          )))
       | inr found ↦
-            let q = found.0 in
-            let known : q < n = omega (arith, found.2) in
-            let told : (p : ℕ) → p < n → reached c p key < reached c p (key + 1) → IsMove b c p (reached c p key) m =
-            λ p inside some. move_of b c p (reached c p key) m coherent
-                ((coherent.told p inside).placed (reached c p key) (omega (arith, some, within-reached c (key + 1) p)))
-                (first_moves b c m p coherent inside some) in
-            let others : (p : ℕ) → p < n → (p ≡ q → ⊥) → reached c p (key + 1) ≤ reached c p key =
-            λ p inside apart.
-                elim (cases_lt (reached c p key) (reached c p (key + 1))) as (λ _. reached c p (key + 1) ≤ reached c p key) [
-                  | inl some ↦ absurd (apart (IsMove-process b c p q (reached c p key) (reached c q key) m (told p inside some) (told q known found.3)))
-                  | inr none ↦ none
-                ] in
-            let ran = Ran-odd b c m count balances sent asked q coherent keeps known ((counts q known).1 (omega arith)) found.3 in
-            subst (λ xs. Ran b c (m + 1) balances sent asked xs (CountsAt b c key n))
-            (sym (flat_map-only lines 0 n q (omega arith) (omega (arith, known)) (λ p from to apart. no_lines b c key p coherent (omega (arith, to)) (others p (omega (arith, to)) apart))))
-            (Ran-weaken b c (m + 1) balances sent asked (lines q) (IsCounted count q (reached c q (key + 1))) (CountsAt b c key n) ran
-            (λ count2 one. λ p inside.
-                (λ before.
-                    elim (cases_eq p q) as (λ _. count2 p ≡ reached c p (key + 1)) [
-                      | inl same ↦ ap count2 same ∙ (one.own ∙ ap (λ k. reached c k (key + 1)) (sym same))
-                      | inr apart ↦ one.others p apart ∙ ((counts p inside).1 (omega arith)
-                            ∙ same_reach (reached c p key) (reached c p (key + 1)) (others p inside apart) (reached-mono b c key p coherent inside))
-                    ],
-                λ after. absurd (omega (arith, inside, after)))))
+          let q = found.0 in
+          let known : q < n = omega (arith, found.2) in
+          let told : (p : ℕ) → p < n → reached c p key < reached c p (key + 1) → IsMove b c p (reached c p key) m =
+          λ p inside some. move_of b c p (reached c p key) m coherent
+          ((coherent.told p inside).placed (reached c p key) (omega (arith, some, within-reached c (key + 1) p)))
+          (first_moves b c m p coherent inside some) in
+          let others : (p : ℕ) → p < n → (p ≡ q → ⊥) → reached c p (key + 1) ≤ reached c p key =
+          λ p inside apart.
+          elim (cases_lt (reached c p key) (reached c p (key + 1))) as (λ _. reached c p (key + 1) ≤ reached c p key) [
+            | inl some ↦ absurd (apart (IsMove-process b c p q (reached c p key) (reached c q key) m (told p inside some) (told q known found.3)))
+            | inr none ↦ none
+          ] in
+          let ran = Ran-odd b c m count balances sent asked q coherent keeps known ((counts q known).1 (omega arith)) found.3 in
+          subst (λ xs. Ran b c (m + 1) balances sent asked xs (CountsAt b c key n))
+          (sym (flat_map-only lines 0 n q (omega arith) (omega (arith, known)) (λ p from to apart. no_lines b c key p coherent (omega (arith, to)) (others p (omega (arith, to)) apart))))
+          (Ran-weaken b c (m + 1) balances sent asked (lines q) (IsCounted count q (reached c q (key + 1))) (CountsAt b c key n) ran
+          (λ count2 one. λ p inside. (
+            λ before.
+                elim (cases_eq p q) as (λ _. count2 p ≡ reached c p (key + 1)) [
+                  | inl same ↦ ap count2 same ∙ (one.own ∙ ap (λ k. reached c k (key + 1)) (sym same))
+                  | inr apart ↦ one.others p apart ∙ ((counts p inside).1 (omega arith)
+                      ∙ same_reach (reached c p key) (reached c p (key + 1)) (others p inside apart) (reached-mono b c key p coherent inside))
+                ],
+            λ after. absurd (omega (arith, inside, after)),
+          )))
     ]
   where
     same_reach : (i j : ℕ) → j ≤ i → i ≤ j → i ≡ j

@@ -48,7 +48,7 @@ module _ (f : ℕ → ℕ) (limit : ℕ) where
       elim (cases_lt (f n) limit) as (λ _. f i < limit) [
         | inl below ↦ omega (arith, sorted i n (omega (arith, within, ap (λ t. cond t (suc n) (reach f limit n)) (lt-ltb (f n) limit below))) (omega arith), below)
         | inr above ↦ reach-below n (λ a b before inside. sorted a b before (omega arith)) i
-              (omega (arith, within, ap (λ t. cond t (suc n) (reach f limit n)) (le-ltb (f n) limit above)))
+            (omega (arith, within, ap (λ t. cond t (suc n) (reach f limit n)) (le-ltb (f n) limit above)))
       ]
 
   pub reach-above : (n : ℕ) → ((i j : ℕ) → i ≤ j → j < n → f i ≤ f j) → (i : ℕ) → reach f limit n ≤ i → i < n → limit ≤ f i
@@ -58,11 +58,11 @@ module _ (f : ℕ → ℕ) (limit : ℕ) where
       elim (cases_lt (f n) limit) as (λ _. limit ≤ f i) [
         | inl below ↦ absurd (omega (arith, beyond, within, ap (λ t. cond t (suc n) (reach f limit n)) (lt-ltb (f n) limit below)))
         | inr above ↦
-              elim (cases_eq i n) as (λ _. limit ≤ f i) [
-                | inl last ↦ subst (λ k. limit ≤ f k) (sym last) above
-                | inr before ↦ reach-above n (λ a b first inside. sorted a b first (omega arith)) i
-                      (omega (arith, beyond, ap (λ t. cond t (suc n) (reach f limit n)) (le-ltb (f n) limit above))) (omega (arith, within, before))
-              ]
+            elim (cases_eq i n) as (λ _. limit ≤ f i) [
+              | inl last ↦ subst (λ k. limit ≤ f k) (sym last) above
+              | inr before ↦ reach-above n (λ a b first inside. sorted a b first (omega arith)) i
+                  (omega (arith, beyond, ap (λ t. cond t (suc n) (reach f limit n)) (le-ltb (f n) limit above))) (omega (arith, within, before))
+            ]
       ]
 
 -- the numbers between two limits, where the test passes at just these
@@ -76,34 +76,34 @@ filter-between test a (suc n) from to before between after low mid high =
     let rest = filter test (range_with_len (a + 1) n) in
     elim (cases_lt a from) as (λ _. cond (test a) (a ∷ rest) rest ≡ range_with_len from (to - from)) [
       | inl early ↦
-            ap (λ t. cond t (a ∷ rest) rest) (before a (omega arith) early)
-            ∙ filter-between test (a + 1) n from to (λ i first. before i (omega arith)) between (λ i beyond within. after i beyond (omega arith)) (omega arith) mid (omega arith)
+          ap (λ t. cond t (a ∷ rest) rest) (before a (omega arith) early)
+          ∙ filter-between test (a + 1) n from to (λ i first. before i (omega arith)) between (λ i beyond within. after i beyond (omega arith)) (omega arith) mid (omega arith)
       | inr here ↦
-            let at : a ≡ from = omega arith in
-            elim (cases_lt from to) as (λ _. cond (test a) (a ∷ rest) rest ≡ range_with_len from (to - from)) [
-              | inl some ↦
-                    let more : to - from ≡ suc (to - (from + 1)) = omega arith in
-                    let next = filter-between test (a + 1) n (from + 1) to (λ i first less. absurd (omega (arith, first, less, at)))
-                    (λ i beyond within. between i (omega arith) within) (λ i beyond within. after i beyond (omega arith)) (omega arith) (omega arith) (omega arith) in
-                    ap (λ t. cond t (a ∷ rest) rest) (between a here (omega arith))
-                    ∙ (ap (λ ys. a ∷ ys) next
-                    ∙ ((λ t. at t ∷ range_with_len (from + 1) (to - (from + 1)))
-                    ∙ ap (range_with_len from) (sym more)))
-              | inr none ↦
-                    let nothing : to - from ≡ 0 = omega arith in
-                    filter-none test (range_with_len a (suc n)) (λ i d within.
-                        let is : get_or (range_with_len a (suc n)) i d ≡ a + i = get_or-range_with_len a (suc n) i d (omega (arith, within, length-range_with_len a (suc n))) in
-                        ap test is ∙ after (a + i) (omega arith) (omega (arith, within, length-range_with_len a (suc n))))
-                    ∙ ap (range_with_len from) (sym nothing)
-            ]
+          let at : a ≡ from = omega arith in
+          elim (cases_lt from to) as (λ _. cond (test a) (a ∷ rest) rest ≡ range_with_len from (to - from)) [
+            | inl some ↦
+                let more : to - from ≡ suc (to - (from + 1)) = omega arith in
+                let next = filter-between test (a + 1) n (from + 1) to (λ i first less. absurd (omega (arith, first, less, at)))
+                (λ i beyond within. between i (omega arith) within) (λ i beyond within. after i beyond (omega arith)) (omega arith) (omega arith) (omega arith) in
+                ap (λ t. cond t (a ∷ rest) rest) (between a here (omega arith))
+                ∙ (ap (λ ys. a ∷ ys) next
+                ∙ ((λ t. at t ∷ range_with_len (from + 1) (to - (from + 1)))
+                ∙ ap (range_with_len from) (sym more)))
+            | inr none ↦
+                let nothing : to - from ≡ 0 = omega arith in
+                filter-none test (range_with_len a (suc n)) (λ i d within.
+                let is : get_or (range_with_len a (suc n)) i d ≡ a + i = get_or-range_with_len a (suc n) i d (omega (arith, within, length-range_with_len a (suc n))) in
+                ap test is ∙ after (a + i) (omega arith) (omega (arith, within, length-range_with_len a (suc n))))
+                ∙ ap (range_with_len from) (sym nothing)
+          ]
     ]
 
 pub reach_mono : (f : ℕ → ℕ) (key n : ℕ) → ((i j : ℕ) → i ≤ j → j < n → f i ≤ f j) → reach f key n ≤ reach f (key + 1) n
 reach_mono f key n sorted =
     elim (cases_lt (reach f (key + 1) n) (reach f key n)) as (λ _. reach f key n ≤ reach f (key + 1) n) [
       | inl less ↦
-            let at = reach f (key + 1) n in
-            absurd (omega (arith, reach-below f key n sorted at less, reach-above f (key + 1) n sorted at (omega arith) (omega (arith, less, reach-le f key n))))
+          let at = reach f (key + 1) n in
+          absurd (omega (arith, reach-below f key n sorted at less, reach-above f (key + 1) n sorted at (omega arith) (omega (arith, less, reach-le f key n))))
       | inr fine ↦ fine
     ]
 

@@ -115,15 +115,15 @@ own-answered b c m count balances sent asked p i source targets coherent keeps k
         let y = get_or sent p 0 + 1 in
         elim (cases_eq q p) as (λ _. get_or (set sent p y) q 0 ≡ get_or sent q 0 + one_if ((q == p) && is_at_own (receipt_at (receipts_of c p) i).at)) [
           | inl same ↦
-                let one : one_if ((q == p) && is_at_own (receipt_at (receipts_of c p) i).at) ≡ one_if true = λ t. one_if (eq-eqb q p same t && is t) in
-                let stored = get_or-set_same sent p y 0 (omega (arith, keeps.senders)) in
-                let at : get_or (set sent p y) q 0 ≡ get_or (set sent p y) p 0 = ap (λ k. get_or (set sent p y) k 0) same in
-                let old : get_or sent q 0 ≡ get_or sent p 0 = ap (λ k. get_or sent k 0) same in
-                omega (arith, one, stored, at, old)
+              let one : one_if ((q == p) && is_at_own (receipt_at (receipts_of c p) i).at) ≡ one_if true = λ t. one_if (eq-eqb q p same t && is t) in
+              let stored = get_or-set_same sent p y 0 (omega (arith, keeps.senders)) in
+              let at : get_or (set sent p y) q 0 ≡ get_or (set sent p y) p 0 = ap (λ k. get_or (set sent p y) k 0) same in
+              let old : get_or sent q 0 ≡ get_or sent p 0 = ap (λ k. get_or sent k 0) same in
+              omega (arith, one, stored, at, old)
           | inr apart ↦
-                let none : one_if ((q == p) && is_at_own (receipt_at (receipts_of c p) i).at) ≡ one_if false =
-                ap (λ t. one_if (t && is_at_own (receipt_at (receipts_of c p) i).at)) (ne_eqb q p apart) in
-                omega (arith, none, get_or-set_other sent p q y 0 apart)
+              let none : one_if ((q == p) && is_at_own (receipt_at (receipts_of c p) i).at) ≡ one_if false =
+              ap (λ t. one_if (t && is_at_own (receipt_at (receipts_of c p) i).at)) (ne_eqb q p apart) in
+              omega (arith, none, get_or-set_other sent p q y 0 apart)
         ]
 
 -- the first record of a round in the order: no round of its account before it is later, and it repeats none
@@ -148,13 +148,13 @@ IsNewRound-first b c m a r k d targets coherent inside is at =
     let absent : list_any (λ (z : Publication). is_round a r z.entry) (firsts (take m order)) ≡ false =
     elim (cases_Bool (list_any (λ (z : Publication). is_round a r z.entry) (firsts (take m order)))) as (λ _. list_any (λ (z : Publication). is_round a r z.entry) (firsts (take m order)) ≡ false) [
       | inl some ↦
-            let found = Any-from_list_any (λ (z : Publication). is_round a r z.entry) (firsts (take m order)) some in
-            let there = so.stands found.0 found.2 in
-            let size = length-take-le m order (omega (arith, at.within)) in
-            let before : there.0 < m = omega (arith, there.1, size) in
-            let in_order : publication_at order there.0 ≡ found.1 =
-            sym (get_or-take m order there.0 no_publication before) ∙ (there.2 ∙ (get_or_default (firsts (take m order)) found.0 no_publication found.1 found.2 ∙ found.3)) in
-            absurd (cc (at.first there.0 before, ap (λ (z : Publication). is_round a r z.entry) in_order, found.4))
+          let found = Any-from_list_any (λ (z : Publication). is_round a r z.entry) (firsts (take m order)) some in
+          let there = so.stands found.0 found.2 in
+          let size = length-take-le m order (omega (arith, at.within)) in
+          let before : there.0 < m = omega (arith, there.1, size) in
+          let in_order : publication_at order there.0 ≡ found.1 =
+          sym (get_or-take m order there.0 no_publication before) ∙ (there.2 ∙ (get_or_default (firsts (take m order)) found.0 no_publication found.1 found.2 ∙ found.3)) in
+          absurd (cc (at.first there.0 before, ap (λ (z : Publication). is_round a r z.entry) in_order, found.4))
       | inr none ↦ none
     ] in
     let new : repeats x (firsts (take m order)) ≡ false =
@@ -213,8 +213,8 @@ round-answered b c m count balances sent asked p i source targets coherent keeps
           (length-set asked at_place (get_or asked at_place 0 + 1))
           (λ q other. omega (arith, no_ask (q == p) (is_at_own r.at) (ap is_at_own so.at)))
           (λ q a other there_in.
-              let asks : (is_at_round r.at && is_payout_from a r.call) ≡ (source == a) =
-              (λ t. ap is_at_round so.at t && is_payout_from-payout a source targets r.call may.call t) in
-              asked-set b asked p source q a keeps.askers known inside other there_in
-              ∙ ap (λ t. get_or asked (asked_place b q a) 0 + one_if ((q == p) && t)) (sym asks));
+          let asks : (is_at_round r.at && is_payout_from a r.call) ≡ (source == a) =
+          (λ t. ap is_at_round so.at t && is_payout_from-payout a source targets r.call may.call t) in
+          asked-set b asked p source q a keeps.askers known inside other there_in
+          ∙ ap (λ t. get_or asked (asked_place b q a) 0 + one_if ((q == p) && t)) (sym asks));
     }

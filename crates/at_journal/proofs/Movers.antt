@@ -20,7 +20,7 @@ use Rattle.at_board.specs.Rounds.{firsts, owns_of, repeats}
 use Rattle.at_board.specs.Views.{HasSlot}
 use Rattle.at_board.proofs.CountLaws.{count_of-take_mono, count_of-take_more_own, count_of-take-le, get_or-publications_of, publications_of-take}
 use Rattle.at_board.proofs.PrefixRuns.{owner-slot}
-use Rattle.at_board.proofs.SoundRounds.{names}
+use Rattle.at_board.specs.Entries.{names}
 use Rattle.at_log.specs.declared.receipt.At.{At}
 use Rattle.at_log.specs.declared.receipt.Receipt.{Receipt}
 use Rattle.at_log.specs.ClosingTerms.{ClosingTerms, receipts_of}
@@ -66,10 +66,10 @@ own_place p m k list number one two =
     elim (cases_lt m k) as (λ _. m ≡ k) [
       | inl below ↦ absurd (omega (arith, one.before, two.before, count_of-take_more_own p m list no_publication one.within one.own, count_of-take_mono p (m + 1) k list (omega (arith, below))))
       | inr rest ↦
-            elim (cases_lt k m) as (λ _. m ≡ k) [
-              | inl above ↦ absurd (omega (arith, one.before, two.before, count_of-take_more_own p k list no_publication two.within two.own, count_of-take_mono p (k + 1) m list (omega (arith, above))))
-              | inr equal ↦ omega (arith, rest, equal)
-            ]
+          elim (cases_lt k m) as (λ _. m ≡ k) [
+            | inl above ↦ absurd (omega (arith, one.before, two.before, count_of-take_more_own p k list no_publication two.within two.own, count_of-take_mono p (k + 1) m list (omega (arith, above))))
+            | inr equal ↦ omega (arith, rest, equal)
+          ]
     ]
 
 -- the own records of a process
@@ -143,21 +143,21 @@ place_of_round b c m a r d targets coherent new =
     let at = round_position-at a r order m new.within there in
     elim (cases_lt k m) as (λ _. k ≡ m) [
       | inl earlier ↦
-            let one = is_round-true a r (publication_at order k).entry at.here in
-            let size = length-take-le m order (omega (arith, new.within)) in
-            let in_prefix : publication_at (take m order) k ≡ publication_at order k = get_or-take m order k no_publication earlier in
-            let found = (AreFirsts-take b c m coherent (omega (arith, new.within))).has k a r one.0 one.1 (omega (arith, earlier, size))
-            (ap (λ (x : Publication). x.entry) in_prefix ∙ one.2) in
-            let some : list_any (λ (x : Publication). is_round a r x.entry) (firsts (take m order)) ≡ true =
-            list_any_at (λ (x : Publication). is_round a r x.entry) (firsts (take m order)) found.0 no_publication found.1 found.2 in
-            let again : repeats (publication_at order m) (firsts (take m order)) ≡ true =
-            ap (λ e. list_any (λ (x : Publication). is_same_round e x.entry) (firsts (take m order))) new.entry ∙ some in
-            absurd (cc (new.new, again))
+          let one = is_round-true a r (publication_at order k).entry at.here in
+          let size = length-take-le m order (omega (arith, new.within)) in
+          let in_prefix : publication_at (take m order) k ≡ publication_at order k = get_or-take m order k no_publication earlier in
+          let found = (AreFirsts-take b c m coherent (omega (arith, new.within))).has k a r one.0 one.1 (omega (arith, earlier, size))
+          (ap (λ (x : Publication). x.entry) in_prefix ∙ one.2) in
+          let some : list_any (λ (x : Publication). is_round a r x.entry) (firsts (take m order)) ≡ true =
+          list_any_at (λ (x : Publication). is_round a r x.entry) (firsts (take m order)) found.0 no_publication found.1 found.2 in
+          let again : repeats (publication_at order m) (firsts (take m order)) ≡ true =
+          ap (λ e. list_any (λ (x : Publication). is_same_round e x.entry) (firsts (take m order))) new.entry ∙ some in
+          absurd (cc (new.new, again))
       | inr rest ↦
-            elim (cases_lt m k) as (λ _. k ≡ m) [
-              | inl later ↦ absurd (cc (at.first m later, there))
-              | inr equal ↦ omega (arith, rest, equal)
-            ]
+          elim (cases_lt m k) as (λ _. k ≡ m) [
+            | inl later ↦ absurd (cc (at.first m later, there))
+            | inr equal ↦ omega (arith, rest, equal)
+          ]
     ]
 
 -- two decisions of one slot and number are those of one round

@@ -27,35 +27,35 @@ own_position-at process number [] within = absurd (omega (arith, within, ap leng
 own_position-at process number (x ∷ xs) within =
     elim (cases_eq x.process process) as (λ _. IsOwnAt process number (x ∷ xs) (own_position process number (x ∷ xs))) [
       | inl same ↦
-            let test = ap (λ t. cond t (cond (number == 0) 0 (own_position process (number - 1) xs + 1)) (own_position process number xs + 1)) (eq-eqb x.process process same) in
-            elim (cases_eq number 0) as (λ _. IsOwnAt process number (x ∷ xs) (own_position process number (x ∷ xs))) [
-              | inl first ↦
-                    let at : own_position process number (x ∷ xs) ≡ 0 = test ∙ ap (λ t. cond t 0 (own_position process (number - 1) xs + 1)) (eq-eqb number 0 first) in
-                    subst (IsOwnAt process number (x ∷ xs)) (sym at)
-                    (record { within = omega arith; own = same; before = omega (arith, first, ap length (publications_of-nil process)) })
-              | inr later ↦
-                    let rest = own_position-at process (number - 1) xs (omega (arith, within, later, count_of-cons-own process x xs same)) in
-                    let j = own_position process (number - 1) xs in
-                    let at : own_position process number (x ∷ xs) ≡ suc j =
-                    test ∙ (ap (λ t. cond t 0 (own_position process (number - 1) xs + 1)) (ne_eqb number 0 later) ∙ omega arith) in
-                    subst (IsOwnAt process number (x ∷ xs)) (sym at)
-                    (record {
-                      within = omega (arith, rest.within);
-                      own = rest.own;
-                      before = omega (arith, rest.before, later, count_of-cons-own process x (take j xs) same);
-                    })
-            ]
+          let test = ap (λ t. cond t (cond (number == 0) 0 (own_position process (number - 1) xs + 1)) (own_position process number xs + 1)) (eq-eqb x.process process same) in
+          elim (cases_eq number 0) as (λ _. IsOwnAt process number (x ∷ xs) (own_position process number (x ∷ xs))) [
+            | inl first ↦
+                let at : own_position process number (x ∷ xs) ≡ 0 = test ∙ ap (λ t. cond t 0 (own_position process (number - 1) xs + 1)) (eq-eqb number 0 first) in
+                subst (IsOwnAt process number (x ∷ xs)) (sym at)
+                (record { within = omega arith; own = same; before = omega (arith, first, ap length (publications_of-nil process)) })
+            | inr later ↦
+                let rest = own_position-at process (number - 1) xs (omega (arith, within, later, count_of-cons-own process x xs same)) in
+                let j = own_position process (number - 1) xs in
+                let at : own_position process number (x ∷ xs) ≡ suc j =
+                test ∙ (ap (λ t. cond t 0 (own_position process (number - 1) xs + 1)) (ne_eqb number 0 later) ∙ omega arith) in
+                subst (IsOwnAt process number (x ∷ xs)) (sym at)
+                (record {
+                  within = omega (arith, rest.within);
+                  own = rest.own;
+                  before = omega (arith, rest.before, later, count_of-cons-own process x (take j xs) same);
+                })
+          ]
       | inr apart ↦
-            let rest = own_position-at process number xs (omega (arith, within, count_of-cons-other process x xs apart)) in
-            let j = own_position process number xs in
-            let at : own_position process number (x ∷ xs) ≡ suc j =
-            ap (λ t. cond t (cond (number == 0) 0 (own_position process (number - 1) xs + 1)) (own_position process number xs + 1)) (ne_eqb x.process process apart) ∙ omega arith in
-            subst (IsOwnAt process number (x ∷ xs)) (sym at)
-            (record {
-              within = omega (arith, rest.within);
-              own = rest.own;
-              before = omega (arith, rest.before, count_of-cons-other process x (take j xs) apart);
-            })
+          let rest = own_position-at process number xs (omega (arith, within, count_of-cons-other process x xs apart)) in
+          let j = own_position process number xs in
+          let at : own_position process number (x ∷ xs) ≡ suc j =
+          ap (λ t. cond t (cond (number == 0) 0 (own_position process (number - 1) xs + 1)) (own_position process number xs + 1)) (ne_eqb x.process process apart) ∙ omega arith in
+          subst (IsOwnAt process number (x ∷ xs)) (sym at)
+          (record {
+            within = omega (arith, rest.within);
+            own = rest.own;
+            before = omega (arith, rest.before, count_of-cons-other process x (take j xs) apart);
+          })
     ]
 
 -- the first record of a round stands there
@@ -83,13 +83,13 @@ round_position-at account round (x ∷ xs) zero within there =
 round_position-at account round (x ∷ xs) (suc k) within there =
     elim (cases_Bool (is_round account round x.entry)) as (λ _. IsRoundAt account round (x ∷ xs) (round_position account round (x ∷ xs))) [
       | inl here ↦
-            let at : round_position account round (x ∷ xs) ≡ 0 = ap (λ t. cond t 0 (round_position account round xs + 1)) here in
-            subst (IsRoundAt account round (x ∷ xs)) (sym at)
-            (record { within = omega arith; here = here; first = λ j before. absurd (omega (arith, before)) })
+          let at : round_position account round (x ∷ xs) ≡ 0 = ap (λ t. cond t 0 (round_position account round xs + 1)) here in
+          subst (IsRoundAt account round (x ∷ xs)) (sym at)
+          (record { within = omega arith; here = here; first = λ j before. absurd (omega (arith, before)) })
       | inr later ↦
-            let rest = round_position-at account round xs k (omega (arith, within)) there in
-            let j = round_position account round xs in
-            let at : round_position account round (x ∷ xs) ≡ suc j = ap (λ t. cond t 0 (round_position account round xs + 1)) later ∙ omega arith in
-            subst (IsRoundAt account round (x ∷ xs)) (sym at)
-            (record { within = omega (arith, rest.within); here = rest.here; first = λ i before. earlier account round x xs i later rest.first before })
+          let rest = round_position-at account round xs k (omega (arith, within)) there in
+          let j = round_position account round xs in
+          let at : round_position account round (x ∷ xs) ≡ suc j = ap (λ t. cond t 0 (round_position account round xs + 1)) later ∙ omega arith in
+          subst (IsRoundAt account round (x ∷ xs)) (sym at)
+          (record { within = omega (arith, rest.within); here = rest.here; first = λ i before. earlier account round x xs i later rest.first before })
     ]

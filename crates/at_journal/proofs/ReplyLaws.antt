@@ -41,8 +41,8 @@ module _ (s : LedgerState) (process source : ℕ) (targets : List TargetPair) wh
   pub pay-not_owner : is_owner s.book process source ≡ false → pay s process source targets ≡ record { ledger = s; reply = NotOwner }
   pay-not_owner owner =
       let rest : Step = cond (is_full s process source) (record { ledger = s; reply = Full })
-          (cond (ltb (balance_of s source) (amount_of targets)) (record { ledger = after_short s process source; reply = Short })
-          (record { ledger = after_done s process source targets; reply = Done })) in
+      (cond (ltb (balance_of s source) (amount_of targets)) (record { ledger = after_short s process source; reply = Short })
+      (record { ledger = after_done s process source targets; reply = Done })) in
       let refused : Step = record { ledger = s; reply = NotOwner } in
       ap (λ t. cond (not t) refused rest) owner
 
@@ -50,7 +50,7 @@ module _ (s : LedgerState) (process source : ℕ) (targets : List TargetPair) wh
       → pay s process source targets ≡ record { ledger = s; reply = Full }
   pay-full owner full =
       let rest : Step = cond (ltb (balance_of s source) (amount_of targets)) (record { ledger = after_short s process source; reply = Short })
-          (record { ledger = after_done s process source targets; reply = Done }) in
+      (record { ledger = after_done s process source targets; reply = Done }) in
       let refused : Step = record { ledger = s; reply = NotOwner } in
       let filled : Step = record { ledger = s; reply = Full } in
       ap (λ t. cond (not t) refused (cond (is_full s process source) filled rest)) owner ∙ ap (λ t. cond t filled rest) full

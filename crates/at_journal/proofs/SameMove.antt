@@ -97,8 +97,14 @@ IsMove-same b c p i j m within (of_round a r d targets entry slot asks number) (
     let decision : d ≡ d2 = cc same in
     let counted : asks_in a (take j (receipts_of c p)) ≡ asks_in a2 (take j (receipts_of c p)) = ap (λ t. asks_in t (take j (receipts_of c p))) account in
     let numbers : d.number ≡ d2.number = ap (λ (e : Decision). e.number) decision in
-    omega (arith, number, number2, counted, numbers,
-    count_by-past (λ (q : Receipt). is_at_round q.at && is_payout_from a q.call) (receipts_of c p) i j no_receipt within asks less)
+    omega (
+      arith,
+      number,
+      number2,
+      counted,
+      numbers,
+      count_by-past (λ (q : Receipt). is_at_round q.at && is_payout_from a q.call) (receipts_of c p) i j no_receipt within asks less,
+    )
 
 -- a slot has one owner
 pub same_owner : (t : AccountTerms) (p q slot : ℕ) → slot_in t p ≡ Some slot → slot_in t q ≡ Some slot → p ≡ q

@@ -53,8 +53,8 @@ owner_within b p a owner =
     elim (cases_lt a (length b.accounts)) as (λ _. a < length b.accounts) [
       | inl within ↦ within
       | inr beyond ↦
-            let none : is_owner b p a ≡ false = ap (λ t. is_owner_in t p) (get_or-eq_default b.accounts no_account beyond) in
-            absurd (cc (owner, none))
+          let none : is_owner b p a ≡ false = ap (λ t. is_owner_in t p) (get_or-eq_default b.accounts no_account beyond) in
+          absurd (cc (owner, none))
     ]
 
 -- one more request on an account
@@ -68,23 +68,23 @@ asked-set b asked p source q a sized known inside other there =
     let within : at < length asked = omega (arith, sized, mul-add-lt p (length b.accounts) source b.processes known inside) in
     elim (cases_eq (asked_place b q a) at) as (λ _. get_or (set asked at y) (asked_place b q a) 0 ≡ get_or asked (asked_place b q a) 0 + one_if ((q == p) && (source == a))) [
       | inl same ↦
-            let parts = same_from_place q a p source (length b.accounts) there inside same in
-            let one : one_if ((q == p) && (source == a)) ≡ one_if true = λ t. one_if (eq-eqb q p parts.0 t && eq-eqb source a (sym parts.1) t) in
-            let stored = get_or-set_same asked at y 0 within in
-            let here : get_or (set asked at y) (asked_place b q a) 0 ≡ get_or (set asked at y) at 0 = ap (λ i. get_or (set asked at y) i 0) same in
-            let old : get_or asked (asked_place b q a) 0 ≡ get_or asked at 0 = ap (λ i. get_or asked i 0) same in
-            omega (arith, one, stored, here, old)
+          let parts = same_from_place q a p source (length b.accounts) there inside same in
+          let one : one_if ((q == p) && (source == a)) ≡ one_if true = λ t. one_if (eq-eqb q p parts.0 t && eq-eqb source a (sym parts.1) t) in
+          let stored = get_or-set_same asked at y 0 within in
+          let here : get_or (set asked at y) (asked_place b q a) 0 ≡ get_or (set asked at y) at 0 = ap (λ i. get_or (set asked at y) i 0) same in
+          let old : get_or asked (asked_place b q a) 0 ≡ get_or asked at 0 = ap (λ i. get_or asked i 0) same in
+          omega (arith, one, stored, here, old)
       | inr apart ↦
-            let none : ((q == p) && (source == a)) ≡ false =
-            elim (cases_eq q p) as (λ _. ((q == p) && (source == a)) ≡ false) [
-              | inl same ↦
-                    elim (cases_eq source a) as (λ _. ((q == p) && (source == a)) ≡ false) [
-                      | inl both ↦ absurd (apart (λ t. asked_place b (same t) (sym both t)))
-                      | inr differs ↦ (λ t. eq-eqb q p same t && ne_eqb source a differs t)
-                    ]
-              | inr differs ↦ ap (λ t. t && (source == a)) (ne_eqb q p differs)
-            ] in
-            omega (arith, get_or-set_other asked at (asked_place b q a) y 0 apart, ap one_if none)
+          let none : ((q == p) && (source == a)) ≡ false =
+          elim (cases_eq q p) as (λ _. ((q == p) && (source == a)) ≡ false) [
+            | inl same ↦
+                elim (cases_eq source a) as (λ _. ((q == p) && (source == a)) ≡ false) [
+                  | inl both ↦ absurd (apart (λ t. asked_place b (same t) (sym both t)))
+                  | inr differs ↦ (λ t. eq-eqb q p same t && ne_eqb source a differs t)
+                ]
+            | inr differs ↦ ap (λ t. t && (source == a)) (ne_eqb q p differs)
+          ] in
+          omega (arith, get_or-set_other asked at (asked_place b q a) y 0 apart, ap one_if none)
     ]
 
 -- one line of a process is answered so
@@ -141,10 +141,10 @@ credits-beyond b c m a coherent beyond =
     let weight : Publication → ℕ = λ x. credit_of a x.entry in
     let whole : credits a order ≡ 0 =
     sum_by-nothing weight (firsts order) (λ j d within.
-        let there = (AreFirsts-journal_order b c coherent).stands j within in
-        let x : Publication = publication_at order there.0 in
-        let same : get_or (firsts order) j d ≡ x = get_or_default (firsts order) j d no_publication within ∙ sym there.2 in
-        ap weight same ∙ credit-beyond b c x.process a (prefix_of x.view order) x.entry (IsCoherentEntry-journal_order b c there.0 coherent there.1) beyond) in
+    let there = (AreFirsts-journal_order b c coherent).stands j within in
+    let x : Publication = publication_at order there.0 in
+    let same : get_or (firsts order) j d ≡ x = get_or_default (firsts order) j d no_publication within ∙ sym there.2 in
+    ap weight same ∙ credit-beyond b c x.process a (prefix_of x.view order) x.entry (IsCoherentEntry-journal_order b c there.0 coherent there.1) beyond) in
     elim (cases_lt m (length order)) as (λ _. credits a (take m order) ≡ 0) [
       | inl within ↦ omega (arith, sum_by-firsts-take_mono weight order m (length order) (omega arith), ap (credits a) (take_all (length order) order (omega arith)), whole)
       | inr all ↦ omega (arith, ap (credits a) (take_all m order all), whole)
@@ -157,8 +157,8 @@ balance-Keeps b c m count balances sent asked a coherent keeps =
     elim (cases_lt a (length b.accounts)) as (λ _. balance_after b (take m (journal_order c)) a ≡ get_or balances a 0) [
       | inl within ↦ omega (arith, keeps.money.balanced a within)
       | inr beyond ↦
-            let nothing : (account_of b a).opening ≡ 0 = ap (λ (t : AccountTerms). t.opening) (get_or-eq_default b.accounts no_account beyond) in
-            omega (arith, nothing, credits-beyond b c m a coherent beyond, get_or-eq_default balances 0 {n = a} (omega (arith, keeps.money.accounts, beyond)))
+          let nothing : (account_of b a).opening ≡ 0 = ap (λ (t : AccountTerms). t.opening) (get_or-eq_default b.accounts no_account beyond) in
+          omega (arith, nothing, credits-beyond b c m a coherent beyond, get_or-eq_default balances 0 {n = a} (omega (arith, keeps.money.accounts, beyond)))
     ]
 
 -- a line that moved nothing is answered as its receipt says
@@ -235,11 +235,11 @@ still-answered b c m count balances sent asked p i coherent keeps known here wit
     elim (cases_lt (get_or balances source 0) (amount_of targets)) as (λ _. get_or balances source 0 < amount_of targets) [
       | inl below ↦ below
       | inr enough ↦
-            let covered : IsCovered b (take m order) source (amount_of targets) = omega (arith, enough, keeps.money.balanced source inside) in
-            let there : IsCovered b (take so.decision.place order) source (amount_of (request_at ((order_state c).rows source so.decision.slot) so.decision.number).targets) =
-            subst (λ (q : Request). IsCovered b (take so.decision.place order) source (amount_of q.targets)) (sym state.request)
-            (subst (λ k. IsCovered b (take k order) source (amount_of targets)) (sym refused.1) covered) in
-            absurd (cc (not_ok, law.ok.1 there))
+          let covered : IsCovered b (take m order) source (amount_of targets) = omega (arith, enough, keeps.money.balanced source inside) in
+          let there : IsCovered b (take so.decision.place order) source (amount_of (request_at ((order_state c).rows source so.decision.slot) so.decision.number).targets) =
+          subst (λ (q : Request). IsCovered b (take so.decision.place order) source (amount_of q.targets)) (sym state.request)
+          (subst (λ k. IsCovered b (take k order) source (amount_of targets)) (sym refused.1) covered) in
+          absurd (cc (not_ok, law.ok.1 there))
     ] in
     let at = asked_place b p source in
     let asked2 = set asked at (get_or asked at 0 + 1) in
@@ -254,15 +254,16 @@ still-answered b c m count balances sent asked p i coherent keeps known here wit
           (length-set asked at (get_or asked at 0 + 1))
           (λ q other. omega (arith, none (q == p) (is_at_own r.at) (ap is_at_own so.at)))
           (λ q a other there.
-              let asks : (is_at_round r.at && is_payout_from a r.call) ≡ (source == a) =
-              (λ t. ap is_at_round so.at t && is_payout_from-payout a source targets r.call may.call t) in
-              asked-set b asked p source q a keeps.askers known inside other there
-              ∙ ap (λ t. get_or asked (asked_place b q a) 0 + one_if ((q == p) && t)) (sym asks));
+          let asks : (is_at_round r.at && is_payout_from a r.call) ≡ (source == a) =
+          (λ t. ap is_at_round so.at t && is_payout_from-payout a source targets r.call may.call t) in
+          asked-set b asked p source q a keeps.askers known inside other there
+          ∙ ap (λ t. get_or asked (asked_place b q a) 0 + one_if ((q == p) && t)) (sym asks));
     }
   where
     refused_decision : (ok : Bool) → is_success (cond ok Done Short) ≡ false → ok ≡ false
     refused_decision true is = absurd (cc is)
     refused_decision false is = refl
+
     none : (s t : Bool) → t ≡ false → one_if (s && t) ≡ 0
     none true t is = ap one_if is
     none false t is = refl

@@ -52,22 +52,25 @@ lines_of-journal_lines b c p coherent known =
     let key : ℕ → ℕ = line_key c p in
     let numbers : ℕ → List ℕ = λ k. filter (λ i. key i == k) (range_with_len 0 count) in
     let sorted : IsNonDecreasingBy key (range_with_len 0 count) = λ i j d before within.
-        let size = length-range_with_len 0 count in
-        omega (arith, line_key-sorted b c p coherent known (get_or (range_with_len 0 count) i d) (get_or (range_with_len 0 count) j d)
-        (omega (arith, get_or-range_with_len 0 count i d (omega (arith, size, before, within)), get_or-range_with_len 0 count j d (omega (arith, size, within)), before))
-        (omega (arith, get_or-range_with_len 0 count j d (omega (arith, size, within)), size, within))) in
+    let size = length-range_with_len 0 count in
+    omega (
+      arith,
+      line_key-sorted b c p coherent known (get_or (range_with_len 0 count) i d) (get_or (range_with_len 0 count) j d)
+          (omega (arith, get_or-range_with_len 0 count i d (omega (arith, size, before, within)), get_or-range_with_len 0 count j d (omega (arith, size, within)), before))
+          (omega (arith, get_or-range_with_len 0 count j d (omega (arith, size, within)), size, within)),
+    ) in
     let each : (k : ℕ) → lines_of p (flat_map (process_lines_at c k) (range_with_len 0 n)) ≡ map (line c p) (numbers k) =
     λ k. filter-flat_map (λ l. l.process == p) (process_lines_at c k) (range_with_len 0 n)
-        ∙ (flat_map-only (λ q. lines_of p (process_lines_at c k q)) 0 n p (omega arith) (omega (arith, known, coherent.receipts))
-          (λ q from to apart. filter-others p q c (filter (λ i. line_key c q i == k) (range_with_len 0 (length (receipts_of c q)))) apart)
-        ∙ filter-own p c (numbers k)) in
+    ∙ (flat_map-only (λ q. lines_of p (process_lines_at c k q)) 0 n p (omega arith) (omega (arith, known, coherent.receipts))
+    (λ q from to apart. filter-others p q c (filter (λ i. line_key c q i == k) (range_with_len 0 (length (receipts_of c q)))) apart)
+    ∙ filter-own p c (numbers k)) in
     filter-flat_map (λ l. l.process == p) (λ k. flat_map (process_lines_at c k) (range_with_len 0 n)) (range_with_len 0 limit)
     ∙ (ap (λ g. flat_map g (range_with_len 0 limit)) (λ t k. each k t)
     ∙ (flat_map-values (line c p) numbers (range_with_len 0 limit)
     ∙ ap (map (line c p)) (flat_map-buckets key (range_with_len 0 count) limit sorted
     ∙ filter-first (λ i. nat_lt (key i) limit) 0 count count (omega arith)
-        (λ i within. lt-ltb (key i) limit (omega (arith, line_key-le b c p i coherent known (omega (arith, within)), length-journal_order c)))
-        (λ i beyond within. absurd (omega (arith, beyond, within))))))
+    (λ i within. lt-ltb (key i) limit (omega (arith, line_key-le b c p i coherent known (omega (arith, within)), length-journal_order c)))
+    (λ i beyond within. absurd (omega (arith, beyond, within))))))
 
 -- the calls of each process
 abbrev pub calls_in : ClosingTerms → List (List Call)
@@ -82,11 +85,11 @@ Whole-journal_lines b c coherent =
       within =
           let n = length c.receipts in
           All-flat_map (λ (l : Line). l.process < length files) (λ k. flat_map (process_lines_at c k) (range_with_len 0 n)) (range_with_len 0 (2 * sum (log_lengths c) + 1)) (λ i d inside.
-              let key = get_or (range_with_len 0 (2 * sum (log_lengths c) + 1)) i d in
-              All-flat_map (λ (l : Line). l.process < length files) (process_lines_at c key) (range_with_len 0 n) (λ j e there.
-                  let q = get_or (range_with_len 0 n) j e in
-                  own_lines c q (length files) (filter (λ k. line_key c q k == key) (range_with_len 0 (length (receipts_of c q))))
-                  (omega (arith, size, coherent.receipts, get_or-range_with_len 0 n j e (omega (arith, there, length-range_with_len 0 n)), there, length-range_with_len 0 n))));
+          let key = get_or (range_with_len 0 (2 * sum (log_lengths c) + 1)) i d in
+          All-flat_map (λ (l : Line). l.process < length files) (process_lines_at c key) (range_with_len 0 n) (λ j e there.
+          let q = get_or (range_with_len 0 n) j e in
+          own_lines c q (length files) (filter (λ k. line_key c q k == key) (range_with_len 0 (length (receipts_of c q))))
+          (omega (arith, size, coherent.receipts, get_or-range_with_len 0 n j e (omega (arith, there, length-range_with_len 0 n)), there, length-range_with_len 0 n))));
       calls = λ p within.
           let known : p < b.processes = omega (arith, within, size) in
           let R = receipts_of c p in
@@ -94,12 +97,12 @@ Whole-journal_lines b c coherent =
           let is = lines_of-journal_lines b c p coherent known in
           ap (map (λ l. l.call)) is
           ∙ (ext_get_or (Call.Read 0) (map (λ (l : Line). l.call) (map (line c p) (range_with_len 0 count))) (map (λ r. r.call) R)
-            (length-map (map (line c p) (range_with_len 0 count)) (λ (l : Line). l.call) ∙ (length-map-range_with_len (line c p) 0 count ∙ sym (length-map R (λ r. r.call))))
-            (λ i inside.
-                let here : i < count = omega (arith, inside, length-map (map (line c p) (range_with_len 0 count)) (λ (l : Line). l.call), length-map-range_with_len (line c p) 0 count) in
-                get_or-map (λ (l : Line). l.call) (map (line c p) (range_with_len 0 count)) i (line c p 0) (Call.Read 0) (omega (arith, here, length-map-range_with_len (line c p) 0 count))
-                ∙ (ap (λ (l : Line). l.call) (get_or-map-range_with_len (line c p) 0 count i i (line c p 0) here (omega arith))
-                ∙ sym (get_or-map (λ r. r.call) R i no_receipt (Call.Read 0) here)))
+          (length-map (map (line c p) (range_with_len 0 count)) (λ (l : Line). l.call) ∙ (length-map-range_with_len (line c p) 0 count ∙ sym (length-map R (λ r. r.call))))
+          (λ i inside.
+          let here : i < count = omega (arith, inside, length-map (map (line c p) (range_with_len 0 count)) (λ (l : Line). l.call), length-map-range_with_len (line c p) 0 count) in
+          get_or-map (λ (l : Line). l.call) (map (line c p) (range_with_len 0 count)) i (line c p 0) (Call.Read 0) (omega (arith, here, length-map-range_with_len (line c p) 0 count))
+          ∙ (ap (λ (l : Line). l.call) (get_or-map-range_with_len (line c p) 0 count i i (line c p 0) here (omega arith))
+          ∙ sym (get_or-map (λ r. r.call) R i no_receipt (Call.Read 0) here)))
           ∙ sym (get_or-map (λ receipts. map (λ r. r.call) receipts) c.receipts p [] [] (omega (arith, known, coherent.receipts))));
       numbers = λ p within.
           let known : p < b.processes = omega (arith, within, size) in
@@ -108,13 +111,13 @@ Whole-journal_lines b c coherent =
           let long : length (lines_of p (journal_lines c)) ≡ count = ap length is ∙ length-map-range_with_len (line c p) 0 count in
           ap (map (λ l. l.number)) is
           ∙ (ext_get_or 0 (map (λ (l : Line). l.number) (map (line c p) (range_with_len 0 count))) (range_with_len 1 count)
-            (length-map (map (line c p) (range_with_len 0 count)) (λ (l : Line). l.number) ∙ (length-map-range_with_len (line c p) 0 count ∙ sym (length-range_with_len 1 count)))
-            (λ i inside.
-                let here : i < count = omega (arith, inside, length-map (map (line c p) (range_with_len 0 count)) (λ (l : Line). l.number), length-map-range_with_len (line c p) 0 count) in
-                let one : i + 1 ≡ 1 + i = omega arith in
-                get_or-map (λ (l : Line). l.number) (map (line c p) (range_with_len 0 count)) i (line c p 0) 0 (omega (arith, here, length-map-range_with_len (line c p) 0 count))
-                ∙ (ap (λ (l : Line). l.number) (get_or-map-range_with_len (line c p) 0 count i i (line c p 0) here (omega arith))
-                ∙ (one ∙ sym (get_or-range_with_len 1 count i 0 here))))
+          (length-map (map (line c p) (range_with_len 0 count)) (λ (l : Line). l.number) ∙ (length-map-range_with_len (line c p) 0 count ∙ sym (length-range_with_len 1 count)))
+          (λ i inside.
+          let here : i < count = omega (arith, inside, length-map (map (line c p) (range_with_len 0 count)) (λ (l : Line). l.number), length-map-range_with_len (line c p) 0 count) in
+          let one : i + 1 ≡ 1 + i = omega arith in
+          get_or-map (λ (l : Line). l.number) (map (line c p) (range_with_len 0 count)) i (line c p 0) 0 (omega (arith, here, length-map-range_with_len (line c p) 0 count))
+          ∙ (ap (λ (l : Line). l.number) (get_or-map-range_with_len (line c p) 0 count i i (line c p 0) here (omega arith))
+          ∙ (one ∙ sym (get_or-range_with_len 1 count i 0 here))))
           ∙ ap (range_with_len 1) (sym long));
     }
   where

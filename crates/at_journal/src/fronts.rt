@@ -68,10 +68,7 @@ fn push_front_at<'c>(fronts: &mut Vec<HeldFront<'c>>, at: &'c At) -> Result<(), 
 }
 
 /// Adds the fronts at which receipts stand.
-fn push_fronts<'c>(
-    fronts: &mut Vec<HeldFront<'c>>,
-    receipts: &'c [Receipt],
-) -> Result<(), NoMemory>
+fn push_fronts<'c>(fronts: &mut Vec<HeldFront<'c>>, receipts: &'c [Receipt]) -> Result<(), NoMemory>
     requires placed { ArePlaced fronts.old.items }
     ensures pushed { OnOk result (counts_in fronts.new.items ≡ counts_in fronts.old.items ++ filter_map (λ r. front_at r.at) receipts.now) }
     ensures placed { ArePlaced fronts.new.items }

@@ -1,7 +1,7 @@
 -- The first records of the rounds of a list: which records they are, and in which order.
-use Rattle.std.proofs.Common.{◌≡◌, ℕ, ◌+◌, ◌<◌, ◌≤◌, ◌==◌, ◌&&◌, ◌⊎◌, Bool, true, false, List, [], ◌∷◌, ◌++◌, length, get_or, take, refl, sym, ap, subst, ◌∙◌, arith, inl, inr}
+use Rattle.std.proofs.Common.{◌≡◌, ℕ, ◌<◌, ◌≤◌, ◌==◌, ◌&&◌, ◌⊎◌, Bool, true, false, List, [], ◌∷◌, ◌++◌, length, take, refl, sym, ap, subst, ◌∙◌, arith, inl, inr}
 use Rattle.std.specs.List.{count_by, list_any}
-use Rattle.std.proofs.lemmas.Bool.{and_left, and_right, cases_Bool, cases_eq, cases_lt, eq-eqb, eqb-true, ltb-false}
+use Rattle.std.proofs.lemmas.Bool.{cases_Bool, cases_lt, eq-eqb, eqb-true, ltb-false}
 use Rattle.std.proofs.lemmas.List.{get_or_append_left, get_or_default, length-append, take-append-le}
 use Rattle.std.proofs.lemmas.List.Folds.{Any-from_list_any}
 use Rattle.std.proofs.Math.Seq.{get_or-append_seam, take-append_seam}
@@ -14,21 +14,21 @@ use Rattle.at_board.specs.BoardState.{publication_at}
 use Rattle.at_board.specs.Entries.{is_round, is_round_on, is_same_round}
 use Rattle.at_board.specs.Publications.{no_publication}
 use Rattle.at_board.specs.Rounds.{firsts, repeats, rounds}
-use Rattle.at_board.proofs.RoundLaws.{IsInitial, IsNextAtMost, firsts-new, firsts-nil, firsts-repeat, published, repeats-round}
+use Rattle.at_board.proofs.RoundLaws.{IsInitial, IsNextAtMost, firsts-new, firsts-repeat, published, repeats-round}
 
 -- a record of a round is one
 pub is_round-true : (a r : ℕ) (e : Entry) → is_round a r e ≡ true → (d : Decision) × (targets : List TargetPair) × (e ≡ Round a r d targets)
 is_round-true a r (Own from targets) is = absurd (cc is)
-is_round-true a r (Round account round d targets) is =
-    (
-      d,
-      targets,
-      λ t. Round (eqb-true account a (and-first (account == a) (round == r) is) t) (eqb-true round r (and-second (account == a) (round == r) is) t) d targets,
-    )
+is_round-true a r (Round account round d targets) is = (
+  d,
+  targets,
+  λ t. Round (eqb-true account a (and-first (account == a) (round == r) is) t) (eqb-true round r (and-second (account == a) (round == r) is) t) d targets,
+)
   where
     and-first : (s t : Bool) → (s && t) ≡ true → s ≡ true
     and-first true t both = refl
     and-first false t both = absurd (cc both)
+
     and-second : (s t : Bool) → (s && t) ≡ true → t ≡ true
     and-second true t both = both
     and-second false t both = absurd (cc both)
@@ -72,15 +72,14 @@ AreFirsts-repeat xs first x again so = record {
       elim (last_or_before xs x m within) as (λ _. (j : ℕ) × (j < length first) × (is_round a r (publication_at first j).entry ≡ true)) [
         | inl before ↦ so.has m a r d targets before (ap (λ (y : Publication). y.entry) (sym (at_before xs x m before)) ∙ is)
         | inr last ↦
-              let entry : x.entry ≡ Round a r d targets = ap (λ (y : Publication). y.entry) (sym (at_last xs x m last)) ∙ is in
-              let found : list_any (λ (y : Publication). is_round a r y.entry) first ≡ true =
-              sym (ap (λ e. list_any (λ (y : Publication). is_same_round e y.entry) first) entry) ∙ again in
-              let some = Any-from_list_any (λ (y : Publication). is_round a r y.entry) first found in
-              (
-                some.0,
-                some.2,
-                ap (λ (y : Publication). is_round a r y.entry) (get_or_default first some.0 no_publication some.1 some.2 ∙ some.3) ∙ some.4,
-              )
+            let entry : x.entry ≡ Round a r d targets = ap (λ (y : Publication). y.entry) (sym (at_last xs x m last)) ∙ is in
+            let found : list_any (λ (y : Publication). is_round a r y.entry) first ≡ true =
+            sym (ap (λ e. list_any (λ (y : Publication). is_same_round e y.entry) first) entry) ∙ again in
+            let some = Any-from_list_any (λ (y : Publication). is_round a r y.entry) first found in (
+              some.0,
+              some.2,
+              ap (λ (y : Publication). is_round a r y.entry) (get_or_default first some.0 no_publication some.1 some.2 ∙ some.3) ∙ some.4,
+            )
       ];
   order = so.order;
 }
@@ -93,32 +92,31 @@ AreFirsts-new xs first x so next = record {
   stands = λ j within.
       elim (last_or_before first x j within) as (λ _. (m : ℕ) × (m < length (xs ++ x ∷ [])) × (publication_at (xs ++ x ∷ []) m ≡ publication_at (first ++ x ∷ []) j)) [
         | inl before ↦
-              let old = so.stands j before in
-              (old.0, omega (arith, old.1, length-append xs (x ∷ [])), at_before xs x old.0 old.1 ∙ (old.2 ∙ sym (at_before first x j before)))
+            let old = so.stands j before in
+            (old.0, omega (arith, old.1, length-append xs (x ∷ [])), at_before xs x old.0 old.1 ∙ (old.2 ∙ sym (at_before first x j before)))
         | inr last ↦ (length xs, omega (arith, length-append xs (x ∷ [])), at_last xs x (length xs) refl ∙ sym (at_last first x j last))
       ];
   has = λ m a r d targets within is.
       elim (last_or_before xs x m within) as (λ _. (j : ℕ) × (j < length (first ++ x ∷ [])) × (is_round a r (publication_at (first ++ x ∷ []) j).entry ≡ true)) [
         | inl before ↦
-              let old = so.has m a r d targets before (ap (λ (y : Publication). y.entry) (sym (at_before xs x m before)) ∙ is) in
-              (old.0, omega (arith, old.1, length-append first (x ∷ [])), ap (λ (y : Publication). is_round a r y.entry) (at_before first x old.0 old.1) ∙ old.2)
+            let old = so.has m a r d targets before (ap (λ (y : Publication). y.entry) (sym (at_before xs x m before)) ∙ is) in
+            (old.0, omega (arith, old.1, length-append first (x ∷ [])), ap (λ (y : Publication). is_round a r y.entry) (at_before first x old.0 old.1) ∙ old.2)
         | inr last ↦
-              let entry : x.entry ≡ Round a r d targets = ap (λ (y : Publication). y.entry) (sym (at_last xs x m last)) ∙ is in
-              (
-                length first,
-                omega (arith, length-append first (x ∷ [])),
-                ap (λ (y : Publication). is_round a r y.entry) (at_last first x (length first) refl) ∙ (ap (is_round a r) entry ∙ same_round a r),
-              )
+            let entry : x.entry ≡ Round a r d targets = ap (λ (y : Publication). y.entry) (sym (at_last xs x m last)) ∙ is in (
+              length first,
+              omega (arith, length-append first (x ∷ [])),
+              ap (λ (y : Publication). is_round a r y.entry) (at_last first x (length first) refl) ∙ (ap (is_round a r) entry ∙ same_round a r),
+            )
       ];
   order = λ j a r d targets within is.
       elim (last_or_before first x j within) as (λ _. count_by (λ y. is_round_on a y.entry) (take j (first ++ x ∷ [])) ≡ r) [
         | inl before ↦
-              ap (count_by (λ y. is_round_on a y.entry)) (take-append-le j first (x ∷ []) (omega (arith, before)))
-              ∙ so.order j a r d targets before (ap (λ (y : Publication). y.entry) (sym (at_before first x j before)) ∙ is)
+            ap (count_by (λ y. is_round_on a y.entry)) (take-append-le j first (x ∷ []) (omega (arith, before)))
+            ∙ so.order j a r d targets before (ap (λ (y : Publication). y.entry) (sym (at_before first x j before)) ∙ is)
         | inr last ↦
-              ap (λ k. count_by (λ y. is_round_on a y.entry) (take k (first ++ x ∷ []))) last
-              ∙ (ap (count_by (λ y. is_round_on a y.entry)) (take-append_seam first (x ∷ []))
-              ∙ next a r d targets (ap (λ (y : Publication). y.entry) (sym (at_last first x j last)) ∙ is))
+            ap (λ k. count_by (λ y. is_round_on a y.entry) (take k (first ++ x ∷ []))) last
+            ∙ (ap (count_by (λ y. is_round_on a y.entry)) (take-append_seam first (x ∷ []))
+            ∙ next a r d targets (ap (λ (y : Publication). y.entry) (sym (at_last first x j last)) ∙ is))
       ];
 }
   where
@@ -133,8 +131,8 @@ AreFirsts-push xs p v e initial next so =
     elim (cases_Bool (repeats x (firsts xs))) as (λ _. AreFirsts (xs ++ x ∷ []) (firsts (xs ++ x ∷ []))) [
       | inl again ↦ subst (AreFirsts (xs ++ x ∷ [])) (sym (firsts-repeat xs x again)) (AreFirsts-repeat xs (firsts xs) x again so)
       | inr new ↦
-            subst (AreFirsts (xs ++ x ∷ [])) (sym (firsts-new xs x new))
-            (AreFirsts-new xs (firsts xs) x so (λ a r d targets is. next_round a r d targets new is))
+          subst (AreFirsts (xs ++ x ∷ [])) (sym (firsts-new xs x new))
+          (AreFirsts-new xs (firsts xs) x so (λ a r d targets is. next_round a r d targets new is))
     ]
   where
     next_round : (a r : ℕ) (d : Decision) (targets : List TargetPair) → repeats (published p v e) (firsts xs) ≡ false → e ≡ Round a r d targets

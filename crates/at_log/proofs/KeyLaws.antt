@@ -1,5 +1,5 @@
 -- The keys of a closing's publications: a held front counts those whose keys are at most its place.
-use Rattle.std.proofs.Common.{◌≡◌, ℕ, ◌+◌, ◌<◌, ◌≤◌, ◌⊎◌, zero, suc, Bool, true, false, List, [], ◌∷◌, length, get_or, sum, map, filter, min, nat_lt, cond, refl, sym, ap, subst, ◌∙◌, arith, inl, inr}
+use Rattle.std.proofs.Common.{◌≡◌, ℕ, ◌<◌, ◌≤◌, zero, suc, Bool, true, false, List, [], ◌∷◌, length, get_or, sum, map, filter, min, nat_lt, cond, sym, ap, subst, ◌∙◌, arith, inl, inr}
 use Rattle.std.specs.List.{Contains, fold}
 use Rattle.std.proofs.lemmas.Bool.{cases_Bool, lt-ltb, ltb-true}
 use Rattle.std.proofs.lemmas.List.{get_or-map, get_or_default, length-map}
@@ -49,10 +49,16 @@ least_place-le process number bound (view ∷ views) zero within counted =
     omega (arith, least_place-cons_counted process number bound view views counted, least_place-le_bound process number (min bound (place view)) views)
 least_place-le process number bound (view ∷ views) (suc i) within counted =
     elim (cases_Bool (counts_it process number view)) as (λ _. least_place process number bound (view ∷ views) ≤ place (get_or views i [])) [
-      | inl in_it ↦ omega (arith, least_place-cons_counted process number bound view views in_it,
-            least_place-le process number (min bound (place view)) views i (omega arith) counted)
-      | inr out_of_it ↦ omega (arith, least_place-cons_other process number bound view views out_of_it,
-            least_place-le process number bound views i (omega arith) counted)
+      | inl in_it ↦ omega (
+        arith,
+        least_place-cons_counted process number bound view views in_it,
+        least_place-le process number (min bound (place view)) views i (omega arith) counted,
+      )
+      | inr out_of_it ↦ omega (
+        arith,
+        least_place-cons_other process number bound view views out_of_it,
+        least_place-le process number bound views i (omega arith) counted,
+      )
     ]
 
 -- it is above what the bound and the place of each view that counts it are above
@@ -64,8 +70,11 @@ least_place-above process number bound (view ∷ views) k below each =
     let rest : (i : ℕ) → i < length views → counts_it process number (get_or views i []) ≡ true → k < place (get_or views i []) =
     λ i within counted. each (suc i) (omega arith) counted in
     elim (cases_Bool (counts_it process number view)) as (λ _. k < least_place process number bound (view ∷ views)) [
-      | inl in_it ↦ omega (arith, least_place-cons_counted process number bound view views in_it,
-            least_place-above process number (min bound (place view)) views k (omega (arith, below, each zero (omega arith) in_it)) rest)
+      | inl in_it ↦ omega (
+        arith,
+        least_place-cons_counted process number bound view views in_it,
+        least_place-above process number (min bound (place view)) views k (omega (arith, below, each zero (omega arith) in_it)) rest,
+      )
       | inr out_of_it ↦ omega (arith, least_place-cons_other process number bound view views out_of_it, least_place-above process number bound views k below rest)
     ]
 
@@ -107,13 +116,13 @@ publication_key-above b c view process number chained sized held known uncounted
     (sum-Covers-lt (log_lengths c) view process (logs ∙ sym (length_of view held)) (chained.ends view held) (omega (arith, logs))
     (omega (arith, get_or-log_lengths c process (omega arith))))
     (λ i inside counted.
-        let w = get_or (held_fronts c) i [] in
-        let here : Contains (held_fronts c) w = (i, inside, get_or_default (held_fronts c) i w [] inside) in
-        elim (chained.chain view w held here) as (λ _. place view < place w) [
-          | inl below ↦ absurd (omega (arith, below process (omega (arith, length_of view held)), ltb-true number (get_or w process 0) counted))
-          | inr above ↦ sum-Covers-lt w view process (length_of w here ∙ sym (length_of view held)) above (omega (arith, length_of w here))
-                (omega (arith, ltb-true number (get_or w process 0) counted))
-        ])
+    let w = get_or (held_fronts c) i [] in
+    let here : Contains (held_fronts c) w = (i, inside, get_or_default (held_fronts c) i w [] inside) in
+    elim (chained.chain view w held here) as (λ _. place view < place w) [
+      | inl below ↦ absurd (omega (arith, below process (omega (arith, length_of view held)), ltb-true number (get_or w process 0) counted))
+      | inr above ↦ sum-Covers-lt w view process (length_of w here ∙ sym (length_of view held)) above (omega (arith, length_of w here))
+          (omega (arith, ltb-true number (get_or w process 0) counted))
+    ])
 
 -- a later publication has no smaller key
 least_place-mono : (process number later bound limit : ℕ) (views : List (List ℕ)) → number ≤ later → bound ≤ limit
@@ -122,16 +131,28 @@ least_place-mono process number later bound limit [] before below = below
 least_place-mono process number later bound limit (view ∷ views) before below =
     elim (cases_Bool (counts_it process later view)) as (λ _. least_place process number bound (view ∷ views) ≤ least_place process later limit (view ∷ views)) [
       | inl in_it ↦
-            let first = lt-ltb number (get_or view process 0) (omega (arith, ltb-true later (get_or view process 0) in_it)) in
-            omega (arith, least_place-cons_counted process number bound view views first, least_place-cons_counted process later limit view views in_it,
-            least_place-mono process number later (min bound (place view)) (min limit (place view)) views before (omega (arith, below)))
+          let first = lt-ltb number (get_or view process 0) (omega (arith, ltb-true later (get_or view process 0) in_it)) in
+          omega (
+            arith,
+            least_place-cons_counted process number bound view views first,
+            least_place-cons_counted process later limit view views in_it,
+            least_place-mono process number later (min bound (place view)) (min limit (place view)) views before (omega (arith, below)),
+          )
       | inr out_of_it ↦
-            elim (cases_Bool (counts_it process number view)) as (λ _. least_place process number bound (view ∷ views) ≤ least_place process later limit (view ∷ views)) [
-              | inl first ↦ omega (arith, least_place-cons_counted process number bound view views first, least_place-cons_other process later limit view views out_of_it,
-                    least_place-mono process number later (min bound (place view)) limit views before (omega (arith, below)))
-              | inr neither ↦ omega (arith, least_place-cons_other process number bound view views neither, least_place-cons_other process later limit view views out_of_it,
-                    least_place-mono process number later bound limit views before below)
-            ]
+          elim (cases_Bool (counts_it process number view)) as (λ _. least_place process number bound (view ∷ views) ≤ least_place process later limit (view ∷ views)) [
+            | inl first ↦ omega (
+              arith,
+              least_place-cons_counted process number bound view views first,
+              least_place-cons_other process later limit view views out_of_it,
+              least_place-mono process number later (min bound (place view)) limit views before (omega (arith, below)),
+            )
+            | inr neither ↦ omega (
+              arith,
+              least_place-cons_other process number bound view views neither,
+              least_place-cons_other process later limit view views out_of_it,
+              least_place-mono process number later bound limit views before below,
+            )
+          ]
     ]
 
 pub publication_key-mono : (c : ClosingTerms) (process number later : ℕ) → number ≤ later

@@ -1,8 +1,8 @@
 -- The journal's order has the laws that runs rest on: each of its prefixes is a run of the ledger.
-use Rattle.std.proofs.Common.{◌≡◌, ℕ, ◌+◌, ◌<◌, ◌≤◌, ◌==◌, ◌&&◌, ◌↔◌, zero, suc, Bool, true, false, List, [], ◌∷◌, length, get_or, take, refl, sym, ap, subst, ◌∙◌, arith, inl, inr}
-use Rattle.std.specs.Prelude.{Option, Some, None}
-use Rattle.std.specs.List.{All, Contains, count_by, filter, filter_map}
-use Rattle.std.proofs.lemmas.Bool.{cases_Bool, cases_lt, ne_eqb}
+use Rattle.std.proofs.Common.{◌≡◌, ℕ, ◌<◌, ◌≤◌, ◌==◌, ◌&&◌, ◌↔◌, zero, suc, Bool, true, false, List, [], ◌∷◌, length, take, refl, sym, ap, subst, ◌∙◌, arith, inl, inr}
+use Rattle.std.specs.Prelude.{Option}
+use Rattle.std.specs.List.{All, count_by}
+use Rattle.std.proofs.lemmas.Bool.{cases_lt, ne_eqb}
 use Rattle.std.proofs.lemmas.List.{get_or_default}
 use Rattle.std.proofs.lemmas.List.Sums.{sum_by-cons}
 use Rattle.at_base.specs.declared.decision.Decision.{Decision}
@@ -19,12 +19,12 @@ use Rattle.at_board.specs.Fronts.{place, prefix_of}
 use Rattle.at_board.specs.Moves.{AreRuns}
 use Rattle.at_board.specs.Publications.{no_publication, publications_of}
 use Rattle.at_board.specs.Rounds.{firsts, owns_of, rounds}
-use Rattle.at_board.specs.Sound.{AreTargets, IsDecidedSo, IsSoundEntry}
+use Rattle.at_board.specs.Sound.{IsSoundEntry}
 use Rattle.at_board.proofs.PrefixRuns.{AreRuns-HasRuns}
 use Rattle.at_board.proofs.RoundLaws.{one_if}
-use Rattle.at_board.proofs.SoundRounds.{names}
-use Rattle.at_board.proofs.RunRules.{HasRuns, IsRunDecision}
-use Rattle.at_log.specs.ClosingTerms.{ClosingTerms, log_of, log_published}
+use Rattle.at_board.specs.Entries.{names}
+use Rattle.at_board.proofs.RunRules.{HasRuns}
+use Rattle.at_log.specs.ClosingTerms.{ClosingTerms, log_published}
 use Rattle.at_log.specs.Coherent.{Coherent, IsCoherentEntry}
 use Rattle.at_log.specs.JournalOrder.{journal_order}
 use Rattle.at_log.proofs.OrderLaws.{ArePublishedBy-journal_order, publications_of-journal_order}
@@ -61,8 +61,7 @@ decided_by b c a r coherent within =
     let j = from.0 in
     let one = decision_in-some a (publication_at ys j).entry d from.2 in
     let here = (AreFirsts-journal_order b c coherent).order j a one.0 d one.1 from.1 one.2 in
-    let round_is : one.0 ≡ r = sym here ∙ (sym (count_by-decisions a (take j ys)) ∙ from.3) in
-    (
+    let round_is : one.0 ≡ r = sym here ∙ (sym (count_by-decisions a (take j ys)) ∙ from.3) in (
       one.1,
       record {
         number = j;
@@ -112,8 +111,12 @@ owns_of-none : (xs : List Publication) (n p : ℕ) → n ≤ p → All (λ x. x.
 owns_of-none [] n p beyond known = refl
 owns_of-none (x ∷ xs) n p beyond known =
     let apart : (x.process == p) ≡ false = ne_eqb x.process p (λ e. omega (arith, e, known zero x (omega arith))) in
-    omega (arith, sum_by-cons (λ (y : Publication). one_if ((y.process == p) && is_own y.entry)) x xs, ap (λ t. one_if (t && is_own x.entry)) apart,
-    owns_of-none xs n p beyond (λ i d within. known (suc i) d (omega arith)))
+    omega (
+      arith,
+      sum_by-cons (λ (y : Publication). one_if ((y.process == p) && is_own y.entry)) x xs,
+      ap (λ t. one_if (t && is_own x.entry)) apart,
+      owns_of-none xs n p beyond (λ i d within. known (suc i) d (omega arith)),
+    )
 
 -- the order has the laws that runs rest on
 pub HasRuns-journal_order : (b : BookTerms) (c : ClosingTerms) → Coherent b c → HasRuns b (order_state c)

@@ -2,10 +2,10 @@
 use Rattle.std.proofs.Common.{◌≡◌, ℕ, ◌+◌, ◌-◌, ◌<◌, ◌≤◌, ◌==◌, zero, suc, Bool, true, false, List, [], ◌∷◌, ◌++◌, length, get_or, map, filter, nat_lt, sum, take, cond, refl, sym, ap, subst, append-nil, append_assoc, ◌∙◌, arith, inl, inr}
 use Rattle.std.specs.List.{All, Contains, flat_map, range_with_len}
 use Rattle.std.specs.List.Sorted.{IsNonDecreasingBy}
-use Rattle.std.proofs.lemmas.Bool.{cases_lt, cases_eq, lt-ltb, le-ltb}
+use Rattle.std.proofs.lemmas.Bool.{cases_eq, lt-ltb, le-ltb}
 use Rattle.std.proofs.lemmas.Grind.{flat_map-append}
-use Rattle.std.proofs.lemmas.List.{ext_get_or, get_or-map, get_or-take, length-map, take_all, length-take-le, map-append, take-map, take-append-le}
-use Rattle.std.proofs.lemmas.List.Elements.{All-append, All-contains, All-filter, All-head, All-tail}
+use Rattle.std.proofs.lemmas.List.{ext_get_or, get_or-map, get_or-take, length-map, take_all, length-take-le, map-append}
+use Rattle.std.proofs.lemmas.List.Elements.{All-append, All-contains, All-filter}
 use Rattle.std.proofs.lemmas.List.FromFn.{get_or-range_with_len, length-range_with_len, length-map-range_with_len, get_or-map-range_with_len}
 use Rattle.at_ledger.specs.Book.{BookTerms}
 use Rattle.at_board.specs.declared.publication.Entry.{Entry}
@@ -60,14 +60,14 @@ publications_of-each process g a zero own above below = absurd (omega arith)
 publications_of-each process g a (suc n) own above below =
     elim (cases_eq a process) as (λ _. publications_of process (g a ++ flat_map g (range_with_len (a + 1) n)) ≡ g process) [
       | inl here ↦
-            publications_of-append process (g a) (flat_map g (range_with_len (a + 1) n))
-            ∙ ((λ t. publications_of process (g (here t)) ++ publications_of process (flat_map g (range_with_len (a + 1) n)))
-            ∙ ((λ t. publications_of-all process (g process) (own process) t ++ publications_of-none process g (a + 1) n own (omega (arith, here)) t)
-            ∙ append-nil (g process)))
+          publications_of-append process (g a) (flat_map g (range_with_len (a + 1) n))
+          ∙ ((λ t. publications_of process (g (here t)) ++ publications_of process (flat_map g (range_with_len (a + 1) n)))
+          ∙ ((λ t. publications_of-all process (g process) (own process) t ++ publications_of-none process g (a + 1) n own (omega (arith, here)) t)
+          ∙ append-nil (g process)))
       | inr apart ↦
-            publications_of-append process (g a) (flat_map g (range_with_len (a + 1) n))
-            ∙ ((λ t. publications_of-others process a (g a) apart (own a) t ++ publications_of process (flat_map g (range_with_len (a + 1) n)))
-            ∙ publications_of-each process g (a + 1) n own (omega (arith, above, apart)) (omega (arith, below)))
+          publications_of-append process (g a) (flat_map g (range_with_len (a + 1) n))
+          ∙ ((λ t. publications_of-others process a (g a) apart (own a) t ++ publications_of process (flat_map g (range_with_len (a + 1) n)))
+          ∙ publications_of-each process g (a + 1) n own (omega (arith, above, apart)) (omega (arith, below)))
     ]
   where
     publications_of-none : (process : ℕ) (g : ℕ → List Publication) (a n : ℕ) → ((q : ℕ) → All (λ x. x.process ≡ q) (g q))
@@ -87,8 +87,8 @@ pub filter-first : (test : ℕ → Bool) (a n m : ℕ) → m ≤ n → ((i : ℕ
     → ((i : ℕ) → a + m ≤ i → i < a + n → test i ≡ false) → filter test (range_with_len a n) ≡ range_with_len a m
 filter-first test a n zero few passes fails =
     filter-none test (range_with_len a n) (λ i d within.
-        let is : get_or (range_with_len a n) i d ≡ a + i = get_or-range_with_len a n i d (omega (arith, within, length-range_with_len a n)) in
-        ap test is ∙ fails (a + i) (omega arith) (omega (arith, within, length-range_with_len a n)))
+    let is : get_or (range_with_len a n) i d ≡ a + i = get_or-range_with_len a n i d (omega (arith, within, length-range_with_len a n)) in
+    ap test is ∙ fails (a + i) (omega arith) (omega (arith, within, length-range_with_len a n)))
 filter-first test a zero (suc m) few passes fails = absurd (omega arith)
 filter-first test a (suc n) (suc m) few passes fails =
     let rest = filter-first test (a + 1) n m (omega arith) (λ i below. passes i (omega arith)) (λ i above below. fails i (omega arith) (omega arith)) in
@@ -101,7 +101,7 @@ map-publication_at xs m few =
     let size : length (map (publication_at xs) (range_with_len 0 m)) ≡ m = length-map-range_with_len (publication_at xs) 0 m in
     ext_get_or no_publication (map (publication_at xs) (range_with_len 0 m)) (take m xs) (size ∙ sym (length-take-le m xs few))
     (λ i within. get_or-map-range_with_len (publication_at xs) 0 m i i no_publication (omega (arith, size)) (omega arith)
-        ∙ sym (get_or-take m xs i no_publication (omega (arith, size))))
+    ∙ sym (get_or-take m xs i no_publication (omega (arith, size))))
 
 -- the publications of keys below a limit
 abbrev pub published_below : ClosingTerms → ℕ → List Publication
@@ -118,8 +118,8 @@ numbers_at-within : (c : ClosingTerms) (key process : ℕ) → All (λ i. i < le
 numbers_at-within c key process =
     All-filter (λ number. publication_key c process number == key) (λ i. i < length (log_of c process)) (range_with_len 0 (length (log_of c process)))
     (λ k d within.
-        let size = length-range_with_len 0 (length (log_of c process)) in
-        omega (arith, size, within, get_or-range_with_len 0 (length (log_of c process)) k d (omega (arith, size, within))))
+    let size = length-range_with_len 0 (length (log_of c process)) in
+    omega (arith, size, within, get_or-range_with_len 0 (length (log_of c process)) k d (omega (arith, size, within))))
 
 -- the publications of a process that have a key
 own_at : (c : ClosingTerms) (key process : ℕ) → All (λ x. x.process ≡ process) (map (publication_at (log_published c process)) (numbers_at c key process))
@@ -142,16 +142,19 @@ publications_of-below c process limit m known few below above =
     let each : (k : ℕ) → publications_of process (published_at c k) ≡ map (publication_at log) (numbers_at c k process) =
     λ k. publications_of-each process (λ q. map (publication_at (log_published c q)) (numbers_at c k q)) 0 (length c.logs) (own_at c k) (omega arith) (omega (arith, known)) in
     let sorted : IsNonDecreasingBy key (range_with_len 0 count) = λ i j d before within.
-        let size = length-range_with_len 0 count in
-        omega (arith, publication_key-mono c process (get_or (range_with_len 0 count) i d) (get_or (range_with_len 0 count) j d)
-        (omega (arith, get_or-range_with_len 0 count i d (omega (arith, size, before, within)), get_or-range_with_len 0 count j d (omega (arith, size, within)), before))) in
+    let size = length-range_with_len 0 count in
+    omega (
+      arith,
+      publication_key-mono c process (get_or (range_with_len 0 count) i d) (get_or (range_with_len 0 count) j d)
+          (omega (arith, get_or-range_with_len 0 count i d (omega (arith, size, before, within)), get_or-range_with_len 0 count j d (omega (arith, size, within)), before)),
+    ) in
     publications_of-flat_map process (published_at c) (range_with_len 0 limit)
     ∙ (ap (λ g. flat_map g (range_with_len 0 limit)) (λ t k. each k t)
     ∙ (flat_map-values (publication_at log) (λ k. numbers_at c k process) (range_with_len 0 limit)
     ∙ (ap (map (publication_at log)) (flat_map-buckets key (range_with_len 0 count) limit sorted
     ∙ filter-first (λ i. nat_lt (key i) limit) 0 count m few
-          (λ i first. lt-ltb (key i) limit (below i (omega (arith, first))))
-          (λ i later within. le-ltb (key i) limit (above i (omega (arith, later)) (omega (arith, within)))))
+    (λ i first. lt-ltb (key i) limit (below i (omega (arith, first))))
+    (λ i later within. le-ltb (key i) limit (above i (omega (arith, later)) (omega (arith, within)))))
     ∙ map-publication_at log m (omega (arith, few, length-map (log_of c process) (published_by process))))))
 
 -- the order has the log of each process in its order
@@ -176,11 +179,11 @@ pub ArePublishedBy-below : (c : ClosingTerms) (limit : ℕ) → ArePublishedBy (
 ArePublishedBy-below c limit =
     let n = length c.logs in
     All-flat_map (λ (x : Publication). x.process < n) (published_at c) (range_with_len 0 limit) (λ k d within.
-        let key = get_or (range_with_len 0 limit) k d in
-        All-flat_map (λ (x : Publication). x.process < n) (λ p. map (publication_at (log_published c p)) (numbers_at c key p)) (range_with_len 0 n) (λ j e inside.
-            let size = length-range_with_len 0 n in
-            let p = get_or (range_with_len 0 n) j e in
-            λ i f there. omega (arith, own_at c key p i f there, get_or-range_with_len 0 n j e (omega (arith, size, inside)), size, inside)))
+    let key = get_or (range_with_len 0 limit) k d in
+    All-flat_map (λ (x : Publication). x.process < n) (λ p. map (publication_at (log_published c p)) (numbers_at c key p)) (range_with_len 0 n) (λ j e inside.
+    let size = length-range_with_len 0 n in
+    let p = get_or (range_with_len 0 n) j e in
+    λ i f there. omega (arith, own_at c key p i f there, get_or-range_with_len 0 n j e (omega (arith, size, inside)), size, inside)))
 
 pub ArePublishedBy-journal_order : (c : ClosingTerms) → ArePublishedBy (length c.logs) (journal_order c)
 unfolding journal_order
@@ -191,14 +194,13 @@ published_below-more : (c : ClosingTerms) (limit more : ℕ) → IsPrefix (publi
 published_below-more c limit zero = ([], ap (published_below c) (omega arith) ∙ sym (append-nil (published_below c limit)))
 published_below-more c limit (suc more) =
     let rest = published_below-more c limit more in
-    let next : limit + suc more ≡ limit + more + 1 = omega arith in
-    (
+    let next : limit + suc more ≡ limit + more + 1 = omega arith in (
       rest.0 ++ flat_map (published_at c) ((0 + (limit + more)) ∷ []),
       ap (published_below c) next
-      ∙ (ap (flat_map (published_at c)) (range_with_len-more 0 (limit + more))
-      ∙ (flat_map-append (published_at c) (range_with_len 0 (limit + more)) ((0 + (limit + more)) ∷ [])
-      ∙ (ap (λ ys. ys ++ flat_map (published_at c) ((0 + (limit + more)) ∷ [])) rest.1
-      ∙ append_assoc (published_below c limit) rest.0 (flat_map (published_at c) ((0 + (limit + more)) ∷ []))))),
+          ∙ (ap (flat_map (published_at c)) (range_with_len-more 0 (limit + more))
+          ∙ (flat_map-append (published_at c) (range_with_len 0 (limit + more)) ((0 + (limit + more)) ∷ [])
+          ∙ (ap (λ ys. ys ++ flat_map (published_at c) ((0 + (limit + more)) ∷ [])) rest.1
+          ∙ append_assoc (published_below c limit) rest.0 (flat_map (published_at c) ((0 + (limit + more)) ∷ []))))),
     )
 
 pub IsPrefix-below : (c : ClosingTerms) (limit : ℕ) → limit ≤ sum (log_lengths c) + 1 → IsPrefix (published_below c limit) (journal_order c)
@@ -230,8 +232,8 @@ IsFront-held b c view chained sized held =
     let same : counts b.processes first ≡ view =
     ext_get_or 0 (counts b.processes first) view (length-counts b.processes first ∙ sym long)
     (λ p within.
-        let known : p < b.processes = omega (arith, within, length-counts b.processes first) in
-        get_or-counts b.processes first p 0 known ∙ count_of-held b c view p chained sized held known) in
+    let known : p < b.processes = omega (arith, within, length-counts b.processes first) in
+    get_or-counts b.processes first p 0 known ∙ count_of-held b c view p chained sized held known) in
     let ours : ArePublishedBy b.processes first = subst (λ n. ArePublishedBy n first) sized (ArePublishedBy-below c (place view + 1)) in
     let size : length first ≡ place view = sym (sum-counts b.processes first ours) ∙ ap sum same in
     let logs : length (log_lengths c) ≡ b.processes = length-map c.logs length ∙ sized in

@@ -1,10 +1,7 @@
 -- The rounds of the journal's order: each record is of a round that is at most the next, and says what its round decided.
-use Rattle.std.proofs.Common.{◌≡◌, ℕ, ◌+◌, ◌<◌, ◌≤◌, ◌==◌, ◌&&◌, zero, suc, Bool, true, false, List, [], ◌∷◌, ◌++◌, length, get_or, take, refl, sym, ap, subst, ◌∙◌, arith, inl, inr}
-use Rattle.std.specs.Prelude.{nat_lt}
-use Rattle.std.specs.List.{Contains, count_by}
-use Rattle.std.proofs.lemmas.Bool.{cases_Bool, eq-eqb, eqb-true, lt-ltb, le-ltb}
+use Rattle.std.proofs.Common.{◌≡◌, ℕ, ◌+◌, ◌<◌, ◌≤◌, zero, suc, List, [], length, take, sym, ap, subst, ◌∙◌, arith}
+use Rattle.std.specs.List.{count_by}
 use Rattle.std.proofs.lemmas.List.{get_or_default, length-take-le, take_all}
-use Rattle.std.proofs.lemmas.List.Sums.{count_by_more_yes}
 use Rattle.at_base.specs.declared.decision.Decision.{Decision}
 use Rattle.at_ledger.specs.Book.{BookTerms}
 use Rattle.at_ledger.specs.Call.{TargetPair}
@@ -12,16 +9,15 @@ use Rattle.at_board.specs.declared.publication.Entry.{Entry}
 use Rattle.at_board.specs.declared.publication.Entry.TheVariants.{Own, Round}
 use Rattle.at_board.specs.declared.publication.Publication.{Publication}
 use Rattle.at_board.specs.BoardState.{publication_at}
-use Rattle.at_board.specs.Entries.{is_round, is_round_on}
+use Rattle.at_board.specs.Entries.{is_round_on}
 use Rattle.at_board.specs.Fronts.{place, prefix_of}
 use Rattle.at_board.specs.Publications.{ArePublishedBy, count_of, no_publication}
 use Rattle.at_board.specs.Rounds.{firsts, rounds}
-use Rattle.at_board.proofs.CountLaws.{sum-counts}
 use Rattle.at_board.proofs.FrontLaws.{place-IsFront-le, ArePublishedBy-take}
 use Rattle.at_board.proofs.RoundLaws.{IsInitial, IsInitial-nil, IsInitial-push, IsNextAtMost, firsts-nil}
 use Rattle.at_board.proofs.SoundRounds.{rounds-take_mono, take-publication_at}
-use Rattle.at_log.specs.ClosingTerms.{ClosingTerms, log_of, log_published}
-use Rattle.at_log.specs.Coherent.{Coherent, IsAgreed, IsCoherentEntry}
+use Rattle.at_log.specs.ClosingTerms.{ClosingTerms}
+use Rattle.at_log.specs.Coherent.{Coherent, IsCoherentEntry}
 use Rattle.at_log.specs.JournalOrder.{journal_order}
 use Rattle.at_log.proofs.FirstLaws.{AreFirsts, AreFirsts-nil, AreFirsts-push, is_round-true}
 use Rattle.at_log.proofs.OrderLaws.{ArePublishedBy-journal_order}
@@ -133,6 +129,9 @@ first_law b c j a r d targets coherent within is =
     let order = journal_order c in
     let there = (AreFirsts-journal_order b c coherent).stands j within in
     let x : Publication = publication_at order there.0 in
-    let entry : x.entry ≡ Round a r d targets = ap (λ (y : Publication). y.entry) there.2 ∙ is in
-    (there.0, there.1, entry,
-    round_entry b c x.process (prefix_of x.view order) x.entry a r d targets (IsCoherentEntry-journal_order b c there.0 coherent there.1) entry)
+    let entry : x.entry ≡ Round a r d targets = ap (λ (y : Publication). y.entry) there.2 ∙ is in (
+      there.0,
+      there.1,
+      entry,
+      round_entry b c x.process (prefix_of x.view order) x.entry a r d targets (IsCoherentEntry-journal_order b c there.0 coherent there.1) entry,
+    )

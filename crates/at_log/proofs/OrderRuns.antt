@@ -1,37 +1,29 @@
 -- The journal's order as the publications of a board: each of its prefixes is a run of the ledger.
-use Rattle.std.proofs.Common.{◌≡◌, ℕ, ◌+◌, ◌<◌, ◌≤◌, ◌==◌, ◌&&◌, zero, suc, Bool, true, false, cond, List, [], ◌∷◌, ◌++◌, length, get_or, take, refl, sym, ap, subst, ◌∙◌, arith, inl, inr}
+use Rattle.std.proofs.Common.{◌≡◌, ℕ, ◌+◌, ◌<◌, ◌≤◌, ◌==◌, ◌&&◌, Bool, true, false, cond, List, [], length, get_or, take, refl, sym, ap, ◌∙◌, arith, inl, inr}
 use Rattle.std.specs.Prelude.{Option, Some, None, nat_lt}
-use Rattle.std.specs.List.{Contains, count_by, filter, filter_map}
+use Rattle.std.specs.List.{count_by, filter_map}
 use Rattle.std.specs.Option.{is_some}
-use Rattle.std.proofs.lemmas.Bool.{cases_Bool, cases_eq, cases_lt, eq-eqb, eqb-true, le-ltb, lt-ltb, ne_eqb}
+use Rattle.std.proofs.lemmas.Bool.{cases_Bool, cases_eq, eq-eqb, eqb-true, le-ltb, lt-ltb, ne_eqb}
 use Rattle.std.proofs.lemmas.List.{get_or_default, take-take}
 use Rattle.std.proofs.lemmas.List.Sums.{count_by_more_yes, sum_by-take-le}
 use Rattle.at_base.specs.declared.decision.Decision.{Decision}
-use Rattle.at_ledger.specs.Book.{BookTerms, IsBegun}
+use Rattle.at_ledger.specs.Book.{BookTerms}
 use Rattle.at_ledger.specs.Call.{TargetPair}
 use Rattle.at_board.specs.declared.publication.Entry.{Entry}
 use Rattle.at_board.specs.declared.publication.Entry.TheVariants.{Own, Round}
 use Rattle.at_board.specs.declared.publication.Publication.{Publication}
 use Rattle.at_board.specs.declared.request.Request.{Request}
 use Rattle.at_board.specs.BoardState.{BoardState, decision_at, publication_at, request_at}
-use Rattle.at_board.specs.Entries.{is_own, is_round_on}
-use Rattle.at_board.specs.Fronts.{place, prefix_of}
-use Rattle.at_board.specs.Moves.{AreRuns}
-use Rattle.at_board.specs.Publications.{no_publication, publications_of}
-use Rattle.at_board.specs.Rounds.{firsts, owns_of, rounds}
-use Rattle.at_board.specs.Sound.{IsDecidedSo, IsSoundEntry}
-use Rattle.at_board.proofs.PrefixRuns.{AreRuns-HasRuns}
+use Rattle.at_board.specs.Entries.{is_round_on}
+use Rattle.at_board.specs.Publications.{no_publication}
+use Rattle.at_board.specs.Rounds.{firsts}
 use Rattle.at_board.proofs.RoundLaws.{one_if}
-use Rattle.at_board.proofs.RunRules.{HasRuns, IsRunDecision}
-use Rattle.at_board.proofs.SoundRounds.{names}
-use Rattle.at_log.specs.ClosingTerms.{ClosingTerms, log_published}
-use Rattle.at_log.specs.Coherent.{Coherent, IsCoherentEntry, IsNumbered, is_earlier_for}
+use Rattle.at_board.specs.Entries.{names}
+use Rattle.at_log.specs.ClosingTerms.{ClosingTerms}
+use Rattle.at_log.specs.Coherent.{Coherent, IsNumbered, is_earlier_for}
 use Rattle.at_log.specs.JournalOrder.{journal_order}
-use Rattle.at_log.proofs.FirstLaws.{AreFirsts}
-use Rattle.at_log.proofs.OrderLaws.{publications_of-journal_order}
-use Rattle.at_log.proofs.OrderRounds.{AreFirsts-journal_order, IsCoherentEntry-journal_order, IsFirst, IsFirst-journal_order, first_law, round_entry}
-use Rattle.at_log.proofs.PickLaws.{count_by-before, count_by-filter_both, count_by-filter_map, filter_map-at, filter_map-from, picks, take-filter_map}
-use Rattle.at_log.proofs.ViewLaws.{HasView-journal_order}
+use Rattle.at_log.proofs.OrderRounds.{AreFirsts-journal_order, IsFirst}
+use Rattle.at_log.proofs.PickLaws.{count_by-before, count_by-filter_map, filter_map-at, picks, take-filter_map}
 
 -- the decision of a round of an account
 abbrev pub decision_in : ℕ → Entry → Option Decision
@@ -79,9 +71,9 @@ decision_in-some a (Own from targets) d is = absurd (cc is)
 decision_in-some a (Round account round decision targets) d is =
     elim (cases_eq account a) as (λ _. (r : ℕ) × (ts : List TargetPair) × (Round account round decision targets ≡ Round a r d ts)) [
       | inl same ↦
-            let found : Some decision ≡ Some d = sym (ap (λ t. cond t (Some decision) None) (eq-eqb account a same)) ∙ is in
-            let d_is : decision ≡ d = cc found in
-            (round, targets, λ t. Round (same t) round (d_is t) targets)
+          let found : Some decision ≡ Some d = sym (ap (λ t. cond t (Some decision) None) (eq-eqb account a same)) ∙ is in
+          let d_is : decision ≡ d = cc found in
+          (round, targets, λ t. Round (same t) round (d_is t) targets)
       | inr apart ↦ absurd (cc (sym (ap (λ t. cond t (Some decision) None) (ne_eqb account a apart)) ∙ is))
     ]
 
@@ -92,17 +84,18 @@ request_in-some a slot (Own from targets) q is = absurd (cc is)
 request_in-some a slot (Round account round d targets) q is =
     elim (cases_Bool ((account == a) && (d.slot == slot))) as (λ _. (r : ℕ) × (e : Decision) × (Round account round d targets ≡ Round a r e q.targets) × (e.slot ≡ slot)) [
       | inl both ↦
-            let made : Request = record { targets = targets; since = d.place } in
-            let found : Some made ≡ Some q = sym (ap (λ t. cond t (Some made) None) both) ∙ is in
-            let q_is : made ≡ q = cc found in
-            let account_is : account ≡ a = eqb-true account a (and_first (account == a) (d.slot == slot) both) in
-            (round, d, (λ t. Round (account_is t) round d (q_is t).targets), eqb-true d.slot slot (and_second (account == a) (d.slot == slot) both))
+          let made : Request = record { targets = targets; since = d.place } in
+          let found : Some made ≡ Some q = sym (ap (λ t. cond t (Some made) None) both) ∙ is in
+          let q_is : made ≡ q = cc found in
+          let account_is : account ≡ a = eqb-true account a (and_first (account == a) (d.slot == slot) both) in
+          (round, d, (λ t. Round (account_is t) round d (q_is t).targets), eqb-true d.slot slot (and_second (account == a) (d.slot == slot) both))
       | inr neither ↦ absurd (cc (sym (ap (λ t. cond t (Some (record { targets = targets; since = d.place })) None) neither) ∙ is))
     ]
   where
     and_first : (s t : Bool) → (s && t) ≡ true → s ≡ true
     and_first true t both = refl
     and_first false t both = absurd (cc both)
+
     and_second : (s t : Bool) → (s && t) ≡ true → t ≡ true
     and_second true t both = both
     and_second false t both = absurd (cc both)
@@ -114,8 +107,8 @@ earlier-yes a r slot (Own from targets) below = refl
 earlier-yes a r slot (Round account round d targets) below =
     elim (cases_eq account a) as (λ _. ((account == a) && (nat_lt round r && (d.slot == slot))) ≡ ((account == a) && (d.slot == slot))) [
       | inl same ↦
-            let first : round < r = below round d targets (λ t. Round (same t) round d targets) in
-            ap (λ t. (account == a) && (t && (d.slot == slot))) (lt-ltb round r first)
+          let first : round < r = below round d targets (λ t. Round (same t) round d targets) in
+          ap (λ t. (account == a) && (t && (d.slot == slot))) (lt-ltb round r first)
       | inr apart ↦ ap (λ t. t && (nat_lt round r && (d.slot == slot))) (ne_eqb account a apart) ∙ sym (ap (λ t. t && (d.slot == slot)) (ne_eqb account a apart))
     ]
 
@@ -125,8 +118,8 @@ earlier-no a r slot (Own from targets) above = refl
 earlier-no a r slot (Round account round d targets) above =
     elim (cases_eq account a) as (λ _. ((account == a) && (nat_lt round r && (d.slot == slot))) ≡ false) [
       | inl same ↦
-            let late : r ≤ round = above round d targets (λ t. Round (same t) round d targets) in
-            (λ t. eq-eqb account a same t && (le-ltb round r late t && (d.slot == slot)))
+          let late : r ≤ round = above round d targets (λ t. Round (same t) round d targets) in
+          (λ t. eq-eqb account a same t && (le-ltb round r late t && (d.slot == slot)))
       | inr apart ↦ ap (λ t. t && (nat_lt round r && (d.slot == slot))) (ne_eqb account a apart)
     ]
 
@@ -147,15 +140,15 @@ named_before b c a r slot d targets coherent first =
     let so = AreFirsts-journal_order b c coherent in
     count_by-before (λ x. is_earlier_for a r slot x.entry) (λ x. names a slot x.entry) ys j
     (λ i e within below.
-        earlier-yes a r slot (get_or ys i e).entry (λ k dk ts is.
-            let here : (publication_at ys i).entry ≡ Round a k dk ts = ap (λ (x : Publication). x.entry) (get_or_default ys i no_publication e within) ∙ is in
-            let counted = so.order i a k dk ts within here in
-            let passes : on (publication_at ys i) ≡ true = ap (is_round_on a) here ∙ eq-eqb a a refl in
-            omega (arith, counted, first.before, count_by_more_yes on ys i no_publication within passes, count_by-take_mono on (i + 1) j ys (omega (arith, below)))))
+    earlier-yes a r slot (get_or ys i e).entry (λ k dk ts is.
+    let here : (publication_at ys i).entry ≡ Round a k dk ts = ap (λ (x : Publication). x.entry) (get_or_default ys i no_publication e within) ∙ is in
+    let counted = so.order i a k dk ts within here in
+    let passes : on (publication_at ys i) ≡ true = ap (is_round_on a) here ∙ eq-eqb a a refl in
+    omega (arith, counted, first.before, count_by_more_yes on ys i no_publication within passes, count_by-take_mono on (i + 1) j ys (omega (arith, below)))))
     (λ i e within above.
-        earlier-no a r slot (get_or ys i e).entry (λ k dk ts is.
-            let here : (publication_at ys i).entry ≡ Round a k dk ts = ap (λ (x : Publication). x.entry) (get_or_default ys i no_publication e within) ∙ is in
-            omega (arith, so.order i a k dk ts within here, first.before, count_by-take_mono on j i ys above)))
+    earlier-no a r slot (get_or ys i e).entry (λ k dk ts is.
+    let here : (publication_at ys i).entry ≡ Round a k dk ts = ap (λ (x : Publication). x.entry) (get_or_default ys i no_publication e within) ∙ is in
+    omega (arith, so.order i a k dk ts within here, first.before, count_by-take_mono on j i ys above)))
 
 -- what the state says of a round of the order
 pub record IsInState (c : ClosingTerms) (a r : ℕ) (d : Decision) (targets : List TargetPair) : Type 0 where
@@ -193,7 +186,7 @@ IsInState-first b c a r d targets coherent numbered first =
           ap (λ k. count_by (λ e. e.slot == d.slot) (take k (filter_map pick ys))) (sym at_round)
           ∙ (ap (count_by (λ e. e.slot == d.slot)) (take-filter_map pick ys j)
           ∙ (count_by-filter_map pick (λ e. e.slot == d.slot) (λ x. names a d.slot x.entry) (take j ys)
-            (λ x e is. names-decided a d.slot x.entry e is) (λ x is. names-undecided a d.slot x.entry is)
+          (λ x e is. names-decided a d.slot x.entry e is) (λ x is. names-undecided a d.slot x.entry is)
           ∙ named));
     }
   where
@@ -201,6 +194,7 @@ IsInState-first b c a r d targets coherent numbered first =
     names-decided a slot e d is =
         let one = decision_in-some a e d is in
         ap (names a slot) one.2 ∙ ap (λ t. t && (d.slot == slot)) (eq-eqb a a refl)
+
     names-undecided : (a slot : ℕ) (e : Entry) → decision_in a e ≡ None → names a slot e ≡ false
     names-undecided a slot (Own from targets) is = refl
     names-undecided a slot (Round account round d targets) is =

@@ -1,7 +1,7 @@
 -- Elements that a list picks from another: where each of them stands in both.
-use Rattle.std.proofs.Common.{◌≡◌, ℕ, ◌+◌, ◌<◌, ◌≤◌, ◌⊎◌, zero, suc, Bool, true, false, cond, List, [], ◌∷◌, ◌++◌, length, filter, get_or, take, refl, sym, ap, subst, ◌∙◌, arith, inl, inr}
+use Rattle.std.proofs.Common.{◌≡◌, ℕ, ◌+◌, ◌<◌, ◌≤◌, ◌⊎◌, zero, suc, Bool, true, false, cond, List, [], ◌∷◌, length, filter, get_or, take, refl, sym, ap, subst, ◌∙◌, arith, inl, inr}
 use Rattle.std.specs.Prelude.{Option, Some, None}
-use Rattle.std.specs.List.{cons_option, count_by, filter_map, sum_by}
+use Rattle.std.specs.List.{cons_option, count_by, filter_map}
 use Rattle.std.specs.Option.{is_some}
 use Rattle.std.proofs.lemmas.Bool.{cases_Bool}
 use Rattle.std.proofs.lemmas.List.Sums.{sum_by-cons}
@@ -37,11 +37,11 @@ module _ {X Y : Type 0} where
       let Goal : Option Y → ℕ → Type 0 = λ o m. (m < length (cons_option o kept)) × (get_or (cons_option o kept) m e ≡ y) in
       elim (cases_Option (pick x)) as (λ _. Goal (pick x) (count_by (picks pick) (x ∷ take j xs))) [
         | inl dropped ↦
-              let same : count_by (picks pick) (x ∷ take j xs) ≡ n = count_by-cons_no (picks pick) x (take j xs) (ap is_some dropped) in
-              subst (λ m. Goal (pick x) m) (sym same) (subst (λ o. Goal o n) (sym dropped) rest)
+            let same : count_by (picks pick) (x ∷ take j xs) ≡ n = count_by-cons_no (picks pick) x (take j xs) (ap is_some dropped) in
+            subst (λ m. Goal (pick x) m) (sym same) (subst (λ o. Goal o n) (sym dropped) rest)
         | inr found ↦
-              let same : count_by (picks pick) (x ∷ take j xs) ≡ suc n = omega (arith, count_by-cons_yes (picks pick) x (take j xs) (ap is_some found.1)) in
-              subst (λ m. Goal (pick x) m) (sym same) (subst (λ o. Goal o (suc n)) (sym found.1) (omega (arith, rest.0), rest.1))
+            let same : count_by (picks pick) (x ∷ take j xs) ≡ suc n = omega (arith, count_by-cons_yes (picks pick) x (take j xs) (ap is_some found.1)) in
+            subst (λ m. Goal (pick x) m) (sym same) (subst (λ o. Goal o (suc n)) (sym found.1) (omega (arith, rest.0), rest.1))
       ]
 
   -- where a picked element of a list stands in it
@@ -66,13 +66,13 @@ module _ {X Y : Type 0} where
       λ ys k. IsFrom pick (x ∷ xs) k d (Some (get_or ys k e)) in
       elim (cases_Option (pick x)) as (λ _. Goal (cons_option (pick x) kept) i) [
         | inl dropped ↦
-              let rest = filter_map-from pick xs i d e (omega (arith, within, ap (λ o. length (cons_option o kept)) dropped)) in
-              subst (λ o. Goal (cons_option o kept) i) (sym dropped)
-              (suc rest.0, omega (arith, rest.1), rest.2, count_by-cons_no (picks pick) x (take rest.0 xs) (ap is_some dropped) ∙ rest.3)
+            let rest = filter_map-from pick xs i d e (omega (arith, within, ap (λ o. length (cons_option o kept)) dropped)) in
+            subst (λ o. Goal (cons_option o kept) i) (sym dropped)
+            (suc rest.0, omega (arith, rest.1), rest.2, count_by-cons_no (picks pick) x (take rest.0 xs) (ap is_some dropped) ∙ rest.3)
         | inr found ↦
-              subst (λ o. Goal (cons_option o kept) i) (sym found.1)
-              (from_cons pick x xs found.0 d e found.1 (λ k below. filter_map-from pick xs k d e below) i
-              (omega (arith, within, ap (λ o. length (cons_option o kept)) found.1)))
+            subst (λ o. Goal (cons_option o kept) i) (sym found.1)
+            (from_cons pick x xs found.0 d e found.1 (λ k below. filter_map-from pick xs k d e below) i
+            (omega (arith, within, ap (λ o. length (cons_option o kept)) found.1)))
       ]
 
   -- the picked elements before one are those that are picked from before its position
@@ -86,12 +86,12 @@ module _ {X Y : Type 0} where
       let first = filter_map pick (take j xs) in
       elim (cases_Option (pick x)) as (λ _. take (count_by (picks pick) (x ∷ take j xs)) (cons_option (pick x) kept) ≡ cons_option (pick x) first) [
         | inl dropped ↦
-              let same : count_by (picks pick) (x ∷ take j xs) ≡ n = count_by-cons_no (picks pick) x (take j xs) (ap is_some dropped) in
-              ap (λ m. take m (cons_option (pick x) kept)) same ∙ subst (λ o. take n (cons_option o kept) ≡ cons_option o first) (sym dropped) (take-filter_map pick xs j)
+            let same : count_by (picks pick) (x ∷ take j xs) ≡ n = count_by-cons_no (picks pick) x (take j xs) (ap is_some dropped) in
+            ap (λ m. take m (cons_option (pick x) kept)) same ∙ subst (λ o. take n (cons_option o kept) ≡ cons_option o first) (sym dropped) (take-filter_map pick xs j)
         | inr found ↦
-              let same : count_by (picks pick) (x ∷ take j xs) ≡ suc n = omega (arith, count_by-cons_yes (picks pick) x (take j xs) (ap is_some found.1)) in
-              ap (λ m. take m (cons_option (pick x) kept)) same
-              ∙ subst (λ o. take (suc n) (cons_option o kept) ≡ cons_option o first) (sym found.1) (ap (λ ys. found.0 ∷ ys) (take-filter_map pick xs j))
+            let same : count_by (picks pick) (x ∷ take j xs) ≡ suc n = omega (arith, count_by-cons_yes (picks pick) x (take j xs) (ap is_some found.1)) in
+            ap (λ m. take m (cons_option (pick x) kept)) same
+            ∙ subst (λ o. take (suc n) (cons_option o kept) ≡ cons_option o first) (sym found.1) (ap (λ ys. found.0 ∷ ys) (take-filter_map pick xs j))
       ]
 
   -- counting picked elements by a test
@@ -104,9 +104,14 @@ module _ {X Y : Type 0} where
       elim (cases_Option (pick x)) as (λ _. count_by test (cons_option (pick x) kept) ≡ count_by both (x ∷ xs)) [
         | inl dropped ↦ ap (λ o. count_by test (cons_option o kept)) dropped ∙ (rest ∙ sym (count_by-cons_no both x xs (missed x dropped)))
         | inr picked ↦
-              ap (λ o. count_by test (cons_option o kept)) picked.1
-              ∙ omega (arith, sum_by-cons (λ y. one_if (test y)) picked.0 kept, sum_by-cons (λ y. one_if (both y)) x xs, rest,
-              ap one_if (found x picked.0 picked.1))
+            ap (λ o. count_by test (cons_option o kept)) picked.1
+            ∙ omega (
+              arith,
+              sum_by-cons (λ y. one_if (test y)) picked.0 kept,
+              sum_by-cons (λ y. one_if (both y)) x xs,
+              rest,
+              ap one_if (found x picked.0 picked.1),
+            )
       ]
 
 module _ {X : Type 0} where
@@ -121,8 +126,13 @@ module _ {X : Type 0} where
   count_by-before test other (x ∷ xs) (suc j) before after =
       let rest = count_by-before test other xs j (λ i d within below. before (suc i) d (omega arith) (omega arith))
       (λ i d within above. after (suc i) d (omega arith) (omega arith)) in
-      omega (arith, sum_by-cons (λ y. one_if (test y)) x xs, sum_by-cons (λ y. one_if (other y)) x (take j xs), rest,
-      ap one_if (before 0 x (omega arith) (omega arith)))
+      omega (
+        arith,
+        sum_by-cons (λ y. one_if (test y)) x xs,
+        sum_by-cons (λ y. one_if (other y)) x (take j xs),
+        rest,
+        ap one_if (before 0 x (omega arith) (omega arith)),
+      )
 
   -- a test that holds of elements that another one keeps
   pub count_by-filter_both : (keep test : X → Bool) (xs : List X) → ((x : X) → test x ≡ true → keep x ≡ true) → count_by test (filter keep xs) ≡ count_by test xs
@@ -132,11 +142,11 @@ module _ {X : Type 0} where
       let kept = filter keep xs in
       elim (cases_Bool (keep x)) as (λ _. count_by test (cond (keep x) (x ∷ kept) kept) ≡ count_by test (x ∷ xs)) [
         | inl stays ↦ ap (λ t. count_by test (cond t (x ∷ kept) kept)) stays
-              ∙ omega (arith, sum_by-cons (λ y. one_if (test y)) x kept, sum_by-cons (λ y. one_if (test y)) x xs, rest)
+            ∙ omega (arith, sum_by-cons (λ y. one_if (test y)) x kept, sum_by-cons (λ y. one_if (test y)) x xs, rest)
         | inr goes ↦
-              let fails : test x ≡ false = elim (cases_Bool (test x)) as (λ _. test x ≡ false) [
-                | inl passes ↦ absurd (cc (goes, implied x passes))
-                | inr fails ↦ fails
-              ] in
-              ap (λ t. count_by test (cond t (x ∷ kept) kept)) goes ∙ (rest ∙ sym (count_by-cons_no test x xs fails))
+            let fails : test x ≡ false = elim (cases_Bool (test x)) as (λ _. test x ≡ false) [
+              | inl passes ↦ absurd (cc (goes, implied x passes))
+              | inr fails ↦ fails
+            ] in
+            ap (λ t. count_by test (cond t (x ∷ kept) kept)) goes ∙ (rest ∙ sym (count_by-cons_no test x xs fails))
       ]

@@ -1,5 +1,5 @@
 -- The views of records, in the journal's order: each stands before its record.
-use Rattle.std.proofs.Common.{◌≡◌, ℕ, ◌+◌, ◌<◌, ◌≤◌, zero, suc, List, [], ◌∷◌, ◌++◌, length, get_or, map, take, refl, sym, ap, subst, ◌∙◌, arith, inl, inr}
+use Rattle.std.proofs.Common.{◌≡◌, ℕ, ◌+◌, ◌<◌, ◌≤◌, zero, suc, List, [], ◌∷◌, length, get_or, map, take, refl, sym, ap, subst, ◌∙◌, arith, inl, inr}
 use Rattle.std.specs.List.{Contains, flat_map}
 use Rattle.std.proofs.lemmas.Bool.{cases_lt}
 use Rattle.std.proofs.lemmas.List.{get_or-map, get_or_default, length-map}
@@ -8,11 +8,11 @@ use Rattle.at_ledger.specs.Book.{BookTerms}
 use Rattle.at_board.specs.declared.publication.Publication.{Publication}
 use Rattle.at_board.specs.BoardState.{publication_at}
 use Rattle.at_board.specs.Fronts.{place}
-use Rattle.at_board.specs.Publications.{ArePublishedBy, count_of, no_publication, publications_of}
+use Rattle.at_board.specs.Publications.{count_of, no_publication}
 use Rattle.at_board.specs.Sound.{HasView}
 use Rattle.at_board.proofs.CountLaws.{IsPosition, count_of-take_more_own, count_of-take-le, get_or-publications_of}
 use Rattle.at_board.proofs.FrontLaws.{IsFront-take, position-IsFront}
-use Rattle.at_log.specs.ClosingTerms.{ClosingTerms, log_lengths, log_of, log_published, published_by}
+use Rattle.at_log.specs.ClosingTerms.{ClosingTerms, log_of, log_published, published_by}
 use Rattle.at_log.specs.Coherent.{Coherent}
 use Rattle.at_log.specs.HeldFronts.{held_fronts}
 use Rattle.at_log.specs.JournalOrder.{journal_order}

@@ -1,9 +1,9 @@
 -- The fronts that a closing holds.
-use Rattle.std.specs.Prelude.{◌≡◌, ℕ, ◌++◌, List, [], ◌∷◌, length, map, slice_index, take, Option, Some, None}
-use Rattle.std.specs.List.{filter_map, flat_map, range_with_len}
+use Rattle.std.specs.Prelude.{ℕ, ◌++◌, List, [], ◌∷◌, map, Option, Some, None}
+use Rattle.std.specs.List.{filter_map, flat_map}
 use Rattle.at_log.specs.declared.receipt.At.{At}
 use Rattle.at_log.specs.declared.receipt.At.TheVariants.{Front, Own, Round, Previous}
-use Rattle.at_log.specs.ClosingTerms.{ClosingTerms, log_lengths, log_published}
+use Rattle.at_log.specs.ClosingTerms.{ClosingTerms, log_lengths}
 
 -- the front at which a receipt stands
 abbrev pub front_at : At → Option (List ℕ)

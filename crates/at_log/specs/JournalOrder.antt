@@ -1,6 +1,6 @@
 -- The order of a closing's publications, and of its lines.
-use Rattle.std.specs.Prelude.{◌≡◌, ℕ, ◌+◌, ◌*◌, ◌==◌, List, [], ◌∷◌, length, map, filter, min, nat_lt, slice_index, slice_index_or, sum}
-use Rattle.std.specs.List.{enumerate_from, flat_map, fold, range_with_len}
+use Rattle.std.specs.Prelude.{ℕ, ◌+◌, ◌*◌, ◌==◌, List, length, map, filter, min, nat_lt, slice_index, sum}
+use Rattle.std.specs.List.{flat_map, fold, range_with_len}
 use Rattle.at_ledger.specs.declared.call.Line.{Line}
 use Rattle.at_board.specs.declared.publication.Publication.{Publication}
 use Rattle.at_board.specs.BoardState.{publication_at}

@@ -1,14 +1,13 @@
 -- Lists of receipts that account for all that a process has in a list of publications.
-use Rattle.std.specs.Prelude.{◌≡◌, ℕ, ◌+◌, ◌-◌, ◌*◌, ◌<◌, Bool, false, ◌&&◌, ◌==◌, List, [], ◌∷◌, count_by, length, take, Option, Some, None, if◌then◌else◌, position}
+use Rattle.std.specs.Prelude.{◌≡◌, ℕ, ◌+◌, ◌-◌, ◌*◌, ◌<◌, Bool, ◌==◌, List, [], ◌∷◌, length, take, if◌then◌else◌}
 use Rattle.std.specs.List.Sorted.{IsNonDecreasing}
 use Rattle.at_ledger.specs.Book.{BookTerms}
 use Rattle.at_ledger.specs.declared.call.Call.{Call}
 use Rattle.at_ledger.specs.declared.call.Call.TheVariants.{Transfer, Read, Pay}
-use Rattle.at_board.specs.declared.publication.Entry.{Entry}
 use Rattle.at_board.specs.declared.publication.Publication.{Publication}
 use Rattle.at_board.specs.Entries.{is_round}
 use Rattle.at_board.specs.Fronts.{place}
-use Rattle.at_board.specs.Rounds.{firsts, owns_of}
+use Rattle.at_board.specs.Rounds.{named, owns_of}
 use Rattle.at_board.specs.Views.{HasSlot}
 use Rattle.at_log.specs.declared.receipt.At.{At}
 use Rattle.at_log.specs.declared.receipt.At.TheVariants.{Front, Own, Round, Previous}
@@ -57,19 +56,10 @@ keys_from process list previous (r ∷ rs) =
 abbrev pub keys_of : ℕ → List Publication → List Receipt → List ℕ
 keys_of process list receipts = keys_from process list 0 receipts
 
--- a record of a round of the account that decided a request of this slot
-abbrev pub decides_for : ℕ → ℕ → Entry → Bool
-decides_for account slot (Entry.Own from targets) = false
-decides_for account slot (Entry.Round on round decision targets) = (on == account) && (decision.slot == slot)
-
--- how many rounds of the account decided requests of this slot
-abbrev pub rounds_for : ℕ → ℕ → List Publication → ℕ
-rounds_for account slot list = count_by (λ x. decides_for account slot x.entry) (firsts list)
-
 -- each receipt is placed after the earlier ones, their keys never fall, and each own record of the process and each
 -- round for it is that of one of them
 pub record Told (b : BookTerms) (process : ℕ) (list : List Publication) (receipts : List Receipt) : Type 0 where
   pub placed : (i : ℕ) → i < length receipts → IsPlaced b process list (take i receipts) (receipt_at receipts i)
   pub keys : IsNonDecreasing (keys_of process list receipts)
   pub owns : owns_of process list ≡ owns_in receipts
-  pub asks : (account slot : ℕ) → HasSlot b process account slot → rounds_for account slot list ≡ asks_in account receipts
+  pub asks : (account slot : ℕ) → HasSlot b process account slot → named account slot list ≡ asks_in account receipts

@@ -1,14 +1,18 @@
 -- Files loaded one after another.
-use Rattle.std.proofs.Common.{◌≡◌, ℕ, ◌+◌, ◌<◌, List, [], ◌∷◌, ◌++◌, length, take, drop, get_or, Result, Ok, Err, Bool, true, ◌==◌, eq-eqb, refl, sym, ap, ◌∙◌, arith, suc, ◌⊎◌, inl, inr, length-append, String, string_bytes, Vec}
+use Rattle.std.proofs.Common.{◌≡◌, ℕ, ◌+◌, ◌<◌, List, [], ◌∷◌, ◌++◌, length, take, drop, get_or, Result, Ok, Err, Bool, true, false, ◌==◌, eq-eqb, refl, sym, ap, ◌∙◌, arith, suc, ◌⊎◌, inl, inr, length-append, String, string_bytes, Vec}
 use Rattle.std.specs.Global.{Global}
+use Rattle.std.proofs.lemmas.Bool.Decides.{nat_tests}
 use Rattle.std.proofs.lemmas.List.{take_more, take-append-drop, length-take-le, get_or-map, map-append}
 use Rattle.std.proofs.Math.Seq.{drop-cons, get_or-append_seam}
 use Rattle.std.proofs.Math.ListN.{get_or-append}
 use Rattle.std.proofs.Math.Nat.{eq-or-lt_of_le}
 use Rattle.at_ledger.specs.Book.{BookTerms}
 use Rattle.at_ledger.specs.declared.call.Call.{Call}
-use Rattle.at_files.specs.Names.{NameList, plain_names}
+use Rattle.at_files.specs.Names.{NameList}
+use Rattle.at_files.specs.BookRecords.{NamedBook}
 use Rattle.at_report.specs.declared.status.Status.{Status}
+use Rattle.at_report.specs.declared.status.Status.TheVariants as status
+use Rattle.at_report.specs.declared.status.UsageFault.TheVariants as usage
 use Rattle.at_program.specs.Words.{Form, Word, words_of}
 use Rattle.at_program.specs.Loading.{EachSpells, Files, IsFileReached, MayReach, SpellsCalls, after, book_loaded, calls_before, calls_loaded, calls_of, files_loaded, loaded}
 
@@ -114,19 +118,33 @@ pub calls_of-push : (files : List (Vec Call Global)) (file : Vec Call Global) �
 calls_of-push files file = map-append (λ (f : Vec Call Global). f.items) files (file ∷ [])
 
 -- what stands before a payment file that was reached is good
-pub MayReach-file : (tells : Bool) (files : Files) (form : Form) (b : BookTerms) (file : ℕ)
-    → (tells ≡ true → book_loaded files form.book ≡ Ok b) → length form.payments ≡ b.processes
-    → IsFileReached tells files (plain_names b) form.payments file → MayReach tells files form file
-MayReach-file tells files form b file read enough reached =
+pub MayReach-file : (tells : Bool) (files : Files) (form : Form) (b : NamedBook) (file : ℕ)
+    → (tells ≡ true → book_loaded files form.book ≡ Ok b) → length form.payments ≡ b.book.processes
+    → IsFileReached tells files b.names form.payments file → MayReach tells files form file
+MayReach-file tells files form b file loaded_is enough reached =
     let file_is : file ≡ suc reached.0 = omega (arith, reached.1.0) in
     record {
       named = omega (arith, reached.1.0, reached.1.1);
-      reached = λ told. rw file_is (record { book = b; read = read told; enough = enough; before = reached.1.2 told });
+      reached = λ told. rw file_is (record { read = b; loaded_is = loaded_is told; enough = enough; before = reached.1.2 told });
     }
 
 -- a payment file that is refused after the book was read
-pub loaded-refused : (files : Files) (form : Form) (b : BookTerms) (refusal : Status) → book_loaded files form.book ≡ Ok b → length form.payments ≡ b.processes
-    → files_loaded files (plain_names b) 0 form.payments ≡ Err refusal → loaded files form ≡ Err refusal
+pub loaded-refused : (files : Files) (form : Form) (b : NamedBook) (refusal : Status) → book_loaded files form.book ≡ Ok b → length form.payments ≡ b.book.processes
+    → files_loaded files b.names 0 form.payments ≡ Err refusal → loaded files form ≡ Err refusal
 loaded-refused files form b refusal read enough refused =
-    let as_many : length form.payments == b.processes ≡ true = eq-eqb _ _ enough in
+    let as_many : length form.payments == b.book.processes ≡ true = eq-eqb _ _ enough in
     rw (read, as_many, refused) refl
+
+-- a form that doesn't name a file for each process
+pub loaded-count : (files : Files) (form : Form) (b : NamedBook) (wanted given : ℕ) → book_loaded files form.book ≡ Ok b → length form.payments ≡ given → wanted ≡ b.book.processes
+    → ¬ (given ≡ wanted) → loaded files form ≡ Err (status.Usage (usage.Files wanted given))
+loaded-count files form b wanted given read given_is wanted_is other =
+    let test : (length form.payments == b.book.processes) ≡ false = grind (arith, nat_tests) in
+    rw (read, test, wanted_is, ← given_is) refl
+
+-- the calls beside the book that was read
+pub loaded-files : (files : Files) (form : Form) (b : NamedBook) (calls : List (List Call)) → book_loaded files form.book ≡ Ok b → length form.payments ≡ b.book.processes
+    → files_loaded files b.names 0 form.payments ≡ Ok calls → loaded files form ≡ Ok (record { book = b.book; names = b.names; files = calls })
+loaded-files files form b calls read enough all =
+    let as_many : length form.payments == b.book.processes ≡ true = eq-eqb _ _ enough in
+    rw (read, as_many, all) refl

@@ -3,3 +3,10 @@ pub mod MayRefuseLaws
 pub mod Played
 pub mod CallCounts
 pub mod SpelledLoaded
+pub mod GeneratorLaws
+pub mod GeneratedBook
+pub mod LineSums
+pub mod SettledSteps
+pub mod SettledRuns
+pub mod DrawnCalls
+pub mod GeneratedRuns

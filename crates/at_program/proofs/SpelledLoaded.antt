@@ -3,7 +3,7 @@ use Rattle.std.proofs.Common.{◌≡◌, ℕ, ◌+◌, ◌<◌, ◌≤◌, ◌^�
 use Rattle.std.proofs.lemmas.Bool.Decides.{nat_tests}
 use Rattle.at_ledger.specs.Book.{BookTerms}
 use Rattle.at_ledger.specs.declared.call.Call.{Call}
-use Rattle.at_files.specs.Names.{AreNamesOf, NameList, plain_names}
+use Rattle.at_files.specs.Names.{AreNamesOf, NameList}
 use Rattle.at_files.specs.Rows.{rows_of}
 use Rattle.at_files.specs.BookFile.{book_of_rows}
 use Rattle.at_files.specs.Payments.{payments_of}
@@ -20,41 +20,36 @@ fetched-Holds files name bytes number held =
     let size : nat_lt FILE_MAX (length bytes) ≡ false = let size = held.size in grind (arith, nat_tests) in
     rw (held.there, size) refl
 
-book_loaded-SpellsBook : (files : Files) (name : Word) (b : BookTerms) (names : NameList) → SpellsBook files name b names → book_loaded files name ≡ Ok b
+book_loaded-SpellsBook : (files : Files) (name : Word) (b : BookTerms) (names : NameList) → SpellsBook files name b names → book_loaded files name ≡ Ok (record { book = b; names = names })
 book_loaded-SpellsBook files name b names is =
-    let read : book_of_rows (rows_of is.bytes) ≡ Ok b = rw is.spelled.spelled (book_of_rows-rows_of_book b is.spelled.book) in
+    let read : book_of_rows (rows_of is.bytes) ≡ Ok (record { book = b; names = names }) = rw is.spelled.spelled (book_of_rows-rows_of_book b names is.spelled.book is.spelled.named) in
     rw (fetched-Holds files name is.bytes 0 is.held, read) refl
 
-calls_loaded-SpellsCalls : (files : Files) (name : Word) (process : ℕ) (b : BookTerms) (names : NameList) (calls : List Call) → AreNamesOf b names → length b.accounts ≤ 2 ^ 64
+calls_loaded-SpellsCalls : (files : Files) (name : Word) (process : ℕ) (b : BookTerms) (names : NameList) (calls : List Call) → AreNamesOf b names
     → SpellsCalls files name b names calls → calls_loaded files names process name ≡ Ok calls
-calls_loaded-SpellsCalls files name process b names calls are few is =
-    let read : payments_of names (rows_of is.bytes) ≡ Ok calls = payments_of-Pays b names (rows_of is.bytes) calls are few is.spelled in
+calls_loaded-SpellsCalls files name process b names calls are is =
+    let read : payments_of names (rows_of is.bytes) ≡ Ok calls = payments_of-Pays b names (rows_of is.bytes) calls are is.spelled in
     rw (fetched-Holds files name is.bytes (process + 1) is.held, read) refl
 
 -- the files of processes that spell their calls, one after another
-files_loaded-each : (files : Files) (b : BookTerms) (names : NameList) → AreNamesOf b names → length b.accounts ≤ 2 ^ 64
+files_loaded-each : (files : Files) (b : BookTerms) (names : NameList) → AreNamesOf b names
     → (process : ℕ) (words : List Word) (calls : List (List Call)) → length words ≡ length calls
     → ((p : ℕ) → p < length calls → SpellsCalls files (get_or words p []) b names (get_or calls p [])) → files_loaded files names process words ≡ Ok calls
 unfolding files_loaded
-files_loaded-each files b names are few process [] [] same each = refl
-files_loaded-each files b names are few process [] (file ∷ calls) same each = absurd (omega arith)
-files_loaded-each files b names are few process (word ∷ words) [] same each = absurd (omega arith)
-files_loaded-each files b names are few process (word ∷ words) (file ∷ calls) same each =
-    let first : calls_loaded files names process word ≡ Ok file = calls_loaded-SpellsCalls files word process b names file are few (each zero (omega arith)) in
+files_loaded-each files b names are process [] [] same each = refl
+files_loaded-each files b names are process [] (file ∷ calls) same each = absurd (omega arith)
+files_loaded-each files b names are process (word ∷ words) [] same each = absurd (omega arith)
+files_loaded-each files b names are process (word ∷ words) (file ∷ calls) same each =
+    let first : calls_loaded files names process word ≡ Ok file = calls_loaded-SpellsCalls files word process b names file are (each zero (omega arith)) in
     let later : files_loaded files names (process + 1) words ≡ Ok calls =
-    files_loaded-each files b names are few (process + 1) words calls (omega arith) (λ p below. each (suc p) (omega arith)) in
+    files_loaded-each files b names are (process + 1) words calls (omega arith) (λ p below. each (suc p) (omega arith)) in
     rw (first, later) refl
 
 -- what the files of a form spell is loaded
 pub loaded-Spelled : (files : Files) (form : Form) (l : Loaded) → Spelled files form l → loaded files form ≡ Ok l
 loaded-Spelled files form l is =
-    let named = is.book.spelled.named in
-    let few : length l.book.accounts ≤ 2 ^ 64 = omega (arith, is.book.spelled.book.begun.few_accounts) in
-    let book : book_loaded files form.book ≡ Ok l.book = book_loaded-SpellsBook files form.book l.book l.names is.book in
+    let book : book_loaded files form.book ≡ Ok (record { book = l.book; names = l.names }) = book_loaded-SpellsBook files form.book l.book l.names is.book in
     let enough : length form.payments == l.book.processes ≡ true = eq-eqb _ _ is.payments.enough in
     let each : files_loaded files l.names 0 form.payments ≡ Ok l.files =
-    files_loaded-each files l.book l.names named few 0 form.payments l.files (is.payments.enough ∙ sym is.payments.count) is.payments.each in
-    let plain : files_loaded files (plain_names l.book) 0 form.payments ≡ Ok l.files =
-    subst (λ (names : NameList). files_loaded files names 0 form.payments ≡ Ok l.files) named.plain each in
-    let whole : NameList → Result Loaded Status = λ names. Ok (record { book = l.book; names = names; files = l.files }) in
-    rw (book, enough, plain) (ap whole (sym named.plain))
+    files_loaded-each files l.book l.names is.book.spelled.named 0 form.payments l.files (is.payments.enough ∙ sym is.payments.count) is.payments.each in
+    rw (book, enough, each) refl

@@ -3,3 +3,5 @@ pub mod Loading
 pub mod Faults
 pub mod Playing
 pub mod Answer
+pub mod Generator
+pub mod Made

@@ -3,7 +3,8 @@ use Rattle.std.specs.Prelude.{◌≡◌, ℕ, ◌+◌, Bool, true, All, Vec, map
 use Rattle.at_ledger.specs.Book.{BookTerms}
 use Rattle.at_ledger.specs.declared.call.Call.{Call}
 use Rattle.at_files.specs.Rows.{rows_of}
-use Rattle.at_files.specs.Names.{NameList, plain_names}
+use Rattle.at_files.specs.Names.{NameList}
+use Rattle.at_files.specs.BookRecords.{NamedBook}
 use Rattle.at_files.specs.BookFile.{book_of_rows, Spells}
 use Rattle.at_files.specs.Payments.{payments_of, Pays}
 use Rattle.at_files.specs.declared.book_fault.BadBook.{BadBook}
@@ -32,13 +33,13 @@ abbrev pub fetched : Option (List ℕ) → ℕ → Result (List ℕ) Status
 fetched None number = Err (status.ReadFault number)
 fetched (Some bytes) number = if nat_lt FILE_MAX (length bytes) then Err (status.TooLong number) else Ok bytes
 
--- the book of a file's bytes
-abbrev pub book_read : Result BookTerms BadBook → Result BookTerms Status
+-- the book of a file's bytes, with its names
+abbrev pub book_read : Result NamedBook BadBook → Result NamedBook Status
 book_read (Ok b) = Ok b
 book_read (Err bad) = Err (status.BadBook bad)
 
--- the book of file 0
-abbrev pub book_loaded : Files → Word → Result BookTerms Status
+-- the book of file 0, with its names
+abbrev pub book_loaded : Files → Word → Result NamedBook Status
 book_loaded files name = after (fetched (files name) 0) (λ bytes. book_read (book_of_rows (rows_of bytes)))
 
 -- the calls of a process, from its file's bytes
@@ -68,14 +69,14 @@ pub record Loaded : Type 0 where
   pub files : List (List Call)
 
 -- the calls beside this book
-abbrev pub with_book : BookTerms → Result (List (List Call)) Status → Result Loaded Status
-with_book b files = after files (λ calls. Ok (record { book = b; names = plain_names b; files = calls }))
+abbrev pub with_book : NamedBook → Result (List (List Call)) Status → Result Loaded Status
+with_book b files = after files (λ calls. Ok (record { book = b.book; names = b.names; files = calls }))
 
 -- as many files as the book has processes, and what they spell
-abbrev pub payments_loaded : Files → List Word → BookTerms → Result Loaded Status
-payments_loaded files names b =
-    if length names == b.processes then with_book b (files_loaded files (plain_names b) 0 names)
-    else Err (status.Usage (usage.Files b.processes (length names)))
+abbrev pub payments_loaded : Files → List Word → NamedBook → Result Loaded Status
+payments_loaded files payments b =
+    if length payments == b.book.processes then with_book b (files_loaded files b.names 0 payments)
+    else Err (status.Usage (usage.Files b.book.processes (length payments)))
 
 -- what the words' files spell, or the first refusal: the book's, then that of their number, then that of each in turn
 abbrev pub loaded : Files → Form → Result Loaded Status
@@ -94,10 +95,10 @@ IsFileReached tells files names payments file =
 
 -- the book is good, there are as many files as it has processes, and those before that of this process are good
 pub record IsReachedBy (files : Files) (form : Form) (process : ℕ) : Type 0 where
-  pub book : BookTerms
-  pub read : book_loaded files form.book ≡ Ok book
-  pub enough : length form.payments ≡ book.processes
-  pub before : AreGoodBefore files (plain_names book) form.payments process
+  pub read : NamedBook
+  pub loaded_is : book_loaded files form.book ≡ Ok read
+  pub enough : length form.payments ≡ read.book.processes
+  pub before : AreGoodBefore files read.names form.payments process
 
 -- what stands before the file with this number is good: nothing stands before the book
 abbrev pub IsReached : Files → Form → ℕ → Type 0

@@ -1,9 +1,13 @@
 -- The forms of the words of the command line.
 use Rattle.std.specs.Prelude.{ℕ, List, [], ◌∷◌, map, codes, bytes_eq, Option, Some, None, option_map, if◌then◌else◌, String, string_bytes}
 use Rattle.std.specs.Global.{Global}
+use Rattle.at_base.specs.Numbers.{number_of}
+use Rattle.at_ledger.specs.Draft.{is_within}
 use Rattle.at_program.specs.declared.words.CommandLine.{CommandLine}
 use Rattle.at_program.specs.declared.words.Command.{Command}
 use Rattle.at_program.specs.declared.words.Command.TheVariants.{Run, Check}
+use Rattle.at_program.specs.declared.words.Making.{Making}
+use Rattle.at_program.specs.declared.words.TheConstants.{MADE_CALLS_MAX, MADE_PROCESSES_MAX}
 
 -- a word, as bytes
 abbrev pub Word : Type 0
@@ -33,3 +37,22 @@ words_of words = map string_bytes words
 -- the same words, as the program holds them
 abbrev pub form_shown : CommandLine → Form
 form_shown line = record { command = line.command; book = line.book.now; payments = words_of line.payments.now }
+
+-- a number from 1 to `most`
+abbrev pub within : ℕ → Option ℕ → Option ℕ
+within most (Some n) = if is_within most n then Some n else None
+within most None = None
+
+-- what `make` makes of three numbers
+abbrev pub making_of : Option ℕ → Option ℕ → Option ℕ → Option Making
+making_of (Some first) (Some processes) (Some calls) = Some (record { first = first; processes = processes; calls = calls })
+making_of (Some first) (Some processes) None = None
+making_of (Some first) None calls = None
+making_of None processes calls = None
+
+-- the words of `make`: the command, any number, the number of processes, and that of the calls of each
+abbrev pub make_of : List Word → Option Making
+make_of (word ∷ first ∷ processes ∷ calls ∷ []) =
+    if bytes_eq word (codes "make") then making_of (number_of first) (within MADE_PROCESSES_MAX (number_of processes)) (within MADE_CALLS_MAX (number_of calls))
+    else None
+make_of words = None

@@ -53,7 +53,7 @@ fn load_book<F: Shelf>(alloc: Global, shelf: &mut F, name: &str) -> Result<(Book
     ensures files { SameFiles (F.tells shelf.old) (F.tells shelf.new) (F.file shelf.old) (F.file shelf.new) }
     ensures later { F.faults shelf.old ≤ F.faults shelf.new }
     ensures kept { OnOk result (F.faults shelf.new ≡ F.faults shelf.old) }
-    ensures ok { F.tells shelf.old ≡ true → IfOk result (λ l. book_loaded (F.file shelf.old) name.now ≡ Ok l.0) }
+    ensures ok { F.tells shelf.old ≡ true → IfOk result (λ l. book_loaded (F.file shelf.old) name.now ≡ Ok (record { book = l.0; names = l.1 })) }
     ensures spelled { F.tells shelf.old ≡ true → IfOk result (λ l. SpellsBook (F.file shelf.old) name.now l.0 l.1) }
     ensures names { IfOk result (λ l. AreNamesOf l.0 l.1) }
     ensures err { IfErr result (λ refusal. MayRefuse (F.tells shelf.old) (book_loaded (F.file shelf.old) name.now) (F.faults shelf.old) (F.faults shelf.new) refusal) }

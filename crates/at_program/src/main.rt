@@ -2,9 +2,11 @@
 //! the report.
 //!
 //! `serve` does it all, over any shelf and sinks. Over those that tell what they hold, what `run` prints is one legal
-//! run of the calls that the files' bytes spell, and each refusal names the first cause.
+//! run of the calls that the files' bytes spell, what `make` prints is what every legal run of the calls that its
+//! numbers give leads to, and each refusal names the first cause.
 #![tactic(auto)]
 
+mod generating;
 mod loading;
 mod playing;
 mod serving;

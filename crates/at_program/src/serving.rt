@@ -1,19 +1,24 @@
 //! All that the program does.
 
-ghost use Rattle.std.specs.Prelude.{◌≡◌, ◌≢◌, ◌↔◌, ◌⊎◌, ◌≤◌, ℕ, All, sum_by, length, true, None, Some, Ok, Err, IfOk, IfErr, OnOk};
+ghost use Rattle.std.specs.Prelude.{◌≡◌, ◌≢◌, ◌↔◌, ◌⊎◌, ◌≤◌, ◌++◌, ℕ, All, sum_by, length, true, None, Some, Ok, Err, IfOk, IfErr, OnOk};
 ghost use Rattle.at_files.specs.Names.{AreNamesOf};
 ghost use Rattle.at_io.specs.Faults.{Rose};
 ghost use Rattle.at_io.specs.Shelf.{SameFiles};
-ghost use Rattle.at_program.specs.Words.{Form, form_of, form_shown, words_of};
+ghost use Rattle.at_io.specs.Sink.{TakesFront};
+ghost use Rattle.at_program.specs.Words.{Form, form_of, form_shown, make_of, words_of};
+ghost use Rattle.at_program.specs.Generator.{MayMake};
+ghost use Rattle.at_program.specs.Made.{made};
+ghost use Rattle.at_program.specs.declared.words.Making.{Making};
 ghost use Rattle.at_program.specs.Loading.{IsFileOn, Loaded, MayReach, Spelled, calls_of, loaded, loaded_shown};
 ghost use Rattle.at_program.specs.Faults.{Answers, IsFaultless, IsNumbered, MayRefuse};
 ghost use Rattle.at_program.specs.Answer.{Prints, PrintsSpelled, TookAll, TookFront, TookLine};
 
+use crate::generating::generate;
 use crate::loading::{self, load};
 use crate::playing::play;
-use crate::words::{Command, CommandLine, command_line};
+use crate::words::{Command, CommandLine, Making, command_line, what_to_make};
 use at_io::{Shelf, Sink, put_all};
-use at_report::{Status, UsageFault, checked_text, fault_text, report};
+use at_report::{Status, UsageFault, checked_text, fault_text, report, summary};
 use std::alloc::{AllocError, Global};
 use std::thread::Threads;
 
@@ -120,9 +125,50 @@ fn answer<F: Shelf, O: Sink>(
     }
 }
 
-/// Does all that the program does: reads the files that the words name, one after another, and writes the command's
-/// text to `out`, or the line of the first refusal to `err`. The whole text is made before the first write. `words`
-/// are those after the program's name. The work grows with the bytes of the files alone.
+/// The summary of a run of the calls that a number gives.
+fn made_text(alloc: Global, making: Making) -> Result<Vec<u8>, AllocError>
+    requires { MayMake making.processes making.calls }
+    ensures { IfOk result (λ text. text.items ≡ made making.first making.processes making.calls) }
+{
+    let made = generate(alloc, making.first, making.processes, making.calls)?;
+    let lines = play(alloc, &made.book, made.files.as_slice())?;
+    summary(
+        alloc,
+        &made.book,
+        lines.as_slice(),
+        making.first,
+        making.calls,
+    )
+}
+
+/// Does what words of no file ask: those of `make`, and no others.
+fn answer_made<O: Sink>(alloc: Global, words: &[String], out: &mut O) -> Status
+    ensures later { O.faults out.old ≤ O.faults out.new }
+    ensures as_told { O.tells out.new ≡ O.tells out.old }
+    ensures words { (result ≡ Status.Usage UsageFault.Words) ↔ (make_of (words_of words.now) ≡ None) }
+    ensures done { (m : Making) → make_of (words_of words.now) ≡ Some m → result ≡ Status.Done → O.tells out.old ≡ true → O.taken out.new ≡ O.taken out.old ++ made m.first m.processes m.calls }
+    ensures done_kept { result ≡ Status.Done → O.faults out.new ≡ O.faults out.old }
+    ensures write_fault { result ≡ Status.WriteFault → Rose (O.faults out.old) (O.faults out.new) }
+    ensures front { (m : Making) → make_of (words_of words.now) ≡ Some m → result ≡ Status.WriteFault → O.tells out.old ≡ true → TakesFront (O.taken out.old) (O.taken out.new) (made m.first m.processes m.calls) }
+    ensures answers { (m : Making) → make_of (words_of words.now) ≡ Some m → (result ≡ Status.Done) ⊎ ((result ≡ Status.WriteFault) ⊎ (result ≡ Status.NoMemory)) }
+    ensures untouched { result ≢ Status.Done → result ≢ Status.WriteFault → out.new ≡ out.old }
+{
+    let Some(making) = what_to_make(words) else {
+        return Status::Usage(UsageFault::Words);
+    };
+    let Ok(text) = made_text(alloc, making) else {
+        return Status::NoMemory;
+    };
+    match put_all(out, text.as_slice()) {
+        Ok(()) => Status::Done,
+        Err(_) => Status::WriteFault,
+    }
+}
+
+/// Does all that the program does: reads the files that the words name, one after another, or makes the calls that
+/// they ask for, and writes the command's text to `out`, or the line of the first refusal to `err`. The whole text is
+/// made before the first write. `words` are those after the program's name. The work grows with the bytes of the
+/// files, or with the calls that are made.
 pub fn serve<R: Threads + Sync, F: Shelf, O: Sink, E: Sink>(
     _rt: &R,
     alloc: Global,
@@ -135,8 +181,9 @@ pub fn serve<R: Threads + Sync, F: Shelf, O: Sink, E: Sink>(
     ensures later { (F.faults shelf.old ≤ F.faults shelf.new) × (O.faults out.old ≤ O.faults out.new) × (E.faults err.old ≤ E.faults err.new) }
     ensures as_told { (O.tells out.new ≡ O.tells out.old) × (E.tells err.new ≡ E.tells err.old) }
 
-    // The words have a form exactly where they are not refused, and every other answer is about that form.
-    ensures words { (result ≡ Status.Usage UsageFault.Words) ↔ (form_of (words_of words.now) ≡ None) }
+    // The words have a form exactly where they are not refused, and every other answer is about that form: one of
+    // files, or that of `make`, which reads none.
+    ensures words { (result ≡ Status.Usage UsageFault.Words) ↔ ((form_of (words_of words.now) ≡ None) × (make_of (words_of words.now) ≡ None)) }
 
     ensures unread { result ≡ Status.Usage UsageFault.Words → shelf.new ≡ shelf.old }
 
@@ -144,6 +191,13 @@ pub fn serve<R: Threads + Sync, F: Shelf, O: Sink, E: Sink>(
     ensures done { (form : Form) → form_of (words_of words.now) ≡ Some form → result ≡ Status.Done → F.tells shelf.old ≡ true → O.tells out.old ≡ true → TookAll (F.file shelf.old) form (O.taken out.old) (O.taken out.new) }
     ensures done_kept { result ≡ Status.Done → (F.faults shelf.new ≡ F.faults shelf.old) × (O.faults out.new ≡ O.faults out.old) }
     ensures loads { (form : Form) → form_of (words_of words.now) ≡ Some form → F.tells shelf.old ≡ true → (result ≡ Status.Done) ⊎ (result ≡ Status.WriteFault) → (l : Loaded) × (loaded (F.file shelf.old) form ≡ Ok l) }
+
+    // Of the words of `make`, all bytes that were taken are the text of the three numbers, whatever the order in which
+    // the calls were made.
+    ensures made { (m : Making) → make_of (words_of words.now) ≡ Some m → result ≡ Status.Done → O.tells out.old ≡ true → O.taken out.new ≡ O.taken out.old ++ made m.first m.processes m.calls }
+    ensures made_front { (m : Making) → make_of (words_of words.now) ≡ Some m → result ≡ Status.WriteFault → O.tells out.old ≡ true → TakesFront (O.taken out.old) (O.taken out.new) (made m.first m.processes m.calls) }
+    ensures made_answers { (m : Making) → make_of (words_of words.now) ≡ Some m → (result ≡ Status.Done) ⊎ ((result ≡ Status.WriteFault) ⊎ (result ≡ Status.NoMemory)) }
+    ensures made_unread { (m : Making) → make_of (words_of words.now) ≡ Some m → shelf.new ≡ shelf.old }
 
     // What could not be written whole was written as a front.
     ensures write_fault { result ≡ Status.WriteFault → Rose (O.faults out.old) (O.faults out.new) × (F.faults shelf.new ≡ F.faults shelf.old) }
@@ -165,7 +219,7 @@ pub fn serve<R: Threads + Sync, F: Shelf, O: Sink, E: Sink>(
 {
     let status = match command_line(words) {
         Some(form) => answer(alloc, shelf, out, &form),
-        None => Status::Usage(UsageFault::Words),
+        None => answer_made(alloc, words, out),
     };
     if status != Status::Done {
         tell(err, &status);

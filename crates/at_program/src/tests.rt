@@ -17,7 +17,15 @@ const USUAL: &str = "transfer,0,1,30\nread,0\nread,1\n";
 const USUAL_REPORT: &str =
     "journal 3\n0 1 transfer 0 1 30 done\n0 2 read 0 70\n0 3 read 1 30\nbalances 2\n0 70\n1 30\ntotal 100\n";
 
-const USAGE: &str = "usage: run BOOK PAY... | check BOOK PAY...\n";
+const USAGE: &str = "usage: run BOOK PAY... | check BOOK PAY... | make NUMBER PROCESSES CALLS\n";
+
+const SMALL: &str = "made 7 1 2\ndone 2\nread 0\nbalances 2\n0 146\n1 254\ntotal 400\n";
+
+const FOUR: &str =
+    "made 7 4 1000\ndone 3000\nread 1000\nbalances 5\n0 104432\n1 106311\n2 106567\n3 103186\n4 379504\ntotal 800000\n";
+
+const EIGHT: &str =
+    "made 7 8 1000\ndone 5959\nread 2041\nbalances 9\n0 104854\n1 106530\n2 111048\n3 107857\n4 108286\n5 109196\n6 108862\n7 109538\n8 733829\ntotal 1600000\n";
 
 /// The files of a book and of two payment files.
 fn files_of(
@@ -188,7 +196,7 @@ fn runs_of_one_process(rt: HostRuntime) -> Result<(), Fail> {
     Ok(())
 }
 
-/// Words over the book of two processes with two files.
+/// Words over the book of two processes with two files, and words of no file.
 #[test]
 fn words(rt: HostRuntime) -> Result<(), Fail> {
     let not_owner =
@@ -233,6 +241,17 @@ fn words(rt: HostRuntime) -> Result<(), Fail> {
         ("run", "", "", 2, USAGE),
         ("runs book 0 1", "", "", 2, USAGE),
         ("--help", "", "", 2, USAGE),
+        ("make 7 1 2", "", "", 0, SMALL),
+        ("make 7 4 1000", "", "", 0, FOUR),
+        ("make 7 4 1000", "", "", 0, FOUR),
+        ("make 7 8 1000", "", "", 0, EIGHT),
+        ("make 7 8 1000", "", "", 0, EIGHT),
+        ("make 7 4 1000000", "", "", 2, USAGE),
+        ("make 7 9 2", "", "", 2, USAGE),
+        ("make 7 0 2", "", "", 2, USAGE),
+        ("make 7 1 0", "", "", 2, USAGE),
+        ("make 07 1 2", "", "", 2, USAGE),
+        ("make 7 1 2 3", "", "", 2, USAGE),
     ];
     let alloc = rt.alloc();
     for (words, first, second, code, text) in rows {

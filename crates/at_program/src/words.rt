@@ -1,7 +1,17 @@
 //! The words of the command line.
 
-ghost use Rattle.std.specs.Prelude.{◌≡◌, map, bytes_eq, codes, option_map, string_bytes};
-ghost use Rattle.at_program.specs.Words.{command_named, form_of, form_shown, words_of};
+ghost use Rattle.std.specs.Prelude.{◌≡◌, map, bytes_eq, codes, option_map, string_bytes, IfSome};
+ghost use Rattle.at_base.specs.Numbers.{number_of};
+ghost use Rattle.at_program.specs.Generator.{MayMake};
+ghost use Rattle.at_program.specs.Words.{command_named, form_of, form_shown, make_of, making_of, within, words_of};
+
+use at_base::parse_number;
+
+/// The most processes whose calls are made.
+pub const MADE_PROCESSES_MAX: u32 = 8;
+
+/// The most calls that are made for each process.
+pub const MADE_CALLS_MAX: u32 = 1_000;
 
 /// What the program is asked to do.
 #[derive(Clone, Copy, Debug, PartialEq, Eq)]
@@ -46,4 +56,53 @@ pub fn command_line(words: &[String]) -> Option<CommandLine<'_>>
         book: book.as_str(),
         payments,
     })
+}
+
+/// What calls to make: those that the number `first` gives, `calls` of each process.
+#[derive(Clone, Copy)]
+pub struct Making {
+    pub first: u64,
+    pub processes: u32,
+    pub calls: u32,
+}
+
+/// The number that the word is, where it is from 1 to `most`.
+fn number_within(most: u32, word: &str) -> Option<u32>
+    ensures { result ≡ within most (number_of word.now) }
+{
+    let n = parse_number(word.as_bytes())?;
+    if 1 <= n && n <= u64::from(most) {
+        Some(n as u32)
+    } else {
+        None
+    }
+}
+
+/// What calls the three words ask for.
+fn making_of(first: &str, processes: &str, calls: &str) -> Option<Making>
+    ensures asked { result ≡ making_of (number_of first.now) (within MADE_PROCESSES_MAX (number_of processes.now)) (within MADE_CALLS_MAX (number_of calls.now)) }
+    ensures may { IfSome result (λ m. MayMake m.processes m.calls) }
+{
+    let first = parse_number(first.as_bytes())?;
+    let processes = number_within(MADE_PROCESSES_MAX, processes)?;
+    let calls = number_within(MADE_CALLS_MAX, calls)?;
+    Some(Making {
+        first,
+        processes,
+        calls,
+    })
+}
+
+/// What calls the words of `make` ask for, if they have its form.
+pub fn what_to_make(words: &[String]) -> Option<Making>
+    ensures asked { result ≡ make_of (words_of words.now) }
+    ensures may { IfSome result (λ m. MayMake m.processes m.calls) }
+{
+    let [command, first, processes, calls] = words else {
+        return None;
+    };
+    if command.as_str() != "make" {
+        return None;
+    }
+    making_of(first.as_str(), processes.as_str(), calls.as_str())
 }

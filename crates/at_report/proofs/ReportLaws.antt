@@ -1,6 +1,7 @@
 -- A report spells its lines: no two lists of lines have one.
-use Rattle.std.proofs.Common.{◌≡◌, ℕ, ◌<◌, ◌≤◌, ◌^◌, ◌⊎◌, inl, inr, List, [], ◌∷◌, ◌++◌, map, length, get_or, All, Some, codes, decimal, refl, sym, ap, ◌∙◌, arith, append_assoc, zero, suc, zero-add, sum}
-use Rattle.std.proofs.lemmas.List.FromFn.{get_or-map-range_with_len}
+use Rattle.std.proofs.Common.{◌≡◌, ℕ, ◌<◌, ◌≤◌, ◌^◌, ◌⊎◌, inl, inr, List, [], ◌∷◌, ◌++◌, map, length, get_or, All, Some, codes, decimal, refl, sym, ap, ◌∙◌, arith, append_assoc, zero, suc, sum, true, bytes_eq}
+use Rattle.std.specs.List.{IsDistinct, list_all}
+use Rattle.std.proofs.lemmas.Bool.{and_parts}
 use Rattle.std.proofs.lemmas.Fmt.{digits_decimal, first_decimal, decimal_digit}
 use Rattle.at_base.specs.Numbers.{number_of}
 use Rattle.at_base.proofs.NumberLaws.{AreDigits, number_of-decimal, own, tells_digits}
@@ -15,8 +16,9 @@ use Rattle.at_ledger.specs.Run.{asked_in, last_state}
 use Rattle.at_ledger.specs.State.{LedgerState, opening_state}
 use Rattle.at_ledger.proofs.Run.{book-run_from}
 use Rattle.std.proofs.lemmas.Grind.{flat_map-append}
-use Rattle.at_files.specs.Names.{AreNamesOf, NameList, account_name, decimals_below, process_name}
+use Rattle.at_files.specs.Names.{AreFormed, AreNames, AreNamesOf, NameList, account_name, is_name_byte, place_of, process_name}
 use Rattle.at_files.specs.Payments.{HasAmounts}
+use Rattle.at_files.proofs.NameLaws.{decimal-AreNames, name-bytes, name_byte-above, place_of-at}
 use Rattle.at_report.specs.Lines.{Words, call_words, journal_words, line_text, lines_text, reply_word, targets_words}
 use Rattle.at_report.specs.Report.{HasBalance, IsPrinted, balance_lines, report_text}
 use Rattle.at_report.proofs.WordLaws.{AreWords, AreWords-append, IsLineOfWords, IsWord, IsWord-decimal, IsWord-from, split_line}
@@ -25,10 +27,6 @@ decimal-injective : (n m : ℕ) → n < 2 ^ 64 → m < 2 ^ 64 → decimal n ≡ 
 decimal-injective n m hn hm e =
     let both : Some n ≡ Some m = sym (number_of-decimal n hn) ∙ ap number_of e ∙ number_of-decimal m hm in
     cc
-
--- names of version 1 are decimals
-name-decimal : (count i : ℕ) → i < count → get_or (decimals_below count) i [] ≡ decimal i
-name-decimal count i below = get_or-map-range_with_len decimal 0 count i i [] below (zero-add i)
 
 -- a number begins with a digit
 head_digit : (w : List ℕ) → AreDigits w → 48 < get_or w 0 0 → get_or w 0 0 ≤ 57
@@ -82,28 +80,47 @@ IsWord-reply_word NotOwner h = IsWord-from (codes "not-owner") refl
 IsWord-reply_word Full h = IsWord-from (codes "full") refl
 IsWord-reply_word (Balance n) h = IsWord-decimal n h
 
--- the names that lines cite: each is the decimal of a number of 64 bits
-record AreShort (names : NameList) (processes accounts : ℕ) : Type 0 where
-  processes_fit : processes < 2 ^ 64
+-- a name's bytes are above a space
+IsWord-name_bytes : (name : List ℕ) → list_all is_name_byte name ≡ true → IsWord name
+IsWord-name_bytes [] h = tt
+IsWord-name_bytes (c ∷ name) h =
+    let parts = and_parts (is_name_byte c) (list_all is_name_byte name) h in
+    (name_byte-above c parts.0, IsWord-name_bytes name parts.1)
+
+IsWord-AreNames : (version : ℕ) (names : List (List ℕ)) (n : ℕ) → AreNames version names → n < length names → length names < 2 ^ 64 → IsWord (get_or names n [])
+IsWord-AreNames version names n are within few = by are.formed
+  where
+    by : AreFormed version names → IsWord (get_or names n [])
+    by (inl (first, formed)) = rw (decimal-AreNames version names n are first within) (IsWord-decimal n (omega arith))
+    by (inr (second, formed)) = IsWord-name_bytes (get_or names n []) (name-bytes (get_or names n []) (formed n [] within))
+
+-- names that differ are told apart
+same_place : (names : List (List ℕ)) (n m : ℕ) → IsDistinct bytes_eq names → n < length names → m < length names → get_or names n [] ≡ get_or names m [] → n ≡ m
+same_place names n m distinct hn hm e =
+    let both : Some n ≡ Some m = sym (place_of-at names n distinct hn) ∙ ap (place_of names) e ∙ place_of-at names m distinct hm in
+    cc
+
+-- the names that lines cite: each is a word, and no two of one kind are the same
+record AreToldApart (names : NameList) (processes accounts : ℕ) : Type 0 where
   accounts_fit : accounts < 2 ^ 64
-  process : (p : ℕ) → p < processes → process_name names p ≡ decimal p
-  account : (a : ℕ) → a < accounts → account_name names a ≡ decimal a
+  process : (p : ℕ) → p < processes → IsWord (process_name names p)
+  account : (a : ℕ) → a < accounts → IsWord (account_name names a)
+  one_process : (p q : ℕ) → p < processes → q < processes → process_name names p ≡ process_name names q → p ≡ q
+  one_account : (a c : ℕ) → a < accounts → c < accounts → account_name names a ≡ account_name names c → a ≡ c
 
-AreShort-AreNamesOf : (b : BookTerms) (names : NameList) → IsBook b → AreNamesOf b names → AreShort names b.processes (length b.accounts)
-AreShort-AreNamesOf b names is are = record {
-  processes_fit = omega (arith, is.begun.few_processes);
-  accounts_fit = omega (arith, is.begun.few_accounts);
-  process = λ p below. ap (λ (n : NameList). process_name n p) are.plain ∙ name-decimal b.processes p below;
-  account = λ a below. ap (λ (n : NameList). account_name n a) are.plain ∙ name-decimal (length b.accounts) a below;
-}
-
-account-injective : (names : NameList) (processes accounts a c : ℕ) → AreShort names processes accounts → a < accounts → c < accounts
-    → account_name names a ≡ account_name names c → a ≡ c
-account-injective names processes accounts a c are ha hc e =
-    decimal-injective a c (omega (arith, are.accounts_fit)) (omega (arith, are.accounts_fit)) (sym (are.account a ha) ∙ e ∙ are.account c hc)
-
-IsWord-account : (names : NameList) (processes accounts a : ℕ) → AreShort names processes accounts → a < accounts → IsWord (account_name names a)
-IsWord-account names processes accounts a are ha = rw (are.account a ha) (IsWord-decimal a (omega (arith, are.accounts_fit)))
+AreToldApart-AreNamesOf : (b : BookTerms) (names : NameList) → IsBook b → AreNamesOf b names → AreToldApart names b.processes (length b.accounts)
+AreToldApart-AreNamesOf b names is are =
+    let processes = are.processes in
+    let accounts = are.accounts in
+    let few_processes : length names.processes < 2 ^ 64 = omega (arith, is.begun.few_processes) in
+    let few_accounts : length names.accounts < 2 ^ 64 = omega (arith, is.begun.few_accounts) in
+    record {
+      accounts_fit = omega (arith, is.begun.few_accounts);
+      process = λ p below. IsWord-AreNames names.version names.processes p are.formed.processes (omega arith) few_processes;
+      account = λ a below. IsWord-AreNames names.version names.accounts a are.formed.accounts (omega arith) few_accounts;
+      one_process = λ p q hp hq. same_place names.processes p q are.formed.processes.distinct (omega arith) (omega arith);
+      one_account = λ a c ha hc. same_place names.accounts a c are.formed.accounts.distinct (omega arith) (omega arith);
+    }
 
 -- the targets and the reply that end a line are told apart
 record AreSame {X : Type 0} (x y : X) (r s : List ℕ) : Type 0 where
@@ -113,7 +130,7 @@ record AreSame {X : Type 0} (x y : X) (r s : List ℕ) : Type 0 where
 same_pair : (t u : TargetPair) → t.0 ≡ u.0 → t.1 ≡ u.1 → t ≡ u
 same_pair t u same equal = λ i. (same i, equal i)
 
-same_targets : (names : NameList) (processes accounts : ℕ) (ts us : List TargetPair) (r s : List ℕ) → AreShort names processes accounts
+same_targets : (names : NameList) (processes accounts : ℕ) (ts us : List TargetPair) (r s : List ℕ) → AreToldApart names processes accounts
     → AreTargetsOn accounts ts → AreTargetsOn accounts us → All (λ t. t.1 < 2 ^ 64) ts → All (λ t. t.1 < 2 ^ 64) us
     → targets_words names ts ++ r ∷ [] ≡ targets_words names us ++ s ∷ [] → AreSame ts us r s
 same_targets names processes accounts [] [] r s are on_t on_u fit_t fit_u e = record { first = refl; reply = cc }
@@ -123,7 +140,7 @@ same_targets names processes accounts (t ∷ ts) (u ∷ us) r s are on_t on_u fi
     let account : account_name names t.0 ≡ account_name names u.0 = cc in
     let amount : decimal t.1 ≡ decimal u.1 = cc in
     let rest : targets_words names ts ++ r ∷ [] ≡ targets_words names us ++ s ∷ [] = cc in
-    let same : t.0 ≡ u.0 = account-injective names processes accounts t.0 u.0 are (on_t zero t (omega arith)) (on_u zero u (omega arith)) account in
+    let same : t.0 ≡ u.0 = are.one_account t.0 u.0 (on_t zero t (omega arith)) (on_u zero u (omega arith)) account in
     let equal : t.1 ≡ u.1 = decimal-injective t.1 u.1 (fit_t zero t (omega arith)) (fit_u zero u (omega arith)) amount in
     let later = same_targets names processes accounts ts us r s are (λ k d below. on_t (suc k) d (omega arith)) (λ k d below. on_u (suc k) d (omega arith))
     (λ k d below. fit_t (suc k) d (omega arith)) (λ k d below. fit_u (suc k) d (omega arith)) rest in
@@ -131,14 +148,14 @@ same_targets names processes accounts (t ∷ ts) (u ∷ us) r s are on_t on_u fi
     record { first = let pairs : t ≡ u = same_pair t u same equal in cc; reply = later.reply }
 
 -- the call and the reply that end a line are told apart
-same_call : (names : NameList) (processes accounts : ℕ) (c d : Call) (r s : List ℕ) → AreShort names processes accounts → IsCallOn accounts c → IsCallOn accounts d
+same_call : (names : NameList) (processes accounts : ℕ) (c d : Call) (r s : List ℕ) → AreToldApart names processes accounts → IsCallOn accounts c → IsCallOn accounts d
     → HasAmounts c → HasAmounts d → call_words names c ++ r ∷ [] ≡ call_words names d ++ s ∷ [] → AreSame c d r s
 same_call names processes accounts (Transfer from to amount) (Transfer from' to' amount') r s are on_c on_d fit_c fit_d e =
     let source : account_name names from ≡ account_name names from' = cc in
     let target : account_name names to ≡ account_name names to' = cc in
     let text : decimal amount ≡ decimal amount' = cc in
-    let from_is : from ≡ from' = account-injective names processes accounts from from' are on_c.0 on_d.0 source in
-    let to_is : to ≡ to' = account-injective names processes accounts to to' are on_c.1 on_d.1 target in
+    let from_is : from ≡ from' = are.one_account from from' on_c.0 on_d.0 source in
+    let to_is : to ≡ to' = are.one_account to to' on_c.1 on_d.1 target in
     let amount_is : amount ≡ amount' = decimal-injective amount amount' fit_c fit_d text in
     record { first = cc; reply = cc }
 same_call names processes accounts (Transfer from to amount) (Read account) r s are on_c on_d fit_c fit_d e =
@@ -149,7 +166,7 @@ same_call names processes accounts (Read account) (Transfer from to amount) r s 
     absurd (let word : codes "read" ≡ codes "transfer" = cc in omega (arith, ap head word))
 same_call names processes accounts (Read account) (Read account') r s are on_c on_d fit_c fit_d e =
     let name : account_name names account ≡ account_name names account' = cc in
-    let account_is : account ≡ account' = account-injective names processes accounts account account' are on_c on_d name in
+    let account_is : account ≡ account' = are.one_account account account' on_c on_d name in
     record { first = cc; reply = cc }
 same_call names processes accounts (Read account) (Pay from targets) r s are on_c on_d fit_c fit_d e =
     absurd (let word : codes "read" ≡ codes "pay" = cc in omega (arith, ap head word))
@@ -160,33 +177,33 @@ same_call names processes accounts (Pay from targets) (Read account) r s are on_
 same_call names processes accounts (Pay from targets) (Pay from' targets') r s are on_c on_d fit_c fit_d e =
     let name : account_name names from ≡ account_name names from' = cc in
     let rest : targets_words names targets ++ r ∷ [] ≡ targets_words names targets' ++ s ∷ [] = cc in
-    let from_is : from ≡ from' = account-injective names processes accounts from from' are on_c.0 on_d.0 name in
+    let from_is : from ≡ from' = are.one_account from from' on_c.0 on_d.0 name in
     let later = same_targets names processes accounts targets targets' r s are on_c.1 on_d.1 fit_c fit_d rest in
     let targets_are = later.first in
     record { first = cc; reply = later.reply }
 
 -- a journal's line is one of words
 
-AreWords-targets : (names : NameList) (processes accounts : ℕ) (ts : List TargetPair) → AreShort names processes accounts → AreTargetsOn accounts ts → All (λ t. t.1 < 2 ^ 64) ts
+AreWords-targets : (names : NameList) (processes accounts : ℕ) (ts : List TargetPair) → AreToldApart names processes accounts → AreTargetsOn accounts ts → All (λ t. t.1 < 2 ^ 64) ts
     → AreWords (targets_words names ts)
 AreWords-targets names processes accounts [] are on fit = tt
 AreWords-targets names processes accounts (t ∷ ts) are on fit = (
-  IsWord-account names processes accounts t.0 are (on zero t (omega arith)),
+  are.account t.0 (on zero t (omega arith)),
   (
     IsWord-decimal t.1 (fit zero t (omega arith)),
     AreWords-targets names processes accounts ts are (λ k d below. on (suc k) d (omega arith)) (λ k d below. fit (suc k) d (omega arith)),
   ),
 )
 
-AreWords-call : (names : NameList) (processes accounts : ℕ) (c : Call) → AreShort names processes accounts → IsCallOn accounts c → HasAmounts c → AreWords (call_words names c)
+AreWords-call : (names : NameList) (processes accounts : ℕ) (c : Call) → AreToldApart names processes accounts → IsCallOn accounts c → HasAmounts c → AreWords (call_words names c)
 AreWords-call names processes accounts (Transfer from to amount) are on fit = (
   IsWord-from (codes "transfer") refl,
-  (IsWord-account names processes accounts from are on.0, (IsWord-account names processes accounts to are on.1, (IsWord-decimal amount fit, tt))),
+  (are.account from on.0, (are.account to on.1, (IsWord-decimal amount fit, tt))),
 )
-AreWords-call names processes accounts (Read account) are on fit = (IsWord-from (codes "read") refl, (IsWord-account names processes accounts account are on, tt))
+AreWords-call names processes accounts (Read account) are on fit = (IsWord-from (codes "read") refl, (are.account account on, tt))
 AreWords-call names processes accounts (Pay from targets) are on fit = (
   IsWord-from (codes "pay") refl,
-  (IsWord-account names processes accounts from are on.0, AreWords-targets names processes accounts targets are on.1 fit),
+  (are.account from on.0, AreWords-targets names processes accounts targets are on.1 fit),
 )
 
 -- what is printed of a line
@@ -196,10 +213,10 @@ record IsShort (processes accounts : ℕ) (l : Line) : Type 0 where
   amounts : HasAmounts l.call
   balance : HasBalance l.reply
 
-IsLineOfWords-journal : (names : NameList) (processes accounts : ℕ) (l : Line) → AreShort names processes accounts → IsShort processes accounts l
+IsLineOfWords-journal : (names : NameList) (processes accounts : ℕ) (l : Line) → AreToldApart names processes accounts → IsShort processes accounts l
     → IsLineOfWords (journal_words names l)
 IsLineOfWords-journal names processes accounts l are is =
-    let process : IsWord (process_name names l.process) = rw (are.process l.process is.known.0) (IsWord-decimal l.process (omega (arith, are.processes_fit, is.known.0))) in (
+    let process : IsWord (process_name names l.process) = are.process l.process is.known.0 in (
       process,
       (
         IsWord-decimal l.number is.number,
@@ -211,16 +228,14 @@ IsLineOfWords-journal names processes accounts l are is =
 line_of : ℕ → ℕ → Call → Reply → Line
 line_of p n c r = record { process = p; number = n; call = c; reply = r }
 
-journal_words-injective : (names : NameList) (processes accounts : ℕ) (l m : Line) → AreShort names processes accounts → IsShort processes accounts l → IsShort processes accounts m
+journal_words-injective : (names : NameList) (processes accounts : ℕ) (l m : Line) → AreToldApart names processes accounts → IsShort processes accounts l → IsShort processes accounts m
     → journal_words names l ≡ journal_words names m → l ≡ m
 unfolding line_of
 journal_words-injective names processes accounts l m are is_l is_m e =
     let name : process_name names l.process ≡ process_name names m.process = cc in
     let text : decimal l.number ≡ decimal m.number = cc in
     let rest : call_words names l.call ++ reply_word l.reply ∷ [] ≡ call_words names m.call ++ reply_word m.reply ∷ [] = cc in
-    let process : l.process ≡ m.process =
-    decimal-injective l.process m.process (omega (arith, are.processes_fit, is_l.known.0)) (omega (arith, are.processes_fit, is_m.known.0))
-    (sym (are.process l.process is_l.known.0) ∙ name ∙ are.process m.process is_m.known.0) in
+    let process : l.process ≡ m.process = are.one_process l.process m.process is_l.known.0 is_m.known.0 name in
     let number : l.number ≡ m.number = decimal-injective l.number m.number is_l.number is_m.number text in
     let same = same_call names processes accounts l.call m.call (reply_word l.reply) (reply_word m.reply) are is_l.known.1 is_m.known.1 is_l.amounts is_m.amounts rest in
     let call : l.call ≡ m.call = same.first in
@@ -254,7 +269,7 @@ same_lists : (l m : Line) (ls ms : List Line) → l ≡ m → ls ≡ ms → l �
 same_lists l m ls ms first rest = cc
 
 -- the journal ends where the balances begin
-journal_from-injective : (names : NameList) (processes accounts count : ℕ) (ls ms : List Line) (after later : List ℕ) → AreShort names processes accounts → count < 2 ^ 64
+journal_from-injective : (names : NameList) (processes accounts count : ℕ) (ls ms : List Line) (after later : List ℕ) → AreToldApart names processes accounts → count < 2 ^ 64
     → All (IsShort processes accounts) ls → All (IsShort processes accounts) ms → journal_from names count ls after ≡ journal_from names count ms later → ls ≡ ms
 journal_from-injective names processes accounts count [] [] after later are few is_ls is_ms e = refl
 journal_from-injective names processes accounts count [] (m ∷ ms) after later are few is_ls is_ms e =
@@ -298,7 +313,7 @@ report_parts b names ls =
 pub report_text-injective : (b : BookTerms) (names : NameList) (ls ms : List Line) → IsBook b → AreNamesOf b names → length ls < 2 ^ 64 → length ms < 2 ^ 64
     → All (IsPrinted b) ls → All (IsPrinted b) ms → report_text b names ls ≡ report_text b names ms → ls ≡ ms
 report_text-injective b names ls ms is are few_ls few_ms is_ls is_ms e =
-    let short = AreShort-AreNamesOf b names is are in
+    let short = AreToldApart-AreNamesOf b names is are in
     let split = split_line (codes "journal" ∷ decimal (length ls) ∷ []) (codes "journal" ∷ decimal (length ms) ∷ []) _ _
     (IsWord-from (codes "journal") refl, (IsWord-decimal (length ls) few_ls, tt)) (IsWord-from (codes "journal") refl, (IsWord-decimal (length ms) few_ms, tt))
     (sym (report_parts b names ls) ∙ e ∙ report_parts b names ms) in

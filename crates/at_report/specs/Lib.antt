@@ -2,3 +2,4 @@ pub mod Status
 pub mod FaultText
 pub mod Lines
 pub mod Report
+pub mod Summary

@@ -11,7 +11,7 @@ use at_ledger::BookError;
 /// The text of a refusal: one line, with its newline.
 pub type FaultText = ArrayVec<u8, 256>;
 
-const USAGE: &str = "usage: run BOOK PAY... | check BOOK PAY...";
+const USAGE: &str = "usage: run BOOK PAY... | check BOOK PAY... | make NUMBER PROCESSES CALLS";
 
 fn limit_text(e: &BookError) -> &'static str
     ensures text { result.now ≡ limit_text e.now }

@@ -3,13 +3,13 @@
 ghost use Rattle.std.specs.Prelude.{◌≡◌, ◌^◌, ◌<◌, ◌++◌, List, length, All, IfOk, OnOk};
 ghost use Rattle.at_ledger.specs.Call.{IsLineOn};
 ghost use Rattle.at_ledger.specs.declared.call.Line.{Line};
-ghost use Rattle.at_ledger.specs.Run.{asked_in, run_from};
 ghost use Rattle.at_files.specs.Names.{AreNamesOf};
 ghost use Rattle.at_report.specs.Lines.{lines_text};
 ghost use Rattle.at_report.specs.Report.{IsPrinted, audit_lines, balance_lines, checked_line, journal_lines, report_text};
 
 use crate::NoMemory;
 use crate::lines::{push_line, push_number, push_numbered};
+use crate::replaying::replay;
 use at_files::Names;
 use at_ledger::{Book, Line, State};
 use std::alloc::Global;
@@ -32,7 +32,12 @@ fn push_balances(
 }
 
 /// Adds how many accounts there are, the balance of each, and their total.
-fn push_audit(out: &mut Vec<u8>, book: &Book, names: &Names, state: &State) -> Result<(), NoMemory>
+pub(crate) fn push_audit(
+    out: &mut Vec<u8>,
+    book: &Book,
+    names: &Names,
+    state: &State,
+) -> Result<(), NoMemory>
     requires book { state.now.book ≡ book.now }
     requires names { length names.now.accounts ≡ length book.now.accounts }
     ensures { OnOk result (out.new.items ≡ out.old.items ++ lines_text (audit_lines names.now state.now)) }
@@ -42,24 +47,14 @@ fn push_audit(out: &mut Vec<u8>, book: &Book, names: &Names, state: &State) -> R
     push_numbered(out, b"total", state.total())
 }
 
-/// Adds how many lines there are, and then each of them. The state makes their calls, and is left after the last.
-fn push_journal(
-    out: &mut Vec<u8>,
-    names: &Names,
-    state: &mut State,
-    lines: &[Line],
-) -> Result<(), NoMemory>
-    requires processes { length names.now.processes ≡ state.old.book.processes }
-    requires accounts { length names.now.accounts ≡ length state.old.book.accounts }
-    requires lines { All (IsLineOn state.old.book.processes (length state.old.book.accounts)) lines.now }
-    ensures text { OnOk result (out.new.items ≡ out.old.items ++ lines_text (journal_lines names.now lines.now)) }
-    ensures last { OnOk result (state.new ≡ (run_from state.old (asked_in lines.now)).last) }
-    ensures book { state.new.book ≡ state.old.book }
+/// Adds how many lines there are, and then each of them.
+fn push_journal(out: &mut Vec<u8>, names: &Names, lines: &[Line]) -> Result<(), NoMemory>
+    requires { All (IsLineOn (length names.now.processes) (length names.now.accounts)) lines.now }
+    ensures { OnOk result (out.new.items ≡ out.old.items ++ lines_text (journal_lines names.now lines.now)) }
 {
     push_numbered(out, b"journal", lines.len() as u64)?;
     for line in lines {
         push_line(out, names, line)?;
-        let _ = state.step(line.process, &line.call);
     }
     Ok(())
 }
@@ -76,8 +71,8 @@ fn write_report(
     ensures { IfOk result (λ text. text.items ≡ report_text book.now names.now lines.now) }
 {
     let mut out = Vec::new(alloc);
-    let mut state = State::new(alloc, book)?;
-    push_journal(&mut out, names, &mut state, lines)?;
+    let state = replay(alloc, book, lines)?;
+    push_journal(&mut out, names, lines)?;
     push_audit(&mut out, book, names, &state)?;
     Ok(out)
 }

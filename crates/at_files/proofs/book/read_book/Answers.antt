@@ -3,9 +3,9 @@ use Rattle.at_files.proofs.BookAccepted.{Spells-not_bad}
 use Rattle.at_files.proofs.BookSpelled.{Spells-book_of_rows}
 use Rattle.at_files.proofs.book.read_book.Goals as goal
 
-pub returns-clause-spelled : goal.returns-clause-spelled
-returns-clause-spelled c = Spells-book_of_rows _ c.in-Ok.book _ (rw c.new-rows.ensures at c.in-Ok.ensures.ok) c.in-Ok.ensures.checked c.in-Ok-plain.ensures.names
+pub returns-in-Ok-clause-spelled : goal.returns-in-Ok-clause-spelled
+returns-in-Ok-clause-spelled c = Spells-book_of_rows _ c.in-Ok.read.0 c.in-Ok.read.1 (rw c.new-rows.ensures at c.in-Ok.ensures.ok) c.in-Ok.ensures.checked c.in-Ok.ensures.names
 
-pub returns-in-Err-clause-accepts : goal.returns-in-Err-clause-accepts
-returns-in-Err-clause-accepts c = λ b names spells.
+pub returns-clause-accepts : goal.returns-clause-accepts
+returns-clause-accepts c = λ b names spells.
     Spells-not_bad b names _ c.in-Err.fault spells (λ bad same. rw c.new-rows.ensures at (c.read_terms.ensures.bad bad (c.in-Err.is ∙ ap Err same)))

@@ -1,9 +1,7 @@
-use Rattle.std.proofs.Common.{◌≡◌, [], ◌∷◌, ◌++◌, refl, ◌∙◌}
-use Rattle.at_files.proofs.NameLaws.{decimals_below-more}
+use Rattle.std.proofs.Common.{◌∙◌, arith}
+use Rattle.at_files.proofs.NameLaws.{decimals_below-add}
 use Rattle.at_files.proofs.names.plain_names.Goals as goal
 
 pub loop-n-preserved : goal.loop-n-preserved
 loop-n-preserved c =
-    let pushed : c.push.new.self.items ≡ c.loop-n.names.items ++ c.plain_name.result ∷ [] =
-    c.push.ensures.items ∙ rw (c.is_err.ensures.negation, c.if-is_err.false) refl in
-    rw pushed (decimals_below-more _ c.loop-n.names.items c.plain_name.result c.loop-n.n c.loop-n.invariant c.plain_name.ensures)
+    decimals_below-add c.loop-n.names _ _ c.in-Ok._added c.loop-n.n (omega arith) c.loop-n.invariant (c.as_bytes.ensures.value ∙ c.format.ensures.text) c.in-Ok.ensures.added c.in-Ok.ensures.names

@@ -1,6 +1,6 @@
-use Rattle.std.proofs.Common.{◌≡◌, map}
+use Rattle.std.proofs.Common.{◌≡◌}
 use Rattle.at_files.specs.Names.{decimals_below}
 use Rattle.at_files.proofs.names.plain_names.Given as goal
 
 abbrev pub invariant-loop-n : goal.invariant-loop-n
-invariant-loop-n l = map (λ name. name.items) l.names.items ≡ decimals_below l.n
+invariant-loop-n l = l.names ≡ decimals_below l.n

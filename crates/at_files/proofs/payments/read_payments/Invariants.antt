@@ -3,4 +3,4 @@ use Rattle.at_files.proofs.PaymentsWalk.{Walked}
 use Rattle.at_files.proofs.payments.read_payments.Given as goal
 
 abbrev pub invariant-loop-line : goal.invariant-loop-line
-invariant-loop-line l = Walked l.accounts l.names (rows_of l.bytes) l.calls.items l.line l.rows
+invariant-loop-line l = Walked l.names (rows_of l.bytes) l.calls.items l.line l.rows

@@ -1,11 +1,6 @@
 use Rattle.std.proofs.Common.{◌≡◌, ◌++◌, take, map}
-use Rattle.at_ledger.specs.Run.{asked_in, run_from}
 use Rattle.at_report.specs.Lines.{lines_text, journal_words}
 use Rattle.at_report.proofs.run_report.push_journal.Given as goal
 
 abbrev pub invariant-loop-line : goal.invariant-loop-line
-invariant-loop-line l = record {
-  text : l.out.items ≡ l.initial.out.items ++ lines_text (map (journal_words l.names) (take l.line-index l.lines));
-  last : l.state ≡ (run_from l.initial.state (take l.line-index (asked_in l.lines))).last;
-  book : l.state.book ≡ l.initial.state.book;
-}
+invariant-loop-line l = l.out.items ≡ l.initial.out.items ++ lines_text (map (journal_words l.names) (take l.line-index l.lines))

@@ -1,8 +1,9 @@
-use Rattle.std.proofs.Common.{◌<◌, length, map, ◌∙◌}
-use Rattle.at_files.proofs.NameLaws.{shown-decimal}
+use Rattle.std.proofs.Common.{◌∙◌}
+use Rattle.at_files.proofs.NameLaws.{decimal-AreNames}
 use Rattle.at_files.proofs.names.Names.account.Goals as goal
 
 pub returns-clause-plain : goal.returns-clause-plain
 returns-clause-plain c = λ first.
-    let within : c.args.account < length (map (λ name. name.items) c.self.inside.accounts.items) = rw (← c.self.view_is) at c.requires in
-    c.as_slice.ensures.value ∙ shown-decimal (λ name. name.items) c.self.inside.accounts.items c.args.account c.index.result.now c.self.invariant.accounts within c.index.ensures
+    c.name.ensures
+    ∙ decimal-AreNames c.self.inside.version c.self.inside.accounts c.args.account c.self.invariant.accounts (rw (← c.self.view_is) at first)
+    (rw (← c.self.view_is) at c.requires)

@@ -1,11 +1,16 @@
-use Rattle.std.proofs.Common.{arith}
-use Rattle.at_files.proofs.NameLaws.{AreNamesOf-decimals, IsNameList-plain}
+use Rattle.std.proofs.Common.{◌≡◌, ◌^◌, ◌≤◌, length, ap, arith}
+use Rattle.at_ledger.specs.declared.draft.TheConstants.{ACCOUNTS_MAX}
+use Rattle.at_files.specs.Names.{AreNamesOf, plain_names}
+use Rattle.at_files.proofs.NameLaws.{AreNamesOf-plain_names}
 use Rattle.at_files.proofs.names.Names.plain.Goals as goal
 
 pub invariant_of-result : goal.invariant_of-result
 invariant_of-result c =
-    IsNameList-plain _ _ _ _ c.in-Ok.ensures c.in-Ok-plain_names.ensures (omega (arith, c.accounts-accounts.ensures.checked.begun.few_accounts))
+    let are : AreNamesOf c.args.book.now (plain_names c.args.book.now) =
+    AreNamesOf-plain_names c.args.book.now (omega (arith, c.accounts-accounts.ensures.checked.begun.few_processes)) c.accounts-accounts.ensures.checked.begun.few_accounts in
+    rw (c.in-Ok.ensures, c.in-Ok-plain_names.ensures, c.processes.ensures, c.accounts-accounts.ensures.count) are.formed
 
 pub returns-clause-names : goal.returns-clause-names
 returns-clause-names c =
-    AreNamesOf-decimals c.args.book.now _ _ _ _ c.in-Ok.ensures c.in-Ok-plain_names.ensures c.processes.ensures c.accounts-accounts.ensures.count
+    rw (c.in-Ok.ensures, c.in-Ok-plain_names.ensures, c.processes.ensures, c.accounts-accounts.ensures.count)
+    (AreNamesOf-plain_names c.args.book.now (omega (arith, c.accounts-accounts.ensures.checked.begun.few_processes)) c.accounts-accounts.ensures.checked.begun.few_accounts)

@@ -1,8 +1,9 @@
-use Rattle.std.proofs.Common.{◌<◌, length, map, ◌∙◌}
-use Rattle.at_files.proofs.NameLaws.{shown-decimal}
+use Rattle.std.proofs.Common.{◌∙◌}
+use Rattle.at_files.proofs.NameLaws.{decimal-AreNames}
 use Rattle.at_files.proofs.names.Names.process.Goals as goal
 
 pub returns-clause-plain : goal.returns-clause-plain
 returns-clause-plain c = λ first.
-    let within : c.args.process < length (map (λ name. name.items) c.self.inside.processes.items) = rw (← c.self.view_is) at c.requires in
-    c.as_slice.ensures.value ∙ shown-decimal (λ name. name.items) c.self.inside.processes.items c.args.process c.index.result.now c.self.invariant.processes within c.index.ensures
+    c.name.ensures
+    ∙ decimal-AreNames c.self.inside.version c.self.inside.processes c.args.process c.self.invariant.processes (rw (← c.self.view_is) at first)
+    (rw (← c.self.view_is) at c.requires)

@@ -1,0 +1,141 @@
+-- The step on a cell that the rule allows.
+use Rattle.std.proofs.Common.{◌≡◌, ℕ, ◌+◌, ◌<◌, ◌==◌, List, [], ◌∷◌, ◌++◌, length, get_or, set, Option, refl, sym, ap, subst, ◌∙◌, arith, inl, inr}
+use mathlib.Core.Option.{none}
+use prog.Atomic.{either}
+use Rattle.std.proofs.lemmas.Bool.{cases_eq}
+use Rattle.std.proofs.lemmas.List.{get_or-set_other, get_or-set_same, length-set}
+use Rattle.std.proofs.lemmas.List.Elements.{All-append, All-cons, All-nil}
+use Rattle.atomic_table.specs.Table.{Allows, Me, keeps, step}
+use Rattle.at_base.specs.Decision.{word_of}
+use Rattle.at_base.specs.declared.decision.Decision.{Decision}
+use Rattle.at_ledger.specs.Book.{BookTerms, IsBegun}
+use Rattle.at_board.proofs.FormLaws.{same_decision}
+use Rattle.at_board.proofs.PlaceLaws.{place_at-injective}
+use Rattle.at_board.proofs.RoundSteps.{Decides-Ruled, IsPlace-MayPropose}
+use Rattle.at_board.proofs.SeatCountLaws.{HasCounts-with_part}
+use Rattle.at_board.proofs.SeatKept.{IsSeat-with_part}
+use Rattle.at_board.proofs.StepLaws.{IsSeatOf}
+use Rattle.at_board.specs.declared.request.Request.{Request}
+use Rattle.at_board.specs.declared.view.Asking.{Asking}
+use Rattle.at_board.specs.declared.view.Cell.{Cell}
+use Rattle.at_board.specs.declared.view.Part.{Part}
+use Rattle.at_board.specs.declared.view.SeenDecision.{SeenDecision}
+use Rattle.at_board.specs.declared.view.View.{View}
+use Rattle.at_board.specs.Conditions.{MayPropose}
+use Rattle.at_board.specs.DecideSteps.{Decides, decided_round, with_decide, with_decision, word_after}
+use Rattle.at_board.specs.Places.{IsPlace, cell_of, place_at, request_word}
+use Rattle.at_board.specs.SeatCounts.{HasCounts, SeesPlaces}
+use Rattle.at_board.specs.SeatView.{IsSeat}
+use Rattle.at_board.specs.Seated.{Ruled}
+use Rattle.at_board.specs.Steps.{IsHistory, with_part}
+use Rattle.at_board.specs.Views.{asking_on, no_asking, own_part}
+
+-- the same at an equal book and view
+MayPropose-same : (b c : BookTerms) (v u : View) (a round : ℕ) (d : Decision) (r : Request) → b ≡ c → v ≡ u → MayPropose b v a round d r
+    → MayPropose c u a round d r
+MayPropose-same b c v u a round d r book view may =
+    subst (λ (t : BookTerms). MayPropose t u a round d r) book (subst (λ (t : View). MayPropose b t a round d r) view may)
+
+module _ {S : Type 0} where
+  decides : (b : BookTerms) (slots id : ℕ) (me : Me S View) (a round : ℕ) (d : Decision) (r : Request) → IsBegun b → IsSeatOf b me.0 → me.1 ≡ []
+      → MayPropose b me.0 a round d r
+      → let i = place_at b (cell_of a round) in let w = word_of d in
+      Allows (λ s. Ruled b s.words s.views) slots id me i (λ n. either (n == 0) w n) (decided_round (step slots i 0 w none) me)
+  decides b slots id me a round d r begun seat empty may s holds homes found fits =
+      let v : View = me.0 in
+      let done = Decides-Ruled b s.words s.views id v a round d r holds begun found (omega (arith, seat.one_part)) may in
+      let n = get_or s.words (place_at b (cell_of a round)) 0 in (
+        done.view,
+        keeps,
+        tt,
+        done.ruled,
+        (
+          refl,
+          λ k l e q other at word.
+              let other_here : MayPropose b v k l e q = MayPropose-same v.book b v v k l e q seat.book refl other in
+              let there : place_at b (cell_of a round) ≡ place_at b (cell_of k l) = subst (λ (t : BookTerms). place_at b (cell_of a round) ≡ place_at t (cell_of k l)) seat.book at in
+              let same = place_at-injective b (cell_of a round) (cell_of k l) (IsPlace-MayPropose b v a round d r may) (IsPlace-MayPropose b v k l e q other_here) there in
+              let account : a ≡ k = cc same in
+              let number : round ≡ l = cc same in
+              let decision : d ≡ e = same_decision d e may.range other_here.range word in
+              subst (λ (t : BookTerms). Decides t v done.view k l e (word_after n (word_of d))) (sym seat.book)
+              (subst (λ t. Decides b v done.view t l e (word_after n (word_of d))) account
+              (subst (λ t. Decides b v done.view a t e (word_after n (word_of d))) number
+              (subst (λ (t : Decision). Decides b v done.view a round t (word_after n (word_of d))) decision done.told))),
+        ),
+      )
+
+  -- the same at a key, an index and a word that are these
+  pub decides_at : (key b : BookTerms) (slots id : ℕ) (me : Me S View) (u : View) (a round : ℕ) (d : Decision) (r : Request) (i w : ℕ) → key ≡ b
+      → me.0 ≡ u → i ≡ place_at b (cell_of a round) → w ≡ word_of d → IsBegun b → IsSeatOf b me.0 → me.1 ≡ [] → MayPropose b u a round d r
+      → Allows (λ s. Ruled key s.words s.views) slots id me i (λ n. either (n == 0) w n) (decided_round (step slots i 0 w none) me)
+  decides_at key b slots id me u a round d r i w is mine at word begun seat empty may =
+      subst (λ (k : BookTerms). Allows (λ s. Ruled k s.words s.views) slots id me i (λ n. either (n == 0) w n) (decided_round (step slots i 0 w none) me)) (sym is)
+      (subst (λ (j : ℕ). Allows (λ s. Ruled b s.words s.views) slots id me j (λ n. either (n == 0) w n) (decided_round (step slots j 0 w none) me)) (sym at)
+      (subst (λ (k : ℕ). Allows (λ s. Ruled b s.words s.views) slots id me (place_at b (cell_of a round)) (λ n. either (n == 0) k n) (decided_round (step slots (place_at b (cell_of a round)) 0 k none) me)) (sym word)
+      (decides b slots id me a round d r begun seat empty (MayPropose-same b b u me.0 a round d r refl (sym mine) may))))
+
+  -- what the step has told
+  pub Decides-played : (b : BookTerms) (slots : ℕ) (me after : Me S View) (u : View) (a round : ℕ) (d : Decision) (r : Request) (i w n : ℕ) → me.0.book ≡ b
+      → me.0 ≡ u → i ≡ place_at b (cell_of a round) → w ≡ word_of d → MayPropose b u a round d r
+      → decided_round (step slots i 0 w none) me n after → Decides b u after.0 a round d (word_after n w)
+  Decides-played b slots me after u a round d r i w n book mine at word may played =
+      subst (λ (t : BookTerms). Decides t u after.0 a round d (word_after n w)) book
+      (subst (λ (t : View). Decides me.0.book t after.0 a round d (word_after n w)) mine
+      (played.1 a round d r (MayPropose-same b me.0.book u me.0 a round d r (sym book) (sym mine) may)
+      (subst (λ (t : BookTerms). i ≡ place_at t (cell_of a round)) (sym book) at) word))
+
+-- a seat stays one
+pub IsSeat-decided : (b : BookTerms) (v w : View) (process k a round : ℕ) (d : Decision) (n : ℕ) → v.book ≡ b → IsSeat v process k
+    → Decides b v w a round d n → IsSeat w process k
+IsSeat-decided b v w process k a round d n book seat told =
+    let seen : SeenDecision = record { account = a; round = round; decision = told.decision } in
+    let u : View = record v { decisions = v.decisions ++ seen ∷ [] } in
+    let before : IsSeat u process k = record {
+      one_part = seat.one_part;
+      process_is = seat.process_is;
+      published_is = seat.published_is;
+      known = seat.known;
+      begun = seat.begun;
+      history = seat.history;
+      joined = seat.joined;
+    } in
+    subst (λ t. IsSeat t process k) (sym told.same)
+    (IsSeat-with_part u w.seen (with_decide (own_part v) a told.held) process k before k seat.published_is
+    (subst (λ t. IsHistory t w.seen) (sym book) told.history))
+
+-- as many requests are announced
+announced-decide : (q : Part) (a k : ℕ) (held : Option Cell) → k < length q.asking
+    → length (asking_on (with_decide q a held) k).announced ≡ length (asking_on q k).announced
+announced-decide q a k held within =
+    let w : Asking = record (asking_on q a) { decides = (asking_on q a).decides + 1 } in
+    elim (cases_eq k a) as (λ _. length (get_or (set q.asking a w) k no_asking).announced ≡ length (get_or q.asking k no_asking).announced) [
+      | inl own ↦
+          let inside : a < length q.asking = omega (arith, own, within) in
+          ap (λ (t : Asking). length t.announced) (ap (λ t. get_or (set q.asking a w) t no_asking) own ∙ get_or-set_same q.asking a w no_asking inside)
+          ∙ ap (λ t. length (get_or q.asking t no_asking).announced) (sym own)
+      | inr other ↦ ap (λ (t : Asking). length t.announced) (get_or-set_other q.asking a k w no_asking other)
+    ]
+
+pub HasCounts-decided : (b : BookTerms) (v w : View) (a round : ℕ) (d : Decision) (n : ℕ) (counts : List ℕ) → 0 < length v.parts
+    → Decides b v w a round d n → HasCounts v counts → HasCounts w counts
+HasCounts-decided b v w a round d n counts part told has =
+    let q : Part = own_part v in
+    let u : View = with_decision v w.seen a round told.decision in
+    let before : HasCounts u counts = record { accounts = has.accounts; sized = has.sized; counted = has.counted } in
+    subst (λ t. HasCounts t counts) (sym told.same)
+    (HasCounts-with_part u (with_decide q a told.held) counts part (length-set q.asking a _)
+    (λ k within. announced-decide q a k told.held (omega (arith, within, has.accounts))) before)
+
+pub SeesPlaces-decided : (b : BookTerms) (v w u : View) (a round : ℕ) (d e : Decision) (r : Request) (n : ℕ) → v.book ≡ b → MayPropose b u a round e r
+    → Decides b v w a round d n → SeesPlaces v → SeesPlaces w
+SeesPlaces-decided b v w u a round d e r n book may told sees =
+    let seen : SeenDecision = record { account = a; round = round; decision = told.decision } in
+    let P : SeenDecision → Type 0 = λ x. IsPlace v.book (request_word x.account x.decision.slot x.decision.number 0) in
+    let here : P seen = subst (λ (t : BookTerms). IsPlace t (request_word a told.decision.slot told.decision.number 0)) (sym book)
+    (may.owner.1.account_in, told.slot_in, told.number_in, omega arith) in
+    let after : SeesPlaces (with_part (with_decision v w.seen a round told.decision) (with_decide (own_part v) a told.held)) = record {
+      requests = sees.requests;
+      decisions = All-append P v.decisions (seen ∷ []) sees.decisions (All-cons P seen [] here (All-nil P));
+    } in
+    subst SeesPlaces (sym told.same) after

@@ -1,0 +1,108 @@
+-- What is known at the end of a board.
+use Rattle.std.proofs.Common.{ap, ◌≡◌, ℕ, ◌+◌, ◌-◌, ◌<◌, List, [], ◌∷◌, ◌++◌, length, get_or, None, refl, sym, subst, ◌∙◌, arith, inl, inr}
+use Rattle.std.specs.List.{All, Contains}
+use Rattle.std.proofs.lemmas.Bool.{cases_lt}
+use Rattle.std.proofs.lemmas.List.{get_or-append_right, get_or_append_left, get_or_default, length-append, length_push}
+use Rattle.std.proofs.lemmas.List.Elements.{All-append, All-cons, All-nil, Contains-append_left, Contains-append_right}
+use Rattle.atomic_table.specs.Table.{Final, Seen}
+use Rattle.at_ledger.specs.Book.{BookTerms, IsBook}
+use Rattle.at_board.proofs.HistoryLaws.{IsHistory-Sound}
+use Rattle.at_board.proofs.RecordLaws.{All-Contains, lists_of-Knows}
+use Rattle.at_board.specs.declared.publication.Publication.{Publication}
+use Rattle.at_board.specs.declared.view.View.{View}
+use Rattle.at_board.specs.BoardState.{BoardState}
+use Rattle.at_board.specs.Cuts.{AreNew, starting_seat}
+use Rattle.at_board.specs.Ends.{AreAllFree, Gathers, IsEnd, IsFreeSeat, gathered}
+use Rattle.at_board.specs.Publications.{IsPrefix}
+use Rattle.at_board.specs.RecordWords.{lists_of}
+use Rattle.at_board.specs.Seated.{Ruled}
+use Rattle.at_board.specs.SeatView.{BoardView, SeatView}
+use Rattle.at_board.specs.Shown.{Shown}
+use Rattle.at_board.specs.Views.{HasPart, Knows, no_part, part_at}
+
+-- the view has all lists that the seat has seen
+abbrev pub HasLists : View → SeatView → Type 0
+HasLists v seat = All (λ list. Contains (lists_of v) list) (lists_of seat.view)
+
+-- the first seat
+pub Gathers-first : (board : BoardView) (seat : SeatView) → IsFreeSeat board 0 seat → length seat.view.parts ≡ 1 → Gathers (seat ∷ []) seat.view
+Gathers-first board seat is one =
+    let lists = lists_of seat.view in
+    let own : HasLists seat.view seat = λ k list within. (k, within, get_or_default lists k (get_or lists k list) list within) in
+    record {
+      first = is.process;
+      parts = one;
+      free = λ k within. let at : 0 ≡ k = omega (arith, within, one) in subst (λ n. (part_at seat.view n).held ≡ None) at is.free;
+      seen = All-cons (HasLists seat.view) seat [] own (All-nil (HasLists seat.view));
+    }
+
+-- the next seat stands for the process after those that were gathered
+pub next_seat : (board : BoardView) (seats : List SeatView) (v : View) (x : SeatView) → Gathers seats v → IsFreeSeat board (length seats) x
+    → x.view.first ≡ v.first + length v.parts
+next_seat board seats v x gathers is = omega (arith, is.process, gathers.first, gathers.parts)
+
+pub Gathers-more : (board : BoardView) (seats : List SeatView) (v : View) (x : SeatView) → Gathers seats v → IsFreeSeat board (length seats) x
+    → length x.view.parts ≡ 1 → Gathers (seats ++ x ∷ []) (gathered v x.view)
+Gathers-more board seats v x gathers is one =
+    let w : View = x.view in
+    let u : View = gathered v w in
+    let left : (list : List Publication) → Contains (lists_of v) list → Contains (lists_of u) list =
+    λ list there. Contains-append_right (u.seen ∷ []) (lists_of v ++ lists_of w) list (Contains-append_left (lists_of v) (lists_of w) list there) in
+    let right : (list : List Publication) → Contains (lists_of w) list → Contains (lists_of u) list =
+    λ list there. Contains-append_right (u.seen ∷ []) (lists_of v ++ lists_of w) list (Contains-append_right (lists_of v) (lists_of w) list there) in
+    let own : HasLists u x = λ k list within.
+    right (get_or (lists_of w) k list) (k, within, get_or_default (lists_of w) k (get_or (lists_of w) k list) list within) in
+    record {
+      first = gathers.first;
+      parts = omega (arith, length-append v.parts w.parts, gathers.parts, one, length_push seats x);
+      free = λ k within. elim (cases_lt k (length v.parts)) as (λ _. (get_or (v.parts ++ w.parts) k no_part).held ≡ None) [
+        | inl below ↦ subst (λ q. q.held ≡ None) (sym (get_or_append_left v.parts w.parts no_part k below)) (gathers.free k below)
+        | inr above ↦
+            let at : 0 ≡ k - length v.parts = omega (arith, within, above, length-append v.parts w.parts, one) in
+            subst (λ q. q.held ≡ None) (sym (get_or-append_right v.parts w.parts (length v.parts) k no_part refl above))
+            (subst (λ n. (part_at w n).held ≡ None) at is.free)
+      ];
+      seen = All-append (HasLists u) seats (x ∷ [])
+          (λ k d within. λ i list inside. left (get_or (lists_of (get_or seats k d).view) i list) (gathers.seen k d within i list inside))
+          (All-cons (HasLists u) x [] own (All-nil (HasLists u)));
+    }
+
+module _ {S : Type 0} where
+  -- the last state
+  abbrev pub IsLast : BookTerms → ℕ → View → List ℕ → List S → Type 0
+  IsLast b id v words slots = Final (Seen {S = S} (λ s. Ruled b s.words s.views) id v) words slots
+
+  pub IsEnd-Final : (b : BookTerms) (words : List ℕ) (slots : List S) (id : ℕ) (v : View) (seats : List SeatView) → IsBook b → Gathers seats v
+      → length seats ≡ b.processes → IsLast b id v words slots → IsEnd (record { book = b; words = words }) seats
+  IsEnd-Final b words slots id v seats book gathers all last =
+      let ruled : Ruled b last.0.words last.0.views = last.1.0 in
+      let s : BoardState = ruled.state in
+      let knows : Knows b last.0.words s v = ruled.knows id v last.1.1 in
+      record {
+        state = s;
+        shown = subst (λ ws. Shown b ws s) last.2 ruled.shown;
+        sound = ruled.sound;
+        free = λ p within.
+            let inside : p < length v.parts = omega (arith, within, gathers.parts, all) in
+            let has : HasPart b last.0.words s v (v.first + p) (part_at v p) = knows.parts p inside in
+            let at : v.first + p ≡ p = omega (arith, gathers.first) in
+            subst (λ n. s.held n ≡ None) at (sym has.held ∙ gathers.free p inside);
+        seen = λ k d within. λ i list inside.
+            All-Contains (λ t. IsPrefix t s.published) (lists_of v) (get_or (lists_of (get_or seats k d).view) i list)
+            (lists_of-Knows b last.0.words s v knows) (gathers.seen k d within i list inside);
+        history = IsHistory-Sound b last.0.words s ruled.shown ruled.sound book.begun;
+      }
+
+-- all seats of a new board hold no cell
+pub AreAllFree-AreNew : (b : BookTerms) (board : BoardView) (seats : List SeatView) → board.book ≡ b → AreNew b board.id seats → AreAllFree board seats
+AreAllFree-AreNew b board seats same new = record {
+  count = new.count ∙ sym (ap (λ (t : BookTerms). t.processes) same);
+  each = λ p d within.
+      let inside : p < b.processes = subst (λ (t : BookTerms). p < t.processes) same within in
+      let first : IsFreeSeat board p (record { board = board.id; view = starting_seat b p }) = record {
+        of_board = record { id = refl; book = sym same };
+        process = refl;
+        free = refl;
+      } in
+      subst (IsFreeSeat board p) (sym (new.each p d inside)) first;
+}

@@ -1,0 +1,171 @@
+-- Joining two seats of the board keeps the rule.
+use Rattle.std.proofs.Common.{◌≡◌, ◌≢◌, ℕ, ◌+◌, ◌-◌, ◌<◌, ◌==◌, Bool, cond, List, ◌++◌, length, get_or, set, refl, sym, ap, subst, ◌∙◌, arith, inl, inr, ◌⊎◌}
+use lib.ListN.{get_elem?}
+use mathlib.Core.Option.{some, some-injective}
+use Rattle.std.proofs.lemmas.Bool.{cases_eq, cases_lt, eq-eqb, le-ltb, lt-ltb, ne_eqb}
+use Rattle.std.proofs.lemmas.List.{get_or_append_left, get_or-append_right, length-append}
+use Rattle.std.proofs.lemmas.List.Elements.{All-append, Contains-append_left, Contains-append_right}
+use Rattle.atomic_table.proofs.Lists.{at_set, set_else, set_here}
+use Rattle.atomic_table.specs.Table.{Joins}
+use Rattle.at_ledger.specs.Book.{BookTerms}
+use Rattle.at_board.proofs.FrontLaws.{IsPrefix-both, IsPrefix-refl}
+use Rattle.at_board.proofs.LearnLaws.{Knows-spent_view}
+use Rattle.at_board.proofs.MoreLaws.{HasPart-more, HasRequests}
+use Rattle.at_board.proofs.RecordLaws.{lists_of-Knows}
+use Rattle.at_board.proofs.SeatLaws.{knows_after, within_found}
+use Rattle.at_board.specs.declared.publication.Publication.{Publication}
+use Rattle.at_board.specs.declared.view.View.{View}
+use Rattle.at_board.specs.BoardState.{BoardState}
+use Rattle.at_board.specs.Ends.{gathered, longest}
+use Rattle.at_board.specs.LearnSteps.{spent_view}
+use Rattle.at_board.specs.Publications.{IsPrefix}
+use Rattle.at_board.specs.RecordWords.{lists_of}
+use Rattle.at_board.specs.Seated.{AreSeated, Holds, Ruled}
+use Rattle.at_board.specs.Views.{HasPart, IsAnnounced, IsDecided, Knows, no_part, part_at}
+
+-- of two prefixes of one list both are prefixes of the longer, which is one of them
+record IsLongest (xs ys all : List Publication) : Type 0 where
+  first : IsPrefix xs (longest xs ys)
+  second : IsPrefix ys (longest xs ys)
+  before : IsPrefix (longest xs ys) all
+
+IsLongest-longest : (xs ys all : List Publication) → IsPrefix xs all → IsPrefix ys all → IsLongest xs ys all
+IsLongest-longest xs ys all one two =
+    elim (cases_lt (length xs) (length ys)) as (λ _. IsLongest xs ys all) [
+      | inl below ↦
+          let is : ys ≡ longest xs ys = sym (ap (λ (t : Bool). cond t ys xs) (lt-ltb (length xs) (length ys) below)) in
+          record {
+            first = subst (IsPrefix xs) is (IsPrefix-both xs ys all one two (omega arith));
+            second = subst (IsPrefix ys) is (IsPrefix-refl ys);
+            before = subst (λ t. IsPrefix t all) is two;
+          }
+      | inr above ↦
+          let is : xs ≡ longest xs ys = sym (ap (λ (t : Bool). cond t ys xs) (le-ltb (length xs) (length ys) above)) in
+          record {
+            first = subst (IsPrefix xs) is (IsPrefix-refl xs);
+            second = subst (IsPrefix ys) is (IsPrefix-both ys xs all two one above);
+            before = subst (λ t. IsPrefix t all) is one;
+          }
+    ]
+
+Knows-gathered : (b : BookTerms) (words : List ℕ) (s : BoardState) (v w : View) → w.first ≡ v.first + length v.parts
+    → Knows b words s v → Knows b words s w → Knows b words s (gathered v w)
+Knows-gathered b words s v w next mine theirs =
+    let u : View = gathered v w in
+    let long = IsLongest-longest v.seen w.seen s.published mine.seen theirs.seen in
+    let left : HasRequests u.requests v.requests = λ x there. Contains-append_left v.requests w.requests x there in
+    let right : HasRequests u.requests w.requests = λ x there. Contains-append_right v.requests w.requests x there in
+    record {
+      seen = long.before;
+      requests = All-append (IsAnnounced s) v.requests w.requests mine.requests theirs.requests;
+      decisions = All-append (IsDecided s) v.decisions w.decisions mine.decisions theirs.decisions;
+      joined = All-append (λ list. IsPrefix list s.published) (lists_of v) (lists_of w) (lists_of-Knows b words s v mine) (lists_of-Knows b words s w theirs);
+      parts = λ k within. elim (cases_lt k (length v.parts)) as (λ _. HasPart b words s u (v.first + k) (get_or (v.parts ++ w.parts) k no_part)) [
+        | inl below ↦
+            subst (HasPart b words s u (v.first + k)) (sym (get_or_append_left v.parts w.parts no_part k below))
+            (HasPart-more b words s v u (v.first + k) (part_at v k) long.first long.before left (mine.parts k below))
+        | inr above ↦
+            let n = k - length v.parts in
+            let inside : n < length w.parts = omega (arith, within, above, length-append v.parts w.parts) in
+            let at : w.first + n ≡ v.first + k = omega (arith, next, above) in
+            subst (HasPart b words s u (v.first + k)) (sym (get_or-append_right v.parts w.parts (length v.parts) k no_part refl above))
+            (subst (λ p. HasPart b words s u p (part_at w n)) at
+            (HasPart-more b words s w u (w.first + n) (part_at w n) long.second long.before right (theirs.parts n inside)))
+      ];
+    }
+
+-- for which processes the view of both stands
+Holds-gathered : (v w : View) (p : ℕ) → w.first ≡ v.first + length v.parts → Holds (gathered v w) p → Holds v p ⊎ Holds w p
+Holds-gathered v w p next holds =
+    elim (cases_lt p (v.first + length v.parts)) as (λ _. Holds v p ⊎ Holds w p) [
+      | inl below ↦ inl (holds.0, below)
+      | inr above ↦ inr (omega (arith, next, above), omega (arith, next, holds.1, length-append v.parts w.parts))
+    ]
+
+gathered-first : (v w : View) (p : ℕ) → Holds v p → Holds (gathered v w) p
+gathered-first v w p holds = (holds.0, omega (arith, holds.1, length-append v.parts w.parts))
+
+gathered-second : (v w : View) (p : ℕ) → w.first ≡ v.first + length v.parts → Holds w p → Holds (gathered v w) p
+gathered-second v w p next holds = (omega (arith, next, holds.0), omega (arith, next, holds.1, length-append v.parts w.parts))
+
+-- the processes of the second seat have the first one
+abbrev pub seat_joined : (ℕ → ℕ) → ℕ → ℕ → ℕ → ℕ
+seat_joined seat id other p = cond (seat p == other) id (seat p)
+
+seat_joined-second : (seat : ℕ → ℕ) (id other p : ℕ) → seat p ≡ other → seat_joined seat id other p ≡ id
+seat_joined-second seat id other p own = ap (λ (t : Bool). cond t id (seat p)) (eq-eqb (seat p) other own)
+
+seat_joined-else : (seat : ℕ → ℕ) (id other p : ℕ) → seat p ≢ other → seat_joined seat id other p ≡ seat p
+seat_joined-else seat id other p apart = ap (λ (t : Bool). cond t id (seat p)) (ne_eqb (seat p) other apart)
+
+AreSeated-gathered : (b : BookTerms) (seat : ℕ → ℕ) (views : List View) (id other : ℕ) (v w : View) → AreSeated b seat views
+    → get_elem? views id ≡ some v → other ≢ id → get_elem? views other ≡ some w → w.first ≡ v.first + length v.parts
+    → AreSeated b (seat_joined seat id other) (set (set views id (gathered v w)) other spent_view)
+AreSeated-gathered b seat views id other v w seated found apart there next =
+    let u : View = gathered v w in
+    let after = set (set views id u) other spent_view in
+    record {
+      only = λ j p t at holds. elim (at_set (set views id u) other j spent_view t at) as (λ _. seat_joined seat id other p ≡ j) [
+        | inl here ↦
+            let none : Holds spent_view p = subst (λ x. Holds x p) (sym here.1) holds in
+            absurd (omega (arith, none.0, none.1))
+        | inr off ↦ elim (at_set views id j u t off.1) as (λ _. seat_joined seat id other p ≡ j) [
+          | inl here ↦ elim (Holds-gathered v w p next (subst (λ x. Holds x p) (sym here.1) holds)) as (λ _. seat_joined seat id other p ≡ j) [
+            | inl mine ↦
+                let own = seated.only id p v found mine in
+                seat_joined-else seat id other p (λ e. apart (sym e ∙ own)) ∙ (own ∙ sym here.0)
+            | inr theirs ↦ seat_joined-second seat id other p (seated.only other p w there theirs) ∙ sym here.0
+          ]
+          | inr old ↦
+              let own = seated.only j p t old.1 holds in
+              seat_joined-else seat id other p (λ e. off.0 (sym own ∙ e)) ∙ own
+        ]
+      ];
+      some_view = λ p within.
+          let before = seated.some_view p within in
+          let here : get_elem? after id ≡ some u =
+          set_else (set views id u) other id spent_view (λ e. apart (sym e)) ∙ set_here views id u (within_found views id v found) in
+          elim (cases_eq (seat p) other) as (λ _. (t : View) × (get_elem? after (seat_joined seat id other p) ≡ some t) × Holds t p) [
+            | inl theirs ↦
+                let same : before.0 ≡ w = some-injective before.0 w (sym before.1 ∙ (ap (get_elem? views) theirs ∙ there)) in
+                (u, ap (get_elem? after) (seat_joined-second seat id other p theirs) ∙ here, gathered-second v w p next (subst (λ t. Holds t p) same before.2))
+            | inr beside ↦
+                let stays = seat_joined-else seat id other p beside in
+                elim (cases_eq (seat p) id) as (λ _. (t : View) × (get_elem? after (seat_joined seat id other p) ≡ some t) × Holds t p) [
+                  | inl mine ↦
+                      let same : before.0 ≡ v = some-injective before.0 v (sym before.1 ∙ (ap (get_elem? views) mine ∙ found)) in
+                      (u, ap (get_elem? after) (stays ∙ mine) ∙ here, gathered-first v w p (subst (λ t. Holds t p) same before.2))
+                  | inr off ↦ (
+                    before.0,
+                    ap (get_elem? after) stays
+                        ∙ (set_else (set views id u) other (seat p) spent_view beside ∙ (set_else views id (seat p) u off ∙ before.1)),
+                    before.2,
+                  )
+                ]
+          ];
+    }
+
+Ruled-gathered : (b : BookTerms) (words : List ℕ) (views : List View) (id other : ℕ) (v w : View) → Ruled b words views
+    → get_elem? views id ≡ some v → other ≢ id → get_elem? views other ≡ some w → w.first ≡ v.first + length v.parts
+    → Ruled b words (set (set views id (gathered v w)) other spent_view)
+Ruled-gathered b words views id other v w ruled found apart there next =
+    let s : BoardState = ruled.state in
+    let u : View = gathered v w in
+    let knows = knows_after b words s views id u (Knows-gathered b words s v w next (ruled.knows id v found) (ruled.knows other w there))
+    (λ j t off at. ruled.knows j t at) in
+    record {
+      state = s;
+      seat = seat_joined ruled.seat id other;
+      shown = ruled.shown;
+      sound = ruled.sound;
+      knows = knows_after b words s (set views id u) other spent_view (Knows-spent_view b words s) (λ j t off at. knows j t at);
+      seated = AreSeated-gathered b ruled.seat views id other v w ruled.seated found apart there next;
+    }
+
+module _ {S : Type 0} where
+  -- the seats of the next processes may be joined to a seat
+  pub gathers : (key : BookTerms) (id other : ℕ) (v w : View) → w.first ≡ v.first + length v.parts
+      → Joins {S = S} (λ s. Ruled key s.words s.views) id v other w (gathered v w) spent_view
+  gathers key id other v w next s holds found apart there =
+      Ruled-gathered key s.words s.views id other v w holds found apart
+      (sym (set_else s.views id other (gathered v w) apart) ∙ there) next

@@ -1,0 +1,198 @@
+-- Learning a note keeps the rule, and what it tells.
+use Rattle.std.proofs.Common.{◌≡◌, ◌≢◌, ℕ, ◌+◌, ◌==◌, ◌&&◌, Bool, cond, List, ◌++◌, length, set, refl, sym, ap, subst, ◌∙◌, arith, inl, inr, ◌⊎◌}
+use Rattle.std.specs.List.{All}
+use lib.ListN.{get_elem?}
+use mathlib.Core.Option.{some, some-injective}
+use Rattle.std.proofs.lemmas.Bool.{and_from, and_parts, cases_Bool, cases_eq, cases_lt, eq-eqb, eqb-true}
+use Rattle.std.proofs.lemmas.List.Elements.{All-append, All-cons, All-nil, Contains-append_left}
+use Rattle.atomic_table.proofs.Lists.{at_set, set_else}
+use Rattle.atomic_table.specs.Table.{Joins}
+use Rattle.at_ledger.specs.Book.{BookTerms}
+use Rattle.at_board.proofs.FrontLaws.{IsPrefix-both, IsPrefix-count_of, IsPrefix-refl}
+use Rattle.at_board.proofs.MoreLaws.{HasPart-more, HasRequests}
+use Rattle.at_board.proofs.SameLaws.{IsPrefix-begins_with, begins_with-IsPrefix}
+use Rattle.at_board.proofs.SeatLaws.{AreSeated-set, knows_after}
+use Rattle.at_board.specs.declared.publication.Publication.{Publication}
+use Rattle.at_board.specs.declared.view.View.{View}
+use Rattle.at_board.specs.BoardState.{BoardState}
+use Rattle.at_board.specs.LearnSteps.{Learns, learned, longer, spent_view}
+use Rattle.at_board.specs.NoteSteps.{IsNote}
+use Rattle.at_board.specs.Places.{IsPlace, request_word}
+use Rattle.at_board.specs.Publications.{IsPrefix, count_of}
+use Rattle.at_board.specs.Same.{begins_with}
+use Rattle.at_board.specs.Seated.{AreSeated, Holds, Ruled}
+use Rattle.at_board.specs.SeatCounts.{HasCounts, SeesPlaces}
+use Rattle.at_board.specs.SeatView.{IsSeat}
+use Rattle.at_board.specs.Steps.{IsHistory}
+use Rattle.at_board.specs.Views.{IsAnnounced, IsDecided, Knows, part_at}
+
+-- which of two lists was taken
+record TakesOther (process : ℕ) (mine other : List Publication) : Type 0 where
+  taken : longer process mine other ≡ other
+  before : IsPrefix mine other
+  own : count_of process other ≡ count_of process mine
+
+longer_cases : (process : ℕ) (mine other : List Publication) → TakesOther process mine other ⊎ (longer process mine other ≡ mine)
+longer_cases process mine other =
+    let begins = begins_with other mine in
+    let as_many = count_of process other == count_of process mine in
+    elim (cases_Bool (begins && as_many)) as (λ _. TakesOther process mine other ⊎ (longer process mine other ≡ mine)) [
+      | inl taken ↦
+          let both = and_parts begins as_many taken in
+          inl (record {
+            taken = ap (λ (t : Bool). cond t other mine) taken;
+            before = IsPrefix-begins_with other mine both.0;
+            own = eqb-true (count_of process other) (count_of process mine) both.1;
+          })
+      | inr kept ↦ inr (ap (λ (t : Bool). cond t other mine) kept)
+    ]
+
+-- what holds of both holds of the longer
+longer-either : (P : List Publication → Type 0) (process : ℕ) (mine other : List Publication) → P mine → P other → P (longer process mine other)
+longer-either P process mine other one two =
+    elim (longer_cases process mine other) as (λ _. P (longer process mine other)) [
+      | inl takes ↦ subst P (sym takes.taken) two
+      | inr keeps ↦ subst P (sym keeps) one
+    ]
+
+-- the longer list begins with mine, and has as many publications of the process
+IsPrefix-longer : (process : ℕ) (mine other : List Publication) → IsPrefix mine (longer process mine other)
+IsPrefix-longer process mine other =
+    elim (longer_cases process mine other) as (λ _. IsPrefix mine (longer process mine other)) [
+      | inl takes ↦ subst (IsPrefix mine) (sym takes.taken) takes.before
+      | inr keeps ↦ subst (IsPrefix mine) (sym keeps) (IsPrefix-refl mine)
+    ]
+
+count_of-longer : (process : ℕ) (mine other : List Publication) → count_of process (longer process mine other) ≡ count_of process mine
+count_of-longer process mine other =
+    elim (longer_cases process mine other) as (λ _. count_of process (longer process mine other) ≡ count_of process mine) [
+      | inl takes ↦ ap (count_of process) takes.taken ∙ takes.own
+      | inr keeps ↦ ap (count_of process) keeps
+    ]
+
+-- where both are prefixes of one list, and mine has all publications of the process there, both are prefixes of the longer
+pub longer-both : (process : ℕ) (mine other all : List Publication) → IsPrefix mine all → IsPrefix other all
+    → count_of process mine ≡ count_of process all → IsPrefix other (longer process mine other)
+longer-both process mine other all one two own =
+    elim (cases_lt (length other) (length mine)) as (λ _. IsPrefix other (longer process mine other)) [
+      | inl shorter ↦ longer-either (IsPrefix other) process mine other (IsPrefix-both other mine all two one (omega arith)) (IsPrefix-refl other)
+      | inr above ↦
+          let before = IsPrefix-both mine other all one two above in
+          let as_many : count_of process other ≡ count_of process mine =
+          omega (arith, own, IsPrefix-count_of process mine other before, IsPrefix-count_of process other all two) in
+          let passes = and_from (begins_with other mine) (count_of process other == count_of process mine) (begins_with-IsPrefix other mine before)
+          (eq-eqb (count_of process other) (count_of process mine) as_many) in
+          subst (IsPrefix other) (sym (ap (λ (t : Bool). cond t other mine) passes)) (IsPrefix-refl other)
+    ]
+
+Knows-learned : (b : BookTerms) (words : List ℕ) (s : BoardState) (v w : View) → Knows b words s v → Knows b words s w
+    → Knows b words s (learned v w)
+Knows-learned b words s v w mine theirs =
+    let u : View = learned v w in
+    let before = longer-either (λ list. IsPrefix list s.published) v.first v.seen w.seen mine.seen theirs.seen in
+    let more : HasRequests u.requests v.requests = λ x there. Contains-append_left v.requests w.requests x there in
+    record {
+      seen = before;
+      requests = All-append (IsAnnounced s) v.requests w.requests mine.requests theirs.requests;
+      decisions = All-append (IsDecided s) v.decisions w.decisions mine.decisions theirs.decisions;
+      joined = All-cons (λ list. IsPrefix list s.published) w.seen (v.joined ++ w.joined) theirs.seen
+          (All-append (λ list. IsPrefix list s.published) v.joined w.joined mine.joined theirs.joined);
+      parts = λ k within. HasPart-more b words s v u (v.first + k) (part_at v k) (IsPrefix-longer v.first v.seen w.seen) before more (mine.parts k within);
+    }
+
+pub Knows-spent_view : (b : BookTerms) (words : List ℕ) (s : BoardState) → Knows b words s spent_view
+Knows-spent_view b words s = record {
+  seen = (s.published, refl);
+  requests = All-nil (IsAnnounced s);
+  decisions = All-nil (IsDecided s);
+  joined = All-nil (λ list. IsPrefix list s.published);
+  parts = λ k within. absurd (omega arith);
+}
+
+-- a view with no part stands for no process
+Holds-nothing : (v : View) (p : ℕ) → length v.parts ≡ 0 → Holds v p → ⊥
+Holds-nothing v p none holds = omega (arith, holds.0, holds.1)
+
+-- a note is spent
+AreSeated-spent : (b : BookTerms) (seat : ℕ → ℕ) (views : List View) (id : ℕ) (w : View) → AreSeated b seat views
+    → get_elem? views id ≡ some w → length w.parts ≡ 0 → AreSeated b seat (set views id spent_view)
+AreSeated-spent b seat views id w seated found none = record {
+  only = λ j p u there holds. elim (at_set views id j spent_view u there) as (λ _. seat p ≡ j) [
+    | inl here ↦ absurd (Holds-nothing spent_view p refl (subst (λ t. Holds t p) (sym here.1) holds))
+    | inr other ↦ seated.only j p u other.1 holds
+  ];
+  some_view = λ p within.
+      let before = seated.some_view p within in
+      elim (cases_eq (seat p) id) as (λ _. (u : View) × (get_elem? (set views id spent_view) (seat p) ≡ some u) × Holds u p) [
+        | inl mine ↦
+            let same : before.0 ≡ w = some-injective before.0 w (sym before.1 ∙ (ap (get_elem? views) mine ∙ found)) in
+            absurd (Holds-nothing w p none (subst (λ t. Holds t p) same before.2))
+        | inr other ↦ (before.0, set_else views id (seat p) spent_view other ∙ before.1, before.2)
+      ];
+}
+
+Ruled-learned : (b : BookTerms) (words : List ℕ) (views : List View) (id other : ℕ) (v w : View) → Ruled b words views
+    → get_elem? views id ≡ some v → other ≢ id → get_elem? views other ≡ some w → length w.parts ≡ 0
+    → Ruled b words (set (set views id (learned v w)) other spent_view)
+Ruled-learned b words views id other v w ruled found apart there none =
+    let s : BoardState = ruled.state in
+    let u : View = learned v w in
+    let joined = set views id u in
+    let knows = knows_after b words s views id u (Knows-learned b words s v w (ruled.knows id v found) (ruled.knows other w there))
+    (λ j t off at. ruled.knows j t at) in
+    record {
+      state = s;
+      seat = ruled.seat;
+      shown = ruled.shown;
+      sound = ruled.sound;
+      knows = knows_after b words s joined other spent_view (Knows-spent_view b words s) (λ j t off at. knows j t at);
+      seated = AreSeated-spent b ruled.seat joined other w (AreSeated-set b ruled.seat views id v u ruled.seated found refl refl)
+          (set_else views id other u apart ∙ there) none;
+    }
+
+module _ {S : Type 0} where
+  -- a note may be joined to a seat
+  pub learns : (key : BookTerms) (id other : ℕ) (v w : View) → length w.parts ≡ 0
+      → Joins {S = S} (λ s. Ruled key s.words s.views) id v other w (learned v w) spent_view
+  learns key id other v w none s holds found apart there =
+      Ruled-learned key s.words s.views id other v w holds found apart
+      (sym (set_else s.views id other (learned v w) apart) ∙ there) none
+
+-- what the seat has then seen
+pub Learns-learned : (b : BookTerms) (v w : View) (process published : ℕ) → v.book ≡ b → w.book ≡ b → IsSeat v process published → IsNote w
+    → Learns b v w (learned v w)
+Learns-learned b v w process published book note_book seat note = record {
+  more = IsPrefix-longer v.first v.seen w.seen;
+  own = count_of-longer v.first v.seen w.seen;
+  heard = (0, omega arith, refl);
+  history = longer-either (IsHistory b) v.first v.seen w.seen (subst (λ t. IsHistory t v.seen) book seat.history) (subst (λ t. IsHistory t w.seen) note_book note.history);
+  same = refl;
+}
+
+pub IsSeat-learned : (b : BookTerms) (v w : View) (process published : ℕ) → v.book ≡ b → w.book ≡ b → IsSeat v process published → IsNote w
+    → IsSeat (learned v w) process published
+IsSeat-learned b v w process published book note_book seat note =
+    let same : w.book ≡ v.book = note_book ∙ sym book in
+    let theirs : IsHistory v.book w.seen = subst (λ t. IsHistory t w.seen) same note.history in
+    record {
+      one_part = seat.one_part;
+      process_is = seat.process_is;
+      published_is = seat.published_is;
+      known = seat.known;
+      begun = seat.begun;
+      history = longer-either (IsHistory v.book) v.first v.seen w.seen seat.history theirs;
+      joined = All-cons (IsHistory v.book) w.seen (v.joined ++ w.joined) theirs
+          (All-append (IsHistory v.book) v.joined w.joined seat.joined (subst (λ t. All (IsHistory t) w.joined) same note.joined));
+    }
+
+-- the seat's own part is the same
+pub HasCounts-learned : (v w : View) (announced : List ℕ) → HasCounts v announced → HasCounts (learned v w) announced
+HasCounts-learned v w announced has = record { accounts = has.accounts; sized = has.sized; counted = has.counted }
+
+pub SeesPlaces-learned : (v w : View) → w.book ≡ v.book → SeesPlaces v → SeesPlaces w → SeesPlaces (learned v w)
+SeesPlaces-learned v w same mine theirs = record {
+  requests = All-append (λ x. IsPlace v.book (request_word x.account x.slot x.number 0)) v.requests w.requests mine.requests
+      (subst (λ t. All (λ x. IsPlace t (request_word x.account x.slot x.number 0)) w.requests) same theirs.requests);
+  decisions = All-append (λ x. IsPlace v.book (request_word x.account x.decision.slot x.decision.number 0)) v.decisions w.decisions mine.decisions
+      (subst (λ t. All (λ x. IsPlace t (request_word x.account x.decision.slot x.decision.number 0)) w.decisions) same theirs.decisions);
+}

@@ -1,0 +1,15 @@
+use Rattle.std.proofs.Common.{◌≡◌, ◌≤◌, length, sym, ap, subst, ◌∙◌, arith, take}
+use Rattle.std.specs.List.{sum_by}
+use Rattle.std.proofs.lemmas.List.{get_or_read}
+use Rattle.at_ledger.specs.Book.{BookTerms}
+use Rattle.at_board.specs.Places.{slots_of}
+use Rattle.at_board.proofs.board.Board.first_slot.Goals as goal
+
+pub returns : goal.returns
+returns c =
+    let b : BookTerms = c.self.inside.book in
+    let book = ap (λ t. t.book) c.self.view_is in
+    let a = c.args.account in
+    let within : a ≤ length b.accounts = subst (λ (t : BookTerms). a ≤ length t.accounts) (sym book) c.requires in
+    let here = get_or_read c.self.inside.slots_before.items a c.index.result.now (omega (arith, within, c.self.invariant.6)) c.index.ensures 0 in
+    subst (λ (t : BookTerms). c.index.result.now ≡ sum_by slots_of (take a t.accounts)) book (here ∙ c.self.invariant.7 a within)

@@ -1,0 +1,72 @@
+use Rattle.std.proofs.Common.{◌≡◌, ◌+◌, ◌<◌, List, [], ◌∷◌, ◌++◌, length, get_or, sym, ap, subst, ◌∙◌, append_assoc, arith}
+use Rattle.std.proofs.Math.Seq.{get_or-append_seam}
+use Rattle.std.proofs.lemmas.List.{length-append}
+use Rattle.at_board.proofs.EndLaws.{Gathers-first, Gathers-more, next_seat}
+use Rattle.at_board.proofs.GatherLaws.{gathers}
+use Rattle.at_board.specs.declared.view.View.{View}
+use Rattle.at_board.specs.Ends.{AreAllFree, Gathers, IsFreeSeat, gathered}
+use Rattle.at_board.specs.SeatView.{BoardView, SeatView}
+use Rattle.at_board.proofs.ending.gather.Goals as goal
+
+-- the seat after so many others
+free_at : (board : BoardView) (seats done more : List SeatView) (x : SeatView) → AreAllFree board seats → seats ≡ done ++ x ∷ more
+    → IsFreeSeat board (length done) x
+free_at board seats done more x all parts =
+    let within : length done < board.book.processes = omega (arith, all.count, ap length parts, length-append done (x ∷ more)) in
+    subst (IsFreeSeat board (length done)) (ap (λ t. get_or t (length done) x) parts ∙ get_or-append_seam done x more x) (all.each (length done) x within)
+
+pub loop-other-init : goal.loop-other-init
+loop-other-init c =
+    let board : BoardView = record { id = c.args.shared.now.table_id; book = c.args.book.now } in
+    let first : SeatView = c.in-Some.first in
+    let left = c.into_iter-other-iterator.result.rest.items in
+    let parts : c.args.seats.items ≡ first ∷ left =
+    sym c.into_iter-rest.ensures.rest ∙ (c.in-Some.ensures.items ∙ ap (λ t. first ∷ t.rest.items) (sym c.into_iter-other-iterator.ensures.into_iter_gives)) in
+    let free = free_at board c.args.seats.items [] left first c.requires.seats parts in (
+      tt,
+      tt,
+      c.into_seat-all.ensures.table ∙ free.of_board.id,
+      (
+        first ∷ [],
+        parts,
+        subst (Gathers (first ∷ [])) (sym c.into_seat-all.ensures.view) (Gathers-first board first free c.into_seat-all.ensures.one_part),
+      ),
+    )
+
+pub join_seat-requires : goal.join_seat-requires
+join_seat-requires c =
+    let board : BoardView = record { id = c.args.shared.now.table_id; book = c.args.book.now } in
+    let other : SeatView = c.in-Some-other.other in
+    let done : List SeatView = c.loop-other.invariant.3.0 in
+    let parts : c.args.seats.items ≡ done ++ other ∷ c.next-in-loop-other.new.self.rest.items =
+    c.loop-other.invariant.3.1 ∙ ap (λ t. done ++ t) c.in-Some-other.ensures.steps.0 in
+    let free = free_at board c.args.seats.items done c.next-in-loop-other.new.self.rest.items other c.requires.seats parts in
+    let v : View = c.loop-other.all.me.0 in
+    let next = subst (λ (t : View). t.first ≡ v.first + length v.parts) (sym c.into_seat.ensures.view) (next_seat board done v other c.loop-other.invariant.3.2 free) in (
+      c.loop-other.invariant.2,
+      c.into_seat.ensures.table ∙ free.of_board.id,
+      c.into_seat.ensures.empty,
+      c.requires.words,
+      gathers c.args.shared.now.key.value c.loop-other.all.id c.into_seat.result.id v c.into_seat.result.me.0 next,
+    )
+
+pub loop-other-preserved : goal.loop-other-preserved
+loop-other-preserved c =
+    let board : BoardView = record { id = c.args.shared.now.table_id; book = c.args.book.now } in
+    let other : SeatView = c.in-Some-other.other in
+    let done : List SeatView = c.loop-other.invariant.3.0 in
+    let left = c.next-in-loop-other.new.self.rest.items in
+    let parts : c.args.seats.items ≡ done ++ other ∷ left = c.loop-other.invariant.3.1 ∙ ap (λ t. done ++ t) c.in-Some-other.ensures.steps.0 in
+    let free = free_at board c.args.seats.items done left other c.requires.seats parts in
+    let v : View = c.loop-other.all.me.0 in
+    let after : gathered v other.view ≡ c.join_seat.new.seat.me.0 =
+    ap (gathered v) (sym c.into_seat.ensures.view) ∙ sym (ap (λ m. m.0) c.join_seat.ensures.2) in (
+      tt,
+      tt,
+      c.join_seat.ensures.0 ∙ c.loop-other.invariant.2,
+      (
+        done ++ other ∷ [],
+        parts ∙ sym (append_assoc done (other ∷ []) left),
+        subst (Gathers (done ++ other ∷ [])) after (Gathers-more board done v other c.loop-other.invariant.3.2 free c.into_seat.ensures.one_part),
+      ),
+    )

@@ -1,0 +1,159 @@
+use Rattle.std.proofs.Common.{◌≡◌, ℕ, ◌<◌, ◌^◌, [], ◌∷◌, ◌++◌, length, sym, ap, subst, ◌∙◌, arith}
+use Rattle.std.specs.List.{Contains}
+use Rattle.std.proofs.lemmas.List.{get_or-replicate}
+use Rattle.std.proofs.lemmas.List.Elements.{All-cons, All-nil, Contains-append_right}
+use Rattle.at_ledger.specs.Book.{BookTerms, IsBook}
+use Rattle.at_ledger.specs.Call.{TargetPair}
+use Rattle.at_board.proofs.AskingFacts.{HasOwnPart-StoresRequestWord, MayAsk-StoresRequestWord, asking-StoresRequestWord}
+use Rattle.at_board.proofs.SeatKept.{own_part-with_part}
+use Rattle.at_board.specs.declared.request.Request.{Request}
+use Rattle.at_board.specs.declared.view.Asking.{Asking}
+use Rattle.at_board.specs.declared.view.Part.{Part}
+use Rattle.at_board.specs.declared.view.View.{View}
+use Rattle.at_board.specs.Conditions.{MayAnnounce, MayAsk}
+use Rattle.at_board.specs.Cuts.{starting_seat}
+use Rattle.at_board.specs.RequestSteps.{Announces, StoresRequestWord, part_asking, seen_as, with_asking, with_request, with_request_word}
+use Rattle.at_board.specs.Rounds.{rounds}
+use Rattle.at_board.specs.SeatCounts.{HasOwnPart}
+use Rattle.at_board.specs.SmallBoard.{payment}
+use Rattle.at_board.specs.Views.{HasSlot, SeesRequest, asking_on, no_asking, own_part, starting_asking}
+use Rattle.at_board.proofs.request_tests.ask.Goals as goal
+
+-- what a new seat has on the account
+nothing_asked : (b : BookTerms) (v : View) (slot : ℕ) → v ≡ starting_seat b v.first → HasSlot b v.first 0 slot → asking_on (own_part v) 0 ≡ starting_asking
+nothing_asked b v slot new has =
+    ap (λ (t : View). asking_on (own_part t) 0) new ∙ get_or-replicate (length b.accounts) 0 starting_asking no_asking has.account_in
+
+-- and after it has stored two words
+stored_asking : (b : BookTerms) (v one two : View) (slot : ℕ) → v ≡ starting_seat b v.first → HasOwnPart v → HasSlot b v.first 0 slot
+    → StoresRequestWord v one 0 0 (2 ^ 40) → StoresRequestWord one two 0 1 7
+    → asking_on (own_part two) 0 ≡ with_request_word (with_request_word starting_asking 0 (2 ^ 40)) 1 7
+stored_asking b v one two slot new part has first second =
+    let same_book = ap (λ (t : View). t.book) new in
+    let within : 0 < length v.book.accounts = omega (arith, has.account_in, ap (λ (t : BookTerms). length t.accounts) same_book) in
+    let one_book = ap (λ (t : View). t.book) first in
+    let one_part = HasOwnPart-StoresRequestWord v one 0 0 (2 ^ 40) part first in
+    let after_one = asking-StoresRequestWord v one 0 0 (2 ^ 40) part within first in
+    let after_two = asking-StoresRequestWord one two 0 1 7 one_part (omega (arith, within, ap (λ (t : BookTerms). length t.accounts) one_book)) second in
+    after_two ∙ ap (λ (w : Asking). with_request_word w 1 7) (after_one ∙ ap (λ (w : Asking). with_request_word w 0 (2 ^ 40)) (nothing_asked b v slot new has))
+
+-- it may be announced by a new seat that has stored its words
+asked : (b : BookTerms) (v one two : View) (slot : ℕ) → IsBook b → v ≡ starting_seat b v.first → HasOwnPart v → HasSlot b v.first 0 slot
+    → StoresRequestWord v one 0 0 (2 ^ 40) → StoresRequestWord one two 0 1 7 → MayAnnounce b two 0 slot payment
+asked b v one two slot book new part has first second =
+    let n = length b.accounts in
+    let none = ap (λ (w : Asking). length w.announced) (nothing_asked b v slot new has) in
+    let same_book = ap (λ (t : View). t.book) new in
+    let may : MayAsk b v 0 slot = record {
+      slot_in = has;
+      room = omega (arith, none, book.begun.some_request_room);
+      settled = λ i below. absurd (omega (arith, below, none));
+    } in
+    let one_book = ap (λ (t : View). t.book) first in
+    let one_part = HasOwnPart-StoresRequestWord v one 0 0 (2 ^ 40) part first in
+    let all = stored_asking b v one two slot new part has first second in
+    record {
+      asks = MayAsk-StoresRequestWord b one two 0 slot 1 7 (one_book ∙ same_book) one_part
+          (MayAsk-StoresRequestWord b v one 0 slot 0 (2 ^ 40) same_book part may first) second;
+      stored = ap (λ (w : Asking). w.stored) all;
+      targets = record {
+        some = omega arith;
+        few = omega arith;
+        accounts = All-cons (λ (t : TargetPair). t.0 < n) (0, 7) [] has.account_in (All-nil (λ (t : TargetPair). t.0 < n));
+      };
+      since = omega arith;
+      follows = λ before e. absurd (omega (arith, e, ap (λ (w : Asking). length w.announced) all));
+    }
+
+-- what the seat has seen after the announcing step
+sees_payment : (b : BookTerms) (u w : View) (slot : ℕ) → length (asking_on (own_part u) 0).announced ≡ 0 → Announces b u w 0 slot payment
+    → SeesRequest w 0 slot 0 payment
+sees_payment b u w slot none told =
+    let n = length (asking_on (own_part u) 0).announced in
+    let x = seen_as 0 slot 0 payment in
+    let last : Contains (seen_as 0 slot n payment ∷ []) x = (0, omega arith, ap (λ k. seen_as 0 slot k payment) none) in
+    subst (λ (t : View). Contains t.requests x) (sym told.same) (Contains-append_right u.requests (seen_as 0 slot n payment ∷ []) x last)
+
+-- no step of asking takes a cell
+held-with_asking : (v : View) (a : ℕ) (w : Asking) → 0 < length v.parts → (own_part (with_asking v a w)).held ≡ (own_part v).held
+held-with_asking v a w part = ap (λ (t : Part). t.held) (own_part-with_part v (part_asking (own_part v) a w) part)
+
+held-StoresRequestWord : (v u : View) (a j n : ℕ) → HasOwnPart v → StoresRequestWord v u a j n → (own_part u).held ≡ (own_part v).held
+held-StoresRequestWord v u a j n has told =
+    ap (λ (t : View). (own_part t).held) told
+    ∙ held-with_asking v a (with_request_word (asking_on (own_part v) a) j n) (omega (arith, has.one_part))
+
+held-Announces : (b : BookTerms) (v u : View) (a slot : ℕ) (r : Request) → HasOwnPart v → Announces b v u a slot r → (own_part u).held ≡ (own_part v).held
+held-Announces b v u a slot r has told =
+    let w : Asking = asking_on (own_part v) a in
+    ap (λ (t : View). (own_part t).held) told.same
+    ∙ held-with_asking (record v { seen = u.seen; requests = v.requests ++ seen_as a slot (length w.announced) r ∷ [] }) a (with_request w r (rounds a u.seen))
+    (omega (arith, has.one_part))
+
+pub announce-requires-clause-request : goal.announce-requires-clause-request
+announce-requires-clause-request g c =
+    let b : BookTerms = c.args.board.now.book in
+    let slot = c.requires.slot.0 in
+    let book : IsBook b = subst IsBook c.book.ensures c.accounts-accounts.ensures.checked in (
+      slot,
+      payment,
+      asked b c.args.seat.now.view c.store_request_word.new.seat.view c.store_request_word-2.new.seat.view slot book c.requires.new c.process-process.ensures.part
+          c.requires.slot.1 c.store_request_word.ensures.stored c.store_request_word-2.ensures.stored,
+    )
+
+pub returns-clause-board : goal.returns-clause-board
+returns-clause-board g c =
+    let b : BookTerms = c.args.board.now.book in
+    let slot = c.requires.slot.0 in
+    let book : IsBook b = subst IsBook c.book.ensures c.accounts-accounts.ensures.checked in
+    let may = asked b c.args.seat.now.view c.store_request_word.new.seat.view c.store_request_word-2.new.seat.view slot book c.requires.new c.process-process.ensures.part
+    c.requires.slot.1 c.store_request_word.ensures.stored c.store_request_word-2.ensures.stored in
+    let view_book = ap (λ (t : View). t.book) (c.announce.ensures.announced slot payment may).same
+    ∙ (ap (λ (t : View). t.book) c.store_request_word-2.ensures.stored ∙ (ap (λ (t : View). t.book) c.store_request_word.ensures.stored
+    ∙ ap (λ (t : View). t.book) c.requires.new)) in
+    record {
+      id = c.announce.ensures.board ∙ (c.store_request_word-2.ensures.board ∙ (c.store_request_word.ensures.board ∙ c.requires.board));
+      book = view_book;
+    }
+
+pub returns-clause-process : goal.returns-clause-process
+returns-clause-process g c =
+    let b : BookTerms = c.args.board.now.book in
+    let slot = c.requires.slot.0 in
+    let book : IsBook b = subst IsBook c.book.ensures c.accounts-accounts.ensures.checked in
+    let may = asked b c.args.seat.now.view c.store_request_word.new.seat.view c.store_request_word-2.new.seat.view slot book c.requires.new c.process-process.ensures.part
+    c.requires.slot.1 c.store_request_word.ensures.stored c.store_request_word-2.ensures.stored in
+    ap (λ (t : View). t.first) (c.announce.ensures.announced slot payment may).same
+    ∙ (ap (λ (t : View). t.first) c.store_request_word-2.ensures.stored ∙ ap (λ (t : View). t.first) c.store_request_word.ensures.stored)
+
+pub returns-clause-request : goal.returns-clause-request
+returns-clause-request g c = λ slot has.
+    let b : BookTerms = c.args.board.now.book in
+    let v : View = c.args.seat.now.view in
+    let one : View = c.store_request_word.new.seat.view in
+    let two : View = c.store_request_word-2.new.seat.view in
+    let book : IsBook b = subst IsBook c.book.ensures c.accounts-accounts.ensures.checked in
+    let first = c.store_request_word.ensures.stored in
+    let second = c.store_request_word-2.ensures.stored in
+    let part = c.process-process.ensures.part in
+    let may = asked b v one two slot book c.requires.new part has first second in
+    sees_payment b two c.announce.new.seat.view slot (ap (λ (w : Asking). length w.announced) (stored_asking b v one two slot c.requires.new part has first second))
+    (c.announce.ensures.announced slot payment may)
+
+pub returns-clause-free : goal.returns-clause-free
+returns-clause-free g c =
+    let b : BookTerms = c.args.board.now.book in
+    let v : View = c.args.seat.now.view in
+    let one : View = c.store_request_word.new.seat.view in
+    let two : View = c.store_request_word-2.new.seat.view in
+    let book : IsBook b = subst IsBook c.book.ensures c.accounts-accounts.ensures.checked in
+    let first = c.store_request_word.ensures.stored in
+    let second = c.store_request_word-2.ensures.stored in
+    let part = c.process-process.ensures.part in
+    let slot = c.requires.slot.0 in
+    let may = asked b v one two slot book c.requires.new part c.requires.slot.1 first second in
+    let one_part = HasOwnPart-StoresRequestWord v one 0 0 (2 ^ 40) part first in
+    let two_part = HasOwnPart-StoresRequestWord one two 0 1 7 one_part second in
+    held-Announces b two c.announce.new.seat.view 0 slot payment two_part (c.announce.ensures.announced slot payment may)
+    ∙ (held-StoresRequestWord one two 0 1 7 one_part second ∙ (held-StoresRequestWord v one 0 0 (2 ^ 40) part first
+    ∙ ap (λ (t : View). (own_part t).held) c.requires.new))

@@ -1,0 +1,53 @@
+use Rattle.std.proofs.Common.{◌≡◌, ℕ, ◌<◌, ◌≤◌, true, [], refl, ap, subst, None, arith}
+use Rattle.std.specs.List.{count_by, sum_by}
+use Rattle.at_base.specs.declared.decision.Decision.{Decision}
+use Rattle.at_ledger.specs.Book.{BookTerms, IsBook, account_of}
+use Rattle.at_board.proofs.PlaceLaws.{rounds_room-slots_of}
+use Rattle.at_board.proofs.RoundLaws.{firsts-nil}
+use Rattle.at_board.proofs.SizeLaws.{mul-one-le}
+use Rattle.at_board.specs.declared.view.View.{View}
+use Rattle.at_board.specs.Balances.{IsCovered, credit_of, debit_of}
+use Rattle.at_board.specs.Conditions.{MayPropose}
+use Rattle.at_board.specs.Entries.{is_round_on}
+use Rattle.at_board.specs.Places.{slots_of}
+use Rattle.at_board.specs.SmallBoard.{payment}
+use Rattle.at_board.specs.Views.{HasSlot, SeesRequest, own_part}
+use Rattle.at_board.proofs.round_tests.decide_first.Goals as goal
+
+-- the payment succeeds in the first round
+abbrev first_decision : ℕ → Decision
+first_decision slot = record { ok = true; slot = slot; number = 0; place = 0 }
+
+may_propose : (b : BookTerms) (v : View) (own slot : ℕ) → IsBook b → HasSlot b v.first 0 own → slot < 8 → SeesRequest v 0 slot 0 payment
+    → 7 ≤ (account_of b 0).opening → (own_part v).held ≡ None → MayPropose b v 0 0 (first_decision slot) payment
+may_propose b v own slot book has small sees covered free =
+    let debits = ap (sum_by (λ x. debit_of 0 x.entry)) firsts-nil in
+    let credits = ap (sum_by (λ x. credit_of 0 x.entry)) firsts-nil in
+    let enough : IsCovered b [] 0 7 = omega (arith, debits, credits, covered) in
+    record {
+      owner = (own, has);
+      range = record { slot = small; number = omega arith; place = omega arith };
+      place = omega arith;
+      next = ap (count_by (λ x. is_round_on 0 x.entry)) firsts-nil;
+      room = omega (
+        arith,
+        rounds_room-slots_of b.request_room (account_of b 0),
+        mul-one-le (slots_of (account_of b 0)) b.request_room book.begun.some_request_room,
+        has.within,
+      );
+      named = sees;
+      undecided = refl;
+      since = omega arith;
+      ok = (λ _. enough, λ _. refl);
+      free = free;
+    }
+
+pub decide-requires-clause-proposal : goal.decide-requires-clause-proposal
+decide-requires-clause-proposal g c =
+    let b : BookTerms = c.args.board.now.book in
+    let book : IsBook b = subst IsBook c.book.ensures c.accounts-accounts.ensures.checked in (
+      first_decision c.args.slot,
+      payment,
+      may_propose b c.args.seat.now.view c.requires.owner.0 c.args.slot book c.requires.owner.1 c.requires.slot c.requires.request c.requires.covered c.requires.free,
+      omega arith,
+    )

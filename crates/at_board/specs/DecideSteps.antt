@@ -1,0 +1,60 @@
+-- What a step on the cell of a round changes in the view of its seat, and what it tells.
+use Rattle.std.specs.Prelude.{◌≡◌, ℕ, ◌+◌, ◌<◌, ◌≤◌, ◌⊎◌, ◌==◌, ◌++◌, List, [], ◌∷◌, length, take, slice_set, All, Option, Some, None, if◌then◌else◌}
+use Rattle.atomic_table.specs.Table.{Me, Step}
+use Rattle.at_base.specs.Decision.{InRange, word_of}
+use Rattle.at_base.specs.declared.decision.Decision.{Decision}
+use Rattle.at_ledger.specs.Book.{BookTerms, account_of}
+use Rattle.at_board.specs.declared.publication.Publication.{Publication}
+use Rattle.at_board.specs.declared.request.Request.{Request}
+use Rattle.at_board.specs.declared.view.Cell.{Cell}
+use Rattle.at_board.specs.declared.view.Part.{Part}
+use Rattle.at_board.specs.declared.view.View.{View}
+use Rattle.at_board.specs.Conditions.{MayPropose}
+use Rattle.at_board.specs.Places.{cell_of, place_at, slots_of}
+use Rattle.at_board.specs.Publications.{IsPrefix, count_of}
+use Rattle.at_board.specs.Rounds.{rounds}
+use Rattle.at_board.specs.Steps.{IsHistory, with_part}
+use Rattle.at_board.specs.Views.{SeesDecision, asking_on, own_part}
+
+-- what a cell has after an exchange from 0 for a proposal, where it had this before
+abbrev pub word_after : ℕ → ℕ → ℕ
+word_after found proposal = if found == 0 then proposal else found
+
+-- one more step on a cell of the account is counted
+abbrev pub with_count : Part → ℕ → Part
+with_count q a = record q { asking = slice_set q.asking a (record (asking_on q a) { decides = (asking_on q a).decides + 1 }) }
+
+-- and this cell is held, or none
+abbrev pub with_decide : Part → ℕ → Option Cell → Part
+with_decide q a held = with_count (record q { held = held }) a
+
+-- the decision of a round is seen, with all of a list
+abbrev pub with_decision : View → List Publication → ℕ → ℕ → Decision → View
+with_decision v list a round d =
+    record v { seen = list; decisions = v.decisions ++ record { account = a; round = round; decision = d } ∷ [] }
+
+-- an exchange on the cell of a round, which then has this word. It is the word of a decision, which is the proposal where
+-- the seat then holds the cell. The seat has seen at least so many publications as the decision was made at, where exactly
+-- the rounds before it stand
+pub record Decides (b : BookTerms) (before after : View) (a round : ℕ) (d : Decision) (w : ℕ) : Type 0 where
+  pub decision : Decision
+  pub held : Option Cell
+  pub word : w ≡ word_of decision
+  pub range : InRange decision
+  pub slot_in : decision.slot < slots_of (account_of b a)
+  pub number_in : decision.number < b.request_room
+  pub place : decision.place ≤ length after.seen
+  pub next : rounds a (take decision.place after.seen) ≡ round
+  pub known : (e : Decision) → SeesDecision before a round e → e ≡ decision
+  pub won : (held ≡ None) ⊎ (held ≡ Some (record { account = a; round = round })) × (decision ≡ d)
+  pub more : IsPrefix before.seen after.seen
+  pub own : count_of before.first after.seen ≡ (own_part before).published
+  pub joined : All (λ list. IsPrefix list after.seen) before.joined
+  pub history : IsHistory b after.seen
+  pub same : after ≡ with_part (with_decision before after.seen a round decision) (with_decide (own_part before) a held)
+
+-- what the exchange tells its seat
+module _ {S : Type 0} where
+  abbrev pub decided_round : Step S → Me S View → ℕ → Me S View → Type 0
+  decided_round st m n m' = (m'.1 ≡ m.1) × ((a round : ℕ) (d : Decision) (r : Request) → MayPropose m.0.book m.0 a round d r →
+      st.word ≡ place_at m.0.book (cell_of a round) → st.second ≡ word_of d → Decides m.0.book m.0 m'.0 a round d (word_after n st.second))

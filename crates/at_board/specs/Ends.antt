@@ -1,0 +1,67 @@
+-- The end of a board.
+use Rattle.std.specs.Prelude.{◌≡◌, ℕ, ◌<◌, ◌≤◌, ◌++◌, List, length, nat_lt, slice_index_or, All, Contains, None, if◌then◌else◌}
+use Rattle.at_ledger.specs.Book.{BookTerms, IsBook, log_room_of}
+use Rattle.at_board.specs.declared.publication.Publication.{Publication}
+use Rattle.at_board.specs.declared.view.View.{View}
+use Rattle.at_board.specs.BoardState.{BoardState}
+use Rattle.at_board.specs.Places.{length_of, word_at, word_count}
+use Rattle.at_board.specs.Publications.{IsPrefix}
+use Rattle.at_board.specs.RecordWords.{lists_of}
+use Rattle.at_board.specs.SeatView.{BoardView, IsOf, SeatView}
+use Rattle.at_board.specs.Shown.{Shown}
+use Rattle.at_board.specs.Sound.{Sound}
+use Rattle.at_board.specs.Steps.{IsHistory}
+use Rattle.at_board.specs.Views.{own_part, part_at}
+
+-- a closed board by its book and its words
+pub record EndView : Type 0 where
+  pub book : BookTerms
+  pub words : List ℕ
+
+-- the seat is that of a process of the board, which holds no cell
+pub record IsFreeSeat (board : BoardView) (p : ℕ) (seat : SeatView) : Type 0 where
+  pub of_board : IsOf seat board
+  pub process : seat.view.first ≡ p
+  pub free : (own_part seat.view).held ≡ None
+
+-- all seats of the board in order, of which none holds a cell
+pub record AreAllFree (board : BoardView) (seats : List SeatView) : Type 0 where
+  pub count : length seats ≡ board.book.processes
+  pub each : (p : ℕ) (d : SeatView) → p < board.book.processes → IsFreeSeat board p (slice_index_or seats p d)
+
+-- the longer of two lists, of which one is a prefix of the other
+abbrev pub longest : List Publication → List Publication → List Publication
+longest xs ys = if nat_lt (length xs) (length ys) then ys else xs
+
+-- the view of two seats in one, of which the second stands for the processes after those of the first
+abbrev pub gathered : View → View → View
+gathered v w = record v {
+  seen = longest v.seen w.seen;
+  requests = v.requests ++ w.requests;
+  decisions = v.decisions ++ w.decisions;
+  joined = lists_of v ++ lists_of w;
+  parts = v.parts ++ w.parts;
+}
+
+-- the view has the parts of the first seats, which hold no cell, and the lists that they have seen
+pub record Gathers (seats : List SeatView) (v : View) : Type 0 where
+  pub first : v.first ≡ 0
+  pub parts : length v.parts ≡ length seats
+  pub free : (k : ℕ) → k < length v.parts → (part_at v k).held ≡ None
+  pub seen : All (λ seat. All (λ list. Contains (lists_of v) list) (lists_of seat.view)) seats
+
+-- the last state of a board: the words stand for it, it is sound, no process holds a cell, and what these seats had seen is
+-- a prefix of what was published
+pub record IsEnd (e : EndView) (seats : List SeatView) : Type 0 where
+  pub state : BoardState
+  pub shown : Shown e.book e.words state
+  pub sound : Sound e.book state
+  pub free : (p : ℕ) → p < e.book.processes → state.held p ≡ None
+  pub seen : All (λ seat. All (λ list. IsPrefix list state.published) (lists_of seat.view)) seats
+  pub history : IsHistory e.book state.published
+
+-- the words are those of a board for the book, and no log is longer than its room
+pub record HasWords (e : EndView) : Type 0 where
+  pub book : IsBook e.book
+  pub sized : length e.words ≡ word_count e.book
+  pub room : (p : ℕ) → p < e.book.processes → word_at e.book e.words (length_of p) ≤ log_room_of e.book p

@@ -1,0 +1,51 @@
+//! What a closed board leaves.
+
+ghost use Rattle.std.specs.Prelude.{◌≡◌, ℕ, ◌<◌};
+ghost use Rattle.at_board.specs.Places.{length_of, record_width, record_word, word_at};
+
+use crate::log_starts::record_index;
+use arrayvec::ArrayVec;
+use at_ledger::Book;
+use std::marker::Model;
+
+/// The words of a board that is closed. They never change again.
+#[derive(Drop)]
+pub struct BoardEnd {
+    pub(crate) book: Book,
+    pub(crate) log_starts: ArrayVec<u32, 16>,
+    pub(crate) words: Vec<u64>,
+}
+
+impl Model for BoardEnd {
+    ghost use Rattle.std.specs.Prelude.{◌≡◌, ℕ, ◌<◌, length, slice_index};
+    ghost use Rattle.at_board.specs.Ends.{EndView, HasWords};
+    ghost use Rattle.at_board.specs.Places.{place_at, record_word};
+
+    ghost Value = { EndView };
+
+    ghost view = { λ e. record { book = e.book; words = e.words.items } };
+
+    ghost invariant = { λ e. HasWords record { book = e.book; words = e.words.items }
+        × (length e.log_starts.items ≡ e.book.processes)
+        × ((p : ℕ) → p < e.book.processes → slice_index e.log_starts.items p ≡ place_at e.book (record_word p 0 0)) };
+}
+
+impl BoardEnd {
+    /// How many records a process has published.
+    pub fn length(&self, p: u32) -> u32
+        requires { p < self.now.book.processes }
+        ensures { result ≡ word_at self.now.book self.now.words (length_of p) }
+    {
+        self.words[p as usize] as u32
+    }
+
+    /// A word of a published record.
+    pub fn record_word(&self, p: u32, i: u32, j: u32) -> u64
+        requires process { p < self.now.book.processes }
+        requires record { i < word_at self.now.book self.now.words (length_of p) }
+        requires word { j < record_width self.now.book }
+        ensures { result ≡ word_at self.now.book self.now.words (record_word p i j) }
+    {
+        self.words[record_index(&self.book, &self.log_starts, p, i, j)]
+    }
+}

@@ -1,0 +1,57 @@
+//! Notes: what one seat has seen, handed to another.
+
+ghost use Rattle.std.specs.Prelude.{◌≡◌, ◌+◌};
+ghost use Rattle.at_board.specs.LearnSteps.{Learns};
+ghost use Rattle.at_board.specs.NoteSteps.{noted};
+ghost use Rattle.at_board.specs.SeatView.{IsOf};
+
+use crate::board::Board;
+use crate::note::BoardNote;
+use crate::plays::{Learn, Note};
+use crate::seat::BoardSeat;
+use crate::steps::Steps;
+use std::sync::ledger::Ledger;
+
+impl Board {
+    /// A copy of what the seat has seen, in one step.
+    pub fn note<L: Ledger, X: Ledger>(
+        &self,
+        seat: &mut BoardSeat,
+        steps: &mut Steps<L>,
+        exchanges: &mut Steps<X>,
+    ) -> BoardNote
+        requires board { IsOf seat.old self.now }
+        ensures same { seat.new ≡ seat.old }
+        ensures board { result.board ≡ seat.old.board }
+        ensures noted { result.view ≡ noted seat.old.view }
+        ensures steps { steps.new ≡ steps.old + 1 }
+        ensures exchanges { exchanges.new ≡ exchanges.old + 1 }
+    {
+        steps.tick();
+        exchanges.tick();
+        BoardNote {
+            seat: self.table.shared.split_seat::<Note>(&mut seat.seat),
+        }
+    }
+
+    /// Takes in a note, in one step. The seat has then seen the longer of both lists.
+    pub fn learn<L: Ledger, X: Ledger>(
+        &self,
+        seat: &mut BoardSeat,
+        note: BoardNote,
+        steps: &mut Steps<L>,
+        exchanges: &mut Steps<X>,
+    )
+        requires board { IsOf seat.old self.now }
+        requires note { IsOf note self.now }
+        ensures learned { Learns self.now.book seat.old.view note.view seat.new.view }
+        ensures board { seat.new.board ≡ seat.old.board }
+        ensures steps { steps.new ≡ steps.old + 1 }
+        ensures exchanges { exchanges.new ≡ exchanges.old + 1 }
+    {
+        steps.tick();
+        exchanges.tick();
+        let BoardNote { seat: told } = note;
+        self.table.shared.join_seat::<Learn>(&mut seat.seat, told);
+    }
+}

@@ -1,0 +1,123 @@
+//! A record is published on a small board, and another process reads it.
+
+ghost use Rattle.std.specs.Prelude.{◌≡◌, ◌<◌, [], ◌∷◌, IsTrue};
+ghost use Rattle.at_board.specs.Cuts.{starting_seat};
+ghost use Rattle.at_board.specs.Publications.{count_of};
+ghost use Rattle.at_board.specs.SeatView.{IsOf};
+ghost use Rattle.at_board.specs.Sound.{IsSoundOwn};
+
+use crate::request_tests::last_seat;
+use crate::{Board, BoardSeat, Steps};
+use at_ledger::{Book, Draft, DraftAccount};
+use std::alloc::Global;
+use std::marker::Brand;
+use std::process::Abort;
+use std::sync::ledger::{Blank, Ledger};
+use std::test::Fail;
+
+/// A book of two processes with an account each.
+fn single_book(alloc: Global) -> Result<Book, Fail> {
+    let mut accounts = Vec::new(alloc);
+    for owner in 0u64..2 {
+        let owners = vec![in alloc; owner]?;
+        accounts.push(DraftAccount {
+            opening: 100,
+            owners,
+        })?;
+    }
+    let draft = Draft {
+        processes: 2,
+        own_room: 4,
+        request_room: 4,
+        accounts,
+    };
+    Ok(Book::new(alloc, &draft)?)
+}
+
+/// Whether a process may pay 30 from account 0 to account 1 when nothing is published.
+#[tactic(auto, unfolding(crate::specs::Rounds::firsts))]
+fn may_pay(book: &Book, process: u32) -> bool
+    ensures { IsTrue result → IsSoundOwn book.now process [] 0 ((1, 30) ∷ []) }
+{
+    if book.accounts() < 2 {
+        return false;
+    }
+    if book.owner_count(0) != 1 {
+        return false;
+    }
+    if book.slot_of(0, process).is_none() {
+        return false;
+    }
+    30 <= book.opening(0)
+}
+
+/// Pays 30 from account 0 to account 1, by the first record of the seat's process.
+fn pay<L: Ledger, X: Ledger>(
+    board: &Board,
+    seat: &mut BoardSeat,
+    steps: &mut Steps<L>,
+    exchanges: &mut Steps<X>,
+)
+    requires board { seat.old.board ≡ board.now.id }
+    requires new { seat.old.view ≡ starting_seat board.now.book seat.old.view.first }
+    requires processes { (board.now.book.processes ≡ 2) × (seat.old.view.first < 2) }
+    requires pays { IsSoundOwn board.now.book seat.old.view.first [] 0 ((1, 30) ∷ []) }
+    ensures board { IsOf seat.new board.now }
+    ensures published { 0 < count_of seat.new.view.first seat.new.view.seen }
+{
+    let _accounts = board.book().accounts();
+    let _process = seat.process();
+    board.store_record_word(seat, 1, 1_099_511_627_777, steps, exchanges);
+    board.store_record_word(seat, 3, 30, steps, exchanges);
+    board.publish(seat, steps, exchanges);
+}
+
+/// The words of the accounts and of the amount of the first record of a process, which its seat tells another.
+fn told_words<L: Ledger, X: Ledger>(
+    board: &Board,
+    seat: &mut BoardSeat,
+    other: &mut BoardSeat,
+    steps: &mut Steps<L>,
+    exchanges: &mut Steps<X>,
+) -> (u64, u64)
+    requires seat { IsOf seat.old board.now }
+    requires other { IsOf other.old board.now }
+    requires published { 0 < count_of seat.old.view.first seat.old.view.seen }
+{
+    let note = board.note(seat, steps, exchanges);
+    board.learn(other, note, steps, exchanges);
+    let accounts = board.load_record_word(other, seat.process(), 0, 1, steps, exchanges);
+    let amount = board.load_record_word(other, seat.process(), 0, 3, steps, exchanges);
+    (accounts, amount)
+}
+
+/// One process pays, and the other reads what, through notes alone.
+fn pays_and_tells<L: Ledger, X: Ledger, R: Abort>(
+    rt: &R,
+    alloc: Global,
+    one: Blank,
+    another: Blank,
+) -> Result<(), Fail>
+    requires names { (one.name ≡ L.name) × (another.name ≡ X.name) }
+    requires parts { (one.parts ≡ L.parts) × (another.parts ≡ X.parts) }
+    requires some { (0 < one.parts) × (0 < another.parts) }
+{
+    let (steps, exchanges) = (&mut Steps::<L>::new(one), &mut Steps::<X>::new(another));
+    let book = single_book(alloc)?;
+    let (board, mut seats) = Board::new(alloc, &book)?;
+    let mut other = last_seat(&board, &mut seats).expect(rt, "a seat");
+    let mut seat = last_seat(&board, &mut seats).expect(rt, "a seat");
+    assert!(rt; board.book().processes() == 2);
+    assert!(rt; seat.process() < 2);
+    assert!(rt; may_pay(board.book(), seat.process()));
+    pay(&board, &mut seat, steps, exchanges);
+    assert_eq!(rt; seat.published(), 1);
+    let told = told_words(&board, &mut seat, &mut other, steps, exchanges);
+    assert_eq!(rt; told, (1_099_511_627_777, 30));
+    Ok(())
+}
+
+#[test]
+fn a_record_is_told(rt: HostRuntime) -> Result<(), Fail> {
+    pays_and_tells::<Brand, Brand, _>(&rt, rt.alloc(), Blank::new(1), Blank::new(1))
+}

@@ -1,0 +1,37 @@
+//! Loads of published records.
+
+ghost use Rattle.std.specs.Prelude.{◌≡◌, ◌+◌};
+ghost use Rattle.at_board.specs.Conditions.{MayLoadWord};
+ghost use Rattle.at_board.specs.RecordWords.{IsRecordWord};
+ghost use Rattle.at_board.specs.SeatView.{IsOf};
+
+use crate::board::Board;
+use crate::plays::LoadWord;
+use crate::seat::BoardSeat;
+use crate::steps::Steps;
+use std::sync::ledger::Ledger;
+
+impl Board {
+    /// Loads a word of a record that was seen, in one step. A published record never changes.
+    pub fn load_record_word<L: Ledger, X: Ledger>(
+        &self,
+        seat: &mut BoardSeat,
+        p: u32,
+        i: u32,
+        j: u32,
+        steps: &mut Steps<L>,
+        exchanges: &mut Steps<X>,
+    ) -> u64
+        requires board { IsOf seat.old self.now }
+        requires record { MayLoadWord self.now.book seat.old.view p i j }
+        ensures word { IsRecordWord seat.old.view p i j result }
+        ensures same { seat.new ≡ seat.old }
+        ensures steps { steps.new ≡ steps.old + 1 }
+        ensures exchanges { exchanges.new ≡ exchanges.old }
+    {
+        steps.tick();
+        let _process = seat.process;
+        let place = self.record_place(p, i, j);
+        self.table.shared.load::<LoadWord>(&mut seat.seat, place)
+    }
+}

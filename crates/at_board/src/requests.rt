@@ -1,0 +1,169 @@
+//! What owners ask on shared accounts.
+
+ghost use Rattle.std.specs.Prelude.{◌≡◌, ℕ, ◌+◌, ◌<◌, ◌≤◌, length, sum_by, take};
+ghost use Rattle.at_ledger.specs.Book.{account_of};
+ghost use Rattle.at_board.specs.declared.request.Request.{Request};
+ghost use Rattle.at_board.specs.Conditions.{MayAnnounce, MayAsk};
+ghost use Rattle.at_board.specs.Places.{IsPlace, announced_of, place_at, request_word, slots_of};
+ghost use Rattle.at_board.specs.RequestConditions.{MayLoadRequest};
+ghost use Rattle.at_board.specs.RequestSteps.{Announces, LoadsAnnounced, LoadsRequestWord, StoresRequestWord};
+ghost use Rattle.at_board.specs.SeatView.{IsOf};
+ghost use Rattle.at_board.specs.Views.{HasSlot, asking_on, own_part};
+
+use crate::board::Board;
+use crate::plays::{Announce, LoadAnnounced, LoadRequestWord, StoreRequestWord};
+use crate::request::REQUEST_WORDS;
+use crate::seat::BoardSeat;
+use crate::steps::Steps;
+use std::sync::ledger::Ledger;
+
+impl Board {
+    /// How many requests the seat's process has announced on an account that it shares. It makes no step.
+    pub fn announced(&self, seat: &BoardSeat, account: u32) -> u32
+        requires board { IsOf seat.now self.now }
+        requires slot { (slot : ℕ) × HasSlot self.now.book seat.now.view.first account slot }
+        ensures { result ≡ length (asking_on (own_part seat.now.view) account).announced }
+    {
+        seat.announced[account as usize]
+    }
+
+    /// Stores a word of the next request of the seat's process on an account, in one step.
+    pub fn store_request_word<L: Ledger, X: Ledger>(
+        &self,
+        seat: &mut BoardSeat,
+        account: u32,
+        j: u32,
+        w: u64,
+        steps: &mut Steps<L>,
+        exchanges: &mut Steps<X>,
+    )
+        requires board { IsOf seat.old self.now }
+        requires asks { (slot : ℕ) × MayAsk self.now.book seat.old.view account slot }
+        requires word { j < REQUEST_WORDS }
+        ensures stored { StoresRequestWord seat.old.view seat.new.view account j w }
+        ensures board { seat.new.board ≡ seat.old.board }
+        ensures steps { steps.new ≡ steps.old + 1 }
+        ensures exchanges { exchanges.new ≡ exchanges.old }
+    {
+        steps.tick();
+        let slot = self.own_slot(account, seat.process());
+        let next = self.announced(seat, account);
+        let place = self.request_place(account, slot, next, j);
+        self.table
+            .shared
+            .store::<StoreRequestWord>(&mut seat.seat, place, w);
+    }
+
+    /// Announces the next request of the seat's process on an account by a plain store of its announced word, in one step.
+    pub fn announce<L: Ledger, X: Ledger>(
+        &self,
+        seat: &mut BoardSeat,
+        account: u32,
+        steps: &mut Steps<L>,
+        exchanges: &mut Steps<X>,
+    )
+        requires board { IsOf seat.old self.now }
+        requires request { (slot : ℕ) × (r : Request) × MayAnnounce self.now.book seat.old.view account slot r }
+        ensures announced { (slot : ℕ) (r : Request) → MayAnnounce self.now.book seat.old.view account slot r → Announces self.now.book seat.old.view seat.new.view account slot r }
+        ensures board { seat.new.board ≡ seat.old.board }
+        ensures steps { steps.new ≡ steps.old + 1 }
+        ensures exchanges { exchanges.new ≡ exchanges.old }
+    {
+        steps.tick();
+        let own = self.own_slot(account, seat.process());
+        let count = self.announced(seat, account) + 1;
+        let place = self.announced_place(account, own);
+        self.table
+            .shared
+            .store::<Announce>(&mut seat.seat, place, u64::from(count));
+        let index = account as usize;
+        seat.announced[index] = count;
+    }
+
+    /// Loads how many requests the owner at a slot of a shared account has announced, in one step.
+    pub fn load_announced<L: Ledger, X: Ledger>(
+        &self,
+        seat: &mut BoardSeat,
+        account: u32,
+        slot: u32,
+        steps: &mut Steps<L>,
+        exchanges: &mut Steps<X>,
+    ) -> u32
+        requires board { IsOf seat.old self.now }
+        requires account { account < length self.now.book.accounts }
+        requires slot { slot < slots_of (account_of self.now.book account) }
+        ensures told { LoadsAnnounced self.now.book seat.old.view seat.new.view account slot result }
+        ensures board { seat.new.board ≡ seat.old.board }
+        ensures steps { steps.new ≡ steps.old + 1 }
+        ensures exchanges { exchanges.new ≡ exchanges.old }
+    {
+        steps.tick();
+        let place = self.announced_place(account, slot);
+        let count = self
+            .table
+            .shared
+            .load::<LoadAnnounced>(&mut seat.seat, place);
+        count as u32
+    }
+
+    /// Loads a word of an announced request, in one step.
+    pub fn load_request_word<L: Ledger, X: Ledger>(
+        &self,
+        seat: &mut BoardSeat,
+        account: u32,
+        slot: u32,
+        number: u32,
+        j: u32,
+        steps: &mut Steps<L>,
+        exchanges: &mut Steps<X>,
+    ) -> u64
+        requires board { IsOf seat.old self.now }
+        requires request { MayLoadRequest seat.old.view account slot number j }
+        ensures told { LoadsRequestWord self.now.book seat.old.view seat.new.view account slot number j result }
+        ensures board { seat.new.board ≡ seat.old.board }
+        ensures steps { steps.new ≡ steps.old + 1 }
+        ensures exchanges { exchanges.new ≡ exchanges.old }
+    {
+        steps.tick();
+        let _process = seat.process();
+        let place = self.request_place(account, slot, number, j);
+        self.table
+            .shared
+            .load::<LoadRequestWord>(&mut seat.seat, place)
+    }
+
+    /// The slot of a process on an account that it shares.
+    fn own_slot(&self, account: u32, process: u32) -> u32
+        requires { (slot : ℕ) × HasSlot self.now.book process account slot }
+        ensures slot { HasSlot self.now.book process account result }
+    {
+        self.book.slot_of(account, process).unwrap()
+    }
+
+    /// Where the announced word of a slot stands.
+    fn announced_place(&self, account: u32, slot: u32) -> usize
+        requires { IsPlace self.now.book (announced_of account slot) }
+        ensures place { result ≡ place_at self.now.book (announced_of account slot) }
+    {
+        self.slots_start + self.first_slot(account) + slot as usize
+    }
+
+    /// Where a word of a request stands.
+    fn request_place(&self, account: u32, slot: u32, number: u32, j: u32) -> usize
+        requires { IsPlace self.now.book (request_word account slot number j) }
+        ensures place { result ≡ place_at self.now.book (request_word account slot number j) }
+    {
+        let start = self.slots_start + self.first_slot(self.book.accounts());
+        let slots = self.first_slot(account) + slot as usize;
+        let requests = slots * self.book.request_room() as usize + number as usize;
+        start + requests * REQUEST_WORDS as usize + j as usize
+    }
+
+    /// How many slots the accounts before this one have.
+    pub(crate) fn first_slot(&self, account: u32) -> usize
+        requires { account ≤ length self.now.book.accounts }
+        ensures { result ≡ sum_by slots_of (take account self.now.book.accounts) }
+    {
+        self.slots_before[account as usize] as usize
+    }
+}

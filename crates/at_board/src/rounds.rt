@@ -1,0 +1,67 @@
+//! Rounds of shared accounts: which request is decided next.
+
+ghost use Rattle.std.specs.Prelude.{◌≡◌, ℕ, ◌+◌};
+ghost use Rattle.at_base.specs.Decision.{word_of};
+ghost use Rattle.at_base.specs.declared.decision.Decision.{Decision};
+ghost use Rattle.at_board.specs.declared.request.Request.{Request};
+ghost use Rattle.at_board.specs.Conditions.{MayPropose};
+ghost use Rattle.at_board.specs.DecideSteps.{Decides, word_after};
+ghost use Rattle.at_board.specs.Places.{IsPlace, cell_of, place_at};
+ghost use Rattle.at_board.specs.SeatView.{IsOf};
+
+use crate::board::Board;
+use crate::plays::Decide;
+use crate::seat::BoardSeat;
+use crate::steps::Steps;
+use std::sync::ledger::Ledger;
+
+impl Board {
+    /// Proposes a decision's word for a round of an account, in one step, which is an exchange. The answer is the word that
+    /// the round is decided by: the proposal, unless another stood there.
+    pub fn decide<L: Ledger, X: Ledger>(
+        &self,
+        seat: &mut BoardSeat,
+        account: u32,
+        round: u32,
+        proposal: u64,
+        steps: &mut Steps<L>,
+        exchanges: &mut Steps<X>,
+    ) -> u64
+        requires board { IsOf seat.old self.now }
+        requires proposal { (d : Decision) × (r : Request) × MayPropose self.now.book seat.old.view account round d r × (proposal ≡ word_of d) }
+        ensures decided { (d : Decision) (r : Request) → MayPropose self.now.book seat.old.view account round d r → proposal ≡ word_of d → Decides self.now.book seat.old.view seat.new.view account round d result }
+        ensures board { seat.new.board ≡ seat.old.board }
+        ensures steps { steps.new ≡ steps.old + 1 }
+        ensures exchanges { exchanges.new ≡ exchanges.old + 1 }
+    {
+        steps.tick();
+        exchanges.tick();
+        let place = self.cell_place(account, round);
+        let found = self
+            .table
+            .shared
+            .compare_exchange::<Decide>(&mut seat.seat, place, 0, proposal);
+        decided_word(found, proposal)
+    }
+
+    /// Where the cell of a round stands.
+    fn cell_place(&self, account: u32, round: u32) -> usize
+        requires { IsPlace self.now.book (cell_of account round) }
+        ensures place { result ≡ place_at self.now.book (cell_of account round) }
+    {
+        let slots = self.first_slot(self.book.accounts());
+        let room = self.book.request_room() as usize;
+        self.slots_start
+            + slots
+            + 6 * (slots * room)
+            + self.first_slot(account) * room
+            + round as usize
+    }
+}
+
+/// The word of a cell after an exchange from 0 that found this.
+fn decided_word(found: u64, proposal: u64) -> u64
+    ensures { result ≡ word_after found proposal }
+{
+    if found == 0 { proposal } else { found }
+}

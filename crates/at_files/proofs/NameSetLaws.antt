@@ -1,0 +1,64 @@
+-- Names that are told apart.
+use Rattle.std.proofs.Common.{◌≡◌, ℕ, ◌+◌, ◌<◌, ◌≤◌, Bool, true, false, cond, not, ◌==◌, nat_lt, nat_le, List, [], ◌∷◌, ◌++◌, length, map, All, Option, Some, None, get_or, position, bytes_eq, if◌then◌else◌, refl, sym, ◌∙◌, ap, arith}
+use Rattle.std.specs.List.{IsDistinct, list_any, position_or_len}
+use Rattle.std.proofs.lemmas.Bool.Decides.{nat_tests}
+use Rattle.std.proofs.lemmas.Cmp.{nat_list_eq_equiv}
+use Rattle.std.proofs.lemmas.List.{length-map, map-append}
+use Rattle.std.proofs.lemmas.List.Elements.{All-cons, All-head, All-push, All-tail}
+use Rattle.std.proofs.lemmas.List.Quantifiers.{position-Some}
+use Rattle.std.proofs.lemmas.Map.Keys.{IsDistinct-push}
+use Rattle.std.proofs.lemmas.Slice.Eq.{bytes_eq-Decides}
+use Rattle.indexmap.specs.IndexSet.{insert_key}
+use Rattle.at_files.specs.Names.{has_name, place_of}
+use Rattle.at_files.specs.NameSet.{AreHeld}
+use Rattle.at_files.specs.declared.name_set.TheConstants.{NAME_MAX}
+
+module _ {N : Type 0} (f : N → List ℕ) where
+  pub has_name-map : (keys : List N) (name : List ℕ) → has_name (map f keys) name ≡ list_any (λ key. bytes_eq name (f key)) keys
+  has_name-map [] name = refl
+  has_name-map (key ∷ keys) name = rw (has_name-map keys name) refl
+
+  position_or_len-map : (keys : List N) (name : List ℕ) → position_or_len (bytes_eq name) (map f keys) ≡ position_or_len (λ key. bytes_eq name (f key)) keys
+  position_or_len-map [] name = refl
+  position_or_len-map (key ∷ keys) name = rw (position_or_len-map keys name) refl
+
+  -- a name is found among keys that show their names
+  pub place_of-map : (keys : List N) (name : List ℕ) → place_of (map f keys) name ≡ position (λ key. bytes_eq name (f key)) keys
+  place_of-map keys name = rw (position_or_len-map keys name, length-map) refl
+
+  -- a key that is inserted shows its name after the others, unless it is there
+  pub insert_key-map : (keys : List N) (key : N) (name : List ℕ) → f key ≡ name
+      → map f (insert_key (λ x y. bytes_eq (f x) (f y)) keys key) ≡ (if has_name (map f keys) name then map f keys else map f keys ++ name ∷ [])
+  insert_key-map keys key name is = rw (has_name-map keys name, ← is) (by (list_any (λ other. bytes_eq (f key) (f other)) keys))
+    where
+      by : (b : Bool) → map f (if b then keys else keys ++ key ∷ []) ≡ (if b then map f keys else map f keys ++ f key ∷ [])
+      by true = refl
+      by false = map-append f keys (key ∷ [])
+
+-- names that are held, with one more
+pub AreHeld-add : (names : List (List ℕ)) (name : List ℕ) → AreHeld names → length name ≤ NAME_MAX
+    → AreHeld (if has_name names name then names else names ++ name ∷ [])
+AreHeld-add names name held short = by (has_name names name) refl
+  where
+    by : (b : Bool) → has_name names name ≡ b → AreHeld (if b then names else names ++ name ∷ [])
+    by true there = held
+    by false absent = record {
+      distinct = IsDistinct-push nat_list_eq_equiv names name held.distinct absent;
+      short = All-push (λ other. length other ≤ NAME_MAX) names name held.short short;
+    }
+
+pub AreHeld-none : AreHeld []
+unfolding IsDistinct
+AreHeld-none = record { distinct = tt; short = λ k d within. absurd (omega arith) }
+
+-- a text that is longer than a name is none of them
+pub place_of-long : (names : List (List ℕ)) (text : List ℕ) → AreHeld names → NAME_MAX < length text → place_of names text ≡ None
+place_of-long names text held long = by (place_of names text) refl
+  where
+    by : (place : Option ℕ) → place_of names text ≡ place → place ≡ None
+    by None is = refl
+    by (Some n) is =
+        let at = position-Some (bytes_eq text) names n [] is in
+        let same : text ≡ get_or names n [] = (bytes_eq-Decides text (get_or names n [])).0 at.1 in
+        let short : length (get_or names n []) ≤ NAME_MAX = held.short n [] at.0 in
+        absurd (let same_length = ap length same in omega arith)

@@ -1,0 +1,17 @@
+use Rattle.std.proofs.Common.{sym, ◌∙◌, ap}
+use Rattle.at_ledger.specs.Draft.{terms_with}
+use Rattle.at_files.proofs.AccountLaws.{length-numbered, with_plain_row-built}
+use Rattle.at_files.proofs.accounts.add_plain_row.Goals as goal
+
+pub add-requires : goal.add-requires
+add-requires c =
+    rw c.field_of-2.ensures
+    (length-numbered c.args.account _ _ _ _ c.requires.room (rw c.number_at.ensures at c.in-Ok-numbered_terms.ensures.ok))
+
+pub returns-clause-ok : goal.returns-clause-ok
+returns-clause-ok c =
+    rw (← c.begun.view_is)
+    (with_plain_row-built _ _ (terms_with c.in-Ok-numbered_terms.terms.0 c.in-Ok-numbered_terms.terms.1.items) _ _ c.in-Ok-add._added
+    (rw (← c.begun.view_is) at c.requires.names) (rw (← c.begun.view_is) at c.requires.version)
+    (rw (c.requires.account, c.number_at.ensures, c.number_at-2.ensures, c.in-Ok.ensures, c.field_of.ensures, ← c.begun.view_is) at c.in-Ok-numbered_terms.ensures.ok)
+    (rw c.deref.ensures.value at c.in_default-add_terms.ensures.ok) (rw c.field_of-2.ensures at c.in-Ok-add.ensures.added) (rw c.field_of-2.ensures at c.in-Ok-add.ensures.names))

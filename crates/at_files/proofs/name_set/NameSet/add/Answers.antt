@@ -1,0 +1,12 @@
+use Rattle.std.proofs.Common.{not, sym, ap, ◌∙◌}
+use Rattle.at_files.proofs.NameSetLaws.{AreHeld-add, insert_key-map, has_name-map}
+use Rattle.at_files.proofs.name_set.NameSet.add.Goals as goal
+
+pub invariant_of-self-2 : goal.invariant_of-self-2
+invariant_of-self-2 c =
+    rw (c.in-Ok.ensures.keys, insert_key-map (λ name. name.items) c.self.inside.names.keys c.in-Some.name c.args.text.now c.in-Some.ensures.some)
+    (AreHeld-add _ c.args.text.now c.self.invariant c.requires)
+
+pub returns-clause-added : goal.returns-clause-added
+returns-clause-added c =
+    c.in-Ok.ensures.added ∙ rw (c.in-Some.ensures.some, ← c.self.view_is) (ap not (sym (has_name-map (λ name. name.items) c.self.inside.names.keys c.args.text.now)))

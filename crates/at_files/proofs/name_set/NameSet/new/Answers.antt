@@ -1,0 +1,6 @@
+use Rattle.std.proofs.Common.{map}
+use Rattle.at_files.proofs.NameSetLaws.{AreHeld-none}
+use Rattle.at_files.proofs.name_set.NameSet.new.Goals as goal
+
+pub invariant_of-result : goal.invariant_of-result
+invariant_of-result c = rw c.new.ensures.empty AreHeld-none

@@ -1,0 +1,30 @@
+use Rattle.std.proofs.Common.{◌≡◌, ◌∙◌, ◌+◌, ◌<◌, ℕ, List, take, get_or, length, sym, ap, refl, arith}
+use Rattle.std.proofs.lemmas.List.{get_or-map, length-map}
+use Rattle.at_ledger.specs.State.{LedgerState, step}
+use Rattle.at_ledger.specs.declared.call.Call.{Call}
+use Rattle.at_ledger.specs.declared.call.Line.{Line}
+use Rattle.at_ledger.specs.Run.{asked_in, run_from}
+use Rattle.at_ledger.proofs.Run.{last-take_more, run_from-nil}
+use Rattle.at_report.proofs.replaying.replay.Goals as goal
+
+pub loop-line-init : goal.loop-line-init
+loop-line-init c = record { last = rw run_from-nil refl; book = refl }
+
+-- the state after one more line
+last-line : (s now : LedgerState) (lines : List Line) (i : ℕ) (l : Line) → i < length lines → l ≡ get_or lines i l
+    → now ≡ (run_from s (take i (asked_in lines))).last → (step now l.process l.call).ledger ≡ (run_from s (take (i + 1) (asked_in lines))).last
+last-line s now lines i l within is was =
+    let asked : ℕ × Call = (l.process, l.call) in
+    let within_asked : i < length (asked_in lines) = rw length-map within in
+    let call : get_or (asked_in lines) i asked ≡ asked =
+    get_or-map (λ (m : Line). (m.process, m.call)) lines i l asked within ∙ ap (λ (m : Line). (m.process, m.call)) (sym is) in
+    let more = last-take_more s (asked_in lines) i asked within_asked in
+    sym (rw (call, ← was) at more)
+
+pub loop-line-preserved : goal.loop-line-preserved
+loop-line-preserved c =
+    let within : c.loop-line.line-index < length c.args.lines.now = omega arith in
+    record {
+      last = c.step.ensures.state ∙ last-line c.in_ok-state.state c.loop-line.state c.args.lines.now c.loop-line.line-index c.line-item.result within c.line-item.is c.loop-line.invariant.last;
+      book = c.step.ensures.book ∙ c.loop-line.invariant.book;
+    }
