@@ -8,6 +8,8 @@
 mod closing;
 mod receipt;
 mod record;
+#[cfg(test)]
+mod tests;
 
 pub use crate::closing::Closing;
 pub use crate::receipt::{At, Receipt};
