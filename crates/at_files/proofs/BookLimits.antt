@@ -8,8 +8,8 @@ use Rattle.at_ledger.specs.Book.{BookTerms, IsAccount, IsBook, rounds_of, total_
 use Rattle.at_ledger.specs.Draft.{limits_fault, owner_fault, owners_fault, account_fault, accounts_fault, with_account, book_without_accounts}
 use Rattle.at_ledger.specs.declared.draft.TheConstants.{PROCESSES_MAX, ACCOUNTS_MAX, OWNERS_MAX, OWN_ROOM_MAX, REQUEST_ROOM_MAX, ROUNDS_MAX}
 
-owner_fault-none : (processes account count least owner : ℕ) → owner < processes → least ≤ owner → count < OWNERS_MAX → owner_fault processes account count least owner ≡ None
-owner_fault-none processes account count least owner known rising few =
+owner_fault-free : (processes account count least owner : ℕ) → owner < processes → least ≤ owner → count < OWNERS_MAX → owner_fault processes account count least owner ≡ None
+owner_fault-free processes account count least owner known rising few =
     let one : nat_le processes owner ≡ false = grind (arith, nat_tests) in
     let two : nat_lt owner least ≡ false = grind (arith, nat_tests) in
     let three : nat_le OWNERS_MAX count ≡ false = grind (arith, nat_tests) in
@@ -20,7 +20,7 @@ owners_fault-none : (processes account count least : ℕ) (owners : List ℕ) �
 unfolding owners_fault IsRisingFrom
 owners_fault-none processes account count least [] known rising few = refl
 owners_fault-none processes account count least (owner ∷ owners) known rising few =
-    rw (owner_fault-none processes account count least owner (All-head (λ o. o < processes) owner owners known) rising.0 (omega arith))
+    rw (owner_fault-free processes account count least owner (All-head (λ o. o < processes) owner owners known) rising.0 (omega arith))
     (owners_fault-none processes account (count + 1) (owner + 1) owners (All-tail (λ o. o < processes) owner owners known) rising.1 (omega arith))
 
 account_fault-none : (b : BookTerms) (t : AccountTerms) → length b.accounts < ACCOUNTS_MAX → IsAccount b.processes t

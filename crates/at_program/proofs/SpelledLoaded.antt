@@ -1,5 +1,5 @@
 -- Files that spell a book and its calls are loaded.
-use Rattle.std.proofs.Common.{◌≡◌, ℕ, ◌+◌, ◌<◌, ◌≤◌, ◌^◌, List, [], ◌∷◌, length, get_or, zero, suc, true, false, nat_lt, ◌==◌, eq-eqb, Result, Ok, refl, sym, ap, subst, ◌∙◌, arith}
+use Rattle.std.proofs.Common.{◌≡◌, ℕ, ◌+◌, ◌<◌, List, [], ◌∷◌, length, get_or, zero, suc, true, false, nat_lt, ◌==◌, eq-eqb, Ok, refl, sym, ◌∙◌, arith}
 use Rattle.std.proofs.lemmas.Bool.Decides.{nat_tests}
 use Rattle.at_ledger.specs.Book.{BookTerms}
 use Rattle.at_ledger.specs.declared.call.Call.{Call}
@@ -10,7 +10,6 @@ use Rattle.at_files.specs.Payments.{payments_of}
 use Rattle.at_files.proofs.BookAccepted.{book_of_rows-rows_of_book}
 use Rattle.at_files.proofs.PaymentsAccepted.{payments_of-Pays}
 use Rattle.at_io.specs.declared.reading.TheConstants.{FILE_MAX}
-use Rattle.at_report.specs.declared.status.Status.{Status}
 use Rattle.at_program.specs.Words.{Form, Word}
 use Rattle.at_program.specs.Loading.{Files, Holds, Loaded, Spelled, SpellsBook, SpellsCalls, book_loaded, calls_loaded, fetched, files_loaded, loaded}
 
