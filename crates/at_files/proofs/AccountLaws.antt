@@ -1,6 +1,6 @@
 -- The record of an account is the account with its name, written out.
-use Rattle.std.proofs.Common.{◌≡◌, ℕ, ◌+◌, ◌^◌, ◌<◌, ◌≤◌, Bool, true, false, not, ◌==◌, nat_le, nat_lt, inl, inr, List, [], ◌∷◌, ◌++◌, length, map, All, get_or, Option, Some, None, Result, Ok, Err, bytes_eq, if◌then◌else◌, codes, decimal, refl, sym, ◌∙◌, ap, subst, length-append, arith}
-use Rattle.std.specs.List.{slice_split, join_with_byte}
+use Rattle.std.proofs.Common.{◌≡◌, ℕ, ◌+◌, ◌^◌, ◌<◌, ◌≤◌, Bool, true, false, not, ◌==◌, nat_le, nat_lt, inl, inr, List, [], ◌∷◌, ◌++◌, length, map, All, get_or, Option, Some, None, Result, Ok, Err, if◌then◌else◌, codes, decimal, refl, sym, ◌∙◌, ap, subst, arith}
+use Rattle.std.specs.List.{join_with_byte}
 use Rattle.std.proofs.lemmas.Bool.{eqb-true}
 use Rattle.std.proofs.lemmas.Bool.Decides.{nat_tests}
 use Rattle.std.proofs.lemmas.Cmp.{nat_list_eq_equiv}
@@ -19,14 +19,14 @@ use Rattle.at_ledger.specs.declared.draft.BookError.TheVariants.{OwnersNotRising
 use Rattle.at_ledger.specs.declared.draft.TheConstants.{ACCOUNTS_MAX, OWNERS_MAX}
 use Rattle.at_ledger.proofs.Faults.{choice-none, option_or-none}
 use Rattle.at_ledger.proofs.Owners.{IsAccount-from_none}
-use Rattle.at_files.specs.Names.{AreFormed, AreNames, AreNamesOf, IsNameList, NameList, decimals_below, has_name, is_name, place_of}
+use Rattle.at_files.specs.Names.{AreFormed, AreNames, AreNamesOf, has_name, is_name, place_of}
 use Rattle.at_files.specs.Rows.{Fields, before, field_of, number_at, has_shape}
 use Rattle.at_files.specs.BookRecords.{NamedBook, and_then, named_terms, numbered_terms, numbers_of, owner_known, owners_named, pieces_of, with_name, with_named, with_named_row, with_plain_row, with_row, with_terms, within_limits}
 use Rattle.at_files.specs.BookFile.{fields_of_account, owners_text}
 use Rattle.at_files.specs.declared.book_fault.BookWhy.{BookWhy}
 use Rattle.at_files.specs.declared.book_fault.BookWhy.TheVariants as why
 use Rattle.at_files.specs.declared.name_set.TheConstants.{NAME_MAX}
-use Rattle.at_files.proofs.NameLaws.{decimal-AreNames, decimals_below-more, has_name-decimals_below, known_version, length-decimals_below, place_of-Some}
+use Rattle.at_files.proofs.NameLaws.{decimal-AreNames, decimals_below-more, has_name-decimals_below, known_version, place_of-Some}
 use Rattle.at_files.proofs.OwnerLaws.{pieces_of-some}
 use Rattle.at_files.proofs.RecordLaws.{length-has_shape, first-has_shape, four_fields, field_of-number_at}
 

@@ -1,8 +1,8 @@
 -- A book file that is a book without a fault with its names, written out, is read as this book.
-use Rattle.std.proofs.Common.{◌≡◌, ℕ, zero, suc, ◌+◌, ◌^◌, ◌<◌, ◌≤◌, Bool, true, false, ◌&&◌, ◌⊎◌, inl, inr, ◌==◌, nat_lt, nat_le, List, [], ◌∷◌, ◌++◌, length, map, All, get_or, Some, None, Result, Ok, Err, bytes_eq, slice_index, codes, decimal, refl, sym, ◌∙◌, ap, subst, append_assoc, append-nil, length-append, arith}
-use Rattle.std.specs.Char.{is_ascii_digit, is_ascii_lowercase}
-use Rattle.std.specs.List.{IsDistinct, list_all, slice_split, join_with_byte}
-use Rattle.std.proofs.lemmas.Bool.{eq-eqb, eqb-true}
+use Rattle.std.proofs.Common.{◌≡◌, ℕ, ◌+◌, ◌^◌, ◌<◌, ◌≤◌, true, false, ◌⊎◌, inl, inr, ◌==◌, nat_lt, nat_le, List, [], ◌∷◌, ◌++◌, length, map, All, get_or, Some, None, Result, Ok, Err, bytes_eq, codes, decimal, refl, sym, ◌∙◌, ap, subst, append_assoc, append-nil, length-append, arith}
+use Rattle.std.specs.Char.{is_ascii_digit}
+use Rattle.std.specs.List.{IsDistinct, slice_split, join_with_byte}
+use Rattle.std.proofs.lemmas.Bool.{eq-eqb}
 use Rattle.std.proofs.lemmas.Bool.Decides.{nat_tests}
 use Rattle.std.proofs.lemmas.Cmp.{nat_list_eq_equiv}
 use Rattle.std.proofs.lemmas.Fmt.{digits_decimal, decimal_digit, decimal_nonempty}
@@ -18,14 +18,14 @@ use Rattle.at_base.specs.Numbers.{number_of}
 use Rattle.at_base.proofs.NumberLaws.{number_of-decimal, own}
 use Rattle.at_ledger.specs.Account.{AccountTerms, rounds_room}
 use Rattle.at_ledger.specs.Book.{BookTerms, IsBook, rounds_of, total_of}
-use Rattle.at_ledger.specs.Draft.{owner_fault, owners_fault, sums_fault, account_fault, accounts_fault, terms_with, with_account, book_without_accounts}
+use Rattle.at_ledger.specs.Draft.{owner_fault, owners_fault, sums_fault, account_fault, accounts_fault, with_account, book_without_accounts}
 use Rattle.at_ledger.specs.declared.draft.BookError.TheVariants.{NoAccount, OwnerOutOfRange, OwnersNotRising, TooManyAccounts, TooManyOwners, RoundsOverLimit, TotalOverLimit}
 use Rattle.at_ledger.specs.declared.draft.TheConstants.{PROCESSES_MAX, ACCOUNTS_MAX, OWNERS_MAX, ROUNDS_MAX}
 use Rattle.at_ledger.proofs.Faults.{choice-none, option_or-none}
 use Rattle.at_ledger.proofs.Owners.{IsAccount-from_none}
-use Rattle.at_files.specs.Names.{AreFormed, AreNames, AreNamesOf, NameList, has_name, is_name, is_name_byte, place_of}
-use Rattle.at_files.specs.Rows.{Fields, before, field_of, number_at}
-use Rattle.at_files.specs.BookRecords.{NamedBook, book_begun, limits_of, numbers_of, owners_named, pieces_of, processes_of, version_of, with_named, with_named_row, with_name, with_plain_row, with_process, with_processes, with_row}
+use Rattle.at_files.specs.Names.{AreFormed, AreNames, AreNamesOf, NameList, has_name, is_name, is_name_byte}
+use Rattle.at_files.specs.Rows.{Fields}
+use Rattle.at_files.specs.BookRecords.{NamedBook, book_begun, limits_of, numbers_of, owners_named, pieces_of, processes_of, version_of, with_named, with_named_row, with_plain_row, with_processes, with_row}
 use Rattle.at_files.specs.BookFile.{accounts_from, book_at_end, book_of_rows, fields_of_account, fields_of_processes, owners_text, account_rows, rows_of_book, Spells}
 use Rattle.at_files.specs.declared.book_fault.BadBook.{BadBook}
 use Rattle.at_files.specs.declared.book_fault.ReadBookFault.{ReadBookFault}
@@ -33,9 +33,7 @@ use Rattle.at_files.specs.declared.book_fault.ReadBookFault.TheVariants.{Bad, No
 use Rattle.at_files.proofs.AccountLaws.{map-name_in, name_in}
 use Rattle.at_files.proofs.BookLimits.{accounts_fault-IsBook, limits_fault-within}
 use Rattle.at_files.proofs.NameLaws.{decimal-AreNames, known_version, name-bytes, name-some, name_byte-above, place_of-at}
-use Rattle.at_files.specs.declared.name_set.TheConstants.{NAME_MAX}
 use Rattle.at_files.proofs.OwnerLaws.{pieces_of-some}
-use Rattle.at_files.proofs.RecordLaws.{both_tests}
 
 -- a text that holds no space, and isn't empty
 record IsSolid (text : List ℕ) : Type 0 where

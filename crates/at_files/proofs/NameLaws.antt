@@ -1,5 +1,5 @@
 -- Names and their places: those of version 1 are the canonical decimals.
-use Rattle.std.proofs.Common.{◌≡◌, ℕ, zero, suc, ◌+◌, ◌^◌, ◌<◌, ◌≤◌, Bool, true, false, not, ◌&&◌, nat_le, nat_lt, slice_index, ◌⊎◌, inl, inr, if◌then◌else◌, List, [], ◌∷◌, ◌++◌, length, map, All, Some, None, bytes_eq, decimal, get_or, refl, sym, ◌∙◌, ap, subst, arith}
+use Rattle.std.proofs.Common.{◌≡◌, ℕ, zero, suc, ◌+◌, ◌^◌, ◌<◌, ◌≤◌, Bool, true, false, not, ◌&&◌, nat_le, nat_lt, slice_index, ◌⊎◌, inl, inr, if◌then◌else◌, List, [], ◌∷◌, ◌++◌, length, Some, None, bytes_eq, decimal, get_or, refl, sym, ◌∙◌, ap, subst, arith}
 use Rattle.std.specs.Prelude.{Contains, slice_get}
 use Rattle.std.specs.Char.{is_ascii_lowercase}
 use Rattle.std.specs.List.{IsDistinct, list_all, position_or_len}
@@ -18,7 +18,7 @@ use Rattle.at_ledger.specs.Book.{BookTerms}
 use Rattle.at_ledger.specs.declared.draft.TheConstants.{ACCOUNTS_MAX}
 use Rattle.at_files.specs.declared.name_set.TheConstants.{NAME_MAX}
 use Rattle.at_files.proofs.RecordLaws.{both_tests}
-use Rattle.at_files.specs.Names.{AreFormed, AreNames, AreNamesOf, IsNameList, decimals_below, has_name, is_name, is_name_byte, place_of, plain_names}
+use Rattle.at_files.specs.Names.{AreFormed, AreNames, AreNamesOf, decimals_below, has_name, is_name, is_name_byte, place_of, plain_names}
 
 -- the name at the place that was found
 pub place_of-Some : (names : List (List ℕ)) (name : List ℕ) (n : ℕ) → place_of names name ≡ Some n → (n < length names) × (get_or names n [] ≡ name)

@@ -1,7 +1,5 @@
 -- The offences that answers carry.
-use Rattle.std.proofs.Common.{◌≡◌, Result, Ok, Err, ap}
-use Rattle.at_files.specs.BookFile.{at_line}
-use Rattle.at_files.specs.declared.book_fault.BookWhy.{BookWhy}
+use Rattle.std.proofs.Common.{◌≡◌, Result, Err, ap}
 use Rattle.at_files.specs.declared.book_fault.BadBook.{BadBook}
 use Rattle.at_files.specs.declared.book_fault.ReadBookFault.{ReadBookFault}
 use Rattle.at_files.specs.declared.book_fault.ReadBookFault.TheVariants.{Bad}

@@ -1,11 +1,9 @@
 -- The owners that names give.
-use Rattle.std.proofs.Common.{◌≡◌, ℕ, ◌+◌, ◌<◌, ◌≤◌, ◌==◌, true, false, Bool, nat_lt, nat_le, List, [], ◌∷◌, ◌++◌, length, drop, map, get_or, Option, Some, None, Result, Ok, Err, refl, sym, ◌∙◌, ap, append_assoc, append-nil, arith}
+use Rattle.std.proofs.Common.{◌≡◌, ℕ, ◌+◌, ◌<◌, ◌≤◌, ◌==◌, true, List, [], ◌∷◌, ◌++◌, length, drop, get_or, Result, Ok, Err, refl, sym, ◌∙◌, ap, append_assoc, append-nil, arith}
 use Rattle.std.proofs.lemmas.List.{at_drop_more, at_drop_all, length_push}
 use Rattle.at_files.specs.Names.{place_of}
-use Rattle.at_files.specs.BookFile.{at_line}
 use Rattle.at_files.specs.BookRecords.{and_then, owner_known, owners_named, pieces_of}
 use Rattle.at_files.specs.declared.book_fault.BookWhy.{BookWhy}
-use Rattle.at_files.specs.declared.book_fault.BadBook.{BadBook}
 
 -- owners in front of those that come later, unless an offence does
 abbrev pub owners_before : List ℕ → Result (List ℕ) BookWhy → Result (List ℕ) BookWhy

@@ -1,7 +1,6 @@
 -- The targets of a pay-out, one after another.
 use Rattle.std.proofs.Common.{◌≡◌, ℕ, ◌+◌, ◌*◌, ◌<◌, ◌≤◌, true, false, ◌&&◌, List, [], ◌∷◌, ◌++◌, length, drop, is_some, Bool, Option, Some, None, refl, sym, ◌∙◌, ap, append_assoc, append-nil, arith}
 use Rattle.std.proofs.lemmas.List.{drop_all, length_push}
-use Rattle.at_base.specs.Numbers.{number_of}
 use Rattle.at_ledger.specs.Call.{TargetPair}
 use Rattle.at_files.specs.Names.{place_of}
 use Rattle.at_files.specs.Rows.{Fields, before, field_of, number_at}

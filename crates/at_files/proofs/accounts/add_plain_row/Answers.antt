@@ -1,4 +1,3 @@
-use Rattle.std.proofs.Common.{sym, ◌∙◌, ap}
 use Rattle.at_ledger.specs.Draft.{terms_with}
 use Rattle.at_files.proofs.AccountLaws.{length-numbered, with_plain_row-built}
 use Rattle.at_files.proofs.accounts.add_plain_row.Goals as goal

@@ -1,4 +1,4 @@
-use Rattle.std.proofs.Common.{sym, ◌∙◌, arith}
+use Rattle.std.proofs.Common.{sym, ◌∙◌}
 use Rattle.at_files.proofs.TargetLaws.{AreTaken-first, AreTaken-more, targets_of-first_missing, targets_of-missing, targets_of-taken}
 use Rattle.at_files.proofs.calls.targets_of.Goals as goal
 

@@ -1,4 +1,4 @@
-use Rattle.std.proofs.Common.{◌∙◌, ap, sym, arith}
+use Rattle.std.proofs.Common.{◌∙◌, arith}
 use Rattle.at_files.proofs.Offences.{Err-same}
 use Rattle.at_files.proofs.ProcessLaws.{with_processes-bad, with_processes-end, with_processes-more}
 use Rattle.at_files.proofs.records.names_of_processes.Goals as goal

@@ -1,4 +1,3 @@
-use Rattle.std.proofs.Common.{map}
 use Rattle.at_files.proofs.NameSetLaws.{AreHeld-none}
 use Rattle.at_files.proofs.name_set.NameSet.new.Goals as goal
 

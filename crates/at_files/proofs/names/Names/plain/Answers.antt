@@ -1,5 +1,4 @@
-use Rattle.std.proofs.Common.{◌≡◌, ◌^◌, ◌≤◌, length, ap, arith}
-use Rattle.at_ledger.specs.declared.draft.TheConstants.{ACCOUNTS_MAX}
+use Rattle.std.proofs.Common.{arith}
 use Rattle.at_files.specs.Names.{AreNamesOf, plain_names}
 use Rattle.at_files.proofs.NameLaws.{AreNamesOf-plain_names}
 use Rattle.at_files.proofs.names.Names.plain.Goals as goal
