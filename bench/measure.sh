@@ -66,6 +66,32 @@ make_input() {
         }'
 }
 
+# Makes a book of 16 processes and 1,024 accounts with names, and 16,384 pay-outs of four targets for each process.
+make_named() {
+    mkdir -p -- "$1"
+    awk -v folder="$1" '
+        function draw(below) { x = x * 16807 % 2147483647; return x % below }
+        function account(a) { return sprintf("account-%04d", a) }
+        BEGIN {
+            x = 20190729
+            file = folder "/book.csv"
+            printf "book,2\nprocesses" > file
+            for (p = 0; p < 16; p++) printf ",owner-%02d", p > file
+            print "\nlimits,4096,64" > file
+            for (a = 0; a < 1024; a++) printf "account,%s,%.0f,owner-%02d\n", account(a), 1000 * draw(1000000000), a % 16 > file
+            close(file)
+            for (p = 0; p < 16; p++) {
+                file = folder "/pay" p ".csv"
+                for (i = 0; i < 16384; i++) {
+                    printf "pay,%s", account(p + 16 * draw(64)) > file
+                    for (t = 0; t < 4; t++) printf ",%s,%d", account(draw(1024)), 1 + draw(1000000) > file
+                    print "" > file
+                }
+                close(file)
+            }
+        }'
+}
+
 # The payment files of a folder, in process order.
 payments_of() {
     local p
@@ -128,6 +154,20 @@ take_turns() {
     done
 }
 
+# Checks a book with names and its pay-outs, by both programs in turns.
+check_named() {
+    local turn
+    make_named "$work/named"
+    payments_of 16 "$work/named"
+    for ((turn = 0; turn < turns; turn++)); do
+        keep_best "proved named" "$proved" check "$work/named/book.csv" "${payments[@]}"
+        cp -- "$work/text" "$work/proved.text"
+        keep_best "plain named" "$plain" named "$work/named/book.csv" "${payments[@]}"
+        cmp -- "$work/proved.text" "$work/text" || { echo "the programs differ at a book with names" >&2; exit 1; }
+    done
+    echo "names, check: proved $(milliseconds "proved named"), plain $(milliseconds "plain named"), proved to plain $(ratio "proved named" "plain named")"
+}
+
 # Refuses a file of so many bytes beside a book of one process.
 refuse_long() {
     local turn
@@ -162,6 +202,7 @@ echo "check, proved to plain: $(ratio "proved check 16" "plain check 16")"
 echo "check, proved to records alone: $(ratio "proved check 16" "plain records 16")"
 echo "run, 16 processes to 8: $(ratio "proved run 16" "proved run 8")"
 echo "check, 16 processes to 8: $(ratio "proved check 16" "proved check 8")"
+check_named
 refuse_long 8388609
 refuse_long 4294967296
 peak_memory "$proved" proved

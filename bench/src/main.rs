@@ -4,8 +4,10 @@
 //!     plain run BOOK PAY...       reads the files, makes the calls, and prints the report
 //!     plain check BOOK PAY...     reads the files, and prints how many calls they have
 //!     plain records BOOK PAY...   reads the records alone, and prints how many there are
+//!     plain named BOOK PAY...     reads a book with names and its pay-outs, and prints how many calls there are
 
 use csv::{ByteRecord, Reader, ReaderBuilder};
+use std::collections::HashMap;
 use std::error::Error;
 use std::io::Write;
 use std::{env, fs, io, str};
@@ -159,6 +161,116 @@ fn read_files(names: &[String]) -> Outcome<Vec<Vec<Call>>> {
     names.iter().map(|name| read_calls(&fs::read(name)?)).collect()
 }
 
+/// The places of names.
+type Places = HashMap<Vec<u8>, usize>;
+
+/// A book with names: how many processes it has, and where each account stands.
+struct NamedBook {
+    processes: Places,
+    accounts: Places,
+    terms: Vec<Account>,
+}
+
+/// A call of a file with names. A transfer is the pay-out with its one target.
+enum NamedCall {
+    Pay {
+        from: usize,
+        targets: Vec<(usize, u64)>,
+    },
+    Read {
+        account: usize,
+    },
+}
+
+fn place(places: &Places, row: &ByteRecord, i: usize) -> Outcome<usize> {
+    let name = row.get(i).ok_or("a field is missing")?;
+    Ok(*places.get(name).ok_or("a name is unknown")?)
+}
+
+fn named_account(processes: &Places, row: &ByteRecord) -> Outcome<Account> {
+    let mut owners = Vec::new();
+    let list = row.get(3).ok_or("a field is missing")?;
+    for owner in list.split(|byte| *byte == b' ') {
+        if !owner.is_empty() {
+            owners.push(*processes.get(owner).ok_or("a name is unknown")?);
+        }
+    }
+    Ok(Account {
+        opening: number_at(row, 2)?,
+        owners,
+    })
+}
+
+fn read_named_book(bytes: &[u8]) -> Outcome<NamedBook> {
+    let mut rows = reader(bytes);
+    let mut row = ByteRecord::new();
+    let mut book = NamedBook {
+        processes: HashMap::new(),
+        accounts: HashMap::new(),
+        terms: Vec::new(),
+    };
+    while rows.read_byte_record(&mut row)? {
+        match row.get(0) {
+            Some(b"book" | b"limits") => {}
+            Some(b"processes") => {
+                for name in row.iter().skip(1) {
+                    book.processes.insert(name.to_vec(), book.processes.len());
+                }
+            }
+            _ => {
+                let name = row.get(1).ok_or("a field is missing")?;
+                book.accounts.insert(name.to_vec(), book.accounts.len());
+                book.terms.push(named_account(&book.processes, &row)?);
+            }
+        }
+    }
+    Ok(book)
+}
+
+fn read_named_calls(accounts: &Places, bytes: &[u8]) -> Outcome<Vec<NamedCall>> {
+    let mut rows = reader(bytes);
+    let mut row = ByteRecord::new();
+    let mut calls = Vec::new();
+    while rows.read_byte_record(&mut row)? {
+        let account = place(accounts, &row, 1)?;
+        if row.get(0) == Some(b"read") {
+            calls.push(NamedCall::Read { account });
+            continue;
+        }
+        let mut targets = Vec::with_capacity(4);
+        for i in (2..row.len()).step_by(2) {
+            targets.push((place(accounts, &row, i)?, number_at(&row, i + 1)?));
+        }
+        calls.push(NamedCall::Pay {
+            from: account,
+            targets,
+        });
+    }
+    Ok(calls)
+}
+
+/// Reads a book with names and its payment files into calls.
+fn checked_named(book: &str, payments: &[String]) -> Outcome<Text> {
+    let book = read_named_book(&fs::read(book)?)?;
+    let mut count = 0;
+    let mut seen = 0;
+    for name in payments {
+        for call in read_named_calls(&book.accounts, &fs::read(name)?)? {
+            count += 1;
+            seen += match &call {
+                NamedCall::Pay { from, targets } => from + targets.len(),
+                NamedCall::Read { account } => *account,
+            };
+        }
+    }
+    std::hint::black_box(seen);
+    let mut text = Text::default();
+    text.word("checked ").number(book.processes.len() as u64);
+    text.word(" ").number(book.terms.len() as u64);
+    text.word(" ").number(count).word("\n");
+    Ok(text)
+}
+
 fn count_records(names: &[String]) -> Outcome<u64> {
     let mut count = 0;
     for name in names {
@@ -246,7 +358,7 @@ fn checked(book: &Book, files: &[Vec<Call>]) -> Text {
 fn main() -> Outcome<()> {
     let words: Vec<String> = env::args().skip(1).collect();
     let [command, names @ ..] = words.as_slice() else {
-        return Err("plain run|check|records BOOK PAY...".into());
+        return Err("plain run|check|records|named BOOK PAY...".into());
     };
     let [book, payments @ ..] = names else {
         return Err("a book is missing".into());
@@ -257,6 +369,7 @@ fn main() -> Outcome<()> {
             text.number(count_records(names)?).word("\n");
             text
         }
+        "named" => checked_named(book, payments)?,
         command => {
             let book = read_book(&fs::read(book)?)?;
             let files = read_files(payments)?;
