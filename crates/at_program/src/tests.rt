@@ -176,7 +176,7 @@ fn runs_of_one_process(rt: HostRuntime) -> Result<(), Fail> {
             2,
             "files: wanted 16, given 1\n",
         ),
-        ("book,2\nprocesses,ann\n", "", 3, "book: line 1: version\n"),
+        ("book,3\nprocesses,ann\n", "", 3, "book: line 1: version\n"),
     ];
     let alloc = rt.alloc();
     for (book, calls, code, text) in rows {
