@@ -263,6 +263,44 @@ fn words(rt: HostRuntime) -> Result<(), Fail> {
     Ok(())
 }
 
+/// Books with names, and a file of payments by names beside an empty one.
+#[test]
+fn runs_with_names(rt: HostRuntime) -> Result<(), Fail> {
+    let named =
+        "book,2\nprocesses,ann,bob\nlimits,10,10\naccount,ann-cash,100,ann\naccount,joint,50,ann bob\naccount,shop,0,\n";
+    let twice =
+        "book,2\nprocesses,ann,bob\nlimits,10,10\naccount,ann-cash,100,ann\naccount,ann-cash,0,\naccount,shop,0,\n";
+    let unknown =
+        "book,2\nprocesses,ann,bob\nlimits,10,10\naccount,ann-cash,100,ann\naccount,joint,50,ann carl\naccount,shop,0,\n";
+    let shop =
+        "book,2\nprocesses,ann,bob\nlimits,10,10\naccount,ann-cash,100,ann\naccount,joint,50,ann bob\naccount,Shop,0,\n";
+    let rows = [
+        (
+            named,
+            "pay,ann-cash,shop,30,joint,20\nread,shop\n",
+            0,
+            "journal 2\nann 1 pay ann-cash shop 30 joint 20 done\nann 2 read shop 30\nbalances 3\nann-cash 50\njoint 70\nshop 30\ntotal 150\n",
+        ),
+        (twice, "", 3, "book: line 5: name twice\n"),
+        (unknown, "", 3, "book: line 5: unknown owner\n"),
+        (shop, "", 3, "book: line 6: name\n"),
+        (
+            named,
+            "pay,ann-cash,shop\n",
+            4,
+            "payments 0: line 1: shape\n",
+        ),
+    ];
+    let alloc = rt.alloc();
+    for (book, calls, code, text) in rows {
+        let files = files_of(alloc, book.as_bytes(), calls.as_bytes(), b"")?;
+        let (status, written) = answer_over(&rt, alloc, "run book 0 1", files)?;
+        assert_eq!(rt; written.taken(), text.as_bytes());
+        assert_eq!(rt; status, code, "{calls}");
+    }
+    Ok(())
+}
+
 /// What `check` says of the book of one process cut after so many bytes: the least number of bytes of each answer.
 fn cut_answer(bytes: usize) -> &'static str {
     match bytes {
