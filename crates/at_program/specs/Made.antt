@@ -59,3 +59,10 @@ AllDone b files = (lines : List Line) → Whole files lines → Legal b lines �
 -- every legal run of the files has this summary
 abbrev pub AllSum : BookTerms → List (List Call) → ℕ → ℕ → List ℕ → Type 0
 AllSum b files first calls text = (lines : List Line) → Whole files lines → Legal b lines → summary_text b lines first calls ≡ text
+
+-- in every legal run of the calls that three numbers give each transfer is done, every such run has this summary, and
+-- there is such a run
+pub record IsMade (first processes calls : ℕ) (text : List ℕ) : Type 0 where
+  pub done : AllDone (book_made processes calls) (files_made first processes calls)
+  pub sum : AllSum (book_made processes calls) (files_made first processes calls) first calls text
+  pub some : (lines : List Line) × Whole (files_made first processes calls) lines × Legal (book_made processes calls) lines

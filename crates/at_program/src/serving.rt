@@ -7,7 +7,7 @@ ghost use Rattle.at_io.specs.Shelf.{SameFiles};
 ghost use Rattle.at_io.specs.Sink.{TakesFront};
 ghost use Rattle.at_program.specs.Words.{Form, form_of, form_shown, make_of, words_of};
 ghost use Rattle.at_program.specs.Generator.{MayMake};
-ghost use Rattle.at_program.specs.Made.{made};
+ghost use Rattle.at_program.specs.Made.{IsMade, made};
 ghost use Rattle.at_program.specs.declared.words.Making.{Making};
 ghost use Rattle.at_program.specs.Loading.{IsFileOn, Loaded, MayReach, Spelled, calls_of, loaded, loaded_shown};
 ghost use Rattle.at_program.specs.Faults.{Answers, IsFaultless, IsNumbered, MayRefuse};
@@ -128,7 +128,8 @@ fn answer<F: Shelf, O: Sink>(
 /// The summary of a run of the calls that a number gives.
 fn made_text(alloc: Global, making: Making) -> Result<Vec<u8>, AllocError>
     requires { MayMake making.processes making.calls }
-    ensures { IfOk result (λ text. text.items ≡ made making.first making.processes making.calls) }
+    ensures text { IfOk result (λ text. text.items ≡ made making.first making.processes making.calls) }
+    ensures all { IfOk result (λ text. IsMade making.first making.processes making.calls text.items) }
 {
     let made = generate(alloc, making.first, making.processes, making.calls)?;
     let lines = play(alloc, &made.book, made.files.as_slice())?;
@@ -147,6 +148,7 @@ fn answer_made<O: Sink>(alloc: Global, words: &[String], out: &mut O) -> Status
     ensures as_told { O.tells out.new ≡ O.tells out.old }
     ensures words { (result ≡ Status.Usage UsageFault.Words) ↔ (make_of (words_of words.now) ≡ None) }
     ensures done { (m : Making) → make_of (words_of words.now) ≡ Some m → result ≡ Status.Done → O.tells out.old ≡ true → O.taken out.new ≡ O.taken out.old ++ made m.first m.processes m.calls }
+    ensures all { (m : Making) → make_of (words_of words.now) ≡ Some m → result ≡ Status.Done → IsMade m.first m.processes m.calls (made m.first m.processes m.calls) }
     ensures done_kept { result ≡ Status.Done → O.faults out.new ≡ O.faults out.old }
     ensures write_fault { result ≡ Status.WriteFault → Rose (O.faults out.old) (O.faults out.new) }
     ensures front { (m : Making) → make_of (words_of words.now) ≡ Some m → result ≡ Status.WriteFault → O.tells out.old ≡ true → TakesFront (O.taken out.old) (O.taken out.new) (made m.first m.processes m.calls) }
@@ -192,9 +194,10 @@ pub fn serve<R: Threads + Sync, F: Shelf, O: Sink, E: Sink>(
     ensures done_kept { result ≡ Status.Done → (F.faults shelf.new ≡ F.faults shelf.old) × (O.faults out.new ≡ O.faults out.old) }
     ensures loads { (form : Form) → form_of (words_of words.now) ≡ Some form → F.tells shelf.old ≡ true → (result ≡ Status.Done) ⊎ (result ≡ Status.WriteFault) → (l : Loaded) × (loaded (F.file shelf.old) form ≡ Ok l) }
 
-    // Of the words of `make`, all bytes that were taken are the text of the three numbers, whatever the order in which
-    // the calls were made.
+    // Of the words of `make`, all bytes that were taken are the text of the three numbers. It is the summary of every
+    // legal run of their calls, whatever its order, and in each of these every transfer is done.
     ensures made { (m : Making) → make_of (words_of words.now) ≡ Some m → result ≡ Status.Done → O.tells out.old ≡ true → O.taken out.new ≡ O.taken out.old ++ made m.first m.processes m.calls }
+    ensures made_all { (m : Making) → make_of (words_of words.now) ≡ Some m → result ≡ Status.Done → IsMade m.first m.processes m.calls (made m.first m.processes m.calls) }
     ensures made_front { (m : Making) → make_of (words_of words.now) ≡ Some m → result ≡ Status.WriteFault → O.tells out.old ≡ true → TakesFront (O.taken out.old) (O.taken out.new) (made m.first m.processes m.calls) }
     ensures made_answers { (m : Making) → make_of (words_of words.now) ≡ Some m → (result ≡ Status.Done) ⊎ ((result ≡ Status.WriteFault) ⊎ (result ≡ Status.NoMemory)) }
     ensures made_unread { (m : Making) → make_of (words_of words.now) ≡ Some m → shelf.new ≡ shelf.old }

@@ -184,7 +184,7 @@ fn runs_of_one_process(rt: HostRuntime) -> Result<(), Fail> {
             2,
             "files: wanted 16, given 1\n",
         ),
-        ("book,2\nprocesses,ann\n", "", 3, "book: line 1: version\n"),
+        ("book,3\nprocesses,ann\n", "", 3, "book: line 1: version\n"),
     ];
     let alloc = rt.alloc();
     for (book, calls, code, text) in rows {
@@ -259,6 +259,44 @@ fn words(rt: HostRuntime) -> Result<(), Fail> {
         let (status, written) = answer_over(&rt, alloc, words, files)?;
         assert_eq!(rt; written.taken(), text.as_bytes());
         assert_eq!(rt; status, code, "{words}");
+    }
+    Ok(())
+}
+
+/// Books with names, and a file of payments by names beside an empty one.
+#[test]
+fn runs_with_names(rt: HostRuntime) -> Result<(), Fail> {
+    let named =
+        "book,2\nprocesses,ann,bob\nlimits,10,10\naccount,ann-cash,100,ann\naccount,joint,50,ann bob\naccount,shop,0,\n";
+    let twice =
+        "book,2\nprocesses,ann,bob\nlimits,10,10\naccount,ann-cash,100,ann\naccount,ann-cash,0,\naccount,shop,0,\n";
+    let unknown =
+        "book,2\nprocesses,ann,bob\nlimits,10,10\naccount,ann-cash,100,ann\naccount,joint,50,ann carl\naccount,shop,0,\n";
+    let shop =
+        "book,2\nprocesses,ann,bob\nlimits,10,10\naccount,ann-cash,100,ann\naccount,joint,50,ann bob\naccount,Shop,0,\n";
+    let rows = [
+        (
+            named,
+            "pay,ann-cash,shop,30,joint,20\nread,shop\n",
+            0,
+            "journal 2\nann 1 pay ann-cash shop 30 joint 20 done\nann 2 read shop 30\nbalances 3\nann-cash 50\njoint 70\nshop 30\ntotal 150\n",
+        ),
+        (twice, "", 3, "book: line 5: name twice\n"),
+        (unknown, "", 3, "book: line 5: unknown owner\n"),
+        (shop, "", 3, "book: line 6: name\n"),
+        (
+            named,
+            "pay,ann-cash,shop\n",
+            4,
+            "payments 0: line 1: shape\n",
+        ),
+    ];
+    let alloc = rt.alloc();
+    for (book, calls, code, text) in rows {
+        let files = files_of(alloc, book.as_bytes(), calls.as_bytes(), b"")?;
+        let (status, written) = answer_over(&rt, alloc, "run book 0 1", files)?;
+        assert_eq!(rt; written.taken(), text.as_bytes());
+        assert_eq!(rt; status, code, "{calls}");
     }
     Ok(())
 }
