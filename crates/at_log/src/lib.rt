@@ -8,6 +8,8 @@
 mod closing;
 mod loading;
 mod log;
+#[cfg(test)]
+mod log_tests;
 mod receipt;
 mod record;
 #[cfg(test)]

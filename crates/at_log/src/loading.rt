@@ -1,6 +1,6 @@
 //! Loads of records that were seen.
 
-ghost use Rattle.std.specs.Prelude.{◌≡◌, ◌+◌};
+ghost use Rattle.std.specs.Prelude.{◌≡◌, ◌+◌, List};
 ghost use Rattle.at_board.specs.Entries.{targets_of};
 ghost use Rattle.at_board.specs.Forms.{IsForm};
 ghost use Rattle.at_board.specs.RecordWords.{SeesRecord};
@@ -10,7 +10,6 @@ ghost use Rattle.at_board.specs.Words.{amount_words, decision_word, head_of};
 ghost use Rattle.at_board.specs.declared.publication.Entry.{Entry};
 ghost use Rattle.at_ledger.specs.Call.{TargetPair};
 ghost use Rattle.at_log.specs.Loading.{IsEntryOf, IsViewOf};
-ghost use Rattle.std.specs.Prelude.{List};
 
 use at_base::{Counts, unpack_decision, unpack_head};
 use at_board::{Board, BoardSeat, Entry, RECORD_WORDS, Steps, unpack_targets};
