@@ -1,14 +1,14 @@
 -- Collects: one load after another.
-use Rattle.std.proofs.Common.{◌≡◌, ◌≢◌, ℕ, ◌+◌, ◌<◌, ◌≤◌, zero, suc, List, ◌∷◌, length, get_or, set, map, refl, sym, ap, subst, ◌∙◌, arith, inl, inr}
+use Rattle.std.proofs.Common.{◌≡◌, ◌≢◌, ℕ, ◌+◌, ◌<◌, ◌≤◌, List, length, get_or, set, refl, sym, ap, subst, ◌∙◌, arith, inl, inr}
 use Rattle.std.specs.List.{Contains}
 use Rattle.std.proofs.lemmas.Bool.{cases_eq, cases_lt}
 use Rattle.std.proofs.lemmas.List.{ext_get_or, get_or-set_other, get_or-set_same, length-set, length-map, get_or-map}
 use Rattle.at_ledger.specs.Book.{BookTerms}
-use Rattle.at_board.proofs.FrontLaws.{IsPrefix-count_of, IsPrefix-refl, IsPrefix-trans}
+use Rattle.at_board.proofs.FrontLaws.{IsPrefix-count_of}
 use Rattle.at_board.specs.declared.publication.Publication.{Publication}
 use Rattle.at_board.specs.declared.view.Loads.{Loads}
 use Rattle.at_board.specs.declared.view.View.{View}
-use Rattle.at_board.specs.Publications.{IsPrefix, count_of}
+use Rattle.at_board.specs.Publications.{count_of}
 use Rattle.at_board.specs.RecordWords.{lists_of}
 use Rattle.at_board.specs.Steps.{LoadsLength}
 use Rattle.at_board.specs.Views.{loads_of, own_part}
@@ -124,8 +124,8 @@ collect_of-IsCollecting b v w counts some whole =
     let lengths : length loads ≡ b.processes = (whole.loaded some).lengths in
     ext_get_or 0 counts (collect_of w) (whole.sized ∙ (sym lengths ∙ sym (length-map loads (λ (l : Loads). l.last))))
     (λ q within.
-        let below : q < b.processes = omega (arith, within, whole.sized) in
-        sym (get_or-map (λ (l : Loads). l.last) loads q (record { times = 0; last = 0 }) 0 (omega (arith, below, lengths)) ∙ whole.last q below))
+    let below : q < b.processes = omega (arith, within, whole.sized) in
+    sym (get_or-map (λ (l : Loads). l.last) loads q (record { times = 0; last = 0 }) 0 (omega (arith, below, lengths)) ∙ whole.last q below))
 
 pub IsCollect-IsCollecting : (b : BookTerms) (v w : View) (counts : List ℕ) → 0 < b.processes → v.first < b.processes
     → IsCollecting b v w counts b.processes → IsCollect b v w

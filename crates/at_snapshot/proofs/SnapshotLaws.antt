@@ -9,8 +9,7 @@ use Rattle.at_board.proofs.FrontLaws.{ArePublishedBy-IsPrefix, ArePublishedBy-ta
 use Rattle.at_board.specs.declared.publication.Publication.{Publication}
 use Rattle.at_board.specs.declared.view.View.{View}
 use Rattle.at_board.specs.BoardState.{publication_at}
-use Rattle.at_board.specs.Fresh.{IsBorrowed, IsFresh}
-use Rattle.at_board.specs.Fronts.{IsFront, prefix_of}
+use Rattle.at_board.specs.Fronts.{IsFront}
 use Rattle.at_board.specs.Publications.{ArePublishedBy, IsPrefix, count_of, counts, no_publication, publications_of}
 use Rattle.at_board.specs.RecordWords.{lists_of}
 use Rattle.at_board.specs.Sound.{HasView}
@@ -19,7 +18,6 @@ use Rattle.at_board.specs.Views.{loads_of, own_part}
 use Rattle.at_snapshot.specs.declared.collects.Collects.{Collects}
 use Rattle.at_snapshot.specs.declared.scan.Turn.{Turn}
 use Rattle.at_snapshot.specs.declared.scan.Turn.TheVariants.{Clean, Borrowed, Again}
-use Rattle.at_snapshot.proofs.LoadedLaws.{first-HasLoaded}
 use Rattle.at_snapshot.proofs.ScanLaws.{AreCollects-IsScanOf, length-collect_of, lists-IsScanOf}
 use Rattle.at_snapshot.specs.Collected.{IsCollect, collect_of}
 use Rattle.at_snapshot.specs.Scans.{AreCollects, IsScanOf, ScanView, loads_at_least}
@@ -48,15 +46,15 @@ counts-equal b scan c v w so are told same =
     ext_get_or 0 (counts n scan.mark.seen) (collect_of w)
     (length-counts n scan.mark.seen ∙ sym (length-collect_of b v w told.loaded))
     (λ p within.
-        let known : p < n = omega (arith, within, length-counts n scan.mark.seen) in
-        omega (
-          arith,
-          get_or-counts n scan.mark.seen p 0 known,
-          are.last p known,
-          IsPrefix-count_of p scan.mark.seen v.seen so.marked,
-          told.least v.seen p (0, omega arith, refl) known,
-          ap (λ xs. get_or xs p 0) same,
-        ))
+    let known : p < n = omega (arith, within, length-counts n scan.mark.seen) in
+    omega (
+      arith,
+      get_or-counts n scan.mark.seen p 0 known,
+      are.last p known,
+      IsPrefix-count_of p scan.mark.seen v.seen so.marked,
+      told.least v.seen p (0, omega arith, refl) known,
+      ap (λ xs. get_or xs p 0) same,
+    ))
 
 pub IsSnapshot-equal : (b : BookTerms) (scan : ScanView) (c : Collects) (v w : View) → IsScanOf b scan v → AreCollects b scan c → IsCollect b v w
     → ((p : ℕ) → p < b.processes → (loads_of (own_part scan.start) p).times + 1 ≤ (loads_of (own_part v) p).times)
@@ -147,12 +145,15 @@ IsSnapshot-lent b scan c v w lent so are told once is =
           (omega (arith, new.own, new.above list seen));
       fresh = record {
         loaded = λ p below. loaded_twice b scan v w p told below (once p below);
-        taken = inr (m, record {
-          later = new.later;
-          seen = new.at.within;
-          other = λ e. risen.other (sym (new.at.own no_publication) ∙ e);
-          same = refl;
-        });
+        taken = inr (
+          m,
+          record {
+            later = new.later;
+            seen = new.at.within;
+            other = λ e. risen.other (sym (new.at.own no_publication) ∙ e);
+            same = refl;
+          },
+        );
       };
     })
 

@@ -1,6 +1,5 @@
 -- The turns of a snapshot: how many there may be.
-use Rattle.std.proofs.Common.{◌≡◌, ◌≢◌, ℕ, ◌+◌, ◌*◌, ◌<◌, ◌≤◌, List, length, get_or, refl, sym, ap, subst, ◌∙◌, arith, inl, inr, Option, Some, None}
-use Rattle.std.specs.Option.{MatchOption}
+use Rattle.std.proofs.Common.{◌≡◌, ℕ, ◌+◌, ◌*◌, ◌<◌, ◌≤◌, length, get_or, refl, sym, ap, subst, ◌∙◌, arith, inl, inr, Option, Some, None}
 use Rattle.std.proofs.lemmas.Bool.{cases_eq, cases_lt}
 use Rattle.std.proofs.lemmas.Nat.{mul-le}
 use Rattle.at_ledger.specs.Book.{BookTerms}
@@ -10,12 +9,12 @@ use Rattle.at_snapshot.specs.declared.collects.Collects.{Collects}
 use Rattle.at_snapshot.specs.declared.scan.Turn.{Turn}
 use Rattle.at_snapshot.specs.declared.scan.Turn.TheVariants.{Clean, Borrowed, Again}
 use Rattle.at_snapshot.proofs.LoadedLaws.{HasLoaded-trans, first-HasLoaded, parts-HasLoaded}
-use Rattle.at_snapshot.proofs.ScanLaws.{AreCollects-IsScanOf, IsScanOf-after, last_le, length-collect_of, own_count}
+use Rattle.at_snapshot.proofs.ScanLaws.{IsScanOf-after, last_le, length-collect_of, own_count}
 use Rattle.at_snapshot.proofs.UnmovedLaws.{unmoved, unmoved-falls, unmoved-same, unmoved-some}
 use Rattle.at_snapshot.specs.Collected.{HasLoaded, IsCollect, collect_of}
 use Rattle.at_snapshot.specs.Scans.{AreCollects, IsScanOf, ScanView, collects_after, scan_after, starting_scan}
 use Rattle.at_snapshot.specs.Snapshots.{HasCollected, snapshot_steps}
-use Rattle.at_snapshot.specs.Turns.{HasRisen, IsAnswer, IsUndecided, view_steps}
+use Rattle.at_snapshot.specs.Turns.{IsAnswer, IsUndecided, view_steps}
 
 -- how many turns may answer Again
 abbrev pub turns_left : ℕ → Option Collects → ℕ

@@ -9,6 +9,5 @@ mod collects;
 mod scan;
 mod snapshots;
 
-pub use crate::collects::Collects;
 pub use crate::scan::{Scan, Turn};
 pub use crate::snapshots::snapshot;

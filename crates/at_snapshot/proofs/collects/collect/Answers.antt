@@ -1,4 +1,4 @@
-use Rattle.std.proofs.Common.{◌≡◌, ◌+◌, ◌<◌, ℕ, length, subst, sym, ap, ◌∙◌, arith}
+use Rattle.std.proofs.Common.{◌≡◌, ◌+◌, ◌<◌, subst, sym, ap, ◌∙◌, arith}
 use Rattle.at_ledger.specs.Book.{BookTerms, IsBook}
 use Rattle.at_board.specs.declared.view.View.{View}
 use Rattle.at_snapshot.proofs.CollectLaws.{IsCollecting, IsCollecting-load, IsCollect-IsCollecting, collect_of-IsCollecting}

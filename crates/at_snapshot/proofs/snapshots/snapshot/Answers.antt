@@ -1,4 +1,4 @@
-use Rattle.std.proofs.Common.{◌≡◌, ◌+◌, ◌<◌, ◌≤◌, ℕ, length, refl, subst, sym, ap, ◌∙◌, arith}
+use Rattle.std.proofs.Common.{◌≡◌, ◌+◌, ◌<◌, ◌≤◌, refl, subst, sym, ap, ◌∙◌, arith}
 use Rattle.at_ledger.specs.Book.{BookTerms}
 use Rattle.at_board.specs.declared.view.View.{View}
 use Rattle.at_snapshot.proofs.TurnLaws.{IsSnapped, IsSnapped-IsSnapping, IsSnapping, IsSnapping-Again, IsSnapping-start, turns_left, turns_left-Again}

@@ -1,8 +1,7 @@
-use Rattle.std.proofs.Common.{◌≡◌, ◌+◌, ◌-◌, ◌<◌, ◌≤◌, ℕ, false, IsTrue, List, length, get_or, refl, subst, sym, ap, ◌∙◌, arith}
+use Rattle.std.proofs.Common.{◌-◌, ◌<◌, ◌≤◌, ℕ, false, IsTrue, List, length, get_or, refl, subst, sym, ap, ◌∙◌, arith}
 use Rattle.at_board.specs.declared.view.View.{View}
 use Rattle.at_board.specs.BoardState.{publication_at}
 use Rattle.at_board.specs.Publications.{count_of, publications_of}
-use Rattle.at_board.specs.RecordWords.{SeesRecord}
 use Rattle.at_snapshot.specs.Turns.{HasRisen, IsLeastRisen}
 use Rattle.at_snapshot.proofs.collects.Collects.compare.Goals as goal
 
