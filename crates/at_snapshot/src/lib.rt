@@ -7,6 +7,8 @@
 
 mod collects;
 mod scan;
+#[cfg(test)]
+mod scan_tests;
 mod snapshots;
 
 pub use crate::scan::{Scan, Turn};
