@@ -79,6 +79,7 @@ LoadsLength-Ruled b words views id v p ruled begun found part within =
         seated = AreSeated-set b ruled.seat views id v w ruled.seated found refl (length-set v.parts 0 (with_load (own_part v) p n));
       },
       record {
+        lengths = own.lengths;
         more = knows.seen;
         counted = sym (ruled.shown.records.lengths p within);
         own = ap (λ k. count_of k s.published) (sym first) ∙ sym own.published;

@@ -65,9 +65,10 @@ pub record IsHistory (b : BookTerms) (list : List Publication) : Type 0 where
   pub room : (p : ℕ) → p < b.processes → count_of p list ≤ log_room_of b p
   pub runs : AreRuns b list
 
--- a load of a length: the seat has then seen a list that begins with the old one and with all that was joined, and has
--- so many publications of the process
+-- a load of a length: the seat, which counts its loads of each length, has then seen a list that begins with the old one and
+-- with all that was joined, and has so many publications of the process
 pub record LoadsLength (b : BookTerms) (before after : View) (p n : ℕ) : Type 0 where
+  pub lengths : length (own_part before).loads ≡ b.processes
   pub more : IsPrefix before.seen after.seen
   pub counted : count_of p after.seen ≡ n
   pub own : count_of before.first after.seen ≡ (own_part before).published

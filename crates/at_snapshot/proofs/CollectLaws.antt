@@ -1,0 +1,141 @@
+-- Collects: one load after another.
+use Rattle.std.proofs.Common.{◌≡◌, ◌≢◌, ℕ, ◌+◌, ◌<◌, ◌≤◌, List, length, get_or, set, refl, sym, ap, subst, ◌∙◌, arith, inl, inr}
+use Rattle.std.specs.List.{Contains}
+use Rattle.std.proofs.lemmas.Bool.{cases_eq, cases_lt}
+use Rattle.std.proofs.lemmas.List.{ext_get_or, get_or-set_other, get_or-set_same, length-set, length-map, get_or-map}
+use Rattle.at_ledger.specs.Book.{BookTerms}
+use Rattle.at_board.proofs.FrontLaws.{IsPrefix-count_of}
+use Rattle.at_board.specs.declared.publication.Publication.{Publication}
+use Rattle.at_board.specs.declared.view.Loads.{Loads}
+use Rattle.at_board.specs.declared.view.View.{View}
+use Rattle.at_board.specs.Publications.{count_of}
+use Rattle.at_board.specs.RecordWords.{lists_of}
+use Rattle.at_board.specs.Steps.{LoadsLength}
+use Rattle.at_board.specs.Views.{loads_of, own_part}
+use Rattle.at_snapshot.proofs.LoadedLaws.{HasLoaded-LoadsLength, HasLoaded-trans, first-HasLoaded, lists-HasLoaded, loads_of-other, loads_of-same, parts-HasLoaded, published-HasLoaded}
+use Rattle.at_snapshot.specs.Collected.{HasLoaded, IsCollect, collect_of}
+
+-- a collect as far as the process
+pub record IsCollecting (b : BookTerms) (v w : View) (counts : List ℕ) (p : ℕ) : Type 0 where
+  pub sized : length counts ≡ b.processes
+  pub start : p ≡ 0 → w ≡ v
+  pub loaded : 0 < p → HasLoaded b v w
+  pub done : (q : ℕ) → q < p → (loads_of (own_part w) q).times ≡ (loads_of (own_part v) q).times + 1
+  pub left : (q : ℕ) → p ≤ q → (loads_of (own_part w) q).times ≡ (loads_of (own_part v) q).times
+  pub last : (q : ℕ) → q < p → (loads_of (own_part w) q).last ≡ get_or counts q 0
+  pub least : (list : List Publication) (q : ℕ) → Contains (lists_of v) list → q < p → count_of q list ≤ get_or counts q 0
+  pub most : (q : ℕ) → q < p → get_or counts q 0 ≤ count_of q w.seen
+  pub own : v.first < p → get_or counts v.first 0 ≡ (own_part v).published
+
+pub IsCollecting-start : (b : BookTerms) (v : View) (counts : List ℕ) → length counts ≡ b.processes → IsCollecting b v v counts 0
+IsCollecting-start b v counts sized = record {
+  sized = sized;
+  start = λ e. refl;
+  loaded = λ some. absurd (omega arith);
+  done = λ q below. absurd (omega arith);
+  left = λ q above. refl;
+  last = λ q below. absurd (omega arith);
+  least = λ list q seen below. absurd (omega arith);
+  most = λ q below. absurd (omega arith);
+  own = λ below. absurd (omega arith);
+}
+
+-- what stands before a load: as it was, or after loads
+pub record IsBefore (b : BookTerms) (v u : View) : Type 0 where
+  pub first : u.first ≡ v.first
+  pub part : 0 < length u.parts
+  pub published : (own_part u).published ≡ (own_part v).published
+  pub after : (w : View) (p n : ℕ) → LoadsLength b u w p n → HasLoaded b v w
+
+pub IsBefore-IsCollecting : (b : BookTerms) (v u : View) (counts : List ℕ) (p : ℕ) → 0 < length v.parts → IsCollecting b v u counts p → IsBefore b v u
+IsBefore-IsCollecting b v u counts p part so_far =
+    elim (cases_lt 0 p) as (λ _. IsBefore b v u) [
+      | inl begun ↦
+          let loaded = so_far.loaded begun in
+          let some : 0 < length u.parts = omega (arith, part, parts-HasLoaded b v u loaded) in
+          record {
+            first = first-HasLoaded b v u loaded;
+            part = some;
+            published = published-HasLoaded b v u part loaded;
+            after = λ w q n told. HasLoaded-trans b v u w part loaded (HasLoaded-LoadsLength b u w q n some told);
+          }
+      | inr none ↦
+          let same : u ≡ v = so_far.start (omega arith) in
+          record {
+            first = ap (λ (t : View). t.first) same;
+            part = omega (arith, part, ap (λ (t : View). length t.parts) same);
+            published = ap (λ t. (own_part t).published) same;
+            after = λ w q n told. HasLoaded-LoadsLength b v w q n part (subst (λ (t : View). LoadsLength b t w q n) same told);
+          }
+    ]
+
+pub IsCollecting-load : (b : BookTerms) (v u w : View) (counts : List ℕ) (p n : ℕ) → 0 < length v.parts → p < b.processes
+    → IsCollecting b v u counts p → LoadsLength b u w p n → IsCollecting b v w (set counts p n) (p + 1)
+IsCollecting-load b v u w counts p n part within so_far told =
+    let before = IsBefore-IsCollecting b v u counts p part so_far in
+    let loaded : HasLoaded b v w = before.after w p n told in
+    let here : get_or (set counts p n) p 0 ≡ n = get_or-set_same counts p n 0 (omega (arith, so_far.sized, within)) in
+    let there : (q : ℕ) → q ≢ p → get_or (set counts p n) q 0 ≡ get_or counts q 0 = λ q apart. get_or-set_other counts p q n 0 apart in
+    let now = loads_of-same b u w p n before.part within told in
+    let others : (q : ℕ) → q ≢ p → loads_of (own_part w) q ≡ loads_of (own_part u) q = λ q apart. loads_of-other b u w p n q before.part apart told in
+    record {
+      sized = length-set counts p n ∙ so_far.sized;
+      start = λ e. absurd (omega arith);
+      loaded = λ some. loaded;
+      done = λ q below.
+          elim (cases_eq q p) as (λ _. (loads_of (own_part w) q).times ≡ (loads_of (own_part v) q).times + 1) [
+            | inl same ↦ subst (λ k. (loads_of (own_part w) k).times ≡ (loads_of (own_part v) k).times + 1) (sym same)
+                (ap (λ (l : Loads). l.times) now ∙ ap (λ k. k + 1) (so_far.left p (omega arith)))
+            | inr apart ↦ ap (λ (l : Loads). l.times) (others q apart) ∙ so_far.done q (omega arith)
+          ];
+      left = λ q above.
+          let apart : q ≢ p = λ e. omega arith in
+          ap (λ (l : Loads). l.times) (others q apart) ∙ so_far.left q (omega arith);
+      last = λ q below.
+          elim (cases_eq q p) as (λ _. (loads_of (own_part w) q).last ≡ get_or (set counts p n) q 0) [
+            | inl same ↦ subst (λ k. (loads_of (own_part w) k).last ≡ get_or (set counts p n) k 0) (sym same)
+                (ap (λ (l : Loads). l.last) now ∙ sym here)
+            | inr apart ↦ ap (λ (l : Loads). l.last) (others q apart) ∙ (so_far.last q (omega arith) ∙ sym (there q apart))
+          ];
+      least = λ list q seen below.
+          elim (cases_eq q p) as (λ _. count_of q list ≤ get_or (set counts p n) q 0) [
+            | inl same ↦ subst (λ k. count_of k list ≤ get_or (set counts p n) k 0) (sym same)
+                (omega (arith, here, told.counted, IsPrefix-count_of p list w.seen (lists-HasLoaded b v w list loaded seen)))
+            | inr apart ↦ omega (arith, there q apart, so_far.least list q seen (omega arith))
+          ];
+      most = λ q below.
+          elim (cases_eq q p) as (λ _. get_or (set counts p n) q 0 ≤ count_of q w.seen) [
+            | inl same ↦ subst (λ k. get_or (set counts p n) k 0 ≤ count_of k w.seen) (sym same) (omega (arith, here, told.counted))
+            | inr apart ↦ omega (arith, there q apart, so_far.most q (omega arith), IsPrefix-count_of q u.seen w.seen told.more)
+          ];
+      own = λ below.
+          elim (cases_eq v.first p) as (λ _. get_or (set counts p n) v.first 0 ≡ (own_part v).published) [
+            | inl same ↦ ap (λ k. get_or (set counts p n) k 0) same ∙ (here ∙ (sym told.counted
+                ∙ (ap (λ k. count_of k w.seen) (sym same) ∙ (ap (λ k. count_of k w.seen) (sym before.first) ∙ (told.own ∙ before.published)))))
+            | inr apart ↦ there v.first apart ∙ so_far.own (omega arith)
+          ];
+    }
+
+-- a collect's counts are the numbers last loaded
+pub collect_of-IsCollecting : (b : BookTerms) (v w : View) (counts : List ℕ) → 0 < b.processes → IsCollecting b v w counts b.processes
+    → counts ≡ collect_of w
+collect_of-IsCollecting b v w counts some whole =
+    let loads = (own_part w).loads in
+    let lengths : length loads ≡ b.processes = (whole.loaded some).lengths in
+    ext_get_or 0 counts (collect_of w) (whole.sized ∙ (sym lengths ∙ sym (length-map loads (λ (l : Loads). l.last))))
+    (λ q within.
+    let below : q < b.processes = omega (arith, within, whole.sized) in
+    sym (get_or-map (λ (l : Loads). l.last) loads q (record { times = 0; last = 0 }) 0 (omega (arith, below, lengths)) ∙ whole.last q below))
+
+pub IsCollect-IsCollecting : (b : BookTerms) (v w : View) (counts : List ℕ) → 0 < b.processes → v.first < b.processes
+    → IsCollecting b v w counts b.processes → IsCollect b v w
+IsCollect-IsCollecting b v w counts some known whole =
+    let same = collect_of-IsCollecting b v w counts some whole in
+    let at : (q : ℕ) → get_or counts q 0 ≡ get_or (collect_of w) q 0 = λ q. ap (λ xs. get_or xs q 0) same in
+    record {
+      loaded = whole.loaded some;
+      times = λ p within. whole.done p within;
+      least = λ list p seen within. omega (arith, at p, whole.least list p seen within);
+      most = λ p within. omega (arith, at p, whole.most p within);
+      own = sym (at v.first) ∙ whole.own known;
+    }

@@ -1,0 +1,91 @@
+-- Loads of lengths: what they leave of a view, and one after another.
+use Rattle.std.proofs.Common.{◌≡◌, ◌≢◌, ℕ, ◌+◌, ◌<◌, zero, suc, List, length, sym, ap, subst, ◌∙◌, arith}
+use Rattle.std.specs.List.{All, Contains}
+use Rattle.std.proofs.lemmas.List.{get_or-set_other, get_or-set_same, length-set, set-set}
+use Rattle.at_ledger.specs.Book.{BookTerms}
+use Rattle.at_board.proofs.FrontLaws.{IsPrefix-trans}
+use Rattle.at_board.proofs.SeatKept.{own_part-with_part}
+use Rattle.at_board.specs.declared.publication.Publication.{Publication}
+use Rattle.at_board.specs.declared.view.Loads.{Loads}
+use Rattle.at_board.specs.declared.view.Part.{Part}
+use Rattle.at_board.specs.declared.view.View.{View}
+use Rattle.at_board.specs.Publications.{IsPrefix, count_of}
+use Rattle.at_board.specs.RecordWords.{lists_of}
+use Rattle.at_board.specs.Steps.{LoadsLength, with_load, with_part}
+use Rattle.at_board.specs.Views.{loads_of, own_part}
+use Rattle.at_snapshot.specs.Collected.{HasLoaded}
+
+-- a part with other loads
+abbrev pub with_loads : Part → List Loads → Part
+with_loads q loads = record q { loads = loads }
+
+pub own_part-HasLoaded : (b : BookTerms) (v w : View) → 0 < length v.parts → HasLoaded b v w → own_part w ≡ with_loads (own_part v) (own_part w).loads
+own_part-HasLoaded b v w part told =
+    ap own_part told.same ∙ own_part-with_part (record v { seen = w.seen }) (with_loads (own_part v) (own_part w).loads) part
+
+pub parts-HasLoaded : (b : BookTerms) (v w : View) → HasLoaded b v w → length w.parts ≡ length v.parts
+parts-HasLoaded b v w told = ap (λ (t : View). length t.parts) told.same ∙ length-set v.parts 0 (with_loads (own_part v) (own_part w).loads)
+
+pub published-HasLoaded : (b : BookTerms) (v w : View) → 0 < length v.parts → HasLoaded b v w → (own_part w).published ≡ (own_part v).published
+published-HasLoaded b v w part told = ap (λ (q : Part). q.published) (own_part-HasLoaded b v w part told)
+
+pub first-HasLoaded : (b : BookTerms) (v w : View) → HasLoaded b v w → w.first ≡ v.first
+first-HasLoaded b v w told = ap (λ (t : View). t.first) told.same
+
+pub book-HasLoaded : (b : BookTerms) (v w : View) → HasLoaded b v w → w.book ≡ v.book
+book-HasLoaded b v w told = ap (λ (t : View). t.book) told.same
+
+pub joined-HasLoaded : (b : BookTerms) (v w : View) → HasLoaded b v w → w.joined ≡ v.joined
+joined-HasLoaded b v w told = ap (λ (t : View). t.joined) told.same
+
+-- all lists that were seen before are prefixes of what is seen now
+pub lists-HasLoaded : (b : BookTerms) (v w : View) (list : List Publication) → HasLoaded b v w → Contains (lists_of v) list → IsPrefix list w.seen
+lists-HasLoaded b v w list told (zero, within, same) = subst (λ t. IsPrefix t w.seen) same told.more
+lists-HasLoaded b v w list told (suc k, within, same) = subst (λ t. IsPrefix t w.seen) same (told.joined k list (omega arith))
+
+-- the own part after a load of a length
+pub own_part-LoadsLength : (b : BookTerms) (v w : View) (p n : ℕ) → 0 < length v.parts → LoadsLength b v w p n → own_part w ≡ with_load (own_part v) p n
+own_part-LoadsLength b v w p n part told = ap own_part told.same ∙ own_part-with_part (record v { seen = w.seen }) (with_load (own_part v) p n) part
+
+pub HasLoaded-LoadsLength : (b : BookTerms) (v w : View) (p n : ℕ) → 0 < length v.parts → LoadsLength b v w p n → HasLoaded b v w
+HasLoaded-LoadsLength b v w p n part told =
+    let own = own_part-LoadsLength b v w p n part told in
+    let loads = ap (λ (q : Part). q.loads) own in
+    record {
+      more = told.more;
+      joined = told.joined;
+      own = told.own;
+      history = told.history;
+      lengths = ap (λ (xs : List Loads). length xs) loads ∙ (length-set (own_part v).loads p _ ∙ told.lengths);
+      same = told.same ∙ ap (λ (xs : List Loads). with_part (record v { seen = w.seen }) (with_loads (own_part v) xs)) (sym loads);
+    }
+
+pub HasLoaded-trans : (b : BookTerms) (v u w : View) → 0 < length v.parts → HasLoaded b v u → HasLoaded b u w → HasLoaded b v w
+HasLoaded-trans b v u w part first second =
+    let q : Part = with_loads (own_part v) (own_part u).loads in
+    let own : own_part u ≡ q = own_part-HasLoaded b v u part first in
+    let last : Part = with_loads (own_part v) (own_part w).loads in
+    record {
+      more = IsPrefix-trans v.seen u.seen w.seen first.more second.more;
+      joined = subst (All (λ list. IsPrefix list w.seen)) (joined-HasLoaded b v u first) second.joined;
+      own = ap (λ k. count_of k w.seen) (sym (first-HasLoaded b v u first)) ∙ (second.own ∙ published-HasLoaded b v u part first);
+      history = second.history;
+      lengths = second.lengths;
+      same = second.same
+          ∙ (ap (λ (r : Part). with_part (record u { seen = w.seen }) (with_loads r (own_part w).loads)) own
+          ∙ (ap (λ (t : View). with_part (record t { seen = w.seen }) last) first.same
+          ∙ ap (λ (ps : List Part). record v { seen = w.seen; parts = ps }) (set-set v.parts 0 q last)));
+    }
+
+-- how often each length was loaded, and its last number, after a load
+pub loads_of-same : (b : BookTerms) (v w : View) (p n : ℕ) → 0 < length v.parts → p < b.processes → LoadsLength b v w p n
+    → loads_of (own_part w) p ≡ record { times = (loads_of (own_part v) p).times + 1; last = n }
+loads_of-same b v w p n part within told =
+    ap (λ q. loads_of q p) (own_part-LoadsLength b v w p n part told)
+    ∙ get_or-set_same (own_part v).loads p _ _ (omega (arith, told.lengths, within))
+
+pub loads_of-other : (b : BookTerms) (v w : View) (p n q : ℕ) → 0 < length v.parts → q ≢ p → LoadsLength b v w p n
+    → loads_of (own_part w) q ≡ loads_of (own_part v) q
+loads_of-other b v w p n q part apart told =
+    ap (λ t. loads_of t q) (own_part-LoadsLength b v w p n part told)
+    ∙ get_or-set_other (own_part v).loads p q _ _ apart

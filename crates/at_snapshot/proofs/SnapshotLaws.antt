@@ -1,0 +1,168 @@
+-- Two equal collects in a row are a snapshot, and so is the view of a process that has published twice.
+use Rattle.std.proofs.Common.{◌≡◌, ℕ, Some, ◌+◌, ◌-◌, ◌<◌, ◌≤◌, List, length, get_or, take, refl, sym, ap, subst, ◌∙◌, arith, inl, inr}
+use Rattle.std.specs.List.{Contains, sum}
+use Rattle.std.proofs.lemmas.Bool.{cases_lt}
+use Rattle.std.proofs.lemmas.List.{ext_get_or, get_or_default}
+use Rattle.at_ledger.specs.Book.{BookTerms}
+use Rattle.at_board.proofs.CountLaws.{IsPosition, count_of-take_mono, get_or-counts, get_or-publications_of, length-counts, position_of, sum-counts}
+use Rattle.at_board.proofs.FrontLaws.{ArePublishedBy-IsPrefix, ArePublishedBy-take, IsFront-IsPrefix, IsFront-counts, IsPrefix-count_of, IsPrefix-length, IsPrefix-prefix_of, IsPrefix-prefix_of_from_le, IsPrefix-take, IsPrefix-trans, take-IsPrefix}
+use Rattle.at_board.specs.declared.publication.Publication.{Publication}
+use Rattle.at_board.specs.declared.view.View.{View}
+use Rattle.at_board.specs.BoardState.{publication_at}
+use Rattle.at_board.specs.Fronts.{IsFront}
+use Rattle.at_board.specs.Publications.{ArePublishedBy, IsPrefix, count_of, counts, no_publication, publications_of}
+use Rattle.at_board.specs.RecordWords.{lists_of}
+use Rattle.at_board.specs.Sound.{HasView}
+use Rattle.at_board.specs.Steps.{IsHistory}
+use Rattle.at_board.specs.Views.{loads_of, own_part}
+use Rattle.at_snapshot.specs.declared.collects.Collects.{Collects}
+use Rattle.at_snapshot.specs.declared.scan.Turn.{Turn}
+use Rattle.at_snapshot.specs.declared.scan.Turn.TheVariants.{Clean, Borrowed, Again}
+use Rattle.at_snapshot.proofs.ScanLaws.{AreCollects-IsScanOf, length-collect_of, lists-IsScanOf}
+use Rattle.at_snapshot.specs.Collected.{IsCollect, collect_of}
+use Rattle.at_snapshot.specs.Scans.{AreCollects, IsScanOf, ScanView, loads_at_least}
+use Rattle.at_snapshot.specs.Snapshots.{IsSnapshot, OnCounts}
+use Rattle.at_snapshot.specs.Turns.{HasRisen, IsLent, IsVerdict}
+
+ArePublishedBy-IsHistory : (b : BookTerms) (list : List Publication) → IsHistory b list → ArePublishedBy b.processes list
+ArePublishedBy-IsHistory b list history = λ k d within.
+    subst (λ (x : Publication). x.process < b.processes) (get_or_default list k no_publication d within) (history.views k within).process
+
+-- each length was loaded once since the start, and after one more collect twice
+loaded_once : (b : BookTerms) (scan : ScanView) (c : Collects) (v : View) → IsScanOf b scan v → scan.collects ≡ Some c
+    → (p : ℕ) → p < b.processes → (loads_of (own_part scan.start) p).times + 1 ≤ (loads_of (own_part v) p).times
+loaded_once b scan c v so is p known = omega (arith, so.loads p known, ap loads_at_least is)
+
+loaded_twice : (b : BookTerms) (scan : ScanView) (v w : View) (p : ℕ) → IsCollect b v w → p < b.processes
+    → (loads_of (own_part scan.start) p).times + 1 ≤ (loads_of (own_part v) p).times
+    → (loads_of (own_part scan.start) p).times + 2 ≤ (loads_of (own_part w) p).times
+loaded_twice b scan v w p told known once = omega (arith, told.times p known)
+
+-- two equal collects in a row are the counts of what was seen between them
+counts-equal : (b : BookTerms) (scan : ScanView) (c : Collects) (v w : View) → IsScanOf b scan v → AreCollects b scan c → IsCollect b v w
+    → c.last ≡ collect_of w → counts b.processes scan.mark.seen ≡ collect_of w
+counts-equal b scan c v w so are told same =
+    let n = b.processes in
+    ext_get_or 0 (counts n scan.mark.seen) (collect_of w)
+    (length-counts n scan.mark.seen ∙ sym (length-collect_of b v w told.loaded))
+    (λ p within.
+    let known : p < n = omega (arith, within, length-counts n scan.mark.seen) in
+    omega (
+      arith,
+      get_or-counts n scan.mark.seen p 0 known,
+      are.last p known,
+      IsPrefix-count_of p scan.mark.seen v.seen so.marked,
+      told.least v.seen p (0, omega arith, refl) known,
+      ap (λ xs. get_or xs p 0) same,
+    ))
+
+pub IsSnapshot-equal : (b : BookTerms) (scan : ScanView) (c : Collects) (v w : View) → IsScanOf b scan v → AreCollects b scan c → IsCollect b v w
+    → ((p : ℕ) → p < b.processes → (loads_of (own_part scan.start) p).times + 1 ≤ (loads_of (own_part v) p).times)
+    → c.last ≡ collect_of w → IsSnapshot b scan.start w (collect_of w)
+IsSnapshot-equal b scan c v w so are told once same =
+    let n = b.processes in
+    let mark = scan.mark.seen in
+    let between : IsPrefix mark w.seen = IsPrefix-trans mark v.seen w.seen so.marked told.loaded.more in
+    let known = ArePublishedBy-IsPrefix n mark w.seen between (ArePublishedBy-IsHistory b w.seen told.loaded.history) in
+    let equal = counts-equal b scan c v w so are told same in
+    record {
+      front = subst (λ xs. IsFront n xs w.seen) equal (IsFront-IsPrefix n (counts n mark) mark w.seen (IsFront-counts n mark known) known between);
+      begins = λ list seen.
+          IsPrefix-prefix_of_from_le (collect_of w) list w.seen (lists-IsScanOf b scan v w list so told.loaded seen)
+          (omega (arith, IsPrefix-length list mark (are.seen list seen), sum-counts n mark known, ap sum equal));
+      fresh = record {
+        loaded = λ p below. loaded_twice b scan v w p told below (once p below);
+        taken = inl refl;
+      };
+    }
+
+-- the record whose view is lent: it was not seen at the start, and its view counts more of its process than was seen then
+record IsNew (b : BookTerms) (scan : ScanView) (w : View) (q i m : ℕ) : Type 0 where
+  pub at : IsPosition q i w.seen m
+  pub view : HasView b (take m w.seen) (publication_at w.seen m)
+  pub own : get_or (publication_at w.seen m).view q 0 ≡ i
+  pub above : (list : List Publication) → Contains (lists_of scan.start) list → count_of q list < i
+  pub later : length scan.start.seen ≤ m
+
+is_new : (b : BookTerms) (scan : ScanView) (c : Collects) (v w : View) (q : ℕ) → IsScanOf b scan v → AreCollects b scan c → IsCollect b v w
+    → HasRisen w.first c.first (collect_of w) q → (m : ℕ) × IsNew b scan w q (get_or (collect_of w) q 0 - 1) m
+is_new b scan c v w q so are told risen =
+    let i = get_or (collect_of w) q 0 - 1 in
+    let known : q < b.processes = omega (arith, risen.within, length-collect_of b v w told.loaded) in
+    let counted : i < count_of q w.seen = omega (arith, told.most q known, risen.risen) in
+    let there = position_of q i w.seen counted in
+    let m = there.0 in
+    let x = publication_at w.seen m in
+    let view = told.loaded.history.views m there.1.within in
+    let above : (list : List Publication) → Contains (lists_of scan.start) list → count_of q list < i =
+    λ list seen. omega (arith, are.first list q seen known, risen.risen) in
+    let start = scan.start.seen in
+    let before : IsPrefix start w.seen = IsPrefix-trans start v.seen w.seen so.started told.loaded.more in (
+      m,
+      record {
+        at = there.1;
+        view = view;
+        own = ap (λ k. get_or x.view k 0) (sym (there.1.own no_publication))
+            ∙ (view.own ∙ (ap (λ k. count_of k (take m w.seen)) (there.1.own no_publication) ∙ there.1.before));
+        above = above;
+        later = elim (cases_lt m (length start)) as (λ _. length start ≤ m) [
+          | inl below ↦ absurd (omega (
+            arith,
+            there.1.before,
+            count_of-take_mono q m (length start) w.seen (omega arith),
+            ap (count_of q) (take-IsPrefix start w.seen before),
+            above start (0, omega arith, refl),
+          ))
+          | inr beyond ↦ beyond
+        ];
+      },
+    )
+
+pub IsSnapshot-lent : (b : BookTerms) (scan : ScanView) (c : Collects) (v w : View) (lent : List ℕ) → IsScanOf b scan v → AreCollects b scan c → IsCollect b v w
+    → ((p : ℕ) → p < b.processes → (loads_of (own_part scan.start) p).times + 1 ≤ (loads_of (own_part v) p).times)
+    → IsLent c w (collect_of w) lent → IsSnapshot b scan.start w lent
+IsSnapshot-lent b scan c v w lent so are told once is =
+    let n = b.processes in
+    let q = is.process in
+    let i = get_or (collect_of w) q 0 - 1 in
+    let risen = is.least.risen in
+    let known : q < n = omega (arith, risen.within, length-collect_of b v w told.loaded) in
+    let there = is_new b scan c v w q so are told risen in
+    let m = there.0 in
+    let new = there.1 in
+    let x = publication_at w.seen m in
+    let same_record : publication_at (publications_of q w.seen) i ≡ x =
+    ap (publication_at (publications_of q w.seen)) (sym new.at.before)
+    ∙ get_or-publications_of q m w.seen no_publication new.at.within (new.at.own no_publication) in
+    let same : x.view ≡ lent = sym (is.counts_are ∙ ap (λ (y : Publication). y.view) same_record) in
+    let all = ArePublishedBy-IsHistory b w.seen told.loaded.history in
+    let front : IsFront n x.view w.seen =
+    IsFront-IsPrefix n x.view (take m w.seen) w.seen new.view.front (ArePublishedBy-take n m w.seen all) (IsPrefix-take m w.seen) in
+    subst (IsSnapshot b scan.start w) same (record {
+      front = front;
+      begins = λ list seen.
+          IsPrefix-prefix_of n x.view list w.seen q front known (lists-IsScanOf b scan v w list so told.loaded seen)
+          (omega (arith, new.own, new.above list seen));
+      fresh = record {
+        loaded = λ p below. loaded_twice b scan v w p told below (once p below);
+        taken = inr (
+          m,
+          record {
+            later = new.later;
+            seen = new.at.within;
+            other = λ e. risen.other (sym (new.at.own no_publication) ∙ e);
+            same = refl;
+          },
+        );
+      };
+    })
+
+-- what a later turn answers
+pub OnCounts-IsVerdict : (b : BookTerms) (scan : ScanView) (c : Collects) (v w : View) (turn : Turn) → IsScanOf b scan v → scan.collects ≡ Some c
+    → IsCollect b v w → IsVerdict c w (collect_of w) turn → OnCounts turn (IsSnapshot b scan.start w)
+OnCounts-IsVerdict b scan c v w (Clean counts) so is told verdict =
+    subst (IsSnapshot b scan.start w) (sym verdict.counts_are)
+    (IsSnapshot-equal b scan c v w so (AreCollects-IsScanOf b scan c v so is) told (loaded_once b scan c v so is) verdict.equal)
+OnCounts-IsVerdict b scan c v w (Borrowed counts) so is told verdict =
+    IsSnapshot-lent b scan c v w counts so (AreCollects-IsScanOf b scan c v so is) told (loaded_once b scan c v so is) verdict
+OnCounts-IsVerdict b scan c v w Again so is told verdict = tt

@@ -1,0 +1,4 @@
+pub mod Collected
+pub mod Scans
+pub mod Turns
+pub mod Snapshots

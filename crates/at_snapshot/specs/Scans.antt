@@ -1,0 +1,56 @@
+-- Scans as callers see them.
+use Rattle.std.specs.Prelude.{◌≡◌, ℕ, ◌+◌, ◌<◌, ◌≤◌, List, length, slice_index, Contains, Option, Some, None, IfSome}
+use Rattle.at_base.specs.Counts.{Covers}
+use Rattle.at_ledger.specs.Book.{BookTerms}
+use Rattle.at_board.specs.declared.publication.Publication.{Publication}
+use Rattle.at_board.specs.declared.view.View.{View}
+use Rattle.at_board.specs.Publications.{IsPrefix, count_of}
+use Rattle.at_board.specs.RecordWords.{lists_of}
+use Rattle.at_board.specs.Views.{loads_of, own_part}
+use Rattle.at_snapshot.specs.declared.collects.Collects.{Collects}
+use Rattle.at_snapshot.specs.Collected.{collect_of}
+
+-- a scan by what its seat had seen at the start and at the end of the last collect, and by its first collect and its last
+pub record ScanView : Type 0 where
+  pub start : View
+  pub mark : View
+  pub collects : Option Collects
+
+abbrev pub starting_scan : View → ScanView
+starting_scan view = record { start = view; mark = view; collects = None }
+
+-- the collects after one more, which is the first where there was none
+abbrev pub collects_after : Option Collects → List ℕ → Collects
+collects_after None collect = record { first = collect; last = collect }
+collects_after (Some c) collect = record { first = c.first; last = collect }
+
+-- the scan after a collect
+abbrev pub scan_after : ScanView → View → ScanView
+scan_after scan view = record { start = scan.start; mark = view; collects = Some (collects_after scan.collects (collect_of view)) }
+
+-- how often a scan has loaded each length at least
+abbrev pub loads_at_least : Option Collects → ℕ
+loads_at_least None = 0
+loads_at_least (Some c) = 1
+
+-- the collects of a scan: the first counts all that was seen at the start, the last no more than what was seen at its end,
+-- no count has fallen, and that of the scan's process has stayed
+pub record AreCollects (b : BookTerms) (scan : ScanView) (c : Collects) : Type 0 where
+  pub first_length : length c.first ≡ b.processes
+  pub last_length : length c.last ≡ b.processes
+  pub seen : (list : List Publication) → Contains (lists_of scan.start) list → IsPrefix list scan.mark.seen
+  pub first : (list : List Publication) (p : ℕ) → Contains (lists_of scan.start) list → p < b.processes → count_of p list ≤ slice_index c.first p
+  pub last : (p : ℕ) → p < b.processes → slice_index c.last p ≤ count_of p scan.mark.seen
+  pub rising : Covers c.last c.first
+  pub own_first : slice_index c.first scan.start.first ≡ (own_part scan.start).published
+  pub own_last : slice_index c.last scan.start.first ≡ (own_part scan.start).published
+
+-- the view is that of a scan's seat, which has published nothing since the start. Each step but a publishing one keeps this
+pub record IsScanOf (b : BookTerms) (scan : ScanView) (view : View) : Type 0 where
+  pub process : view.first ≡ scan.start.first
+  pub published : (own_part view).published ≡ (own_part scan.start).published
+  pub started : IsPrefix scan.start.seen view.seen
+  pub marked : IsPrefix scan.mark.seen view.seen
+  pub joined : (list : List Publication) → Contains scan.start.joined list → Contains view.joined list
+  pub loads : (p : ℕ) → p < b.processes → (loads_of (own_part scan.start) p).times + loads_at_least scan.collects ≤ (loads_of (own_part view) p).times
+  pub collects : IfSome scan.collects (AreCollects b scan)

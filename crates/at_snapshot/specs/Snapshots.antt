@@ -1,0 +1,32 @@
+-- Snapshots: fronts of what a seat has seen that begin with all that it had seen.
+use Rattle.std.specs.Prelude.{ℕ, ◌+◌, ◌*◌, ◌<◌, ◌≤◌, List, Contains}
+use Rattle.at_ledger.specs.Book.{BookTerms}
+use Rattle.at_board.specs.declared.publication.Publication.{Publication}
+use Rattle.at_board.specs.declared.view.View.{View}
+use Rattle.at_board.specs.Fresh.{IsFresh}
+use Rattle.at_board.specs.Fronts.{IsFront, prefix_of}
+use Rattle.at_board.specs.Publications.{IsPrefix}
+use Rattle.at_board.specs.RecordWords.{lists_of}
+use Rattle.at_board.specs.Views.{loads_of, own_part}
+use Rattle.at_snapshot.specs.declared.scan.Turn.{Turn}
+use Rattle.at_snapshot.specs.declared.scan.Turn.TheVariants.{Clean, Borrowed, Again}
+
+-- the counts are a front of what the seat has seen now, whose prefix begins with all that it had seen before, and are fresh
+pub record IsSnapshot (b : BookTerms) (before after : View) (counts : List ℕ) : Type 0 where
+  pub front : IsFront b.processes counts after.seen
+  pub begins : (list : List Publication) → Contains (lists_of before) list → IsPrefix list (prefix_of counts after.seen)
+  pub fresh : IsFresh b before after counts
+
+-- what holds of the counts of an answer
+abbrev pub OnCounts : Turn → (List ℕ → Type 0) → Type 0
+OnCounts (Clean counts) holds = holds counts
+OnCounts (Borrowed counts) holds = holds counts
+OnCounts Again holds = Unit {0}
+
+-- each length was loaded as often at most
+abbrev pub HasCollected : BookTerms → View → View → ℕ → Type 0
+HasCollected b before after collects = (p : ℕ) → p < b.processes → (loads_of (own_part after) p).times ≤ (loads_of (own_part before) p).times + collects
+
+-- the most steps of a snapshot of n processes
+abbrev pub snapshot_steps : ℕ → ℕ
+snapshot_steps n = n * n + 2 * n

@@ -1,0 +1,15 @@
+//! Atomic snapshots of a board: the counts of one prefix of its list, by loads of lengths alone.
+//!
+//! A collect loads each process's length once. Two equal collects in a row are the counts of what the seat had seen between them.
+//! Where they differ, some process published; one that published twice since the first collect took a snapshot of its own in
+//! that time, and the view of its last record serves.
+#![tactic(auto)]
+
+mod collects;
+mod scan;
+#[cfg(test)]
+mod scan_tests;
+mod snapshots;
+
+pub use crate::scan::{Scan, Turn};
+pub use crate::snapshots::snapshot;

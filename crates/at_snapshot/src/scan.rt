@@ -1,0 +1,105 @@
+//! Scans, made turn by turn.
+
+ghost use Rattle.std.specs.Prelude.{◌≡◌, ◌+◌};
+ghost use Rattle.at_ledger.specs.Book.{BookTerms};
+ghost use Rattle.at_board.specs.SeatView.{IsOf};
+ghost use Rattle.at_snapshot.specs.Collected.{IsCollect, collect_of};
+ghost use Rattle.at_snapshot.specs.Scans.{IsScanOf, scan_after, starting_scan};
+ghost use Rattle.at_snapshot.specs.Snapshots.{IsSnapshot, OnCounts};
+ghost use Rattle.at_snapshot.specs.Turns.{IsAnswer, view_steps};
+
+use crate::collects::{Collects, collect};
+use at_base::Counts;
+use at_board::{Board, BoardSeat, Steps};
+use std::marker::Model;
+use std::snapshot::Snapshot;
+use std::sync::ledger::Ledger;
+
+/// What a turn of a scan answers.
+#[derive(Drop)]
+pub enum Turn {
+    /// The collect equals the one before it, and these are its counts.
+    Clean(Counts),
+    /// The view of the last record of a process that published twice.
+    Borrowed(Counts),
+    /// The scan isn't done.
+    Again,
+}
+
+/// A snapshot in the making, of one seat, which publishes nothing meanwhile.
+#[derive(Drop)]
+pub struct Scan {
+    pub(crate) collects: Option<Collects>,
+    /// The seat at the start, for contracts alone.
+    pub(crate) start: Snapshot<BoardSeat>,
+    /// The seat at the end of the last collect.
+    pub(crate) mark: Snapshot<BoardSeat>,
+}
+
+impl Model for Scan {
+    ghost use Rattle.at_snapshot.specs.Scans.{ScanView};
+
+    ghost Value = { ScanView };
+
+    ghost view = { λ s. record { start = s.start.value.view; mark = s.mark.value.view; collects = s.collects } };
+}
+
+impl Scan {
+    /// Starts a scan of a seat, in no step.
+    pub fn start(seat: &BoardSeat) -> Scan
+        ensures start { result ≡ starting_scan seat.now.view }
+        ensures scan { (b : BookTerms) → IsScanOf b result seat.now.view }
+    {
+        Scan {
+            collects: None,
+            start: Snapshot::of(seat),
+            mark: Snapshot::of(seat),
+        }
+    }
+
+    /// Makes one collect and compares it with those before: `n` steps of `n` processes, and `n` more where it borrows.
+    pub fn turn<L: Ledger, X: Ledger>(
+        &mut self,
+        board: &Board,
+        seat: &mut BoardSeat,
+        steps: &mut Steps<L>,
+        exchanges: &mut Steps<X>,
+    ) -> Turn
+        requires board { IsOf seat.old board.now }
+        requires scan { IsScanOf board.now.book self.old seat.old.view }
+        ensures collect { IsCollect board.now.book seat.old.view seat.new.view }
+        ensures after { self.new ≡ scan_after self.old seat.new.view }
+        ensures scan { IsScanOf board.now.book self.new seat.new.view }
+        ensures answer { IsAnswer self.old seat.new.view result }
+        ensures snapshot { OnCounts result (IsSnapshot board.now.book self.old.start seat.new.view) }
+        ensures board { IsOf seat.new board.now }
+        ensures steps { steps.new ≡ steps.old + board.now.book.processes + view_steps board.now.book.processes result }
+        ensures exchanges { exchanges.new ≡ exchanges.old }
+    {
+        let _process = seat.process();
+        let now = collect(board, seat, steps, exchanges);
+        match self.keep(&now, seat) {
+            None => Turn::Again,
+            Some(before) => before.compare(board, seat, &now, steps, exchanges),
+        }
+    }
+
+    /// Takes a collect of the seat for the last one, and gives the collects before it.
+    fn keep(&mut self, now: &Counts, seat: &BoardSeat) -> Option<Collects>
+        requires { now.now ≡ collect_of seat.now.view }
+        ensures after { self.new ≡ scan_after self.old seat.now.view }
+        ensures before { result ≡ self.old.collects }
+    {
+        let before = self.collects.take();
+        let first = match &before {
+            None => now.copy(),
+            Some(collects) => collects.first.copy(),
+        };
+        self.collects = Some(Collects {
+            first,
+            last: now.copy(),
+        });
+        self.mark = Snapshot::of(seat);
+        before
+    }
+}

@@ -1,0 +1,37 @@
+//! Whole snapshots.
+
+ghost use Rattle.std.specs.Prelude.{◌≡◌, ◌+◌, ◌≤◌};
+ghost use Rattle.at_board.specs.SeatView.{IsOf};
+ghost use Rattle.at_snapshot.specs.Collected.{HasLoaded};
+ghost use Rattle.at_snapshot.specs.Snapshots.{HasCollected, IsSnapshot, snapshot_steps};
+
+use crate::scan::{Scan, Turn};
+use at_base::Counts;
+use at_board::{Board, BoardSeat, Steps};
+use std::sync::ledger::Ledger;
+
+/// The counts of one prefix of the board's list, which begins with all that the seat had seen. It takes at most `n + 1` collects
+/// of `n` processes, and no memory.
+pub fn snapshot<L: Ledger, X: Ledger>(
+    board: &Board,
+    seat: &mut BoardSeat,
+    steps: &mut Steps<L>,
+    exchanges: &mut Steps<X>,
+) -> Counts
+    requires { IsOf seat.old board.now }
+    ensures snapshot { IsSnapshot board.now.book seat.old.view seat.new.view result }
+    ensures loads { HasLoaded board.now.book seat.old.view seat.new.view }
+    ensures collects { HasCollected board.now.book seat.old.view seat.new.view (board.now.book.processes + 1) }
+    ensures board { IsOf seat.new board.now }
+    ensures steps { steps.new ≤ steps.old + snapshot_steps board.now.book.processes }
+    ensures exchanges { exchanges.new ≡ exchanges.old }
+{
+    let _process = seat.process();
+    let mut scan = Scan::start(seat);
+    loop {
+        match scan.turn(board, seat, steps, exchanges) {
+            Turn::Clean(counts) | Turn::Borrowed(counts) => return counts,
+            Turn::Again => {}
+        }
+    }
+}
