@@ -1,29 +1,20 @@
 -- The lines of one key: they are answered as they say.
-use Rattle.std.proofs.Common.{◌≡◌, ℕ, ◌+◌, ◌-◌, ◌*◌, ◌<◌, ◌≤◌, ◌⊎◌, ◌==◌, zero, suc, Bool, true, false, cond, List, [], ◌∷◌, ◌++◌, length, map, filter, get_or, take, refl, sym, ap, subst, append-nil, ◌∙◌, arith, inl, inr}
-use Rattle.std.specs.List.{flat_map, range_with_len}
-use Rattle.std.proofs.lemmas.Bool.{cases_Bool, cases_eq, cases_lt}
-use Rattle.at_ledger.specs.Account.{is_single}
+use Rattle.std.proofs.Common.{◌≡◌, ℕ, ◌+◌, ◌-◌, ◌*◌, ◌<◌, ◌≤◌, zero, suc, Bool, true, false, cond, List, [], length, map, take, refl, sym, ap, subst, ◌∙◌, arith, inl, inr}
+use Rattle.std.specs.List.{range_with_len}
 use Rattle.at_ledger.specs.Book.{BookTerms}
-use Rattle.at_ledger.specs.Call.{TargetPair}
-use Rattle.at_ledger.specs.declared.call.Call.{Call}
-use Rattle.at_ledger.specs.declared.call.Line.{Line}
 use Rattle.at_ledger.specs.declared.call.Reply.TheVariants.{Done, Short}
-use Rattle.at_board.specs.declared.publication.Publication.{Publication}
-use Rattle.at_log.specs.declared.receipt.At.{At}
-use Rattle.at_log.specs.declared.receipt.At.TheVariants.{Front, Own, Round, Previous}
-use Rattle.at_log.specs.declared.receipt.Receipt.{Receipt}
 use Rattle.at_log.specs.ClosingTerms.{ClosingTerms, receipts_of}
 use Rattle.at_log.specs.Coherent.{Coherent}
 use Rattle.at_log.specs.JournalOrder.{journal_order, line_key, process_lines_at}
 use Rattle.at_log.specs.Placed.{IsPlaced, read, not_owner, full, short, done, round}
 use Rattle.at_log.specs.Receipts.{is_success, receipt_at}
-use Rattle.at_log.specs.Told.{first_account, key_at, own_position, round_position}
+use Rattle.at_log.specs.Told.{round_position}
 use Rattle.at_journal.proofs.KeepLaws.{Keeps, with_count, with_count-other, with_count-own}
 use Rattle.at_journal.proofs.KeyCases.{key_at-even, key_at-odd, line_key-receipt, line_key-sorted, previous_key}
 use Rattle.at_journal.proofs.LineKeys.{filter-key, reach, reach-above, reach-below, reach-le, reach_mono}
-use Rattle.at_journal.proofs.LineRuns.{IsCounted, Ran, Ran-append, Ran-cons, Ran-nil, Ran-still, Ran-weaken, line}
+use Rattle.at_journal.proofs.LineRuns.{IsCounted, Ran, Ran-cons, Ran-still, Ran-weaken, line}
 use Rattle.at_journal.proofs.MoveLaws.{own-answered, round-answered}
-use Rattle.at_journal.proofs.SameMove.{IsMove, IsMove-own, IsMove-process, IsMove-round, IsMove-same, first_account-payout, moves_at}
+use Rattle.at_journal.proofs.SameMove.{IsMove, IsMove-own, IsMove-round, IsMove-same, first_account-payout, moves_at}
 use Rattle.at_journal.proofs.StillLaws.{Answered, still_at}
 
 -- how many lines of a process have smaller keys

@@ -1,20 +1,19 @@
 -- The journal of a coherent closing is a legal run, which ends with the balances of all publications.
-use Rattle.std.proofs.Common.{◌≡◌, ℕ, ◌+◌, ◌-◌, ◌*◌, ◌<◌, ◌≤◌, zero, suc, List, [], ◌∷◌, ◌++◌, length, map, get_or, take, replicate, sum, refl, sym, ap, subst, append-nil, append_assoc, ◌∙◌, arith, inl, inr}
-use Rattle.std.specs.List.{Contains, flat_map, range_with_len}
+use Rattle.std.proofs.Common.{◌≡◌, ℕ, ◌+◌, ◌*◌, ◌<◌, ◌≤◌, zero, suc, List, [], ◌∷◌, ◌++◌, length, map, replicate, sum, refl, sym, ap, subst, append-nil, append_assoc, ◌∙◌, arith, inl, inr}
+use Rattle.std.specs.List.{flat_map, range_with_len}
 use Rattle.std.proofs.lemmas.Bool.{cases_lt}
 use Rattle.std.proofs.lemmas.Grind.{flat_map-append}
 use Rattle.std.proofs.lemmas.List.{ext_get_or, length-map, take_all}
-use Rattle.std.proofs.lemmas.List.Elements.{Contains-append_right, Contains-push}
 use Rattle.at_ledger.specs.Book.{BookTerms, IsBegun}
-use Rattle.at_ledger.specs.Run.{Legal, asked_in, last_state, run_from}
+use Rattle.at_ledger.specs.Run.{Legal, last_state}
 use Rattle.at_ledger.specs.State.{asked_place, balance_of}
 use Rattle.at_ledger.specs.declared.call.Line.{Line}
 use Rattle.at_board.specs.Balances.{balance_after}
-use Rattle.at_board.specs.Publications.{ArePublishedBy, count_of, counts}
+use Rattle.at_board.specs.Publications.{counts}
 use Rattle.at_board.proofs.CountLaws.{get_or-counts, length-counts, sum-counts}
-use Rattle.at_board.proofs.FollowLaws.{BalancesFollow, Follows-nil, ledger}
+use Rattle.at_board.proofs.FollowLaws.{Follows-nil}
 use Rattle.at_board.proofs.OpeningLaws.{get_or-zeros}
-use Rattle.at_log.specs.ClosingTerms.{ClosingTerms, log_lengths, log_of, log_published, published_by, receipts_of}
+use Rattle.at_log.specs.ClosingTerms.{ClosingTerms, log_lengths, log_of, published_by, receipts_of}
 use Rattle.at_log.specs.Coherent.{Coherent}
 use Rattle.at_log.specs.JournalOrder.{journal_lines, journal_order, line_key, process_lines_at}
 use Rattle.at_log.proofs.BucketLaws.{range_with_len-more}

@@ -1,29 +1,24 @@
 -- No line's key is above twice the number of publications.
-use Rattle.std.proofs.Common.{◌≡◌, ℕ, ◌+◌, ◌*◌, ◌<◌, ◌≤◌, ◌==◌, ◌&&◌, zero, suc, Bool, true, false, cond, List, [], ◌∷◌, length, get_or, take, refl, sym, ap, subst, ◌∙◌, arith, inl, inr}
-use Rattle.std.specs.List.{Contains}
+use Rattle.std.proofs.Common.{◌≡◌, ℕ, ◌+◌, ◌*◌, ◌<◌, ◌≤◌, ◌&&◌, zero, suc, true, cond, List, length, take, refl, ap, subst, ◌∙◌, arith, inl, inr}
 use Rattle.std.proofs.lemmas.Bool.{cases_Bool, eq-eqb}
 use Rattle.std.proofs.lemmas.List.{get_or_default}
 use Rattle.at_ledger.specs.Book.{BookTerms}
-use Rattle.at_ledger.specs.declared.call.Reply.TheVariants.{Done, Short}
 use Rattle.at_board.specs.declared.publication.Publication.{Publication}
 use Rattle.at_board.specs.BoardState.{publication_at}
 use Rattle.at_board.specs.Entries.{is_round}
 use Rattle.at_board.specs.Fronts.{IsFront, place, prefix_of}
 use Rattle.at_board.specs.Publications.{ArePublishedBy, no_publication}
 use Rattle.at_board.proofs.FrontLaws.{place-IsFront-le}
-use Rattle.at_log.specs.declared.receipt.At.{At}
-use Rattle.at_log.specs.declared.receipt.Receipt.{Receipt}
 use Rattle.at_log.specs.ClosingTerms.{ClosingTerms, receipts_of}
 use Rattle.at_log.specs.Coherent.{Coherent}
 use Rattle.at_log.specs.JournalOrder.{journal_order, line_key}
 use Rattle.at_log.specs.Placed.{IsPlaced, read, not_owner, full, short, done, round}
 use Rattle.at_log.specs.Receipts.{is_success, receipt_at}
-use Rattle.at_log.specs.Told.{first_account, key_at, key_of, own_position, round_position}
+use Rattle.at_log.specs.Told.{first_account, key_at, key_of, round_position}
 use Rattle.at_log.proofs.OrderLaws.{ArePublishedBy-journal_order}
 use Rattle.at_log.proofs.OrderRounds.{IsCoherentEntry-journal_order, place-view-journal_order, round_entry}
-use Rattle.at_journal.proofs.KeyCases.{line_key-receipt, previous_key}
+use Rattle.at_journal.proofs.KeyCases.{line_key-receipt}
 use Rattle.at_journal.proofs.PositionLaws.{own_position-at, round_position-at}
-use Rattle.at_journal.proofs.ReplyLaws.{same_payout}
 use Rattle.at_journal.proofs.SameMove.{first_account-payout}
 
 -- a front of the order is of some of its publications

@@ -1,11 +1,9 @@
 -- The lines of a closing, key by key: they are answered as they say.
-use Rattle.std.proofs.Common.{◌≡◌, ℕ, ◌+◌, ◌-◌, ◌*◌, ◌<◌, ◌≤◌, ◌⊎◌, ◌==◌, ◌&&◌, zero, suc, Bool, true, false, cond, List, [], ◌∷◌, ◌++◌, length, map, get_or, take, refl, sym, ap, subst, append-nil, ◌∙◌, arith, inl, inr}
+use Rattle.std.proofs.Common.{◌≡◌, ℕ, ◌+◌, ◌*◌, ◌<◌, ◌≤◌, ◌⊎◌, ◌==◌, ◌&&◌, zero, suc, Bool, false, cond, List, [], ◌∷◌, ◌++◌, length, take, refl, sym, ap, subst, append-nil, ◌∙◌, arith, inl, inr}
 use Rattle.std.specs.List.{flat_map, range_with_len}
 use Rattle.std.proofs.lemmas.Bool.{cases_Bool, cases_eq, cases_lt, ltb-false}
-use Rattle.at_base.specs.declared.decision.Decision.{Decision}
 use Rattle.at_ledger.specs.Book.{BookTerms, IsBegun}
-use Rattle.at_ledger.specs.Call.{TargetPair, amount_of}
-use Rattle.at_ledger.specs.declared.call.Line.{Line}
+use Rattle.at_ledger.specs.Call.{amount_of}
 use Rattle.at_board.proofs.FollowLaws.{BalancesFollow, MovesSame}
 use Rattle.at_board.proofs.PrefixRuns.{MovesSame-refused, MovesSame-repeat}
 use Rattle.at_board.proofs.RoundLaws.{IsNextAtMost, repeats-round}

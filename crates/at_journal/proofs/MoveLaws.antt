@@ -1,23 +1,21 @@
 -- Lines that move: the ledger answers them as their receipts say, and has then the balances of one publication more.
-use Rattle.std.proofs.Common.{◌≡◌, ℕ, ◌+◌, ◌-◌, ◌*◌, ◌<◌, ◌≤◌, ◌==◌, ◌&&◌, zero, suc, Bool, true, false, cond, List, [], ◌∷◌, ◌++◌, length, get_or, set, take, refl, sym, ap, subst, ◌∙◌, arith, inl, inr}
-use Rattle.std.specs.Prelude.{Option, Some, None}
-use Rattle.std.specs.List.{Contains, list_any}
-use Rattle.std.proofs.lemmas.Bool.{cases_Bool, cases_eq, cases_lt, eq-eqb, eqb-true, lt-ltb, ltb-false, ne_eqb}
+use Rattle.std.proofs.Common.{◌≡◌, ℕ, ◌+◌, ◌<◌, ◌≤◌, ◌==◌, ◌&&◌, zero, Bool, true, false, cond, List, length, get_or, set, take, refl, sym, ap, subst, ◌∙◌, arith, inl, inr}
+use Rattle.std.specs.List.{list_any}
+use Rattle.std.proofs.lemmas.Bool.{cases_Bool, cases_eq, eq-eqb, ltb-false, ne_eqb}
 use Rattle.std.proofs.lemmas.List.{get_or-set_same, get_or-set_other, get_or-take, get_or_default, length-set, length-take-le}
 use Rattle.std.proofs.lemmas.List.Folds.{Any-from_list_any}
 use Rattle.at_base.specs.declared.decision.Decision.{Decision}
 use Rattle.at_ledger.specs.Account.{is_shared, is_single}
-use Rattle.at_ledger.specs.Book.{BookTerms, IsBegun, account_of, is_owner}
+use Rattle.at_ledger.specs.Book.{BookTerms, account_of}
 use Rattle.at_ledger.specs.Call.{AreTargetsOn, TargetPair, amount_of}
-use Rattle.at_ledger.specs.State.{LedgerState, Step, asked_place, balance_of, step}
+use Rattle.at_ledger.specs.State.{LedgerState, Step, asked_place}
 use Rattle.at_ledger.specs.declared.call.Reply.TheVariants.{Done, Short}
 use Rattle.at_board.proofs.CountLaws.{get_or-publications_of}
 use Rattle.at_board.proofs.CoverLaws.{CoversEntry, CoversEntry-HasRuns}
 use Rattle.at_board.proofs.FollowLaws.{BalancesFollow, BalancesFollow-push, MovesNow, balances_after, ledger}
 use Rattle.at_board.proofs.PayLaws.{pay-done}
 use Rattle.at_board.proofs.PrefixRuns.{is_shared-single}
-use Rattle.at_board.proofs.RoundLaws.{IsNextAtMost, one_if, published, repeats-own, repeats-round}
-use Rattle.at_board.proofs.RunRules.{HasRuns}
+use Rattle.at_board.proofs.RoundLaws.{IsNextAtMost, one_if, repeats-own, repeats-round}
 use Rattle.at_board.proofs.SoundRounds.{take-publication_at}
 use Rattle.at_board.specs.declared.publication.Entry.{Entry}
 use Rattle.at_board.specs.declared.publication.Publication.{Publication}
@@ -28,21 +26,20 @@ use Rattle.at_board.specs.Fronts.{prefix_of}
 use Rattle.at_board.specs.Publications.{no_publication, publications_of}
 use Rattle.at_board.specs.Rounds.{firsts, repeats, rounds}
 use Rattle.at_board.specs.Sound.{IsSoundEntry}
-use Rattle.at_log.specs.declared.receipt.Receipt.{Receipt}
 use Rattle.at_log.specs.ClosingTerms.{ClosingTerms, receipts_of}
 use Rattle.at_log.specs.Coherent.{Coherent}
 use Rattle.at_log.specs.JournalOrder.{journal_order}
 use Rattle.at_log.specs.Placed.{IsAtOwn, IsAtRound, MayPay}
-use Rattle.at_log.specs.Receipts.{is_at_own, is_at_round, is_payout_from, is_success, receipt_at}
+use Rattle.at_log.specs.Receipts.{is_at_own, is_at_round, is_payout_from, receipt_at}
 use Rattle.at_log.specs.Told.{own_position, round_position}
 use Rattle.at_log.proofs.FirstLaws.{is_round-true}
 use Rattle.at_log.proofs.OrderHasRuns.{HasRuns-journal_order}
 use Rattle.at_log.proofs.OrderRounds.{AreFirsts-take, IsCoherentEntry-journal_order, IsInitial-journal_order, IsNextAtMost-journal_order, round_entry}
 use Rattle.at_log.proofs.OrderRuns.{order_state}
-use Rattle.at_journal.proofs.KeepLaws.{Keeps, Keeps-next, is_full-Keeps, with_count}
+use Rattle.at_journal.proofs.KeepLaws.{Keeps, Keeps-next, is_full-Keeps}
 use Rattle.at_journal.proofs.PositionLaws.{IsOwnAt, IsRoundAt, own_position-at, round_position-at}
 use Rattle.at_journal.proofs.ReplyLaws.{is_payout_from-payout, step-payout}
-use Rattle.at_journal.proofs.StillLaws.{Answered, asked-set, owner_within}
+use Rattle.at_journal.proofs.StillLaws.{Answered, asked-set}
 
 no_ask : (s t : Bool) → t ≡ false → one_if (s && t) ≡ 0
 no_ask true t is = ap one_if is

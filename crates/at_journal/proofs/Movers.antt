@@ -1,10 +1,10 @@
 -- Each publication of the order that moves has a line that moves it.
-use Rattle.std.proofs.Common.{◌≡◌, ℕ, ◌+◌, ◌-◌, ◌*◌, ◌<◌, ◌≤◌, ◌==◌, ◌&&◌, zero, suc, Bool, true, false, cond, List, [], ◌∷◌, length, get_or, take, refl, sym, ap, subst, ◌∙◌, arith, inl, inr}
-use Rattle.std.specs.Prelude.{Option, Some, None}
+use Rattle.std.proofs.Common.{◌≡◌, ℕ, ◌+◌, ◌*◌, ◌<◌, ◌==◌, ◌&&◌, Bool, true, false, cond, List, length, get_or, take, refl, sym, ap, subst, ◌∙◌, arith, inl, inr}
+use Rattle.std.specs.Prelude.{Some}
 use Rattle.std.specs.List.{count_by, list_any}
-use Rattle.std.proofs.lemmas.Bool.{cases_Bool, cases_lt, eq-eqb, eqb-true}
+use Rattle.std.proofs.lemmas.Bool.{cases_lt, eq-eqb, eqb-true}
 use Rattle.std.proofs.lemmas.List.Folds.{list_any_at}
-use Rattle.std.proofs.lemmas.List.{get_or-take, get_or_default, length-take-le, take_all}
+use Rattle.std.proofs.lemmas.List.{get_or-take, length-take-le, take_all}
 use Rattle.at_base.specs.declared.decision.Decision.{Decision}
 use Rattle.at_ledger.specs.Book.{BookTerms, IsBegun, account_of}
 use Rattle.at_ledger.specs.Call.{TargetPair}
@@ -17,27 +17,25 @@ use Rattle.at_ledger.specs.Account.{slot_in}
 use Rattle.at_board.specs.Fronts.{prefix_of}
 use Rattle.at_board.specs.Publications.{count_of, no_publication, publications_of}
 use Rattle.at_board.specs.Rounds.{firsts, owns_of, repeats}
-use Rattle.at_board.specs.Views.{HasSlot}
-use Rattle.at_board.proofs.CountLaws.{count_of-take_mono, count_of-take_more_own, count_of-take-le, get_or-publications_of, publications_of-take}
+use Rattle.at_board.proofs.CountLaws.{count_of-take_mono, count_of-take_more_own, count_of-take-le, get_or-publications_of}
 use Rattle.at_board.proofs.PrefixRuns.{owner-slot}
 use Rattle.at_board.specs.Entries.{names}
-use Rattle.at_log.specs.declared.receipt.At.{At}
 use Rattle.at_log.specs.declared.receipt.Receipt.{Receipt}
 use Rattle.at_log.specs.ClosingTerms.{ClosingTerms, receipts_of}
 use Rattle.at_log.specs.Coherent.{Coherent}
 use Rattle.at_log.specs.JournalOrder.{journal_order, line_key}
 use Rattle.at_log.specs.Placed.{IsAtOwn, IsAtRound, IsPlaced, MayPay, read, not_owner, full, short, done, round}
 use Rattle.at_log.specs.Receipts.{asks_in, is_at_own, is_at_round, is_payout_from, is_success, owns_in, receipt_at}
-use Rattle.at_log.specs.Told.{first_account, key_at, key_of, own_position, round_position}
-use Rattle.at_log.proofs.FirstLaws.{AreFirsts, is_round-true}
+use Rattle.at_log.specs.Told.{first_account, key_at, own_position, round_position}
+use Rattle.at_log.proofs.FirstLaws.{is_round-true}
 use Rattle.at_log.proofs.OrderRounds.{AreFirsts-take, IsCoherentEntry-journal_order, IsFirst, IsFirst-journal_order, round_entry}
 use Rattle.at_log.proofs.OrderRuns.{named_before}
 use Rattle.at_log.proofs.ViewLaws.{HasView-journal_order}
-use Rattle.at_journal.proofs.CountingLaws.{IsPassing, IsPassing-from_count, count_by-filter_and, count_by-past, count_by-take_le, same_passing}
+use Rattle.at_journal.proofs.CountingLaws.{IsPassing-from_count, count_by-filter_and, count_by-past, same_passing}
 use Rattle.at_journal.proofs.KeepLaws.{no_receipt}
 use Rattle.at_journal.proofs.KeyCases.{line_key-receipt, previous_key}
 use Rattle.at_journal.proofs.MoveLaws.{IsNewRound}
-use Rattle.at_journal.proofs.PositionLaws.{IsOwnAt, IsRoundAt, own_position-at, round_position-at}
+use Rattle.at_journal.proofs.PositionLaws.{IsOwnAt, own_position-at, round_position-at}
 use Rattle.at_journal.proofs.ReplyLaws.{is_payout_from-payout}
 use Rattle.at_journal.proofs.SameMove.{first_account-payout}
 

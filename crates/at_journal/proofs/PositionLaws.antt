@@ -1,10 +1,10 @@
 -- Where the records that receipts name stand in a list.
-use Rattle.std.proofs.Common.{◌≡◌, ℕ, ◌+◌, ◌-◌, ◌<◌, ◌≤◌, ◌==◌, zero, suc, Bool, true, false, cond, List, [], ◌∷◌, ◌++◌, length, get_or, take, refl, sym, ap, subst, ◌∙◌, arith, inl, inr}
+use Rattle.std.proofs.Common.{◌≡◌, ℕ, ◌+◌, ◌-◌, ◌<◌, ◌==◌, zero, suc, true, false, cond, List, [], ◌∷◌, length, take, sym, ap, subst, ◌∙◌, arith, inl, inr}
 use Rattle.std.proofs.lemmas.Bool.{cases_Bool, cases_eq, eq-eqb, ne_eqb}
 use Rattle.at_board.specs.declared.publication.Publication.{Publication}
 use Rattle.at_board.specs.BoardState.{publication_at}
 use Rattle.at_board.specs.Entries.{is_round}
-use Rattle.at_board.specs.Publications.{count_of, no_publication, publications_of}
+use Rattle.at_board.specs.Publications.{count_of}
 use Rattle.at_board.proofs.CountLaws.{publications_of-nil, publications_of-other, publications_of-own}
 use Rattle.at_log.specs.Told.{own_position, round_position}
 

@@ -1,11 +1,11 @@
 -- Which line moves a publication of the order: no two do.
-use Rattle.std.proofs.Common.{◌≡◌, ℕ, ◌+◌, ◌*◌, ◌<◌, ◌≤◌, ◌==◌, ◌&&◌, zero, suc, Bool, true, false, cond, List, [], ◌∷◌, length, get_or, take, refl, sym, ap, subst, ◌∙◌, arith, inl, inr}
-use Rattle.std.specs.Prelude.{Option, Some, None}
+use Rattle.std.proofs.Common.{◌≡◌, ℕ, ◌<◌, ◌==◌, ◌&&◌, Bool, true, List, [], ◌∷◌, length, get_or, take, refl, sym, ap, subst, ◌∙◌, arith}
+use Rattle.std.specs.Prelude.{Some}
 use Rattle.std.specs.List.{count_by}
 use Rattle.std.proofs.lemmas.Bool.{eq-eqb, eqb-true}
 use Rattle.std.proofs.lemmas.List.Quantifiers.{position-Some}
 use Rattle.at_base.specs.declared.decision.Decision.{Decision}
-use Rattle.at_ledger.specs.Account.{AccountTerms, is_shared, is_single, slot_in}
+use Rattle.at_ledger.specs.Account.{AccountTerms, slot_in}
 use Rattle.at_ledger.specs.Book.{BookTerms, account_of}
 use Rattle.at_ledger.specs.Call.{TargetPair}
 use Rattle.at_ledger.specs.declared.call.Call.{Call}
@@ -14,8 +14,7 @@ use Rattle.at_board.specs.declared.publication.Entry.{Entry}
 use Rattle.at_board.specs.declared.publication.Publication.{Publication}
 use Rattle.at_board.specs.BoardState.{publication_at}
 use Rattle.at_board.specs.Entries.{is_own, is_round}
-use Rattle.at_board.specs.Fronts.{place, prefix_of}
-use Rattle.at_board.specs.Publications.{count_of, publications_of}
+use Rattle.at_board.specs.Publications.{publications_of}
 use Rattle.at_board.proofs.CountLaws.{publications_of-take}
 use Rattle.at_log.specs.declared.receipt.At.{At}
 use Rattle.at_log.specs.declared.receipt.At.TheVariants.{Front, Own, Round, Previous}
@@ -23,12 +22,12 @@ use Rattle.at_log.specs.declared.receipt.Receipt.{Receipt}
 use Rattle.at_log.specs.ClosingTerms.{ClosingTerms, receipts_of}
 use Rattle.at_log.specs.Coherent.{Coherent}
 use Rattle.at_log.specs.JournalOrder.{journal_order}
-use Rattle.at_log.specs.Placed.{IsAtOwn, IsAtRound, IsPlaced, MayPay}
-use Rattle.at_log.specs.Receipts.{asks_in, is_at_own, is_at_round, is_payout_from, is_success, owns_in, payout_of, receipt_at}
-use Rattle.at_log.specs.Told.{first_account, key_at, own_position, round_position}
+use Rattle.at_log.specs.Placed.{IsAtOwn, IsAtRound, MayPay}
+use Rattle.at_log.specs.Receipts.{asks_in, is_at_own, is_at_round, is_payout_from, owns_in, payout_of, receipt_at}
+use Rattle.at_log.specs.Told.{first_account, own_position, round_position}
 use Rattle.at_journal.proofs.CountingLaws.{count_by-past}
 use Rattle.at_journal.proofs.KeepLaws.{no_receipt}
-use Rattle.at_journal.proofs.MoveLaws.{IsNewRound, IsNewRound-first, own_entry}
+use Rattle.at_journal.proofs.MoveLaws.{IsNewRound-first, own_entry}
 use Rattle.at_journal.proofs.PositionLaws.{IsOwnAt, IsRoundAt, own_position-at, round_position-at}
 use Rattle.at_journal.proofs.ReplyLaws.{is_payout_from-payout, same_payout}
 

@@ -1,39 +1,35 @@
 -- Lines that move nothing: the ledger answers them as their receipts say, where the balances are those of their place.
-use Rattle.std.proofs.Common.{◌≡◌, ℕ, ◌+◌, ◌-◌, ◌*◌, ◌<◌, ◌≤◌, ◌==◌, ◌&&◌, zero, suc, Bool, true, false, cond, List, [], ◌∷◌, length, get_or, set, take, refl, sym, ap, subst, ◌∙◌, arith, inl, inr}
-use Rattle.std.specs.Prelude.{Option, Some, None}
-use Rattle.std.specs.List.{All, sum_by}
+use Rattle.std.proofs.Common.{◌≡◌, ℕ, ◌+◌, ◌*◌, ◌<◌, ◌≤◌, ◌==◌, ◌&&◌, zero, suc, Bool, true, false, cond, List, [], ◌∷◌, length, get_or, set, take, refl, sym, ap, subst, ◌∙◌, arith, inl, inr}
+use Rattle.std.specs.List.{sum_by}
 use Rattle.std.proofs.lemmas.Bool.{cases_Bool, cases_eq, cases_lt, eq-eqb, ne_eqb}
 use Rattle.std.proofs.lemmas.List.{get_or-set_same, get_or-set_other, get_or_default, length-set, take_all}
 use Rattle.std.proofs.Math.ListN.{get_or-eq_default}
 use Rattle.std.proofs.lemmas.List.Sums.{sum_by-cons}
-use Rattle.at_base.specs.declared.decision.Decision.{Decision}
 use Rattle.std.proofs.lemmas.Nat.{mul-add-lt, same_from_place}
-use Rattle.at_ledger.specs.Account.{AccountTerms, is_owner_in, is_shared, is_single, no_account}
-use Rattle.at_ledger.specs.Book.{BookTerms, IsBegun, account_of, is_owner}
+use Rattle.at_ledger.specs.Account.{AccountTerms, is_owner_in, no_account}
+use Rattle.at_ledger.specs.Book.{BookTerms, account_of, is_owner}
 use Rattle.at_ledger.specs.Call.{AreTargetsOn, TargetPair, amount_of}
-use Rattle.at_ledger.specs.State.{LedgerState, Step, asked_place, balance_of, pay, step}
-use Rattle.at_ledger.specs.declared.call.Reply.{Reply}
-use Rattle.at_ledger.specs.declared.call.Reply.TheVariants.{Balance, Done, Full, NotOwner, Short}
-use Rattle.at_board.proofs.FollowLaws.{BalancesFollow, ledger}
+use Rattle.at_ledger.specs.State.{LedgerState, Step, asked_place, step}
+use Rattle.at_ledger.specs.declared.call.Reply.TheVariants.{Balance, Done, Short}
+use Rattle.at_board.proofs.FollowLaws.{ledger}
 use Rattle.at_board.proofs.PrefixRuns.{is_shared-single}
 use Rattle.at_board.proofs.RoundLaws.{one_if, sum_by-firsts-take_mono}
 use Rattle.at_board.specs.declared.publication.Entry.{Entry}
 use Rattle.at_board.specs.Publications.{no_publication}
-use Rattle.at_board.proofs.RunRules.{HasRuns, IsRunDecision}
+use Rattle.at_board.proofs.RunRules.{IsRunDecision}
 use Rattle.at_board.specs.declared.publication.Publication.{Publication}
 use Rattle.at_board.specs.declared.request.Request.{Request}
 use Rattle.at_board.specs.Balances.{IsCovered, amount_for, balance_after, credit_of, credits}
-use Rattle.at_board.specs.BoardState.{decision_at, publication_at, request_at}
+use Rattle.at_board.specs.BoardState.{publication_at, request_at}
 use Rattle.at_board.specs.Fronts.{place, prefix_of}
 use Rattle.at_board.specs.Rounds.{firsts}
 use Rattle.at_log.specs.declared.receipt.At.{At}
 use Rattle.at_log.specs.declared.receipt.At.TheVariants.{Front, Own, Round, Previous}
-use Rattle.at_log.specs.declared.receipt.Receipt.{Receipt}
 use Rattle.at_log.specs.ClosingTerms.{ClosingTerms, receipts_of}
 use Rattle.at_log.specs.Coherent.{Coherent, IsCoherentEntry}
 use Rattle.at_log.proofs.OrderRounds.{AreFirsts-journal_order, IsCoherentEntry-journal_order}
 use Rattle.at_log.specs.JournalOrder.{journal_order}
-use Rattle.at_log.specs.Placed.{IsPlaced, IsAtRound, read, not_owner, full, short, done, round}
+use Rattle.at_log.specs.Placed.{IsPlaced, read, not_owner, full, short, done, round}
 use Rattle.at_log.specs.Receipts.{is_at_own, is_at_round, is_payout_from, is_success, receipt_at}
 use Rattle.at_log.proofs.OrderHasRuns.{HasRuns-journal_order, IsInState-record}
 use Rattle.at_log.proofs.OrderRuns.{order_state}

@@ -1,9 +1,9 @@
 -- The journal has each receipt once, and those of a process in the order of its calls.
-use Rattle.std.proofs.Common.{◌≡◌, ℕ, ◌+◌, ◌*◌, ◌<◌, ◌≤◌, ◌==◌, zero, suc, Bool, true, false, cond, List, [], ◌∷◌, ◌++◌, length, map, filter, get_or, sum, refl, sym, ap, subst, append-nil, ◌∙◌, arith, inl, inr}
+use Rattle.std.proofs.Common.{◌≡◌, ℕ, ◌+◌, ◌*◌, ◌<◌, ◌==◌, Bool, cond, List, [], ◌∷◌, ◌++◌, length, map, filter, get_or, sum, refl, sym, ap, ◌∙◌, arith}
 use Rattle.std.specs.Prelude.{nat_lt}
 use Rattle.std.specs.List.{All, flat_map, range_with_len}
 use Rattle.std.specs.List.Sorted.{IsNonDecreasingBy}
-use Rattle.std.proofs.lemmas.Bool.{cases_eq, eq-eqb, lt-ltb, ne_eqb}
+use Rattle.std.proofs.lemmas.Bool.{eq-eqb, lt-ltb, ne_eqb}
 use Rattle.std.proofs.lemmas.List.{ext_get_or, get_or-map, length-map}
 use Rattle.std.proofs.lemmas.List.Elements.{filter-append}
 use Rattle.std.proofs.lemmas.List.FromFn.{get_or-map-range_with_len, get_or-range_with_len, length-map-range_with_len, length-range_with_len}
@@ -11,11 +11,9 @@ use Rattle.at_ledger.specs.Book.{BookTerms}
 use Rattle.at_ledger.specs.Run.{Whole, lines_of}
 use Rattle.at_ledger.specs.declared.call.Call.{Call}
 use Rattle.at_ledger.specs.declared.call.Line.{Line}
-use Rattle.at_log.specs.declared.receipt.Receipt.{Receipt}
 use Rattle.at_log.specs.ClosingTerms.{ClosingTerms, log_lengths, receipts_of}
 use Rattle.at_log.specs.Coherent.{Coherent}
-use Rattle.at_log.specs.JournalOrder.{journal_lines, journal_order, line_key, line_of, process_lines_at}
-use Rattle.at_log.specs.Receipts.{receipt_at}
+use Rattle.at_log.specs.JournalOrder.{journal_lines, line_key, process_lines_at}
 use Rattle.at_log.proofs.BucketLaws.{flat_map-buckets}
 use Rattle.at_log.proofs.OrderLaws.{All-flat_map, filter-first, flat_map-values}
 use Rattle.at_journal.proofs.JournalRuns.{length-journal_order}

@@ -1,7 +1,7 @@
 //! The fronts that a closing holds.
 
 ghost use Rattle.std.specs.Prelude.{◌≡◌, ◌++◌, ◌^◌, ◌<◌, ◌≤◌, [], ◌∷◌, length, map, OnOk, IfOk};
-ghost use Rattle.std.specs.List.{cons_option, filter_map};
+ghost use Rattle.std.specs.List.{cons_option, filter_map, flat_map};
 ghost use Rattle.at_board.specs.Fronts.{place};
 ghost use Rattle.at_log.specs.HeldFronts.{front_at};
 ghost use Rattle.at_journal.specs.Held.{AreHeld, ArePlaced, counts_in};
@@ -77,4 +77,45 @@ fn push_fronts<'c>(fronts: &mut Vec<HeldFront<'c>>, receipts: &'c [Receipt]) -> 
         push_front_at(fronts, &receipt.at)?;
     }
     Ok(())
+}
+
+/// Adds the views of all logs.
+fn push_all_views<'c>(fronts: &mut Vec<HeldFront<'c>>, closing: &'c Closing) -> Result<(), NoMemory>
+    requires placed { ArePlaced fronts.old.items }
+    ensures pushed { OnOk result (counts_in fronts.new.items ≡ counts_in fronts.old.items ++ flat_map (λ log. map (λ x. x.view) log) closing.now.logs) }
+    ensures placed { ArePlaced fronts.new.items }
+{
+    for p in 0..closing.processes() {
+        push_views(fronts, closing.log(p))?;
+    }
+    Ok(())
+}
+
+/// Adds the fronts at which the receipts of all processes stand.
+fn push_all_fronts<'c>(
+    fronts: &mut Vec<HeldFront<'c>>,
+    closing: &'c Closing,
+) -> Result<(), NoMemory>
+    requires placed { ArePlaced fronts.old.items }
+    ensures pushed { OnOk result (counts_in fronts.new.items ≡ counts_in fronts.old.items ++ flat_map (λ receipts. filter_map (λ r. front_at r.at) receipts) closing.now.receipts) }
+    ensures placed { ArePlaced fronts.new.items }
+{
+    for p in 0..closing.processes() {
+        push_fronts(fronts, closing.receipts(p))?;
+    }
+    Ok(())
+}
+
+/// All held fronts but for the lengths of the logs, from the least place up.
+pub(crate) fn held_fronts<'c>(
+    alloc: Global,
+    closing: &'c Closing,
+) -> Result<Vec<HeldFront<'c>>, NoMemory>
+    ensures { IfOk result (λ fronts. AreHeld closing.now fronts.items) }
+{
+    let mut fronts = Vec::new(alloc);
+    push_all_views(&mut fronts, closing)?;
+    push_all_fronts(&mut fronts, closing)?;
+    fronts.sort_unstable_by_key(|front| front.place);
+    Ok(fronts)
 }
