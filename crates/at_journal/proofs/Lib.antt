@@ -1,4 +1,6 @@
 pub mod FrontLists
+pub mod KeySteps
+pub mod LogViews
 pub mod LineKeys
 pub mod ReplyLaws
 pub mod KeepLaws

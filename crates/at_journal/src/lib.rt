@@ -5,6 +5,7 @@
 #![tactic(auto)]
 
 mod fronts;
+mod keys;
 
 /// What a call answers that found no memory.
 pub type NoMemory = std::alloc::AllocError;

@@ -3,7 +3,7 @@ use Rattle.std.proofs.Common.{◌≡◌, ℕ, ◌<◌, ◌≤◌, zero, suc, Boo
 use Rattle.std.specs.List.{Contains, fold}
 use Rattle.std.proofs.lemmas.Bool.{cases_Bool, lt-ltb, ltb-true}
 use Rattle.std.proofs.lemmas.List.{get_or-map, get_or_default, length-map}
-use Rattle.std.proofs.lemmas.List.Elements.{All-contains}
+use Rattle.std.proofs.lemmas.List.Elements.{All-contains, Contains-get_or}
 use Rattle.std.proofs.lemmas.List.Sums.{sum_by-cons}
 use Rattle.at_base.specs.Counts.{Covers}
 use Rattle.at_ledger.specs.Book.{BookTerms}
@@ -163,3 +163,16 @@ publication_key-mono c process number later before =
 -- no key is above the length of all logs
 pub publication_key-le_all : (c : ClosingTerms) (process number : ℕ) → publication_key c process number ≤ sum (log_lengths c)
 publication_key-le_all c process number = least_place-le_bound process number (sum (log_lengths c)) (held_fronts c)
+
+-- a key is at least what the bound and the place of each held front that counts the publication are at least
+pub publication_key-at_least : (c : ClosingTerms) (process number k : ℕ) → k ≤ sum (log_lengths c)
+    → ((view : List ℕ) → Contains (held_fronts c) view → number < get_or view process 0 → k ≤ place view) → k ≤ publication_key c process number
+publication_key-at_least c process number zero below each = omega arith
+publication_key-at_least c process number (suc k) below each =
+    omega (
+      arith,
+      least_place-above process number (sum (log_lengths c)) (held_fronts c) k (omega (arith, below))
+          (λ i within counted.
+          let view = get_or (held_fronts c) i [] in
+          omega (arith, each view (Contains-get_or (held_fronts c) i [] within) (ltb-true number (get_or view process 0) counted))),
+    )
