@@ -1,4 +1,5 @@
 pub mod FrontLists
+pub mod OrderedLaws
 pub mod KeySteps
 pub mod LogViews
 pub mod LineKeys

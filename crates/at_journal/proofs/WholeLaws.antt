@@ -1,11 +1,10 @@
 -- The journal has each receipt once, and those of a process in the order of its calls.
-use Rattle.std.proofs.Common.{◌≡◌, ℕ, ◌+◌, ◌*◌, ◌<◌, ◌==◌, Bool, cond, List, [], ◌∷◌, ◌++◌, length, map, filter, get_or, sum, refl, sym, ap, ◌∙◌, arith}
+use Rattle.std.proofs.Common.{◌≡◌, ℕ, ◌+◌, ◌*◌, ◌<◌, ◌==◌, cond, List, [], ◌∷◌, length, map, filter, get_or, sum, refl, sym, ap, ◌∙◌, arith}
 use Rattle.std.specs.Prelude.{nat_lt}
 use Rattle.std.specs.List.{All, flat_map, range_with_len}
 use Rattle.std.specs.List.Sorted.{IsNonDecreasingBy}
 use Rattle.std.proofs.lemmas.Bool.{eq-eqb, lt-ltb, ne_eqb}
 use Rattle.std.proofs.lemmas.List.{ext_get_or, get_or-map, length-map}
-use Rattle.std.proofs.lemmas.List.Elements.{filter-append}
 use Rattle.std.proofs.lemmas.List.FromFn.{get_or-map-range_with_len, get_or-range_with_len, length-map-range_with_len, length-range_with_len}
 use Rattle.at_ledger.specs.Book.{BookTerms}
 use Rattle.at_ledger.specs.Run.{Whole, lines_of}
@@ -22,10 +21,8 @@ use Rattle.at_journal.proofs.KeyBounds.{line_key-le}
 use Rattle.at_journal.proofs.KeyCases.{line_key-sorted}
 use Rattle.at_journal.proofs.KeyRuns.{flat_map-only}
 use Rattle.at_journal.proofs.LineRuns.{line}
-
-filter-flat_map : {X Y : Type 0} (test : Y → Bool) (g : X → List Y) (ks : List X) → filter test (flat_map g ks) ≡ flat_map (λ k. filter test (g k)) ks
-filter-flat_map test g [] = refl
-filter-flat_map test g (k ∷ ks) = filter-append test (g k) (flat_map g ks) ∙ ap (λ ys. filter test (g k) ++ ys) (filter-flat_map test g ks)
+use Rattle.at_journal.proofs.OrderedLaws.{filter-flat_map}
+use Rattle.at_journal.specs.Calls.{calls_in}
 
 -- lines of a process are all its own
 filter-own : (p : ℕ) (c : ClosingTerms) (ks : List ℕ) → lines_of p (map (line c p) ks) ≡ map (line c p) ks
@@ -70,10 +67,7 @@ lines_of-journal_lines b c p coherent known =
     (λ i within. lt-ltb (key i) limit (omega (arith, line_key-le b c p i coherent known (omega (arith, within)), length-journal_order c)))
     (λ i beyond within. absurd (omega (arith, beyond, within))))))
 
--- the calls of each process
-abbrev pub calls_in : ClosingTerms → List (List Call)
-calls_in c = map (λ receipts. map (λ r. r.call) receipts) c.receipts
-
+-- each receipt is a line
 pub Whole-journal_lines : (b : BookTerms) (c : ClosingTerms) → Coherent b c → Whole (calls_in c) (journal_lines c)
 unfolding journal_lines
 Whole-journal_lines b c coherent =

@@ -5,6 +5,7 @@
 #![tactic(auto)]
 
 mod fronts;
+mod keyed;
 mod keys;
 
 /// What a call answers that found no memory.
