@@ -18,3 +18,6 @@ pub mod KeyRuns
 pub mod JournalRuns
 pub mod KeyBounds
 pub mod WholeLaws
+pub mod RoundPlaces
+pub mod NamedLaws
+pub mod OwnPlaces

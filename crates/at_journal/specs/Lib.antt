@@ -2,3 +2,4 @@ pub mod Held
 pub mod Calls
 pub mod Keys
 pub mod Ordered
+pub mod Places

@@ -83,6 +83,7 @@ pub(crate) fn publication_keys(
     requires within { AreWithin closing.now }
     requires total { total ≡ sum (log_lengths closing.now) }
     ensures keys { IfOk result (λ keys. map (λ v. v.items) keys.items ≡ map (log_keys closing.now) (range_with_len 0 (length closing.now.logs))) }
+    ensures few { IfOk result (λ keys. length keys.items ≤ 16) }
 {
     let mut keys = Vec::new(alloc);
     for p in 0..closing.processes() {

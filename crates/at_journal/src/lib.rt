@@ -7,6 +7,7 @@
 mod fronts;
 mod keyed;
 mod keys;
+mod places;
 
 /// What a call answers that found no memory.
 pub type NoMemory = std::alloc::AllocError;
