@@ -21,3 +21,5 @@ pub mod WholeLaws
 pub mod RoundPlaces
 pub mod NamedLaws
 pub mod OwnPlaces
+pub mod LinePlaces
+pub mod LineOrder

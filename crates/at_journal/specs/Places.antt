@@ -1,5 +1,5 @@
 -- Where the records of a closing stand in the order of its publications.
-use Rattle.std.specs.Prelude.{◌≡◌, ℕ, ◌<◌, ◌==◌, ◌++◌, List, [], ◌∷◌, length, map, filter, slice_index, slice_index_or, slice_set, All, ⊤, if◌then◌else◌}
+use Rattle.std.specs.Prelude.{◌≡◌, ℕ, ◌<◌, ◌==◌, ◌++◌, List, [], ◌∷◌, length, map, filter, slice_index, slice_index_or, slice_set, All, ⊤, if◌then◌else◌, true}
 use Rattle.std.specs.List.{range_with_len}
 use Rattle.at_board.specs.declared.publication.Entry.{Entry}
 use Rattle.at_board.specs.declared.publication.Entry.TheVariants.{Own, Round}
@@ -8,7 +8,10 @@ use Rattle.at_board.specs.BoardState.{publication_at}
 use Rattle.at_board.specs.Publications.{count_of}
 use Rattle.at_board.specs.Rounds.{rounds}
 use Rattle.at_log.specs.ClosingTerms.{ClosingTerms, log_of, log_published, receipts_of}
-use Rattle.at_log.specs.Told.{own_position, round_position}
+use Rattle.at_log.specs.Told.{first_account, own_position, round_position}
+use Rattle.at_log.specs.declared.receipt.At.{At}
+use Rattle.at_log.specs.declared.receipt.Receipt.{Receipt}
+use Rattle.at_log.specs.Receipts.{is_success}
 use Rattle.at_journal.specs.declared.keyed.Keyed.{Keyed}
 
 -- a number with its key that no list holds
@@ -54,3 +57,14 @@ pub record HasRoundPositions (accounts : ℕ) (prefix list : List Publication) (
 pub record HasOwnPositions (process : ℕ) (list : List Publication) (positions : List ℕ) : Type 0 where
   pub counted : length positions ≡ count_of process list
   pub own : (i : ℕ) → i < length positions → slice_index positions i ≡ own_position process i list
+
+-- what a receipt names is found in these positions
+pub record HasPlaces (process : ℕ) (list : List Publication) (own : List ℕ) (places : List (List ℕ)) (r : Receipt) : Type 0 where
+  pub own_at : (number : ℕ) → r.at ≡ At.Own number → number < length own × slice_index own number ≡ own_position process number list
+  pub own_within : (number : ℕ) → r.at ≡ At.Own number → own_position process number list < length list
+  pub account_in : (round place : ℕ) → r.at ≡ At.Round round place → is_success r.reply ≡ true → first_account r.call < length places
+  pub round_at : (round place : ℕ) → r.at ≡ At.Round round place → is_success r.reply ≡ true
+      → round < length (slice_index_or places (first_account r.call) [])
+      × slice_index (slice_index_or places (first_account r.call) []) round ≡ round_position (first_account r.call) round list
+  pub round_within : (round place : ℕ) → r.at ≡ At.Round round place → is_success r.reply ≡ true
+      → round_position (first_account r.call) round list < length list

@@ -1,6 +1,7 @@
 //! Where the records of a closing stand in the order of its publications.
 
 ghost use Rattle.std.specs.Prelude.{◌≡◌, ◌++◌, ◌<◌, ◌≤◌, [], length, map, replicate, sum, OnOk, IfOk};
+ghost use Rattle.at_ledger.specs.Book.{IsBook};
 ghost use Rattle.at_log.specs.ClosingTerms.{log_lengths};
 ghost use Rattle.at_log.specs.Coherent.{Coherent};
 ghost use Rattle.at_log.specs.JournalOrder.{journal_order};
@@ -88,7 +89,8 @@ pub(crate) fn round_positions(
     requires coherent { Coherent book.now closing.now }
     requires order { published_in closing.now order.now ≡ journal_order closing.now }
     requires records { AreRecords closing.now order.now }
-    ensures { IfOk result (λ places. HasRoundPositions (length book.now.accounts) (journal_order closing.now) (journal_order closing.now) (map (λ v. v.items) places.items)) }
+    ensures places { IfOk result (λ places. HasRoundPositions (length book.now.accounts) (journal_order closing.now) (journal_order closing.now) (map (λ v. v.items) places.items)) }
+    ensures checked { IsBook book.now }
 {
     let mut places = no_positions(alloc, book.accounts())?;
     for (position, one) in order.iter().enumerate() {
