@@ -1,0 +1,21 @@
+use Rattle.std.proofs.Common.{arith, ◌<◌, length}
+use Rattle.std.proofs.lemmas.List.{length-map}
+use Rattle.std.proofs.lemmas.List.Sums.{sum_by_more}
+use Rattle.at_log.specs.ClosingTerms.{log_lengths}
+use Rattle.at_log.proofs.KeyLaws.{get_or-log_lengths}
+use Rattle.at_journal.proofs.keys.total_of.Goals as goal
+
+pub loop-p-preserved : goal.loop-p-preserved
+loop-p-preserved c =
+    let closing = c.args.closing.now in
+    let p = c.loop-p.p in
+    let known : p < length closing.logs = omega (arith, c.processes-p-end.ensures.logs) in (
+      omega (
+        arith,
+        sum_by_more (λ n. n) (log_lengths closing) p 0 (omega (arith, known, length-map closing.logs length)),
+        get_or-log_lengths closing p known,
+        c.log_len-total.ensures.length,
+        c.loop-p.invariant.0,
+      ),
+      omega (arith, c.log_len-total.ensures.small, c.loop-p.invariant.1),
+    )

@@ -1,0 +1,23 @@
+use Rattle.std.proofs.Common.{◌≡◌, ◌<◌, subst, ◌++◌, [], ◌∷◌, ap, arith, length, map, get_or, sym, ◌∙◌}
+use Rattle.std.proofs.Math.ListN.{set}
+use Rattle.std.proofs.lemmas.List.{get_or-map, map-set}
+use Rattle.at_journal.specs.Places.{IsOnAccount, with_position}
+use Rattle.at_journal.proofs.RoundPlaces.{with_position-next}
+use Rattle.at_journal.proofs.places.note_position.Goals as goal
+
+pub returns-in_ok-push-in-Round : goal.returns-in_ok-push-in-Round
+returns-in_ok-push-in-Round c =
+    let places = map (λ v. v.items) c.args.places.now.items in
+    let account = c.in-Round.account in
+    let known : account < length c.args.places.now.items = subst (IsOnAccount (length c.args.places.now.items)) c.in-Round.is c.requires in
+    let old : c.index_mut-firsts.result.now.items ≡ get_or places account [] =
+    ap (λ v. v.items) c.index_mut-firsts.ensures.value
+    ∙ sym (get_or-map (λ v. v.items) c.args.places.now.items account c.index_mut-firsts.result.now [] known) in
+    let new : c.push.new.self.items ≡ get_or places account [] ++ c.args.position ∷ [] =
+    c.in_ok-push-in-Round.ensures.items ∙ ap (λ xs. xs ++ c.args.position ∷ []) old in
+    let next : length (get_or places account []) ≡ c.in-Round.round =
+    omega (arith, ap length old, c.len.ensures, c.if-len-round.true, c.index_mut-firsts.result.now.ok.0) in
+    map-set (λ v. v.items) c.args.places.now.items account c.push.new.self
+    ∙ (ap (set places account) new
+    ∙ (sym (with_position-next c.args.position account c.in-Round.round c.in-Round.decision c.in-Round.targets places next)
+    ∙ ap (λ e. with_position c.args.position e places) (sym c.in-Round.is)))

@@ -1,0 +1,5 @@
+pub mod Held
+pub mod Calls
+pub mod Keys
+pub mod Ordered
+pub mod Places

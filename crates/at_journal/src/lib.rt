@@ -1,0 +1,53 @@
+//! The journal of a coherent closing: its calls in one legal order.
+//!
+//! `journal` answers every receipt of the closing once, as a line, and the lines are a run of the ledger. It needs the closing
+//! alone, and takes time in proportion to N log N in the number of its records and receipts.
+#![tactic(auto)]
+
+mod fronts;
+mod keyed;
+mod keys;
+mod lines;
+mod places;
+
+ghost use Rattle.std.specs.Prelude.{◌≡◌, ℕ, ◌^◌, ◌<◌, length, All, IfOk};
+ghost use Rattle.at_ledger.specs.Run.{Legal, Whole, last_state};
+ghost use Rattle.at_ledger.specs.State.{balance_of};
+ghost use Rattle.at_board.specs.Balances.{balance_after};
+ghost use Rattle.at_log.specs.Coherent.{Coherent};
+ghost use Rattle.at_log.specs.JournalOrder.{journal_lines, journal_order};
+ghost use Rattle.at_journal.specs.Calls.{calls_in};
+
+use crate::fronts::held_fronts;
+use crate::keyed::in_order;
+use crate::keys::total_of;
+use crate::lines::{line_keys, lines};
+use crate::places::{order_of, round_positions};
+use at_ledger::{Book, Line};
+use at_log::Closing;
+use std::alloc::Global;
+
+/// What a call answers that found no memory.
+pub type NoMemory = std::alloc::AllocError;
+
+/// The receipts of a closing as lines, in one order in which the ledger answers each call as it was answered.
+///
+/// Each line stands where its receipt stands among the publications: a read at its front, a success behind its own record or
+/// the first record of its round, and a refusal without a place with the call before it. Lines that stand at one place come
+/// by process, and those of a process in the order of its calls.
+pub fn journal(alloc: Global, book: &Book, closing: &Closing) -> Result<Vec<Line>, NoMemory>
+    requires coherent { Coherent book.now closing.now }
+    requires few { All (λ receipts. length receipts < 2 ^ 32) closing.now.receipts }
+    ensures lines { IfOk result (λ lines. lines.items ≡ journal_lines closing.now) }
+    ensures whole { IfOk result (λ lines. Whole (calls_in closing.now) lines.items) }
+    ensures legal { IfOk result (λ lines. Legal book.now lines.items) }
+    ensures balances { IfOk result (λ lines. (a : ℕ) → a < length book.now.accounts → balance_of (last_state book.now lines.items) a ≡ balance_after book.now (journal_order closing.now) a) }
+{
+    let fronts = held_fronts(alloc, closing)?;
+    let total = total_of(closing);
+    let order = order_of(alloc, closing, fronts.as_slice(), total)?;
+    let places = round_positions(alloc, book, closing, order.as_slice())?;
+    let keys = line_keys(alloc, book, closing, order.as_slice(), places.as_slice())?;
+    let calls = in_order(alloc, keys.as_slice())?;
+    lines(alloc, closing, calls.as_slice())
+}

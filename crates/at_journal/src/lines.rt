@@ -1,0 +1,154 @@
+//! The lines of a journal and their keys.
+
+ghost use Rattle.std.specs.Prelude.{◌≡◌, ℕ, ◌+◌, ◌*◌, ◌^◌, ◌<◌, ◌≤◌, [], length, map, slice_index, slice_index_or, All, OnOk, IfOk};
+ghost use Rattle.std.specs.List.{range_with_len};
+ghost use Rattle.at_log.specs.ClosingTerms.{receipts_of};
+ghost use Rattle.at_log.specs.Coherent.{Coherent};
+ghost use Rattle.at_log.specs.JournalOrder.{journal_order, line_of};
+ghost use Rattle.at_log.specs.Receipts.{is_success, receipt_at};
+ghost use Rattle.at_log.specs.Told.{first_account, key_of, keys_of};
+ghost use Rattle.at_journal.specs.Places.{AreReceipts, AreRecords, HasPlaces, HasRoundPositions, published_in};
+
+use crate::NoMemory;
+use crate::fronts::place_of;
+use crate::keyed::Keyed;
+use crate::places::own_positions;
+use at_ledger::{Book, Call, Line, Reply};
+use at_log::{At, Closing, Receipt};
+use std::alloc::Global;
+
+/// The account that a call names first.
+fn first_account(call: &Call) -> u32
+    ensures { result ≡ first_account call.now }
+{
+    match call {
+        Call::Transfer { from, .. } => *from,
+        Call::Read { account } => *account,
+        Call::Pay { from, .. } => *from,
+    }
+}
+
+/// Whether a call moved its amounts.
+fn is_success(reply: &Reply) -> bool
+    ensures { result ≡ is_success reply.now }
+{
+    matches!(reply, Reply::Done)
+}
+
+/// Where the first record of a round stands.
+fn first_of_round(places: &[Vec<u64>], account: u32, round: u32) -> u64
+    requires account_in { account < length places.now }
+    requires round_in { round < length (slice_index_or (map (λ v. v.items) places.now) account []) }
+    ensures { result ≡ slice_index (slice_index_or (map (λ v. v.items) places.now) account []) round }
+{
+    places[account as usize][round as usize]
+}
+
+/// The key of a call of a process, from that of the call before.
+fn key_of(
+    closing: &Closing,
+    p: u32,
+    i: usize,
+    own: &[u64],
+    places: &[Vec<u64>],
+    previous: u64,
+) -> u64
+    requires known { p < length closing.now.receipts }
+    requires within { i < length (receipts_of closing.now p) }
+    requires places { HasPlaces p (journal_order closing.now) own.now (map (λ v. v.items) places.now) (receipt_at (receipts_of closing.now p) i) }
+    requires small { length (journal_order closing.now) ≤ 2 ^ 36 }
+    ensures { result ≡ key_of p (journal_order closing.now) previous (receipt_at (receipts_of closing.now p) i) }
+{
+    let receipt = &closing.receipts(p)[i];
+    match &receipt.at {
+        At::Front(counts) => 2 * place_of(counts),
+        At::Own(number) => 2 * own[*number as usize] + 1,
+        At::Round { round, place } => {
+            if is_success(&receipt.reply) {
+                2 * first_of_round(places, first_account(&receipt.call), *round) + 1
+            } else {
+                2 * u64::from(*place)
+            }
+        }
+        At::Previous => previous,
+    }
+}
+
+/// The keys of a process's calls. `own` has where its records stand, and `places` where rounds begin.
+fn process_keys(
+    alloc: Global,
+    closing: &Closing,
+    p: u32,
+    own: &[u64],
+    places: &[Vec<u64>],
+) -> Result<Vec<u64>, NoMemory>
+    requires known { p < length closing.now.receipts }
+    requires places { (i : ℕ) → i < length (receipts_of closing.now p) → HasPlaces p (journal_order closing.now) own.now (map (λ v. v.items) places.now) (receipt_at (receipts_of closing.now p) i) }
+    requires small { length (journal_order closing.now) ≤ 2 ^ 36 }
+    ensures { IfOk result (λ keys. keys.items ≡ keys_of p (journal_order closing.now) (receipts_of closing.now p)) }
+{
+    let mut keys = Vec::new(alloc);
+    let mut previous = 0;
+    for i in 0..closing.receipts(p).len() {
+        previous = key_of(closing, p, i, own, places, previous);
+        keys.push(previous)?;
+    }
+    Ok(keys)
+}
+
+/// The keys of all calls, process by process.
+pub(crate) fn line_keys(
+    alloc: Global,
+    book: &Book,
+    closing: &Closing,
+    order: &[Keyed],
+    places: &[Vec<u64>],
+) -> Result<Vec<Vec<u64>>, NoMemory>
+    requires coherent { Coherent book.now closing.now }
+    requires order { published_in closing.now order.now ≡ journal_order closing.now }
+    requires records { AreRecords closing.now order.now }
+    requires places { HasRoundPositions (length book.now.accounts) (journal_order closing.now) (journal_order closing.now) (map (λ v. v.items) places.now) }
+    requires small { length (journal_order closing.now) ≤ 2 ^ 36 }
+    ensures keys { IfOk result (λ keys. map (λ v. v.items) keys.items ≡ map (λ p. keys_of p (journal_order closing.now) (receipts_of closing.now p)) (range_with_len 0 (length closing.now.receipts))) }
+    ensures few { IfOk result (λ keys. length keys.items < 2 ^ 32) }
+{
+    let mut keys = Vec::new(alloc);
+    for p in 0..book.processes() {
+        let own = own_positions(alloc, order, p)?;
+        keys.push(process_keys(alloc, closing, p, own.as_slice(), places)?)?;
+    }
+    Ok(keys)
+}
+
+/// A call of a process as a line.
+fn line(closing: &Closing, one: &Keyed) -> Line
+    requires known { one.now.process < length closing.now.receipts }
+    requires within { one.now.number < length (receipts_of closing.now one.now.process) }
+    requires few { length (receipts_of closing.now one.now.process) < 2 ^ 32 }
+    ensures { result ≡ line_of one.now.process one.now.number (receipt_at (receipts_of closing.now one.now.process) one.now.number) }
+{
+    let receipt = &closing.receipts(one.process)[one.number];
+    Line {
+        process: one.process,
+        number: one.number as u32 + 1,
+        call: receipt.call.copy(),
+        reply: receipt.reply,
+    }
+}
+
+/// These calls as lines.
+pub(crate) fn lines(
+    alloc: Global,
+    closing: &Closing,
+    calls: &[Keyed],
+) -> Result<Vec<Line>, NoMemory>
+    requires receipts { AreReceipts closing.now calls.now }
+    requires few { All (λ receipts. length receipts < 2 ^ 32) closing.now.receipts }
+    ensures { IfOk result (λ lines. lines.items ≡ map (λ x. line_of x.process x.number (receipt_at (receipts_of closing.now x.process) x.number)) calls.now) }
+{
+    let mut lines = Vec::new(alloc);
+    for one in calls {
+        lines.push(line(closing, one))?;
+    }
+    Ok(lines)
+}

@@ -1,0 +1,101 @@
+//! Where the records of a closing stand in the order of its publications.
+
+ghost use Rattle.std.specs.Prelude.{◌≡◌, ◌++◌, ◌<◌, ◌≤◌, [], length, map, replicate, sum, OnOk, IfOk};
+ghost use Rattle.at_ledger.specs.Book.{IsBook};
+ghost use Rattle.at_log.specs.ClosingTerms.{log_lengths};
+ghost use Rattle.at_log.specs.Coherent.{Coherent};
+ghost use Rattle.at_log.specs.JournalOrder.{journal_order};
+ghost use Rattle.at_journal.specs.Held.{AreHeld};
+ghost use Rattle.at_journal.specs.Keys.{AreWithin};
+ghost use Rattle.at_journal.specs.Places.{AreRecords, HasRoundPositions, IsOnAccount, positions_of, published_in, with_position};
+
+use crate::NoMemory;
+use crate::fronts::HeldFront;
+use crate::keyed::{Keyed, in_order};
+use crate::keys::publication_keys;
+use at_ledger::Book;
+use at_log::{Closing, Entry};
+use std::alloc::Global;
+
+/// The order of the publications.
+pub(crate) fn order_of(
+    alloc: Global,
+    closing: &Closing,
+    fronts: &[HeldFront<'_>],
+    total: u64,
+) -> Result<Vec<Keyed>, NoMemory>
+    requires held { AreHeld closing.now fronts.now }
+    requires within { AreWithin closing.now }
+    requires total { total ≡ sum (log_lengths closing.now) }
+    ensures order { IfOk result (λ order. published_in closing.now order.items ≡ journal_order closing.now) }
+    ensures records { IfOk result (λ order. AreRecords closing.now order.items) }
+{
+    let keys = publication_keys(alloc, closing, fronts, total)?;
+    in_order(alloc, keys.as_slice())
+}
+
+/// Where the records of a process stand in the order.
+pub(crate) fn own_positions(
+    alloc: Global,
+    order: &[Keyed],
+    process: u32,
+) -> Result<Vec<u64>, NoMemory>
+    ensures { IfOk result (λ positions. positions.items ≡ positions_of process order.now) }
+{
+    let mut positions = Vec::new(alloc);
+    for (position, one) in order.iter().enumerate() {
+        if one.process == process {
+            positions.push(position as u64)?;
+        }
+    }
+    Ok(positions)
+}
+
+/// No positions for so many accounts.
+fn no_positions(alloc: Global, accounts: u32) -> Result<Vec<Vec<u64>>, NoMemory>
+    ensures { IfOk result (λ places. map (λ v. v.items) places.items ≡ replicate accounts []) }
+{
+    let mut places = Vec::new(alloc);
+    for _account in 0..accounts {
+        places.push(Vec::new(alloc))?;
+    }
+    Ok(places)
+}
+
+/// Notes where a record stands, if it is the first of the next round of its account.
+fn note_position(places: &mut Vec<Vec<u64>>, entry: &Entry, position: u64) -> Result<(), NoMemory>
+    requires { IsOnAccount (length places.old.items) entry.now }
+    ensures { OnOk result (map (λ v. v.items) places.new.items ≡ with_position position entry.now (map (λ v. v.items) places.old.items)) }
+{
+    match entry {
+        Entry::Own { .. } => Ok(()),
+        Entry::Round { account, round, .. } => {
+            let firsts = &mut places[*account as usize];
+            if firsts.len() == *round as usize {
+                firsts.push(position)?;
+            }
+            Ok(())
+        }
+    }
+}
+
+/// Where the first record of each round stands in the order, account by account.
+pub(crate) fn round_positions(
+    alloc: Global,
+    book: &Book,
+    closing: &Closing,
+    order: &[Keyed],
+) -> Result<Vec<Vec<u64>>, NoMemory>
+    requires coherent { Coherent book.now closing.now }
+    requires order { published_in closing.now order.now ≡ journal_order closing.now }
+    requires records { AreRecords closing.now order.now }
+    ensures places { IfOk result (λ places. HasRoundPositions (length book.now.accounts) (journal_order closing.now) (journal_order closing.now) (map (λ v. v.items) places.items)) }
+    ensures checked { IsBook book.now }
+{
+    let mut places = no_positions(alloc, book.accounts())?;
+    for (position, one) in order.iter().enumerate() {
+        let record = &closing.log(one.process)[one.number];
+        note_position(&mut places, &record.entry, position as u64)?;
+    }
+    Ok(places)
+}
