@@ -38,6 +38,7 @@ IsShownDecision-Sound b s p prefix (Round a r d targets) sound law =
     let at = ap (λ n. decided_for d.slot n (s.cells a)) decision.next in
     record {
       room = decision.room;
+      number_in = omega (arith, decision.announced, sound.row_room a d.slot);
       place = decision.place;
       next = decision.next;
       number = omega (arith, named_so, at, numbers);

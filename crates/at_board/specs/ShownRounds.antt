@@ -14,6 +14,7 @@ use Rattle.at_board.specs.Rounds.{named, rounds}
 -- and it succeeds exactly where the balance there covers its targets
 pub record IsShownRound (b : BookTerms) (list : List Publication) (account round : ℕ) (d : Decision) (targets : List TargetPair) : Type 0 where
   pub room : round < rounds_room b.request_room (account_of b account)
+  pub number_in : d.number < b.request_room
   pub place : d.place ≤ length list
   pub next : rounds account (take d.place list) ≡ round
   pub number : named account d.slot (take d.place list) ≡ d.number
