@@ -1,2 +1,3 @@
 pub mod Shuffles
 pub mod RoundSums
+pub mod AmountLaws

@@ -1,5 +1,11 @@
 //! Sums over published records: balances, rounds and decisions of the records counted so far.
 #![tactic(auto)]
 
+mod account_totals;
+mod slot_totals;
+mod totals;
+
 /// What a call answers that found no memory.
 pub type NoMemory = std::alloc::AllocError;
+
+pub use crate::totals::Totals;

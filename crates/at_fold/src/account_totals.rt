@@ -1,0 +1,81 @@
+//! What is counted of one account.
+
+ghost use Rattle.std.specs.Prelude.{◌≡◌, ◌+◌, ◌*◌, ◌<◌, ◌≤◌, ◌^◌, false, length, replicate, IfOk};
+ghost use Rattle.at_fold.specs.Sums.{is_counted, slot_at, with_credit, with_debit, with_round};
+
+use crate::NoMemory;
+use crate::slot_totals::SlotTotals;
+use at_base::Decision;
+use std::alloc::Global;
+use std::marker::Model;
+
+/// What the records counted have added to an account and taken from it, and what they say of its rounds.
+/// Credits and debits are kept apart: a debit may be counted before the credit that covers it.
+#[derive(Drop)]
+pub(crate) struct AccountTotals {
+    opening: u64,
+    credits: u128,
+    debits: u128,
+    rounds: u32,
+    is_counted: Vec<bool>,
+    slots: Vec<SlotTotals>,
+}
+
+impl Model for AccountTotals {
+    ghost use Rattle.at_fold.specs.Sums.{AccountSums};
+
+    ghost Value = { AccountSums };
+
+    ghost view = { λ a. record { opening = a.opening; credits = a.credits; debits = a.debits; rounds = a.rounds; is_counted = a.is_counted.items; slots = a.slots.items } };
+}
+
+impl AccountTotals {
+    pub(crate) fn rounds(&self) -> u32
+        ensures { result ≡ self.now.rounds }
+    {
+        self.rounds
+    }
+
+    /// Whether a record of the round is counted.
+    pub(crate) fn is_counted(&self, round: u32) -> bool
+        requires { round < length self.now.is_counted }
+        ensures { result ≡ is_counted self.now round }
+    {
+        self.is_counted[round as usize]
+    }
+
+    pub(crate) fn done(&self, slot: u32) -> u32
+        requires { slot < length self.now.slots }
+        ensures { result ≡ (slot_at self.now slot).done }
+    {
+        self.slots[slot as usize].done()
+    }
+
+    pub(crate) fn credit(&mut self, amount: u64)
+        requires { self.old.credits + amount < 2 ^ 128 }
+        ensures { self.new ≡ with_credit self.old amount }
+    {
+        self.credits += u128::from(amount);
+    }
+
+    pub(crate) fn debit(&mut self, amount: u128)
+        requires { self.old.debits + amount < 2 ^ 128 }
+        ensures { self.new ≡ with_debit self.old amount }
+    {
+        self.debits += amount;
+    }
+
+    /// Counts a round.
+    pub(crate) fn settle(&mut self, round: u32, decision: &Decision)
+        requires round { round < length self.old.is_counted }
+        requires slot { decision.now.slot < length self.old.slots }
+        requires number { decision.now.number < length (slot_at self.old decision.now.slot).settled }
+        requires rounds { self.old.rounds + 1 < 2 ^ 32 }
+        requires done { (slot_at self.old decision.now.slot).done + 1 < 2 ^ 32 }
+        ensures { self.new ≡ with_round self.old round decision.now }
+    {
+        self.rounds += 1;
+        self.is_counted[round as usize] = true;
+        self.slots[decision.slot as usize].settle(round, decision);
+    }
+}
