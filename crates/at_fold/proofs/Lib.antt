@@ -1,3 +1,4 @@
 pub mod Shuffles
 pub mod RoundSums
 pub mod AmountLaws
+pub mod CountedLaws
