@@ -2,3 +2,4 @@ pub mod Shuffles
 pub mod RoundSums
 pub mod AmountLaws
 pub mod CountedLaws
+pub mod SumsLaws
