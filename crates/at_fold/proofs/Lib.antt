@@ -3,3 +3,4 @@ pub mod RoundSums
 pub mod AmountLaws
 pub mod CountedLaws
 pub mod SumsLaws
+pub mod PushLaws
