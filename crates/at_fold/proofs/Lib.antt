@@ -4,3 +4,4 @@ pub mod AmountLaws
 pub mod CountedLaws
 pub mod SumsLaws
 pub mod PushLaws
+pub mod NewRoundLaws

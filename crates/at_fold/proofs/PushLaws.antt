@@ -38,15 +38,15 @@ or_false : (t : Bool) → (t || false) ≡ t
 or_false true = refl
 or_false false = refl
 
-or_true : (t : Bool) → (t || true) ≡ true
+pub or_true : (t : Bool) → (t || true) ≡ true
 or_true true = refl
 or_true false = refl
 
-list_any_push : (g : Publication → Bool) (xs : List Publication) (x : Publication) → list_any g (xs ++ x ∷ []) ≡ (list_any g xs || g x)
+pub list_any_push : (g : Publication → Bool) (xs : List Publication) (x : Publication) → list_any g (xs ++ x ∷ []) ≡ (list_any g xs || g x)
 list_any_push g xs x = list_any-append g xs (x ∷ []) ∙ ap (λ t. list_any g xs || t) (or_false (g x))
 
 -- one more element that fails the test, or like which there was one
-list_any_fails : (g : Publication → Bool) (xs : List Publication) (x : Publication) → g x ≡ false → list_any g (xs ++ x ∷ []) ≡ list_any g xs
+pub list_any_fails : (g : Publication → Bool) (xs : List Publication) (x : Publication) → g x ≡ false → list_any g (xs ++ x ∷ []) ≡ list_any g xs
 list_any_fails g xs x fails = list_any_push g xs x ∙ (ap (λ t. list_any g xs || t) fails ∙ or_false (list_any g xs))
 
 list_any_again : (g : Entry → Bool) (xs : List Publication) (x y : Publication) → Contains xs y → x.entry ≡ y.entry
@@ -67,7 +67,7 @@ list_any_again g xs x y listed same =
         ap (λ t. g u.entry || t) (found zs z (k, omega (arith, within), is) passes) ∙ or_true (g u.entry)
 
 -- an answer stays with one more record that says nothing of the request
-IsAnswer-push : (xs : List Publication) (x : Publication) (a slot number : ℕ) (answer : Option (ℕ × Decision))
+pub IsAnswer-push : (xs : List Publication) (x : Publication) (a slot number : ℕ) (answer : Option (ℕ × Decision))
     → list_any (λ z. settles a slot number z.entry) (xs ++ x ∷ []) ≡ list_any (λ z. settles a slot number z.entry) xs
     → IsAnswer xs a slot number answer → IsAnswer (xs ++ x ∷ []) a slot number answer
 IsAnswer-push xs x a slot number None same none = same ∙ none
@@ -117,7 +117,7 @@ module _ (b : BookTerms) where
       record { sized = so.sized; accounts = λ a within. IsAccountOf-repeat xs x twin.0 a (row_at rows a) again twin.1 same (so.accounts a within) }
 
   -- one more record that is of no round of the account
-  IsSlotOf-other : (xs : List Publication) (x : Publication) (a slot : ℕ) (sums : SlotSums) → repeats x (firsts xs) ≡ false
+  pub IsSlotOf-other : (xs : List Publication) (x : Publication) (a slot : ℕ) (sums : SlotSums) → repeats x (firsts xs) ≡ false
       → names a slot x.entry ≡ false → ((number : ℕ) → settles a slot number x.entry ≡ false) → IsSlotOf b xs a slot sums
       → IsSlotOf b (xs ++ x ∷ []) a slot sums
   IsSlotOf-other xs x a slot sums new unnamed unsettled so = record {
@@ -128,7 +128,7 @@ module _ (b : BookTerms) where
         (list_any_fails (λ z. settles a slot number z.entry) xs x (unsettled number)) (so.settled number within);
   }
 
-  IsAccountOf-other : (xs : List Publication) (x : Publication) (a : ℕ) (row : AccountSums) → repeats x (firsts xs) ≡ false
+  pub IsAccountOf-other : (xs : List Publication) (x : Publication) (a : ℕ) (row : AccountSums) → repeats x (firsts xs) ≡ false
       → is_round_on a x.entry ≡ false → ((r : ℕ) → is_round a r x.entry ≡ false) → ((slot : ℕ) → names a slot x.entry ≡ false)
       → ((slot number : ℕ) → settles a slot number x.entry ≡ false)
       → credit_of a x.entry ≤ 2 ^ 66 → debit_of a x.entry ≤ 2 ^ 66 → IsAccountOf b xs a row
