@@ -5,3 +5,4 @@ pub mod CountedLaws
 pub mod SumsLaws
 pub mod PushLaws
 pub mod NewRoundLaws
+pub mod StepLaws
