@@ -109,7 +109,7 @@ module _ (t : TotalSums) (b : BookTerms) (seen : List Publication) (p : ℕ) (e 
   shown = IsShown-IsHistory b seen x may.history listed
 
   few : length (counted t.upto seen) ≤ 131072
-  few = length-counted-le b t.upto seen may.book may.history may.counts.processes
+  few = length-counted-le b t.upto seen may.counts.book may.history may.counts.processes
 
   pub HasPlace-MayCount : HasPlace t.accounts e
   HasPlace-MayCount =
@@ -139,6 +139,7 @@ module _ (t : TotalSums) (b : BookTerms) (seen : List Publication) (p : ℕ) (e 
       let sized : length upto ≡ length t.upto = length-set t.upto p (get_or t.upto p 0 + 1) in
       let inside : p < length t.upto = omega (arith, may.next.process, may.counts.processes) in
       record {
+        book = may.counts.book;
         processes = sized ∙ may.counts.processes;
         within = λ q below.
             let known : q < b.processes = omega (arith, below, length-counts b.processes seen) in

@@ -8,6 +8,7 @@ use Rattle.at_board.specs.declared.publication.Publication.{Publication}
 use Rattle.at_board.specs.Balances.{credits, debits}
 use Rattle.at_board.specs.BoardState.{publication_at}
 use Rattle.at_board.specs.Entries.{is_round}
+use Rattle.at_board.specs.Fronts.{IsFront}
 use Rattle.at_board.specs.Places.{slots_of}
 use Rattle.at_board.specs.Publications.{count_of, counts, publications_of}
 use Rattle.at_board.specs.Rounds.{named, rounds}
@@ -43,6 +44,7 @@ pub record AreSumsOf (b : BookTerms) (list : List Publication) (rows : List Acco
 
 -- the totals have counted records that are in the list, and no others
 pub record HasCounted (t : TotalSums) (b : BookTerms) (seen : List Publication) : Type 0 where
+  pub book : IsBook b
   pub processes : length t.upto ≡ b.processes
   pub within : Covers (counts b.processes seen) t.upto
   pub sums : AreSumsOf b (counted t.upto seen) t.accounts
@@ -59,3 +61,18 @@ pub record MayCount (t : TotalSums) (b : BookTerms) (seen : List Publication) (p
   pub history : IsHistory b seen
   pub counts : HasCounted t b seen
   pub next : IsNext t b seen p entry
+
+-- the totals have counted so for a book with this account
+pub record CountsAccount (t : TotalSums) (b : BookTerms) (seen : List Publication) (a : ℕ) : Type 0 where
+  pub counted : HasCounted t b seen
+  pub account_in : a < length b.accounts
+
+-- and with this slot of it
+pub record CountsSlot (t : TotalSums) (b : BookTerms) (seen : List Publication) (a slot : ℕ) : Type 0 where
+  pub account : CountsAccount t b seen a
+  pub slot_in : slot < slots_of (account_of b a)
+
+-- the totals have counted exactly the records of a prefix of the list
+pub record CountsFront (t : TotalSums) (b : BookTerms) (seen : List Publication) : Type 0 where
+  pub history : IsHistory b seen
+  pub front : IsFront b.processes t.upto seen
