@@ -31,6 +31,7 @@ HasOwnPart-with_asking v a w has =
     record {
       one_part = length-set v.parts 0 (part_asking q a w) ∙ has.one_part;
       accounts = ap (λ (t : Part). length t.asking) (own_part-with_part v (part_asking q a w) (omega (arith, has.one_part))) ∙ (length-set q.asking a w ∙ has.accounts);
+      words = ap (λ (t : Part). length t.stored) (own_part-with_part v (part_asking q a w) (omega (arith, has.one_part))) ∙ has.words;
     }
 
 pub asking-StoresRequestWord : (v u : View) (a j n : ℕ) → HasOwnPart v → a < length v.book.accounts → StoresRequestWord v u a j n

@@ -122,9 +122,9 @@ pub HasCounts-decided : (b : BookTerms) (v w : View) (a round : ℕ) (d : Decisi
 HasCounts-decided b v w a round d n counts part told has =
     let q : Part = own_part v in
     let u : View = with_decision v w.seen a round told.decision in
-    let before : HasCounts u counts = record { accounts = has.accounts; sized = has.sized; counted = has.counted } in
+    let before : HasCounts u counts = record { accounts = has.accounts; words = has.words; sized = has.sized; counted = has.counted } in
     subst (λ t. HasCounts t counts) (sym told.same)
-    (HasCounts-with_part u (with_decide q a told.held) counts part (length-set q.asking a _)
+    (HasCounts-with_part u (with_decide q a told.held) counts part (length-set q.asking a _) refl
     (λ k within. announced-decide q a k told.held (omega (arith, within, has.accounts))) before)
 
 pub SeesPlaces-decided : (b : BookTerms) (v w u : View) (a round : ℕ) (d e : Decision) (r : Request) (n : ℕ) → v.book ≡ b → MayPropose b u a round e r

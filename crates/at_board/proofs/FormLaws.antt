@@ -1,5 +1,5 @@
 -- The words of a record tell which record it is.
-use Rattle.std.proofs.Common.{◌≡◌, ℕ, ◌+◌, ◌*◌, ◌^◌, ◌<◌, ◌≤◌, zero, suc, Bool, true, false, cond, List, length, get_or, refl, sym, subst, ◌∙◌, arith, inl, inr}
+use Rattle.std.proofs.Common.{◌≡◌, ℕ, ◌+◌, ◌*◌, ◌<◌, ◌≤◌, zero, suc, Bool, true, false, cond, List, length, get_or, refl, sym, subst, ◌∙◌, arith, inl, inr}
 use Rattle.std.proofs.lemmas.Bool.{cases_lt}
 use Rattle.std.proofs.lemmas.List.{get_or-map, get_or_default, get_or_past, length-map, same_lists}
 use Rattle.std.proofs.lemmas.List.Elements.{All-from_get_or, All-get_or}
@@ -15,15 +15,10 @@ use Rattle.at_board.specs.declared.publication.Publication.{Publication}
 use Rattle.at_board.specs.declared.request.Request.{Request}
 use Rattle.at_board.specs.BoardState.{BoardState}
 use Rattle.at_board.specs.Entries.{targets_of}
+use Rattle.at_board.specs.Forms.{IsForm}
 use Rattle.at_board.specs.Sound.{AreTargets, IsSoundDecision, IsSoundEntry, Sound}
 use Rattle.at_board.specs.TargetsWord.{ArePacked, accounts_of, targets_word}
 use Rattle.at_board.specs.Words.{amount_words, decision_word, head_of, record_words, request_words}
-
--- the numbers of an entry fit its words
-abbrev pub IsForm : Entry → Type 0
-IsForm (Own from targets) = (from < 2 ^ 16) × ArePacked (accounts_of targets)
-IsForm (Round account round decision targets) =
-    (account < 2 ^ 16) × (round < 2 ^ 31) × InRange decision × ArePacked (accounts_of targets)
 
 pub ArePacked-AreTargets : (b : BookTerms) (targets : List TargetPair) → IsBegun b → AreTargets b targets → ArePacked (accounts_of targets)
 ArePacked-AreTargets b targets begun good = record {

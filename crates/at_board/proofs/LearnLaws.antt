@@ -187,7 +187,7 @@ IsSeat-learned b v w process published book note_book seat note =
 
 -- the seat's own part is the same
 pub HasCounts-learned : (v w : View) (announced : List ℕ) → HasCounts v announced → HasCounts (learned v w) announced
-HasCounts-learned v w announced has = record { accounts = has.accounts; sized = has.sized; counted = has.counted }
+HasCounts-learned v w announced has = record { accounts = has.accounts; words = has.words; sized = has.sized; counted = has.counted }
 
 pub SeesPlaces-learned : (v w : View) → w.book ≡ v.book → SeesPlaces v → SeesPlaces w → SeesPlaces (learned v w)
 SeesPlaces-learned v w same mine theirs = record {

@@ -4,7 +4,8 @@ use lib.ListN.{get_elem?}
 use mathlib.Core.Option.{none, some}
 use Rattle.atomic_table.specs.Table.{Allows, Me, keeps, step}
 use Rattle.at_ledger.specs.Book.{BookTerms, IsBegun}
-use Rattle.at_board.proofs.FormLaws.{IsForm, IsForm-Sound, record_words-injective}
+use Rattle.at_board.proofs.FormLaws.{IsForm-Sound, record_words-injective}
+use Rattle.at_board.specs.Forms.{IsForm}
 use Rattle.at_board.proofs.PublishLaws.{Publishes-Ruled}
 use Rattle.at_board.proofs.PushLaws.{IsSoundEntry-MayEnter}
 use Rattle.at_board.proofs.SeatKept.{IsSeat-with_part}

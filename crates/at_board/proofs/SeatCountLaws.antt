@@ -14,28 +14,30 @@ use Rattle.at_board.specs.declared.view.SeenDecision.{SeenDecision}
 use Rattle.at_board.specs.declared.view.SeenRequest.{SeenRequest}
 use Rattle.at_board.specs.declared.view.View.{View}
 use Rattle.at_board.specs.Cuts.{starting_seat}
-use Rattle.at_board.specs.Places.{IsPlace, request_word}
+use Rattle.at_board.specs.Places.{IsPlace, record_width, request_word}
 use Rattle.at_board.specs.RequestSteps.{part_asking, with_asking}
 use Rattle.at_board.specs.SeatCounts.{HasCounts, SeesPlaces}
 use Rattle.at_board.specs.SeatView.{IsSeat}
 use Rattle.at_board.specs.Steps.{IsHistory, LoadsLength, Publishes, StoresWord, with_load, with_part, with_record, with_word}
 use Rattle.at_board.specs.Views.{asking_on, no_asking, own_part, starting_asking}
 
--- a view with another part, in which as many requests are announced
+-- a view with another part, which has as many words, and in which as many requests are announced
 pub HasCounts-with_part : (v : View) (q : Part) (counts : List ℕ) → 0 < length v.parts → length q.asking ≡ length (own_part v).asking
+    → length q.stored ≡ length (own_part v).stored
     → ((a : ℕ) → a < length v.book.accounts → length (asking_on q a).announced ≡ length (asking_on (own_part v) a).announced)
     → HasCounts v counts → HasCounts (with_part v q) counts
-HasCounts-with_part v q counts part sized same has =
+HasCounts-with_part v q counts part sized stored same has =
     let own = own_part-with_part v q part in
     record {
       accounts = ap (λ (t : Part). length t.asking) own ∙ (sized ∙ has.accounts);
+      words = ap (λ (t : Part). length t.stored) own ∙ (stored ∙ has.words);
       sized = has.sized;
       counted = λ a within. has.counted a within ∙ (sym (same a within) ∙ sym (ap (λ (t : Part). length (asking_on t a).announced) own));
     }
 
 -- the counts of a view read its book and its parts alone
 HasCounts-seen : (v : View) (list : List Publication) (counts : List ℕ) → HasCounts v counts → HasCounts (record v { seen = list }) counts
-HasCounts-seen v list counts has = record { accounts = has.accounts; sized = has.sized; counted = has.counted }
+HasCounts-seen v list counts has = record { accounts = has.accounts; words = has.words; sized = has.sized; counted = has.counted }
 
 -- what a view has seen of requests and decisions is the same
 SeesPlaces-with_part : (v : View) (list : List Publication) (q : Part) → SeesPlaces v → SeesPlaces (with_part (record v { seen = list }) q)
@@ -45,23 +47,24 @@ pub HasCounts-load : (b : BookTerms) (v w : View) (p n : ℕ) (counts : List ℕ
     → HasCounts v counts → HasCounts w counts
 HasCounts-load b v w p n counts part told has =
     subst (λ t. HasCounts t counts) (sym told.same)
-    (HasCounts-with_part (record v { seen = w.seen }) (with_load (own_part v) p n) counts part refl (λ a within. refl) (HasCounts-seen v w.seen counts has))
+    (HasCounts-with_part (record v { seen = w.seen }) (with_load (own_part v) p n) counts part refl refl (λ a within. refl) (HasCounts-seen v w.seen counts has))
 
 pub SeesPlaces-load : (b : BookTerms) (v w : View) (p n : ℕ) → LoadsLength b v w p n → SeesPlaces v → SeesPlaces w
 SeesPlaces-load b v w p n told sees = subst SeesPlaces (sym told.same) (SeesPlaces-with_part v w.seen (with_load (own_part v) p n) sees)
 
 pub HasCounts-store : (v w : View) (j n : ℕ) (counts : List ℕ) → 0 < length v.parts → StoresWord v w j n → HasCounts v counts → HasCounts w counts
 HasCounts-store v w j n counts part told has =
-    subst (λ t. HasCounts t counts) (sym told) (HasCounts-with_part v (with_word (own_part v) j n) counts part refl (λ a within. refl) has)
+    subst (λ t. HasCounts t counts) (sym told) (HasCounts-with_part v (with_word (own_part v) j n) counts part refl (length-set (own_part v).stored j n) (λ a within. refl) has)
 
 pub SeesPlaces-store : (v w : View) (j n : ℕ) → StoresWord v w j n → SeesPlaces v → SeesPlaces w
 SeesPlaces-store v w j n told sees = subst SeesPlaces (sym told) (SeesPlaces-with_part v v.seen (with_word (own_part v) j n) sees)
 
-pub HasCounts-publish : (b : BookTerms) (v w : View) (x : Publication) (counts : List ℕ) → 0 < length v.parts → Publishes b v w x
+pub HasCounts-publish : (b : BookTerms) (v w : View) (x : Publication) (counts : List ℕ) → v.book ≡ b → 0 < length v.parts → Publishes b v w x
     → HasCounts v counts → HasCounts w counts
-HasCounts-publish b v w x counts part told has =
+HasCounts-publish b v w x counts book part told has =
     subst (λ t. HasCounts t counts) (sym told.same)
-    (HasCounts-with_part (record v { seen = w.seen }) (with_record b (own_part v) x) counts part refl (λ a within. refl) (HasCounts-seen v w.seen counts has))
+    (HasCounts-with_part (record v { seen = w.seen }) (with_record b (own_part v) x) counts part refl
+    (length-replicate (record_width b) 0 ∙ sym (has.words ∙ ap record_width book)) (λ a within. refl) (HasCounts-seen v w.seen counts has))
 
 pub SeesPlaces-publish : (b : BookTerms) (v w : View) (x : Publication) → Publishes b v w x → SeesPlaces v → SeesPlaces w
 SeesPlaces-publish b v w x told sees = subst SeesPlaces (sym told.same) (SeesPlaces-with_part v w.seen (with_record b (own_part v) x) sees)
@@ -70,6 +73,7 @@ SeesPlaces-publish b v w x told sees = subst SeesPlaces (sym told.same) (SeesPla
 pub HasCounts-starting : (b : BookTerms) (p : ℕ) (counts : List ℕ) → counts ≡ replicate (length b.accounts) 0 → HasCounts (starting_seat b p) counts
 HasCounts-starting b p counts zeros = record {
   accounts = length-replicate (length b.accounts) starting_asking;
+  words = length-replicate (record_width b) 0;
   sized = ap length zeros ∙ length-replicate (length b.accounts) 0;
   counted = λ a within. ap (λ l. get_or l a 0) zeros ∙ (get_or-zeros (length b.accounts) a
       ∙ sym (ap (λ (w : Asking). length w.announced) (get_or-replicate (length b.accounts) a starting_asking no_asking within)));
@@ -101,8 +105,8 @@ pub HasCounts-asking : (v : View) (list : List Publication) (requests : List See
     → HasCounts (with_asking (record v { seen = list; requests = requests }) a w) counts
 HasCounts-asking v list requests a w counts part same has =
     let q : Part = own_part v in
-    let before : HasCounts (record v { seen = list; requests = requests }) counts = record { accounts = has.accounts; sized = has.sized; counted = has.counted } in
-    HasCounts-with_part (record v { seen = list; requests = requests }) (part_asking q a w) counts part (length-set q.asking a w)
+    let before : HasCounts (record v { seen = list; requests = requests }) counts = record { accounts = has.accounts; words = has.words; sized = has.sized; counted = has.counted } in
+    HasCounts-with_part (record v { seen = list; requests = requests }) (part_asking q a w) counts part (length-set q.asking a w) refl
     (λ c within. elim (cases_eq c a) as (λ _. length (get_or (set q.asking a w) c no_asking).announced ≡ length (asking_on q c).announced) [
       | inl here ↦
           let inside : a < length q.asking = omega (arith, within, has.accounts, here) in
@@ -125,6 +129,7 @@ HasCounts-counted v list requests a n w counts part counted has =
     let own = own_part-with_part u (part_asking q a w) part in
     record {
       accounts = ap (λ (t : Part). length t.asking) own ∙ (length-set q.asking a w ∙ has.accounts);
+      words = ap (λ (t : Part). length t.stored) own ∙ has.words;
       sized = length-set counts a n ∙ has.sized;
       counted = λ c within. elim (cases_eq c a) as (λ _. get_or (set counts a n) c 0 ≡ length (asking_on (own_part (with_asking u a w)) c).announced) [
         | inl here ↦

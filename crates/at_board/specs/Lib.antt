@@ -29,3 +29,4 @@ pub mod SeatCounts
 pub mod Seated
 pub mod Ends
 pub mod SmallBoard
+pub mod Forms

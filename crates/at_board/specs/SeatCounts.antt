@@ -1,12 +1,13 @@
 -- What a seat keeps of the requests on each account.
 use Rattle.std.specs.Prelude.{◌≡◌, ℕ, ◌<◌, List, length, slice_index, All}
 use Rattle.at_board.specs.declared.view.View.{View}
-use Rattle.at_board.specs.Places.{IsPlace, request_word}
+use Rattle.at_board.specs.Places.{IsPlace, record_width, request_word}
 use Rattle.at_board.specs.Views.{asking_on, own_part}
 
--- the counts are those of the requests that the seat's process has announced on each account
+-- the counts are those of the requests that the seat's process has announced on each account, and its next record has all its words
 pub record HasCounts (view : View) (announced : List ℕ) : Type 0 where
   pub accounts : length (own_part view).asking ≡ length view.book.accounts
+  pub words : length (own_part view).stored ≡ record_width view.book
   pub sized : length announced ≡ length view.book.accounts
   pub counted : (a : ℕ) → a < length view.book.accounts → slice_index announced a ≡ length (asking_on (own_part view) a).announced
 
@@ -15,7 +16,8 @@ pub record SeesPlaces (view : View) : Type 0 where
   pub requests : All (λ x. IsPlace view.book (request_word x.account x.slot x.number 0)) view.requests
   pub decisions : All (λ x. IsPlace view.book (request_word x.account x.decision.slot x.decision.number 0)) view.decisions
 
--- the view has one part, which has something on each account
+-- the view has one part, which has something on each account and each word of the next record
 pub record HasOwnPart (view : View) : Type 0 where
   pub one_part : length view.parts ≡ 1
   pub accounts : length (own_part view).asking ≡ length view.book.accounts
+  pub words : length (own_part view).stored ≡ record_width view.book

@@ -31,6 +31,7 @@ impl Model for BoardSeat {
 
 impl BoardSeat {
     ghost use Rattle.at_board.specs.SeatCounts.{HasOwnPart, SeesPlaces};
+    ghost use Rattle.at_board.specs.SeatView.{IsSeat};
     ghost use Rattle.at_board.specs.Views.{own_part};
 
     /// The process that the seat belongs to.
@@ -38,6 +39,7 @@ impl BoardSeat {
         ensures process { result ≡ self.now.view.first }
         ensures part { HasOwnPart self.now.view }
         ensures places { SeesPlaces self.now.view }
+        ensures seat { IsSeat self.now.view result (own_part self.now.view).published }
     {
         self.process
     }

@@ -7,3 +7,7 @@ pub mod FirstLaws
 pub mod OrderRounds
 pub mod OrderRuns
 pub mod OrderHasRuns
+pub mod FormFacts
+pub mod AppendLaws
+pub mod SeenLaws
+pub mod EntryLaws

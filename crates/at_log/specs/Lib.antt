@@ -5,3 +5,5 @@ pub mod ClosingTerms
 pub mod HeldFronts
 pub mod Coherent
 pub mod JournalOrder
+pub mod Appending
+pub mod Loading

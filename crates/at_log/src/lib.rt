@@ -6,12 +6,17 @@
 #![tactic(auto)]
 
 mod closing;
+mod loading;
+mod log;
 mod receipt;
 mod record;
 #[cfg(test)]
 mod tests;
+mod words;
 
 pub use crate::closing::Closing;
+pub use crate::loading::{load_entry, load_view};
+pub use crate::log::{append, room};
 pub use crate::receipt::{At, Receipt};
 pub use crate::record::Record;
 pub use at_board::Entry;

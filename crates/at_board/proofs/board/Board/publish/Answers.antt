@@ -53,7 +53,7 @@ invariant_of-seat g c =
     λ x may_x. Publishes-played b c.self.inside.table.shared.table_id.slots c.seat.inside.process c.seat.inside.seat.me c.store.new.seat.me x (c.from.result + 1) book may_x c.store.ensures.2 in (
       c.store.ensures.2.0 ∙ c.seat.invariant.0,
       IsSeat-publish b v c.store.new.seat.me.0 c.seat.inside.process c.seat.inside.published c.requires.record.0 book c.seat.invariant.1 (told c.requires.record.0 may),
-      HasCounts-publish b v c.store.new.seat.me.0 c.requires.record.0 c.seat.inside.announced.items (omega (arith, c.seat.invariant.1.one_part)) (told c.requires.record.0 may) c.seat.invariant.2,
+      HasCounts-publish b v c.store.new.seat.me.0 c.requires.record.0 c.seat.inside.announced.items book (omega (arith, c.seat.invariant.1.one_part)) (told c.requires.record.0 may) c.seat.invariant.2,
       SeesPlaces-publish b v c.store.new.seat.me.0 c.requires.record.0 (told c.requires.record.0 may) c.seat.invariant.3,
     )
 

@@ -1,0 +1,119 @@
+-- The words of a record that are stored one after another, and its publication.
+use Rattle.std.proofs.Common.{◌≡◌, ℕ, ◌+◌, ◌<◌, List, [], ◌∷◌, length, get_or, set, refl, sym, ap, subst, ◌∙◌, arith, below_more}
+use Rattle.std.proofs.lemmas.Grind.{same_number_lists}
+use Rattle.std.proofs.lemmas.List.{get_or-set_other, get_or-set_same, length-set}
+use Rattle.at_ledger.specs.Book.{BookTerms, log_room_of}
+use Rattle.at_board.proofs.FrontLaws.{length-IsFront}
+use Rattle.at_board.proofs.SeatKept.{own_part-with_part}
+use Rattle.at_board.specs.declared.publication.Publication.{Publication}
+use Rattle.at_board.specs.declared.view.Part.{Part}
+use Rattle.at_board.specs.declared.view.View.{View}
+use Rattle.at_board.specs.Conditions.{MayPublish, MayStoreWord}
+use Rattle.at_board.specs.Places.{record_width}
+use Rattle.at_board.specs.SeatCounts.{HasOwnPart}
+use Rattle.at_board.specs.Steps.{Publishes, StoresWord, with_part, with_record, with_word}
+use Rattle.at_board.specs.Views.{no_part, own_part}
+use Rattle.at_board.specs.Words.{record_words}
+use Rattle.at_log.specs.declared.record.Record.{Record}
+use Rattle.at_log.specs.Appending.{MayAppend}
+use Rattle.at_log.specs.ClosingTerms.{published_by}
+
+-- the part with these words in place of those stored
+abbrev pub with_stored : Part → List ℕ → Part
+with_stored q stored = record q { stored = stored }
+
+-- the first j words are stored, and nothing else has changed
+pub record IsStoring (before after : View) (words : List ℕ) (j : ℕ) : Type 0 where
+  pub stored : List ℕ
+  pub sized : length stored ≡ length (own_part before).stored
+  pub same : after ≡ with_part before (with_stored (own_part before) stored)
+  pub words_so_far : (k : ℕ) → k < j → get_or stored k 0 ≡ get_or words k 0
+
+set_first-again : {X : Type 0} (xs : List X) (x y : X) → set (set xs 0 x) 0 y ≡ set xs 0 y
+set_first-again [] x y = refl
+set_first-again (z ∷ zs) x y = refl
+
+set_first-own : (v : View) → 0 < length v.parts → set v.parts 0 (own_part v) ≡ v.parts
+set_first-own v some = first v.parts some
+  where
+    first : (qs : List Part) → 0 < length qs → set qs 0 (get_or qs 0 no_part) ≡ qs
+    first [] some = absurd (omega arith)
+    first (q ∷ qs) some = refl
+
+-- a part that was set twice
+pub with_part-again : (v : View) (q r : Part) → with_part (with_part v q) r ≡ with_part v r
+with_part-again v q r = ap (λ parts. record v { parts = parts }) (set_first-again v.parts q r)
+
+-- nothing is stored yet
+pub IsStoring-none : (v : View) (words : List ℕ) → 0 < length v.parts → IsStoring v v words 0
+IsStoring-none v words some = record {
+  stored = (own_part v).stored;
+  sized = refl;
+  same = ap (λ parts. record v { parts = parts }) (sym (set_first-own v some));
+  words_so_far = λ k below. absurd (omega arith);
+}
+
+-- one more word is stored
+pub IsStoring-more : (v u w : View) (words : List ℕ) (j n : ℕ) → 0 < length v.parts → j < length (own_part v).stored → IsStoring v u words j
+    → n ≡ get_or words j 0 → StoresWord u w j n → IsStoring v w words (j + 1)
+IsStoring-more v u w words j n some inside storing word told =
+    let q : Part = own_part v in
+    let own : own_part u ≡ with_stored q storing.stored = ap own_part storing.same ∙ own_part-with_part v (with_stored q storing.stored) some in
+    record {
+      stored = set storing.stored j n;
+      sized = length-set storing.stored j n ∙ storing.sized;
+      same = told ∙ (ap (λ t. with_part u (with_word t j n)) own ∙ (ap (λ t. with_part t (with_stored q (set storing.stored j n))) storing.same
+          ∙ with_part-again v (with_stored q storing.stored) (with_stored q (set storing.stored j n))));
+      words_so_far = below_more (λ k. get_or (set storing.stored j n) k 0 ≡ get_or words k 0) j
+          (λ k below. get_or-set_other storing.stored j k n 0 (omega arith) ∙ storing.words_so_far k below)
+          (get_or-set_same storing.stored j n 0 (omega (arith, inside, storing.sized)) ∙ word);
+    }
+
+-- all that a store asks
+pub MayStoreWord-IsStoring : (b : BookTerms) (v u : View) (x : Record) (words : List ℕ) (j k : ℕ) → 0 < length v.parts → MayAppend b v x
+    → IsStoring v u words k → j < record_width b → MayStoreWord b u j
+MayStoreWord-IsStoring b v u x words j k some may storing inside =
+    subst (λ t. MayStoreWord b t j) (sym storing.same)
+    (record {
+      room = subst (λ (q : Part). q.published < log_room_of b v.first) (sym (own_part-with_part v (with_stored (own_part v) storing.stored) some)) may.room;
+      word = inside;
+    })
+
+length-record_words : (b : BookTerms) (v : View) (x : Record) → MayAppend b v x → length (record_words (published_by v.first x)) ≡ record_width b
+length-record_words b v x may = omega (arith, length-IsFront b.processes x.view v.seen may.view.front)
+
+-- all words are stored
+pub MayPublish-IsStoring : (b : BookTerms) (v u : View) (x : Record) (j : ℕ) → v.book ≡ b → HasOwnPart v → MayAppend b v x
+    → IsStoring v u (record_words (published_by v.first x)) j → j ≡ record_width b → MayPublish b u (published_by v.first x)
+MayPublish-IsStoring b v u x j book part may storing all =
+    let some : 0 < length v.parts = omega (arith, part.one_part) in
+    let y : Publication = published_by v.first x in
+    let own = own_part-with_part v (with_stored (own_part v) storing.stored) some in
+    let size : length storing.stored ≡ record_width b = storing.sized ∙ (part.words ∙ ap record_width book) in
+    let words : storing.stored ≡ record_words y = same_number_lists storing.stored (record_words y)
+    (size ∙ sym (length-record_words b v x may)) (λ k within. storing.words_so_far k (omega (arith, within, size, all))) in
+    subst (λ t. MayPublish b t y) (sym storing.same)
+    (record {
+      process = refl;
+      room = subst (λ (q : Part). q.published < log_room_of b v.first) (sym own) may.room;
+      stored = ap (λ (q : Part). q.stored) own ∙ words;
+      view = may.view;
+      entry = may.entry;
+    })
+
+-- the record is published, as if in one step
+pub Publishes-IsStoring : (b : BookTerms) (v u w : View) (x : Publication) (words : List ℕ) (j : ℕ) → 0 < length v.parts → IsStoring v u words j
+    → Publishes b u w x → Publishes b v w x
+Publishes-IsStoring b v u w x words j some storing told =
+    let q : Part = own_part v in
+    let own = own_part-with_part v (with_stored q storing.stored) some in
+    let here : Publishes b (with_part v (with_stored q storing.stored)) w x = subst (λ t. Publishes b t w x) storing.same told in
+    record {
+      between = here.between;
+      seen = here.seen;
+      own = here.own ∙ ap (λ (t : Part). t.published + 1) own;
+      joined = here.joined;
+      history = here.history;
+      same = here.same ∙ (ap (λ t. with_part (with_part (record v { seen = w.seen }) (with_stored q storing.stored)) (with_record b t x)) own
+          ∙ with_part-again (record v { seen = w.seen }) (with_stored q storing.stored) (with_record b q x));
+    }

@@ -1,0 +1,125 @@
+-- The numbers of entries that a seat may append, or has seen, fit their words.
+use Rattle.std.proofs.Common.{◌≡◌, ℕ, ◌+◌, ◌<◌, ◌≤◌, List, [], ◌∷◌, ◌++◌, length, get_or, fold, cond, sym, subst, arith, inl, inr}
+use Rattle.std.specs.List.{All, Contains, range_with_len}
+use Rattle.std.proofs.lemmas.Bool.{cases_Bool}
+use Rattle.std.proofs.lemmas.List.{get_or-map, length-map, length_push, length-take}
+use Rattle.std.proofs.lemmas.List.FromFn.{get_or-range_with_len, length-range_with_len}
+use Rattle.std.proofs.lemmas.List.Elements.{All-cons, All-from_get_or, All-get_or}
+use Rattle.std.proofs.lemmas.List.Sums.{count_by-le-length, get_or-le-sum_by, sum-map, sum_by-le}
+use Rattle.std.proofs.lemmas.Nat.{mul-le}
+use Rattle.at_ledger.specs.Account.{no_account, rounds_room}
+use Rattle.at_ledger.specs.Book.{BookTerms, IsBegun}
+use Rattle.at_ledger.specs.Call.{AreTargetsOn, TargetPair}
+use Rattle.at_board.proofs.CountLaws.{sum-counts}
+use Rattle.at_board.proofs.FormLaws.{ArePacked-AreTargets}
+use Rattle.at_board.proofs.RecordLaws.{All-Contains}
+use Rattle.at_board.proofs.SizeLaws.{log_room_of-le}
+use Rattle.at_board.specs.declared.publication.Entry.{Entry}
+use Rattle.at_board.specs.declared.publication.Entry.TheVariants.{Own, Round}
+use Rattle.at_board.specs.declared.publication.Publication.{Publication}
+use Rattle.at_board.specs.declared.view.View.{View}
+use Rattle.at_board.specs.BoardState.{publication_at}
+use Rattle.at_board.specs.Conditions.{MayEnter}
+use Rattle.at_board.specs.Entries.{is_round_on, targets_of}
+use Rattle.at_board.specs.Forms.{IsForm}
+use Rattle.at_board.specs.Fronts.{place, prefix_of}
+use Rattle.at_board.specs.Publications.{ArePublishedBy, count_of, counts, no_publication}
+use Rattle.at_board.specs.RecordWords.{lists_of}
+use Rattle.at_board.specs.Rounds.{firsts, repeats, rounds, with_first}
+use Rattle.at_board.specs.SeatView.{IsSeat}
+use Rattle.at_board.specs.ShownRounds.{IsShownDecision}
+use Rattle.at_board.specs.Steps.{IsHistory, IsShownEntry}
+use Rattle.at_board.specs.TargetsWord.{ArePacked, accounts_of}
+use Rattle.at_log.specs.declared.record.Record.{Record}
+use Rattle.at_log.specs.Appending.{HasWords, MayAppend}
+
+-- the targets of an entry that fits its words
+pub ArePacked-IsForm : (e : Entry) → IsForm e → ArePacked (accounts_of (targets_of e))
+ArePacked-IsForm (Own from targets) form = form.1
+ArePacked-IsForm (Round a r d targets) form = form.3
+
+pub AreTargetsOn-ArePacked : (ts : List TargetPair) → ArePacked (accounts_of ts) → AreTargetsOn 1024 ts
+AreTargetsOn-ArePacked ts packed = All-from_get_or (λ (t : TargetPair). t.0 < 1024) ts (0, 0) (λ i within.
+    let inside : i < length (accounts_of ts) = omega (arith, within, length-map ts (λ (t : TargetPair). t.0)) in
+    omega (
+      arith,
+      get_or-map (λ (t : TargetPair). t.0) ts i (0, 0) 0 within,
+      All-get_or (λ account. account < 1024) (accounts_of ts) i 0 inside packed.small,
+    ))
+
+-- no more rounds than publications
+length-with_first : (acc : List Publication) (x : Publication) → length (with_first acc x) ≤ length acc + 1
+length-with_first acc x =
+    elim (cases_Bool (repeats x acc)) as (λ _. length (with_first acc x) ≤ length acc + 1) [
+      | inl again ↦ subst (λ t. length (cond t acc (acc ++ x ∷ [])) ≤ length acc + 1) (sym again) (omega arith)
+      | inr new ↦ subst (λ t. length (cond t acc (acc ++ x ∷ [])) ≤ length acc + 1) (sym new) (omega (arith, length_push acc x))
+    ]
+
+length-fold : (xs acc : List Publication) → length (fold with_first acc xs) ≤ length acc + length xs
+length-fold [] acc = omega arith
+length-fold (x ∷ xs) acc = omega (arith, length-fold xs (with_first acc x), length-with_first acc x)
+
+rounds-le-length : (a : ℕ) (xs : List Publication) → rounds a xs ≤ length xs
+unfolding firsts
+rounds-le-length a xs = omega (arith, count_by-le-length (λ (x : Publication). is_round_on a x.entry) (firsts xs), length-fold xs [])
+
+-- a history is short
+length-IsHistory : (b : BookTerms) (list : List Publication) → IsBegun b → IsHistory b list → length list ≤ 2097152
+unfolding counts
+length-IsHistory b list begun history =
+    let n = b.processes in
+    let range = range_with_len 0 n in
+    let known : ArePublishedBy n list = All-from_get_or (λ x. x.process < n) list no_publication (λ i within. (history.views i within).process) in
+    let each : All (λ p. count_of p list ≤ 131072) range = All-from_get_or (λ p. count_of p list ≤ 131072) range 0 (λ i within.
+    let inside : i < n = omega (arith, within, length-range_with_len 0 n) in
+    let at : get_or range i 0 ≡ i = omega (arith, get_or-range_with_len 0 n i 0 inside) in
+    subst (λ p. count_of p list ≤ 131072) (sym at) (omega (arith, history.room i inside, log_room_of-le b i begun inside))) in
+    omega (
+      arith,
+      sum-counts n list known,
+      sum-map (λ p. count_of p list) range,
+      sum_by-le (λ p. count_of p list) 131072 range each,
+      length-range_with_len 0 n,
+      mul-le n 131072 16 131072 begun.few_processes (omega arith),
+    )
+
+-- an entry that may come next
+IsForm-MayEnter : (b : BookTerms) (v : View) (prefix : List Publication) (e : Entry) → IsBegun b → length prefix ≤ 2097152
+    → MayEnter b v prefix e → HasWords b e → IsForm e
+IsForm-MayEnter b v prefix (Own from targets) begun few law words =
+    (omega (arith, law.0.source_in, begun.few_accounts), ArePacked-AreTargets b targets begun law.0.targets_in)
+IsForm-MayEnter b v prefix (Round a r d targets) begun few law words = (
+  omega (arith, law.0.account_in, begun.few_accounts),
+  omega (arith, law.0.next, rounds-le-length a prefix),
+  words.0,
+  ArePacked-AreTargets b targets begun words.1,
+)
+
+pub IsForm-MayAppend : (b : BookTerms) (v : View) (x : Record) → IsBegun b → IsHistory b v.seen → MayAppend b v x → IsForm x.entry
+IsForm-MayAppend b v x begun history may =
+    IsForm-MayEnter b v (prefix_of x.view v.seen) x.entry begun
+    (omega (arith, length-take (place x.view) v.seen, length-IsHistory b v.seen begun history)) may.entry may.words
+
+-- an entry of a history
+IsForm-IsShownEntry : (b : BookTerms) (p : ℕ) (prefix list : List Publication) (e : Entry) → IsBegun b → IsShownEntry b p prefix e
+    → IsShownDecision b list e → IsForm e
+IsForm-IsShownEntry b p prefix list (Own from targets) begun law decided =
+    (omega (arith, law.source_in, begun.few_accounts), ArePacked-AreTargets b targets begun law.targets_in)
+IsForm-IsShownEntry b p prefix list (Round a r d targets) begun law decided = (
+  omega (arith, law.0.account_in, begun.few_accounts),
+  omega (arith, decided.room, begun.rounds, get_or-le-sum_by (rounds_room b.request_room) b.accounts a no_account law.0.account_in),
+  law.2,
+  ArePacked-AreTargets b targets begun law.1,
+)
+
+pub IsForm-IsHistory : (b : BookTerms) (list : List Publication) (m : ℕ) → IsBegun b → IsHistory b list → m < length list
+    → IsForm (publication_at list m).entry
+IsForm-IsHistory b list m begun history within =
+    let x : Publication = publication_at list m in
+    IsForm-IsShownEntry b x.process (prefix_of x.view list) list x.entry begun (history.entries m within) (history.decisions m within)
+
+-- each list that a seat has seen is a history
+pub IsHistory-lists_of : (v : View) (process published : ℕ) (list : List Publication) → IsSeat v process published → Contains (lists_of v) list
+    → IsHistory v.book list
+IsHistory-lists_of v process published list seat seen =
+    All-Contains (IsHistory v.book) (lists_of v) list (All-cons (IsHistory v.book) v.seen v.joined seat.history seat.joined) seen

@@ -1,0 +1,98 @@
+-- What the words of a record that a seat has seen tell of it.
+use Rattle.std.proofs.Common.{◌≡◌, ℕ, ◌+◌, ◌-◌, ◌^◌, ◌<◌, ◌≤◌, List, ◌∷◌, length, get_or, set, take, refl, sym, ap, subst, ◌∙◌, arith, below_more}
+use Rattle.std.specs.List.{Contains}
+use Rattle.std.proofs.lemmas.Grind.{same_number_lists}
+use Rattle.std.proofs.lemmas.List.{get_or-append_right, get_or-set_other, get_or-set_same}
+use Rattle.at_ledger.specs.Book.{BookTerms, IsBegun}
+use Rattle.at_board.proofs.CountLaws.{count_of-take-le, get_or-publications_of, position_of}
+use Rattle.at_board.proofs.FrontLaws.{get_or-IsFront, length-IsFront}
+use Rattle.at_board.proofs.SizeLaws.{log_room_of-le}
+use Rattle.at_board.specs.declared.publication.Publication.{Publication}
+use Rattle.at_board.specs.declared.view.View.{View}
+use Rattle.at_board.specs.BoardState.{publication_at}
+use Rattle.at_board.specs.Entries.{targets_of}
+use Rattle.at_board.specs.Forms.{IsForm}
+use Rattle.at_board.specs.Fronts.{place}
+use Rattle.at_board.specs.Publications.{count_of, no_publication, publications_of}
+use Rattle.at_board.specs.RecordWords.{IsRecordWord, SeesRecord, lists_of}
+use Rattle.at_board.specs.Sound.{HasView}
+use Rattle.at_board.specs.Steps.{IsHistory}
+use Rattle.at_board.specs.TargetsWord.{accounts_of, targets_word}
+use Rattle.at_board.specs.Words.{amount_words, decision_word, head_of, record_words}
+use Rattle.at_log.proofs.FormFacts.{IsForm-IsHistory}
+use Rattle.at_log.specs.Loading.{IsViewOf}
+
+-- a record of a history: its numbers fit its words
+pub record IsShownRecord (b : BookTerms) (x : Publication) : Type 0 where
+  pub form : IsForm x.entry
+  pub sized : length x.view ≡ b.processes
+  pub small : (q : ℕ) → q < b.processes → get_or x.view q 0 ≤ 131072
+
+IsShownRecord-at : (b : BookTerms) (list : List Publication) (m : ℕ) → IsBegun b → IsHistory b list → m < length list
+    → IsShownRecord b (publication_at list m)
+IsShownRecord-at b list m begun history within =
+    let x : Publication = publication_at list m in
+    let view : HasView b (take m list) x = history.views m within in
+    record {
+      form = IsForm-IsHistory b list m begun history within;
+      sized = length-IsFront b.processes x.view (take m list) view.front;
+      small = λ q known. omega (
+        arith,
+        get_or-IsFront b.processes x.view (take m list) q view.front known,
+        count_of-take-le q (place x.view) (take m list),
+        count_of-take-le q m list,
+        history.room q known,
+        log_room_of-le b q begun known,
+      );
+    }
+
+-- record i of a process
+pub IsShownRecord-IsHistory : (b : BookTerms) (list : List Publication) (p i : ℕ) → IsBegun b → IsHistory b list → i < count_of p list
+    → IsShownRecord b (publication_at (publications_of p list) i)
+IsShownRecord-IsHistory b list p i begun history within =
+    let at = position_of p i list within in
+    let same : publication_at (publications_of p list) i ≡ publication_at list at.0 =
+    ap (publication_at (publications_of p list)) (sym at.1.before)
+    ∙ get_or-publications_of p at.0 list no_publication at.1.within (at.1.own no_publication) in
+    subst (IsShownRecord b) (sym same) (IsShownRecord-at b list at.0 begun history at.1.within)
+
+-- the words behind the first seven are the view's
+pub get_or-record_words : (x : Publication) (q : ℕ) → get_or (record_words x) (7 + q) 0 ≡ get_or x.view q 0
+get_or-record_words x q =
+    let xs : List ℕ = head_of x.entry ∷ targets_word (accounts_of (targets_of x.entry)) ∷ decision_word x.entry ∷ amount_words (targets_of x.entry) in
+    let e : 7 + q - 7 ≡ q = omega arith in
+    get_or-append_right xs x.view 7 (7 + q) 0 refl (omega arith) ∙ ap (λ k. get_or x.view k 0) e
+
+-- the first q counts of a view are those of record i of the process
+pub record IsLoaded (v : View) (p i : ℕ) (view : List ℕ) (q : ℕ) : Type 0 where
+  pub counts : (list : List Publication) → Contains (lists_of v) list → i < count_of p list → (k : ℕ) → k < q
+      → get_or view k 0 ≡ get_or (publication_at (publications_of p list) i).view k 0
+
+pub IsLoaded-none : (v : View) (p i : ℕ) (view : List ℕ) → IsLoaded v p i view 0
+IsLoaded-none v p i view = record { counts = λ list seen within k below. absurd (omega arith) }
+
+pub IsLoaded-more : (v : View) (p i : ℕ) (view : List ℕ) (q w : ℕ) → q < length view → IsLoaded v p i view q → IsRecordWord v p i (7 + q) w
+    → IsLoaded v p i (set view q w) (q + 1)
+IsLoaded-more v p i view q w inside loaded word = record {
+  counts = λ list seen within.
+      let x : Publication = publication_at (publications_of p list) i in
+      below_more (λ k. get_or (set view q w) k 0 ≡ get_or x.view k 0) q
+      (λ k below. get_or-set_other view q k w 0 (omega arith) ∙ loaded.counts list seen within k below)
+      (get_or-set_same view q w 0 inside ∙ (word list seen within ∙ get_or-record_words x q));
+}
+
+pub IsViewOf-IsLoaded : (b : BookTerms) (v : View) (p i : ℕ) (view : List ℕ) (q : ℕ) → IsBegun b
+    → ((list : List Publication) → Contains (lists_of v) list → IsHistory b list) → length view ≡ b.processes → q ≡ b.processes
+    → IsLoaded v p i view q → IsViewOf v p i view
+IsViewOf-IsLoaded b v p i view q begun histories sized all loaded = λ list seen within.
+    let x : Publication = publication_at (publications_of p list) i in
+    let shown = IsShownRecord-IsHistory b list p i begun (histories list seen) within in
+    same_number_lists view x.view (sized ∙ sym shown.sized) (λ k inside. loaded.counts list seen within k (omega (arith, inside, sized, all)))
+
+-- a count of a view is small
+pub small-IsRecordWord : (b : BookTerms) (v : View) (p i q w : ℕ) → IsBegun b → ((list : List Publication) → Contains (lists_of v) list → IsHistory b list)
+    → SeesRecord v p i → q < b.processes → IsRecordWord v p i (7 + q) w → w < 2 ^ 32
+small-IsRecordWord b v p i q w begun histories sees known word =
+    let x : Publication = publication_at (publications_of p sees.list) i in
+    let shown = IsShownRecord-IsHistory b sees.list p i begun (histories sees.list sees.seen) sees.within in
+    omega (arith, word sees.list sees.seen sees.within, get_or-record_words x q, shown.small q known)

@@ -1,0 +1,48 @@
+use Rattle.std.proofs.Common.{ℕ, ◌<◌, [], ◌∷◌, get_or, set, sym, subst, ◌∙◌, arith, below_more}
+use Rattle.std.proofs.lemmas.List.{get_or-set_other, get_or-set_same, length-set}
+use Rattle.at_ledger.specs.Book.{BookTerms, IsBook}
+use Rattle.at_board.specs.declared.publication.Publication.{Publication}
+use Rattle.at_board.specs.declared.view.View.{View}
+use Rattle.at_board.specs.BoardState.{publication_at}
+use Rattle.at_board.specs.Publications.{publications_of}
+use Rattle.at_board.specs.RecordWords.{IsRecordWord}
+use Rattle.at_board.specs.SeatView.{SeatView}
+use Rattle.at_board.specs.Steps.{IsHistory}
+use Rattle.at_log.proofs.FormFacts.{IsHistory-lists_of}
+use Rattle.at_log.proofs.SeenLaws.{IsShownRecord-IsHistory}
+use Rattle.at_log.proofs.loading.load_entry.Goals as goal
+
+pub loop-j-preserved : goal.loop-j-preserved
+loop-j-preserved g c =
+    let v : View = c.args.seat.now.view in
+    let p = c.args.p in
+    let i = c.args.i in
+    let j = c.loop-j.j in
+    let w = c.load_record_word.result in
+    let word : IsRecordWord v p i j w =
+    subst (λ (s : SeatView). IsRecordWord s.view p i j w) c.loop-j.invariant.same c.load_record_word.ensures.word in
+    record {
+      same = c.load_record_word.ensures.same ∙ c.loop-j.invariant.same;
+      sized = length-set c.loop-j.words j w ∙ c.loop-j.invariant.sized;
+      loaded = below_more (λ k. IsRecordWord v p i k (get_or (set c.loop-j.words j w) k 0)) j
+          (λ k below. subst (IsRecordWord v p i k) (sym (get_or-set_other c.loop-j.words j k w 0 (omega arith))) (c.loop-j.invariant.loaded k below))
+          (subst (IsRecordWord v p i j) (sym (get_or-set_same c.loop-j.words j w 0 (omega (arith, c.loop-j-test.true, c.loop-j.invariant.sized)))) word);
+      steps = omega (arith, c.load_record_word.ensures.steps, c.loop-j.invariant.steps);
+      exchanges = c.load_record_word.ensures.exchanges ∙ c.loop-j.invariant.exchanges;
+    }
+
+pub returns-clause-entry : goal.returns-clause-entry
+returns-clause-entry g c = λ list seen within.
+    let b : BookTerms = c.args.board.now.book in
+    let v : View = c.args.seat.now.view in
+    let x : Publication = publication_at (publications_of c.args.p list) c.args.i in
+    let book : IsBook b = subst IsBook c.book.ensures c.accounts-accounts.ensures.checked in
+    let history : IsHistory b list =
+    subst (λ t. IsHistory t list) c.requires.board.book (IsHistory-lists_of v _ _ list c.process-process.ensures.seat seen) in
+    let word = λ (k : ℕ) (small : k < 7). c.loop-j.invariant.loaded k (omega (arith, small, c.loop-j-test.false)) list seen within in
+    let third = word 3 (omega arith) in
+    let fourth = word 4 (omega arith) in
+    let fifth = word 5 (omega arith) in
+    let sixth = word 6 (omega arith) in
+    c.entry_of.ensures x.entry (IsShownRecord-IsHistory b list c.args.p c.args.i book.begun history within).form
+    (word 0 (omega arith)) (word 1 (omega arith)) (word 2 (omega arith)) (λ t. third t ∷ fourth t ∷ fifth t ∷ sixth t ∷ [])

@@ -1,0 +1,13 @@
+use Rattle.std.proofs.Common.{◌≡◌, ◌+◌, length}
+use Rattle.at_log.proofs.SeenLaws.{IsLoaded}
+use Rattle.at_log.proofs.loading.load_view.Given as goal
+
+-- so many counts are loaded, a step for each
+abbrev pub invariant-loop-q : goal.invariant-loop-q
+invariant-loop-q g l = record {
+  same : l.seat ≡ l.fn.seat;
+  sized : length l.view ≡ l.board.book.processes;
+  loaded : IsLoaded l.fn.seat.view l.p l.i l.view l.q;
+  steps : l.steps ≡ l.fn.steps + l.q;
+  exchanges : l.exchanges ≡ l.fn.exchanges;
+}

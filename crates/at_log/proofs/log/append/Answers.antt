@@ -1,0 +1,74 @@
+use Rattle.std.proofs.Common.{◌<◌, length, ap, subst, ◌∙◌, arith}
+use Rattle.at_ledger.specs.Book.{BookTerms, IsBook}
+use Rattle.at_board.proofs.FrontLaws.{length-IsFront}
+use Rattle.at_board.specs.declared.view.View.{View}
+use Rattle.at_board.specs.Places.{record_width}
+use Rattle.at_board.specs.Steps.{IsHistory}
+use Rattle.at_board.specs.Views.{own_part}
+use Rattle.at_board.specs.Words.{record_words}
+use Rattle.at_log.proofs.AppendLaws.{IsStoring-more, MayPublish-IsStoring, Publishes-IsStoring}
+use Rattle.at_log.proofs.FormFacts.{IsForm-MayAppend}
+use Rattle.at_log.specs.declared.record.Record.{Record}
+use Rattle.at_log.specs.ClosingTerms.{published_by}
+use Rattle.at_log.proofs.log.append.Goals as goal
+
+pub record_word-requires-clause-entry : goal.record_word-requires-clause-entry
+record_word-requires-clause-entry g c =
+    let b : BookTerms = c.args.board.now.book in
+    let v : View = c.args.seat.now.view in
+    let book : IsBook b = subst IsBook c.book.ensures c.accounts-accounts.ensures.checked in
+    IsForm-MayAppend b v c.args.rec.now book.begun (subst (λ t. IsHistory t v.seen) c.requires.board.book c.process-process.ensures.seat.history)
+    c.requires.record
+
+pub record_word-requires-clause-word : goal.record_word-requires-clause-word
+record_word-requires-clause-word g c =
+    let b : BookTerms = c.args.board.now.book in
+    let x : Record = c.args.rec.now in
+    let width = ap (λ (t : BookTerms). t.processes) c.book-2.ensures in
+    omega (
+      arith,
+      c.loop-j-test.true,
+      c.processes-width.ensures,
+      width,
+      length-IsFront b.processes x.view c.args.seat.now.view.seen c.requires.record.view.front,
+    )
+
+pub loop-j-preserved : goal.loop-j-preserved
+loop-j-preserved g c =
+    let b : BookTerms = c.args.board.now.book in
+    let v : View = c.args.seat.now.view in
+    let part = c.process-process.ensures.part in
+    let width = ap (λ (t : BookTerms). t.processes) c.book-2.ensures in
+    let inside : c.loop-j.j < length (own_part v).stored =
+    omega (arith, c.loop-j-test.true, c.processes-width.ensures, width, part.words, ap record_width c.requires.board.book) in
+    record {
+      board = c.store_record_word.ensures.board ∙ c.loop-j.invariant.board;
+      storing = IsStoring-more v c.loop-j.seat.view c.store_record_word.new.seat.view (record_words (published_by v.first c.args.rec.now)) c.loop-j.j
+          c.record_word.result (omega (arith, part.one_part)) inside c.loop-j.invariant.storing c.record_word.ensures
+          c.store_record_word.ensures.stored;
+      steps = omega (arith, c.store_record_word.ensures.steps, c.loop-j.invariant.steps);
+      exchanges = c.store_record_word.ensures.exchanges ∙ c.loop-j.invariant.exchanges;
+    }
+
+pub publish-requires-clause-record : goal.publish-requires-clause-record
+publish-requires-clause-record g c =
+    let b : BookTerms = c.args.board.now.book in
+    let v : View = c.args.seat.now.view in
+    let width = ap (λ (t : BookTerms). t.processes) c.book-2.ensures in (
+      published_by v.first c.args.rec.now,
+      MayPublish-IsStoring b v c.loop-j.seat.view c.args.rec.now c.loop-j.j c.requires.board.book c.process-process.ensures.part
+          c.requires.record c.loop-j.invariant.storing
+          (omega (arith, c.loop-j-test.false, c.loop-j.auto.j-end, c.processes-width.ensures, width)),
+    )
+
+pub returns-clause-published : goal.returns-clause-published
+returns-clause-published g c =
+    let b : BookTerms = c.args.board.now.book in
+    let v : View = c.args.seat.now.view in
+    let x : Record = c.args.rec.now in
+    let part = c.process-process.ensures.part in
+    let width = ap (λ (t : BookTerms). t.processes) c.book-2.ensures in
+    let may = MayPublish-IsStoring b v c.loop-j.seat.view x c.loop-j.j c.requires.board.book part c.requires.record c.loop-j.invariant.storing
+    (omega (arith, c.loop-j-test.false, c.loop-j.auto.j-end, c.processes-width.ensures, width)) in
+    Publishes-IsStoring b v c.loop-j.seat.view c.publish.new.seat.view (published_by v.first x) (record_words (published_by v.first x)) c.loop-j.j
+    (omega (arith, part.one_part)) c.loop-j.invariant.storing (c.publish.ensures.published (published_by v.first x) may)

@@ -1,0 +1,48 @@
+//! Logs: records are appended to the board one after another.
+
+ghost use Rattle.std.specs.Prelude.{◌≡◌, ◌+◌, ◌-◌};
+ghost use Rattle.at_board.specs.SeatView.{IsOf};
+ghost use Rattle.at_board.specs.Steps.{Publishes};
+ghost use Rattle.at_board.specs.Views.{own_part};
+ghost use Rattle.at_ledger.specs.Book.{log_room_of};
+ghost use Rattle.at_log.specs.Appending.{MayAppend};
+ghost use Rattle.at_log.specs.ClosingTerms.{published_by};
+
+use crate::record::Record;
+use crate::words::record_word;
+use at_board::{Board, BoardSeat, RECORD_WORDS, Steps};
+use std::sync::ledger::Ledger;
+
+/// How many records the log of the seat's process still takes. It makes no step.
+pub fn room(board: &Board, seat: &BoardSeat) -> u32
+    ensures { result ≡ log_room_of board.now.book seat.now.view.first - (own_part seat.now.view).published }
+{
+    board
+        .book()
+        .log_room(seat.process())
+        .saturating_sub(seat.published())
+}
+
+/// Stores the words of a record, which are seven and one for each process, and publishes it. Takes no memory.
+pub fn append<L: Ledger, X: Ledger>(
+    board: &Board,
+    seat: &mut BoardSeat,
+    rec: &Record,
+    steps: &mut Steps<L>,
+    exchanges: &mut Steps<X>,
+)
+    requires board { IsOf seat.old board.now }
+    requires record { MayAppend board.now.book seat.old.view rec.now }
+    ensures published { Publishes board.now.book seat.old.view seat.new.view (published_by seat.old.view.first rec.now) }
+    ensures board { seat.new.board ≡ seat.old.board }
+    ensures steps { steps.new ≡ steps.old + (board.now.book.processes + 8) }
+    ensures exchanges { exchanges.new ≡ exchanges.old }
+{
+    let _accounts = board.book().accounts();
+    let _process = seat.process();
+    let width = RECORD_WORDS + board.book().processes();
+    for j in 0..width {
+        board.store_record_word(seat, j, record_word(rec, j), steps, exchanges);
+    }
+    board.publish(seat, steps, exchanges);
+}
