@@ -6,3 +6,5 @@ pub mod SumsLaws
 pub mod PushLaws
 pub mod NewRoundLaws
 pub mod StepLaws
+pub mod StartLaws
+pub mod FrontLaws

@@ -49,6 +49,11 @@ pub record HasCounted (t : TotalSums) (b : BookTerms) (seen : List Publication) 
   pub within : Covers (counts b.processes seen) t.upto
   pub sums : AreSumsOf b (counted t.upto seen) t.accounts
 
+-- the list has so many records of each process
+pub record HasRecords (b : BookTerms) (seen : List Publication) (upto : List ℕ) : Type 0 where
+  pub sized : length upto ≡ b.processes
+  pub within : Covers (counts b.processes seen) upto
+
 -- the entry is that of the first record of the process that isn't counted yet
 pub record IsNext (t : TotalSums) (b : BookTerms) (seen : List Publication) (p : ℕ) (e : Entry) : Type 0 where
   pub process : p < b.processes

@@ -4,14 +4,20 @@ ghost use Rattle.std.specs.Prelude.{◌≡◌, ℕ, ◌+◌, ◌<◌, ◌≤◌,
 ghost use Rattle.at_ledger.specs.Book.{BookTerms};
 ghost use Rattle.at_ledger.specs.Call.{AreTargetsOn, amount_of};
 ghost use Rattle.at_board.specs.declared.publication.Publication.{Publication};
-ghost use Rattle.at_board.specs.Balances.{amount_for, credit_of, debit_of};
-ghost use Rattle.at_fold.specs.HasCounted.{HasCounted, MayCount};
+ghost use Rattle.at_board.specs.Balances.{amount_for, balance_after, credit_of, debit_of};
+ghost use Rattle.at_board.specs.Fronts.{prefix_of};
+ghost use Rattle.at_board.specs.Rounds.{named, rounds};
+ghost use Rattle.at_board.specs.Views.{own_part};
+ghost use Rattle.at_fold.specs.Counted.{IsAnswer, counted};
+ghost use Rattle.at_fold.specs.HasCounted.{CountsAccount, CountsFront, CountsSlot, HasCounted, IsNext, MayCount};
 ghost use Rattle.at_fold.specs.Sums.{FitsMore, FitsRound, HasPlace, after_entry, is_new_to, row_at, with_amounts, with_credit, with_debit, with_decision};
 
+use crate::NoMemory;
 use crate::account_totals::AccountTotals;
-use at_base::Counts;
-use at_board::Entry;
-use at_ledger::Targets;
+use at_base::{Counts, Decision};
+use at_board::{BoardSeat, Entry};
+use at_ledger::{Book, Targets};
+use std::alloc::Global;
 use std::marker::Model;
 
 /// Sums over the records counted so far, each round counted once.
@@ -30,11 +36,73 @@ impl Model for Totals {
 }
 
 impl Totals {
+    /// Totals that have counted nothing. All their memory is taken here, in proportion to the accounts and the rounds of the book.
+    pub fn new(alloc: Global, book: &Book) -> Result<Totals, NoMemory>
+        ensures upto { IfOk result (λ t. t.upto ≡ replicate book.now.processes 0) }
+        ensures counted { IfOk result (λ t. (seen : List Publication) → HasCounted t book.now seen) }
+    {
+        let count = book.accounts();
+        let mut accounts = Vec::new(alloc);
+        for account in 0..count {
+            accounts.push(AccountTotals::new(alloc, book, account)?)?;
+        }
+        Ok(Totals {
+            upto: Counts::zeros(book.processes()),
+            accounts,
+        })
+    }
+
     /// How many records of each process are counted.
     pub fn upto(&self) -> Counts
         ensures { result ≡ self.now.upto }
     {
         self.upto.copy()
+    }
+
+    /// The balance of the account after the prefix of the publications that is counted. By look-up.
+    pub fn balance(&self, account: u32) -> u64
+        requires { (b : BookTerms) × (seen : List Publication) × CountsAccount self.now b seen account × CountsFront self.now b seen }
+        ensures { (b : BookTerms) (seen : List Publication) → CountsAccount self.now b seen account → CountsFront self.now b seen → result ≡ balance_after b (prefix_of self.now.upto seen) account }
+    {
+        self.accounts[account as usize].balance()
+    }
+
+    /// How many distinct rounds of the account are counted. By look-up.
+    pub fn rounds(&self, account: u32) -> u32
+        requires { (b : BookTerms) × (seen : List Publication) × CountsAccount self.now b seen account }
+        ensures counted { (b : BookTerms) (seen : List Publication) → CountsAccount self.now b seen account → result ≡ rounds account (counted self.now.upto seen) }
+        ensures front { (b : BookTerms) (seen : List Publication) → CountsAccount self.now b seen account → CountsFront self.now b seen → result ≡ rounds account (prefix_of self.now.upto seen) }
+    {
+        self.accounts[account as usize].rounds()
+    }
+
+    /// How many requests of an owner of the account are decided in the records counted. By look-up.
+    pub fn done(&self, account: u32, slot: u32) -> u32
+        requires { (b : BookTerms) × (seen : List Publication) × CountsSlot self.now b seen account slot }
+        ensures counted { (b : BookTerms) (seen : List Publication) → CountsSlot self.now b seen account slot → result ≡ named account slot (counted self.now.upto seen) }
+        ensures front { (b : BookTerms) (seen : List Publication) → CountsSlot self.now b seen account slot → CountsFront self.now b seen → result ≡ named account slot (prefix_of self.now.upto seen) }
+    {
+        self.accounts[account as usize].done(slot)
+    }
+
+    /// The round and the decision of a request, if a record counted names it. By look-up.
+    pub fn settled(&self, account: u32, slot: u32, number: u32) -> Option<(u32, Decision)>
+        requires { (b : BookTerms) × (seen : List Publication) × CountsSlot self.now b seen account slot × (number < b.request_room) }
+        ensures counted { (b : BookTerms) (seen : List Publication) → CountsSlot self.now b seen account slot → number < b.request_room → IsAnswer (counted self.now.upto seen) account slot number result }
+        ensures front { (b : BookTerms) (seen : List Publication) → CountsSlot self.now b seen account slot → number < b.request_room → CountsFront self.now b seen → IsAnswer (prefix_of self.now.upto seen) account slot number result }
+    {
+        self.accounts[account as usize].settled(slot, number)
+    }
+
+    /// Counts the record that the seat's process has just published, which is the one after those of it that are counted. Makes no step.
+    pub fn count_own(&mut self, seat: &BoardSeat, entry: &Entry)
+        requires counted { HasCounted self.old seat.now.view.book seat.now.view.seen }
+        requires next { IsNext self.old seat.now.view.book seat.now.view.seen seat.now.view.first entry.now }
+        requires last { slice_index self.old.upto seat.now.view.first + 1 ≡ (own_part seat.now.view).published }
+        ensures counted { HasCounted self.new seat.now.view.book seat.now.view.seen }
+        ensures upto { self.new.upto ≡ slice_set self.old.upto seat.now.view.first (own_part seat.now.view).published }
+    {
+        self.count(seat.process(), seat.published(), entry);
     }
 
     /// Counts the next record of a process, of which so many are counted then.
