@@ -41,7 +41,7 @@ publications_of-none p q (x ∷ xs) apart all =
     ∙ publications_of-none p q xs apart (All-tail (λ (y : Publication). y.process ≡ q) x xs all)
 
 -- the records of one process that are counted
-abbrev part : List ℕ → List Publication → ℕ → List Publication
+abbrev pub part : List ℕ → List Publication → ℕ → List Publication
 part upto list p = take (get_or upto p 0) (publications_of p list)
 
 part-process : (upto : List ℕ) (list : List Publication) (p : ℕ) → All (λ x. x.process ≡ p) (part upto list p)

@@ -1,8 +1,8 @@
 -- Totals that have counted nothing.
-use Rattle.std.proofs.Common.{◌≡◌, ℕ, ◌+◌, ◌*◌, ◌^◌, ◌<◌, ◌≤◌, zero, suc, Bool, true, false, List, [], ◌∷◌, ◌++◌, length, get_or, map, replicate, take, refl, sym, ap, subst, ◌∙◌, arith, length-replicate}
+use Rattle.std.proofs.Common.{◌≡◌, ℕ, ◌+◌, ◌*◌, ◌^◌, ◌<◌, ◌≤◌, zero, suc, Bool, true, false, List, [], ◌∷◌, ◌++◌, length, get_or, map, replicate, take, refl, sym, ap, subst, ◌∙◌, arith}
 use Rattle.std.specs.Prelude.{None}
 use Rattle.std.specs.List.{flat_map, range_with_len, sum_by}
-use Rattle.std.proofs.lemmas.List.{get_or-replicate}
+use Rattle.std.proofs.lemmas.List.{get_or-replicate, length-replicate}
 use Rattle.std.proofs.lemmas.List.FromFn.{get_or-map-range_with_len, length-map-range_with_len}
 use Rattle.at_ledger.specs.Account.{rounds_room}
 use Rattle.at_ledger.specs.Book.{BookTerms, IsBook, account_of}
@@ -10,6 +10,7 @@ use Rattle.at_board.specs.declared.publication.Publication.{Publication}
 use Rattle.at_board.specs.Balances.{credit_of, debit_of}
 use Rattle.at_board.specs.Entries.{is_round_on, names}
 use Rattle.at_board.specs.Places.{slots_of}
+use Rattle.at_board.specs.Publications.{publications_of}
 use Rattle.at_board.specs.Rounds.{firsts}
 use Rattle.at_board.proofs.OpeningLaws.{get_or-zeros}
 use Rattle.at_board.proofs.RoundLaws.{firsts-nil, one_if}
@@ -25,10 +26,8 @@ counted-zeros n list = nothing 0 (length (replicate n 0))
     nothing : (a k : ℕ) → flat_map (part (replicate n 0) list) (range_with_len a k) ≡ []
     nothing a zero = refl
     nothing a (suc k) =
-        ap (λ i. part_of i a ++ flat_map (part (replicate n 0) list) (range_with_len (a + 1) k)) (get_or-zeros n a) ∙ nothing (a + 1) k
-      where
-        part_of : ℕ → ℕ → List Publication
-        part_of i p = []
+        ap (λ i. take i (publications_of a list) ++ flat_map (part (replicate n 0) list) (range_with_len (a + 1) k)) (get_or-zeros n a)
+        ∙ nothing (a + 1) k
 
 IsSlotOf-starting : (b : BookTerms) (a slot : ℕ) → IsSlotOf b [] a slot (starting_slot b.request_room)
 IsSlotOf-starting b a slot = record {

@@ -3,4 +3,4 @@ use Rattle.at_fold.specs.Sums.{starting_slot}
 use Rattle.at_fold.proofs.account_totals.AccountTotals.new.Given as goal
 
 abbrev pub invariant-loop-slot : goal.invariant-loop-slot
-invariant-loop-slot l = l.slots.items ≡ replicate l.slot (starting_slot l.book.request_room)
+invariant-loop-slot l = l.slots.items ≡ replicate l._slot (starting_slot l.book.request_room)
