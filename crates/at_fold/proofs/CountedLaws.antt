@@ -126,10 +126,10 @@ HasSameRecords-more upto list p inside within =
           ∙ ap (λ k. take k (publications_of q list)) (sym (get_or-set_other upto p q (u + 1) 0 apart)))))
     ])
     (λ q past.
-      let apart : q ≡ p → ⊥ = λ e. omega (arith, e, past, sized, inside) in
-      split q
-      ∙ (ap (λ t. publications_of q (counted upto list) ++ t) (other q apart)
-      ∙ (append-nil (publications_of q (counted upto list)) ∙ publications_of-counted_past q upto list (omega (arith, past, sized)))))
+    let apart : q ≡ p → ⊥ = λ e. omega (arith, e, past, sized, inside) in
+    split q
+    ∙ (ap (λ t. publications_of q (counted upto list) ++ t) (other q apart)
+    ∙ (append-nil (publications_of q (counted upto list)) ∙ publications_of-counted_past q upto list (omega (arith, past, sized)))))
 
 -- a front's prefix has the records that the front counts
 pub HasSameRecords-prefix_of : (n : ℕ) (view : List ℕ) (list : List Publication) → IsFront n view list → ArePublishedBy n list
@@ -138,8 +138,8 @@ HasSameRecords-prefix_of n view list front known =
     let sized = length-IsFront n view list front in
     HasSameRecords-counted view list (prefix_of view list)
     (λ p within.
-      publications_of-take p (place view) list
-      ∙ ap (λ i. take i (publications_of p list)) (sym (get_or-IsFront n view list p front (omega (arith, within, sized)))))
+    publications_of-take p (place view) list
+    ∙ ap (λ i. take i (publications_of p list)) (sym (get_or-IsFront n view list p front (omega (arith, within, sized)))))
     (λ p past. nothing p (prefix_of view list) (All-take (λ (x : Publication). x.process < n) (place view) list known) (omega (arith, past, sized)))
   where
     nothing : (p : ℕ) (xs : List Publication) → All (λ x. x.process < n) xs → n ≤ p → publications_of p xs ≡ []

@@ -8,3 +8,4 @@ pub mod NewRoundLaws
 pub mod StepLaws
 pub mod StartLaws
 pub mod FrontLaws
+pub mod CatchLaws

@@ -26,7 +26,6 @@ both_same a t = ap (λ u. u && t) (eq-eqb a a refl)
 
 module _ (b : BookTerms) (xs : List Publication) (p : ℕ) (v : List ℕ) (a r : ℕ) (d : Decision) (targets : List TargetPair)
     (new : repeats (published p v (Round a r d targets)) (firsts xs) ≡ false) where
-
   abbrev x : Publication
   x = published p v (Round a r d targets)
 

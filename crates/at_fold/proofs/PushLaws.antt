@@ -81,7 +81,6 @@ IsAnswer-push xs x a slot number (Some (round, d)) same so = record {
 }
 
 module _ (b : BookTerms) where
-
   -- one more record of a round that is counted
   IsSlotOf-repeat : (xs : List Publication) (x y : Publication) (a slot : ℕ) (sums : SlotSums) → repeats x (firsts xs) ≡ true
       → Contains xs y → x.entry ≡ y.entry → IsSlotOf b xs a slot sums → IsSlotOf b (xs ++ x ∷ []) a slot sums

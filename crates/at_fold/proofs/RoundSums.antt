@@ -36,6 +36,7 @@ repeats-same x y list same = by_entries x.entry y.entry same
     and_true true true both = (refl, refl)
     and_true true false both = absurd (cc both)
     and_true false t both = absurd (cc both)
+
     by_entries : (d e : Entry) → is_same_round d e ≡ true
         → list_any (λ z. is_same_round d z.entry) list ≡ list_any (λ z. is_same_round e z.entry) list
     by_entries (Own from targets) e both = absurd (cc both)
@@ -94,7 +95,6 @@ one_counts false first second a b agree = omega arith
 -- where records of one round have one weight
 module _ (P : Publication → Type 0) (f : Publication → ℕ)
     (agree : (x y : Publication) → P x → P y → is_same_round x.entry y.entry ≡ true → f x ≡ f y) where
-
   lasts_sum-middle : (front : List Publication) (x : Publication) (back : List Publication) → All P front → P x
       → lasts_sum f (front ++ x ∷ back) ≡ cond (repeats x (front ++ back)) 0 (f x) + lasts_sum f (front ++ back)
   lasts_sum-middle [] x back all own = refl

@@ -62,11 +62,14 @@ IsShuffle-HasSameRecords (x ∷ xs) ys same =
     sym (get_or-publications_of x.process m ys d at.within (at.own d))
     ∙ (ap (λ i. get_or (publications_of x.process ys) i d) at.before ∙ ap (λ t. get_or t 0 d) (sym here)) in
     let split : ys ≡ take m ys ++ x ∷ drop (m + 1) ys =
-    sym (take-append-drop m ys) ∙ ap (λ rest. take m ys ++ rest) (drop_more ys m d at.within ∙ ap (λ y. y ∷ drop (m + 1) ys) is_x) in
-    (take m ys, drop (m + 1) ys, split,
-    IsShuffle-HasSameRecords xs (take m ys ++ drop (m + 1) ys)
-    (HasSameRecords-without x xs (take m ys) (drop (m + 1) ys) (λ p. same p ∙ ap (publications_of p) split)
-    (nil_from_length (publications_of x.process (take m ys)) at.before)))
+    sym (take-append-drop m ys) ∙ ap (λ rest. take m ys ++ rest) (drop_more ys m d at.within ∙ ap (λ y. y ∷ drop (m + 1) ys) is_x) in (
+      take m ys,
+      drop (m + 1) ys,
+      split,
+      IsShuffle-HasSameRecords xs (take m ys ++ drop (m + 1) ys)
+          (HasSameRecords-without x xs (take m ys) (drop (m + 1) ys) (λ p. same p ∙ ap (publications_of p) split)
+          (nil_from_length (publications_of x.process (take m ys)) at.before)),
+    )
 
 -- a test of some element, with one element in the middle
 pub list_any-middle : (g : Publication → Bool) (front : List Publication) (x : Publication) (back : List Publication)

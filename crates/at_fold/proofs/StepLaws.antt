@@ -75,8 +75,11 @@ sum_by-firsts_tests g (suc m) xs within =
 
 rounds-le : (g : Publication → Bool) (xs : List Publication) → sum_by (λ x. one_if (g x)) (firsts xs) ≤ length xs
 rounds-le g xs =
-    omega (arith, sum_by-firsts_tests g (length xs) xs (omega arith),
-    ap (λ t. sum_by (λ x. one_if (g x)) (firsts t)) (take_all (length xs) xs (omega arith)))
+    omega (
+      arith,
+      sum_by-firsts_tests g (length xs) xs (omega arith),
+      ap (λ t. sum_by (λ x. one_if (g x)) (firsts t)) (take_all (length xs) xs (omega arith)),
+    )
 
 FitsRound-IsShown : (b : BookTerms) (seen xs prefix : List Publication) (p : ℕ) (e : Entry) (rows : List AccountSums) → AreSumsOf b xs rows
     → length xs ≤ 131072 → IsShownEntry b p prefix e → FitsRound rows e
@@ -95,7 +98,6 @@ is_new_to-IsShown b seen xs prefix p v (Round account r d targets) rows so entry
     ap not (row.is_counted r decision.room ∙ sym (repeats-firsts (published p v (Round account r d targets)) xs))
 
 module _ (t : TotalSums) (b : BookTerms) (seen : List Publication) (p : ℕ) (e : Entry) (may : MayCount t b seen p e) where
-
   abbrev x : Publication
   x = next_record t seen p
 
@@ -145,8 +147,14 @@ module _ (t : TotalSums) (b : BookTerms) (seen : List Publication) (p : ℕ) (e 
             let known : q < b.processes = omega (arith, below, length-counts b.processes seen) in
             elim (cases_eq q p) as (λ _. get_or upto q 0 ≤ get_or (counts b.processes seen) q 0) [
               | inl same ↦
-                  omega (arith, ap (λ k. get_or upto k 0) same, get_or-set_same t.upto p (get_or t.upto p 0 + 1) 0 inside,
-                  get_or-counts b.processes seen q 0 known, ap (λ k. count_of k seen) same, may.next.within)
+                  omega (
+                    arith,
+                    ap (λ k. get_or upto k 0) same,
+                    get_or-set_same t.upto p (get_or t.upto p 0 + 1) 0 inside,
+                    get_or-counts b.processes seen q 0 known,
+                    ap (λ k. count_of k seen) same,
+                    may.next.within,
+                  )
               | inr apart ↦ omega (arith, get_or-set_other t.upto p q (get_or t.upto p 0 + 1) 0 apart, may.counts.within q below)
             ];
         sums = AreSumsOf-same b seen may.history (counted t.upto seen ++ x ∷ []) (counted upto seen) after

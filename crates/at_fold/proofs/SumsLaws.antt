@@ -67,6 +67,7 @@ All-IsShuffle (x ∷ xs) ys (front, back, split, rest) =
     only : (k : ℕ) (d : Publication) → k < length (x ∷ []) → x ≡ get_or (x ∷ []) k d
     only zero d within = refl
     only (suc k) d within = absurd (omega (arith, within))
+
     more : (y : Publication) → Contains (front ++ back) y → Contains (front ++ x ∷ back) y
     more y found =
         elim (Contains-append_cases front back y found) [
@@ -89,7 +90,6 @@ IsAnswer-same xs ys a slot number (Some (round, d)) same so = record {
 }
 
 module _ (b : BookTerms) (seen : List Publication) (history : IsHistory b seen) where
-
   -- a sum that counts each round once depends on the records alone
   round_sums-same : (f : Entry → ℕ) (xs ys : List Publication) → HasSameRecords xs ys → All (Contains seen) xs → All (Contains seen) ys
       → sum_by (λ x. f x.entry) (firsts xs) ≡ sum_by (λ x. f x.entry) (firsts ys)

@@ -62,7 +62,6 @@ pub record IsNext (t : TotalSums) (b : BookTerms) (seen : List Publication) (p :
 
 -- the totals may count the entry next
 pub record MayCount (t : TotalSums) (b : BookTerms) (seen : List Publication) (p : ℕ) (entry : Entry) : Type 0 where
-  pub book : IsBook b
   pub history : IsHistory b seen
   pub counts : HasCounted t b seen
   pub next : IsNext t b seen p entry

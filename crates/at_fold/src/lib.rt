@@ -2,6 +2,10 @@
 #![tactic(auto)]
 
 mod account_totals;
+mod catching;
+mod crossing;
+#[cfg(test)]
+mod fold_tests;
 mod slot_totals;
 mod totals;
 

@@ -106,7 +106,7 @@ impl Totals {
     }
 
     /// Counts the next record of a process, of which so many are counted then.
-    fn count(&mut self, process: u32, upto: u32, entry: &Entry)
+    pub(crate) fn count(&mut self, process: u32, upto: u32, entry: &Entry)
         requires next { (b : BookTerms) × (seen : List Publication) × MayCount self.old b seen process entry.now }
         requires upto { upto ≡ slice_index self.old.upto process + 1 }
         ensures counted { (b : BookTerms) (seen : List Publication) → MayCount self.old b seen process entry.now → HasCounted self.new b seen }
@@ -124,7 +124,10 @@ impl Totals {
         ensures { result ≡ is_new_to self.now.accounts entry.now }
     {
         match entry {
-            Entry::Own { from: _, targets: _ } => true,
+            Entry::Own {
+                from: _,
+                targets: _,
+            } => true,
             Entry::Round {
                 account,
                 round,
@@ -181,7 +184,10 @@ impl Totals {
         ensures upto { self.new.upto ≡ self.old.upto }
     {
         match entry {
-            Entry::Own { from: _, targets: _ } => {}
+            Entry::Own {
+                from: _,
+                targets: _,
+            } => {}
             Entry::Round {
                 account,
                 round,
