@@ -1,0 +1,58 @@
+-- Totals that have counted the records of a prefix.
+use Rattle.std.proofs.Common.{◌≡◌, ℕ, ◌+◌, ◌-◌, ◌*◌, ◌^◌, ◌<◌, ◌≤◌, List, length, get_or, take, sym, ap, subst, ◌∙◌, arith}
+use Rattle.std.specs.List.{All, Contains}
+use Rattle.std.proofs.lemmas.List.{get_or_default}
+use Rattle.std.proofs.lemmas.List.Elements.{All-contains_itself, All-from_get_or, All-take}
+use Rattle.at_ledger.specs.Book.{BookTerms, account_of}
+use Rattle.at_board.specs.declared.publication.Publication.{Publication}
+use Rattle.at_board.specs.Balances.{balance_after}
+use Rattle.at_board.specs.Fronts.{prefix_of, place}
+use Rattle.at_board.specs.Moves.{IsRun}
+use Rattle.at_board.specs.Publications.{ArePublishedBy, no_publication, publications_of}
+use Rattle.at_board.specs.Steps.{IsHistory}
+use Rattle.at_board.proofs.FrontLaws.{place-IsFront-le}
+use Rattle.at_fold.proofs.CountedLaws.{All-counted, HasSameRecords-prefix_of, length-counted-le}
+use Rattle.at_fold.proofs.SumsLaws.{AreSumsOf-same}
+use Rattle.at_fold.specs.Counted.{counted}
+use Rattle.at_fold.specs.HasCounted.{AreSumsOf, CountsAccount, CountsFront, HasCounted}
+use Rattle.at_fold.specs.Sums.{AccountSums, TotalSums, no_row, row_at}
+
+pub ArePublishedBy-IsHistory : (b : BookTerms) (seen : List Publication) → IsHistory b seen → ArePublishedBy b.processes seen
+ArePublishedBy-IsHistory b seen history =
+    All-from_get_or (λ x. x.process < b.processes) seen no_publication (λ i within. (history.views i within).process)
+
+-- the sums are those of the prefix
+pub AreSumsOf-front : (t : TotalSums) (b : BookTerms) (seen : List Publication) → HasCounted t b seen → CountsFront t b seen
+    → AreSumsOf b (prefix_of t.upto seen) t.accounts
+AreSumsOf-front t b seen counts at =
+    AreSumsOf-same b seen at.history (counted t.upto seen) (prefix_of t.upto seen) t.accounts
+    (λ p. sym (HasSameRecords-prefix_of b.processes t.upto seen at.front (ArePublishedBy-IsHistory b seen at.history) p))
+    (All-counted t.upto seen) (All-take (Contains seen) (place t.upto) seen (All-contains_itself seen)) counts.sums
+
+-- the sums of an account give this balance
+pub record IsBalanced (row : AccountSums) (balance : ℕ) : Type 0 where
+  pub room : row.credits + 2 ^ 64 ≤ 2 ^ 128
+  pub covered : row.debits ≤ row.opening + row.credits
+  pub fits : row.opening + row.credits - row.debits < 2 ^ 64
+  pub is : row.opening + row.credits - row.debits ≡ balance
+
+pub IsBalanced-front : (t : TotalSums) (b : BookTerms) (seen : List Publication) (a : ℕ) → CountsAccount t b seen a → CountsFront t b seen
+    → IsBalanced (row_at t.accounts a) (balance_after b (prefix_of t.upto seen) a)
+IsBalanced-front t b seen a counts at =
+    let row = (AreSumsOf-front t b seen counts.counted at).accounts a counts.account_in in
+    let before = counts.counted.sums.accounts a counts.account_in in
+    let run : IsRun b (prefix_of t.upto seen) =
+    at.history.runs (place t.upto) (place-IsFront-le b.processes t.upto seen at.front (ArePublishedBy-IsHistory b seen at.history)) in
+    let few = length-counted-le b t.upto seen counts.counted.book at.history counts.counted.processes in
+    record {
+      room = omega (arith, before.small_credits, few);
+      covered = omega (arith, row.opening, row.credits, row.debits, run.covered a counts.account_in);
+      fits = omega (arith, row.opening, row.credits, row.debits, run.fits a counts.account_in);
+      is = omega (arith, row.opening, row.credits, row.debits);
+    }
+
+-- what an index reads
+pub row_read : (inside rows : List AccountSums) (a : ℕ) (row : AccountSums) → row ≡ get_or inside a row → inside ≡ rows → a < length rows
+    → row ≡ row_at rows a
+row_read inside rows a row is same within =
+    is ∙ (get_or_default inside a row no_row (omega (arith, within, ap length same)) ∙ ap (λ r. row_at r a) same)

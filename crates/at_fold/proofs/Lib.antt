@@ -1,0 +1,11 @@
+pub mod Shuffles
+pub mod RoundSums
+pub mod AmountLaws
+pub mod CountedLaws
+pub mod SumsLaws
+pub mod PushLaws
+pub mod NewRoundLaws
+pub mod StepLaws
+pub mod StartLaws
+pub mod FrontLaws
+pub mod CatchLaws

@@ -1,0 +1,72 @@
+-- Totals that have counted nothing.
+use Rattle.std.proofs.Common.{◌≡◌, ℕ, ◌+◌, ◌*◌, ◌^◌, ◌<◌, ◌≤◌, zero, suc, Bool, true, false, List, [], ◌∷◌, ◌++◌, length, get_or, map, replicate, take, refl, sym, ap, subst, ◌∙◌, arith}
+use Rattle.std.specs.Prelude.{None}
+use Rattle.std.specs.List.{flat_map, range_with_len, sum_by}
+use Rattle.std.proofs.lemmas.List.{get_or-replicate, length-replicate}
+use Rattle.std.proofs.lemmas.List.FromFn.{get_or-map-range_with_len, length-map-range_with_len}
+use Rattle.at_ledger.specs.Account.{rounds_room}
+use Rattle.at_ledger.specs.Book.{BookTerms, IsBook, account_of}
+use Rattle.at_board.specs.declared.publication.Publication.{Publication}
+use Rattle.at_board.specs.Balances.{credit_of, debit_of}
+use Rattle.at_board.specs.Entries.{is_round_on, names}
+use Rattle.at_board.specs.Places.{slots_of}
+use Rattle.at_board.specs.Publications.{publications_of}
+use Rattle.at_board.specs.Rounds.{firsts}
+use Rattle.at_board.proofs.OpeningLaws.{get_or-zeros}
+use Rattle.at_board.proofs.RoundLaws.{firsts-nil, one_if}
+use Rattle.at_fold.proofs.CountedLaws.{part}
+use Rattle.at_fold.specs.Counted.{IsAnswer, counted}
+use Rattle.at_fold.specs.HasCounted.{AreSumsOf, HasCounted, IsAccountOf, IsSlotOf}
+use Rattle.at_fold.specs.Sums.{AccountSums, answer_at, no_row, no_slot, row_at, slot_at, starting_row, starting_slot}
+
+counted-zeros : (n : ℕ) (list : List Publication) → counted (replicate n 0) list ≡ []
+unfolding counted
+counted-zeros n list = nothing 0 (length (replicate n 0))
+  where
+    nothing : (a k : ℕ) → flat_map (part (replicate n 0) list) (range_with_len a k) ≡ []
+    nothing a zero = refl
+    nothing a (suc k) =
+        ap (λ i. take i (publications_of a list) ++ flat_map (part (replicate n 0) list) (range_with_len (a + 1) k)) (get_or-zeros n a)
+        ∙ nothing (a + 1) k
+
+IsSlotOf-starting : (b : BookTerms) (a slot : ℕ) → IsSlotOf b [] a slot (starting_slot b.request_room)
+IsSlotOf-starting b a slot = record {
+  done = ap (sum_by (λ x. one_if (names a slot x.entry))) (sym firsts-nil);
+  room = length-replicate b.request_room None;
+  settled = λ number within. subst (IsAnswer [] a slot number) (sym (get_or-replicate b.request_room number None None within)) refl;
+}
+
+IsAccountOf-starting : (b : BookTerms) (a : ℕ) → IsAccountOf b [] a (starting_row b a)
+IsAccountOf-starting b a =
+    let room = rounds_room b.request_room (account_of b a) in
+    let slots = slots_of (account_of b a) in
+    record {
+      opening = refl;
+      credits = ap (sum_by (λ x. credit_of a x.entry)) (sym firsts-nil);
+      debits = ap (sum_by (λ x. debit_of a x.entry)) (sym firsts-nil);
+      small_credits = omega arith;
+      small_debits = omega arith;
+      rounds = ap (sum_by (λ x. one_if (is_round_on a x.entry))) (sym firsts-nil);
+      room = length-replicate room false;
+      is_counted = λ r within. get_or-replicate room r false false within;
+      slots_room = length-replicate slots (starting_slot b.request_room);
+      slots = λ slot within.
+          subst (IsSlotOf b [] a slot) (sym (get_or-replicate slots slot (starting_slot b.request_room) no_slot within)) (IsSlotOf-starting b a slot);
+    }
+
+pub HasCounted-starting : (b : BookTerms) (seen : List Publication) → IsBook b
+    → HasCounted (record { upto = replicate b.processes 0; accounts = map (starting_row b) (range_with_len 0 (length b.accounts)) }) b seen
+HasCounted-starting b seen book =
+    let rows = map (starting_row b) (range_with_len 0 (length b.accounts)) in
+    let sums : AreSumsOf b [] rows = record {
+      sized = length-map-range_with_len (starting_row b) 0 (length b.accounts);
+      accounts = λ a within.
+          subst (IsAccountOf b [] a) (sym (get_or-map-range_with_len (starting_row b) 0 (length b.accounts) a a no_row within (omega arith)))
+          (IsAccountOf-starting b a);
+    } in
+    record {
+      book = book;
+      processes = length-replicate b.processes 0;
+      within = λ p below. omega (arith, get_or-zeros b.processes p);
+      sums = subst (λ list. AreSumsOf b list rows) (sym (counted-zeros b.processes seen)) sums;
+    }

@@ -1,0 +1,132 @@
+-- Sums of a list: they are those of each list with the same records, and one more record changes them so.
+use Rattle.std.proofs.Common.{◌≡◌, ℕ, ◌+◌, ◌*◌, ◌^◌, ◌<◌, ◌≤◌, ◌==◌, ◌&&◌, ◌||◌, zero, suc, eqb, Bool, true, false, not, cond, List, [], ◌∷◌, ◌++◌, length, get_or, take, set, refl, sym, ap, subst, ◌∙◌, arith, inl, inr, get_or-set_other, get_or-set_same, length-set, length-append}
+use Rattle.std.specs.Prelude.{Option, Some, None}
+use Rattle.std.specs.List.{All, Contains, count_by, list_any, sum_by}
+use Rattle.std.proofs.lemmas.Bool.{cases_Bool, cases_eq, eq-eqb, eqb-true, ne_eqb}
+use Rattle.std.proofs.lemmas.List.{get_or_default}
+use Rattle.std.proofs.lemmas.List.Elements.{All-append, All-contains, All-weaker, Contains-append_cases, Contains-append_left, Contains-append_right, Contains-push}
+use Rattle.std.proofs.lemmas.List.Folds.{list_any-append}
+use Rattle.at_base.specs.declared.decision.Decision.{Decision}
+use Rattle.at_ledger.specs.Account.{rounds_room}
+use Rattle.at_ledger.specs.Book.{BookTerms, account_of}
+use Rattle.at_ledger.specs.Call.{TargetPair}
+use Rattle.at_board.specs.declared.publication.Entry.{Entry}
+use Rattle.at_board.specs.declared.publication.Entry.TheVariants.{Own, Round}
+use Rattle.at_board.specs.declared.publication.Publication.{Publication}
+use Rattle.at_board.specs.Balances.{credit_of, debit_of}
+use Rattle.at_board.specs.BoardState.{publication_at}
+use Rattle.at_board.specs.Entries.{is_round, is_round_on, is_same_round, names, settles}
+use Rattle.at_board.specs.Places.{slots_of}
+use Rattle.at_board.specs.Publications.{no_publication}
+use Rattle.at_board.specs.Rounds.{firsts, is_settled, repeats}
+use Rattle.at_board.specs.ShownRounds.{AgreeOnRound}
+use Rattle.at_board.specs.Steps.{IsHistory}
+use Rattle.at_board.proofs.RoundLaws.{one_if, sum_by-firsts_new, sum_by-firsts_repeat}
+use Rattle.at_fold.proofs.RoundSums.{repeats-firsts, sum_by-firsts-same}
+use Rattle.at_fold.proofs.Shuffles.{HasSameRecords, IsShuffle, IsShuffle-HasSameRecords, length-IsShuffle, list_any-IsShuffle}
+use Rattle.at_fold.specs.Counted.{IsAnswer, IsDecidedIn}
+use Rattle.at_fold.specs.HasCounted.{AreSumsOf, IsAccountOf, IsSlotOf}
+use Rattle.at_fold.specs.Sums.{AccountSums, SlotSums, after_entry, answer_at, is_counted, no_slot, row_at, slot_at, with_answer, with_round}
+
+and_true : (s t : Bool) → (s && t) ≡ true → (s ≡ true) × (t ≡ true)
+and_true true true both = (refl, refl)
+and_true true false both = absurd (cc both)
+and_true false t both = absurd (cc both)
+
+-- entries of one round that agree on it are the same
+pub same_entry : (d e : Entry) → AgreeOnRound d e → is_same_round d e ≡ true → d ≡ e
+same_entry (Own from targets) e agree same = absurd (cc same)
+same_entry (Round a r d targets) (Own from aims) agree same = absurd (cc same)
+same_entry (Round a r d targets) (Round k l f aims) agree same =
+    let parts = and_true (eqb k a) (eqb l r) same in
+    let account : a ≡ k = sym (eqb-true k a parts.0) in
+    let round : r ≡ l = sym (eqb-true l r parts.1) in
+    let rest = agree account round in
+    λ i. Round (account i) (round i) (rest.0 i) (rest.1 i)
+
+-- records of one round of a history are the same
+pub same_entry-IsHistory : (b : BookTerms) (seen : List Publication) → IsHistory b seen → (x y : Publication) → Contains seen x → Contains seen y
+    → is_same_round x.entry y.entry ≡ true → x.entry ≡ y.entry
+same_entry-IsHistory b seen history x y (m, within, one) (k, inside, two) same =
+    let first : publication_at seen m ≡ x = get_or_default seen m no_publication x within ∙ one in
+    let second : publication_at seen k ≡ y = get_or_default seen k no_publication y inside ∙ two in
+    let agree : AgreeOnRound x.entry y.entry =
+    subst (λ (t : Publication). AgreeOnRound x.entry t.entry) second
+    (subst (λ (t : Publication). AgreeOnRound t.entry (publication_at seen k).entry) first (history.agree m k within inside)) in
+    same_entry x.entry y.entry agree same
+
+-- the same elements
+All-IsShuffle : (xs ys : List Publication) → IsShuffle xs ys → All (Contains ys) xs
+All-IsShuffle [] ys none = λ k d within. absurd (omega (arith, within))
+All-IsShuffle (x ∷ xs) ys (front, back, split, rest) =
+    subst (λ t. All (Contains t) (x ∷ xs)) (sym split)
+    (All-append (Contains (front ++ x ∷ back)) (x ∷ []) xs
+    (λ k d within. subst (λ (y : Publication). Contains (front ++ x ∷ back) y) (only k d within) (Contains-append_right front (x ∷ back) x (0, omega arith, refl)))
+    (All-weaker (Contains (front ++ back)) (Contains (front ++ x ∷ back)) more xs (All-IsShuffle xs (front ++ back) rest)))
+  where
+    only : (k : ℕ) (d : Publication) → k < length (x ∷ []) → x ≡ get_or (x ∷ []) k d
+    only zero d within = refl
+    only (suc k) d within = absurd (omega (arith, within))
+
+    more : (y : Publication) → Contains (front ++ back) y → Contains (front ++ x ∷ back) y
+    more y found =
+        elim (Contains-append_cases front back y found) [
+          | inl before ↦ Contains-append_left front (x ∷ back) y before
+          | inr (k, within, is) ↦ Contains-append_right front (x ∷ back) y (suc k, omega (arith, within), is)
+        ]
+
+-- an answer depends on the records alone
+IsAnswer-same : (xs ys : List Publication) (a slot number : ℕ) (answer : Option (ℕ × Decision)) → HasSameRecords xs ys
+    → IsAnswer xs a slot number answer → IsAnswer ys a slot number answer
+IsAnswer-same xs ys a slot number None same none =
+    sym (list_any-IsShuffle (λ x. settles a slot number x.entry) xs ys (IsShuffle-HasSameRecords xs ys same)) ∙ none
+IsAnswer-same xs ys a slot number (Some (round, d)) same so = record {
+  publication = so.publication;
+  targets = so.targets;
+  listed = All-contains (Contains ys) xs so.publication (All-IsShuffle xs ys (IsShuffle-HasSameRecords xs ys same)) so.listed;
+  entry = so.entry;
+  slot = so.slot;
+  number = so.number;
+}
+
+module _ (b : BookTerms) (seen : List Publication) (history : IsHistory b seen) where
+  -- a sum that counts each round once depends on the records alone
+  round_sums-same : (f : Entry → ℕ) (xs ys : List Publication) → HasSameRecords xs ys → All (Contains seen) xs → All (Contains seen) ys
+      → sum_by (λ x. f x.entry) (firsts xs) ≡ sum_by (λ x. f x.entry) (firsts ys)
+  round_sums-same f xs ys same all all_too =
+      sum_by-firsts-same (Contains seen) (λ (x : Publication). f x.entry)
+      (λ x y one two e. ap f (same_entry-IsHistory b seen history x y one two e)) xs ys same all all_too
+
+  IsSlotOf-same : (xs ys : List Publication) (a slot : ℕ) (sums : SlotSums) → HasSameRecords xs ys → All (Contains seen) xs → All (Contains seen) ys
+      → IsSlotOf b xs a slot sums → IsSlotOf b ys a slot sums
+  IsSlotOf-same xs ys a slot sums same all all_too so = record {
+    done = so.done ∙ round_sums-same (λ e. one_if (names a slot e)) xs ys same all all_too;
+    room = so.room;
+    settled = λ number within. IsAnswer-same xs ys a slot number (answer_at sums number) same (so.settled number within);
+  }
+
+  IsAccountOf-same : (xs ys : List Publication) (a : ℕ) (row : AccountSums) → HasSameRecords xs ys → All (Contains seen) xs → All (Contains seen) ys
+      → IsAccountOf b xs a row → IsAccountOf b ys a row
+  IsAccountOf-same xs ys a row same all all_too so =
+      let shuffle = IsShuffle-HasSameRecords xs ys same in
+      let long = length-IsShuffle xs ys shuffle in
+      record {
+        opening = so.opening;
+        credits = so.credits ∙ round_sums-same (credit_of a) xs ys same all all_too;
+        debits = so.debits ∙ round_sums-same (debit_of a) xs ys same all all_too;
+        small_credits = omega (arith, so.small_credits, ap (λ n. n * 2 ^ 66) long);
+        small_debits = omega (arith, so.small_debits, ap (λ n. n * 2 ^ 66) long);
+        rounds = so.rounds ∙ round_sums-same (λ e. one_if (is_round_on a e)) xs ys same all all_too;
+        room = so.room;
+        is_counted = λ r within. so.is_counted r within ∙ list_any-IsShuffle (λ x. is_round a r x.entry) xs ys shuffle;
+        slots_room = so.slots_room;
+        slots = λ slot within. IsSlotOf-same xs ys a slot (slot_at row slot) same all all_too (so.slots slot within);
+      }
+
+  -- the sums of a list are those of each list with the same records
+  pub AreSumsOf-same : (xs ys : List Publication) (rows : List AccountSums) → HasSameRecords xs ys → All (Contains seen) xs
+      → All (Contains seen) ys → AreSumsOf b xs rows → AreSumsOf b ys rows
+  AreSumsOf-same xs ys rows same all all_too so = record {
+    sized = so.sized;
+    accounts = λ a within. IsAccountOf-same xs ys a (row_at rows a) same all all_too (so.accounts a within);
+  }

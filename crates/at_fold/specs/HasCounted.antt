@@ -1,0 +1,82 @@
+-- What totals have counted, of a list of publications that a seat has seen.
+use Rattle.std.specs.Prelude.{◌≡◌, ℕ, ◌+◌, ◌*◌, ◌^◌, ◌<◌, ◌≤◌, List, length, slice_index, slice_index_or}
+use Rattle.at_base.specs.Counts.{Covers}
+use Rattle.at_ledger.specs.Account.{rounds_room}
+use Rattle.at_ledger.specs.Book.{BookTerms, IsBook, account_of}
+use Rattle.at_board.specs.declared.publication.Entry.{Entry}
+use Rattle.at_board.specs.declared.publication.Publication.{Publication}
+use Rattle.at_board.specs.Balances.{credits, debits}
+use Rattle.at_board.specs.BoardState.{publication_at}
+use Rattle.at_board.specs.Entries.{is_round}
+use Rattle.at_board.specs.Fronts.{IsFront}
+use Rattle.at_board.specs.Places.{slots_of}
+use Rattle.at_board.specs.Publications.{count_of, counts, publications_of}
+use Rattle.at_board.specs.Rounds.{named, rounds}
+use Rattle.at_board.specs.Steps.{IsHistory}
+use Rattle.std.specs.List.{list_any}
+use Rattle.at_fold.specs.Counted.{IsAnswer, counted}
+use Rattle.at_fold.specs.Sums.{AccountSums, SlotSums, TotalSums, answer_at, is_counted, row_at, slot_at}
+
+-- the sums of a slot are those of the list
+pub record IsSlotOf (b : BookTerms) (list : List Publication) (a slot : ℕ) (sums : SlotSums) : Type 0 where
+  pub done : sums.done ≡ named a slot list
+  pub room : length sums.settled ≡ b.request_room
+  pub settled : (number : ℕ) → number < b.request_room → IsAnswer list a slot number (answer_at sums number)
+
+-- the sums of an account are those of the list, and no record of it adds more than four amounts of 64 bits
+pub record IsAccountOf (b : BookTerms) (list : List Publication) (a : ℕ) (row : AccountSums) : Type 0 where
+  pub opening : row.opening ≡ (account_of b a).opening
+  pub credits : row.credits ≡ credits a list
+  pub debits : row.debits ≡ debits a list
+  pub small_credits : row.credits ≤ length list * 2 ^ 66
+  pub small_debits : row.debits ≤ length list * 2 ^ 66
+  pub rounds : row.rounds ≡ rounds a list
+  pub room : length row.is_counted ≡ rounds_room b.request_room (account_of b a)
+  pub is_counted : (r : ℕ) → r < rounds_room b.request_room (account_of b a) →
+      is_counted row r ≡ list_any (λ x. is_round a r x.entry) list
+  pub slots_room : length row.slots ≡ slots_of (account_of b a)
+  pub slots : (slot : ℕ) → slot < slots_of (account_of b a) → IsSlotOf b list a slot (slot_at row slot)
+
+-- the sums are those of the list
+pub record AreSumsOf (b : BookTerms) (list : List Publication) (rows : List AccountSums) : Type 0 where
+  pub sized : length rows ≡ length b.accounts
+  pub accounts : (a : ℕ) → a < length b.accounts → IsAccountOf b list a (row_at rows a)
+
+-- the totals have counted records that are in the list, and no others
+pub record HasCounted (t : TotalSums) (b : BookTerms) (seen : List Publication) : Type 0 where
+  pub book : IsBook b
+  pub processes : length t.upto ≡ b.processes
+  pub within : Covers (counts b.processes seen) t.upto
+  pub sums : AreSumsOf b (counted t.upto seen) t.accounts
+
+-- the list has so many records of each process
+pub record HasRecords (b : BookTerms) (seen : List Publication) (upto : List ℕ) : Type 0 where
+  pub sized : length upto ≡ b.processes
+  pub within : Covers (counts b.processes seen) upto
+
+-- the entry is that of the first record of the process that isn't counted yet
+pub record IsNext (t : TotalSums) (b : BookTerms) (seen : List Publication) (p : ℕ) (e : Entry) : Type 0 where
+  pub process : p < b.processes
+  pub within : slice_index t.upto p < count_of p seen
+  pub entry : e ≡ (publication_at (publications_of p seen) (slice_index t.upto p)).entry
+
+-- the totals may count the entry next
+pub record MayCount (t : TotalSums) (b : BookTerms) (seen : List Publication) (p : ℕ) (entry : Entry) : Type 0 where
+  pub history : IsHistory b seen
+  pub counts : HasCounted t b seen
+  pub next : IsNext t b seen p entry
+
+-- the totals have counted so for a book with this account
+pub record CountsAccount (t : TotalSums) (b : BookTerms) (seen : List Publication) (a : ℕ) : Type 0 where
+  pub counted : HasCounted t b seen
+  pub account_in : a < length b.accounts
+
+-- and with this slot of it
+pub record CountsSlot (t : TotalSums) (b : BookTerms) (seen : List Publication) (a slot : ℕ) : Type 0 where
+  pub account : CountsAccount t b seen a
+  pub slot_in : slot < slots_of (account_of b a)
+
+-- the totals have counted exactly the records of a prefix of the list
+pub record CountsFront (t : TotalSums) (b : BookTerms) (seen : List Publication) : Type 0 where
+  pub history : IsHistory b seen
+  pub front : IsFront b.processes t.upto seen

@@ -1,0 +1,68 @@
+//! Counting what was published since.
+
+ghost use Rattle.std.specs.Prelude.{◌≡◌, ◌+◌, ◌-◌, ◌*◌, ◌<◌, ◌≤◌, slice_index, slice_set, sum};
+ghost use Rattle.at_base.specs.Counts.{Covers};
+ghost use Rattle.at_board.specs.Publications.{count_of};
+ghost use Rattle.at_board.specs.SeatView.{IsOf};
+ghost use Rattle.at_fold.specs.HasCounted.{HasCounted, HasRecords};
+
+use crate::totals::Totals;
+use at_base::Counts;
+use at_board::{Board, BoardSeat, Steps};
+use at_log::load_entry;
+use std::sync::ledger::Ledger;
+
+impl Totals {
+    /// Counts all records that `counts` counts, which the seat has seen. Loads those alone that weren't counted before, in seven steps each.
+    pub fn catch_up<L: Ledger, X: Ledger>(
+        &mut self,
+        board: &Board,
+        seat: &mut BoardSeat,
+        counts: &Counts,
+        steps: &mut Steps<L>,
+        exchanges: &mut Steps<X>,
+    )
+        requires board { IsOf seat.old board.now }
+        requires counted { HasCounted self.old board.now.book seat.old.view.seen }
+        requires more { Covers counts.now self.old.upto }
+        requires seen { HasRecords board.now.book seat.old.view.seen counts.now }
+        ensures counted { HasCounted self.new board.now.book seat.new.view.seen }
+        ensures upto { self.new.upto ≡ counts.now }
+        ensures same { seat.new ≡ seat.old }
+        ensures steps { steps.new ≡ steps.old + 7 * (sum counts.now - sum self.old.upto) }
+        ensures exchanges { exchanges.new ≡ exchanges.old }
+    {
+        for p in 0..counts.len() {
+            self.catch_up_with(board, seat, p, counts.get(p), steps, exchanges);
+        }
+    }
+
+    /// Counts the records of a process up to this number of them.
+    fn catch_up_with<L: Ledger, X: Ledger>(
+        &mut self,
+        board: &Board,
+        seat: &mut BoardSeat,
+        p: u32,
+        end: u32,
+        steps: &mut Steps<L>,
+        exchanges: &mut Steps<X>,
+    )
+        requires board { IsOf seat.old board.now }
+        requires counted { HasCounted self.old board.now.book seat.old.view.seen }
+        requires process { p < board.now.book.processes }
+        requires more { slice_index self.old.upto p ≤ end }
+        requires seen { end ≤ count_of p seat.old.view.seen }
+        ensures counted { HasCounted self.new board.now.book seat.new.view.seen }
+        ensures upto { self.new.upto ≡ slice_set self.old.upto p end }
+        ensures same { seat.new ≡ seat.old }
+        ensures steps { steps.new ≡ steps.old + 7 * (end - slice_index self.old.upto p) }
+        ensures exchanges { exchanges.new ≡ exchanges.old }
+    {
+        let _process = seat.process();
+        let start = self.upto().get(p);
+        for i in start..end {
+            let entry = load_entry(board, seat, p, i, steps, exchanges);
+            self.count(p, i + 1, &entry);
+        }
+    }
+}

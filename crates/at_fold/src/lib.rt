@@ -1,0 +1,15 @@
+//! Sums over published records: balances, rounds and decisions of the records counted so far.
+#![tactic(auto)]
+
+mod account_totals;
+mod catching;
+mod crossing;
+#[cfg(test)]
+mod fold_tests;
+mod slot_totals;
+mod totals;
+
+/// What a call answers that found no memory.
+pub type NoMemory = std::alloc::AllocError;
+
+pub use crate::totals::Totals;
