@@ -116,7 +116,7 @@ IsSoundRequest-pushed b s k x a slot number r law =
     }
 
 -- own records are publications of the process
-owns_of-le : (p : ℕ) (xs : List Publication) → owns_of p xs ≤ count_of p xs
+pub owns_of-le : (p : ℕ) (xs : List Publication) → owns_of p xs ≤ count_of p xs
 unfolding publications_of
 owns_of-le p xs =
     omega (
