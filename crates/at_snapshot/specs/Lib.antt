@@ -2,3 +2,4 @@ pub mod Collected
 pub mod Scans
 pub mod Turns
 pub mod Snapshots
+pub mod SmallScan

@@ -3,7 +3,7 @@
 ghost use Rattle.std.specs.Prelude.{◌≡◌, ℕ, ◌<◌, ◌≤◌, [], ◌∷◌, length, slice_index_or, IfSome, IsTrue};
 ghost use Rattle.at_board.specs.Cuts.{starting_seat};
 ghost use Rattle.at_board.specs.SeatView.{IsOf, SeatView};
-ghost use Rattle.at_board.specs.Sound.{IsSoundOwn};
+ghost use Rattle.at_snapshot.specs.SmallScan.{HasPaid, MayPayTwice, payment};
 
 use crate::{Scan, Turn, snapshot};
 use at_base::Counts;
@@ -63,6 +63,91 @@ fn is_again(turn: &Turn) -> bool {
     matches!(turn, Turn::Again)
 }
 
+fn borrowed(turn: &Turn) -> Option<(u32, u32, u32)> {
+    match turn {
+        Turn::Borrowed(counts) => three(counts),
+        _ => None,
+    }
+}
+
+/// Whether these are the counts 0, 1 and 0.
+fn counts_the_first(counts: &Counts) -> bool
+    ensures { IsTrue result → counts.now ≡ 0 ∷ 1 ∷ 0 ∷ [] }
+{
+    counts.len() == 3 && counts.get(0) == 0 && counts.get(1) == 1 && counts.get(2) == 0
+}
+
+/// Whether a process may pay 1 from account 1 to account 0, and once more.
+#[tactic(auto, unfolding(at_board::specs::Rounds::firsts))]
+fn may_pay_twice(book: &Book, process: u32) -> bool
+    ensures { IsTrue result → MayPayTwice book.now process }
+{
+    if book.accounts() < 2 {
+        return false;
+    }
+    if book.owner_count(1) != 1 {
+        return false;
+    }
+    if book.slot_of(1, process).is_none() {
+        return false;
+    }
+    2 <= book.opening(1) && 2 <= book.own_room()
+}
+
+/// The payment with a view.
+fn paid(view: Counts) -> Record
+    ensures { result ≡ record { entry = payment; view = view } }
+{
+    Record {
+        entry: Entry::Own {
+            from: 1,
+            targets: Targets::one(0, 1),
+        },
+        view,
+    }
+}
+
+/// Pays by the first record of the seat's process.
+fn pay<L: Ledger, X: Ledger>(
+    board: &Board,
+    seat: &mut BoardSeat,
+    steps: &mut Steps<L>,
+    exchanges: &mut Steps<X>,
+)
+    requires board { seat.old.board ≡ board.now.id }
+    requires new { seat.old.view ≡ starting_seat board.now.book seat.old.view.first }
+    requires pays { MayPayTwice board.now.book seat.old.view.first }
+    ensures board { IsOf seat.new board.now }
+    ensures process { seat.new.view.first ≡ seat.old.view.first }
+    ensures paid { HasPaid seat.new.view }
+{
+    let _accounts = board.book().accounts();
+    let _process = seat.process();
+    let record = paid(Counts::zeros(board.book().processes()));
+    append(board, seat, &record, steps, exchanges);
+}
+
+/// Pays once more with the view of a snapshot, where that counts the first payment alone.
+fn pay_again<L: Ledger, X: Ledger>(
+    board: &Board,
+    seat: &mut BoardSeat,
+    steps: &mut Steps<L>,
+    exchanges: &mut Steps<X>,
+) -> bool
+    requires board { IsOf seat.old board.now }
+    requires process { seat.old.view.first ≡ 1 }
+    requires paid { HasPaid seat.old.view }
+    requires pays { MayPayTwice board.now.book 1 }
+{
+    let _process = seat.process();
+    let view = snapshot(board, seat, steps, exchanges);
+    if !counts_the_first(&view) {
+        return false;
+    }
+    append(board, seat, &paid(view), steps, exchanges);
+    true
+}
+
 /// Nobody publishes: the second collect equals the first.
 fn scans_alone<L: Ledger, X: Ledger, R: Abort>(
     rt: &R,
@@ -88,7 +173,56 @@ fn scans_alone<L: Ledger, X: Ledger, R: Abort>(
     Ok(())
 }
 
+/// Another process publishes once after the first collect, and maybe again after the second.
+fn scans_beside<L: Ledger, X: Ledger, R: Abort>(
+    rt: &R,
+    alloc: Global,
+    one: Blank,
+    another: Blank,
+    again: bool,
+) -> Result<(), Fail>
+    requires names { (one.name ≡ L.name) × (another.name ≡ X.name) }
+    requires parts { (one.parts ≡ L.parts) × (another.parts ≡ X.parts) }
+    requires some { (0 < one.parts) × (0 < another.parts) }
+{
+    let (steps, exchanges) = (&mut Steps::<L>::new(one), &mut Steps::<X>::new(another));
+    let book = three_book(alloc)?;
+    let (board, mut seats) = Board::new(alloc, &book)?;
+    let _last = last_seat(&board, &mut seats).expect(rt, "a seat");
+    let mut other = last_seat(&board, &mut seats).expect(rt, "a seat");
+    let mut seat = last_seat(&board, &mut seats).expect(rt, "a seat");
+    assert!(rt; other.process() == 1);
+    assert!(rt; may_pay_twice(board.book(), other.process()));
+    let mut scan = Scan::start(&seat);
+    let first = scan.turn(&board, &mut seat, steps, exchanges);
+    assert!(rt; is_again(&first));
+    pay(&board, &mut other, steps, exchanges);
+    let second = scan.turn(&board, &mut seat, steps, exchanges);
+    assert!(rt; is_again(&second));
+    if again {
+        assert!(rt; pay_again(&board, &mut other, steps, exchanges));
+    }
+    let third = scan.turn(&board, &mut seat, steps, exchanges);
+    let answer = if again {
+        borrowed(&third)
+    } else {
+        clean(&third)
+    };
+    assert_eq!(rt; answer, Some((0, 1, 0)));
+    Ok(())
+}
+
 #[test]
 fn a_scan_ends(rt: HostRuntime) -> Result<(), Fail> {
     scans_alone::<Brand, Brand, _>(&rt, rt.alloc(), Blank::new(1), Blank::new(1))
+}
+
+#[test]
+fn a_scan_meets_a_record(rt: HostRuntime) -> Result<(), Fail> {
+    scans_beside::<Brand, Brand, _>(&rt, rt.alloc(), Blank::new(1), Blank::new(1), false)
+}
+
+#[test]
+fn a_scan_borrows_a_view(rt: HostRuntime) -> Result<(), Fail> {
+    scans_beside::<Brand, Brand, _>(&rt, rt.alloc(), Blank::new(1), Blank::new(1), true)
 }
