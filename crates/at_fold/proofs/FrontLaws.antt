@@ -1,14 +1,14 @@
 -- Totals that have counted the records of a prefix.
-use Rattle.std.proofs.Common.{◌≡◌, ℕ, ◌+◌, ◌-◌, ◌*◌, ◌^◌, ◌<◌, ◌≤◌, List, length, get_or, take, sym, ap, subst, ◌∙◌, arith}
-use Rattle.std.specs.List.{All, Contains}
+use Rattle.std.proofs.Common.{◌≡◌, ℕ, ◌+◌, ◌-◌, ◌^◌, ◌<◌, ◌≤◌, List, length, get_or, sym, ap, ◌∙◌, arith}
+use Rattle.std.specs.List.{Contains}
 use Rattle.std.proofs.lemmas.List.{get_or_default}
 use Rattle.std.proofs.lemmas.List.Elements.{All-contains_itself, All-from_get_or, All-take}
-use Rattle.at_ledger.specs.Book.{BookTerms, account_of}
+use Rattle.at_ledger.specs.Book.{BookTerms}
 use Rattle.at_board.specs.declared.publication.Publication.{Publication}
 use Rattle.at_board.specs.Balances.{balance_after}
 use Rattle.at_board.specs.Fronts.{prefix_of, place}
 use Rattle.at_board.specs.Moves.{IsRun}
-use Rattle.at_board.specs.Publications.{ArePublishedBy, no_publication, publications_of}
+use Rattle.at_board.specs.Publications.{ArePublishedBy, no_publication}
 use Rattle.at_board.specs.Steps.{IsHistory}
 use Rattle.at_board.proofs.FrontLaws.{place-IsFront-le}
 use Rattle.at_fold.proofs.CountedLaws.{All-counted, HasSameRecords-prefix_of, length-counted-le}

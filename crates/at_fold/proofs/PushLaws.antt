@@ -1,27 +1,24 @@
 -- Sums of a list with one more record.
-use Rattle.std.proofs.Common.{◌≡◌, ℕ, ◌+◌, ◌*◌, ◌^◌, ◌<◌, ◌≤◌, ◌==◌, ◌&&◌, ◌||◌, zero, suc, eqb, Bool, true, false, cond, List, [], ◌∷◌, ◌++◌, length, get_or, set, refl, sym, ap, subst, ◌∙◌, arith, inl, inr, get_or-set_other, get_or-set_same, length-set, length-append}
+use Rattle.std.proofs.Common.{◌≡◌, ℕ, ◌^◌, ◌≤◌, ◌||◌, zero, suc, Bool, true, false, List, [], ◌∷◌, ◌++◌, refl, sym, ap, ◌∙◌, arith, inl, inr, length-append}
 use Rattle.std.specs.Prelude.{Option, Some, None}
 use Rattle.std.specs.List.{All, Contains, list_any}
-use Rattle.std.proofs.lemmas.Bool.{cases_Bool, cases_eq, eq-eqb, ne_eqb}
-use Rattle.std.proofs.lemmas.List.Elements.{All-contains, Contains-append_left, Contains-push}
+use Rattle.std.proofs.lemmas.Bool.{cases_Bool}
+use Rattle.std.proofs.lemmas.List.Elements.{All-contains, Contains-append_left}
 use Rattle.std.proofs.lemmas.List.Folds.{list_any-append}
 use Rattle.at_base.specs.declared.decision.Decision.{Decision}
-use Rattle.at_ledger.specs.Account.{rounds_room}
-use Rattle.at_ledger.specs.Book.{BookTerms, account_of}
-use Rattle.at_ledger.specs.Call.{TargetPair}
+use Rattle.at_ledger.specs.Book.{BookTerms}
 use Rattle.at_board.specs.declared.publication.Entry.{Entry}
-use Rattle.at_board.specs.declared.publication.Entry.TheVariants.{Own, Round}
 use Rattle.at_board.specs.declared.publication.Publication.{Publication}
 use Rattle.at_board.specs.Balances.{credit_of, debit_of}
 use Rattle.at_board.specs.Entries.{is_round, is_round_on, is_same_round, names, settles}
 use Rattle.at_board.specs.Rounds.{firsts, repeats}
 use Rattle.at_board.specs.Steps.{IsHistory}
-use Rattle.at_board.proofs.RoundLaws.{one_if, published, sum_by-firsts_new, sum_by-firsts_repeat}
+use Rattle.at_board.proofs.RoundLaws.{one_if, sum_by-firsts_new, sum_by-firsts_repeat}
 use Rattle.at_fold.proofs.RoundSums.{repeats-firsts}
 use Rattle.at_fold.proofs.SumsLaws.{same_entry-IsHistory}
-use Rattle.at_fold.specs.Counted.{IsAnswer, IsDecidedIn}
+use Rattle.at_fold.specs.Counted.{IsAnswer}
 use Rattle.at_fold.specs.HasCounted.{AreSumsOf, IsAccountOf, IsSlotOf}
-use Rattle.at_fold.specs.Sums.{AccountSums, HasPlace, SlotSums, after_entry, answer_at, is_counted, no_slot, row_at, slot_at, with_amounts, with_answer, with_round}
+use Rattle.at_fold.specs.Sums.{AccountSums, SlotSums, answer_at, row_at, slot_at, with_amounts}
 
 -- an element that passes a test that some element passes
 found_by : (g : Publication → Bool) (xs : List Publication) → list_any g xs ≡ true → (y : Publication) × Contains xs y × (g y ≡ true)

@@ -1,5 +1,5 @@
 -- Sums over a list that count each round once: they depend only on which records of each process the list has.
-use Rattle.std.proofs.Common.{◌≡◌, ℕ, ◌+◌, ◌<◌, ◌≤◌, ◌==◌, ◌&&◌, ◌||◌, zero, suc, eqb, Bool, true, false, cond, List, [], ◌∷◌, ◌++◌, length, get_or, take, refl, sym, ap, subst, ◌∙◌, arith, inl, inr}
+use Rattle.std.proofs.Common.{◌≡◌, ℕ, ◌+◌, ◌≤◌, ◌&&◌, ◌||◌, zero, suc, eqb, Bool, true, false, cond, List, [], ◌∷◌, ◌++◌, length, get_or, take, refl, sym, ap, subst, ◌∙◌, arith, inl, inr}
 use Rattle.std.specs.List.{All, list_any, sum_by}
 use Rattle.std.proofs.lemmas.Bool.{cases_Bool, cases_eq, eq-eqb, eqb-true, ne_eqb}
 use Rattle.std.proofs.lemmas.List.{append-nil, take_all, take_more}
@@ -10,7 +10,7 @@ use Rattle.at_board.specs.declared.publication.Publication.{Publication}
 use Rattle.at_board.specs.Entries.{is_round, is_same_round}
 use Rattle.at_board.specs.Publications.{no_publication}
 use Rattle.at_board.specs.Rounds.{firsts, repeats}
-use Rattle.at_board.proofs.RoundLaws.{firsts-new, firsts-nil, firsts-repeat, has_round, sum_by-firsts_new, sum_by-firsts_repeat}
+use Rattle.at_board.proofs.RoundLaws.{firsts-new, firsts-nil, firsts-repeat, sum_by-firsts_new, sum_by-firsts_repeat}
 use Rattle.at_fold.proofs.Shuffles.{All-before, All-middle, All-without, HasSameRecords, IsShuffle, IsShuffle-HasSameRecords, list_any-IsShuffle, list_any-middle}
 
 -- being of one round goes both ways

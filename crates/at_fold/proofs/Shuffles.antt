@@ -1,12 +1,12 @@
 -- Lists with the same records of each process: what doesn't depend on the order between processes.
-use Rattle.std.proofs.Common.{◌≡◌, ℕ, ◌+◌, ◌<◌, ◌≤◌, ◌||◌, zero, suc, Bool, true, false, List, [], ◌∷◌, ◌++◌, length, get_or, take, drop, refl, sym, ap, subst, ◌∙◌, arith, inl, inr}
+use Rattle.std.proofs.Common.{◌≡◌, ℕ, ◌+◌, ◌||◌, Bool, true, false, List, [], ◌∷◌, ◌++◌, length, get_or, take, drop, refl, sym, ap, subst, ◌∙◌, arith, inl, inr}
 use Rattle.std.specs.List.{All, list_any}
 use Rattle.std.proofs.lemmas.Bool.{cases_eq}
-use Rattle.std.proofs.lemmas.List.{append-nil, drop_more, length-append, take-append-drop, take_at}
-use Rattle.std.proofs.lemmas.List.Elements.{All-append, All-drop, All-head, All-tail, All-take}
+use Rattle.std.proofs.lemmas.List.{drop_more, length-append, take-append-drop, take_at}
+use Rattle.std.proofs.lemmas.List.Elements.{All-append, All-head, All-tail, All-take}
 use Rattle.std.proofs.lemmas.List.Folds.{list_any-append}
 use Rattle.at_board.specs.declared.publication.Publication.{Publication}
-use Rattle.at_board.specs.Publications.{no_publication, publications_of, count_of}
+use Rattle.at_board.specs.Publications.{no_publication, publications_of}
 use Rattle.at_board.proofs.CountLaws.{IsPosition, get_or-publications_of, position_of, publications_of-append, publications_of-nil, publications_of-other, publications_of-own}
 
 -- the same records of each process, in the same order

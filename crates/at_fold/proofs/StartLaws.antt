@@ -1,5 +1,5 @@
 -- Totals that have counted nothing.
-use Rattle.std.proofs.Common.{◌≡◌, ℕ, ◌+◌, ◌*◌, ◌^◌, ◌<◌, ◌≤◌, zero, suc, Bool, true, false, List, [], ◌∷◌, ◌++◌, length, get_or, map, replicate, take, refl, sym, ap, subst, ◌∙◌, arith}
+use Rattle.std.proofs.Common.{◌≡◌, ℕ, ◌+◌, zero, suc, false, List, [], ◌++◌, length, map, replicate, take, refl, sym, ap, subst, ◌∙◌, arith}
 use Rattle.std.specs.Prelude.{None}
 use Rattle.std.specs.List.{flat_map, range_with_len, sum_by}
 use Rattle.std.proofs.lemmas.List.{get_or-replicate, length-replicate}
@@ -11,13 +11,12 @@ use Rattle.at_board.specs.Balances.{credit_of, debit_of}
 use Rattle.at_board.specs.Entries.{is_round_on, names}
 use Rattle.at_board.specs.Places.{slots_of}
 use Rattle.at_board.specs.Publications.{publications_of}
-use Rattle.at_board.specs.Rounds.{firsts}
 use Rattle.at_board.proofs.OpeningLaws.{get_or-zeros}
 use Rattle.at_board.proofs.RoundLaws.{firsts-nil, one_if}
 use Rattle.at_fold.proofs.CountedLaws.{part}
 use Rattle.at_fold.specs.Counted.{IsAnswer, counted}
 use Rattle.at_fold.specs.HasCounted.{AreSumsOf, HasCounted, IsAccountOf, IsSlotOf}
-use Rattle.at_fold.specs.Sums.{AccountSums, answer_at, no_row, no_slot, row_at, slot_at, starting_row, starting_slot}
+use Rattle.at_fold.specs.Sums.{no_row, no_slot, starting_row, starting_slot}
 
 counted-zeros : (n : ℕ) (list : List Publication) → counted (replicate n 0) list ≡ []
 unfolding counted

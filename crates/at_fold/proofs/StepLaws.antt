@@ -1,18 +1,17 @@
 -- What holds where a record may be counted next, and after it is.
-use Rattle.std.proofs.Common.{◌≡◌, ℕ, ◌+◌, ◌*◌, ◌^◌, ◌<◌, ◌≤◌, ◌==◌, ◌&&◌, ◌||◌, zero, suc, eqb, Bool, true, false, not, cond, List, [], ◌∷◌, ◌++◌, length, get_or, take, set, refl, sym, ap, subst, ◌∙◌, arith, inl, inr, get_or-set_other, get_or-set_same, length-set}
-use Rattle.std.specs.List.{All, Contains, list_any, sum_by}
+use Rattle.std.proofs.Common.{◌≡◌, ℕ, ◌+◌, ◌^◌, ◌<◌, ◌≤◌, ◌==◌, zero, suc, Bool, true, false, not, List, [], ◌∷◌, ◌++◌, length, get_or, take, set, refl, sym, ap, subst, ◌∙◌, arith, inl, inr, get_or-set_other, get_or-set_same, length-set}
+use Rattle.std.specs.List.{Contains, sum_by}
 use Rattle.std.proofs.lemmas.Bool.{cases_Bool, cases_eq}
 use Rattle.std.proofs.lemmas.List.{get_or_default, take_all, take_more}
 use Rattle.std.proofs.lemmas.List.Elements.{All-append, All-contains_itself, All-filter, All-get_or}
-use Rattle.at_base.specs.Counts.{Covers}
-use Rattle.at_ledger.specs.Book.{BookTerms, IsBook}
+use Rattle.at_ledger.specs.Book.{BookTerms}
 use Rattle.at_ledger.specs.Call.{AreTargetsOn}
 use Rattle.at_board.specs.declared.publication.Entry.{Entry}
 use Rattle.at_board.specs.declared.publication.Entry.TheVariants.{Own, Round}
 use Rattle.at_board.specs.declared.publication.Publication.{Publication}
 use Rattle.at_board.specs.Balances.{credit_of, debit_of}
 use Rattle.at_board.specs.BoardState.{publication_at}
-use Rattle.at_board.specs.Entries.{is_round, is_round_on, names}
+use Rattle.at_board.specs.Entries.{is_round_on, names}
 use Rattle.at_board.specs.Fronts.{prefix_of}
 use Rattle.at_board.specs.Publications.{count_of, counts, no_publication, publications_of}
 use Rattle.at_board.specs.Rounds.{firsts, repeats}
@@ -26,7 +25,7 @@ use Rattle.at_fold.proofs.PushLaws.{AreSumsOf-repeat}
 use Rattle.at_fold.proofs.RoundSums.{repeats-firsts}
 use Rattle.at_fold.proofs.SumsLaws.{AreSumsOf-same}
 use Rattle.at_fold.specs.Counted.{counted}
-use Rattle.at_fold.specs.HasCounted.{AreSumsOf, HasCounted, IsNext, MayCount}
+use Rattle.at_fold.specs.HasCounted.{AreSumsOf, HasCounted, MayCount}
 use Rattle.at_fold.specs.Sums.{AccountSums, FitsMore, FitsRound, HasPlace, TotalSums, after_entry, is_new_to, row_at}
 
 -- the record that is counted next

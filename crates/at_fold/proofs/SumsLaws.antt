@@ -1,32 +1,28 @@
 -- Sums of a list: they are those of each list with the same records, and one more record changes them so.
-use Rattle.std.proofs.Common.{◌≡◌, ℕ, ◌+◌, ◌*◌, ◌^◌, ◌<◌, ◌≤◌, ◌==◌, ◌&&◌, ◌||◌, zero, suc, eqb, Bool, true, false, not, cond, List, [], ◌∷◌, ◌++◌, length, get_or, take, set, refl, sym, ap, subst, ◌∙◌, arith, inl, inr, get_or-set_other, get_or-set_same, length-set, length-append}
+use Rattle.std.proofs.Common.{◌≡◌, ℕ, ◌*◌, ◌^◌, ◌<◌, ◌&&◌, zero, suc, eqb, Bool, true, false, List, [], ◌∷◌, ◌++◌, length, get_or, refl, sym, ap, subst, ◌∙◌, arith, inl, inr}
 use Rattle.std.specs.Prelude.{Option, Some, None}
-use Rattle.std.specs.List.{All, Contains, count_by, list_any, sum_by}
-use Rattle.std.proofs.lemmas.Bool.{cases_Bool, cases_eq, eq-eqb, eqb-true, ne_eqb}
+use Rattle.std.specs.List.{All, Contains, sum_by}
+use Rattle.std.proofs.lemmas.Bool.{eqb-true}
 use Rattle.std.proofs.lemmas.List.{get_or_default}
-use Rattle.std.proofs.lemmas.List.Elements.{All-append, All-contains, All-weaker, Contains-append_cases, Contains-append_left, Contains-append_right, Contains-push}
-use Rattle.std.proofs.lemmas.List.Folds.{list_any-append}
+use Rattle.std.proofs.lemmas.List.Elements.{All-append, All-contains, All-weaker, Contains-append_cases, Contains-append_left, Contains-append_right}
 use Rattle.at_base.specs.declared.decision.Decision.{Decision}
-use Rattle.at_ledger.specs.Account.{rounds_room}
-use Rattle.at_ledger.specs.Book.{BookTerms, account_of}
-use Rattle.at_ledger.specs.Call.{TargetPair}
+use Rattle.at_ledger.specs.Book.{BookTerms}
 use Rattle.at_board.specs.declared.publication.Entry.{Entry}
 use Rattle.at_board.specs.declared.publication.Entry.TheVariants.{Own, Round}
 use Rattle.at_board.specs.declared.publication.Publication.{Publication}
 use Rattle.at_board.specs.Balances.{credit_of, debit_of}
 use Rattle.at_board.specs.BoardState.{publication_at}
 use Rattle.at_board.specs.Entries.{is_round, is_round_on, is_same_round, names, settles}
-use Rattle.at_board.specs.Places.{slots_of}
 use Rattle.at_board.specs.Publications.{no_publication}
-use Rattle.at_board.specs.Rounds.{firsts, is_settled, repeats}
+use Rattle.at_board.specs.Rounds.{firsts}
 use Rattle.at_board.specs.ShownRounds.{AgreeOnRound}
 use Rattle.at_board.specs.Steps.{IsHistory}
-use Rattle.at_board.proofs.RoundLaws.{one_if, sum_by-firsts_new, sum_by-firsts_repeat}
-use Rattle.at_fold.proofs.RoundSums.{repeats-firsts, sum_by-firsts-same}
+use Rattle.at_board.proofs.RoundLaws.{one_if}
+use Rattle.at_fold.proofs.RoundSums.{sum_by-firsts-same}
 use Rattle.at_fold.proofs.Shuffles.{HasSameRecords, IsShuffle, IsShuffle-HasSameRecords, length-IsShuffle, list_any-IsShuffle}
-use Rattle.at_fold.specs.Counted.{IsAnswer, IsDecidedIn}
+use Rattle.at_fold.specs.Counted.{IsAnswer}
 use Rattle.at_fold.specs.HasCounted.{AreSumsOf, IsAccountOf, IsSlotOf}
-use Rattle.at_fold.specs.Sums.{AccountSums, SlotSums, after_entry, answer_at, is_counted, no_slot, row_at, slot_at, with_answer, with_round}
+use Rattle.at_fold.specs.Sums.{AccountSums, SlotSums, answer_at, row_at, slot_at}
 
 and_true : (s t : Bool) → (s && t) ≡ true → (s ≡ true) × (t ≡ true)
 and_true true true both = (refl, refl)

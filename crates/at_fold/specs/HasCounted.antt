@@ -1,5 +1,5 @@
 -- What totals have counted, of a list of publications that a seat has seen.
-use Rattle.std.specs.Prelude.{◌≡◌, ℕ, ◌+◌, ◌*◌, ◌^◌, ◌<◌, ◌≤◌, List, length, slice_index, slice_index_or}
+use Rattle.std.specs.Prelude.{◌≡◌, ℕ, ◌*◌, ◌^◌, ◌<◌, ◌≤◌, List, length, slice_index}
 use Rattle.at_base.specs.Counts.{Covers}
 use Rattle.at_ledger.specs.Account.{rounds_room}
 use Rattle.at_ledger.specs.Book.{BookTerms, IsBook, account_of}

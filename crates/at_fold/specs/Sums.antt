@@ -1,12 +1,12 @@
 -- What totals keep of slots and accounts, and how one more record changes it.
-use Rattle.std.specs.Prelude.{ℕ, ◌+◌, ◌*◌, ◌^◌, ◌<◌, ◌≤◌, ◌==◌, Bool, true, false, List, [], length, replicate, slice_index_or, slice_set, Option, Some, None, if◌then◌else◌, not}
+use Rattle.std.specs.Prelude.{ℕ, ◌+◌, ◌^◌, ◌<◌, ◌==◌, Bool, true, false, List, [], length, replicate, slice_index_or, slice_set, Option, Some, None, if◌then◌else◌, not}
 use Rattle.at_base.specs.declared.decision.Decision.{Decision}
 use Rattle.at_ledger.specs.Account.{rounds_room}
 use Rattle.at_ledger.specs.Book.{BookTerms, account_of}
-use Rattle.at_ledger.specs.Call.{AreTargetsOn, amount_of}
+use Rattle.at_ledger.specs.Call.{AreTargetsOn}
 use Rattle.at_board.specs.declared.publication.Entry.{Entry}
 use Rattle.at_board.specs.declared.publication.Entry.TheVariants.{Own, Round}
-use Rattle.at_board.specs.Balances.{amount_for, credit_of, debit_of}
+use Rattle.at_board.specs.Balances.{credit_of, debit_of}
 use Rattle.at_board.specs.Places.{slots_of}
 
 -- how many requests of a slot are decided, and the round and decision of each by its number

@@ -1,4 +1,4 @@
-use Rattle.std.proofs.Common.{◌≡◌, ℕ, ◌*◌, ◌^◌, ◌≤◌, length, take}
+use Rattle.std.proofs.Common.{◌≡◌, ◌*◌, ◌^◌, ◌≤◌, length, take}
 use Rattle.at_ledger.specs.Call.{amount_of}
 use Rattle.at_fold.proofs.totals.sum_of.Given as goal
 

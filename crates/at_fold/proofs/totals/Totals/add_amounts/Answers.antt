@@ -1,4 +1,4 @@
-use Rattle.std.proofs.Common.{◌+◌, ◌<◌, ◌≤◌, ◌==◌, ◌^◌, arith}
+use Rattle.std.proofs.Common.{◌==◌, arith}
 use Rattle.at_ledger.specs.Call.{amount_of}
 use Rattle.at_fold.proofs.AmountLaws.{amount_for-le, cond-le}
 use Rattle.at_fold.proofs.totals.Totals.add_amounts.Goals as goal

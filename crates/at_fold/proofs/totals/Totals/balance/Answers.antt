@@ -1,8 +1,6 @@
-use Rattle.std.proofs.Common.{◌≡◌, ℕ, ◌+◌, ◌-◌, ◌^◌, ◌<◌, ◌≤◌, length, sym, ap, subst, ◌∙◌, arith}
-use Rattle.at_ledger.specs.Book.{BookTerms}
-use Rattle.at_board.specs.declared.publication.Publication.{Publication}
-use Rattle.at_fold.specs.Sums.{AccountSums, TotalSums, row_at}
-use Rattle.at_fold.proofs.FrontLaws.{IsBalanced, IsBalanced-front, row_read}
+use Rattle.std.proofs.Common.{◌+◌, ◌-◌, ◌<◌, length, ap, ◌∙◌, arith}
+use Rattle.at_fold.specs.Sums.{AccountSums, TotalSums}
+use Rattle.at_fold.proofs.FrontLaws.{IsBalanced-front, row_read}
 use Rattle.at_fold.proofs.totals.Totals.balance.Goals as goal
 
 pub balance-requires-clause-room : goal.balance-requires-clause-room

@@ -1,11 +1,10 @@
-use Rattle.std.proofs.Common.{◌≡◌, ℕ, ◌+◌, ◌-◌, ◌*◌, ◌<◌, ◌≤◌, List, length, get_or, set, sym, ap, subst, ◌∙◌, arith, inl, inr, get_or-set_other, get_or-set_same, length-set}
+use Rattle.std.proofs.Common.{◌≡◌, ℕ, ◌<◌, ◌≤◌, List, length, get_or, set, sym, ap, ◌∙◌, arith, inl, inr, get_or-set_other, get_or-set_same, length-set}
 use Rattle.std.specs.List.{sum}
 use Rattle.std.proofs.lemmas.Bool.{cases_eq}
 use Rattle.std.proofs.lemmas.Grind.{same_number_lists}
-use Rattle.at_board.specs.Publications.{count_of, counts}
+use Rattle.at_board.specs.Publications.{count_of}
 use Rattle.at_board.specs.SeatView.{SeatView}
 use Rattle.at_board.proofs.CountLaws.{get_or-counts, length-counts}
-use Rattle.at_fold.specs.HasCounted.{HasCounted}
 use Rattle.at_fold.specs.Sums.{TotalSums}
 use Rattle.at_fold.proofs.CatchLaws.{sum-caught}
 use Rattle.at_fold.proofs.totals.Totals.catch_up.Goals as goal

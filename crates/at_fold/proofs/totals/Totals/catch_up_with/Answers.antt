@@ -1,11 +1,10 @@
-use Rattle.std.proofs.Common.{◌≡◌, ℕ, ◌+◌, ◌-◌, ◌*◌, ◌<◌, ◌≤◌, List, length, get_or, set, sym, ap, subst, ◌∙◌, arith, get_or-set_same}
+use Rattle.std.proofs.Common.{◌≡◌, ℕ, ◌+◌, ◌<◌, List, length, get_or, set, sym, ap, subst, ◌∙◌, arith, get_or-set_same}
 use Rattle.std.proofs.lemmas.List.{set-set}
 use Rattle.at_ledger.specs.Book.{BookTerms}
 use Rattle.at_board.specs.Publications.{count_of}
 use Rattle.at_board.specs.SeatView.{SeatView}
 use Rattle.at_board.specs.Steps.{IsHistory}
 use Rattle.at_fold.specs.HasCounted.{HasCounted, MayCount}
-use Rattle.at_fold.specs.Sums.{TotalSums}
 use Rattle.at_fold.proofs.CatchLaws.{MayCount-loaded}
 use Rattle.at_fold.proofs.totals.Totals.catch_up_with.Goals as goal
 

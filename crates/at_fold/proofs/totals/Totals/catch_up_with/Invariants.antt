@@ -1,4 +1,4 @@
-use Rattle.std.proofs.Common.{◌≡◌, ◌+◌, ◌-◌, ◌*◌, ◌≤◌, set}
+use Rattle.std.proofs.Common.{◌≡◌, ◌+◌, ◌-◌, ◌*◌, set}
 use Rattle.at_fold.specs.HasCounted.{HasCounted}
 use Rattle.at_fold.proofs.totals.Totals.catch_up_with.Given as goal
 

@@ -1,5 +1,5 @@
-use Rattle.std.proofs.Common.{◌≡◌, ◌<◌, length, ap, ◌∙◌, arith}
-use Rattle.at_fold.specs.Sums.{AccountSums, TotalSums, row_at, slot_at}
+use Rattle.std.proofs.Common.{◌<◌, length, ap, ◌∙◌, arith}
+use Rattle.at_fold.specs.Sums.{AccountSums, TotalSums, slot_at}
 use Rattle.at_fold.proofs.FrontLaws.{AreSumsOf-front, row_read}
 use Rattle.at_fold.proofs.totals.Totals.done.Goals as goal
 

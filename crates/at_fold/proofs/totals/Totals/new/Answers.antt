@@ -1,8 +1,7 @@
-use Rattle.std.proofs.Common.{◌≡◌, ◌+◌, List, ◌∷◌, ◌++◌, [], length, map, replicate, sym, ap, subst, ◌∙◌, arith}
+use Rattle.std.proofs.Common.{◌≡◌, length, map, replicate, ap, ◌∙◌, arith}
 use Rattle.std.specs.List.{range_with_len}
 use Rattle.std.proofs.lemmas.List.FromFn.{map-range_with_len_more}
-use Rattle.at_fold.specs.HasCounted.{HasCounted}
-use Rattle.at_fold.specs.Sums.{AccountSums, TotalSums, starting_row}
+use Rattle.at_fold.specs.Sums.{starting_row}
 use Rattle.at_fold.proofs.StartLaws.{HasCounted-starting}
 use Rattle.at_fold.proofs.totals.Totals.new.Goals as goal
 

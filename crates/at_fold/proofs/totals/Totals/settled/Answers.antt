@@ -1,7 +1,7 @@
-use Rattle.std.proofs.Common.{◌≡◌, ◌<◌, length, sym, ap, subst, ◌∙◌, arith}
+use Rattle.std.proofs.Common.{◌<◌, length, sym, ap, subst, ◌∙◌, arith}
 use Rattle.at_board.specs.Fronts.{prefix_of}
 use Rattle.at_fold.specs.Counted.{IsAnswer}
-use Rattle.at_fold.specs.Sums.{AccountSums, TotalSums, answer_at, row_at, slot_at}
+use Rattle.at_fold.specs.Sums.{AccountSums, TotalSums, answer_at, slot_at}
 use Rattle.at_fold.proofs.FrontLaws.{AreSumsOf-front, row_read}
 use Rattle.at_fold.proofs.totals.Totals.settled.Goals as goal
 
