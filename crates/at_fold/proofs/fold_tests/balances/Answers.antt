@@ -18,10 +18,10 @@ use Rattle.at_fold.proofs.fold_tests.balances.Goals as goal
 one_record : (b : BookTerms) (seen : List Publication) (p : ℕ) → b.processes ≡ 1 → p < b.processes → count_of p seen ≡ 1 → counts b.processes seen ≡ 1 ∷ []
 one_record b seen p alone known one =
     same_number_lists (counts b.processes seen) (1 ∷ []) (length-counts b.processes seen ∙ alone) (λ k within.
-      let below : k < b.processes = omega (arith, within, length-counts b.processes seen) in
-      let here : k ≡ p = omega (arith, below, known, alone) in
-      let first : 0 ≡ k = omega (arith, below, alone) in
-      get_or-counts b.processes seen k 0 below ∙ (ap (λ q. count_of q seen) here ∙ (one ∙ ap (λ q. get_or (1 ∷ []) q 0) first)))
+    let below : k < b.processes = omega (arith, within, length-counts b.processes seen) in
+    let here : k ≡ p = omega (arith, below, known, alone) in
+    let first : 0 ≡ k = omega (arith, below, alone) in
+    get_or-counts b.processes seen k 0 below ∙ (ap (λ q. count_of q seen) here ∙ (one ∙ ap (λ q. get_or (1 ∷ []) q 0) first)))
 
 has_records : (b : BookTerms) (seen : List Publication) (p : ℕ) (upto : List ℕ) → b.processes ≡ 1 → p < b.processes → count_of p seen ≡ 1
     → upto ≡ 1 ∷ [] → HasRecords b seen upto
