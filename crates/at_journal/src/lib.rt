@@ -9,6 +9,8 @@ mod keyed;
 mod keys;
 mod lines;
 mod places;
+#[cfg(test)]
+mod tests;
 
 ghost use Rattle.std.specs.Prelude.{◌≡◌, ℕ, ◌^◌, ◌<◌, length, All, IfOk};
 ghost use Rattle.at_ledger.specs.Run.{Legal, Whole, last_state};
