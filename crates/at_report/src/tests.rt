@@ -1,6 +1,5 @@
 use crate::{
     MessagesWhy, OrderWhy, ScheduleWhy, Status, UsageFault, checked_text, fault_text, report,
-    summary,
 };
 use at_files::{BadBook, BadPayments, BookWhy, Names, PaymentsWhy};
 use at_ledger::{Book, BookError, Call, Draft, DraftAccount, Line, Reply};
@@ -22,7 +21,7 @@ fn refusals(rt: HostRuntime) {
         (
             Status::Usage(UsageFault::Words),
             2,
-            "usage: run BOOK PAY... | check BOOK PAY... | make NUMBER PROCESSES CALLS\n",
+            "usage: run BOOK PAY... | check BOOK PAY...\n",
         ),
         (
             Status::Usage(UsageFault::Files {
@@ -142,18 +141,5 @@ fn texts(rt: HostRuntime) -> Result<(), Fail> {
         checked_text(alloc, &book, 3)?.as_slice(),
         b"checked 1 2 3\n".as_slice()
     );
-    lines.push(Line {
-        process: 0,
-        number: 4,
-        call: Call::Transfer {
-            from: 0,
-            to: 1,
-            amount: 71,
-        },
-        reply: Reply::Short,
-    })?;
-    let text = summary(alloc, &book, lines.as_slice(), 7, 4)?;
-    let want = b"made 7 1 4\ndone 1\nread 2\nbalances 2\n0 70\n1 30\ntotal 100\n";
-    assert_eq!(rt; text.as_slice(), want.as_slice());
     Ok(())
 }
