@@ -21,7 +21,7 @@ fn refusals(rt: HostRuntime) {
         (
             Status::Usage(UsageFault::Words),
             2,
-            "usage: run BOOK PAY... | check BOOK PAY...\n",
+            "usage: run BOOK PAY... | check BOOK PAY... | make NUMBER PROCESSES CALLS\n",
         ),
         (
             Status::Usage(UsageFault::Files {
