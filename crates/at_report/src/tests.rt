@@ -1,5 +1,10 @@
+ghost use Rattle.std.specs.Prelude.{◌≡◌, All, IfOk};
+ghost use Rattle.at_ledger.specs.Call.{IsLineOn};
+ghost use Rattle.at_ledger.specs.declared.call.Call.TheVariants.{Transfer};
+
 use crate::{
     MessagesWhy, OrderWhy, ScheduleWhy, Status, UsageFault, checked_text, fault_text, report,
+    summary,
 };
 use at_files::{BadBook, BadPayments, BookWhy, Names, PaymentsWhy};
 use at_ledger::{Book, BookError, Call, Draft, DraftAccount, Line, Reply};
@@ -101,36 +106,56 @@ fn draft(alloc: Global) -> Result<Draft, AllocError> {
     })
 }
 
+/// A line of process 0.
+fn line(number: u32, call: Call, reply: Reply) -> Line
+    ensures { result ≡ record { process = 0; number = number; call = call; reply = reply } }
+{
+    Line {
+        process: 0,
+        number,
+        call,
+        reply,
+    }
+}
+
+fn transfer(amount: u64) -> Call
+    ensures { result ≡ Transfer 0 1 amount }
+{
+    Call::Transfer {
+        from: 0,
+        to: 1,
+        amount,
+    }
+}
+
+/// A transfer of 30, and what is then on both accounts.
+fn usual_lines(alloc: Global) -> Result<Vec<Line>, AllocError>
+    ensures { IfOk result (λ lines. All (IsLineOn 1 2) lines.items) }
+{
+    let mut lines = Vec::new(alloc);
+    lines.push(line(1, transfer(30), Reply::Done))?;
+    lines.push(line(2, Call::Read { account: 0 }, Reply::Balance(70)))?;
+    lines.push(line(3, Call::Read { account: 1 }, Reply::Balance(30)))?;
+    Ok(lines)
+}
+
+/// A transfer of 71, and one more that is not covered.
+fn two_transfers(alloc: Global) -> Result<Vec<Line>, AllocError>
+    ensures { IfOk result (λ lines. All (IsLineOn 1 2) lines.items) }
+{
+    let mut lines = Vec::new(alloc);
+    lines.push(line(1, transfer(71), Reply::Done))?;
+    lines.push(line(2, transfer(71), Reply::Short))?;
+    Ok(lines)
+}
+
 #[test]
 fn texts(rt: HostRuntime) -> Result<(), Fail> {
     let alloc = rt.alloc();
     let draft = draft(alloc)?;
     let book = Book::new(alloc, &draft)?;
     let names = Names::plain(alloc, &book)?;
-    let mut lines = Vec::new(alloc);
-    let transfer = Call::Transfer {
-        from: 0,
-        to: 1,
-        amount: 30,
-    };
-    lines.push(Line {
-        process: 0,
-        number: 1,
-        call: transfer,
-        reply: Reply::Done,
-    })?;
-    lines.push(Line {
-        process: 0,
-        number: 2,
-        call: Call::Read { account: 0 },
-        reply: Reply::Balance(70),
-    })?;
-    lines.push(Line {
-        process: 0,
-        number: 3,
-        call: Call::Read { account: 1 },
-        reply: Reply::Balance(30),
-    })?;
+    let lines = usual_lines(alloc)?;
     assert!(rt; book.processes() == 1);
     assert!(rt; book.accounts() == 2);
     let text = report(alloc, &book, &names, lines.as_slice())?;
@@ -141,5 +166,19 @@ fn texts(rt: HostRuntime) -> Result<(), Fail> {
         checked_text(alloc, &book, 3)?.as_slice(),
         b"checked 1 2 3\n".as_slice()
     );
+    Ok(())
+}
+
+#[test]
+fn a_summary(rt: HostRuntime) -> Result<(), Fail> {
+    let alloc = rt.alloc();
+    let draft = draft(alloc)?;
+    let book = Book::new(alloc, &draft)?;
+    let lines = two_transfers(alloc)?;
+    assert!(rt; book.processes() == 1);
+    assert!(rt; book.accounts() == 2);
+    let text = summary(alloc, &book, lines.as_slice(), 7, 2)?;
+    let want = b"made 7 1 2\ndone 1\nread 0\nbalances 2\n0 29\n1 71\ntotal 100\n";
+    assert_eq!(rt; text.as_slice(), want.as_slice());
     Ok(())
 }
