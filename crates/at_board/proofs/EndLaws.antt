@@ -2,6 +2,7 @@
 use Rattle.std.proofs.Common.{ap, ◌≡◌, ℕ, ◌+◌, ◌-◌, ◌<◌, List, [], ◌∷◌, ◌++◌, length, get_or, None, refl, sym, subst, ◌∙◌, arith, inl, inr}
 use Rattle.std.specs.List.{All, Contains}
 use Rattle.std.proofs.lemmas.Bool.{cases_lt}
+use Rattle.std.proofs.Math.Seq.{get_or-append_seam}
 use Rattle.std.proofs.lemmas.List.{get_or-append_right, get_or_append_left, get_or_default, length-append, length_push}
 use Rattle.std.proofs.lemmas.List.Elements.{All-append, All-cons, All-nil, Contains-append_left, Contains-append_right}
 use Rattle.atomic_table.specs.Table.{Final, Seen}
@@ -9,6 +10,7 @@ use Rattle.at_ledger.specs.Book.{BookTerms, IsBook}
 use Rattle.at_board.proofs.HistoryLaws.{IsHistory-Sound}
 use Rattle.at_board.proofs.RecordLaws.{All-Contains, lists_of-Knows}
 use Rattle.at_board.specs.declared.publication.Publication.{Publication}
+use Rattle.at_board.specs.declared.view.Part.{Part}
 use Rattle.at_board.specs.declared.view.View.{View}
 use Rattle.at_board.specs.BoardState.{BoardState}
 use Rattle.at_board.specs.Cuts.{AreNew, starting_seat}
@@ -18,7 +20,7 @@ use Rattle.at_board.specs.RecordWords.{lists_of}
 use Rattle.at_board.specs.Seated.{Ruled}
 use Rattle.at_board.specs.SeatView.{BoardView, SeatView}
 use Rattle.at_board.specs.Shown.{Shown}
-use Rattle.at_board.specs.Views.{HasPart, Knows, no_part, part_at}
+use Rattle.at_board.specs.Views.{HasPart, HasSlot, Knows, asking_on, no_part, own_part, part_at}
 
 -- the view has all lists that the seat has seen
 abbrev pub HasLists : View → SeatView → Type 0
@@ -32,6 +34,8 @@ Gathers-first board seat is one =
     record {
       first = is.process;
       parts = one;
+      own = λ k d within. let at : 0 ≡ k = omega (arith, within) in
+          subst (λ n. part_at seat.view n ≡ own_part (get_or (seat ∷ []) n d).view) at refl;
       free = λ k within. let at : 0 ≡ k = omega (arith, within, one) in subst (λ n. (part_at seat.view n).held ≡ None) at is.free;
       seen = All-cons (HasLists seat.view) seat [] own (All-nil (HasLists seat.view));
     }
@@ -55,6 +59,18 @@ Gathers-more board seats v x gathers is one =
     record {
       first = gathers.first;
       parts = omega (arith, length-append v.parts w.parts, gathers.parts, one, length_push seats x);
+      own = λ k d within. elim (cases_lt k (length seats)) as (λ _. get_or (v.parts ++ w.parts) k no_part ≡ own_part (get_or (seats ++ x ∷ []) k d).view) [
+        | inl below ↦
+            get_or_append_left v.parts w.parts no_part k (omega (arith, below, gathers.parts))
+            ∙ (gathers.own k d below ∙ sym (ap (λ (t : SeatView). own_part t.view) (get_or_append_left seats (x ∷ []) d k below)))
+        | inr above ↦
+            let at : k ≡ length seats = omega (arith, above, within, length_push seats x) in
+            let mine : get_or (v.parts ++ w.parts) k no_part ≡ part_at w (k - length v.parts) =
+            get_or-append_right v.parts w.parts (length v.parts) k no_part refl (omega (arith, gathers.parts, above)) in
+            let first : k - length v.parts ≡ 0 = omega (arith, gathers.parts, at) in
+            let last : get_or (seats ++ x ∷ []) k d ≡ x = ap (λ n. get_or (seats ++ x ∷ []) n d) at ∙ get_or-append_seam seats x [] d in
+            mine ∙ (ap (part_at w) first ∙ sym (ap (λ (t : SeatView). own_part t.view) last))
+      ];
       free = λ k within. elim (cases_lt k (length v.parts)) as (λ _. (get_or (v.parts ++ w.parts) k no_part).held ≡ None) [
         | inl below ↦ subst (λ q. q.held ≡ None) (sym (get_or_append_left v.parts w.parts no_part k below)) (gathers.free k below)
         | inr above ↦
@@ -78,18 +94,22 @@ module _ {S : Type 0} where
       let ruled : Ruled b last.0.words last.0.views = last.1.0 in
       let s : BoardState = ruled.state in
       let knows : Knows b last.0.words s v = ruled.knows id v last.1.1 in
+      let has : (p : ℕ) → p < b.processes → HasPart b last.0.words s v p (part_at v p) =
+      λ p within. subst (λ n. HasPart b last.0.words s v n (part_at v p)) (omega (arith, gathers.first))
+      (knows.parts p (omega (arith, within, gathers.parts, all))) in
+      let own : (p : ℕ) (d : SeatView) → p < b.processes → part_at v p ≡ own_part (get_or seats p d).view =
+      λ p d within. gathers.own p d (omega (arith, within, all)) in
       record {
         state = s;
         shown = subst (λ ws. Shown b ws s) last.2 ruled.shown;
         sound = ruled.sound;
-        free = λ p within.
-            let inside : p < length v.parts = omega (arith, within, gathers.parts, all) in
-            let has : HasPart b last.0.words s v (v.first + p) (part_at v p) = knows.parts p inside in
-            let at : v.first + p ≡ p = omega (arith, gathers.first) in
-            subst (λ n. s.held n ≡ None) at (sym has.held ∙ gathers.free p inside);
+        free = λ p within. sym (has p within).held ∙ gathers.free p (omega (arith, within, gathers.parts, all));
         seen = λ k d within. λ i list inside.
             All-Contains (λ t. IsPrefix t s.published) (lists_of v) (get_or (lists_of (get_or seats k d).view) i list)
             (lists_of-Knows b last.0.words s v knows) (gathers.seen k d within i list inside);
+        counted = λ p d within. sym (has p within).published ∙ ap (λ (q : Part). q.published) (own p d within);
+        announced = λ p d a slot within slots.
+            sym ((has p within).asking a slot slots).announced ∙ ap (λ q. (asking_on q a).announced) (own p d within);
         history = IsHistory-Sound b last.0.words s ruled.shown ruled.sound book.begun;
       }
 
