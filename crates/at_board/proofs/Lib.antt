@@ -28,6 +28,7 @@ pub mod SameLaws
 pub mod MoreLaws
 pub mod LearnLaws
 pub mod DecisionLaws
+pub mod SeenLaws
 pub mod CellLaws
 pub mod DecideLaws
 pub mod DecideParts

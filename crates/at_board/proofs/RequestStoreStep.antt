@@ -5,7 +5,7 @@ use Rattle.atomic_table.specs.Table.{Allows, Me, keeps, step}
 use Rattle.at_ledger.specs.Book.{BookTerms}
 use Rattle.at_board.proofs.PlaceLaws.{place_at-injective}
 use Rattle.at_board.proofs.RequestStoreLaws.{StoresRequestWord-Ruled, same_slot}
-use Rattle.at_board.proofs.SeatCountLaws.{HasCounts-asking, IsSeat-asking, SeesPlaces-asking}
+use Rattle.at_board.proofs.SeatCountLaws.{HasCounts-asking, IsSeat-asking, SeesInRange-asking}
 use Rattle.at_board.proofs.StepLaws.{IsSeatOf}
 use Rattle.at_board.proofs.TableSteps.{store_at}
 use Rattle.at_board.specs.declared.view.View.{View}
@@ -14,7 +14,8 @@ use Rattle.at_board.specs.Places.{IsPlace, place_at, request_word}
 use Rattle.at_board.specs.Plays.{stored_request_word}
 use Rattle.at_board.specs.RequestSteps.{StoresRequestWord, with_asking, with_request_word}
 use Rattle.at_board.specs.Seated.{Ruled}
-use Rattle.at_board.specs.SeatCounts.{HasCounts, SeesPlaces}
+use Rattle.at_board.specs.SeatCounts.{HasCounts}
+use Rattle.at_board.specs.Seen.{SeesInRange}
 use Rattle.at_board.specs.SeatView.{IsSeat}
 use Rattle.at_board.specs.Views.{HasSlot, asking_on, own_part}
 
@@ -81,6 +82,6 @@ HasCounts-request_stored v w a j n counts part told has =
     subst (λ t. HasCounts t counts) (sym told)
     (HasCounts-asking v v.seen v.requests a (with_request_word (asking_on (own_part v) a) j n) counts part refl has)
 
-pub SeesPlaces-request_stored : (v w : View) (a j n : ℕ) → StoresRequestWord v w a j n → SeesPlaces v → SeesPlaces w
-SeesPlaces-request_stored v w a j n told sees =
-    subst SeesPlaces (sym told) (SeesPlaces-asking v v.seen v.requests a (with_request_word (asking_on (own_part v) a) j n) sees sees.requests)
+pub SeesInRange-request_stored : (v w : View) (a j n : ℕ) → StoresRequestWord v w a j n → SeesInRange v → SeesInRange w
+SeesInRange-request_stored v w a j n told sees =
+    subst SeesInRange (sym told) (SeesInRange-asking v v.seen v.requests a (with_request_word (asking_on (own_part v) a) j n) sees sees.requests)
