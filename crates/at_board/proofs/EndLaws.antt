@@ -9,7 +9,6 @@ use Rattle.atomic_table.specs.Table.{Final, Seen}
 use Rattle.at_ledger.specs.Book.{BookTerms, IsBook}
 use Rattle.at_board.proofs.HistoryLaws.{IsHistory-Sound}
 use Rattle.at_board.proofs.RecordLaws.{All-Contains, lists_of-Knows}
-use Rattle.at_board.specs.declared.publication.Publication.{Publication}
 use Rattle.at_board.specs.declared.view.Part.{Part}
 use Rattle.at_board.specs.declared.view.View.{View}
 use Rattle.at_board.specs.BoardState.{BoardState}
@@ -20,7 +19,7 @@ use Rattle.at_board.specs.RecordWords.{lists_of}
 use Rattle.at_board.specs.Seated.{Ruled}
 use Rattle.at_board.specs.SeatView.{BoardView, SeatView}
 use Rattle.at_board.specs.Shown.{Shown}
-use Rattle.at_board.specs.Views.{HasPart, HasSlot, IsAnnounced, IsDecided, Knows, asking_on, no_part, own_part, part_at}
+use Rattle.at_board.specs.Views.{HasPart, IsAnnounced, IsDecided, Knows, asking_on, no_part, own_part, part_at}
 
 -- a list has all elements of another
 abbrev pub HasAll : {X : Type 0} → List X → List X → Type 0

@@ -29,6 +29,7 @@ pub mod MoreLaws
 pub mod LearnLaws
 pub mod DecisionLaws
 pub mod SeenLaws
+pub mod RecordStep
 pub mod CellLaws
 pub mod DecideLaws
 pub mod DecideParts

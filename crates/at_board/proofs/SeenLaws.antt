@@ -1,13 +1,17 @@
 -- What a view has seen agrees, since one sound board has it all.
-use Rattle.std.proofs.Common.{◌≡◌, ℕ, ◌<◌, ◌≤◌, List, length, get_or, sym, ap, subst, ◌∙◌, arith}
+use Rattle.std.proofs.Common.{◌≡◌, ℕ, ◌<◌, ◌≤◌, List, length, get_or, set, sym, ap, subst, ◌∙◌, arith}
 use Rattle.std.specs.List.{All}
+use lib.ListN.{get_elem?}
+use mathlib.Core.Option.{some}
 use Rattle.std.proofs.lemmas.List.{get_or_append_left}
 use Rattle.std.proofs.lemmas.List.Elements.{All-contains, All-from_get_or}
 use Rattle.at_base.specs.declared.decision.Decision.{Decision}
+use Rattle.atomic_table.proofs.Lists.{set_here}
 use Rattle.at_ledger.specs.Book.{BookTerms}
 use Rattle.at_board.proofs.DecisionLaws.{same_round}
-use Rattle.at_board.proofs.FrontLaws.{IsPrefix-length}
+use Rattle.at_board.proofs.FrontLaws.{IsPrefix-both, IsPrefix-length}
 use Rattle.at_board.proofs.RecordLaws.{lists_of-Knows}
+use Rattle.at_board.proofs.SeatLaws.{within_found}
 use Rattle.at_board.specs.declared.publication.Entry.{Entry}
 use Rattle.at_board.specs.declared.publication.Entry.TheVariants.{Own, Round}
 use Rattle.at_board.specs.declared.publication.Publication.{Publication}
@@ -17,6 +21,7 @@ use Rattle.at_board.specs.BoardState.{BoardState, decision_at, publication_at, r
 use Rattle.at_board.specs.Fronts.{prefix_of}
 use Rattle.at_board.specs.Publications.{IsPrefix, no_publication}
 use Rattle.at_board.specs.RecordWords.{lists_of}
+use Rattle.at_board.specs.Seated.{Ruled}
 use Rattle.at_board.specs.Seen.{AgreesOnDecision, AgreesOnEntry, AgreesWithSeen}
 use Rattle.at_board.specs.Sound.{IsSoundDecision, IsSoundEntry, Sound}
 use Rattle.at_board.specs.Views.{IsAnnounced, IsDecided, Knows, SeesDecision, SeesRequest}
@@ -66,6 +71,10 @@ each_record P xs all before each =
 
 pub AgreesWithSeen-Knows : (b : BookTerms) (words : List ℕ) (s : BoardState) (v : View) → Sound b s → Knows b words s v → AgreesWithSeen v
 AgreesWithSeen-Knows b words s v sound knows = record {
+  lists = λ xs ys one other shorter.
+      let each = lists_of-Knows b words s v knows in
+      IsPrefix-both xs ys s.published (All-contains (λ t. IsPrefix t s.published) (lists_of v) xs each one)
+      (All-contains (λ t. IsPrefix t s.published) (lists_of v) ys each other) shorter;
   requests = λ a slot number r q one other.
       sym (request-seen b words s v a slot number r knows one) ∙ request-seen b words s v a slot number q knows other;
   decisions = λ a round d sees.
@@ -77,3 +86,14 @@ AgreesWithSeen-Knows b words s v sound knows = record {
       let x : Publication = publication_at s.published m in
       AgreesOnEntry-Knows b words s v x.process (prefix_of x.view s.published) x.entry sound knows (sound.entries m inside));
 }
+
+-- between two steps
+pub AgreesWithSeen-Ruled : (b : BookTerms) (words : List ℕ) (views : List View) (id : ℕ) (v : View) → Ruled b words views
+    → get_elem? views id ≡ some v → AgreesWithSeen v
+AgreesWithSeen-Ruled b words views id v ruled found = AgreesWithSeen-Knows b words ruled.state v ruled.sound (ruled.knows id v found)
+
+-- after a step of the seat
+pub AgreesWithSeen-set : (b : BookTerms) (words : List ℕ) (views : List View) (id : ℕ) (v w : View) → get_elem? views id ≡ some v
+    → Ruled b words (set views id w) → AgreesWithSeen w
+AgreesWithSeen-set b words views id v w found ruled =
+    AgreesWithSeen-Ruled b words (set views id w) id w ruled (set_here views id w (within_found views id v found))
