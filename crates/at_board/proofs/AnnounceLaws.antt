@@ -17,6 +17,7 @@ use Rattle.at_board.proofs.PlaceLaws.{word_at-set_other, word_at-set_same}
 use Rattle.at_board.proofs.RequestStoreLaws.{same_slot}
 use Rattle.at_board.proofs.SeatLaws.{AreSeated-set, knows_after}
 use Rattle.at_board.proofs.StoreLaws.{SameRecordWords, other_process}
+use Rattle.at_board.proofs.SeenLaws.{AgreesWithSeen-Knows}
 use Rattle.at_board.specs.declared.request.Request.{Request}
 use Rattle.at_board.specs.declared.view.Asking.{Asking}
 use Rattle.at_board.specs.declared.view.Part.{Part}
@@ -240,6 +241,7 @@ Announces-Ruled b words views id v a slot r ruled begun found part may =
         own = sym own.published;
         joined = knows.joined;
         history = IsHistory-Sound b after t shown sound begun;
+        agrees = AgreesWithSeen-Knows b after t u sound knows_own;
         same = refl;
       },
     )

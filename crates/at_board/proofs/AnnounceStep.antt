@@ -1,5 +1,5 @@
 -- The announcing step that the rule allows.
-use Rattle.std.proofs.Common.{◌≡◌, ℕ, ◌+◌, ◌<◌, List, [], ◌∷◌, ◌++◌, length, set, refl, sym, ap, subst, ◌∙◌, arith}
+use Rattle.std.proofs.Common.{◌≡◌, ℕ, ◌+◌, ◌<◌, ◌≤◌, List, [], ◌∷◌, ◌++◌, length, set, refl, sym, ap, subst, ◌∙◌, arith}
 use mathlib.Core.Option.{none}
 use Rattle.std.proofs.lemmas.List.{length_push}
 use Rattle.std.proofs.lemmas.List.Elements.{All-push}
@@ -10,19 +10,21 @@ use Rattle.at_board.proofs.FormLaws.{ArePacked-AreTargets, request_words-injecti
 use Rattle.at_board.proofs.PlaceLaws.{place_at-injective}
 use Rattle.at_board.proofs.RequestStoreLaws.{same_slot}
 use Rattle.at_board.proofs.RequestStoreStep.{next_number}
-use Rattle.at_board.proofs.SeatCountLaws.{HasCounts-counted, IsSeat-asking, SeesPlaces-asking}
+use Rattle.at_board.proofs.SeatCountLaws.{HasCounts-counted, IsSeat-asking, SeesInRange-asking}
 use Rattle.at_board.proofs.StepLaws.{IsSeatOf}
 use Rattle.at_board.proofs.TableSteps.{store_at}
 use Rattle.at_board.specs.declared.request.Request.{Request}
 use Rattle.at_board.specs.declared.view.SeenRequest.{SeenRequest}
 use Rattle.at_board.specs.declared.view.View.{View}
 use Rattle.at_board.specs.Conditions.{MayAnnounce}
+use Rattle.at_board.specs.Fronts.{places_max}
 use Rattle.at_board.specs.Places.{IsPlace, announced_of, place_at, request_word}
 use Rattle.at_board.specs.Plays.{announced_request}
 use Rattle.at_board.specs.RequestSteps.{Announces, seen_as, with_request}
 use Rattle.at_board.specs.Rounds.{rounds}
 use Rattle.at_board.specs.Seated.{Ruled}
-use Rattle.at_board.specs.SeatCounts.{HasCounts, SeesPlaces}
+use Rattle.at_board.specs.SeatCounts.{HasCounts}
+use Rattle.at_board.specs.Seen.{RequestInRange, SeesInRange}
 use Rattle.at_board.specs.SeatView.{IsSeat}
 use Rattle.at_board.specs.Steps.{IsHistory}
 use Rattle.at_board.specs.Views.{HasSlot, asking_on, own_part}
@@ -99,16 +101,16 @@ HasCounts-announce b v w a slot r n counts part counted told has =
     (HasCounts-counted v w.seen (v.requests ++ seen_as a slot (next_number v a) r ∷ []) a n (with_request asking r (rounds a w.seen)) counts part
     (counted ∙ sym (length_push asking.announced r)) has)
 
-pub SeesPlaces-announce : (b : BookTerms) (v w : View) (a slot : ℕ) (r : Request) → v.book ≡ b → MayAnnounce b v a slot r → Announces b v w a slot r
-    → SeesPlaces v → SeesPlaces w
-SeesPlaces-announce b v w a slot r book may told sees =
+pub SeesInRange-announce : (b : BookTerms) (v w : View) (a slot : ℕ) (r : Request) → v.book ≡ b → length v.seen ≤ places_max → MayAnnounce b v a slot r
+    → Announces b v w a slot r → SeesInRange v → SeesInRange w
+SeesInRange-announce b v w a slot r book few may told sees =
     let x : SeenRequest = seen_as a slot (next_number v a) r in
     let mine = may.asks.slot_in in
     let within : IsPlace b (request_word a slot (next_number v a) 0) = (mine.account_in, mine.within, may.asks.room, omega arith) in
-    let here = subst (λ (t : BookTerms). IsPlace t (request_word a slot (next_number v a) 0)) (sym book) within in
-    subst SeesPlaces (sym told.same)
-    (SeesPlaces-asking v w.seen (v.requests ++ x ∷ []) a (with_request (asking_on (own_part v) a) r (rounds a w.seen)) sees
-    (All-push (λ (y : SeenRequest). IsPlace v.book (request_word y.account y.slot y.number 0)) v.requests x sees.requests here))
+    let here : RequestInRange b x = record { words = within; targets = may.targets; since = omega (arith, may.since, few) } in
+    subst SeesInRange (sym told.same)
+    (SeesInRange-asking v w.seen (v.requests ++ x ∷ []) a (with_request (asking_on (own_part v) a) r (rounds a w.seen)) sees
+    (All-push (RequestInRange v.book) v.requests x sees.requests (subst (λ (t : BookTerms). RequestInRange t x) (sym book) here)))
 
 -- the same at an equal book and view
 pub MayAnnounce-same : (b c : BookTerms) (v u : View) (a slot : ℕ) (r : Request) → c ≡ b → u ≡ v → MayAnnounce b v a slot r → MayAnnounce c u a slot r

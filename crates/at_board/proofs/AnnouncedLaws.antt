@@ -12,6 +12,7 @@ use Rattle.at_board.proofs.FrontLaws.{IsPrefix-refl}
 use Rattle.at_board.proofs.HistoryLaws.{IsHistory-Sound}
 use Rattle.at_board.proofs.LoadLaws.{parts_after}
 use Rattle.at_board.proofs.SeatLaws.{AreSeated-set, knows_after}
+use Rattle.at_board.proofs.SeenLaws.{AgreesWithSeen-Knows}
 use Rattle.at_board.specs.declared.publication.Publication.{Publication}
 use Rattle.at_board.specs.declared.request.Request.{Request}
 use Rattle.at_board.specs.declared.view.Asking.{Asking}
@@ -92,6 +93,7 @@ LoadsAnnounced-Ruled b words views id v a slot ruled begun found part within =
     let w : View = announced_view v s.published a slot row n in
     let knows = ruled.knows id v found in
     let own : HasPart b words s v (v.first + 0) (own_part v) = knows.parts 0 part in
+    let mine = Knows-announced b words s v a slot n part (omega (arith, counted)) knows in
     let first : v.first + 0 ≡ v.first = omega arith in (
       w,
       record {
@@ -99,7 +101,7 @@ LoadsAnnounced-Ruled b words views id v a slot ruled begun found part within =
         seat = ruled.seat;
         shown = ruled.shown;
         sound = ruled.sound;
-        knows = knows_after b words s views id w (Knows-announced b words s v a slot n part (omega (arith, counted)) knows) (λ j u apart there. ruled.knows j u there);
+        knows = knows_after b words s views id w mine (λ j u apart there. ruled.knows j u there);
         seated = AreSeated-set b ruled.seat views id v w ruled.seated found refl (length-set v.parts 0 (part_asking (own_part v) a (with_row (asking_on (own_part v) a) slot n)));
       },
       record {
@@ -115,6 +117,7 @@ LoadsAnnounced-Ruled b words views id v a slot ruled begun found part within =
         own = ap (λ k. count_of k s.published) (sym first) ∙ sym own.published;
         joined = knows.joined;
         history = IsHistory-Sound b words s ruled.shown ruled.sound begun;
+        agrees = AgreesWithSeen-Knows b words s w ruled.sound mine;
         same = refl;
       },
     )

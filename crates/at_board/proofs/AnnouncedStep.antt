@@ -1,5 +1,6 @@
 -- The load of an announced word that the rule allows.
-use Rattle.std.proofs.Common.{◌≡◌, ℕ, ◌<◌, ◌≤◌, List, ◌++◌, length, get_or, set, refl, sym, subst, arith}
+use Rattle.std.proofs.Common.{◌≡◌, ℕ, ◌<◌, List, [], ◌++◌, length, get_or, set, refl, sym, subst, arith}
+use Rattle.std.specs.List.{All}
 use mathlib.Core.Option.{none}
 use Rattle.std.proofs.lemmas.List.{set-get_or}
 use Rattle.std.proofs.lemmas.List.Elements.{All-append}
@@ -7,16 +8,18 @@ use Rattle.atomic_table.specs.Table.{Allows, Me, keeps, step}
 use Rattle.at_ledger.specs.Book.{BookTerms, IsBegun}
 use Rattle.at_board.proofs.AnnouncedLaws.{All-all_of, LoadsAnnounced-Ruled}
 use Rattle.at_board.proofs.PlaceLaws.{place_at-injective}
-use Rattle.at_board.proofs.SeatCountLaws.{HasCounts-asking, IsSeat-asking, SeesPlaces-asking}
+use Rattle.at_board.proofs.SeatCountLaws.{HasCounts-asking, IsSeat-asking, SeesInRange-asking}
 use Rattle.at_board.proofs.StepLaws.{IsSeatOf}
 use Rattle.at_board.proofs.TableSteps.{load_at}
-use Rattle.at_board.specs.declared.view.SeenRequest.{SeenRequest}
+use Rattle.at_board.specs.declared.request.Request.{Request}
 use Rattle.at_board.specs.declared.view.View.{View}
-use Rattle.at_board.specs.Places.{IsPlace, announced_of, place_at, request_word}
+use Rattle.at_board.specs.BoardState.{request_at}
+use Rattle.at_board.specs.Places.{IsPlace, announced_of, place_at}
 use Rattle.at_board.specs.Plays.{loaded_announced}
-use Rattle.at_board.specs.RequestSteps.{LoadsAnnounced, all_of, with_row}
+use Rattle.at_board.specs.RequestSteps.{LoadsAnnounced, all_of, seen_as, with_row}
 use Rattle.at_board.specs.Seated.{Ruled}
-use Rattle.at_board.specs.SeatCounts.{HasCounts, SeesPlaces}
+use Rattle.at_board.specs.SeatCounts.{HasCounts}
+use Rattle.at_board.specs.Seen.{RequestInRange, SeesInRange}
 use Rattle.at_board.specs.SeatView.{IsSeat}
 use Rattle.at_board.specs.Steps.{IsHistory}
 use Rattle.at_board.specs.Views.{asking_on, own_part}
@@ -78,13 +81,16 @@ HasCounts-announced b v w a slot n counts part told has =
     subst (λ t. HasCounts t counts) (sym told.same)
     (HasCounts-asking v w.seen (v.requests ++ all_of a slot told.row) a (with_row (asking_on (own_part v) a) slot n) counts part refl has)
 
-pub SeesPlaces-announced : (b : BookTerms) (v w : View) (a slot n : ℕ) → v.book ≡ b → IsPlace b (announced_of a slot) → LoadsAnnounced b v w a slot n
-    → SeesPlaces v → SeesPlaces w
-SeesPlaces-announced b v w a slot n book within told sees =
-    let P : SeenRequest → Type 0 = λ x. IsPlace v.book (request_word x.account x.slot x.number 0) in
-    let here : IsPlace v.book (announced_of a slot) = subst (λ (t : BookTerms). IsPlace t (announced_of a slot)) (sym book) within in
-    let room : n ≤ v.book.request_room = subst (λ (t : BookTerms). n ≤ t.request_room) (sym book) told.room in
-    subst SeesPlaces (sym told.same)
-    (SeesPlaces-asking v w.seen (v.requests ++ all_of a slot told.row) a (with_row (asking_on (own_part v) a) slot n) sees
-    (All-append P v.requests (all_of a slot told.row) sees.requests
-    (All-all_of P a slot told.row (λ i inside. (here.0, here.1, omega (arith, inside, told.counted, room), omega arith)))))
+pub SeesInRange-announced : (b : BookTerms) (v w : View) (a slot n : ℕ) → v.book ≡ b → IsPlace b (announced_of a slot) → LoadsAnnounced b v w a slot n
+    → SeesInRange v → SeesInRange w
+SeesInRange-announced b v w a slot n book within told sees =
+    let none : Request = record { targets = []; since = 0 } in
+    let here : (i : ℕ) → i < length told.row → RequestInRange b (seen_as a slot i (request_at told.row i)) = λ i inside. record {
+      words = (within.0, within.1, omega (arith, inside, told.counted, told.room), omega arith);
+      targets = told.targets i none inside;
+      since = omega (arith, told.since i none inside, told.history.few);
+    } in
+    subst SeesInRange (sym told.same)
+    (SeesInRange-asking v w.seen (v.requests ++ all_of a slot told.row) a (with_row (asking_on (own_part v) a) slot n) sees
+    (All-append (RequestInRange v.book) v.requests (all_of a slot told.row) sees.requests
+    (subst (λ (t : BookTerms). All (RequestInRange t) (all_of a slot told.row)) (sym book) (All-all_of (RequestInRange b) a slot told.row here))))

@@ -2,7 +2,7 @@
 use Rattle.std.proofs.Common.{◌≡◌, ℕ, ◌+◌, ◌<◌, ◌≤◌, ◌==◌, ◌&&◌, ◌||◌, zero, suc, Bool, true, false, List, [], ◌∷◌, ◌++◌, length, take, refl, sym, ap, subst, ◌∙◌, arith, inl, inr}
 use Rattle.std.specs.List.{count_by}
 use Rattle.std.proofs.lemmas.Bool.{and_from, and_parts, cases_Bool, cases_lt, eq-eqb, eqb-true, lt-ltb}
-use Rattle.std.proofs.lemmas.List.{get_or-take, get_or_default, length-take, take_all}
+use Rattle.std.proofs.lemmas.List.{get_or-take, get_or_default, length-take, take-take, take_all}
 use Rattle.std.proofs.lemmas.List.Folds.{Any-from_list_any, list_any-append, list_any_at}
 use Rattle.std.proofs.lemmas.List.Sums.{count_by_more_no, count_by_more_yes, sum_by_more_le}
 use Rattle.at_base.specs.declared.decision.Decision.{Decision}
@@ -158,6 +158,33 @@ numbers_slot : (b : BookTerms) (s : BoardState) (a slot r : ℕ) → Sound b s �
     → count_by (names_slot slot) (take r (s.cells a)) ≡ (decision_at (s.cells a) r).number
 numbers_slot b s a slot r sound within slot_is =
     subst (λ t. count_by (names_slot t) (take r (s.cells a)) ≡ (decision_at (s.cells a) r).number) slot_is (sound.numbers a r within)
+
+-- a decision that names a slot counts before each later one
+counted_before : (slot : ℕ) (xs : List Decision) (k l : ℕ) → k < l → l < length xs → (decision_at xs k).slot ≡ slot
+    → count_by (names_slot slot) (take k xs) + 1 ≤ count_by (names_slot slot) (take l xs)
+counted_before slot xs k l below within slot_is =
+    let ys = take l xs in
+    let inside : k < length ys = omega (arith, length-take l xs, below, within) in
+    let named : names_slot slot (decision_at ys k) ≡ true =
+    ap (names_slot slot) (get_or-take l xs k no_decision below) ∙ eq-eqb (decision_at xs k).slot slot slot_is in
+    omega (arith, numbered_below slot ys k inside named, ap (count_by (names_slot slot)) (take-take k l xs (omega arith)))
+
+-- one request is decided in one round
+pub same_round : (b : BookTerms) (s : BoardState) (a k l : ℕ) → Sound b s → k < length (s.cells a) → l < length (s.cells a)
+    → (decision_at (s.cells a) k).slot ≡ (decision_at (s.cells a) l).slot
+    → (decision_at (s.cells a) k).number ≡ (decision_at (s.cells a) l).number → k ≡ l
+same_round b s a k l sound one other slots numbers =
+    let xs = s.cells a in
+    let slot = (decision_at xs l).slot in
+    let first = numbers_slot b s a slot k sound one slots in
+    let second = numbers_slot b s a slot l sound other refl in
+    elim (cases_lt k l) as (λ _. k ≡ l) [
+      | inl below ↦ absurd (omega (arith, first, second, numbers, counted_before slot xs k l below other slots))
+      | inr above ↦ elim (cases_lt l k) as (λ _. k ≡ l) [
+        | inl over ↦ absurd (omega (arith, first, second, numbers, counted_before slot xs l k over one refl))
+        | inr not ↦ omega (arith, above, not)
+      ]
+    ]
 
 -- no request but the next of its slot is announced and undecided where all rounds stand: it isn't an earlier one
 not_earlier : (b : BookTerms) (s : BoardState) (m a slot number : ℕ) → Sound b s → m ≤ length s.published

@@ -2,13 +2,14 @@
 use Rattle.std.proofs.Common.{ap, ◌≡◌, ℕ, ◌+◌, ◌-◌, ◌<◌, List, [], ◌∷◌, ◌++◌, length, get_or, None, refl, sym, subst, ◌∙◌, arith, inl, inr}
 use Rattle.std.specs.List.{All, Contains}
 use Rattle.std.proofs.lemmas.Bool.{cases_lt}
+use Rattle.std.proofs.Math.Seq.{get_or-append_seam}
 use Rattle.std.proofs.lemmas.List.{get_or-append_right, get_or_append_left, get_or_default, length-append, length_push}
 use Rattle.std.proofs.lemmas.List.Elements.{All-append, All-cons, All-nil, Contains-append_left, Contains-append_right}
 use Rattle.atomic_table.specs.Table.{Final, Seen}
 use Rattle.at_ledger.specs.Book.{BookTerms, IsBook}
 use Rattle.at_board.proofs.HistoryLaws.{IsHistory-Sound}
 use Rattle.at_board.proofs.RecordLaws.{All-Contains, lists_of-Knows}
-use Rattle.at_board.specs.declared.publication.Publication.{Publication}
+use Rattle.at_board.specs.declared.view.Part.{Part}
 use Rattle.at_board.specs.declared.view.View.{View}
 use Rattle.at_board.specs.BoardState.{BoardState}
 use Rattle.at_board.specs.Cuts.{AreNew, starting_seat}
@@ -18,22 +19,47 @@ use Rattle.at_board.specs.RecordWords.{lists_of}
 use Rattle.at_board.specs.Seated.{Ruled}
 use Rattle.at_board.specs.SeatView.{BoardView, SeatView}
 use Rattle.at_board.specs.Shown.{Shown}
-use Rattle.at_board.specs.Views.{HasPart, Knows, no_part, part_at}
+use Rattle.at_board.specs.Views.{HasPart, IsAnnounced, IsDecided, Knows, asking_on, no_part, own_part, part_at}
 
--- the view has all lists that the seat has seen
-abbrev pub HasLists : View → SeatView → Type 0
-HasLists v seat = All (λ list. Contains (lists_of v) list) (lists_of seat.view)
+-- a list has all elements of another
+abbrev pub HasAll : {X : Type 0} → List X → List X → Type 0
+HasAll xs ys = All (Contains xs) ys
+
+HasAll-refl : {X : Type 0} (xs : List X) → HasAll xs xs
+HasAll-refl xs k x within = (k, within, get_or_default xs k (get_or xs k x) x within)
+
+HasAll-left : {X : Type 0} (xs ys zs : List X) → HasAll xs zs → HasAll (xs ++ ys) zs
+HasAll-left xs ys zs has k z within = Contains-append_left xs ys (get_or zs k z) (has k z within)
+
+HasAll-right : {X : Type 0} (xs ys zs : List X) → HasAll ys zs → HasAll (xs ++ ys) zs
+HasAll-right xs ys zs has k z within = Contains-append_right xs ys (get_or zs k z) (has k z within)
+
+-- a seat's view has all that it has seen
+HasAll-first : {X : Type 0} (of_view : View → List X) (seat : SeatView) → All (λ s. HasAll (of_view seat.view) (of_view s.view)) (seat ∷ [])
+HasAll-first of_view seat =
+    let P : SeatView → Type 0 = λ s. HasAll (of_view seat.view) (of_view s.view) in
+    All-cons P seat [] (HasAll-refl (of_view seat.view)) (All-nil P)
+
+-- of what each seat has seen a view has all, and of what one more seat has seen
+HasAll-push : {X : Type 0} (of_view : View → List X) (seats : List SeatView) (x : SeatView) (before after : List X)
+    → All (λ seat. HasAll before (of_view seat.view)) seats → ((zs : List X) → HasAll before zs → HasAll after zs) → HasAll after (of_view x.view)
+    → All (λ seat. HasAll after (of_view seat.view)) (seats ++ x ∷ [])
+HasAll-push of_view seats x before after old more new =
+    let P : SeatView → Type 0 = λ seat. HasAll after (of_view seat.view) in
+    All-append P seats (x ∷ []) (λ k d within. more (of_view (get_or seats k d).view) (old k d within)) (All-cons P x [] new (All-nil P))
 
 -- the first seat
 pub Gathers-first : (board : BoardView) (seat : SeatView) → IsFreeSeat board 0 seat → length seat.view.parts ≡ 1 → Gathers (seat ∷ []) seat.view
 Gathers-first board seat is one =
-    let lists = lists_of seat.view in
-    let own : HasLists seat.view seat = λ k list within. (k, within, get_or_default lists k (get_or lists k list) list within) in
     record {
       first = is.process;
       parts = one;
+      own = λ k d within. let at : 0 ≡ k = omega (arith, within) in
+          subst (λ n. part_at seat.view n ≡ own_part (get_or (seat ∷ []) n d).view) at refl;
       free = λ k within. let at : 0 ≡ k = omega (arith, within, one) in subst (λ n. (part_at seat.view n).held ≡ None) at is.free;
-      seen = All-cons (HasLists seat.view) seat [] own (All-nil (HasLists seat.view));
+      seen = HasAll-first lists_of seat;
+      requests = HasAll-first (λ v. v.requests) seat;
+      decisions = HasAll-first (λ v. v.decisions) seat;
     }
 
 -- the next seat stands for the process after those that were gathered
@@ -46,15 +72,22 @@ pub Gathers-more : (board : BoardView) (seats : List SeatView) (v : View) (x : S
 Gathers-more board seats v x gathers is one =
     let w : View = x.view in
     let u : View = gathered v w in
-    let left : (list : List Publication) → Contains (lists_of v) list → Contains (lists_of u) list =
-    λ list there. Contains-append_right (u.seen ∷ []) (lists_of v ++ lists_of w) list (Contains-append_left (lists_of v) (lists_of w) list there) in
-    let right : (list : List Publication) → Contains (lists_of w) list → Contains (lists_of u) list =
-    λ list there. Contains-append_right (u.seen ∷ []) (lists_of v ++ lists_of w) list (Contains-append_right (lists_of v) (lists_of w) list there) in
-    let own : HasLists u x = λ k list within.
-    right (get_or (lists_of w) k list) (k, within, get_or_default (lists_of w) k (get_or (lists_of w) k list) list within) in
+    let lists = lists_of v ++ lists_of w in
     record {
       first = gathers.first;
       parts = omega (arith, length-append v.parts w.parts, gathers.parts, one, length_push seats x);
+      own = λ k d within. elim (cases_lt k (length seats)) as (λ _. get_or (v.parts ++ w.parts) k no_part ≡ own_part (get_or (seats ++ x ∷ []) k d).view) [
+        | inl below ↦
+            get_or_append_left v.parts w.parts no_part k (omega (arith, below, gathers.parts))
+            ∙ (gathers.own k d below ∙ sym (ap (λ (t : SeatView). own_part t.view) (get_or_append_left seats (x ∷ []) d k below)))
+        | inr above ↦
+            let at : k ≡ length seats = omega (arith, above, within, length_push seats x) in
+            let mine : get_or (v.parts ++ w.parts) k no_part ≡ part_at w (k - length v.parts) =
+            get_or-append_right v.parts w.parts (length v.parts) k no_part refl (omega (arith, gathers.parts, above)) in
+            let first : k - length v.parts ≡ 0 = omega (arith, gathers.parts, at) in
+            let last : get_or (seats ++ x ∷ []) k d ≡ x = ap (λ n. get_or (seats ++ x ∷ []) n d) at ∙ get_or-append_seam seats x [] d in
+            mine ∙ (ap (part_at w) first ∙ sym (ap (λ (t : SeatView). own_part t.view) last))
+      ];
       free = λ k within. elim (cases_lt k (length v.parts)) as (λ _. (get_or (v.parts ++ w.parts) k no_part).held ≡ None) [
         | inl below ↦ subst (λ q. q.held ≡ None) (sym (get_or_append_left v.parts w.parts no_part k below)) (gathers.free k below)
         | inr above ↦
@@ -62,9 +95,13 @@ Gathers-more board seats v x gathers is one =
             subst (λ q. q.held ≡ None) (sym (get_or-append_right v.parts w.parts (length v.parts) k no_part refl above))
             (subst (λ n. (part_at w n).held ≡ None) at is.free)
       ];
-      seen = All-append (HasLists u) seats (x ∷ [])
-          (λ k d within. λ i list inside. left (get_or (lists_of (get_or seats k d).view) i list) (gathers.seen k d within i list inside))
-          (All-cons (HasLists u) x [] own (All-nil (HasLists u)));
+      seen = HasAll-push lists_of seats x (lists_of v) (lists_of u) gathers.seen
+          (λ zs has. HasAll-right (u.seen ∷ []) lists zs (HasAll-left (lists_of v) (lists_of w) zs has))
+          (HasAll-right (u.seen ∷ []) lists (lists_of w) (HasAll-right (lists_of v) (lists_of w) (lists_of w) (HasAll-refl (lists_of w))));
+      requests = HasAll-push (λ t. t.requests) seats x v.requests u.requests gathers.requests (HasAll-left v.requests w.requests)
+          (HasAll-right v.requests w.requests w.requests (HasAll-refl w.requests));
+      decisions = HasAll-push (λ t. t.decisions) seats x v.decisions u.decisions gathers.decisions (HasAll-left v.decisions w.decisions)
+          (HasAll-right v.decisions w.decisions w.decisions (HasAll-refl w.decisions));
     }
 
 module _ {S : Type 0} where
@@ -78,18 +115,26 @@ module _ {S : Type 0} where
       let ruled : Ruled b last.0.words last.0.views = last.1.0 in
       let s : BoardState = ruled.state in
       let knows : Knows b last.0.words s v = ruled.knows id v last.1.1 in
+      let has : (p : ℕ) → p < b.processes → HasPart b last.0.words s v p (part_at v p) =
+      λ p within. subst (λ n. HasPart b last.0.words s v n (part_at v p)) (omega (arith, gathers.first))
+      (knows.parts p (omega (arith, within, gathers.parts, all))) in
+      let own : (p : ℕ) (d : SeatView) → p < b.processes → part_at v p ≡ own_part (get_or seats p d).view =
+      λ p d within. gathers.own p d (omega (arith, within, all)) in
       record {
         state = s;
         shown = subst (λ ws. Shown b ws s) last.2 ruled.shown;
         sound = ruled.sound;
-        free = λ p within.
-            let inside : p < length v.parts = omega (arith, within, gathers.parts, all) in
-            let has : HasPart b last.0.words s v (v.first + p) (part_at v p) = knows.parts p inside in
-            let at : v.first + p ≡ p = omega (arith, gathers.first) in
-            subst (λ n. s.held n ≡ None) at (sym has.held ∙ gathers.free p inside);
+        free = λ p within. sym (has p within).held ∙ gathers.free p (omega (arith, within, gathers.parts, all));
         seen = λ k d within. λ i list inside.
             All-Contains (λ t. IsPrefix t s.published) (lists_of v) (get_or (lists_of (get_or seats k d).view) i list)
             (lists_of-Knows b last.0.words s v knows) (gathers.seen k d within i list inside);
+        requests = λ k d within. λ i x inside.
+            All-Contains (IsAnnounced s) v.requests (get_or (get_or seats k d).view.requests i x) knows.requests (gathers.requests k d within i x inside);
+        decisions = λ k d within. λ i x inside.
+            All-Contains (IsDecided s) v.decisions (get_or (get_or seats k d).view.decisions i x) knows.decisions (gathers.decisions k d within i x inside);
+        counted = λ p d within. sym (has p within).published ∙ ap (λ (q : Part). q.published) (own p d within);
+        announced = λ p d a slot within slots.
+            sym ((has p within).asking a slot slots).announced ∙ ap (λ q. (asking_on q a).announced) (own p d within);
         history = IsHistory-Sound b last.0.words s ruled.shown ruled.sound book.begun;
       }
 

@@ -6,7 +6,8 @@ use Rattle.at_ledger.specs.Book.{BookTerms, IsBegun}
 use Rattle.at_ledger.specs.Call.{amount_of}
 use Rattle.at_board.proofs.PrefixRuns.{AreRuns-HasRuns}
 use Rattle.at_board.proofs.RunRules.{HasRuns-Sound}
-use Rattle.at_board.proofs.SoundRounds.{AreDecided-take, decided_for}
+use Rattle.at_board.proofs.SizeLaws.{length-ArePublishedBy}
+use Rattle.at_board.proofs.SoundRounds.{ArePublishedBy-HasRuns, AreDecided-take, decided_for}
 use Rattle.at_board.specs.declared.publication.Entry.{Entry}
 use Rattle.at_board.specs.declared.publication.Entry.TheVariants.{Own, Round}
 use Rattle.at_board.specs.declared.publication.Publication.{Publication}
@@ -70,5 +71,6 @@ IsHistory-Sound b words s shown sound begun = record {
       AgreeOnRound-Sound b s x.process y.process (prefix_of x.view s.published) (prefix_of y.view s.published) x.entry y.entry
       (sound.entries m within) (sound.entries k inside);
   room = shown.records.room;
+  few = length-ArePublishedBy b s.published begun (ArePublishedBy-HasRuns b s (HasRuns-Sound b s sound)) shown.records.room;
   runs = AreRuns-HasRuns b s (HasRuns-Sound b s sound) begun;
 }

@@ -17,11 +17,11 @@ use Rattle.at_board.specs.declared.view.View.{View}
 use Rattle.at_board.specs.BoardState.{BoardState}
 use Rattle.at_board.specs.LearnSteps.{Learns, learned, longer, spent_view}
 use Rattle.at_board.specs.NoteSteps.{IsNote}
-use Rattle.at_board.specs.Places.{IsPlace, request_word}
 use Rattle.at_board.specs.Publications.{IsPrefix, count_of}
 use Rattle.at_board.specs.Same.{begins_with}
 use Rattle.at_board.specs.Seated.{AreSeated, Holds, Ruled}
-use Rattle.at_board.specs.SeatCounts.{HasCounts, SeesPlaces}
+use Rattle.at_board.specs.SeatCounts.{HasCounts}
+use Rattle.at_board.specs.Seen.{DecisionInRange, RequestInRange, SeesInRange}
 use Rattle.at_board.specs.SeatView.{IsSeat}
 use Rattle.at_board.specs.Steps.{IsHistory}
 use Rattle.at_board.specs.Views.{IsAnnounced, IsDecided, Knows, part_at}
@@ -189,10 +189,10 @@ IsSeat-learned b v w process published book note_book seat note =
 pub HasCounts-learned : (v w : View) (announced : List ℕ) → HasCounts v announced → HasCounts (learned v w) announced
 HasCounts-learned v w announced has = record { accounts = has.accounts; words = has.words; sized = has.sized; counted = has.counted }
 
-pub SeesPlaces-learned : (v w : View) → w.book ≡ v.book → SeesPlaces v → SeesPlaces w → SeesPlaces (learned v w)
-SeesPlaces-learned v w same mine theirs = record {
-  requests = All-append (λ x. IsPlace v.book (request_word x.account x.slot x.number 0)) v.requests w.requests mine.requests
-      (subst (λ t. All (λ x. IsPlace t (request_word x.account x.slot x.number 0)) w.requests) same theirs.requests);
-  decisions = All-append (λ x. IsPlace v.book (request_word x.account x.decision.slot x.decision.number 0)) v.decisions w.decisions mine.decisions
-      (subst (λ t. All (λ x. IsPlace t (request_word x.account x.decision.slot x.decision.number 0)) w.decisions) same theirs.decisions);
+pub SeesInRange-learned : (v w : View) → w.book ≡ v.book → SeesInRange v → SeesInRange w → SeesInRange (learned v w)
+SeesInRange-learned v w same mine theirs = record {
+  requests = All-append (RequestInRange v.book) v.requests w.requests mine.requests
+      (subst (λ t. All (RequestInRange t) w.requests) same theirs.requests);
+  decisions = All-append (DecisionInRange v.book) v.decisions w.decisions mine.decisions
+      (subst (λ t. All (DecisionInRange t) w.decisions) same theirs.decisions);
 }

@@ -28,6 +28,8 @@ pub mod SameLaws
 pub mod MoreLaws
 pub mod LearnLaws
 pub mod DecisionLaws
+pub mod SeenLaws
+pub mod RecordStep
 pub mod CellLaws
 pub mod DecideLaws
 pub mod DecideParts

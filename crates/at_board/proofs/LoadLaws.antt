@@ -7,6 +7,7 @@ use Rattle.at_ledger.specs.Book.{BookTerms, IsBegun}
 use Rattle.at_board.proofs.FrontLaws.{IsPrefix-refl}
 use Rattle.at_board.proofs.HistoryLaws.{IsHistory-Sound}
 use Rattle.at_board.proofs.SeatLaws.{AreSeated-set, HasPart-all, knows_after}
+use Rattle.at_board.proofs.SeenLaws.{AgreesWithSeen-Knows}
 use Rattle.at_board.specs.declared.publication.Publication.{Publication}
 use Rattle.at_board.specs.declared.view.Part.{Part}
 use Rattle.at_board.specs.declared.view.View.{View}
@@ -68,6 +69,7 @@ LoadsLength-Ruled b words views id v p ruled begun found part within =
     let w : View = loaded v s.published p n in
     let knows = ruled.knows id v found in
     let own : HasPart b words s v (v.first + 0) (own_part v) = knows.parts 0 part in
+    let mine = Knows-load b words s v p n part knows in
     let first : v.first + 0 ≡ v.first = omega arith in (
       w,
       record {
@@ -75,7 +77,7 @@ LoadsLength-Ruled b words views id v p ruled begun found part within =
         seat = ruled.seat;
         shown = ruled.shown;
         sound = ruled.sound;
-        knows = knows_after b words s views id w (Knows-load b words s v p n part knows) (λ j u apart there. ruled.knows j u there);
+        knows = knows_after b words s views id w mine (λ j u apart there. ruled.knows j u there);
         seated = AreSeated-set b ruled.seat views id v w ruled.seated found refl (length-set v.parts 0 (with_load (own_part v) p n));
       },
       record {
@@ -85,6 +87,7 @@ LoadsLength-Ruled b words views id v p ruled begun found part within =
         own = ap (λ k. count_of k s.published) (sym first) ∙ sym own.published;
         joined = knows.joined;
         history = IsHistory-Sound b words s ruled.shown ruled.sound begun;
+        agrees = AgreesWithSeen-Knows b words s w ruled.sound mine;
         same = refl;
       },
     )

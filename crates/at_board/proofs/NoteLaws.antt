@@ -11,7 +11,7 @@ use Rattle.at_board.specs.BoardState.{BoardState}
 use Rattle.at_board.specs.NoteSteps.{IsNote, noted}
 use Rattle.at_board.specs.Places.{length_of, word_count}
 use Rattle.at_board.specs.Seated.{Holds, Ruled}
-use Rattle.at_board.specs.SeatCounts.{SeesPlaces}
+use Rattle.at_board.specs.Seen.{SeesInRange}
 use Rattle.at_board.specs.SeatView.{IsSeat}
 use Rattle.at_board.specs.Views.{Knows}
 
@@ -62,11 +62,11 @@ pub word_count-some : (b : BookTerms) → IsBook b → 0 < word_count b
 word_count-some b book = omega (arith, place_at-below b (length_of 0) (omega (arith, book.begun.some_process)))
 
 -- a seat's note
-pub IsNote-noted : (v : View) (process published : ℕ) → IsSeat v process published → SeesPlaces v → IsNote (noted v)
+pub IsNote-noted : (v : View) (process published : ℕ) → IsSeat v process published → SeesInRange v → IsNote (noted v)
 IsNote-noted v process published seat sees = record {
   no_part = refl;
   begun = seat.begun;
   history = seat.history;
   joined = seat.joined;
-  places = record { requests = sees.requests; decisions = sees.decisions };
+  in_range = record { requests = sees.requests; decisions = sees.decisions };
 }

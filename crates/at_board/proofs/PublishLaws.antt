@@ -15,6 +15,7 @@ use Rattle.at_board.proofs.PlaceLaws.{word_at-set_other, word_at-set_same}
 use Rattle.at_board.proofs.PushLaws.{MayPush-MayPublish, Sound-pushed, pushed}
 use Rattle.at_board.proofs.SeatLaws.{AreSeated-set, knows_after, rounds-IsPrefix}
 use Rattle.at_board.proofs.StoreLaws.{SameRecordWords, SameRequestWords, other_process}
+use Rattle.at_board.proofs.SeenLaws.{AgreesWithSeen-Knows}
 use Rattle.at_board.specs.declared.publication.Publication.{Publication}
 use Rattle.at_board.specs.declared.view.Asking.{Asking}
 use Rattle.at_board.specs.declared.view.Part.{Part}
@@ -253,6 +254,7 @@ Publishes-Ruled b words views id v x ruled begun found part may =
         own = omega (arith, own.published, subst (λ t. count_of t all ≡ count_of t s.published + 1) may.process (count_of-push_own s.published x));
         joined = mine.joined;
         history = IsHistory-Sound b after s' shown sound begun;
+        agrees = AgreesWithSeen-Knows b after s' w sound mine;
         same = refl;
       },
     )

@@ -1,11 +1,12 @@
 -- The store of a word of a request that the rule allows.
-use Rattle.std.proofs.Common.{◌≡◌, ℕ, ◌<◌, List, length, refl, sym, subst, arith}
+use Rattle.std.proofs.Common.{◌≡◌, ℕ, ◌<◌, List, length, set, refl, sym, subst, arith}
 use mathlib.Core.Option.{none}
 use Rattle.atomic_table.specs.Table.{Allows, Me, keeps, step}
 use Rattle.at_ledger.specs.Book.{BookTerms}
 use Rattle.at_board.proofs.PlaceLaws.{place_at-injective}
 use Rattle.at_board.proofs.RequestStoreLaws.{StoresRequestWord-Ruled, same_slot}
-use Rattle.at_board.proofs.SeatCountLaws.{HasCounts-asking, IsSeat-asking, SeesPlaces-asking}
+use Rattle.at_board.proofs.SeatCountLaws.{HasCounts-asking, IsSeat-asking, SeesInRange-asking}
+use Rattle.at_board.proofs.SeenLaws.{AgreesWithSeen-set}
 use Rattle.at_board.proofs.StepLaws.{IsSeatOf}
 use Rattle.at_board.proofs.TableSteps.{store_at}
 use Rattle.at_board.specs.declared.view.View.{View}
@@ -14,7 +15,8 @@ use Rattle.at_board.specs.Places.{IsPlace, place_at, request_word}
 use Rattle.at_board.specs.Plays.{stored_request_word}
 use Rattle.at_board.specs.RequestSteps.{StoresRequestWord, with_asking, with_request_word}
 use Rattle.at_board.specs.Seated.{Ruled}
-use Rattle.at_board.specs.SeatCounts.{HasCounts, SeesPlaces}
+use Rattle.at_board.specs.SeatCounts.{HasCounts}
+use Rattle.at_board.specs.Seen.{SeesInRange}
 use Rattle.at_board.specs.SeatView.{IsSeat}
 use Rattle.at_board.specs.Views.{HasSlot, asking_on, own_part}
 
@@ -37,13 +39,15 @@ module _ {S : Type 0} where
       let v : View = me.0 in
       let x = request_word a slot (next_number v a) j in
       let after : View = with_asking v a (with_request_word (asking_on (own_part v) a) j w) in
+      let done = StoresRequestWord-Ruled b s.words s.views id v a slot j w holds found (omega (arith, seat.one_part)) may inside in
       let book = seat.book in (
         after,
         keeps,
         tt,
-        StoresRequestWord-Ruled b s.words s.views id v a slot j w holds found (omega (arith, seat.one_part)) may inside,
+        done,
         (
           refl,
+          AgreesWithSeen-set b (set s.words (place_at b x) w) s.views id v after found done,
           λ c other k other_may within at.
               let y = request_word c other (next_number v c) k in
               let there : IsPlace b y = place-MayAsk b v c other k (subst (λ (t : BookTerms). MayAsk t v c other) book other_may) within in
@@ -66,7 +70,7 @@ module _ {S : Type 0} where
       → i ≡ place_at b (request_word a slot (next_number me.0 a) j) → MayAsk b me.0 a slot → j < 6
       → stored_request_word (step slots i w 0 none) me w after → StoresRequestWord me.0 after.0 a j w
   StoresRequestWord-played b slots me after a slot j w i book at may inside played =
-      played.1 a slot j (subst (λ (t : BookTerms). MayAsk t me.0 a slot) (sym book) may) inside
+      played.2 a slot j (subst (λ (t : BookTerms). MayAsk t me.0 a slot) (sym book) may) inside
       (subst (λ (t : BookTerms). i ≡ place_at t (request_word a slot (next_number me.0 a) j)) (sym book) at)
 
 -- what holds of a seat after the store
@@ -81,6 +85,6 @@ HasCounts-request_stored v w a j n counts part told has =
     subst (λ t. HasCounts t counts) (sym told)
     (HasCounts-asking v v.seen v.requests a (with_request_word (asking_on (own_part v) a) j n) counts part refl has)
 
-pub SeesPlaces-request_stored : (v w : View) (a j n : ℕ) → StoresRequestWord v w a j n → SeesPlaces v → SeesPlaces w
-SeesPlaces-request_stored v w a j n told sees =
-    subst SeesPlaces (sym told) (SeesPlaces-asking v v.seen v.requests a (with_request_word (asking_on (own_part v) a) j n) sees sees.requests)
+pub SeesInRange-request_stored : (v w : View) (a j n : ℕ) → StoresRequestWord v w a j n → SeesInRange v → SeesInRange w
+SeesInRange-request_stored v w a j n told sees =
+    subst SeesInRange (sym told) (SeesInRange-asking v v.seen v.requests a (with_request_word (asking_on (own_part v) a) j n) sees sees.requests)

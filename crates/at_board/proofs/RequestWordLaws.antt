@@ -5,11 +5,13 @@ use mathlib.Core.Option.{some}
 use Rattle.std.proofs.lemmas.List.{length-set}
 use Rattle.std.proofs.lemmas.List.Elements.{All-contains, All-push, Contains-append_left}
 use Rattle.at_base.specs.declared.decision.Decision.{Decision}
-use Rattle.at_ledger.specs.Book.{BookTerms}
+use Rattle.at_ledger.specs.Book.{BookTerms, IsBegun}
 use Rattle.at_board.proofs.AskLaws.{Grows-refl, HasAsking-kept, HasPart-asking, HasPart-kept, IsLeft-refl, SeesMore}
 use Rattle.at_board.proofs.FrontLaws.{IsPrefix-refl}
+use Rattle.at_board.proofs.HistoryLaws.{IsHistory-Sound}
 use Rattle.at_board.proofs.LoadLaws.{parts_after}
 use Rattle.at_board.proofs.SeatLaws.{AreSeated-set, knows_after}
+use Rattle.at_board.proofs.SeenLaws.{AgreesWithSeen-Knows}
 use Rattle.at_board.specs.declared.request.Request.{Request}
 use Rattle.at_board.specs.declared.view.Asking.{Asking}
 use Rattle.at_board.specs.declared.view.Part.{Part}
@@ -21,7 +23,7 @@ use Rattle.at_board.specs.Places.{IsPlace, request_word, word_at}
 use Rattle.at_board.specs.RequestConditions.{KnowsOf, MayLoadRequest}
 use Rattle.at_board.specs.RequestSteps.{LoadsRequestWord, part_asking, seen_as, with_asking, with_loaded}
 use Rattle.at_board.specs.Seated.{Ruled}
-use Rattle.at_board.specs.SeatCounts.{SeesPlaces}
+use Rattle.at_board.specs.Seen.{DecisionInRange, RequestInRange, SeesInRange}
 use Rattle.at_board.specs.Sound.{Sound}
 use Rattle.at_board.specs.Views.{HasAsking, HasPart, IsAnnounced, IsDecided, Knows, asking_on, own_part, part_at}
 
@@ -38,19 +40,19 @@ announced-KnowsOf b words s v a slot number sound knows (inr (round, d, sees, sl
     omega (arith, named, slot_is, number_is, ap (λ k. length (s.rows a k)) slot_is)
 
 -- the board has words for it
-pub place-MayLoadRequest : (v : View) (a slot number j : ℕ) → SeesPlaces v → MayLoadRequest v a slot number j
+pub place-MayLoadRequest : (v : View) (a slot number j : ℕ) → SeesInRange v → MayLoadRequest v a slot number j
     → IsPlace v.book (request_word a slot number j)
 place-MayLoadRequest v a slot number j sees may =
     let first = place_of v a slot number sees may.known in (first.0, first.1, first.2, may.word)
   where
-    place_of : (v : View) (a slot number : ℕ) → SeesPlaces v → KnowsOf v a slot number → IsPlace v.book (request_word a slot number 0)
+    place_of : (v : View) (a slot number : ℕ) → SeesInRange v → KnowsOf v a slot number → IsPlace v.book (request_word a slot number 0)
     place_of v a slot number sees (inl (r, seen)) =
-        All-contains (λ x. IsPlace v.book (request_word x.account x.slot x.number 0)) v.requests (seen_as a slot number r) sees.requests seen
+        (All-contains (RequestInRange v.book) v.requests (seen_as a slot number r) sees.requests seen).words
     place_of v a slot number sees (inr (round, d, seen, slot_is, number_is)) =
         let x : SeenDecision = record { account = a; round = round; decision = d } in
         subst (λ k. IsPlace v.book (request_word a slot k 0)) number_is
         (subst (λ k. IsPlace v.book (request_word a k d.number 0)) slot_is
-        (All-contains (λ x. IsPlace v.book (request_word x.account x.decision.slot x.decision.number 0)) v.decisions x sees.decisions seen))
+        (All-contains (DecisionInRange v.book) v.decisions x sees.decisions seen).words)
 
 -- the view after a load of a word of a request
 abbrev pub request_view : View → ℕ → SeenRequest → View
@@ -92,23 +94,24 @@ Knows-request b words s v a x part is knows =
           (IsLeft-refl b words s.rows (v.first + k) (part_at v k)) has);
     }
 
-pub LoadsRequestWord-Ruled : (b : BookTerms) (words : List ℕ) (views : List View) (id : ℕ) (v : View) (a slot number j : ℕ) → Ruled b words views
+pub LoadsRequestWord-Ruled : (b : BookTerms) (words : List ℕ) (views : List View) (id : ℕ) (v : View) (a slot number j : ℕ) → Ruled b words views → IsBegun b
     → get_elem? views id ≡ some v → 0 < length v.parts → IsPlace b (request_word a slot number j) → MayLoadRequest v a slot number j
     → (w : View) × Ruled b words (set views id w) × LoadsRequestWord b v w a slot number j (word_at b words (request_word a slot number j))
-LoadsRequestWord-Ruled b words views id v a slot number j ruled found part within may =
+LoadsRequestWord-Ruled b words views id v a slot number j ruled begun found part within may =
     let s : BoardState = ruled.state in
     let knows = ruled.knows id v found in
     let below = announced-KnowsOf b words s v a slot number ruled.sound knows may.known in
     let r : Request = request_at (s.rows a slot) number in
     let x : SeenRequest = seen_as a slot number r in
-    let w : View = request_view v a x in (
+    let w : View = request_view v a x in
+    let mine = Knows-request b words s v a x part (below, refl) knows in (
       w,
       record {
         state = s;
         seat = ruled.seat;
         shown = ruled.shown;
         sound = ruled.sound;
-        knows = knows_after b words s views id w (Knows-request b words s v a x part (below, refl) knows) (λ k u apart there. ruled.knows k u there);
+        knows = knows_after b words s views id w mine (λ k u apart there. ruled.knows k u there);
         seated = AreSeated-set b ruled.seat views id v w ruled.seated found refl (length-set v.parts 0 (part_asking (own_part v) a (with_loaded (asking_on (own_part v) a) x)));
       },
       record {
@@ -116,6 +119,8 @@ LoadsRequestWord-Ruled b words views id v a slot number j ruled found part withi
         word = ruled.shown.requests.requests a slot number j within below;
         known = λ other sees. sym (All-contains (IsAnnounced s) v.requests (seen_as a slot number other) knows.requests sees).1;
         targets = (ruled.sound.requests a slot number below).targets;
+        since = omega (arith, (ruled.sound.requests a slot number below).since, (IsHistory-Sound b words s ruled.shown ruled.sound begun).few);
+        agrees = AgreesWithSeen-Knows b words s w ruled.sound mine;
         same = refl;
       },
     )

@@ -4,10 +4,10 @@ use mathlib.Core.Option.{none}
 use Rattle.std.proofs.lemmas.List.{set-get_or}
 use Rattle.std.proofs.lemmas.List.Elements.{All-push}
 use Rattle.atomic_table.specs.Table.{Allows, Me, keeps, step}
-use Rattle.at_ledger.specs.Book.{BookTerms}
+use Rattle.at_ledger.specs.Book.{BookTerms, IsBegun}
 use Rattle.at_board.proofs.PlaceLaws.{place_at-injective}
 use Rattle.at_board.proofs.RequestWordLaws.{LoadsRequestWord-Ruled}
-use Rattle.at_board.proofs.SeatCountLaws.{HasCounts-asking, IsSeat-asking, SeesPlaces-asking}
+use Rattle.at_board.proofs.SeatCountLaws.{HasCounts-asking, IsSeat-asking, SeesInRange-asking}
 use Rattle.at_board.proofs.StepLaws.{IsSeatOf}
 use Rattle.at_board.proofs.TableSteps.{load_at}
 use Rattle.at_board.specs.declared.view.SeenRequest.{SeenRequest}
@@ -17,19 +17,20 @@ use Rattle.at_board.specs.Plays.{loaded_request_word}
 use Rattle.at_board.specs.RequestConditions.{MayLoadRequest}
 use Rattle.at_board.specs.RequestSteps.{LoadsRequestWord, seen_as, with_loaded}
 use Rattle.at_board.specs.Seated.{Ruled}
-use Rattle.at_board.specs.SeatCounts.{HasCounts, SeesPlaces}
+use Rattle.at_board.specs.SeatCounts.{HasCounts}
+use Rattle.at_board.specs.Seen.{RequestInRange, SeesInRange}
 use Rattle.at_board.specs.SeatView.{IsSeat}
 use Rattle.at_board.specs.Views.{asking_on, own_part}
 
 module _ {S : Type 0} where
-  loads_request_word : (b : BookTerms) (slots id : ℕ) (me : Me S View) (a slot number j : ℕ) → IsSeatOf b me.0
+  loads_request_word : (b : BookTerms) (slots id : ℕ) (me : Me S View) (a slot number j : ℕ) → IsBegun b → IsSeatOf b me.0
       → IsPlace b (request_word a slot number j) → MayLoadRequest me.0 a slot number j
       → let i = place_at b (request_word a slot number j) in
       Allows (λ s. Ruled b s.words s.views) slots id me i (λ n. n) (loaded_request_word (step slots i 0 0 none) me)
-  loads_request_word b slots id me a slot number j seat within may s holds homes found fits =
+  loads_request_word b slots id me a slot number j begun seat within may s holds homes found fits =
       let x = request_word a slot number j in
       let i = place_at b x in
-      let done = LoadsRequestWord-Ruled b s.words s.views id me.0 a slot number j holds found (omega (arith, seat.one_part)) within may in
+      let done = LoadsRequestWord-Ruled b s.words s.views id me.0 a slot number j holds begun found (omega (arith, seat.one_part)) within may in
       let same : set s.words i (get_or s.words i 0) ≡ s.words = set-get_or s.words i 0 in
       let book = seat.book in (
         done.0,
@@ -56,11 +57,11 @@ module _ {S : Type 0} where
       )
 
   pub loads_request_word_at : (key b : BookTerms) (slots id : ℕ) (me : Me S View) (a slot number j i : ℕ) → key ≡ b
-      → i ≡ place_at b (request_word a slot number j) → IsSeatOf b me.0 → IsPlace b (request_word a slot number j) → MayLoadRequest me.0 a slot number j
+      → i ≡ place_at b (request_word a slot number j) → IsBegun b → IsSeatOf b me.0 → IsPlace b (request_word a slot number j) → MayLoadRequest me.0 a slot number j
       → Allows (λ s. Ruled key s.words s.views) slots id me i (λ n. n) (loaded_request_word (step slots i 0 0 none) me)
-  loads_request_word_at key b slots id me a slot number j i is at seat within may =
+  loads_request_word_at key b slots id me a slot number j i is at begun seat within may =
       load_at key b slots id me i (place_at b (request_word a slot number j)) (λ k. loaded_request_word (step slots k 0 0 none) me) is at
-      (loads_request_word b slots id me a slot number j seat within may)
+      (loads_request_word b slots id me a slot number j begun seat within may)
 
   -- what the load has told
   pub LoadsRequestWord-played : (b : BookTerms) (slots : ℕ) (me after : Me S View) (a slot number j n i : ℕ) → me.0.book ≡ b
@@ -86,12 +87,15 @@ HasCounts-request b v w a slot number j n counts part told has =
     subst (λ t. HasCounts t counts) (sym told.same)
     (HasCounts-asking v v.seen (v.requests ++ x ∷ []) a (with_loaded (asking_on (own_part v) a) x) counts part refl has)
 
-pub SeesPlaces-request : (b : BookTerms) (v w : View) (a slot number j n : ℕ) → v.book ≡ b → IsPlace b (request_word a slot number j)
-    → LoadsRequestWord b v w a slot number j n → SeesPlaces v → SeesPlaces w
-SeesPlaces-request b v w a slot number j n book within told sees =
+pub SeesInRange-request : (b : BookTerms) (v w : View) (a slot number j n : ℕ) → v.book ≡ b → IsPlace b (request_word a slot number j)
+    → LoadsRequestWord b v w a slot number j n → SeesInRange v → SeesInRange w
+SeesInRange-request b v w a slot number j n book within told sees =
     let x : SeenRequest = seen_as a slot number told.request in
-    let here = subst (λ (t : BookTerms). IsPlace t (request_word a slot number j)) (sym book) within in
-    subst SeesPlaces (sym told.same)
-    (SeesPlaces-asking v v.seen (v.requests ++ x ∷ []) a (with_loaded (asking_on (own_part v) a) x) sees
-    (All-push (λ (y : SeenRequest). IsPlace v.book (request_word y.account y.slot y.number 0)) v.requests x sees.requests
-    (here.0, here.1, here.2, omega arith)))
+    let here : RequestInRange b x = record {
+      words = (within.0, within.1, within.2, omega arith);
+      targets = told.targets;
+      since = told.since;
+    } in
+    subst SeesInRange (sym told.same)
+    (SeesInRange-asking v v.seen (v.requests ++ x ∷ []) a (with_loaded (asking_on (own_part v) a) x) sees
+    (All-push (RequestInRange v.book) v.requests x sees.requests (subst (λ (t : BookTerms). RequestInRange t x) (sym book) here)))

@@ -15,6 +15,7 @@ use Rattle.at_board.proofs.HistoryLaws.{IsHistory-Sound}
 use Rattle.at_board.proofs.PushLaws.{seen_decision}
 use Rattle.at_board.proofs.SeatLaws.{AreSeated-set, knows_after}
 use Rattle.at_board.proofs.StoreLaws.{SameRecordWords, SameRequestWords, other_process}
+use Rattle.at_board.proofs.SeenLaws.{AgreesWithSeen-Knows}
 use Rattle.at_board.specs.declared.request.Request.{Request}
 use Rattle.at_board.specs.declared.view.Cell.{Cell}
 use Rattle.at_board.specs.declared.view.View.{View}
@@ -67,6 +68,7 @@ Decides-found b words views id v a round d r ruled begun found part may within =
     let same_words : exchanged_words b words a round (word_of d) ≡ words =
     ap (λ (t : Bool). set words (place_at b (cell_of a round)) (either t (word_of d) n)) (ne_eqb n 0 apart) ∙ set-get_or words (place_at b (cell_of a round)) 0 in
     let w : View = with_part (with_decision v s.published a round e) (with_decide (own_part v) a None) in
+    let mine = Knows-found b words s v a round part within may.free knows in
     record {
       view = w;
       ruled = subst (λ ws. Ruled b ws (set views id w)) (sym same_words) (record {
@@ -74,7 +76,7 @@ Decides-found b words views id v a round d r ruled begun found part may within =
         seat = ruled.seat;
         shown = ruled.shown;
         sound = ruled.sound;
-        knows = knows_after b words s views id w (Knows-found b words s v a round part within may.free knows) (λ j u off there. ruled.knows j u there);
+        knows = knows_after b words s views id w mine (λ j u off there. ruled.knows j u there);
         seated = AreSeated-set b ruled.seat views id v w ruled.seated found refl (length-set v.parts 0 (with_decide (own_part v) a None));
       });
       told = record {
@@ -92,6 +94,7 @@ Decides-found b words views id v a round d r ruled begun found part may within =
         own = sym own.published;
         joined = knows.joined;
         history = IsHistory-Sound b words s ruled.shown ruled.sound begun;
+        agrees = AgreesWithSeen-Knows b words s w ruled.sound mine;
         same = refl;
       };
     }
@@ -120,6 +123,7 @@ Decides-proposed b words views id v a round d r ruled begun found part may past 
     let record_same : (k i : ℕ) → SameRecordWords b words after k i = λ k i j at. kept-cell b words a round (word_of d) here (record_word k i j) at (λ e. cc) in
     let held : Option Cell = Some (cell a round) in
     let w : View = with_part (with_decision v s.published a round d) (with_decide (own_part v) a held) in
+    let mine = Knows-proposed b words after s a round d v part same record_same full knows in
     record {
       view = w;
       ruled = subst (λ ws. Ruled b ws (set views id w)) (sym same_words) (record {
@@ -127,7 +131,7 @@ Decides-proposed b words views id v a round d r ruled begun found part may past 
         seat = ruled.seat;
         shown = shown;
         sound = sound;
-        knows = knows_after b after s' views id w (Knows-proposed b words after s a round d v part same record_same full knows)
+        knows = knows_after b after s' views id w mine
             (λ j u off there. Knows-decided b words after s v.first a d u same record_same
             (λ k inside. other_process b ruled.seat views id j k v u ruled.seated found part there inside off) (ruled.knows j u there));
         seated = AreSeated-set b ruled.seat views id v w ruled.seated found refl (length-set v.parts 0 (with_decide (own_part v) a held));
@@ -147,6 +151,7 @@ Decides-proposed b words views id v a round d r ruled begun found part may past 
         own = sym own.published;
         joined = knows.joined;
         history = IsHistory-Sound b after s' shown sound begun;
+        agrees = AgreesWithSeen-Knows b after s' w sound mine;
         same = refl;
       };
     }

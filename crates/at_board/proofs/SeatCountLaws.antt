@@ -10,13 +10,13 @@ use Rattle.at_board.proofs.SeatKept.{IsSeat-with_part, own_part-with_part}
 use Rattle.at_board.specs.declared.publication.Publication.{Publication}
 use Rattle.at_board.specs.declared.view.Asking.{Asking}
 use Rattle.at_board.specs.declared.view.Part.{Part}
-use Rattle.at_board.specs.declared.view.SeenDecision.{SeenDecision}
 use Rattle.at_board.specs.declared.view.SeenRequest.{SeenRequest}
 use Rattle.at_board.specs.declared.view.View.{View}
 use Rattle.at_board.specs.Cuts.{starting_seat}
-use Rattle.at_board.specs.Places.{IsPlace, record_width, request_word}
+use Rattle.at_board.specs.Places.{record_width}
 use Rattle.at_board.specs.RequestSteps.{part_asking, with_asking}
-use Rattle.at_board.specs.SeatCounts.{HasCounts, SeesPlaces}
+use Rattle.at_board.specs.SeatCounts.{HasCounts}
+use Rattle.at_board.specs.Seen.{DecisionInRange, RequestInRange, SeesInRange}
 use Rattle.at_board.specs.SeatView.{IsSeat}
 use Rattle.at_board.specs.Steps.{IsHistory, LoadsLength, Publishes, StoresWord, with_load, with_part, with_record, with_word}
 use Rattle.at_board.specs.Views.{asking_on, no_asking, own_part, starting_asking}
@@ -40,8 +40,8 @@ HasCounts-seen : (v : View) (list : List Publication) (counts : List ℕ) → Ha
 HasCounts-seen v list counts has = record { accounts = has.accounts; words = has.words; sized = has.sized; counted = has.counted }
 
 -- what a view has seen of requests and decisions is the same
-SeesPlaces-with_part : (v : View) (list : List Publication) (q : Part) → SeesPlaces v → SeesPlaces (with_part (record v { seen = list }) q)
-SeesPlaces-with_part v list q sees = record { requests = sees.requests; decisions = sees.decisions }
+SeesInRange-with_part : (v : View) (list : List Publication) (q : Part) → SeesInRange v → SeesInRange (with_part (record v { seen = list }) q)
+SeesInRange-with_part v list q sees = record { requests = sees.requests; decisions = sees.decisions }
 
 pub HasCounts-load : (b : BookTerms) (v w : View) (p n : ℕ) (counts : List ℕ) → 0 < length v.parts → LoadsLength b v w p n
     → HasCounts v counts → HasCounts w counts
@@ -49,15 +49,15 @@ HasCounts-load b v w p n counts part told has =
     subst (λ t. HasCounts t counts) (sym told.same)
     (HasCounts-with_part (record v { seen = w.seen }) (with_load (own_part v) p n) counts part refl refl (λ a within. refl) (HasCounts-seen v w.seen counts has))
 
-pub SeesPlaces-load : (b : BookTerms) (v w : View) (p n : ℕ) → LoadsLength b v w p n → SeesPlaces v → SeesPlaces w
-SeesPlaces-load b v w p n told sees = subst SeesPlaces (sym told.same) (SeesPlaces-with_part v w.seen (with_load (own_part v) p n) sees)
+pub SeesInRange-load : (b : BookTerms) (v w : View) (p n : ℕ) → LoadsLength b v w p n → SeesInRange v → SeesInRange w
+SeesInRange-load b v w p n told sees = subst SeesInRange (sym told.same) (SeesInRange-with_part v w.seen (with_load (own_part v) p n) sees)
 
 pub HasCounts-store : (v w : View) (j n : ℕ) (counts : List ℕ) → 0 < length v.parts → StoresWord v w j n → HasCounts v counts → HasCounts w counts
 HasCounts-store v w j n counts part told has =
     subst (λ t. HasCounts t counts) (sym told) (HasCounts-with_part v (with_word (own_part v) j n) counts part refl (length-set (own_part v).stored j n) (λ a within. refl) has)
 
-pub SeesPlaces-store : (v w : View) (j n : ℕ) → StoresWord v w j n → SeesPlaces v → SeesPlaces w
-SeesPlaces-store v w j n told sees = subst SeesPlaces (sym told) (SeesPlaces-with_part v v.seen (with_word (own_part v) j n) sees)
+pub SeesInRange-store : (v w : View) (j n : ℕ) → StoresWord v w j n → SeesInRange v → SeesInRange w
+SeesInRange-store v w j n told sees = subst SeesInRange (sym told) (SeesInRange-with_part v v.seen (with_word (own_part v) j n) sees)
 
 pub HasCounts-publish : (b : BookTerms) (v w : View) (x : Publication) (counts : List ℕ) → v.book ≡ b → 0 < length v.parts → Publishes b v w x
     → HasCounts v counts → HasCounts w counts
@@ -66,8 +66,8 @@ HasCounts-publish b v w x counts book part told has =
     (HasCounts-with_part (record v { seen = w.seen }) (with_record b (own_part v) x) counts part refl
     (length-replicate (record_width b) 0 ∙ sym (has.words ∙ ap record_width book)) (λ a within. refl) (HasCounts-seen v w.seen counts has))
 
-pub SeesPlaces-publish : (b : BookTerms) (v w : View) (x : Publication) → Publishes b v w x → SeesPlaces v → SeesPlaces w
-SeesPlaces-publish b v w x told sees = subst SeesPlaces (sym told.same) (SeesPlaces-with_part v w.seen (with_record b (own_part v) x) sees)
+pub SeesInRange-publish : (b : BookTerms) (v w : View) (x : Publication) → Publishes b v w x → SeesInRange v → SeesInRange w
+SeesInRange-publish b v w x told sees = subst SeesInRange (sym told.same) (SeesInRange-with_part v w.seen (with_record b (own_part v) x) sees)
 
 -- a new seat has announced nothing
 pub HasCounts-starting : (b : BookTerms) (p : ℕ) (counts : List ℕ) → counts ≡ replicate (length b.accounts) 0 → HasCounts (starting_seat b p) counts
@@ -79,10 +79,10 @@ HasCounts-starting b p counts zeros = record {
       ∙ sym (ap (λ (w : Asking). length w.announced) (get_or-replicate (length b.accounts) a starting_asking no_asking within)));
 }
 
-pub SeesPlaces-starting : (b : BookTerms) (p : ℕ) → SeesPlaces (starting_seat b p)
-SeesPlaces-starting b p = record {
-  requests = All-nil (λ (x : SeenRequest). IsPlace b (request_word x.account x.slot x.number 0));
-  decisions = All-nil (λ (x : SeenDecision). IsPlace b (request_word x.account x.decision.slot x.decision.number 0));
+pub SeesInRange-starting : (b : BookTerms) (p : ℕ) → SeesInRange (starting_seat b p)
+SeesInRange-starting b p = record {
+  requests = All-nil (RequestInRange b);
+  decisions = All-nil (DecisionInRange b);
 }
 
 -- a seat whose part has something new on an account
@@ -115,10 +115,10 @@ HasCounts-asking v list requests a w counts part same has =
       | inr apart ↦ ap (λ (t : Asking). length t.announced) (get_or-set_other q.asking a c w no_asking apart)
     ]) before
 
-pub SeesPlaces-asking : (v : View) (list : List Publication) (requests : List SeenRequest) (a : ℕ) (w : Asking) → SeesPlaces v
-    → All (λ x. IsPlace v.book (request_word x.account x.slot x.number 0)) requests
-    → SeesPlaces (with_asking (record v { seen = list; requests = requests }) a w)
-SeesPlaces-asking v list requests a w sees places = record { requests = places; decisions = sees.decisions }
+pub SeesInRange-asking : (v : View) (list : List Publication) (requests : List SeenRequest) (a : ℕ) (w : Asking) → SeesInRange v
+    → All (RequestInRange v.book) requests
+    → SeesInRange (with_asking (record v { seen = list; requests = requests }) a w)
+SeesInRange-asking v list requests a w sees in_range = record { requests = in_range; decisions = sees.decisions }
 
 -- one count is that of what is new on an account
 pub HasCounts-counted : (v : View) (list : List Publication) (requests : List SeenRequest) (a n : ℕ) (w : Asking) (counts : List ℕ) → 0 < length v.parts

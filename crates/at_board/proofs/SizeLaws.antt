@@ -11,6 +11,10 @@ use Rattle.std.proofs.lemmas.List.Sums.{get_or-le-sum_by, sum-map, sum_by-cons, 
 use Rattle.std.proofs.lemmas.Nat.{mul-le}
 use Rattle.at_ledger.specs.Account.{AccountTerms, rounds_room, rounds_room_of}
 use Rattle.at_ledger.specs.Book.{BookTerms, IsBegun, log_room_of, rounds_of}
+use Rattle.at_board.proofs.CountLaws.{sum-counts}
+use Rattle.at_board.specs.declared.publication.Publication.{Publication}
+use Rattle.at_board.specs.Fronts.{places_max}
+use Rattle.at_board.specs.Publications.{ArePublishedBy, count_of, counts}
 use Rattle.at_board.specs.Places.{place_at, record_width, record_word, slots_of, word_count}
 use Rattle.at_board.proofs.PlaceLaws.{place_at-record_word-le, place_at-record_word_next, rounds_room-slots_of}
 
@@ -100,6 +104,18 @@ rounds_of_processes q n (t ∷ ts) few =
       sum_by-cons (rounds_room q) t ts,
     )
 
+-- a sum over numbers in a row is larger where its terms are
+sum_by-range-le : (f g : ℕ → ℕ) (a n : ℕ) → ((p : ℕ) → p < a + n → f p ≤ g p) → sum_by f (range_with_len a n) ≤ sum_by g (range_with_len a n)
+sum_by-range-le f g a zero less = omega arith
+sum_by-range-le f g a (suc n) less =
+    omega (
+      arith,
+      sum_by-cons f a (range_with_len (a + 1) n),
+      sum_by-cons g a (range_with_len (a + 1) n),
+      less a (omega arith),
+      sum_by-range-le f g (a + 1) n (λ p below. less p (omega arith)),
+    )
+
 -- all logs together
 pub sum-log_room_of : (b : BookTerms) → IsBegun b → sum_by (log_room_of b) (range_with_len 0 b.processes) ≤ 131072
 sum-log_room_of b begun =
@@ -113,6 +129,20 @@ sum-log_room_of b begun =
       own,
       rounds_of_processes b.request_room b.processes b.accounts few,
       begun.rounds,
+    )
+
+-- no list is longer than all logs together
+pub length-ArePublishedBy : (b : BookTerms) (list : List Publication) → IsBegun b → ArePublishedBy b.processes list
+    → ((p : ℕ) → p < b.processes → count_of p list ≤ log_room_of b p) → length list ≤ places_max
+unfolding counts
+length-ArePublishedBy b list begun known room =
+    let range = range_with_len 0 b.processes in
+    omega (
+      arith,
+      sum-counts b.processes list known,
+      sum-map (λ p. count_of p list) range,
+      sum_by-range-le (λ p. count_of p list) (log_room_of b) 0 b.processes (λ p below. room p (omega arith)),
+      sum-log_room_of b begun,
     )
 
 -- the words of the largest board

@@ -6,6 +6,7 @@ use Rattle.atomic_table.specs.Table.{Allows, Me, keeps, step}
 use Rattle.at_ledger.specs.Book.{BookTerms, IsBegun, log_room_of}
 use Rattle.at_board.proofs.LoadLaws.{LoadsLength-Ruled}
 use Rattle.at_board.proofs.PlaceLaws.{place_at-injective}
+use Rattle.at_board.proofs.SeenLaws.{AgreesWithSeen-set}
 use Rattle.at_board.proofs.StoreLaws.{StoresWord-Ruled}
 use Rattle.at_board.specs.declared.view.View.{View}
 use Rattle.at_board.specs.Conditions.{MayStoreWord}
@@ -67,6 +68,7 @@ module _ {S : Type 0} where
         done,
         (
           refl,
+          AgreesWithSeen-set b (set s.words i w) s.views id v after found done,
           λ k inside room at.
               let here : IsPlace b (record_word v.first c j) = (seat.known, may.room, may.word) in
               let there : IsPlace b (record_word v.first c k) =
@@ -114,7 +116,7 @@ module _ {S : Type 0} where
       → i ≡ place_at b (record_word me.0.first (own_part me.0).published j) → MayStoreWord b me.0 j
       → stored_word (step slots i w 0 none) me w after → StoresWord me.0 after.0 j w
   StoresWord-played b slots me after j w i book at may played =
-      played.1 j (subst (λ (t : BookTerms). j < record_width t) (sym book) may.word)
+      played.2 j (subst (λ (t : BookTerms). j < record_width t) (sym book) may.word)
       (subst (λ (t : BookTerms). (own_part me.0).published < log_room_of t me.0.first) (sym book) may.room)
       (subst (λ (t : BookTerms). i ≡ place_at t (record_word me.0.first (own_part me.0).published j)) (sym book) at)
 

@@ -13,6 +13,7 @@ use Rattle.at_board.specs.Conditions.{MayPropose}
 use Rattle.at_board.specs.Places.{cell_of, place_at, slots_of}
 use Rattle.at_board.specs.Publications.{IsPrefix, count_of}
 use Rattle.at_board.specs.Rounds.{rounds}
+use Rattle.at_board.specs.Seen.{AgreesWithSeen}
 use Rattle.at_board.specs.Steps.{IsHistory, with_part}
 use Rattle.at_board.specs.Views.{SeesDecision, asking_on, own_part}
 
@@ -51,6 +52,7 @@ pub record Decides (b : BookTerms) (before after : View) (a round : ℕ) (d : De
   pub own : count_of before.first after.seen ≡ (own_part before).published
   pub joined : All (λ list. IsPrefix list after.seen) before.joined
   pub history : IsHistory b after.seen
+  pub agrees : AgreesWithSeen after
   pub same : after ≡ with_part (with_decision before after.seen a round decision) (with_decide (own_part before) a held)
 
 -- what the exchange tells its seat

@@ -5,13 +5,13 @@ use Rattle.at_board.specs.declared.publication.Publication.{Publication}
 use Rattle.at_board.specs.declared.view.View.{View}
 use Rattle.at_board.specs.BoardState.{BoardState}
 use Rattle.at_board.specs.Places.{length_of, word_at, word_count}
-use Rattle.at_board.specs.Publications.{IsPrefix}
+use Rattle.at_board.specs.Publications.{IsPrefix, count_of}
 use Rattle.at_board.specs.RecordWords.{lists_of}
 use Rattle.at_board.specs.SeatView.{BoardView, IsOf, SeatView}
 use Rattle.at_board.specs.Shown.{Shown}
 use Rattle.at_board.specs.Sound.{Sound}
 use Rattle.at_board.specs.Steps.{IsHistory}
-use Rattle.at_board.specs.Views.{own_part, part_at}
+use Rattle.at_board.specs.Views.{HasSlot, IsAnnounced, IsDecided, asking_on, own_part, part_at}
 
 -- a closed board by its book and its words
 pub record EndView : Type 0 where
@@ -43,21 +43,31 @@ gathered v w = record v {
   parts = v.parts ++ w.parts;
 }
 
--- the view has the parts of the first seats, which hold no cell, and the lists that they have seen
+-- the view has the own parts of the first seats in order, which hold no cell, and all that they have seen
 pub record Gathers (seats : List SeatView) (v : View) : Type 0 where
   pub first : v.first ≡ 0
   pub parts : length v.parts ≡ length seats
+  pub own : (k : ℕ) (d : SeatView) → k < length seats → part_at v k ≡ own_part (slice_index_or seats k d).view
   pub free : (k : ℕ) → k < length v.parts → (part_at v k).held ≡ None
-  pub seen : All (λ seat. All (λ list. Contains (lists_of v) list) (lists_of seat.view)) seats
+  pub seen : All (λ seat. All (Contains (lists_of v)) (lists_of seat.view)) seats
+  pub requests : All (λ seat. All (Contains v.requests) seat.view.requests) seats
+  pub decisions : All (λ seat. All (Contains v.decisions) seat.view.decisions) seats
 
--- the last state of a board: the words stand for it, it is sound, no process holds a cell, and what these seats had seen is
--- a prefix of what was published
+-- the last state of a board: the words stand for it, it is sound, no process holds a cell, what these seats had seen is a
+-- prefix of what was published, was announced and was decided, each process published as many records as its seat's part
+-- says, and its row on each account that it shares has the requests that this part announced
 pub record IsEnd (e : EndView) (seats : List SeatView) : Type 0 where
   pub state : BoardState
   pub shown : Shown e.book e.words state
   pub sound : Sound e.book state
   pub free : (p : ℕ) → p < e.book.processes → state.held p ≡ None
   pub seen : All (λ seat. All (λ list. IsPrefix list state.published) (lists_of seat.view)) seats
+  pub requests : All (λ seat. All (IsAnnounced state) seat.view.requests) seats
+  pub decisions : All (λ seat. All (IsDecided state) seat.view.decisions) seats
+  pub counted : (p : ℕ) (d : SeatView) → p < e.book.processes →
+      count_of p state.published ≡ (own_part (slice_index_or seats p d).view).published
+  pub announced : (p : ℕ) (d : SeatView) (a slot : ℕ) → p < e.book.processes → HasSlot e.book p a slot →
+      state.rows a slot ≡ (asking_on (own_part (slice_index_or seats p d).view) a).announced
   pub history : IsHistory e.book state.published
 
 -- the words are those of a board for the book, and no log is longer than its room

@@ -13,6 +13,7 @@ pub mod Shown
 pub mod ShownRounds
 pub mod Views
 pub mod RecordWords
+pub mod Seen
 pub mod Fresh
 pub mod Conditions
 pub mod Steps

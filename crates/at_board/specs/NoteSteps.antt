@@ -2,18 +2,18 @@
 use Rattle.std.specs.Prelude.{◌≡◌, [], length, All}
 use Rattle.at_ledger.specs.Book.{IsBook}
 use Rattle.at_board.specs.declared.view.View.{View}
-use Rattle.at_board.specs.SeatCounts.{SeesPlaces}
+use Rattle.at_board.specs.Seen.{SeesInRange}
 use Rattle.at_board.specs.Steps.{IsHistory}
 
 -- all that a view has seen, with no process's part
 abbrev pub noted : View → View
 noted v = record v { parts = [] }
 
--- a note's view has no part, what it and those joined to it have seen are histories, and the board has words for each
--- request that it names
+-- a note's view has no part, what it and those joined to it have seen are histories, and its requests and decisions are
+-- in range
 pub record IsNote (view : View) : Type 0 where
   pub no_part : length view.parts ≡ 0
   pub begun : IsBook view.book
   pub history : IsHistory view.book view.seen
   pub joined : All (IsHistory view.book) view.joined
-  pub places : SeesPlaces view
+  pub in_range : SeesInRange view

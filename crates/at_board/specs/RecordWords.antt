@@ -1,10 +1,8 @@
--- The words of the records that a view has seen.
+-- The records that a view has seen, and their words.
 use Rattle.std.specs.Prelude.{◌≡◌, ℕ, ◌<◌, List, ◌∷◌, slice_index, Contains}
-use Rattle.atomic_table.specs.Table.{Me, Step}
 use Rattle.at_board.specs.declared.publication.Publication.{Publication}
 use Rattle.at_board.specs.declared.view.View.{View}
 use Rattle.at_board.specs.BoardState.{publication_at}
-use Rattle.at_board.specs.Places.{place_at, record_width, record_word}
 use Rattle.at_board.specs.Publications.{count_of, publications_of}
 use Rattle.at_board.specs.Words.{record_words}
 
@@ -22,9 +20,3 @@ pub record SeesRecord (v : View) (p i : ℕ) : Type 0 where
 abbrev pub IsRecordWord : View → ℕ → ℕ → ℕ → ℕ → Type 0
 IsRecordWord v p i j w = (list : List Publication) → Contains (lists_of v) list → i < count_of p list →
     w ≡ slice_index (record_words (publication_at (publications_of p list) i)) j
-
--- what a load at such a word tells its seat
-module _ {S : Type 0} where
-  abbrev pub loaded_word : Step S → Me S View → ℕ → Me S View → Type 0
-  loaded_word st m n m' = (m' ≡ m) × ((p i j : ℕ) → p < m.0.book.processes → j < record_width m.0.book →
-      st.word ≡ place_at m.0.book (record_word p i j) → IsRecordWord m.0 p i j n)

@@ -9,8 +9,10 @@ use Rattle.at_board.specs.declared.view.Part.{Part}
 use Rattle.at_board.specs.declared.view.SeenRequest.{SeenRequest}
 use Rattle.at_board.specs.declared.view.View.{View}
 use Rattle.at_board.specs.BoardState.{request_at}
+use Rattle.at_board.specs.Fronts.{places_max}
 use Rattle.at_board.specs.Publications.{IsPrefix, count_of}
 use Rattle.at_board.specs.Rounds.{rounds}
+use Rattle.at_board.specs.Seen.{AgreesWithSeen}
 use Rattle.at_board.specs.Sound.{AreTargets}
 use Rattle.at_board.specs.Steps.{IsHistory, with_part}
 use Rattle.at_board.specs.Views.{SeesRequest, asking_on, own_part}
@@ -48,6 +50,7 @@ pub record LoadsAnnounced (b : BookTerms) (before after : View) (a slot n : ℕ)
   pub own : count_of before.first after.seen ≡ (own_part before).published
   pub joined : All (λ list. IsPrefix list after.seen) before.joined
   pub history : IsHistory b after.seen
+  pub agrees : AgreesWithSeen after
   pub same : after ≡ with_asking (record before { seen = after.seen; requests = before.requests ++ all_of a slot row }) a
       (with_row (asking_on (own_part before) a) slot n)
 
@@ -61,6 +64,8 @@ pub record LoadsRequestWord (b : BookTerms) (before after : View) (a slot number
   pub word : w ≡ slice_index (request_words request) j
   pub known : (r : Request) → SeesRequest before a slot number r → r ≡ request
   pub targets : AreTargets b request.targets
+  pub since : request.since ≤ places_max
+  pub agrees : AgreesWithSeen after
   pub same : let x : SeenRequest = seen_as a slot number request in
       after ≡ with_asking (record before { requests = before.requests ++ x ∷ [] }) a (with_loaded (asking_on (own_part before) a) x)
 
@@ -82,6 +87,7 @@ pub record Announces (b : BookTerms) (before after : View) (a slot : ℕ) (r : R
   pub own : count_of before.first after.seen ≡ (own_part before).published
   pub joined : All (λ list. IsPrefix list after.seen) before.joined
   pub history : IsHistory b after.seen
+  pub agrees : AgreesWithSeen after
   pub same : let w : Asking = asking_on (own_part before) a in
       after ≡ with_asking (record before { seen = after.seen; requests = before.requests ++ seen_as a slot (length w.announced) r ∷ [] }) a
       (with_request w r (rounds a after.seen))

@@ -1,7 +1,7 @@
 -- What a seat keeps of the requests on each account.
-use Rattle.std.specs.Prelude.{◌≡◌, ℕ, ◌<◌, List, length, slice_index, All}
+use Rattle.std.specs.Prelude.{◌≡◌, ℕ, ◌<◌, List, length, slice_index}
 use Rattle.at_board.specs.declared.view.View.{View}
-use Rattle.at_board.specs.Places.{IsPlace, record_width, request_word}
+use Rattle.at_board.specs.Places.{record_width}
 use Rattle.at_board.specs.Views.{asking_on, own_part}
 
 -- the counts are those of the requests that the seat's process has announced on each account, and its next record has all its words
@@ -10,11 +10,6 @@ pub record HasCounts (view : View) (announced : List ℕ) : Type 0 where
   pub words : length (own_part view).stored ≡ record_width view.book
   pub sized : length announced ≡ length view.book.accounts
   pub counted : (a : ℕ) → a < length view.book.accounts → slice_index announced a ≡ length (asking_on (own_part view) a).announced
-
--- the board has words for each request that the view has seen, and for each that a decision names which it has seen
-pub record SeesPlaces (view : View) : Type 0 where
-  pub requests : All (λ x. IsPlace view.book (request_word x.account x.slot x.number 0)) view.requests
-  pub decisions : All (λ x. IsPlace view.book (request_word x.account x.decision.slot x.decision.number 0)) view.decisions
 
 -- the view has one part, which has something on each account and each word of the next record
 pub record HasOwnPart (view : View) : Type 0 where

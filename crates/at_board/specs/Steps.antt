@@ -9,10 +9,11 @@ use Rattle.at_board.specs.declared.view.Cell.{Cell}
 use Rattle.at_board.specs.declared.view.Part.{Part}
 use Rattle.at_board.specs.declared.view.View.{View}
 use Rattle.at_board.specs.BoardState.{publication_at}
-use Rattle.at_board.specs.Fronts.{place, prefix_of}
+use Rattle.at_board.specs.Fronts.{place, places_max, prefix_of}
 use Rattle.at_board.specs.Moves.{AreRuns}
 use Rattle.at_board.specs.Places.{record_width, slots_of}
 use Rattle.at_board.specs.Publications.{IsPrefix, count_of}
+use Rattle.at_board.specs.Seen.{AgreesWithSeen}
 use Rattle.at_board.specs.ShownRounds.{AgreeOnRound, IsShownDecision}
 use Rattle.at_board.specs.Sound.{AreTargets, HasView, IsSoundOwn, IsSoundRound}
 use Rattle.at_board.specs.Views.{loads_of, own_part}
@@ -63,6 +64,7 @@ pub record IsHistory (b : BookTerms) (list : List Publication) : Type 0 where
   pub decisions : (m : ℕ) → m < length list → IsShownDecision b list (publication_at list m).entry
   pub agree : (m k : ℕ) → m < length list → k < length list → AgreeOnRound (publication_at list m).entry (publication_at list k).entry
   pub room : (p : ℕ) → p < b.processes → count_of p list ≤ log_room_of b p
+  pub few : length list ≤ places_max
   pub runs : AreRuns b list
 
 -- a load of a length: the seat, which counts its loads of each length, has then seen a list that begins with the old one and
@@ -74,6 +76,7 @@ pub record LoadsLength (b : BookTerms) (before after : View) (p n : ℕ) : Type 
   pub own : count_of before.first after.seen ≡ (own_part before).published
   pub joined : All (λ list. IsPrefix list after.seen) before.joined
   pub history : IsHistory b after.seen
+  pub agrees : AgreesWithSeen after
   pub same : after ≡ with_part (record before { seen = after.seen }) (with_load (own_part before) p n)
 
 -- a store of a word of the seat's next record
@@ -87,4 +90,5 @@ pub record Publishes (b : BookTerms) (before after : View) (x : Publication) : T
   pub own : count_of before.first after.seen ≡ (own_part before).published + 1
   pub joined : All (λ list. IsPrefix list after.seen) before.joined
   pub history : IsHistory b after.seen
+  pub agrees : AgreesWithSeen after
   pub same : after ≡ with_part (record before { seen = after.seen }) (with_record b (own_part before) x)

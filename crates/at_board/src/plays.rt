@@ -1,8 +1,7 @@
 //! What each step of the table tells its seat.
 
 ghost use Rattle.at_board.specs.DecideSteps.{decided_round};
-ghost use Rattle.at_board.specs.Plays.{announced_request, loaded_announced, loaded_length, loaded_request_word, published_record, stored_request_word, stored_word};
-ghost use Rattle.at_board.specs.RecordWords.{loaded_word};
+ghost use Rattle.at_board.specs.Plays.{announced_request, loaded_announced, loaded_length, loaded_request_word, loaded_word, published_record, stored_request_word, stored_word};
 
 use crate::view::View;
 use atomic_table::{Join, Play, Split};

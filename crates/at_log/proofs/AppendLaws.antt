@@ -114,6 +114,7 @@ Publishes-IsStoring b v u w x words j some storing told =
       own = here.own ∙ ap (λ (t : Part). t.published + 1) own;
       joined = here.joined;
       history = here.history;
+      agrees = here.agrees;
       same = here.same ∙ (ap (λ t. with_part (with_part (record v { seen = w.seen }) (with_stored q storing.stored)) (with_record b t x)) own
           ∙ with_part-again (record v { seen = w.seen }) (with_stored q storing.stored) (with_record b q x));
     }

@@ -1,37 +1,36 @@
 -- The numbers of entries that a seat may append, or has seen, fit their words.
-use Rattle.std.proofs.Common.{◌≡◌, ℕ, ◌+◌, ◌<◌, ◌≤◌, List, [], ◌∷◌, ◌++◌, length, get_or, fold, cond, sym, subst, arith, inl, inr}
-use Rattle.std.specs.List.{All, Contains, range_with_len}
+use Rattle.std.proofs.Common.{◌≡◌, ℕ, ◌+◌, ◌<◌, ◌≤◌, List, [], ◌∷◌, ◌++◌, length, fold, cond, sym, subst, arith, inl, inr}
+use Rattle.std.specs.List.{Contains}
 use Rattle.std.proofs.lemmas.Bool.{cases_Bool}
 use Rattle.std.proofs.lemmas.List.{get_or-map, length-map, length_push, length-take}
-use Rattle.std.proofs.lemmas.List.FromFn.{get_or-range_with_len, length-range_with_len}
 use Rattle.std.proofs.lemmas.List.Elements.{All-cons, All-from_get_or, All-get_or}
-use Rattle.std.proofs.lemmas.List.Sums.{count_by-le-length, get_or-le-sum_by, sum-map, sum_by-le}
-use Rattle.std.proofs.lemmas.Nat.{mul-le}
+use Rattle.std.proofs.lemmas.List.Sums.{count_by-le-length, get_or-le-sum_by}
 use Rattle.at_ledger.specs.Account.{no_account, rounds_room}
 use Rattle.at_ledger.specs.Book.{BookTerms, IsBegun}
 use Rattle.at_ledger.specs.Call.{AreTargetsOn, TargetPair}
-use Rattle.at_board.proofs.CountLaws.{sum-counts}
 use Rattle.at_board.proofs.FormLaws.{ArePacked-AreTargets}
 use Rattle.at_board.proofs.RecordLaws.{All-Contains}
-use Rattle.at_board.proofs.SizeLaws.{log_room_of-le}
 use Rattle.at_board.specs.declared.publication.Entry.{Entry}
 use Rattle.at_board.specs.declared.publication.Entry.TheVariants.{Own, Round}
 use Rattle.at_board.specs.declared.publication.Publication.{Publication}
+use Rattle.at_board.specs.declared.view.SeenDecision.{SeenDecision}
+use Rattle.at_board.specs.declared.view.SeenRequest.{SeenRequest}
 use Rattle.at_board.specs.declared.view.View.{View}
 use Rattle.at_board.specs.BoardState.{publication_at}
 use Rattle.at_board.specs.Conditions.{MayEnter}
 use Rattle.at_board.specs.Entries.{is_round_on, targets_of}
 use Rattle.at_board.specs.Forms.{IsForm}
-use Rattle.at_board.specs.Fronts.{place, prefix_of}
-use Rattle.at_board.specs.Publications.{ArePublishedBy, count_of, counts, no_publication}
+use Rattle.at_board.specs.Fronts.{place, places_max, prefix_of}
 use Rattle.at_board.specs.RecordWords.{lists_of}
 use Rattle.at_board.specs.Rounds.{firsts, repeats, rounds, with_first}
 use Rattle.at_board.specs.SeatView.{IsSeat}
+use Rattle.at_board.specs.Seen.{DecisionInRange, RequestInRange, SeesInRange}
 use Rattle.at_board.specs.ShownRounds.{IsShownDecision}
+use Rattle.at_board.specs.Sound.{AreTargets}
 use Rattle.at_board.specs.Steps.{IsHistory, IsShownEntry}
 use Rattle.at_board.specs.TargetsWord.{ArePacked, accounts_of}
 use Rattle.at_log.specs.declared.record.Record.{Record}
-use Rattle.at_log.specs.Appending.{HasWords, MayAppend}
+use Rattle.at_log.specs.Appending.{MayAppend}
 
 -- the targets of an entry that fits its words
 pub ArePacked-IsForm : (e : Entry) → IsForm e → ArePacked (accounts_of (targets_of e))
@@ -63,42 +62,26 @@ rounds-le-length : (a : ℕ) (xs : List Publication) → rounds a xs ≤ length 
 unfolding firsts
 rounds-le-length a xs = omega (arith, count_by-le-length (λ (x : Publication). is_round_on a x.entry) (firsts xs), length-fold xs [])
 
--- a history is short
-length-IsHistory : (b : BookTerms) (list : List Publication) → IsBegun b → IsHistory b list → length list ≤ 2097152
-unfolding counts
-length-IsHistory b list begun history =
-    let n = b.processes in
-    let range = range_with_len 0 n in
-    let known : ArePublishedBy n list = All-from_get_or (λ x. x.process < n) list no_publication (λ i within. (history.views i within).process) in
-    let each : All (λ p. count_of p list ≤ 131072) range = All-from_get_or (λ p. count_of p list ≤ 131072) range 0 (λ i within.
-    let inside : i < n = omega (arith, within, length-range_with_len 0 n) in
-    let at : get_or range i 0 ≡ i = omega (arith, get_or-range_with_len 0 n i 0 inside) in
-    subst (λ p. count_of p list ≤ 131072) (sym at) (omega (arith, history.room i inside, log_room_of-le b i begun inside))) in
-    omega (
-      arith,
-      sum-counts n list known,
-      sum-map (λ p. count_of p list) range,
-      sum_by-le (λ p. count_of p list) 131072 range each,
-      length-range_with_len 0 n,
-      mul-le n 131072 16 131072 begun.few_processes (omega arith),
+-- an entry that may come next
+IsForm-MayEnter : (b : BookTerms) (v : View) (prefix : List Publication) (e : Entry) → IsBegun b → v.book ≡ b → length prefix ≤ places_max
+    → SeesInRange v → MayEnter b v prefix e → IsForm e
+IsForm-MayEnter b v prefix (Own from targets) begun book few sees law =
+    (omega (arith, law.0.source_in, begun.few_accounts), ArePacked-AreTargets b targets begun law.0.targets_in)
+IsForm-MayEnter b v prefix (Round a r d targets) begun book few sees law =
+    let decision : SeenDecision = record { account = a; round = r; decision = d } in
+    let request : SeenRequest = record { account = a; slot = d.slot; number = d.number; request = law.2.0 } in
+    let asked = (All-Contains (RequestInRange v.book) v.requests request sees.requests law.2.1).targets in (
+      omega (arith, law.0.account_in, begun.few_accounts),
+      omega (arith, law.0.next, rounds-le-length a prefix, few),
+      (All-Contains (DecisionInRange v.book) v.decisions decision sees.decisions law.1).range,
+      ArePacked-AreTargets b targets begun (subst (AreTargets b) law.2.2 (subst (λ (t : BookTerms). AreTargets t law.2.0.targets) book asked)),
     )
 
--- an entry that may come next
-IsForm-MayEnter : (b : BookTerms) (v : View) (prefix : List Publication) (e : Entry) → IsBegun b → length prefix ≤ 2097152
-    → MayEnter b v prefix e → HasWords b e → IsForm e
-IsForm-MayEnter b v prefix (Own from targets) begun few law words =
-    (omega (arith, law.0.source_in, begun.few_accounts), ArePacked-AreTargets b targets begun law.0.targets_in)
-IsForm-MayEnter b v prefix (Round a r d targets) begun few law words = (
-  omega (arith, law.0.account_in, begun.few_accounts),
-  omega (arith, law.0.next, rounds-le-length a prefix),
-  words.0,
-  ArePacked-AreTargets b targets begun words.1,
-)
-
-pub IsForm-MayAppend : (b : BookTerms) (v : View) (x : Record) → IsBegun b → IsHistory b v.seen → MayAppend b v x → IsForm x.entry
-IsForm-MayAppend b v x begun history may =
-    IsForm-MayEnter b v (prefix_of x.view v.seen) x.entry begun
-    (omega (arith, length-take (place x.view) v.seen, length-IsHistory b v.seen begun history)) may.entry may.words
+pub IsForm-MayAppend : (b : BookTerms) (v : View) (x : Record) → IsBegun b → v.book ≡ b → IsHistory b v.seen → SeesInRange v → MayAppend b v x
+    → IsForm x.entry
+IsForm-MayAppend b v x begun book history sees may =
+    IsForm-MayEnter b v (prefix_of x.view v.seen) x.entry begun book
+    (omega (arith, length-take (place x.view) v.seen, history.few)) sees may.entry
 
 -- an entry of a history
 IsForm-IsShownEntry : (b : BookTerms) (p : ℕ) (prefix list : List Publication) (e : Entry) → IsBegun b → IsShownEntry b p prefix e

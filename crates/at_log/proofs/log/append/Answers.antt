@@ -17,7 +17,8 @@ record_word-requires-clause-entry g c =
     let b : BookTerms = c.args.board.now.book in
     let v : View = c.args.seat.now.view in
     let book : IsBook b = subst IsBook c.book.ensures c.accounts-accounts.ensures.checked in
-    IsForm-MayAppend b v c.args.rec.now book.begun (subst (λ t. IsHistory t v.seen) c.requires.board.book c.process-process.ensures.seat.history)
+    IsForm-MayAppend b v c.args.rec.now book.begun c.requires.board.book
+    (subst (λ t. IsHistory t v.seen) c.requires.board.book c.process-process.ensures.seat.history) c.process-process.ensures.in_range
     c.requires.record
 
 pub record_word-requires-clause-word : goal.record_word-requires-clause-word

@@ -42,7 +42,6 @@ may_append b v view targets book new known zeros pays =
         subst (λ xs. IsSoundOwn b p (prefix_of view xs) 0 targets) seen (subst (λ xs. IsSoundOwn b p xs 0 targets) (sym none) pays),
         omega (arith, ap (owns_of p) (sym seen), book.begun.some_own_room),
       );
-      words = tt;
     }
 
 pub append-requires-clause-record : goal.append-requires-clause-record

@@ -49,7 +49,6 @@ may_append b v view new known zeros pays =
         subst (λ xs. IsSoundOwn b p (prefix_of view xs) 1 ((0, 1) ∷ [])) seen (subst (λ xs. IsSoundOwn b p xs 1 ((0, 1) ∷ [])) (sym none) pays.first),
         omega (arith, ap (owns_of p) (sym seen), pays.room),
       );
-      words = tt;
     }
 
 -- what the seat has seen then

@@ -57,7 +57,6 @@ may_append b v w view part paid pays one known told snapshot is =
         },
         omega (arith, owns_of-le w.first w.seen, counted, pays.room),
       );
-      words = tt;
     }
 
 pub append-requires-clause-record : goal.append-requires-clause-record

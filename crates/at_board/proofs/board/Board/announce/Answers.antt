@@ -1,6 +1,6 @@
 use Rattle.std.proofs.Common.{◌≡◌, ◌+◌, ℕ, sym, ap, subst, ◌∙◌, arith}
 use Rattle.at_ledger.specs.Book.{BookTerms}
-use Rattle.at_board.proofs.AnnounceStep.{Announces-played, Announces-same, HasCounts-announce, IsSeat-announce, MayAnnounce-same, MayAnnounce-slot, SeesPlaces-announce, announces_at, place-MayAnnounce}
+use Rattle.at_board.proofs.AnnounceStep.{Announces-played, Announces-same, HasCounts-announce, IsSeat-announce, MayAnnounce-same, MayAnnounce-slot, SeesInRange-announce, announces_at, place-MayAnnounce}
 use Rattle.at_board.proofs.PlaceLaws.{place_at-below}
 use Rattle.at_board.proofs.RequestStoreLaws.{same_slot}
 use Rattle.at_board.proofs.RequestStoreStep.{next_number}
@@ -65,7 +65,7 @@ invariant_of-seat g c =
       c.store.ensures.2.0 ∙ c.seat.invariant.0,
       IsSeat-announce b v w c.seat.inside.process c.seat.inside.published a slot r book c.seat.invariant.1 (told r asked),
       HasCounts-announce b v w a slot r (c.announced-count.result + 1) c.seat.inside.announced.items (omega (arith, c.seat.invariant.1.one_part)) (omega (arith, counted)) (told r asked) c.seat.invariant.2,
-      SeesPlaces-announce b v w a slot r book asked (told r asked) c.seat.invariant.3,
+      SeesInRange-announce b v w a slot r book c.seat.invariant.1.history.few asked (told r asked) c.seat.invariant.3,
     )
 
 pub returns-clause-announced : goal.returns-clause-announced

@@ -1,7 +1,7 @@
 use Rattle.std.proofs.Common.{◌≡◌, sym, ap, subst, ◌∙◌, arith}
 use Rattle.at_base.specs.declared.decision.Decision.{Decision}
 use Rattle.at_ledger.specs.Book.{BookTerms, IsBegun}
-use Rattle.at_board.proofs.DecideStep.{Decides-played, HasCounts-decided, IsSeat-decided, SeesPlaces-decided, decides_at}
+use Rattle.at_board.proofs.DecideStep.{Decides-played, HasCounts-decided, IsSeat-decided, SeesInRange-decided, decides_at}
 use Rattle.at_board.proofs.PlaceLaws.{place_at-below}
 use Rattle.at_board.proofs.RoundSteps.{IsPlace-MayPropose}
 use Rattle.at_board.proofs.StepLaws.{IsSeatOf-IsSeat}
@@ -59,7 +59,7 @@ invariant_of-seat g c =
       c.compare_exchange-found.ensures.2.0 ∙ c.seat.invariant.0,
       IsSeat-decided b v w c.seat.inside.process c.seat.inside.published c.args.account c.args.round d n book c.seat.invariant.1 told,
       HasCounts-decided b v w c.args.account c.args.round d n c.seat.inside.announced.items (omega (arith, c.seat.invariant.1.one_part)) told c.seat.invariant.2,
-      SeesPlaces-decided b v w c.args.seat.now.view c.args.account c.args.round d d r n book may told c.seat.invariant.3,
+      SeesInRange-decided b v w c.args.seat.now.view c.args.account c.args.round d d r n book may told c.seat.invariant.3,
     )
 
 pub returns-clause-decided : goal.returns-clause-decided

@@ -1,10 +1,11 @@
 use Rattle.std.proofs.Common.{◌≡◌, sym, ap, subst, ◌∙◌, arith}
 use Rattle.at_ledger.specs.Book.{BookTerms}
-use Rattle.at_board.proofs.LearnLaws.{HasCounts-learned, IsSeat-learned, Learns-learned, SeesPlaces-learned, learns}
+use Rattle.at_board.proofs.LearnLaws.{HasCounts-learned, IsSeat-learned, Learns-learned, SeesInRange-learned, learns}
 use Rattle.at_board.proofs.NoteLaws.{word_count-some}
 use Rattle.at_board.specs.declared.view.View.{View}
 use Rattle.at_board.specs.LearnSteps.{Learns}
-use Rattle.at_board.specs.SeatCounts.{HasCounts, SeesPlaces}
+use Rattle.at_board.specs.SeatCounts.{HasCounts}
+use Rattle.at_board.specs.Seen.{SeesInRange}
 use Rattle.at_board.specs.SeatView.{IsSeat}
 use Rattle.at_board.proofs.board.Board.learn.Goals as goal
 
@@ -31,7 +32,7 @@ invariant_of-seat g c =
       subst (λ t. IsSeat t c.seat.inside.process c.seat.inside.published) after
           (IsSeat-learned b v w c.seat.inside.process c.seat.inside.published book note_book c.seat.invariant.1 c.note.invariant.1),
       subst (λ t. HasCounts t c.seat.inside.announced.items) after (HasCounts-learned v w c.seat.inside.announced.items c.seat.invariant.2),
-      subst SeesPlaces after (SeesPlaces-learned v w (note_book ∙ sym book) c.seat.invariant.3 c.note.invariant.1.places),
+      subst SeesInRange after (SeesInRange-learned v w (note_book ∙ sym book) c.seat.invariant.3 c.note.invariant.1.in_range),
     )
 
 pub returns-clause-learned : goal.returns-clause-learned

@@ -1,6 +1,6 @@
 use Rattle.std.proofs.Common.{◌≡◌, sym, ap, subst, ◌∙◌, arith}
 use Rattle.at_ledger.specs.Book.{BookTerms}
-use Rattle.at_board.proofs.AnnouncedStep.{HasCounts-announced, IsSeat-announced, LoadsAnnounced-played, SeesPlaces-announced, loads_announced_at}
+use Rattle.at_board.proofs.AnnouncedStep.{HasCounts-announced, IsSeat-announced, LoadsAnnounced-played, SeesInRange-announced, loads_announced_at}
 use Rattle.at_board.proofs.PlaceLaws.{place_at-below}
 use Rattle.at_board.proofs.StepLaws.{IsSeatOf-IsSeat}
 use Rattle.at_board.specs.declared.view.View.{View}
@@ -40,5 +40,5 @@ invariant_of-seat g c =
       c.load-count.ensures.2.0 ∙ c.seat.invariant.0,
       IsSeat-announced b v w c.seat.inside.process c.seat.inside.published c.args.account c.args.slot c.load-count.result book c.seat.invariant.1 told,
       HasCounts-announced b v w c.args.account c.args.slot c.load-count.result c.seat.inside.announced.items (omega (arith, c.seat.invariant.1.one_part)) told c.seat.invariant.2,
-      SeesPlaces-announced b v w c.args.account c.args.slot c.load-count.result book is told c.seat.invariant.3,
+      SeesInRange-announced b v w c.args.account c.args.slot c.load-count.result book is told c.seat.invariant.3,
     )

@@ -1,7 +1,7 @@
 use Rattle.std.proofs.Common.{◌≡◌, ◌<◌, sym, ap, subst, ◌∙◌, arith}
 use Rattle.at_ledger.specs.Book.{BookTerms}
 use Rattle.at_board.proofs.PlaceLaws.{place_at-below}
-use Rattle.at_board.proofs.SeatCountLaws.{HasCounts-load, SeesPlaces-load}
+use Rattle.at_board.proofs.SeatCountLaws.{HasCounts-load, SeesInRange-load}
 use Rattle.at_board.proofs.SeatKept.{IsSeat-load, count_of-IsHistory}
 use Rattle.at_board.proofs.StepLaws.{IsSeatOf, LoadsLength-played, loads_length_at, place_at-length_of}
 use Rattle.at_board.specs.declared.view.View.{View}
@@ -45,7 +45,7 @@ invariant_of-seat g c =
       c.load-length.ensures.2.0 ∙ c.seat.invariant.0,
       IsSeat-load b v c.load-length.new.seat.me.0 c.seat.inside.process c.seat.inside.published c.args.p c.load-length.result book c.seat.invariant.1 told,
       HasCounts-load b v c.load-length.new.seat.me.0 c.args.p c.load-length.result c.seat.inside.announced.items (omega (arith, c.seat.invariant.1.one_part)) told c.seat.invariant.2,
-      SeesPlaces-load b v c.load-length.new.seat.me.0 c.args.p c.load-length.result told c.seat.invariant.3,
+      SeesInRange-load b v c.load-length.new.seat.me.0 c.args.p c.load-length.result told c.seat.invariant.3,
     )
 
 pub returns-clause-told : goal.returns-clause-told

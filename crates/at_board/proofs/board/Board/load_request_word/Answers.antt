@@ -2,7 +2,7 @@ use Rattle.std.proofs.Common.{◌≡◌, sym, ap, subst, ◌∙◌, arith}
 use Rattle.at_ledger.specs.Book.{BookTerms}
 use Rattle.at_board.proofs.PlaceLaws.{place_at-below}
 use Rattle.at_board.proofs.RequestWordLaws.{place-MayLoadRequest}
-use Rattle.at_board.proofs.RequestWordStep.{HasCounts-request, IsSeat-request, LoadsRequestWord-played, SeesPlaces-request, loads_request_word_at}
+use Rattle.at_board.proofs.RequestWordStep.{HasCounts-request, IsSeat-request, LoadsRequestWord-played, SeesInRange-request, loads_request_word_at}
 use Rattle.at_board.proofs.StepLaws.{IsSeatOf-IsSeat}
 use Rattle.at_board.specs.declared.view.View.{View}
 use Rattle.at_board.specs.Places.{IsPlace, place_at, request_word}
@@ -14,7 +14,7 @@ pub request_place-place-requires : goal.request_place-place-requires
 request_place-place-requires g c =
     let x = request_word c.args.account c.args.slot c.args.number c.args.j in
     subst (λ (t : BookTerms). IsPlace t x) c.requires.board.book
-    (place-MayLoadRequest c.args.seat.now.view c.args.account c.args.slot c.args.number c.args.j c.process-process.ensures.places c.requires.request)
+    (place-MayLoadRequest c.args.seat.now.view c.args.account c.args.slot c.args.number c.args.j c.process-process.ensures.in_range c.requires.request)
 
 pub load-requires : goal.load-requires
 load-requires g c =
@@ -32,7 +32,7 @@ load-requires g c =
       ap (λ s. s.board) c.seat.view_is ∙ (c.requires.board.id ∙ sym (ap (λ t. t.id) c.self.view_is)),
       omega (arith, c.self.invariant.1, at, place_at-below b x is),
       loads_request_word_at c.self.inside.table.shared.key.value b c.self.inside.table.shared.table_id.slots c.seat.inside.seat.id c.seat.inside.seat.me
-          c.args.account c.args.slot c.args.number c.args.j c.request_place-place.result c.self.invariant.0 at
+          c.args.account c.args.slot c.args.number c.args.j c.request_place-place.result c.self.invariant.0 at c.self.invariant.2.begun
           (IsSeatOf-IsSeat b v c.seat.inside.process c.seat.inside.published book c.seat.invariant.1) is may,
     )
 
@@ -56,7 +56,7 @@ invariant_of-seat g c =
       c.load.ensures.2.0 ∙ c.seat.invariant.0,
       IsSeat-request b v w c.seat.inside.process c.seat.inside.published c.args.account c.args.slot c.args.number c.args.j c.load.result c.seat.invariant.1 told,
       HasCounts-request b v w c.args.account c.args.slot c.args.number c.args.j c.load.result c.seat.inside.announced.items (omega (arith, c.seat.invariant.1.one_part)) told c.seat.invariant.2,
-      SeesPlaces-request b v w c.args.account c.args.slot c.args.number c.args.j c.load.result book is told c.seat.invariant.3,
+      SeesInRange-request b v w c.args.account c.args.slot c.args.number c.args.j c.load.result book is told c.seat.invariant.3,
     )
 
 pub returns-clause-told : goal.returns-clause-told

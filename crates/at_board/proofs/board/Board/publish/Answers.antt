@@ -2,7 +2,7 @@ use Rattle.std.proofs.Common.{◌≡◌, ◌+◌, sym, ap, ◌∙◌, arith}
 use Rattle.at_ledger.specs.Book.{BookTerms}
 use Rattle.at_board.proofs.PlaceLaws.{place_at-below}
 use Rattle.at_board.proofs.PublishStep.{IsSeat-publish, MayPublish-same, Publishes-played, Publishes-same, publishes_at}
-use Rattle.at_board.proofs.SeatCountLaws.{HasCounts-publish, SeesPlaces-publish}
+use Rattle.at_board.proofs.SeatCountLaws.{HasCounts-publish, SeesInRange-publish}
 use Rattle.at_board.proofs.SizeLaws.{log_room_of-le}
 use Rattle.at_board.proofs.StepLaws.{IsSeatOf-IsSeat, place_at-length_of}
 use Rattle.at_board.specs.declared.publication.Publication.{Publication}
@@ -54,7 +54,7 @@ invariant_of-seat g c =
       c.store.ensures.2.0 ∙ c.seat.invariant.0,
       IsSeat-publish b v c.store.new.seat.me.0 c.seat.inside.process c.seat.inside.published c.requires.record.0 book c.seat.invariant.1 (told c.requires.record.0 may),
       HasCounts-publish b v c.store.new.seat.me.0 c.requires.record.0 c.seat.inside.announced.items book (omega (arith, c.seat.invariant.1.one_part)) (told c.requires.record.0 may) c.seat.invariant.2,
-      SeesPlaces-publish b v c.store.new.seat.me.0 c.requires.record.0 (told c.requires.record.0 may) c.seat.invariant.3,
+      SeesInRange-publish b v c.store.new.seat.me.0 c.requires.record.0 (told c.requires.record.0 may) c.seat.invariant.3,
     )
 
 pub returns-clause-published : goal.returns-clause-published

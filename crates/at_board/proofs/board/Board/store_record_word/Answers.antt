@@ -1,7 +1,7 @@
 use Rattle.std.proofs.Common.{◌≡◌, sym, ap, subst, ◌∙◌, arith}
 use Rattle.at_ledger.specs.Book.{BookTerms}
 use Rattle.at_board.proofs.PlaceLaws.{place_at-below}
-use Rattle.at_board.proofs.SeatCountLaws.{HasCounts-store, SeesPlaces-store}
+use Rattle.at_board.proofs.SeatCountLaws.{HasCounts-store, SeesInRange-store}
 use Rattle.at_board.proofs.SeatKept.{IsSeat-store, next_record}
 use Rattle.at_board.proofs.StepLaws.{IsSeatOf-IsSeat, StoresWord-played, stores_word_at}
 use Rattle.at_board.specs.declared.view.View.{View}
@@ -45,7 +45,7 @@ invariant_of-seat g c =
       c.store.ensures.2.0 ∙ c.seat.invariant.0,
       IsSeat-store v c.store.new.seat.me.0 c.seat.inside.process c.seat.inside.published c.args.j c.args.w c.seat.invariant.1 told,
       HasCounts-store v c.store.new.seat.me.0 c.args.j c.args.w c.seat.inside.announced.items (omega (arith, c.seat.invariant.1.one_part)) told c.seat.invariant.2,
-      SeesPlaces-store v c.store.new.seat.me.0 c.args.j c.args.w told c.seat.invariant.3,
+      SeesInRange-store v c.store.new.seat.me.0 c.args.j c.args.w told c.seat.invariant.3,
     )
 
 pub returns-clause-stored : goal.returns-clause-stored
@@ -62,3 +62,6 @@ returns-clause-stored g c =
     let told = StoresWord-played b c.self.inside.table.shared.table_id.slots c.seat.inside.seat.me c.store.new.seat.me c.args.j c.args.w
     c.record_place-place.result book at may c.store.ensures.2 in
     subst (λ (t : View). StoresWord t c.store.new.seat.me.0 c.args.j c.args.w) mine told
+
+pub returns-clause-agrees : goal.returns-clause-agrees
+returns-clause-agrees g c = c.store.ensures.2.1

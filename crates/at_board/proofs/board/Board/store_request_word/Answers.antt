@@ -1,7 +1,7 @@
 use Rattle.std.proofs.Common.{◌≡◌, sym, ap, subst, ◌∙◌, arith}
 use Rattle.at_ledger.specs.Book.{BookTerms}
 use Rattle.at_board.proofs.PlaceLaws.{place_at-below}
-use Rattle.at_board.proofs.RequestStoreStep.{HasCounts-request_stored, IsSeat-request_stored, MayAsk-slot, SeesPlaces-request_stored, StoresRequestWord-played, next_number, place-MayAsk, stores_request_word_at}
+use Rattle.at_board.proofs.RequestStoreStep.{HasCounts-request_stored, IsSeat-request_stored, MayAsk-slot, SeesInRange-request_stored, StoresRequestWord-played, next_number, place-MayAsk, stores_request_word_at}
 use Rattle.at_board.proofs.StepLaws.{IsSeatOf-IsSeat}
 use Rattle.at_board.specs.declared.view.View.{View}
 use Rattle.at_board.specs.Conditions.{MayAsk}
@@ -54,7 +54,7 @@ invariant_of-seat g c =
       c.store.ensures.2.0 ∙ c.seat.invariant.0,
       IsSeat-request_stored v w c.seat.inside.process c.seat.inside.published a c.args.j c.args.w c.seat.invariant.1 told,
       HasCounts-request_stored v w a c.args.j c.args.w c.seat.inside.announced.items (omega (arith, c.seat.invariant.1.one_part)) told c.seat.invariant.2,
-      SeesPlaces-request_stored v w a c.args.j c.args.w told c.seat.invariant.3,
+      SeesInRange-request_stored v w a c.args.j c.args.w told c.seat.invariant.3,
     )
 
 pub returns-clause-stored : goal.returns-clause-stored
@@ -77,3 +77,6 @@ returns-clause-stored g c =
     StoresRequestWord-played b c.self.inside.table.shared.table_id.slots c.seat.inside.seat.me c.store.new.seat.me a slot c.args.j c.args.w
     c.request_place-place.result book at may c.requires.word c.store.ensures.2 in
     subst (λ (t : View). StoresRequestWord t w a c.args.j c.args.w) mine told
+
+pub returns-clause-agrees : goal.returns-clause-agrees
+returns-clause-agrees g c = c.store.ensures.2.1

@@ -1,0 +1,55 @@
+-- What holds of all the requests, decisions and records that a view has seen.
+use Rattle.std.specs.Prelude.{◌≡◌, ℕ, ◌≤◌, List, length, All, Contains}
+use Rattle.at_base.specs.Decision.{InRange}
+use Rattle.at_base.specs.declared.decision.Decision.{Decision}
+use Rattle.at_ledger.specs.Book.{BookTerms}
+use Rattle.at_board.specs.declared.publication.Entry.{Entry}
+use Rattle.at_board.specs.declared.publication.Entry.TheVariants.{Own, Round}
+use Rattle.at_board.specs.declared.publication.Publication.{Publication}
+use Rattle.at_board.specs.declared.request.Request.{Request}
+use Rattle.at_board.specs.declared.view.SeenDecision.{SeenDecision}
+use Rattle.at_board.specs.declared.view.SeenRequest.{SeenRequest}
+use Rattle.at_board.specs.declared.view.View.{View}
+use Rattle.at_board.specs.Fronts.{places_max}
+use Rattle.at_board.specs.Places.{IsPlace, request_word}
+use Rattle.at_board.specs.Publications.{IsPrefix}
+use Rattle.at_board.specs.RecordWords.{lists_of}
+use Rattle.at_board.specs.Sound.{AreTargets}
+use Rattle.at_board.specs.Views.{SeesDecision, SeesRequest}
+
+-- the board has words for a request, which pays accounts and was asked at a place
+pub record RequestInRange (b : BookTerms) (x : SeenRequest) : Type 0 where
+  pub words : IsPlace b (request_word x.account x.slot x.number 0)
+  pub targets : AreTargets b x.request.targets
+  pub since : x.request.since ≤ places_max
+
+-- the numbers of a decision fit its word, and the board has words for the request that it names
+pub record DecisionInRange (b : BookTerms) (x : SeenDecision) : Type 0 where
+  pub words : IsPlace b (request_word x.account x.decision.slot x.decision.number 0)
+  pub range : InRange x.decision
+
+-- so are each request and each decision that the view has seen
+pub record SeesInRange (view : View) : Type 0 where
+  pub requests : All (RequestInRange view.book) view.requests
+  pub decisions : All (DecisionInRange view.book) view.decisions
+
+-- the view has seen no other decision of the round, no other round that decides the request, and no later `since` of the request
+pub record AgreesOnDecision (view : View) (account round : ℕ) (d : Decision) : Type 0 where
+  pub same : (e : Decision) → SeesDecision view account round e → e ≡ d
+  pub once : (other : ℕ) (e : Decision) → SeesDecision view account other e → e.slot ≡ d.slot → e.number ≡ d.number → other ≡ round
+  pub since : (r : Request) → SeesRequest view account d.slot d.number r → r.since ≤ d.place
+
+-- a round's record says what the view has seen of the round: its decision, and the targets of the request that this names
+abbrev pub AgreesOnEntry : View → Entry → Type 0
+AgreesOnEntry view (Own from targets) = Unit {0}
+AgreesOnEntry view (Round account round decision targets) =
+    AgreesOnDecision view account round decision
+    × ((r : Request) → SeesRequest view account decision.slot decision.number r → r.targets ≡ targets)
+
+-- what the view has seen agrees: its lists, its requests, its decisions, and the records in each list
+pub record AgreesWithSeen (view : View) : Type 0 where
+  pub lists : (xs ys : List Publication) → Contains (lists_of view) xs → Contains (lists_of view) ys → length xs ≤ length ys → IsPrefix xs ys
+  pub requests : (account slot number : ℕ) (r q : Request) → SeesRequest view account slot number r →
+      SeesRequest view account slot number q → r ≡ q
+  pub decisions : (account round : ℕ) (d : Decision) → SeesDecision view account round d → AgreesOnDecision view account round d
+  pub records : All (λ list. All (λ x. AgreesOnEntry view x.entry) list) (lists_of view)
