@@ -9,3 +9,4 @@ pub mod StepLaws
 pub mod StartLaws
 pub mod FrontLaws
 pub mod CatchLaws
+pub mod FirstRecord
