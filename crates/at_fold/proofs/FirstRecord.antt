@@ -1,15 +1,14 @@
 -- The first record of a process on a new board, and what totals count where it is the only one.
-use Rattle.std.proofs.Common.{◌≡◌, ℕ, ◌+◌, ◌<◌, ◌≤◌, ◌==◌, ◌&&◌, zero, Bool, cond, true, List, [], ◌∷◌, ◌++◌, length, get_or, replicate, set, refl, sym, ap, subst, ◌∙◌, arith, inl, inr, get_or-set_other, get_or-set_same, length-append, length-set}
+use Rattle.std.proofs.Common.{◌≡◌, ℕ, ◌+◌, ◌<◌, ◌==◌, ◌&&◌, zero, Bool, cond, true, List, [], ◌∷◌, ◌++◌, length, get_or, replicate, set, refl, sym, ap, subst, ◌∙◌, arith, inl, inr, get_or-set_other, get_or-set_same, length-append, length-set}
 use Rattle.std.specs.List.{sum}
 use Rattle.std.proofs.Math.Seq.{take-nil}
 use Rattle.std.proofs.lemmas.Bool.{cases_eq, eq-eqb}
 use Rattle.std.proofs.lemmas.Grind.{same_number_lists}
 use Rattle.std.proofs.lemmas.List.{length-replicate, nil_from_length}
-use Rattle.std.proofs.lemmas.List.Folds.{sum_by-replicate}
 use Rattle.at_base.specs.Counts.{Covers}
 use Rattle.at_ledger.specs.Book.{BookTerms, IsBook}
 use Rattle.at_ledger.specs.Call.{TargetPair}
-use Rattle.at_board.proofs.CountLaws.{count_of-append, get_or-counts, length-counts, publications_of-append, publications_of-nil, publications_of-own}
+use Rattle.at_board.proofs.CountLaws.{get_or-counts, length-counts, publications_of-append, publications_of-nil, publications_of-own}
 use Rattle.at_board.proofs.FrontLaws.{IsFront-counts}
 use Rattle.at_board.proofs.OpeningLaws.{get_or-zeros}
 use Rattle.at_board.proofs.SameLaws.{begins_with-IsPrefix}
@@ -23,9 +22,8 @@ use Rattle.at_board.specs.Cuts.{starting_seat}
 use Rattle.at_board.specs.Fronts.{IsFront, place, prefix_of}
 use Rattle.at_board.specs.LearnSteps.{longer}
 use Rattle.at_board.specs.Publications.{count_of, counts, publications_of}
-use Rattle.at_board.specs.Rounds.{owns_of}
 use Rattle.at_board.specs.Same.{begins_with}
-use Rattle.at_board.specs.Sound.{HasView, IsSoundOwn}
+use Rattle.at_board.specs.Sound.{IsSoundOwn}
 use Rattle.at_board.specs.Steps.{IsHistory, Publishes, with_record}
 use Rattle.at_board.specs.Views.{own_part}
 use Rattle.at_log.specs.declared.record.Record.{Record}
@@ -33,7 +31,7 @@ use Rattle.at_log.specs.Appending.{MayAppend}
 use Rattle.at_log.specs.ClosingTerms.{published_by}
 use Rattle.at_fold.proofs.CatchLaws.{sum-caught}
 use Rattle.at_fold.proofs.FrontLaws.{ArePublishedBy-IsHistory}
-use Rattle.at_fold.specs.HasCounted.{CountsFront, HasCounted, HasRecords}
+use Rattle.at_fold.specs.HasCounted.{HasCounted, HasRecords}
 use Rattle.at_fold.specs.SmallFold.{CountsAll, HasOnlyFirst, HasPaid}
 use Rattle.at_fold.specs.Sums.{TotalSums}
 

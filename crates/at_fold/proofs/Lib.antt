@@ -2,6 +2,7 @@ pub mod Shuffles
 pub mod RoundSums
 pub mod AmountLaws
 pub mod CountedLaws
+pub mod GrowLaws
 pub mod SumsLaws
 pub mod PushLaws
 pub mod NewRoundLaws
