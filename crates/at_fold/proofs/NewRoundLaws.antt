@@ -1,10 +1,9 @@
 -- Sums of a list with the first record of one more round.
 use Rattle.std.proofs.Common.{◌≡◌, ℕ, ◌^◌, ◌<◌, ◌≤◌, ◌&&◌, ◌||◌, eqb, Bool, true, false, cond, List, [], ◌∷◌, ◌++◌, length, refl, sym, ap, subst, ◌∙◌, arith, inl, inr, get_or-set_other, get_or-set_same, length-set, length-append}
 use Rattle.std.specs.Prelude.{Some, None}
-use Rattle.std.specs.Option.{unwrap_or}
 use Rattle.std.specs.List.{list_any}
-use Rattle.std.proofs.Math.Bool.{beq}
 use Rattle.std.proofs.lemmas.Bool.{cases_eq, eq-eqb, ne_eqb}
+use Rattle.std.proofs.lemmas.List.Elements.{Contains-push}
 use Rattle.at_base.specs.declared.decision.Decision.{Decision}
 use Rattle.at_ledger.specs.Book.{BookTerms}
 use Rattle.at_ledger.specs.Call.{TargetPair}
@@ -14,10 +13,9 @@ use Rattle.at_board.specs.declared.publication.Publication.{Publication}
 use Rattle.at_board.specs.Balances.{credit_of, debit_of}
 use Rattle.at_board.specs.Entries.{is_round, is_round_on, names, settles}
 use Rattle.at_board.specs.Rounds.{firsts, repeats}
-use Rattle.at_board.specs.Same.{same_decision}
 use Rattle.at_board.proofs.RoundLaws.{one_if, published, sum_by-firsts_new}
 use Rattle.at_fold.proofs.PushLaws.{IsAccountOf-other, IsAnswer-push, IsSlotOf-other, list_any_fails, list_any_push, or_true}
-use Rattle.at_fold.specs.Counted.{IsAnswer, IsDecidedIn, decides}
+use Rattle.at_fold.specs.Counted.{IsAnswer, IsDecidedIn}
 use Rattle.at_fold.specs.HasCounted.{AreSumsOf, IsAccountOf, IsSlotOf}
 use Rattle.at_fold.specs.Sums.{AccountSums, HasPlace, SlotSums, after_entry, answer_at, is_counted, no_slot, row_at, slot_at, with_amounts, with_answer, with_round}
 
@@ -25,23 +23,10 @@ use Rattle.at_fold.specs.Sums.{AccountSums, HasPlace, SlotSums, after_entry, ans
 both_same : (a : ℕ) (t : Bool) → (eqb a a && t) ≡ t
 both_same a t = ap (λ u. u && t) (eq-eqb a a refl)
 
-same_decision-refl : (d : Decision) → same_decision d d ≡ true
-same_decision-refl d =
-    beq_same d.ok (eqb d.slot d.slot && (eqb d.number d.number && eqb d.place d.place))
-    ∙ (both_same d.slot (eqb d.number d.number && eqb d.place d.place)
-    ∙ (both_same d.number (eqb d.place d.place) ∙ eq-eqb d.place d.place refl))
-  where
-    beq_same : (s t : Bool) → (beq s s && t) ≡ t
-    beq_same true t = refl
-    beq_same false t = refl
-
 module _ (b : BookTerms) (xs : List Publication) (p : ℕ) (v : List ℕ) (a r : ℕ) (d : Decision) (targets : List TargetPair)
     (new : repeats (published p v (Round a r d targets)) (firsts xs) ≡ false) where
   abbrev x : Publication
   x = published p v (Round a r d targets)
-
-  decided_so : decides a r d x.entry ≡ true
-  decided_so = both_same a (eqb r r && same_decision d d) ∙ (both_same r (same_decision d d) ∙ same_decision-refl d)
 
   -- the request that the decision names is answered by it
   named_answer : (number : ℕ) (sums : SlotSums) → number ≡ d.number → d.number < length sums.settled
@@ -49,19 +34,15 @@ module _ (b : BookTerms) (xs : List Publication) (p : ℕ) (v : List ℕ) (a r :
   named_answer number sums same within =
       let here : answer_at (with_answer sums r d) number ≡ Some (r, d) =
       ap (answer_at (with_answer sums r d)) same ∙ get_or-set_same sums.settled d.number (Some (r, d)) None within in
-      let decided : IsDecidedIn (xs ++ x ∷ []) a d.slot number r d = record {
-        decided =
-            list_any_push (λ z. decides a r d z.entry) xs x
-            ∙ (ap (λ t. list_any (λ z. decides a r d z.entry) xs || t) decided_so ∙ or_true (list_any (λ z. decides a r d z.entry) xs));
+      let answer : IsDecidedIn (xs ++ x ∷ []) a d.slot number r d = record {
+        publication = x;
+        targets = targets;
+        listed = Contains-push xs x;
+        entry = refl;
         slot = refl;
         number = sym same;
       } in
-      subst (IsAnswer (xs ++ x ∷ []) a d.slot number) (sym here) (record {
-        none = λ e. absurd (cc e);
-        some = λ k f e.
-            let is : (r, d) ≡ (k, f) = ap (λ o. unwrap_or o (r, d)) e in
-            subst (λ (p : ℕ × Decision). IsDecidedIn (xs ++ x ∷ []) a d.slot number p.0 p.1) is decided;
-      })
+      subst (IsAnswer (xs ++ x ∷ []) a d.slot number) (sym here) answer
 
   IsSlotOf-named : (sums : SlotSums) → d.number < length sums.settled → IsSlotOf b xs a d.slot sums
       → IsSlotOf b (xs ++ x ∷ []) a d.slot (with_answer sums r d)

@@ -1,9 +1,9 @@
 -- Sums of a list with one more record.
 use Rattle.std.proofs.Common.{◌≡◌, ℕ, ◌^◌, ◌≤◌, ◌||◌, zero, suc, Bool, true, false, List, [], ◌∷◌, ◌++◌, refl, sym, ap, ◌∙◌, arith, inl, inr, length-append}
-use Rattle.std.specs.Prelude.{Option}
+use Rattle.std.specs.Prelude.{Option, Some, None}
 use Rattle.std.specs.List.{All, Contains, list_any}
 use Rattle.std.proofs.lemmas.Bool.{cases_Bool}
-use Rattle.std.proofs.lemmas.List.Elements.{All-contains}
+use Rattle.std.proofs.lemmas.List.Elements.{All-contains, Contains-append_left}
 use Rattle.std.proofs.lemmas.List.Folds.{list_any-append}
 use Rattle.at_base.specs.declared.decision.Decision.{Decision}
 use Rattle.at_ledger.specs.Book.{BookTerms}
@@ -16,7 +16,7 @@ use Rattle.at_board.specs.Steps.{IsHistory}
 use Rattle.at_board.proofs.RoundLaws.{one_if, sum_by-firsts_new, sum_by-firsts_repeat}
 use Rattle.at_fold.proofs.RoundSums.{repeats-firsts}
 use Rattle.at_fold.proofs.SumsLaws.{same_entry-IsHistory}
-use Rattle.at_fold.specs.Counted.{IsAnswer, decides}
+use Rattle.at_fold.specs.Counted.{IsAnswer}
 use Rattle.at_fold.specs.HasCounted.{AreSumsOf, IsAccountOf, IsSlotOf}
 use Rattle.at_fold.specs.Sums.{AccountSums, SlotSums, answer_at, row_at, slot_at, with_amounts}
 
@@ -67,15 +67,14 @@ list_any_again g xs x y listed same =
 pub IsAnswer-push : (xs : List Publication) (x : Publication) (a slot number : ℕ) (answer : Option (ℕ × Decision))
     → list_any (λ z. settles a slot number z.entry) (xs ++ x ∷ []) ≡ list_any (λ z. settles a slot number z.entry) xs
     → IsAnswer xs a slot number answer → IsAnswer (xs ++ x ∷ []) a slot number answer
-IsAnswer-push xs x a slot number answer same so = record {
-  none = λ e. same ∙ so.none e;
-  some = λ r d e.
-      let found = so.some r d e in
-      record {
-        decided = list_any_push (λ z. decides a r d z.entry) xs x ∙ ap (λ t. t || decides a r d x.entry) found.decided;
-        slot = found.slot;
-        number = found.number;
-      };
+IsAnswer-push xs x a slot number None same none = same ∙ none
+IsAnswer-push xs x a slot number (Some (round, d)) same so = record {
+  publication = so.publication;
+  targets = so.targets;
+  listed = Contains-append_left xs (x ∷ []) so.publication so.listed;
+  entry = so.entry;
+  slot = so.slot;
+  number = so.number;
 }
 
 module _ (b : BookTerms) where

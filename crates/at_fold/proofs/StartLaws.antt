@@ -32,9 +32,7 @@ IsSlotOf-starting : (b : BookTerms) (a slot : ℕ) → IsSlotOf b [] a slot (sta
 IsSlotOf-starting b a slot = record {
   done = ap (sum_by (λ x. one_if (names a slot x.entry))) (sym firsts-nil);
   room = length-replicate b.request_room None;
-  settled = λ number within.
-      subst (IsAnswer [] a slot number) (sym (get_or-replicate b.request_room number None None within))
-      (record { none = λ e. refl; some = λ r d e. absurd (cc e) });
+  settled = λ number within. subst (IsAnswer [] a slot number) (sym (get_or-replicate b.request_room number None None within)) refl;
 }
 
 IsAccountOf-starting : (b : BookTerms) (a : ℕ) → IsAccountOf b [] a (starting_row b a)

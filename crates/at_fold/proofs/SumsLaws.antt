@@ -1,9 +1,10 @@
 -- Sums of a list: they are those of each list with the same records, and one more record changes them so.
-use Rattle.std.proofs.Common.{◌≡◌, ℕ, ◌*◌, ◌^◌, ◌&&◌, eqb, Bool, true, false, List, refl, sym, ap, subst, ◌∙◌, arith}
-use Rattle.std.specs.Prelude.{Option}
+use Rattle.std.proofs.Common.{◌≡◌, ℕ, ◌*◌, ◌^◌, ◌<◌, ◌&&◌, zero, suc, eqb, Bool, true, false, List, [], ◌∷◌, ◌++◌, length, get_or, refl, sym, ap, subst, ◌∙◌, arith, inl, inr}
+use Rattle.std.specs.Prelude.{Option, Some, None}
 use Rattle.std.specs.List.{All, Contains, sum_by}
 use Rattle.std.proofs.lemmas.Bool.{eqb-true}
 use Rattle.std.proofs.lemmas.List.{get_or_default}
+use Rattle.std.proofs.lemmas.List.Elements.{All-append, All-contains, All-weaker, Contains-append_cases, Contains-append_left, Contains-append_right}
 use Rattle.at_base.specs.declared.decision.Decision.{Decision}
 use Rattle.at_ledger.specs.Book.{BookTerms}
 use Rattle.at_board.specs.declared.publication.Entry.{Entry}
@@ -18,8 +19,8 @@ use Rattle.at_board.specs.ShownRounds.{AgreeOnRound}
 use Rattle.at_board.specs.Steps.{IsHistory}
 use Rattle.at_board.proofs.RoundLaws.{one_if}
 use Rattle.at_fold.proofs.RoundSums.{sum_by-firsts-same}
-use Rattle.at_fold.proofs.Shuffles.{HasSameRecords, IsShuffle-HasSameRecords, length-IsShuffle, list_any-IsShuffle}
-use Rattle.at_fold.specs.Counted.{IsAnswer, decides}
+use Rattle.at_fold.proofs.Shuffles.{HasSameRecords, IsShuffle, IsShuffle-HasSameRecords, length-IsShuffle, list_any-IsShuffle}
+use Rattle.at_fold.specs.Counted.{IsAnswer}
 use Rattle.at_fold.specs.HasCounted.{AreSumsOf, IsAccountOf, IsSlotOf}
 use Rattle.at_fold.specs.Sums.{AccountSums, SlotSums, answer_at, row_at, slot_at}
 
@@ -50,21 +51,39 @@ same_entry-IsHistory b seen history x y (m, within, one) (k, inside, two) same =
     (subst (λ (t : Publication). AgreeOnRound t.entry (publication_at seen k).entry) first (history.agree m k within inside)) in
     same_entry x.entry y.entry agree same
 
+-- the same elements
+All-IsShuffle : (xs ys : List Publication) → IsShuffle xs ys → All (Contains ys) xs
+All-IsShuffle [] ys none = λ k d within. absurd (omega (arith, within))
+All-IsShuffle (x ∷ xs) ys (front, back, split, rest) =
+    subst (λ t. All (Contains t) (x ∷ xs)) (sym split)
+    (All-append (Contains (front ++ x ∷ back)) (x ∷ []) xs
+    (λ k d within. subst (λ (y : Publication). Contains (front ++ x ∷ back) y) (only k d within) (Contains-append_right front (x ∷ back) x (0, omega arith, refl)))
+    (All-weaker (Contains (front ++ back)) (Contains (front ++ x ∷ back)) more xs (All-IsShuffle xs (front ++ back) rest)))
+  where
+    only : (k : ℕ) (d : Publication) → k < length (x ∷ []) → x ≡ get_or (x ∷ []) k d
+    only zero d within = refl
+    only (suc k) d within = absurd (omega (arith, within))
+
+    more : (y : Publication) → Contains (front ++ back) y → Contains (front ++ x ∷ back) y
+    more y found =
+        elim (Contains-append_cases front back y found) [
+          | inl before ↦ Contains-append_left front (x ∷ back) y before
+          | inr (k, within, is) ↦ Contains-append_right front (x ∷ back) y (suc k, omega (arith, within), is)
+        ]
+
 -- an answer depends on the records alone
 IsAnswer-same : (xs ys : List Publication) (a slot number : ℕ) (answer : Option (ℕ × Decision)) → HasSameRecords xs ys
     → IsAnswer xs a slot number answer → IsAnswer ys a slot number answer
-IsAnswer-same xs ys a slot number answer same so =
-    let shuffle = IsShuffle-HasSameRecords xs ys same in
-    record {
-      none = λ e. sym (list_any-IsShuffle (λ x. settles a slot number x.entry) xs ys shuffle) ∙ so.none e;
-      some = λ r d e.
-          let found = so.some r d e in
-          record {
-            decided = sym (list_any-IsShuffle (λ x. decides a r d x.entry) xs ys shuffle) ∙ found.decided;
-            slot = found.slot;
-            number = found.number;
-          };
-    }
+IsAnswer-same xs ys a slot number None same none =
+    sym (list_any-IsShuffle (λ x. settles a slot number x.entry) xs ys (IsShuffle-HasSameRecords xs ys same)) ∙ none
+IsAnswer-same xs ys a slot number (Some (round, d)) same so = record {
+  publication = so.publication;
+  targets = so.targets;
+  listed = All-contains (Contains ys) xs so.publication (All-IsShuffle xs ys (IsShuffle-HasSameRecords xs ys same)) so.listed;
+  entry = so.entry;
+  slot = so.slot;
+  number = so.number;
+}
 
 module _ (b : BookTerms) (seen : List Publication) (history : IsHistory b seen) where
   -- a sum that counts each round once depends on the records alone

@@ -7,8 +7,10 @@ ghost use Rattle.at_board.specs.SeatView.{IsOf, SeatView};
 ghost use Rattle.at_board.specs.Sound.{IsSoundOwn};
 ghost use Rattle.at_fold.specs.HasCounted.{HasCounted};
 ghost use Rattle.at_fold.specs.SmallFold.{CountsAll, HasOnlyFirst, HasPaid};
+ghost use Rattle.at_fold.specs.Sums.{starting_row};
 
 use crate::Totals;
+use crate::account_totals::AccountTotals;
 use at_base::{Counts, Decision};
 use at_board::{Board, BoardSeat, Steps};
 use at_ledger::{Book, Draft, DraftAccount, Targets};
@@ -359,4 +361,41 @@ fn counts_own<L: Ledger, X: Ledger, R: Abort>(
 #[test]
 fn an_own_record_is_counted(rt: HostRuntime) -> Result<(), Fail> {
     counts_own::<Brand, Brand, _>(&rt, rt.alloc(), Blank::new(1), Blank::new(1))
+}
+
+/// What the sums of account 1 say once its first round is counted, which decides the first request of the second owner.
+fn first_round(
+    book: &Book,
+    account: &mut AccountTotals,
+    decision: &Decision,
+) -> Option<(u32, u32, Option<(u32, Decision)>)>
+    requires new { account.old ≡ starting_row book.now 1 }
+    requires decision { (decision.now.slot ≡ 1) × (decision.now.number ≡ 0) }
+{
+    if book.accounts() < 2 || book.owner_count(1) < 2 || book.request_room() == 0 {
+        return None;
+    }
+    account.settle(0, decision);
+    Some((account.rounds(), account.done(1), account.settled(1, 0)))
+}
+
+/// A round of a shared account is counted.
+fn counts_a_round<R: Abort>(rt: &R, alloc: Global) -> Result<(), Fail> {
+    let book = shared_book(alloc)?;
+    assert!(rt; book.accounts() == 2);
+    let mut account = AccountTotals::new(alloc, &book, 1)?;
+    let decision = Decision {
+        ok: true,
+        slot: 1,
+        number: 0,
+        place: 0,
+    };
+    let said = first_round(&book, &mut account, &decision);
+    assert_eq!(rt; said, Some((1, 1, Some((0, decision)))));
+    Ok(())
+}
+
+#[test]
+fn a_round_is_counted(rt: HostRuntime) -> Result<(), Fail> {
+    counts_a_round(&rt, rt.alloc())
 }
