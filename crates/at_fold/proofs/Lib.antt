@@ -2,6 +2,7 @@ pub mod Shuffles
 pub mod RoundSums
 pub mod AmountLaws
 pub mod CountedLaws
+pub mod GrowLaws
 pub mod SumsLaws
 pub mod PushLaws
 pub mod NewRoundLaws
@@ -9,3 +10,4 @@ pub mod StepLaws
 pub mod StartLaws
 pub mod FrontLaws
 pub mod CatchLaws
+pub mod FirstRecord

@@ -10,7 +10,7 @@ use Rattle.at_board.specs.BoardState.{publication_at}
 use Rattle.at_board.specs.Entries.{is_round}
 use Rattle.at_board.specs.Fronts.{IsFront}
 use Rattle.at_board.specs.Places.{slots_of}
-use Rattle.at_board.specs.Publications.{count_of, counts, publications_of}
+use Rattle.at_board.specs.Publications.{IsPrefix, count_of, counts, publications_of}
 use Rattle.at_board.specs.Rounds.{named, rounds}
 use Rattle.at_board.specs.Steps.{IsHistory}
 use Rattle.std.specs.List.{list_any}
@@ -48,6 +48,10 @@ pub record HasCounted (t : TotalSums) (b : BookTerms) (seen : List Publication) 
   pub processes : length t.upto ≡ b.processes
   pub within : Covers (counts b.processes seen) t.upto
   pub sums : AreSumsOf b (counted t.upto seen) t.accounts
+
+-- and so they have when more is published
+abbrev pub StaysCounted : TotalSums → BookTerms → List Publication → Type 0
+StaysCounted t b seen = (more : List Publication) → IsPrefix seen more → HasCounted t b more
 
 -- the list has so many records of each process
 pub record HasRecords (b : BookTerms) (seen : List Publication) (upto : List ℕ) : Type 0 where

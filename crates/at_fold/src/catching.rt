@@ -4,7 +4,7 @@ ghost use Rattle.std.specs.Prelude.{◌≡◌, ◌+◌, ◌-◌, ◌*◌, ◌<�
 ghost use Rattle.at_base.specs.Counts.{Covers};
 ghost use Rattle.at_board.specs.Publications.{count_of};
 ghost use Rattle.at_board.specs.SeatView.{IsOf};
-ghost use Rattle.at_fold.specs.HasCounted.{HasCounted, HasRecords};
+ghost use Rattle.at_fold.specs.HasCounted.{HasCounted, HasRecords, StaysCounted};
 
 use crate::totals::Totals;
 use at_base::Counts;
@@ -27,6 +27,7 @@ impl Totals {
         requires more { Covers counts.now self.old.upto }
         requires seen { HasRecords board.now.book seat.old.view.seen counts.now }
         ensures counted { HasCounted self.new board.now.book seat.new.view.seen }
+        ensures stays { StaysCounted self.new board.now.book seat.new.view.seen }
         ensures upto { self.new.upto ≡ counts.now }
         ensures same { seat.new ≡ seat.old }
         ensures steps { steps.new ≡ steps.old + 7 * (sum counts.now - sum self.old.upto) }

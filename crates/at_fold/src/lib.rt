@@ -4,6 +4,8 @@
 mod account_totals;
 mod catching;
 mod crossing;
+#[cfg(test)]
+mod fold_tests;
 mod slot_totals;
 mod totals;
 

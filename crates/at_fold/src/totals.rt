@@ -9,7 +9,7 @@ ghost use Rattle.at_board.specs.Fronts.{prefix_of};
 ghost use Rattle.at_board.specs.Rounds.{named, rounds};
 ghost use Rattle.at_board.specs.Views.{own_part};
 ghost use Rattle.at_fold.specs.Counted.{IsAnswer, counted};
-ghost use Rattle.at_fold.specs.HasCounted.{CountsAccount, CountsFront, CountsSlot, HasCounted, IsNext, MayCount};
+ghost use Rattle.at_fold.specs.HasCounted.{CountsAccount, CountsFront, CountsSlot, HasCounted, IsNext, MayCount, StaysCounted};
 ghost use Rattle.at_fold.specs.Sums.{FitsMore, FitsRound, HasPlace, after_entry, is_new_to, row_at, with_amounts, with_credit, with_debit, with_decision};
 
 use crate::NoMemory;
@@ -100,6 +100,7 @@ impl Totals {
         requires next { IsNext self.old seat.now.view.book seat.now.view.seen seat.now.view.first entry.now }
         requires last { slice_index self.old.upto seat.now.view.first + 1 ≡ (own_part seat.now.view).published }
         ensures counted { HasCounted self.new seat.now.view.book seat.now.view.seen }
+        ensures stays { StaysCounted self.new seat.now.view.book seat.now.view.seen }
         ensures upto { self.new.upto ≡ slice_set self.old.upto seat.now.view.first (own_part seat.now.view).published }
     {
         self.count(seat.process(), seat.published(), entry);

@@ -7,6 +7,7 @@ use Rattle.at_board.specs.SeatView.{SeatView}
 use Rattle.at_board.proofs.CountLaws.{get_or-counts, length-counts}
 use Rattle.at_fold.specs.Sums.{TotalSums}
 use Rattle.at_fold.proofs.CatchLaws.{sum-caught}
+use Rattle.at_fold.proofs.GrowLaws.{StaysCounted-HasCounted}
 use Rattle.at_fold.proofs.totals.Totals.catch_up.Goals as goal
 
 pub loop-p-preserved : goal.loop-p-preserved
@@ -55,6 +56,10 @@ catch_up_with-requires-clause-seen g c =
       get_or-counts b.processes old.view.seen c.loop-p.p 0 known,
       ap (λ (s : SeatView). count_of c.loop-p.p s.view.seen) c.loop-p.invariant.same,
     )
+
+pub returns-clause-stays : goal.returns-clause-stays
+returns-clause-stays g c =
+    StaysCounted-HasCounted c.loop-p.self c.args.board.now.book c.loop-p.seat.view.seen c.loop-p.invariant.counted
 
 pub returns-clause-upto : goal.returns-clause-upto
 returns-clause-upto g c =

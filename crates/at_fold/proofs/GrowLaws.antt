@@ -1,0 +1,25 @@
+-- Totals stay so when more is published.
+use Rattle.std.proofs.Common.{◌<◌, List, sym, subst, arith}
+use Rattle.at_ledger.specs.Book.{BookTerms}
+use Rattle.at_board.proofs.CountLaws.{get_or-counts, length-counts}
+use Rattle.at_board.proofs.FrontLaws.{IsPrefix-count_of}
+use Rattle.at_board.specs.declared.publication.Publication.{Publication}
+use Rattle.at_fold.proofs.CountedLaws.{counted-IsPrefix}
+use Rattle.at_fold.specs.HasCounted.{AreSumsOf, HasCounted, StaysCounted}
+use Rattle.at_fold.specs.Sums.{TotalSums}
+
+pub StaysCounted-HasCounted : (t : TotalSums) (b : BookTerms) (seen : List Publication) → HasCounted t b seen → StaysCounted t b seen
+StaysCounted-HasCounted t b seen counts more longer = record {
+  book = counts.book;
+  processes = counts.processes;
+  within = λ q below.
+      let known : q < b.processes = omega (arith, below, length-counts b.processes more) in
+      omega (
+        arith,
+        counts.within q (omega (arith, known, length-counts b.processes seen)),
+        get_or-counts b.processes seen q 0 known,
+        get_or-counts b.processes more q 0 known,
+        IsPrefix-count_of q seen more longer,
+      );
+  sums = subst (λ list. AreSumsOf b list t.accounts) (sym (counted-IsPrefix b.processes t.upto seen more counts.processes counts.within longer)) counts.sums;
+}

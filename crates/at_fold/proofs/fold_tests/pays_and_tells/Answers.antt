@@ -1,0 +1,27 @@
+use Rattle.std.proofs.Common.{◌≡◌, ◌+◌, [], sym, ap, subst, ◌∙◌, arith}
+use Rattle.std.proofs.lemmas.Bool.{eqb-true}
+use Rattle.at_ledger.specs.Book.{BookTerms}
+use Rattle.at_board.specs.declared.view.View.{View}
+use Rattle.at_board.specs.LearnSteps.{longer}
+use Rattle.at_board.specs.Publications.{count_of}
+use Rattle.at_fold.proofs.FirstRecord.{HasOnlyFirst-both, longer-nil}
+use Rattle.at_fold.specs.SmallFold.{HasOnlyFirst}
+use Rattle.at_fold.proofs.fold_tests.pays_and_tells.Goals as goal
+
+pub returns-clause-told : goal.returns-clause-told
+returns-clause-told g c = λ zero_found.
+    let b : BookTerms = c.args.board.now.book in
+    let paid : View = c.pay-entry.new.seat.view in
+    let looked : View = c.load_length-found.new.seat.view in
+    let note : View = c.note-note.result.view in
+    let after : View = c.learn.new.seat.view in
+    let told = c.load_length-found.ensures.told in
+    let first : count_of 0 looked.seen ≡ 1 =
+    ap (λ k. count_of k looked.seen) (sym c.pay-entry.ensures.process) ∙ (told.own ∙ c.pay-entry.ensures.paid.published) in
+    let second : count_of 1 looked.seen ≡ 0 = told.counted ∙ eqb-true c.load_length-found.result 0 zero_found in
+    let noted : note.seen ≡ looked.seen = ap (λ (t : View). t.seen) c.note-note.ensures.noted in
+    let taken : after.seen ≡ note.seen =
+    ap (λ (t : View). t.seen) c.learn.ensures.learned.same
+    ∙ (ap (λ (t : View). longer t.first t.seen note.seen) c.requires.other
+    ∙ longer-nil 1 note.seen (ap (count_of 1) noted ∙ second)) in
+    subst (HasOnlyFirst b) (sym (taken ∙ noted)) (HasOnlyFirst-both b looked.seen c.requires.two first second)
