@@ -23,3 +23,6 @@ pub mod NamedLaws
 pub mod OwnPlaces
 pub mod LinePlaces
 pub mod LineOrder
+pub mod Decided
+pub mod DecidedLaws
+pub mod SmallClosingsLaws

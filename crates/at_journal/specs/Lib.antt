@@ -3,3 +3,4 @@ pub mod Calls
 pub mod Keys
 pub mod Ordered
 pub mod Places
+pub mod SmallClosings

@@ -5,10 +5,14 @@
 #![tactic(auto)]
 
 mod fronts;
+#[cfg(test)]
+mod journal_tests;
 mod keyed;
 mod keys;
 mod lines;
 mod places;
+#[cfg(test)]
+mod slow_order;
 #[cfg(test)]
 mod tests;
 
