@@ -29,6 +29,8 @@ mod rule;
 mod seat;
 mod slots_before;
 mod steps;
+#[cfg(test)]
+mod stress_tests;
 mod targets_word;
 #[cfg(test)]
 mod tests;

@@ -1,0 +1,369 @@
+//! Four threads publish, load and decide at once on one board, and the closed board has what they were told.
+
+ghost use Rattle.std.specs.Prelude.{◌≡◌, ℕ, ◌<◌, [], ◌∷◌, length, slice_index_or, IfOk, IfSome, IsTrue};
+ghost use Rattle.at_board.specs.Cuts.{starting_seat};
+ghost use Rattle.at_board.specs.Places.{length_of, word_at};
+ghost use Rattle.at_board.specs.SeatView.{SeatView};
+ghost use Rattle.at_board.specs.SmallBoard.{HasOwnAccount, IsIdle, IsOwnFront};
+ghost use Rattle.at_board.specs.Steps.{LoadsLength};
+ghost use Rattle.at_board.specs.Views.{own_part};
+
+use crate::request_tests::last_seat;
+use crate::{Board, BoardEnd, BoardSeat, RECORD_WORDS, Steps};
+use at_base::Counts;
+use at_ledger::{Book, Draft, DraftAccount};
+use std::alloc::{AllocError, Global};
+use std::marker::Brand;
+use std::process::Abort;
+use std::sync::ledger::{Blank, Ledger};
+use std::test::Fail;
+use std::thread::{Threads, join_mut};
+
+/// How many records each thread publishes.
+const RECORDS: u32 = 64;
+
+/// How often a thread looks for a front at most. A look fails only where another thread has published meanwhile.
+const LOOKS: u32 = 4 * RECORDS + 8;
+
+/// A book of four processes that share account 0 and have another account each.
+fn four_book(alloc: Global) -> Result<Book, Fail> {
+    let owners = vec![in alloc; 0u64, 1, 2, 3]?;
+    let mut accounts = vec![in alloc;
+        DraftAccount {
+            opening: 100,
+            owners
+        },
+    ]?;
+    for owner in 0u64..4 {
+        let owners = vec![in alloc; owner]?;
+        accounts.push(DraftAccount {
+            opening: 100,
+            owners,
+        })?;
+    }
+    let draft = Draft {
+        processes: 4,
+        own_room: u64::from(RECORDS) + 1,
+        request_room: 2,
+        accounts,
+    };
+    Ok(Book::new(alloc, &draft)?)
+}
+
+/// Whether a process owns the account after that of its number alone.
+fn has_own_account(book: &Book, process: u32) -> bool
+    requires { process < 4 }
+    ensures { IsTrue result → HasOwnAccount book.now process }
+{
+    let account = process + 1;
+    if book.accounts() <= account {
+        return false;
+    }
+    if book.owner_count(account) != 1 {
+        return false;
+    }
+    book.slot_of(account, process).is_some()
+}
+
+/// The counts of four processes.
+fn counts_of(a: u32, b: u32, c: u32, d: u32) -> Counts
+    ensures { result ≡ a ∷ b ∷ c ∷ d ∷ [] }
+{
+    let mut counts = Counts::zeros(4);
+    counts.set(0, a);
+    counts.set(1, b);
+    counts.set(2, c);
+    counts.set(3, d);
+    counts
+}
+
+/// Loads a length between two records.
+fn look<L: Ledger, X: Ledger>(
+    board: &Board,
+    seat: &mut BoardSeat,
+    p: u32,
+    steps: &mut Steps<L>,
+    exchanges: &mut Steps<X>,
+) -> u32
+    requires idle { IsIdle board.now seat.old }
+    requires process { p < board.now.book.processes }
+    ensures idle { IsIdle board.now seat.new }
+    ensures told { LoadsLength board.now.book seat.old.view seat.new.view p result }
+{
+    board.load_length(seat, p, steps, exchanges)
+}
+
+/// The counts of four processes at one prefix, where no other process published between two loads of its length.
+fn front<L: Ledger, X: Ledger>(
+    board: &Board,
+    seat: &mut BoardSeat,
+    steps: &mut Steps<L>,
+    exchanges: &mut Steps<X>,
+) -> Option<Counts>
+    requires idle { IsIdle board.now seat.old }
+    requires four { board.now.book.processes ≡ 4 }
+    ensures idle { IsIdle board.now seat.new }
+    ensures process { seat.new.view.first ≡ seat.old.view.first }
+    ensures front { IfSome result (λ view. IsOwnFront board.now.book seat.new.view view) }
+{
+    let _process = seat.process();
+    let a = look(board, seat, 0, steps, exchanges);
+    let b = look(board, seat, 1, steps, exchanges);
+    let c = look(board, seat, 2, steps, exchanges);
+    let d = look(board, seat, 3, steps, exchanges);
+    let a_again = look(board, seat, 0, steps, exchanges);
+    let b_again = look(board, seat, 1, steps, exchanges);
+    let c_again = look(board, seat, 2, steps, exchanges);
+    if a != a_again || b != b_again || c != c_again {
+        return None;
+    }
+    Some(counts_of(a, b, c, d))
+}
+
+/// Moves 0 from the process's own account to account 0, by a record with this view.
+fn move_nothing<L: Ledger, X: Ledger>(
+    board: &Board,
+    seat: &mut BoardSeat,
+    view: &Counts,
+    steps: &mut Steps<L>,
+    exchanges: &mut Steps<X>,
+)
+    requires idle { IsIdle board.now seat.old }
+    requires four { board.now.book.processes ≡ 4 }
+    requires owner { HasOwnAccount board.now.book seat.old.view.first }
+    requires room { (own_part seat.old.view).published < board.now.book.own_room }
+    requires view { IsOwnFront board.now.book seat.old.view view.now }
+    ensures idle { IsIdle board.now seat.new }
+    ensures process { seat.new.view.first ≡ seat.old.view.first }
+{
+    let _accounts = board.book().accounts();
+    let head = 2 * (u64::from(seat.process()) + 1);
+    board.store_record_word(seat, 0, head, steps, exchanges);
+    board.store_record_word(seat, 1, 1 << 40, steps, exchanges);
+    board.store_record_word(seat, 7, u64::from(view.get(0)), steps, exchanges);
+    board.store_record_word(seat, 8, u64::from(view.get(1)), steps, exchanges);
+    board.store_record_word(seat, 9, u64::from(view.get(2)), steps, exchanges);
+    board.store_record_word(seat, 10, u64::from(view.get(3)), steps, exchanges);
+    board.publish(seat, steps, exchanges);
+}
+
+/// Publishes records beside the other threads, and answers their views.
+fn play<L: Ledger, X: Ledger>(
+    board: &Board,
+    alloc: Global,
+    seat: &mut BoardSeat,
+    steps: Blank,
+    exchanges: Blank,
+) -> Result<Vec<Counts>, AllocError>
+    requires names { (steps.name ≡ L.name) × (exchanges.name ≡ X.name) }
+    requires parts { (steps.parts ≡ L.parts) × (exchanges.parts ≡ X.parts) }
+    requires some { (0 < steps.parts) × (0 < exchanges.parts) }
+    requires idle { IsIdle board.now seat.old }
+    requires four { board.now.book.processes ≡ 4 }
+    requires owner { HasOwnAccount board.now.book seat.old.view.first }
+    ensures idle { IsIdle board.now seat.new }
+    ensures process { seat.new.view.first ≡ seat.old.view.first }
+{
+    let (steps, exchanges) = (&mut Steps::<L>::new(steps), &mut Steps::<X>::new(exchanges));
+    let mut views = Vec::new(alloc);
+    for _look in 0..LOOKS {
+        let Some(view) = front(board, seat, steps, exchanges) else {
+            continue;
+        };
+        if RECORDS <= seat.published() || board.book().own_room() <= seat.published() {
+            break;
+        }
+        move_nothing(board, seat, &view, steps, exchanges);
+        views.push(view)?;
+    }
+    Ok(views)
+}
+
+/// Plays with counters of its own.
+fn play_alone(board: &Board, alloc: Global, seat: &mut BoardSeat) -> Result<Vec<Counts>, AllocError>
+    requires idle { IsIdle board.now seat.old }
+    requires four { board.now.book.processes ≡ 4 }
+    requires owner { HasOwnAccount board.now.book seat.old.view.first }
+    ensures idle { IsIdle board.now seat.new }
+    ensures process { seat.new.view.first ≡ seat.old.view.first }
+{
+    play::<Brand, Brand>(board, alloc, seat, Blank::new(1), Blank::new(1))
+}
+
+/// Two threads play.
+fn play_two<R: Threads>(
+    rt: &R,
+    board: &Board,
+    alloc: Global,
+    one: &mut BoardSeat,
+    other: &mut BoardSeat,
+) -> (
+    Result<Vec<Counts>, AllocError>,
+    Result<Vec<Counts>, AllocError>,
+)
+    requires four { board.now.book.processes ≡ 4 }
+    requires one { IsIdle board.now one.old × HasOwnAccount board.now.book one.old.view.first }
+    requires other { IsIdle board.now other.old × HasOwnAccount board.now.book other.old.view.first }
+    ensures one { IsIdle board.now one.new × (one.new.view.first ≡ one.old.view.first) }
+    ensures other { IsIdle board.now other.new × (other.new.view.first ≡ other.old.view.first) }
+{
+    join_mut(
+        rt,
+        &mut || play_alone(board, alloc, one),
+        &mut || play_alone(board, alloc, other),
+    )
+}
+
+/// Four threads play, of which each has the seat of a process.
+fn play_four<R: Threads + Sync>(
+    rt: &R,
+    board: &Board,
+    alloc: Global,
+    zero: &mut BoardSeat,
+    one: &mut BoardSeat,
+    two: &mut BoardSeat,
+    three: &mut BoardSeat,
+) -> Result<[Vec<Counts>; 4], AllocError>
+    requires four { board.now.book.processes ≡ 4 }
+    requires zero { IsIdle board.now zero.old × HasOwnAccount board.now.book zero.old.view.first }
+    requires one { IsIdle board.now one.old × HasOwnAccount board.now.book one.old.view.first }
+    requires two { IsIdle board.now two.old × HasOwnAccount board.now.book two.old.view.first }
+    requires three { IsIdle board.now three.old × HasOwnAccount board.now.book three.old.view.first }
+    ensures zero { IsIdle board.now zero.new × (zero.new.view.first ≡ zero.old.view.first) }
+    ensures one { IsIdle board.now one.new × (one.new.view.first ≡ one.old.view.first) }
+    ensures two { IsIdle board.now two.new × (two.new.view.first ≡ two.old.view.first) }
+    ensures three { IsIdle board.now three.new × (three.new.view.first ≡ three.old.view.first) }
+{
+    let ((a, b), (c, d)) = join_mut(
+        rt,
+        &mut || play_two(rt, board, alloc, zero, one),
+        &mut || play_two(rt, board, alloc, two, three),
+    );
+    Ok([a?, b?, c?, d?])
+}
+
+/// The last of the seats that are left, if it is that of this process, which has an account of its own.
+fn last_player(board: &Board, seats: &mut Vec<BoardSeat>, process: u32) -> Option<BoardSeat>
+    requires process { process < 4 }
+    requires new { (p : ℕ) (d : SeatView) → p < length seats.old.items → slice_index_or seats.old.items p d ≡ record { board = board.now.id; view = starting_seat board.now.book p } }
+    ensures idle { IfSome result (λ seat. IsIdle board.now seat) }
+    ensures process { IfSome result (λ seat. seat.view.first ≡ process) }
+    ensures owner { IfSome result (λ seat. HasOwnAccount board.now.book seat.view.first) }
+    ensures rest { (p : ℕ) (d : SeatView) → p < length seats.new.items → slice_index_or seats.new.items p d ≡ record { board = board.now.id; view = starting_seat board.now.book p } }
+{
+    let seat = last_seat(board, seats)?;
+    if seat.process() != process || !has_own_account(board.book(), process) {
+        return None;
+    }
+    Some(seat)
+}
+
+/// Closes a board with its four seats.
+fn close_four(
+    board: Board,
+    alloc: Global,
+    zero: BoardSeat,
+    one: BoardSeat,
+    two: BoardSeat,
+    three: BoardSeat,
+) -> Result<BoardEnd, AllocError>
+    requires four { board.book.processes ≡ 4 }
+    requires zero { IsIdle board zero × (zero.view.first ≡ 0) }
+    requires one { IsIdle board one × (one.view.first ≡ 1) }
+    requires two { IsIdle board two × (two.view.first ≡ 2) }
+    requires three { IsIdle board three × (three.view.first ≡ 3) }
+    ensures { IfOk result (λ e. e.book ≡ board.book) }
+{
+    let seats = vec![in alloc; zero, one, two, three]?;
+    match board.close(alloc, seats) {
+        Ok(end) => Ok(end),
+        Err(_) => Err(AllocError),
+    }
+}
+
+/// A word of a record by which a process has moved 0 with this view.
+fn moving_word(p: u32, view: &Counts, j: u32) -> u64
+    requires process { p < 4 }
+    requires view { length view.now ≡ 4 }
+    requires word { j < 11 }
+{
+    match j {
+        0 => 2 * (u64::from(p) + 1),
+        1 => 1 << 40,
+        2..=6 => 0,
+        _ => u64::from(view.get(j - RECORD_WORDS)),
+    }
+}
+
+/// Whether a record of a closed board has these words.
+fn has_words(end: &BoardEnd, p: u32, i: u32, view: &Counts) -> bool
+    requires four { end.now.book.processes ≡ 4 }
+    requires process { p < 4 }
+    requires record { i < word_at end.now.book end.now.words (length_of p) }
+    requires view { length view.now ≡ 4 }
+{
+    for j in 0..11 {
+        if end.record_word(p, i, j) != moving_word(p, view, j) {
+            return false;
+        }
+    }
+    true
+}
+
+/// Whether the closed board has the records with these views as all that the process has published, and as many of each
+/// process as these views count.
+fn has_records(end: &BoardEnd, p: u32, views: &Vec<Counts>) -> bool
+    requires four { end.now.book.processes ≡ 4 }
+    requires process { p < 4 }
+{
+    let lengths = counts_of(end.length(0), end.length(1), end.length(2), end.length(3));
+    if end.length(p) as usize != views.len() {
+        return false;
+    }
+    for i in 0..end.length(p) {
+        let view = &views[i as usize];
+        if view.len() != 4 || view.get(p) != i || !lengths.covers(view) {
+            return false;
+        }
+        if !has_words(end, p, i, view) {
+            return false;
+        }
+    }
+    true
+}
+
+/// Whether no count of a view is below that of the view before it.
+fn rises(views: &Vec<Counts>) -> bool {
+    for i in 1..views.len() {
+        let (before, now) = (&views[i - 1], &views[i]);
+        if before.len() != now.len() || !now.covers(before) {
+            return false;
+        }
+    }
+    true
+}
+
+/// Four threads publish and load at once on a board, which is then closed.
+fn plays<R: Threads + Sync + Abort>(rt: &R, alloc: Global) -> Result<(), Fail> {
+    let book = four_book(alloc)?;
+    let (board, mut seats) = Board::new(alloc, &book)?;
+    assert!(rt; board.book().processes() == 4);
+    let mut three = last_player(&board, &mut seats, 3).expect(rt, "process 3");
+    let mut two = last_player(&board, &mut seats, 2).expect(rt, "process 2");
+    let mut one = last_player(&board, &mut seats, 1).expect(rt, "process 1");
+    let mut zero = last_player(&board, &mut seats, 0).expect(rt, "process 0");
+    let told = play_four(rt, &board, alloc, &mut zero, &mut one, &mut two, &mut three)?;
+    let end = close_four(board, alloc, zero, one, two, three)?;
+    for p in 0..4u32 {
+        let views = &told[p as usize];
+        assert_eq!(rt; end.length(p), RECORDS);
+        assert!(rt; rises(views));
+        assert!(rt; has_records(&end, p, views));
+    }
+    Ok(())
+}
+
+#[test]
+fn four_threads_play(rt: HostRuntime) -> Result<(), Fail> {
+    plays(&rt, rt.alloc())
+}
