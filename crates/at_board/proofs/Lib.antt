@@ -52,3 +52,4 @@ pub mod AnnounceSound
 pub mod AnnounceLaws
 pub mod AnnounceStep
 pub mod AskingFacts
+pub mod CrossLaws
