@@ -8,10 +8,10 @@ use Rattle.std.proofs.lemmas.List.Elements.{All-append, Contains-append_left, Co
 use Rattle.atomic_table.proofs.Lists.{at_set, set_else, set_here}
 use Rattle.atomic_table.specs.Table.{Joins}
 use Rattle.at_ledger.specs.Book.{BookTerms}
-use Rattle.at_board.proofs.FrontLaws.{IsPrefix-both, IsPrefix-refl}
+use Rattle.at_board.proofs.FrontLaws.{All-IsPrefix, IsPrefix-both, IsPrefix-refl}
 use Rattle.at_board.proofs.LearnLaws.{Knows-spent_view}
 use Rattle.at_board.proofs.MoreLaws.{HasPart-more, HasRequests}
-use Rattle.at_board.proofs.RecordLaws.{lists_of-Knows}
+use Rattle.at_board.proofs.RecordLaws.{lists_of-seen}
 use Rattle.at_board.proofs.SeatLaws.{knows_after, within_found}
 use Rattle.at_board.specs.declared.publication.Publication.{Publication}
 use Rattle.at_board.specs.declared.view.View.{View}
@@ -59,7 +59,9 @@ Knows-gathered b words s v w next mine theirs =
       seen = long.before;
       requests = All-append (IsAnnounced s) v.requests w.requests mine.requests theirs.requests;
       decisions = All-append (IsDecided s) v.decisions w.decisions mine.decisions theirs.decisions;
-      joined = All-append (λ list. IsPrefix list s.published) (lists_of v) (lists_of w) (lists_of-Knows b words s v mine) (lists_of-Knows b words s w theirs);
+      joined = All-append (λ list. IsPrefix list u.seen) (lists_of v) (lists_of w)
+          (All-IsPrefix (lists_of v) v.seen u.seen (lists_of-seen b words s v mine) long.first)
+          (All-IsPrefix (lists_of w) w.seen u.seen (lists_of-seen b words s w theirs) long.second);
       parts = λ k within. elim (cases_lt k (length v.parts)) as (λ _. HasPart b words s u (v.first + k) (get_or (v.parts ++ w.parts) k no_part)) [
         | inl below ↦
             subst (HasPart b words s u (v.first + k)) (sym (get_or_append_left v.parts w.parts no_part k below))

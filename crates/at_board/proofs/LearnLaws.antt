@@ -1,5 +1,5 @@
 -- Learning a note keeps the rule, and what it tells.
-use Rattle.std.proofs.Common.{◌≡◌, ◌≢◌, ℕ, ◌+◌, ◌==◌, ◌&&◌, Bool, cond, List, ◌++◌, length, set, refl, sym, ap, subst, ◌∙◌, arith, inl, inr, ◌⊎◌}
+use Rattle.std.proofs.Common.{◌≡◌, ◌≢◌, ℕ, ◌+◌, ◌<◌, [], ◌==◌, ◌&&◌, Bool, cond, List, ◌++◌, length, set, refl, sym, ap, subst, ◌∙◌, arith, inl, inr, ◌⊎◌}
 use Rattle.std.specs.List.{All}
 use lib.ListN.{get_elem?}
 use mathlib.Core.Option.{some, some-injective}
@@ -8,7 +8,7 @@ use Rattle.std.proofs.lemmas.List.Elements.{All-append, All-cons, All-nil, Conta
 use Rattle.atomic_table.proofs.Lists.{at_set, set_else}
 use Rattle.atomic_table.specs.Table.{Joins}
 use Rattle.at_ledger.specs.Book.{BookTerms}
-use Rattle.at_board.proofs.FrontLaws.{IsPrefix-both, IsPrefix-count_of, IsPrefix-refl}
+use Rattle.at_board.proofs.FrontLaws.{All-IsPrefix, IsPrefix-both, IsPrefix-count_of, IsPrefix-refl}
 use Rattle.at_board.proofs.MoreLaws.{HasPart-more, HasRequests}
 use Rattle.at_board.proofs.SameLaws.{IsPrefix-begins_with, begins_with-IsPrefix}
 use Rattle.at_board.proofs.SeatLaws.{AreSeated-set, knows_after}
@@ -24,7 +24,7 @@ use Rattle.at_board.specs.SeatCounts.{HasCounts}
 use Rattle.at_board.specs.Seen.{DecisionInRange, RequestInRange, SeesInRange}
 use Rattle.at_board.specs.SeatView.{IsSeat}
 use Rattle.at_board.specs.Steps.{IsHistory}
-use Rattle.at_board.specs.Views.{IsAnnounced, IsDecided, Knows, part_at}
+use Rattle.at_board.specs.Views.{HasPart, IsAnnounced, IsDecided, Knows, part_at}
 
 -- which of two lists was taken
 record TakesOther (process : ℕ) (mine other : List Publication) : Type 0 where
@@ -71,7 +71,7 @@ count_of-longer process mine other =
     ]
 
 -- where both are prefixes of one list, and mine has all publications of the process there, both are prefixes of the longer
-pub longer-both : (process : ℕ) (mine other all : List Publication) → IsPrefix mine all → IsPrefix other all
+longer-both : (process : ℕ) (mine other all : List Publication) → IsPrefix mine all → IsPrefix other all
     → count_of process mine ≡ count_of process all → IsPrefix other (longer process mine other)
 longer-both process mine other all one two own =
     elim (cases_lt (length other) (length mine)) as (λ _. IsPrefix other (longer process mine other)) [
@@ -85,19 +85,24 @@ longer-both process mine other all one two own =
           subst (IsPrefix other) (sym (ap (λ (t : Bool). cond t other mine) passes)) (IsPrefix-refl other)
     ]
 
-Knows-learned : (b : BookTerms) (words : List ℕ) (s : BoardState) (v w : View) → Knows b words s v → Knows b words s w
+Knows-learned : (b : BookTerms) (words : List ℕ) (s : BoardState) (v w : View) → 0 < length v.parts → Knows b words s v → Knows b words s w
     → Knows b words s (learned v w)
-Knows-learned b words s v w mine theirs =
+Knows-learned b words s v w part mine theirs =
     let u : View = learned v w in
+    let first : v.first + 0 ≡ v.first = omega arith in
+    let own : HasPart b words s v v.first (part_at v 0) = subst (λ t. HasPart b words s v t (part_at v 0)) first (mine.parts 0 part) in
+    let longer = IsPrefix-longer v.first v.seen w.seen in
+    let second = longer-both v.first v.seen w.seen s.published mine.seen theirs.seen (own.seen ∙ own.published) in
     let before = longer-either (λ list. IsPrefix list s.published) v.first v.seen w.seen mine.seen theirs.seen in
     let more : HasRequests u.requests v.requests = λ x there. Contains-append_left v.requests w.requests x there in
     record {
       seen = before;
       requests = All-append (IsAnnounced s) v.requests w.requests mine.requests theirs.requests;
       decisions = All-append (IsDecided s) v.decisions w.decisions mine.decisions theirs.decisions;
-      joined = All-cons (λ list. IsPrefix list s.published) w.seen (v.joined ++ w.joined) theirs.seen
-          (All-append (λ list. IsPrefix list s.published) v.joined w.joined mine.joined theirs.joined);
-      parts = λ k within. HasPart-more b words s v u (v.first + k) (part_at v k) (IsPrefix-longer v.first v.seen w.seen) before more (mine.parts k within);
+      joined = All-cons (λ list. IsPrefix list u.seen) w.seen (v.joined ++ w.joined) second
+          (All-append (λ list. IsPrefix list u.seen) v.joined w.joined (All-IsPrefix v.joined v.seen u.seen mine.joined longer)
+          (All-IsPrefix w.joined w.seen u.seen theirs.joined second));
+      parts = λ k within. HasPart-more b words s v u (v.first + k) (part_at v k) longer before more (mine.parts k within);
     }
 
 pub Knows-spent_view : (b : BookTerms) (words : List ℕ) (s : BoardState) → Knows b words s spent_view
@@ -105,7 +110,7 @@ Knows-spent_view b words s = record {
   seen = (s.published, refl);
   requests = All-nil (IsAnnounced s);
   decisions = All-nil (IsDecided s);
-  joined = All-nil (λ list. IsPrefix list s.published);
+  joined = All-nil (λ list. IsPrefix list []);
   parts = λ k within. absurd (omega arith);
 }
 
@@ -132,13 +137,13 @@ AreSeated-spent b seat views id w seated found none = record {
 }
 
 Ruled-learned : (b : BookTerms) (words : List ℕ) (views : List View) (id other : ℕ) (v w : View) → Ruled b words views
-    → get_elem? views id ≡ some v → other ≢ id → get_elem? views other ≡ some w → length w.parts ≡ 0
-    → Ruled b words (set (set views id (learned v w)) other spent_view)
-Ruled-learned b words views id other v w ruled found apart there none =
+    → get_elem? views id ≡ some v → other ≢ id → get_elem? views other ≡ some w → 0 < length v.parts
+    → length w.parts ≡ 0 → Ruled b words (set (set views id (learned v w)) other spent_view)
+Ruled-learned b words views id other v w ruled found apart there part none =
     let s : BoardState = ruled.state in
     let u : View = learned v w in
     let joined = set views id u in
-    let knows = knows_after b words s views id u (Knows-learned b words s v w (ruled.knows id v found) (ruled.knows other w there))
+    let knows = knows_after b words s views id u (Knows-learned b words s v w part (ruled.knows id v found) (ruled.knows other w there))
     (λ j t off at. ruled.knows j t at) in
     record {
       state = s;
@@ -152,11 +157,11 @@ Ruled-learned b words views id other v w ruled found apart there none =
 
 module _ {S : Type 0} where
   -- a note may be joined to a seat
-  pub learns : (key : BookTerms) (id other : ℕ) (v w : View) → length w.parts ≡ 0
+  pub learns : (key : BookTerms) (id other : ℕ) (v w : View) → 0 < length v.parts → length w.parts ≡ 0
       → Joins {S = S} (λ s. Ruled key s.words s.views) id v other w (learned v w) spent_view
-  learns key id other v w none s holds found apart there =
+  learns key id other v w part none s holds found apart there =
       Ruled-learned key s.words s.views id other v w holds found apart
-      (sym (set_else s.views id other (learned v w) apart) ∙ there) none
+      (sym (set_else s.views id other (learned v w) apart) ∙ there) part none
 
 -- what the seat has then seen
 pub Learns-learned : (b : BookTerms) (v w : View) (process published : ℕ) → v.book ≡ b → w.book ≡ b → IsSeat v process published → IsNote w

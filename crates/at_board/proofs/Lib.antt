@@ -53,3 +53,4 @@ pub mod AnnounceLaws
 pub mod AnnounceStep
 pub mod AskingFacts
 pub mod SmallBoardLaws
+pub mod CrossLaws

@@ -5,7 +5,7 @@ use Rattle.std.proofs.lemmas.List.{get_or_append_left}
 use Rattle.std.proofs.lemmas.List.Elements.{All-cons}
 use Rattle.at_ledger.specs.Book.{BookTerms}
 use Rattle.at_board.proofs.CountLaws.{position_of, publications_of-append}
-use Rattle.at_board.proofs.FrontLaws.{IsPrefix-count_of}
+use Rattle.at_board.proofs.FrontLaws.{All-IsPrefix, IsPrefix-count_of, IsPrefix-refl}
 use Rattle.at_board.specs.declared.publication.Publication.{Publication}
 use Rattle.at_board.specs.declared.view.View.{View}
 use Rattle.at_board.specs.BoardState.{BoardState, publication_at}
@@ -47,10 +47,14 @@ publications_of-IsPrefix p i xs ys (more, e) within =
     ap (λ t. publication_at t i) (ap (publications_of p) e ∙ publications_of-append p xs more)
     ∙ get_or_append_left (publications_of p xs) (publications_of p more) no_publication i within
 
--- each list that the view has seen is a prefix of all publications
+-- each list that the view has seen is a prefix of its own list
+pub lists_of-seen : (b : BookTerms) (words : List ℕ) (s : BoardState) (v : View) → Knows b words s v → All (λ list. IsPrefix list v.seen) (lists_of v)
+lists_of-seen b words s v knows = All-cons (λ list. IsPrefix list v.seen) v.seen v.joined (IsPrefix-refl v.seen) knows.joined
+
+-- and of all publications
 pub lists_of-Knows : (b : BookTerms) (words : List ℕ) (s : BoardState) (v : View) → Knows b words s v
     → All (λ list. IsPrefix list s.published) (lists_of v)
-lists_of-Knows b words s v knows = All-cons (λ list. IsPrefix list s.published) v.seen v.joined knows.seen knows.joined
+lists_of-Knows b words s v knows = All-IsPrefix (lists_of v) v.seen s.published (lists_of-seen b words s v knows) knows.seen
 
 pub IsRecordWord-Shown : (b : BookTerms) (words : List ℕ) (s : BoardState) (v : View) (p i j : ℕ) → Shown b words s → Knows b words s v
     → p < b.processes → j < record_width b → IsRecordWord v p i j (word_at b words (record_word p i j))

@@ -9,7 +9,7 @@ use Rattle.at_base.specs.declared.decision.Decision.{Decision}
 use Rattle.atomic_table.proofs.Lists.{set_here}
 use Rattle.at_ledger.specs.Book.{BookTerms}
 use Rattle.at_board.proofs.DecisionLaws.{same_round}
-use Rattle.at_board.proofs.FrontLaws.{IsPrefix-both, IsPrefix-length}
+use Rattle.at_board.proofs.FrontLaws.{IsPrefix-length}
 use Rattle.at_board.proofs.RecordLaws.{lists_of-Knows}
 use Rattle.at_board.proofs.SeatLaws.{within_found}
 use Rattle.at_board.specs.declared.publication.Entry.{Entry}
@@ -71,10 +71,7 @@ each_record P xs all before each =
 
 pub AgreesWithSeen-Knows : (b : BookTerms) (words : List ℕ) (s : BoardState) (v : View) → Sound b s → Knows b words s v → AgreesWithSeen v
 AgreesWithSeen-Knows b words s v sound knows = record {
-  lists = λ xs ys one other shorter.
-      let each = lists_of-Knows b words s v knows in
-      IsPrefix-both xs ys s.published (All-contains (λ t. IsPrefix t s.published) (lists_of v) xs each one)
-      (All-contains (λ t. IsPrefix t s.published) (lists_of v) ys each other) shorter;
+  joined = knows.joined;
   requests = λ a slot number r q one other.
       sym (request-seen b words s v a slot number r knows one) ∙ request-seen b words s v a slot number q knows other;
   decisions = λ a round d sees.

@@ -34,7 +34,7 @@ spent_view = record {
 }
 
 -- a seat has learned a note: what it has seen begins as before, with no more of its own, and the note's list stands among
--- those that were joined
+-- those that were joined. That the seat's list begins with it is told by the next step
 pub record Learns (b : BookTerms) (before note after : View) : Type 0 where
   pub more : IsPrefix before.seen after.seen
   pub own : count_of before.first after.seen ≡ count_of before.first before.seen

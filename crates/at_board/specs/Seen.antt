@@ -1,11 +1,10 @@
 -- What holds of all the requests, decisions and records that a view has seen.
-use Rattle.std.specs.Prelude.{◌≡◌, ℕ, ◌≤◌, List, length, All, Contains}
+use Rattle.std.specs.Prelude.{◌≡◌, ℕ, ◌≤◌, All}
 use Rattle.at_base.specs.Decision.{InRange}
 use Rattle.at_base.specs.declared.decision.Decision.{Decision}
 use Rattle.at_ledger.specs.Book.{BookTerms}
 use Rattle.at_board.specs.declared.publication.Entry.{Entry}
 use Rattle.at_board.specs.declared.publication.Entry.TheVariants.{Own, Round}
-use Rattle.at_board.specs.declared.publication.Publication.{Publication}
 use Rattle.at_board.specs.declared.request.Request.{Request}
 use Rattle.at_board.specs.declared.view.SeenDecision.{SeenDecision}
 use Rattle.at_board.specs.declared.view.SeenRequest.{SeenRequest}
@@ -46,9 +45,10 @@ AgreesOnEntry view (Round account round decision targets) =
     AgreesOnDecision view account round decision
     × ((r : Request) → SeesRequest view account decision.slot decision.number r → r.targets ≡ targets)
 
--- what the view has seen agrees: its lists, its requests, its decisions, and the records in each list
+-- what the view has seen agrees: its list begins with those that were joined, and its requests, its decisions and the records
+-- in each list say the same
 pub record AgreesWithSeen (view : View) : Type 0 where
-  pub lists : (xs ys : List Publication) → Contains (lists_of view) xs → Contains (lists_of view) ys → length xs ≤ length ys → IsPrefix xs ys
+  pub joined : All (λ list. IsPrefix list view.seen) view.joined
   pub requests : (account slot number : ℕ) (r q : Request) → SeesRequest view account slot number r →
       SeesRequest view account slot number q → r ≡ q
   pub decisions : (account round : ℕ) (d : Decision) → SeesDecision view account round d → AgreesOnDecision view account round d

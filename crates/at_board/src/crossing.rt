@@ -9,12 +9,15 @@ fn is_send<T: Send>() {}
 
 fn is_sync<T: Sync>() {}
 
-/// Threads share a board, and its seats and notes are moved between them. No two threads share a seat.
+/// A board, its seats, its notes and its end may be moved to another thread and shared. A seat that is shared makes no step,
+/// since each step takes it by `&mut`.
 pub(crate) fn all_cross() {
     is_send::<Board>();
     is_sync::<Board>();
     is_send::<BoardSeat>();
+    is_sync::<BoardSeat>();
     is_send::<BoardNote>();
+    is_sync::<BoardNote>();
     is_send::<BoardEnd>();
     is_sync::<BoardEnd>();
 }

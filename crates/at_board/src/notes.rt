@@ -34,7 +34,8 @@ impl Board {
         }
     }
 
-    /// Takes in a note, in one step. The seat has then seen the longer of both lists.
+    /// Takes in a note, in one step. The seat has then seen the longer of both lists, of which the next step tells that it
+    /// begins with both.
     pub fn learn<L: Ledger, X: Ledger>(
         &self,
         seat: &mut BoardSeat,

@@ -17,7 +17,7 @@ join_seat-requires g c =
       c.note.invariant.0,
       omega (arith, c.self.invariant.1, word_count-some c.self.inside.book c.self.invariant.2),
       learns c.self.inside.table.shared.key.value c.seat.inside.seat.id c.note.inside.seat.id c.seat.inside.seat.me.0 c.note.inside.seat.me.0
-          c.note.invariant.1.no_part,
+          (omega (arith, c.seat.invariant.1.one_part)) c.note.invariant.1.no_part,
     )
 
 pub invariant_of-seat : goal.invariant_of-seat
