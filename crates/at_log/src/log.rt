@@ -5,7 +5,7 @@ ghost use Rattle.at_board.specs.SeatView.{IsOf};
 ghost use Rattle.at_board.specs.Steps.{Publishes};
 ghost use Rattle.at_board.specs.Views.{own_part};
 ghost use Rattle.at_ledger.specs.Book.{log_room_of};
-ghost use Rattle.at_log.specs.Appending.{MayAppend};
+ghost use Rattle.at_log.specs.Appending.{IsLast, MayAppend};
 ghost use Rattle.at_log.specs.ClosingTerms.{published_by};
 
 use crate::record::Record;
@@ -34,6 +34,7 @@ pub fn append<L: Ledger, X: Ledger>(
     requires board { IsOf seat.old board.now }
     requires record { MayAppend board.now.book seat.old.view rec.now }
     ensures published { Publishes board.now.book seat.old.view seat.new.view (published_by seat.old.view.first rec.now) }
+    ensures last { IsLast seat.old.view seat.new.view (published_by seat.old.view.first rec.now) }
     ensures board { seat.new.board ≡ seat.old.board }
     ensures steps { steps.new ≡ steps.old + (board.now.book.processes + 8) }
     ensures exchanges { exchanges.new ≡ exchanges.old }
