@@ -11,7 +11,7 @@ use Rattle.at_board.specs.BoardState.{publication_at}
 use Rattle.at_board.specs.Publications.{count_of, no_publication, publications_of}
 use Rattle.at_board.specs.Steps.{Publishes, with_record}
 use Rattle.at_board.specs.Views.{own_part}
-use Rattle.at_log.specs.Appending.{IsLast}
+use Rattle.at_log.specs.LastRecord.{IsLast}
 
 -- what was published is the last of its process
 pub IsLast-Publishes : (b : BookTerms) (v w : View) (x : Publication) → 0 < length v.parts → x.process ≡ v.first → Publishes b v w x → IsLast v w x

@@ -1,15 +1,12 @@
--- What an append asks of a seat and a record, and where the record then stands.
-use Rattle.std.specs.Prelude.{◌≡◌, ◌+◌, ◌<◌}
+-- What an append asks of a seat and a record.
+use Rattle.std.specs.Prelude.{◌<◌}
 use Rattle.at_base.specs.Decision.{InRange}
 use Rattle.at_ledger.specs.Book.{BookTerms, log_room_of}
 use Rattle.at_board.specs.declared.publication.Entry.{Entry}
 use Rattle.at_board.specs.declared.publication.Entry.TheVariants.{Own, Round}
-use Rattle.at_board.specs.declared.publication.Publication.{Publication}
 use Rattle.at_board.specs.declared.view.View.{View}
-use Rattle.at_board.specs.BoardState.{publication_at}
 use Rattle.at_board.specs.Conditions.{MayEnter}
 use Rattle.at_board.specs.Fronts.{prefix_of}
-use Rattle.at_board.specs.Publications.{count_of, publications_of}
 use Rattle.at_board.specs.Sound.{AreTargets, HasView}
 use Rattle.at_board.specs.Views.{own_part}
 use Rattle.at_log.specs.declared.record.Record.{Record}
@@ -26,9 +23,3 @@ pub record MayAppend (b : BookTerms) (v : View) (x : Record) : Type 0 where
   pub view : HasView b v.seen (published_by v.first x)
   pub entry : MayEnter b v (prefix_of x.view v.seen) x.entry
   pub words : HasWords b x.entry
-
--- the record is the last of its process's log, where it stands by the number of those before it
-pub record IsLast (before after : View) (x : Publication) : Type 0 where
-  pub published : (own_part after).published ≡ (own_part before).published + 1
-  pub within : (own_part before).published < count_of after.first after.seen
-  pub last : publication_at (publications_of after.first after.seen) (own_part before).published ≡ x

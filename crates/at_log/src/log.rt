@@ -5,8 +5,9 @@ ghost use Rattle.at_board.specs.SeatView.{IsOf};
 ghost use Rattle.at_board.specs.Steps.{Publishes};
 ghost use Rattle.at_board.specs.Views.{own_part};
 ghost use Rattle.at_ledger.specs.Book.{log_room_of};
-ghost use Rattle.at_log.specs.Appending.{IsLast, MayAppend};
+ghost use Rattle.at_log.specs.Appending.{MayAppend};
 ghost use Rattle.at_log.specs.ClosingTerms.{published_by};
+ghost use Rattle.at_log.specs.LastRecord.{IsLast};
 
 use crate::record::Record;
 use crate::words::record_word;
