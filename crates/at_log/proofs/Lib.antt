@@ -9,5 +9,6 @@ pub mod OrderRuns
 pub mod OrderHasRuns
 pub mod FormFacts
 pub mod AppendLaws
+pub mod LastLaws
 pub mod SeenLaws
 pub mod EntryLaws

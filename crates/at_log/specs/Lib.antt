@@ -6,4 +6,5 @@ pub mod HeldFronts
 pub mod Coherent
 pub mod JournalOrder
 pub mod Appending
+pub mod LastRecord
 pub mod Loading

@@ -7,6 +7,7 @@ ghost use Rattle.at_board.specs.Views.{own_part};
 ghost use Rattle.at_ledger.specs.Book.{log_room_of};
 ghost use Rattle.at_log.specs.Appending.{MayAppend};
 ghost use Rattle.at_log.specs.ClosingTerms.{published_by};
+ghost use Rattle.at_log.specs.LastRecord.{IsLast};
 
 use crate::record::Record;
 use crate::words::record_word;
@@ -34,6 +35,7 @@ pub fn append<L: Ledger, X: Ledger>(
     requires board { IsOf seat.old board.now }
     requires record { MayAppend board.now.book seat.old.view rec.now }
     ensures published { Publishes board.now.book seat.old.view seat.new.view (published_by seat.old.view.first rec.now) }
+    ensures last { IsLast seat.old.view seat.new.view (published_by seat.old.view.first rec.now) }
     ensures board { seat.new.board ≡ seat.old.board }
     ensures steps { steps.new ≡ steps.old + (board.now.book.processes + 8) }
     ensures exchanges { exchanges.new ≡ exchanges.old }

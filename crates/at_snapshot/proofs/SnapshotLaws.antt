@@ -4,12 +4,12 @@ use Rattle.std.specs.List.{Contains, sum}
 use Rattle.std.proofs.lemmas.Bool.{cases_lt}
 use Rattle.std.proofs.lemmas.List.{ext_get_or, get_or_default}
 use Rattle.at_ledger.specs.Book.{BookTerms}
-use Rattle.at_board.proofs.CountLaws.{IsPosition, count_of-take_mono, get_or-counts, get_or-publications_of, length-counts, position_of, sum-counts}
-use Rattle.at_board.proofs.FrontLaws.{ArePublishedBy-IsPrefix, ArePublishedBy-take, IsFront-IsPrefix, IsFront-counts, IsPrefix-count_of, IsPrefix-length, IsPrefix-prefix_of, IsPrefix-prefix_of_from_le, IsPrefix-take, IsPrefix-trans, take-IsPrefix}
+use Rattle.at_board.proofs.CountLaws.{IsPosition, count_of-take-le, count_of-take_mono, get_or-counts, get_or-publications_of, length-counts, position_of, sum-counts}
+use Rattle.at_board.proofs.FrontLaws.{ArePublishedBy-IsPrefix, ArePublishedBy-take, IsFront-IsPrefix, IsFront-counts, IsPrefix-count_of, IsPrefix-length, IsPrefix-prefix_of, IsPrefix-prefix_of_from_le, IsPrefix-take, IsPrefix-trans, get_or-IsFront, take-IsPrefix}
 use Rattle.at_board.specs.declared.publication.Publication.{Publication}
 use Rattle.at_board.specs.declared.view.View.{View}
 use Rattle.at_board.specs.BoardState.{publication_at}
-use Rattle.at_board.specs.Fronts.{IsFront}
+use Rattle.at_board.specs.Fronts.{IsFront, place, prefix_of}
 use Rattle.at_board.specs.Publications.{ArePublishedBy, IsPrefix, count_of, counts, no_publication, publications_of}
 use Rattle.at_board.specs.RecordWords.{lists_of}
 use Rattle.at_board.specs.Sound.{HasView}
@@ -56,24 +56,45 @@ counts-equal b scan c v w so are told same =
       ap (λ xs. get_or xs p 0) same,
     ))
 
-pub IsSnapshot-equal : (b : BookTerms) (scan : ScanView) (c : Collects) (v w : View) → IsScanOf b scan v → AreCollects b scan c → IsCollect b v w
+-- a front that begins with all that was seen at the start counts all of the scan's process
+own_counted : (b : BookTerms) (scan : ScanView) (v w : View) (view : List ℕ) → IsScanOf b scan v → v.first < b.processes → IsCollect b v w
+    → IsFront b.processes view w.seen → IsPrefix scan.start.seen (prefix_of view w.seen)
+    → count_of scan.start.first scan.start.seen ≡ (own_part scan.start).published → get_or view scan.start.first 0 ≡ (own_part scan.start).published
+own_counted b scan v w view so known told front begins all =
+    let p : ℕ = scan.start.first in
+    omega (
+      arith,
+      all,
+      get_or-IsFront b.processes view w.seen p front (omega (arith, known, so.process)),
+      IsPrefix-count_of p scan.start.seen (prefix_of view w.seen) begins,
+      count_of-take-le p (place view) w.seen,
+      ap (λ k. count_of k w.seen) so.process,
+      told.loaded.own,
+      so.published,
+    )
+
+pub IsSnapshot-equal : (b : BookTerms) (scan : ScanView) (c : Collects) (v w : View) → IsScanOf b scan v → v.first < b.processes
+    → AreCollects b scan c → IsCollect b v w
     → ((p : ℕ) → p < b.processes → (loads_of (own_part scan.start) p).times + 1 ≤ (loads_of (own_part v) p).times)
     → c.last ≡ collect_of w → IsSnapshot b scan.start w (collect_of w)
-IsSnapshot-equal b scan c v w so are told once same =
+IsSnapshot-equal b scan c v w so process are told once same =
     let n = b.processes in
     let mark = scan.mark.seen in
     let between : IsPrefix mark w.seen = IsPrefix-trans mark v.seen w.seen so.marked told.loaded.more in
     let known = ArePublishedBy-IsPrefix n mark w.seen between (ArePublishedBy-IsHistory b w.seen told.loaded.history) in
     let equal = counts-equal b scan c v w so are told same in
+    let front = subst (λ xs. IsFront n xs w.seen) equal (IsFront-IsPrefix n (counts n mark) mark w.seen (IsFront-counts n mark known) known between) in
+    let begins = λ (list : List Publication) (seen : Contains (lists_of scan.start) list).
+    IsPrefix-prefix_of_from_le (collect_of w) list w.seen (lists-IsScanOf b scan v w list so told.loaded seen)
+    (omega (arith, IsPrefix-length list mark (are.seen list seen), sum-counts n mark known, ap sum equal)) in
     record {
-      front = subst (λ xs. IsFront n xs w.seen) equal (IsFront-IsPrefix n (counts n mark) mark w.seen (IsFront-counts n mark known) known between);
-      begins = λ list seen.
-          IsPrefix-prefix_of_from_le (collect_of w) list w.seen (lists-IsScanOf b scan v w list so told.loaded seen)
-          (omega (arith, IsPrefix-length list mark (are.seen list seen), sum-counts n mark known, ap sum equal));
+      front = front;
+      begins = begins;
       fresh = record {
         loaded = λ p below. loaded_twice b scan v w p told below (once p below);
         taken = inl refl;
       };
+      own = own_counted b scan v w (collect_of w) so process told front (begins scan.start.seen (0, omega arith, refl));
     }
 
 -- the record whose view is lent: it was not seen at the start, and its view counts more of its process than was seen then
@@ -118,10 +139,11 @@ is_new b scan c v w q so are told risen =
       },
     )
 
-pub IsSnapshot-lent : (b : BookTerms) (scan : ScanView) (c : Collects) (v w : View) (lent : List ℕ) → IsScanOf b scan v → AreCollects b scan c → IsCollect b v w
+pub IsSnapshot-lent : (b : BookTerms) (scan : ScanView) (c : Collects) (v w : View) (lent : List ℕ) → IsScanOf b scan v → v.first < b.processes
+    → AreCollects b scan c → IsCollect b v w
     → ((p : ℕ) → p < b.processes → (loads_of (own_part scan.start) p).times + 1 ≤ (loads_of (own_part v) p).times)
     → IsLent c w (collect_of w) lent → IsSnapshot b scan.start w lent
-IsSnapshot-lent b scan c v w lent so are told once is =
+IsSnapshot-lent b scan c v w lent so process are told once is =
     let n = b.processes in
     let q = is.process in
     let i = get_or (collect_of w) q 0 - 1 in
@@ -138,11 +160,13 @@ IsSnapshot-lent b scan c v w lent so are told once is =
     let all = ArePublishedBy-IsHistory b w.seen told.loaded.history in
     let front : IsFront n x.view w.seen =
     IsFront-IsPrefix n x.view (take m w.seen) w.seen new.view.front (ArePublishedBy-take n m w.seen all) (IsPrefix-take m w.seen) in
+    let begins = λ (list : List Publication) (seen : Contains (lists_of scan.start) list).
+    IsPrefix-prefix_of n x.view list w.seen q front known (lists-IsScanOf b scan v w list so told.loaded seen)
+    (omega (arith, new.own, new.above list seen)) in
     subst (IsSnapshot b scan.start w) same (record {
       front = front;
-      begins = λ list seen.
-          IsPrefix-prefix_of n x.view list w.seen q front known (lists-IsScanOf b scan v w list so told.loaded seen)
-          (omega (arith, new.own, new.above list seen));
+      begins = begins;
+      own = own_counted b scan v w x.view so process told front (begins scan.start.seen (0, omega arith, refl));
       fresh = record {
         loaded = λ p below. loaded_twice b scan v w p told below (once p below);
         taken = inr (
@@ -158,11 +182,11 @@ IsSnapshot-lent b scan c v w lent so are told once is =
     })
 
 -- what a later turn answers
-pub OnCounts-IsVerdict : (b : BookTerms) (scan : ScanView) (c : Collects) (v w : View) (turn : Turn) → IsScanOf b scan v → scan.collects ≡ Some c
+pub OnCounts-IsVerdict : (b : BookTerms) (scan : ScanView) (c : Collects) (v w : View) (turn : Turn) → IsScanOf b scan v → v.first < b.processes → scan.collects ≡ Some c
     → IsCollect b v w → IsVerdict c w (collect_of w) turn → OnCounts turn (IsSnapshot b scan.start w)
-OnCounts-IsVerdict b scan c v w (Clean counts) so is told verdict =
+OnCounts-IsVerdict b scan c v w (Clean counts) so process is told verdict =
     subst (IsSnapshot b scan.start w) (sym verdict.counts_are)
-    (IsSnapshot-equal b scan c v w so (AreCollects-IsScanOf b scan c v so is) told (loaded_once b scan c v so is) verdict.equal)
-OnCounts-IsVerdict b scan c v w (Borrowed counts) so is told verdict =
-    IsSnapshot-lent b scan c v w counts so (AreCollects-IsScanOf b scan c v so is) told (loaded_once b scan c v so is) verdict
-OnCounts-IsVerdict b scan c v w Again so is told verdict = tt
+    (IsSnapshot-equal b scan c v w so process (AreCollects-IsScanOf b scan c v so is) told (loaded_once b scan c v so is) verdict.equal)
+OnCounts-IsVerdict b scan c v w (Borrowed counts) so process is told verdict =
+    IsSnapshot-lent b scan c v w counts so process (AreCollects-IsScanOf b scan c v so is) told (loaded_once b scan c v so is) verdict
+OnCounts-IsVerdict b scan c v w Again so process is told verdict = tt

@@ -1,4 +1,4 @@
-use Rattle.std.proofs.Common.{◌<◌, length, ap, subst, ◌∙◌, arith}
+use Rattle.std.proofs.Common.{◌<◌, length, refl, ap, subst, ◌∙◌, arith}
 use Rattle.at_ledger.specs.Book.{BookTerms, IsBook}
 use Rattle.at_board.proofs.FrontLaws.{length-IsFront}
 use Rattle.at_board.specs.declared.view.View.{View}
@@ -8,6 +8,7 @@ use Rattle.at_board.specs.Views.{own_part}
 use Rattle.at_board.specs.Words.{record_words}
 use Rattle.at_log.proofs.AppendLaws.{IsStoring-more, MayPublish-IsStoring, Publishes-IsStoring}
 use Rattle.at_log.proofs.FormFacts.{IsForm-MayAppend}
+use Rattle.at_log.proofs.LastLaws.{IsLast-Publishes}
 use Rattle.at_log.specs.declared.record.Record.{Record}
 use Rattle.at_log.specs.ClosingTerms.{published_by}
 use Rattle.at_log.proofs.log.append.Goals as goal
@@ -73,3 +74,16 @@ returns-clause-published g c =
     (omega (arith, c.loop-j-test.false, c.loop-j.auto.j-end, c.processes-width.ensures, width)) in
     Publishes-IsStoring b v c.loop-j.seat.view c.publish.new.seat.view (published_by v.first x) (record_words (published_by v.first x)) c.loop-j.j
     (omega (arith, part.one_part)) c.loop-j.invariant.storing (c.publish.ensures.published (published_by v.first x) may)
+
+pub returns-clause-last : goal.returns-clause-last
+returns-clause-last g c =
+    let b : BookTerms = c.args.board.now.book in
+    let v : View = c.args.seat.now.view in
+    let x : Record = c.args.rec.now in
+    let part = c.process-process.ensures.part in
+    let width = ap (λ (t : BookTerms). t.processes) c.book-2.ensures in
+    let may = MayPublish-IsStoring b v c.loop-j.seat.view x c.loop-j.j c.requires.board.book part c.requires.record c.loop-j.invariant.storing
+    (omega (arith, c.loop-j-test.false, c.loop-j.auto.j-end, c.processes-width.ensures, width)) in
+    IsLast-Publishes b v c.publish.new.seat.view (published_by v.first x) (omega (arith, part.one_part)) refl
+    (Publishes-IsStoring b v c.loop-j.seat.view c.publish.new.seat.view (published_by v.first x) (record_words (published_by v.first x)) c.loop-j.j
+    (omega (arith, part.one_part)) c.loop-j.invariant.storing (c.publish.ensures.published (published_by v.first x) may))

@@ -1,4 +1,4 @@
-use Rattle.std.proofs.Common.{◌≡◌, Some, subst, sym, ◌∙◌, arith}
+use Rattle.std.proofs.Common.{◌≡◌, ◌<◌, Some, ap, subst, sym, ◌∙◌, arith}
 use Rattle.at_ledger.specs.Book.{BookTerms}
 use Rattle.at_board.specs.SeatView.{SeatView}
 use Rattle.at_board.specs.declared.view.View.{View}
@@ -30,6 +30,8 @@ returns-in-Some-clause-snapshot g c =
     let scan : ScanView = c.args.self.now in
     let w : View = c.collect-now.new.seat.view in
     let is : scan.collects ≡ Some c.in-Some.before = sym c.keep.ensures.before ∙ c.in-Some.is in
+    let known : c.args.seat.now.view.first < b.processes =
+    omega (arith, c.process-process.ensures.seat.known, ap (λ (t : BookTerms). t.processes) c.requires.board.book) in
     let verdict = subst (λ now. IsVerdict c.in-Some.before w now c.compare.result) c.collect-now.ensures.counts c.compare.ensures.answer in
     subst (λ (s : SeatView). OnCounts c.compare.result (IsSnapshot b scan.start s.view)) (sym c.compare.ensures.same)
-    (OnCounts-IsVerdict b scan c.in-Some.before c.args.seat.now.view w c.compare.result c.requires.scan is c.collect-now.ensures.collect verdict)
+    (OnCounts-IsVerdict b scan c.in-Some.before c.args.seat.now.view w c.compare.result c.requires.scan known is c.collect-now.ensures.collect verdict)

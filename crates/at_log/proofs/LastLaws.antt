@@ -1,0 +1,32 @@
+-- The last record of a process's log.
+use Rattle.std.proofs.Common.{◌≡◌, ◌<◌, List, [], ◌∷◌, ◌++◌, length, sym, ap, subst, ◌∙◌, arith, length-append}
+use Rattle.std.proofs.lemmas.List.{get_or_at}
+use Rattle.at_ledger.specs.Book.{BookTerms}
+use Rattle.at_board.proofs.CountLaws.{publications_of-append, publications_of-nil, publications_of-own}
+use Rattle.at_board.proofs.SeatKept.{own_part-with_part}
+use Rattle.at_board.specs.declared.publication.Publication.{Publication}
+use Rattle.at_board.specs.declared.view.Part.{Part}
+use Rattle.at_board.specs.declared.view.View.{View}
+use Rattle.at_board.specs.BoardState.{publication_at}
+use Rattle.at_board.specs.Publications.{count_of, no_publication, publications_of}
+use Rattle.at_board.specs.Steps.{Publishes, with_record}
+use Rattle.at_board.specs.Views.{own_part}
+use Rattle.at_log.specs.LastRecord.{IsLast}
+
+-- what was published is the last of its process
+pub IsLast-Publishes : (b : BookTerms) (v w : View) (x : Publication) → 0 < length v.parts → x.process ≡ v.first → Publishes b v w x → IsLast v w x
+IsLast-Publishes b v w x part ours told =
+    let first : v.first ≡ w.first = sym (ap (λ (t : View). t.first) told.same) in
+    let own = ap own_part told.same ∙ own_part-with_part (record v { seen = w.seen }) (with_record b (own_part v) x) part in
+    let earlier : List Publication = publications_of v.first (v.seen ++ told.between) in
+    let one : publications_of v.first (x ∷ []) ≡ x ∷ [] =
+    subst (λ p. publications_of p (x ∷ []) ≡ x ∷ []) ours (publications_of-own x [] ∙ ap (λ ys. x ∷ ys) (publications_of-nil x.process)) in
+    let split : publications_of v.first w.seen ≡ earlier ++ x ∷ [] =
+    ap (publications_of v.first) told.seen ∙ (publications_of-append v.first (v.seen ++ told.between) (x ∷ []) ∙ ap (λ ys. earlier ++ ys) one) in
+    let number : length earlier ≡ (own_part v).published = omega (arith, told.own, ap length split, length-append earlier (x ∷ [])) in
+    record {
+      published = ap (λ (q : Part). q.published) own;
+      within = subst (λ p. (own_part v).published < count_of p w.seen) first (omega (arith, told.own));
+      last = subst (λ p. publication_at (publications_of p w.seen) (own_part v).published ≡ x) first
+          (ap (λ ys. publication_at ys (own_part v).published) split ∙ get_or_at earlier x [] no_publication (own_part v).published number);
+    }
