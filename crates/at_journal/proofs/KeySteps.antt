@@ -1,8 +1,8 @@
 -- The keys of a process's publications, front by front.
-use Rattle.std.proofs.Common.{◌≡◌, ℕ, ◌+◌, ◌-◌, ◌<◌, ◌≤◌, List, [], ◌∷◌, ◌++◌, length, get_or, replicate, sum, refl, sym, ap, subst, ◌∙◌, arith, inl, inr}
-use Rattle.std.specs.List.{Contains}
-use Rattle.std.proofs.lemmas.Bool.{cases_lt}
-use Rattle.std.proofs.lemmas.List.{get_or-append_right, get_or_append_left, get_or-map, get_or-replicate, get_or_default, length-append, length-map, length-replicate}
+use Rattle.std.proofs.Common.{◌≡◌, ℕ, ◌+◌, ◌-◌, ◌<◌, ◌≤◌, List, [], ◌∷◌, ◌++◌, length, map, get_or, set, replicate, sum, refl, sym, ap, subst, ◌∙◌, arith, inl, inr}
+use Rattle.std.specs.List.{Contains, range_with_len}
+use Rattle.std.proofs.lemmas.Bool.{cases_eq, cases_lt}
+use Rattle.std.proofs.lemmas.List.{get_or-append_right, get_or_append_left, get_or-map, get_or-replicate, get_or_default, get_or-set_other, get_or-set_same, length-append, length-map, length-replicate, length-set}
 use Rattle.std.proofs.lemmas.List.FromFn.{fill_by_all}
 use Rattle.at_board.specs.Fronts.{place}
 use Rattle.at_board.proofs.FrontLaws.{sum-Covers-le}
@@ -11,7 +11,7 @@ use Rattle.at_log.specs.HeldFronts.{held_fronts}
 use Rattle.at_log.specs.JournalOrder.{publication_key}
 use Rattle.at_log.proofs.KeyLaws.{get_or-log_lengths, publication_key-at_least, publication_key-le, publication_key-le_all}
 use Rattle.at_journal.specs.Held.{AreHeld}
-use Rattle.at_journal.specs.Keys.{AreWithin, log_keys}
+use Rattle.at_journal.specs.Keys.{AreGiven, AreWithin, log_keys, with_key}
 use Rattle.at_journal.specs.declared.fronts.HeldFront.{HeldFront}
 
 -- the first keys, given by so many fronts
@@ -128,3 +128,65 @@ keys-HasKeys c fronts p keys held all known so =
     (λ m d late here. absurd (omega (arith, late, here))) in
     omega (arith, publication_key-le_all c p j, lower))
     (omega (arith, within, so.few)))
+
+-- nothing is given to the first none of the processes
+pub AreGiven-none : (counts : ℕ → ℕ) (key : ℕ) (lists : List (List ℕ)) → AreGiven counts key 0 lists lists
+AreGiven-none counts key lists = record {
+  size = refl;
+  given = λ p below within. absurd (omega arith);
+  left = λ p past. refl;
+}
+
+-- and a process more is given its keys
+pub AreGiven-more : (counts : ℕ → ℕ) (key p : ℕ) (old now : List (List ℕ)) → p < length old → AreGiven counts key p old now
+    → AreGiven counts key (p + 1) old (set now p (with_key (counts p) key (get_or now p [])))
+AreGiven-more counts key p old now known so =
+    let next = with_key (counts p) key (get_or now p []) in
+    record {
+      size = length-set now p next ∙ so.size;
+      given = λ q below within.
+          elim (cases_eq q p) as (λ _. get_or (set now p next) q [] ≡ with_key (counts q) key (get_or old q [])) [
+            | inl same ↦
+                ap (λ k. get_or (set now p next) k []) same
+                ∙ (get_or-set_same now p next [] (omega (arith, known, so.size))
+                ∙ (ap (with_key (counts p) key) (so.left p (omega arith)) ∙ ap (λ k. with_key (counts k) key (get_or old k [])) (sym same)))
+            | inr other ↦ get_or-set_other now p q next [] other ∙ so.given q (omega (arith, below, other)) within
+          ];
+      left = λ q past. get_or-set_other now p q next [] (λ (same : q ≡ p). absurd (omega (arith, past, same))) ∙ so.left q (omega (arith, past));
+    }
+
+-- the first keys of all processes, given by so many fronts
+pub record HaveKeys (c : ClosingTerms) (fronts : List HeldFront) (k : ℕ) (lists : List (List ℕ)) : Type 0 where
+  pub size : length lists ≡ length c.logs
+  pub each : (p : ℕ) → p < length c.logs → HasKeys c fronts p k (get_or lists p [])
+
+pub HaveKeys-none : (c : ClosingTerms) (fronts : List HeldFront) → HaveKeys c fronts 0 (replicate (length c.logs) [])
+HaveKeys-none c fronts = record {
+  size = length-replicate (length c.logs) [];
+  each = λ p known. subst (HasKeys c fronts p 0) (sym (get_or-replicate (length c.logs) p [] [] known)) (HasKeys-none c fronts p);
+}
+
+-- a front gives its place to all publications that it counts first
+pub HaveKeys-more : (c : ClosingTerms) (fronts : List HeldFront) (k : ℕ) (old new : List (List ℕ)) (front : HeldFront) → AreHeld c fronts → AreWithin c
+    → k < length fronts → get_or fronts k front ≡ front → AreGiven (λ p. get_or front.counts.now p 0) front.place (length old) old new
+    → HaveKeys c fronts k old → HaveKeys c fronts (k + 1) new
+HaveKeys-more c fronts k old new front held all within is given so = record {
+  size = given.size ∙ so.size;
+  each = λ p known. subst (HasKeys c fronts p (k + 1)) (sym (given.given p (omega (arith, known, so.size)) (omega (arith, known, so.size))))
+      (HasKeys-more c fronts p k (get_or old p []) front held all known within is (so.each p known));
+}
+
+-- and the last key is that of those that no front counts
+pub keys-HaveKeys : (c : ClosingTerms) (fronts : List HeldFront) (old new : List (List ℕ)) → AreHeld c fronts → AreWithin c
+    → AreGiven (λ p. length (log_of c p)) (sum (log_lengths c)) (length old) old new → HaveKeys c fronts (length fronts) old
+    → new ≡ map (log_keys c) (range_with_len 0 (length c.logs))
+keys-HaveKeys c fronts old new held all given so =
+    fill_by_all (log_keys c) new (length c.logs) [] (given.size ∙ so.size)
+    (λ p known. given.given p (omega (arith, known, so.size)) (omega (arith, known, so.size))
+    ∙ keys-HasKeys c fronts p (get_or old p []) held all known (so.each p known))
+
+-- a held front has a count for each process
+pub sized_front : (c : ClosingTerms) (fronts : List HeldFront) (k : ℕ) (front : HeldFront) → AreHeld c fronts → AreWithin c → k < length fronts
+    → get_or fronts k front ≡ front → length front.counts.now ≡ length c.logs
+sized_front c fronts k front held all within is =
+    (all front.counts.now (subst (λ (f : HeldFront). Contains (held_fronts c) f.counts.now) is (held_at c fronts k front held within))).0

@@ -116,6 +116,6 @@ pub(crate) fn held_fronts<'c>(
     let mut fronts = Vec::new(alloc);
     push_all_views(&mut fronts, closing)?;
     push_all_fronts(&mut fronts, closing)?;
-    fronts.sort_unstable_by_key(|front| front.place);
+    fronts.sort_by_key(|front| front.place)?;
     Ok(fronts)
 }

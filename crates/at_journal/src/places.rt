@@ -1,6 +1,6 @@
 //! Where the records of a closing stand in the order of its publications.
 
-ghost use Rattle.std.specs.Prelude.{◌≡◌, ◌++◌, ◌<◌, ◌≤◌, [], length, map, replicate, sum, OnOk, IfOk};
+ghost use Rattle.std.specs.Prelude.{◌≡◌, ◌++◌, ◌<◌, ◌≤◌, [], length, map, sum, OnOk, IfOk};
 ghost use Rattle.at_ledger.specs.Book.{IsBook};
 ghost use Rattle.at_log.specs.ClosingTerms.{log_lengths};
 ghost use Rattle.at_log.specs.Coherent.{Coherent};
@@ -11,7 +11,7 @@ ghost use Rattle.at_journal.specs.Places.{AreRecords, HasRoundPositions, IsOnAcc
 
 use crate::NoMemory;
 use crate::fronts::HeldFront;
-use crate::keyed::{Keyed, in_order};
+use crate::keyed::{Keyed, empty_lists, in_order};
 use crate::keys::publication_keys;
 use at_ledger::Book;
 use at_log::{Closing, Entry};
@@ -51,17 +51,6 @@ pub(crate) fn own_positions(
     Ok(positions)
 }
 
-/// No positions for so many accounts.
-fn no_positions(alloc: Global, accounts: u32) -> Result<Vec<Vec<u64>>, NoMemory>
-    ensures { IfOk result (λ places. map (λ v. v.items) places.items ≡ replicate accounts []) }
-{
-    let mut places = Vec::new(alloc);
-    for _account in 0..accounts {
-        places.push(Vec::new(alloc))?;
-    }
-    Ok(places)
-}
-
 /// Notes where a record stands, if it is the first of the next round of its account.
 fn note_position(places: &mut Vec<Vec<u64>>, entry: &Entry, position: u64) -> Result<(), NoMemory>
     requires { IsOnAccount (length places.old.items) entry.now }
@@ -92,7 +81,7 @@ pub(crate) fn round_positions(
     ensures places { IfOk result (λ places. HasRoundPositions (length book.now.accounts) (journal_order closing.now) (journal_order closing.now) (map (λ v. v.items) places.items)) }
     ensures checked { IsBook book.now }
 {
-    let mut places = no_positions(alloc, book.accounts())?;
+    let mut places = empty_lists(alloc, book.accounts())?;
     for (position, one) in order.iter().enumerate() {
         let record = &closing.log(one.process)[one.number];
         note_position(&mut places, &record.entry, position as u64)?;

@@ -1,10 +1,6 @@
-use Rattle.std.proofs.Common.{◌≡◌, length, map}
-use Rattle.std.specs.List.{range_with_len}
-use Rattle.at_journal.specs.Keys.{log_keys}
+use Rattle.std.proofs.Common.{map}
+use Rattle.at_journal.proofs.KeySteps.{HaveKeys}
 use Rattle.at_journal.proofs.keys.publication_keys.Given as goal
 
-abbrev pub invariant-loop-p : goal.invariant-loop-p
-invariant-loop-p l = record {
-  keys : map (λ v. v.items) l.keys.items ≡ map (log_keys l.closing) (range_with_len 0 l.p);
-  length : length l.keys.items ≡ l.p;
-}
+abbrev pub invariant-loop-front : goal.invariant-loop-front
+invariant-loop-front l = HaveKeys l.closing l.fronts l.front-index (map (λ v. v.items) l.keys.items)
