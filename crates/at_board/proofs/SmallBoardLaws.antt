@@ -1,25 +1,32 @@
 -- Seats of a small board between two records, for the tests.
-use Rattle.std.proofs.Common.{◌≡◌, ℕ, ◌+◌, ◌*◌, ◌^◌, ◌<◌, List, [], ◌∷◌, length, get_or, replicate, refl, sym, ap, subst, ◌∙◌, arith}
-use Rattle.std.specs.List.{All}
+use Rattle.std.proofs.Common.{◌≡◌, ℕ, ◌+◌, ◌*◌, ◌^◌, ◌<◌, true, cond, List, [], ◌∷◌, length, get_or, replicate, None, is_some, refl, sym, ap, subst, ◌∙◌, arith, inl, inr}
+use Rattle.std.specs.List.{count_by}
+use Rattle.std.proofs.lemmas.Bool.{cases_Bool}
 use Rattle.std.proofs.lemmas.List.{length-set}
 use Rattle.std.proofs.lemmas.List.Elements.{All-cons, All-from_get_or, All-nil}
-use Rattle.at_ledger.specs.Book.{BookTerms}
+use Rattle.at_base.specs.Decision.{word_of}
+use Rattle.at_ledger.specs.Account.{is_shared}
+use Rattle.at_ledger.specs.Book.{BookTerms, account_of}
 use Rattle.at_ledger.specs.Call.{TargetPair}
 use Rattle.at_board.proofs.FrontLaws.{place-IsFront-le}
+use Rattle.at_board.proofs.OpeningLaws.{get_or-zeros}
 use Rattle.at_board.proofs.PushLaws.{owns_of-le}
+use Rattle.at_board.proofs.RoundLaws.{firsts-nil}
 use Rattle.at_board.proofs.SeatKept.{own_part-with_part}
-use Rattle.at_board.specs.declared.publication.Entry.TheVariants.{Own}
+use Rattle.at_board.specs.declared.publication.Entry.TheVariants.{Own, Round}
 use Rattle.at_board.specs.declared.publication.Publication.{Publication}
 use Rattle.at_board.specs.declared.view.Part.{Part}
 use Rattle.at_board.specs.declared.view.View.{View}
 use Rattle.at_board.specs.Conditions.{MayPublish}
+use Rattle.at_board.specs.Entries.{is_round_on}
 use Rattle.at_board.specs.Fronts.{place, prefix_of}
-use Rattle.at_board.specs.Publications.{ArePublishedBy, no_publication}
+use Rattle.at_board.specs.Publications.{ArePublishedBy, counts, no_publication, publications_of}
 use Rattle.at_board.specs.Rounds.{owns_of}
-use Rattle.at_board.specs.SmallBoard.{HasOwnAccount, IsOwnFront}
-use Rattle.at_board.specs.Sound.{HasView, IsSoundOwn}
-use Rattle.at_board.specs.Steps.{IsHistory, StoresWord, with_word}
-use Rattle.at_board.specs.Views.{own_part}
+use Rattle.at_board.specs.SeatView.{BoardView, IsOf, SeatView}
+use Rattle.at_board.specs.SmallBoard.{HasOwnAccount, HasWon, IsIdle, IsOwnFront, first_decision, payment}
+use Rattle.at_board.specs.Sound.{HasView, IsSoundOwn, IsSoundRound}
+use Rattle.at_board.specs.Steps.{IsHistory, Publishes, StoresWord, held_after, with_record, with_word}
+use Rattle.at_board.specs.Views.{HasSlot, SeesDecision, SeesRequest, own_part}
 use Rattle.at_board.specs.Words.{head_of, record_words}
 
 -- each publication of a history is of a process of the book
@@ -30,9 +37,6 @@ ArePublishedBy-IsHistory b list history =
 -- the part of a seat that has stored a word
 pub own_part-StoresWord : (v w : View) (j n : ℕ) → 0 < length v.parts → StoresWord v w j n → own_part w ≡ with_word (own_part v) j n
 own_part-StoresWord v w j n part told = ap own_part told ∙ own_part-with_part v (with_word (own_part v) j n) part
-
-parts-StoresWord : (v w : View) (j n : ℕ) → StoresWord v w j n → length w.parts ≡ length v.parts
-parts-StoresWord v w j n told = ap (λ (t : View). length t.parts) told ∙ length-set v.parts 0 (with_word (own_part v) j n)
 
 -- a list of four is its elements
 pub list_of_four : (xs : List ℕ) → length xs ≡ 4 → xs ≡ get_or xs 0 0 ∷ get_or xs 1 0 ∷ get_or xs 2 0 ∷ get_or xs 3 0 ∷ []
@@ -47,43 +51,58 @@ list_of_four (x ∷ y ∷ z ∷ t ∷ s ∷ xs) four = absurd (omega (arith, fou
 abbrev pub moving : ℕ → List ℕ → Publication
 moving p view = record { process = p; view = view; entry = Own (p + 1) ((0, 0) ∷ []) }
 
--- a part that has stored the head, the targets word and the view of a record
+-- words of the next record are stored, which the seat's part then has, and nothing else has changed
+pub record Stores (v w : View) (q : Part) : Type 0 where
+  pub part : own_part w ≡ q
+  pub parts : length w.parts ≡ length v.parts
+  pub same : w ≡ record v { parts = w.parts }
+
+Stores-none : (v : View) → Stores v v (own_part v)
+Stores-none v = record { part = refl; parts = refl; same = refl }
+
+Stores-more : (v w u : View) (q : Part) (j n : ℕ) → length v.parts ≡ 1 → Stores v w q → StoresWord w u j n → Stores v u (with_word q j n)
+Stores-more v w u q j n one before told =
+    let part : 0 < length w.parts = omega (arith, one, before.parts) in
+    record {
+      part = own_part-StoresWord w u j n part told ∙ ap (λ t. with_word t j n) before.part;
+      parts = ap (λ (t : View). length t.parts) told ∙ (length-set w.parts 0 (with_word (own_part w) j n) ∙ before.parts);
+      same = told ∙ (ap (λ ps. record w { parts = ps }) (sym (ap (λ (t : View). t.parts) told)) ∙ ap (λ (t : View). record t { parts = u.parts }) before.same);
+    }
+
+-- the head, the targets word and the view of an own record
 abbrev pub with_six : Part → ℕ → ℕ → ℕ → ℕ → ℕ → Part
 with_six q h i j k l =
     with_word (with_word (with_word (with_word (with_word (with_word q 0 h) 1 (2 ^ 40)) 7 i) 8 j) 9 k) 10 l
 
--- a seat has stored these six words, and nothing else has changed
-pub record StoresSix (v w : View) (h i j k l : ℕ) : Type 0 where
-  pub part : own_part w ≡ with_six (own_part v) h i j k l
-  pub parts : length w.parts ≡ length v.parts
-  pub first : w.first ≡ v.first
-  pub seen : w.seen ≡ v.seen
-  pub book : w.book ≡ v.book
+pub Stores-six : (v v1 v2 v3 v4 v5 w : View) (h i j k l : ℕ) → length v.parts ≡ 1 → StoresWord v v1 0 h → StoresWord v1 v2 1 (2 ^ 40)
+    → StoresWord v2 v3 7 i → StoresWord v3 v4 8 j → StoresWord v4 v5 9 k → StoresWord v5 w 10 l → Stores v w (with_six (own_part v) h i j k l)
+Stores-six v v1 v2 v3 v4 v5 w h i j k l one s1 s2 s3 s4 s5 s6 =
+    let q1 = with_word (own_part v) 0 h in
+    let q2 = with_word q1 1 (2 ^ 40) in
+    let q3 = with_word q2 7 i in
+    let q4 = with_word q3 8 j in
+    let q5 = with_word q4 9 k in
+    let t1 = Stores-more v v v1 (own_part v) 0 h one (Stores-none v) s1 in
+    let t2 = Stores-more v v1 v2 q1 1 (2 ^ 40) one t1 s2 in
+    let t3 = Stores-more v v2 v3 q2 7 i one t2 s3 in
+    let t4 = Stores-more v v3 v4 q3 8 j one t3 s4 in
+    let t5 = Stores-more v v4 v5 q4 9 k one t4 s5 in
+    Stores-more v v5 w q5 10 l one t5 s6
 
-pub six_stores : (v v1 v2 v3 v4 v5 w : View) (h i j k l : ℕ) → length v.parts ≡ 1 → StoresWord v v1 0 h → StoresWord v1 v2 1 (2 ^ 40)
-    → StoresWord v2 v3 7 i → StoresWord v3 v4 8 j → StoresWord v4 v5 9 k → StoresWord v5 w 10 l → StoresSix v w h i j k l
-six_stores v v1 v2 v3 v4 v5 w h i j k l one s1 s2 s3 s4 s5 s6 =
-    let p1 = parts-StoresWord v v1 0 h s1 in
-    let p2 = parts-StoresWord v1 v2 1 (2 ^ 40) s2 in
-    let p3 = parts-StoresWord v2 v3 7 i s3 in
-    let p4 = parts-StoresWord v3 v4 8 j s4 in
-    let p5 = parts-StoresWord v4 v5 9 k s5 in
-    let p6 = parts-StoresWord v5 w 10 l s6 in
-    record {
-      part = own_part-StoresWord v5 w 10 l (omega (arith, one, p1, p2, p3, p4, p5)) s6
-          ∙ ap (λ q. with_word q 10 l) (own_part-StoresWord v4 v5 9 k (omega (arith, one, p1, p2, p3, p4)) s5
-          ∙ ap (λ q. with_word q 9 k) (own_part-StoresWord v3 v4 8 j (omega (arith, one, p1, p2, p3)) s4
-          ∙ ap (λ q. with_word q 8 j) (own_part-StoresWord v2 v3 7 i (omega (arith, one, p1, p2)) s3
-          ∙ ap (λ q. with_word q 7 i) (own_part-StoresWord v1 v2 1 (2 ^ 40) (omega (arith, one, p1)) s2
-          ∙ ap (λ q. with_word q 1 (2 ^ 40)) (own_part-StoresWord v v1 0 h (omega (arith, one)) s1)))));
-      parts = p6 ∙ (p5 ∙ (p4 ∙ (p3 ∙ (p2 ∙ p1))));
-      first = ap (λ (t : View). t.first) s6 ∙ (ap (λ (t : View). t.first) s5 ∙ (ap (λ (t : View). t.first) s4
-          ∙ (ap (λ (t : View). t.first) s3 ∙ (ap (λ (t : View). t.first) s2 ∙ ap (λ (t : View). t.first) s1))));
-      seen = ap (λ (t : View). t.seen) s6 ∙ (ap (λ (t : View). t.seen) s5 ∙ (ap (λ (t : View). t.seen) s4
-          ∙ (ap (λ (t : View). t.seen) s3 ∙ (ap (λ (t : View). t.seen) s2 ∙ ap (λ (t : View). t.seen) s1))));
-      book = ap (λ (t : View). t.book) s6 ∙ (ap (λ (t : View). t.book) s5 ∙ (ap (λ (t : View). t.book) s4
-          ∙ (ap (λ (t : View). t.book) s3 ∙ (ap (λ (t : View). t.book) s2 ∙ ap (λ (t : View). t.book) s1))));
-    }
+-- the head, the targets word, the decision and the amount of a round's record
+abbrev pub with_four : Part → ℕ → Part
+with_four q d = with_word (with_word (with_word (with_word q 0 1) 1 (2 ^ 40)) 2 d) 3 7
+
+pub Stores-four : (v v1 v2 v3 w : View) (d : ℕ) → length v.parts ≡ 1 → StoresWord v v1 0 1 → StoresWord v1 v2 1 (2 ^ 40)
+    → StoresWord v2 v3 2 d → StoresWord v3 w 3 7 → Stores v w (with_four (own_part v) d)
+Stores-four v v1 v2 v3 w d one s1 s2 s3 s4 =
+    let q1 = with_word (own_part v) 0 1 in
+    let q2 = with_word q1 1 (2 ^ 40) in
+    let q3 = with_word q2 2 d in
+    let t1 = Stores-more v v v1 (own_part v) 0 1 one (Stores-none v) s1 in
+    let t2 = Stores-more v v1 v2 q1 1 (2 ^ 40) one t1 s2 in
+    let t3 = Stores-more v v2 v3 q2 2 d one t2 s3 in
+    Stores-more v v3 w q3 3 7 one t3 s4
 
 -- those are the words of the record
 six_words : (q : Part) (n p h i j k l : ℕ) → q.stored ≡ replicate n 0 → n ≡ 11 → h ≡ 2 * (p + 1)
@@ -95,7 +114,7 @@ six_words q n p h i j k l blank eleven head =
     ∙ ap (λ m. m ∷ 2 ^ 40 ∷ 0 ∷ 0 ∷ 0 ∷ 0 ∷ 0 ∷ i ∷ j ∷ k ∷ l ∷ []) same
 
 -- a process may move 0 from its own account at any front
-may_move : (b : BookTerms) (p : ℕ) (seen : List Publication) (view : List ℕ) → IsHistory b seen → HasOwnAccount b p
+pub may_move : (b : BookTerms) (p : ℕ) (seen : List Publication) (view : List ℕ) → IsHistory b seen → HasOwnAccount b p
     → place view < length seen + 1 → IsSoundOwn b p (prefix_of view seen) (p + 1) ((0, 0) ∷ [])
 may_move b p seen view history owns within =
     let n = length b.accounts in
@@ -116,26 +135,97 @@ may_move b p seen view history owns within =
 pub may_publish_moving : (b : BookTerms) (v w : View) (h i j k l : ℕ) → let view : List ℕ = i ∷ j ∷ k ∷ l ∷ [] in
     b.processes ≡ 4 → v.first < b.processes → IsHistory b v.seen → (own_part v).stored ≡ replicate (7 + b.processes) 0
     → (own_part v).published < b.own_room → HasOwnAccount b v.first → IsOwnFront b v view → h ≡ 2 * (v.first + 1)
-    → StoresSix v w h i j k l → MayPublish b w (moving v.first view)
+    → Stores v w (with_six (own_part v) h i j k l) → MayPublish b w (moving v.first view)
 may_publish_moving b v w h i j k l four known history blank room owns front head told =
     let p = v.first in
     let view : List ℕ = i ∷ j ∷ k ∷ l ∷ [] in
+    let first : w.first ≡ p = ap (λ (t : View). t.first) told.same in
+    let seen : w.seen ≡ v.seen = ap (λ (t : View). t.seen) told.same in
     let all = ArePublishedBy-IsHistory b v.seen history in
     let within = place-IsFront-le b.processes view v.seen front.front all in
     record {
-      process = sym told.first;
+      process = sym first;
       room = omega (arith, ap (λ (q : Part). q.published) told.part, room);
       stored = ap (λ (q : Part). q.stored) told.part
           ∙ six_words (own_part v) (7 + b.processes) p h i j k l blank (omega (arith, four)) head;
-      view = subst (λ xs. HasView b xs (moving p view)) (sym told.seen) (record {
+      view = subst (λ xs. HasView b xs (moving p view)) (sym seen) (record {
         process = known;
         front = front.front;
         own = front.own ∙ sym front.counted;
       });
       entry = (
-        subst (λ k. IsSoundOwn b k (prefix_of view w.seen) (p + 1) ((0, 0) ∷ [])) (sym told.first)
-            (subst (λ xs. IsSoundOwn b p (prefix_of view xs) (p + 1) ((0, 0) ∷ [])) (sym told.seen)
+        subst (λ k. IsSoundOwn b k (prefix_of view w.seen) (p + 1) ((0, 0) ∷ [])) (sym first)
+            (subst (λ xs. IsSoundOwn b p (prefix_of view xs) (p + 1) ((0, 0) ∷ [])) (sym seen)
             (may_move b p v.seen view history owns (omega (arith, within)))),
-        omega (arith, ap (λ k. owns_of k w.seen) told.first, ap (owns_of p) told.seen, owns_of-le p v.seen, front.counted, room),
+        omega (arith, ap (λ k. owns_of k w.seen) first, ap (owns_of p) seen, owns_of-le p v.seen, front.counted, room),
+      );
+    }
+
+-- a published record leaves the seat between two records, where it gives up the cell that the seat held
+pub IsIdle-published : (board : BoardView) (v w u : SeatView) (q : Part) (x : Publication) → IsOf v board → length v.view.parts ≡ 1
+    → Stores v.view w.view q → held_after x q.held ≡ None → Publishes board.book w.view u.view x → u.board ≡ v.board → IsIdle board u
+IsIdle-published board v w u q x of_board one_part stored free told id =
+    let one : length w.view.parts ≡ 1 = stored.parts ∙ one_part in
+    let part : Part = with_record board.book (own_part w.view) x in
+    let own : own_part u.view ≡ part =
+    ap own_part told.same ∙ own_part-with_part (record w.view { seen = u.view.seen }) part (omega (arith, one)) in
+    record {
+      of_board = record {
+        id = id ∙ of_board.id;
+        book = ap (λ (t : View). t.book) told.same ∙ (ap (λ (t : View). t.book) stored.same ∙ of_board.book);
+      };
+      one_part = ap (λ (t : View). length t.parts) told.same ∙ (length-set w.view.parts 0 part ∙ one);
+      free = ap (λ (t : Part). t.held) own ∙ (ap (λ (t : Part). held_after x t.held) stored.part ∙ free);
+      blank = ap (λ (t : Part). t.stored) own;
+    }
+
+-- the record of the first round of account 0, in which a slot's payment is decided, before anything is published
+abbrev pub round_record : ℕ → ℕ → Publication
+round_record p slot = record { process = p; view = 0 ∷ 0 ∷ 0 ∷ 0 ∷ []; entry = Round 0 0 (first_decision slot) ((0, 7) ∷ []) }
+
+counts-none : counts 4 [] ≡ 0 ∷ 0 ∷ 0 ∷ 0 ∷ []
+unfolding counts publications_of
+counts-none = refl
+
+-- only a shared account has slots
+shared-HasSlot : (b : BookTerms) (p a slot : ℕ) → HasSlot b p a slot → is_shared (account_of b a) ≡ true
+shared-HasSlot b p a slot has =
+    elim (cases_Bool (is_shared (account_of b a))) as (λ _. is_shared (account_of b a) ≡ true) [
+      | inl shared ↦ shared
+      | inr alone ↦ absurd (omega (arith, has.within, ap (λ c. cond c (length (account_of b a).owners) 0) alone))
+    ]
+
+-- the seat that has won the round may publish it, once it has stored the words
+pub may_publish_round : (b : BookTerms) (v w : View) (slot d : ℕ) → b.processes ≡ 4 → v.first < b.processes → 0 < b.own_room
+    → HasSlot b v.first 0 slot → HasWon b v slot → d ≡ 2 + 2 * slot → Stores v w (with_four (own_part v) d)
+    → MayPublish b w (round_record v.first slot)
+may_publish_round b v w slot d four known room has won word told =
+    let p = v.first in
+    let x = round_record p slot in
+    let first : w.first ≡ p = ap (λ (t : View). t.first) told.same in
+    let seen : w.seen ≡ v.seen = ap (λ (t : View). t.seen) told.same in
+    let width : 7 + b.processes ≡ 11 = omega (arith, four) in
+    let zeros : (own_part v).stored ≡ replicate 11 0 = won.blank ∙ ap (λ m. replicate m 0) width in
+    let decided : d ≡ word_of (first_decision slot) = omega (arith, word) in
+    record {
+      process = sym first;
+      room = omega (arith, ap (λ (q : Part). q.published) told.part, won.published, room);
+      stored = ap (λ (q : Part). q.stored) told.part
+          ∙ (ap (λ xs. (with_four (record (own_part v) { stored = xs }) d).stored) zeros
+          ∙ ap (λ m. 1 ∷ 2 ^ 40 ∷ m ∷ 7 ∷ 0 ∷ 0 ∷ 0 ∷ 0 ∷ 0 ∷ 0 ∷ 0 ∷ []) decided);
+      view = subst (λ xs. HasView b xs x) (sym seen) (record {
+        process = known;
+        front = subst (λ n. counts n [] ≡ 0 ∷ 0 ∷ 0 ∷ 0 ∷ []) (sym four) counts-none;
+        own = get_or-zeros 4 p ∙ sym won.counted;
+      });
+      entry = (
+        subst (λ k. IsSoundRound b k (prefix_of x.view w.seen) 0 0) (sym first) (record {
+          account_in = has.account_in;
+          shared = shared-HasSlot b p 0 slot has;
+          owner = ap is_some has.owner;
+          next = ap (count_by (λ y. is_round_on 0 y.entry)) firsts-nil;
+        }),
+        subst (λ (t : View). SeesDecision t 0 0 (first_decision slot)) (sym told.same) won.decision,
+        (payment, subst (λ (t : View). SeesRequest t 0 slot 0 payment) (sym told.same) won.request, refl),
       );
     }

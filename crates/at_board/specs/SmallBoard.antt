@@ -1,24 +1,51 @@
 -- What the tests ask for on a small board.
-use Rattle.std.specs.Prelude.{◌≡◌, ℕ, ◌+◌, ◌<◌, true, List, [], ◌∷◌, length, replicate, slice_index, None}
+use Rattle.std.specs.Prelude.{◌≡◌, ℕ, ◌+◌, ◌<◌, ◌≤◌, ◌⊎◌, true, List, [], ◌∷◌, length, replicate, slice_index, Some, None}
+use Rattle.at_base.specs.declared.decision.Decision.{Decision}
 use Rattle.at_ledger.specs.Account.{is_single}
 use Rattle.at_ledger.specs.Book.{BookTerms, account_of, is_owner}
 use Rattle.at_board.specs.declared.request.Request.{Request}
 use Rattle.at_board.specs.declared.view.View.{View}
+use Rattle.at_board.specs.Cuts.{starting_seat}
 use Rattle.at_board.specs.Fronts.{IsFront}
 use Rattle.at_board.specs.Places.{record_width}
 use Rattle.at_board.specs.Publications.{count_of}
 use Rattle.at_board.specs.SeatView.{BoardView, IsOf, SeatView}
-use Rattle.at_board.specs.Views.{own_part}
+use Rattle.at_board.specs.Views.{HasSlot, SeesDecision, SeesRequest, own_part}
 
 -- a payment of 7 to account 0
 abbrev pub payment : Request
 payment = record { targets = (0, 7) ∷ []; since = 0 }
+
+-- the first request of a slot succeeds, before anything is published
+abbrev pub first_decision : ℕ → Decision
+first_decision slot = record { ok = true; slot = slot; number = 0; place = 0 }
+
+-- a seat that has published nothing has seen its payment decided in the first round of account 0
+pub record HasWon (b : BookTerms) (v : View) (slot : ℕ) : Type 0 where
+  pub request : SeesRequest v 0 slot 0 payment
+  pub decision : SeesDecision v 0 0 (first_decision slot)
+  pub held : ((own_part v).held ≡ None) ⊎ ((own_part v).held ≡ Some (record { account = 0; round = 0 }))
+  pub blank : (own_part v).stored ≡ replicate (record_width b) 0
+  pub published : (own_part v).published ≡ 0
+  pub counted : count_of v.first v.seen ≡ 0
 
 -- the process owns the account after that of its number alone
 pub record HasOwnAccount (b : BookTerms) (process : ℕ) : Type 0 where
   pub account_in : process + 1 < length b.accounts
   pub single : is_single (account_of b (process + 1)) ≡ true
   pub owner : is_owner b process (process + 1) ≡ true
+
+-- the process may play: it shares account 0 by its own number with others, which covers the payment, and has its own account
+pub record MayPlay (b : BookTerms) (process : ℕ) : Type 0 where
+  pub slot : HasSlot b process 0 process
+  pub covered : 7 ≤ (account_of b 0).opening
+  pub owner : HasOwnAccount b process
+
+-- the seat of a new board, of a process that may play
+pub record IsNewPlayer (board : BoardView) (seat : SeatView) : Type 0 where
+  pub id : seat.board ≡ board.id
+  pub new : seat.view ≡ starting_seat board.book seat.view.first
+  pub player : MayPlay board.book seat.view.first
 
 -- a seat of the board between two records: it holds no cell, and nothing of the next record is stored
 pub record IsIdle (board : BoardView) (seat : SeatView) : Type 0 where

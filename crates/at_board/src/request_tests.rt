@@ -1,6 +1,6 @@
 //! A request is asked on a small board, and another process sees it.
 
-ghost use Rattle.std.specs.Prelude.{◌≡◌, ℕ, ◌<◌, length, slice_index_or, IfSome, None};
+ghost use Rattle.std.specs.Prelude.{◌≡◌, ℕ, ◌<◌, length, slice_index_or, IfSome};
 ghost use Rattle.at_ledger.specs.Book.{account_of};
 ghost use Rattle.at_board.specs.Cuts.{starting_seat};
 ghost use Rattle.at_board.specs.Places.{slots_of};
@@ -67,7 +67,7 @@ pub(crate) fn ask<L: Ledger, X: Ledger>(
     ensures board { IsOf seat.new board.now }
     ensures process { seat.new.view.first ≡ seat.old.view.first }
     ensures request { (slot : ℕ) → HasSlot board.now.book seat.old.view.first 0 slot → SeesRequest seat.new.view 0 slot 0 payment }
-    ensures free { (own_part seat.new.view).held ≡ None }
+    ensures part { own_part seat.new.view ≡ record (own_part seat.old.view) { asking = (own_part seat.new.view).asking } }
 {
     let _accounts = board.book().accounts();
     let _process = seat.process();

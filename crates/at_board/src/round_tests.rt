@@ -2,8 +2,9 @@
 
 ghost use Rattle.std.specs.Prelude.{◌≡◌, ℕ, ◌<◌, ◌≤◌, None};
 ghost use Rattle.at_ledger.specs.Book.{account_of};
+ghost use Rattle.at_board.specs.DecideSteps.{Decides};
 ghost use Rattle.at_board.specs.SeatView.{IsOf};
-ghost use Rattle.at_board.specs.SmallBoard.{payment};
+ghost use Rattle.at_board.specs.SmallBoard.{first_decision, payment};
 ghost use Rattle.at_board.specs.Views.{HasSlot, SeesRequest, own_part};
 
 use crate::request_tests::{ask, last_seat, slot_on, small_book};
@@ -15,7 +16,7 @@ use std::sync::ledger::{Blank, Ledger};
 use std::test::Fail;
 
 /// Proposes that the first round of account 0 decide the first request of a slot, which succeeds.
-fn decide_first<L: Ledger, X: Ledger>(
+pub(crate) fn decide_first<L: Ledger, X: Ledger>(
     board: &Board,
     seat: &mut BoardSeat,
     slot: u32,
@@ -28,6 +29,8 @@ fn decide_first<L: Ledger, X: Ledger>(
     requires request { SeesRequest seat.old.view 0 slot 0 payment }
     requires covered { 7 ≤ (account_of board.now.book 0).opening }
     requires free { (own_part seat.old.view).held ≡ None }
+    ensures board { seat.new.board ≡ seat.old.board }
+    ensures decided { Decides board.now.book seat.old.view seat.new.view 0 0 (first_decision slot) result }
 {
     let _accounts = board.book().accounts();
     board.decide(seat, 0, 0, 2 + 2 * u64::from(slot), steps, exchanges)

@@ -1,29 +1,38 @@
 //! Four threads publish, load and decide at once on one board, and the closed board has what they were told.
 
-ghost use Rattle.std.specs.Prelude.{◌≡◌, ℕ, ◌<◌, [], ◌∷◌, length, slice_index_or, IfOk, IfSome, IsTrue};
+ghost use Rattle.std.specs.Prelude.{◌≡◌, ℕ, ◌<◌, ◌≤◌, [], ◌∷◌, length, slice_index_or, IfOk, IfSome, IsTrue};
+ghost use Rattle.at_ledger.specs.Book.{account_of};
 ghost use Rattle.at_board.specs.Cuts.{starting_seat};
 ghost use Rattle.at_board.specs.Places.{length_of, word_at};
-ghost use Rattle.at_board.specs.SeatView.{SeatView};
-ghost use Rattle.at_board.specs.SmallBoard.{HasOwnAccount, IsIdle, IsOwnFront};
+ghost use Rattle.at_board.specs.SeatView.{IsOf, SeatView};
+ghost use Rattle.at_board.specs.SmallBoard.{HasOwnAccount, HasWon, IsIdle, IsNewPlayer, IsOwnFront, MayPlay};
 ghost use Rattle.at_board.specs.Steps.{LoadsLength};
-ghost use Rattle.at_board.specs.Views.{own_part};
+ghost use Rattle.at_board.specs.Views.{HasSlot, own_part};
 
-use crate::request_tests::last_seat;
+use crate::request_tests::{ask, last_seat, slot_on};
+use crate::round_tests::decide_first;
 use crate::{Board, BoardEnd, BoardSeat, RECORD_WORDS, Steps};
-use at_base::Counts;
+use at_base::{Counts, unpack_decision};
 use at_ledger::{Book, Draft, DraftAccount};
 use std::alloc::{AllocError, Global};
 use std::marker::Brand;
 use std::process::Abort;
+use std::sync::atomic::{AtomicU64, Ordering};
 use std::sync::ledger::{Blank, Ledger};
 use std::test::Fail;
-use std::thread::{Threads, join_mut};
+use std::thread::{Threads, join_mut, yield_now};
 
 /// How many records each thread publishes.
 const RECORDS: u32 = 64;
 
 /// How often a thread looks for a front at most. A look fails only where another thread has published meanwhile.
 const LOOKS: u32 = 4 * RECORDS + 8;
+
+/// How often a thread looks whether the others are there before it starts without them.
+const WAITS: u32 = 100_000;
+
+/// How many boards are played on, one after another.
+const BOARDS: u32 = 4;
 
 /// A book of four processes that share account 0 and have another account each.
 fn four_book(alloc: Global) -> Result<Book, Fail> {
@@ -50,19 +59,22 @@ fn four_book(alloc: Global) -> Result<Book, Fail> {
     Ok(Book::new(alloc, &draft)?)
 }
 
-/// Whether a process owns the account after that of its number alone.
-fn has_own_account(book: &Book, process: u32) -> bool
+/// Whether a process shares account 0 by its own number, which covers 7, and owns the account after that of its number alone.
+fn may_play(book: &Book, process: u32) -> bool
     requires { process < 4 }
-    ensures { IsTrue result → HasOwnAccount book.now process }
+    ensures { IsTrue result → MayPlay book.now process }
 {
     let account = process + 1;
-    if book.accounts() <= account {
+    if book.accounts() <= account || book.owner_count(account) != 1 {
         return false;
     }
-    if book.owner_count(account) != 1 {
+    if book.slot_of(account, process).is_none() || book.opening(0) < 7 {
         return false;
     }
-    book.slot_of(account, process).is_some()
+    match slot_on(book, 0, process) {
+        Some(slot) => slot == process,
+        None => false,
+    }
 }
 
 /// The counts of four processes.
@@ -147,25 +159,104 @@ fn move_nothing<L: Ledger, X: Ledger>(
     board.publish(seat, steps, exchanges);
 }
 
-/// Publishes records beside the other threads, and answers their views.
+/// Publishes the first round of account 0, in which the process's payment was decided.
+fn publish_round<L: Ledger, X: Ledger>(
+    board: &Board,
+    seat: &mut BoardSeat,
+    slot: u32,
+    steps: &mut Steps<L>,
+    exchanges: &mut Steps<X>,
+)
+    requires board { IsOf seat.old board.now }
+    requires four { board.now.book.processes ≡ 4 }
+    requires slot { HasSlot board.now.book seat.old.view.first 0 slot }
+    requires won { HasWon board.now.book seat.old.view slot }
+    ensures idle { IsIdle board.now seat.new }
+    ensures process { seat.new.view.first ≡ seat.old.view.first }
+{
+    let _accounts = board.book().accounts();
+    let _process = seat.process();
+    board.store_record_word(seat, 0, 1, steps, exchanges);
+    board.store_record_word(seat, 1, 1 << 40, steps, exchanges);
+    board.store_record_word(seat, 2, 2 + 2 * u64::from(slot), steps, exchanges);
+    board.store_record_word(seat, 3, 7, steps, exchanges);
+    board.publish(seat, steps, exchanges);
+}
+
+/// Asks for a payment on account 0 and proposes it for the first round, which it publishes where it has won. Answers the word
+/// of the round.
+fn settle<L: Ledger, X: Ledger>(
+    board: &Board,
+    seat: &mut BoardSeat,
+    slot: u32,
+    steps: &mut Steps<L>,
+    exchanges: &mut Steps<X>,
+) -> u64
+    requires board { seat.old.board ≡ board.now.id }
+    requires new { seat.old.view ≡ starting_seat board.now.book seat.old.view.first }
+    requires four { board.now.book.processes ≡ 4 }
+    requires slot { HasSlot board.now.book seat.old.view.first 0 slot }
+    requires small { slot < 8 }
+    requires covered { 7 ≤ (account_of board.now.book 0).opening }
+    ensures idle { IsIdle board.now seat.new }
+    ensures process { seat.new.view.first ≡ seat.old.view.first }
+{
+    ask(board, seat, steps, exchanges);
+    let _process = seat.process();
+    let word = decide_first(board, seat, slot, steps, exchanges);
+    let _decision = unpack_decision(word);
+    if word == 2 + 2 * u64::from(slot) {
+        publish_round(board, seat, slot, steps, exchanges);
+    }
+    word
+}
+
+/// Waits until all four threads are there, or a while where not.
+fn meet(gate: &AtomicU64) {
+    gate.fetch_add(1, Ordering::SeqCst);
+    for _wait in 0..WAITS {
+        if 4 <= gate.load(Ordering::SeqCst) {
+            return;
+        }
+        yield_now();
+    }
+}
+
+/// What a thread was told: the word of the first round of account 0, and the views of its records.
+#[derive(Drop)]
+struct Told {
+    word: u64,
+    views: Vec<Counts>,
+}
+
+/// The word of the decision that the first request of a process succeeds, before anything is published.
+fn proposal_of(process: u32) -> u64 {
+    2 + 2 * u64::from(process)
+}
+
+/// Settles the first round, and then publishes records, beside the other threads.
 fn play<L: Ledger, X: Ledger>(
     board: &Board,
     alloc: Global,
     seat: &mut BoardSeat,
     steps: Blank,
     exchanges: Blank,
-) -> Result<Vec<Counts>, AllocError>
+) -> Result<Told, AllocError>
     requires names { (steps.name ≡ L.name) × (exchanges.name ≡ X.name) }
     requires parts { (steps.parts ≡ L.parts) × (exchanges.parts ≡ X.parts) }
     requires some { (0 < steps.parts) × (0 < exchanges.parts) }
-    requires idle { IsIdle board.now seat.old }
     requires four { board.now.book.processes ≡ 4 }
-    requires owner { HasOwnAccount board.now.book seat.old.view.first }
+    requires player { IsNewPlayer board.now seat.old }
     ensures idle { IsIdle board.now seat.new }
     ensures process { seat.new.view.first ≡ seat.old.view.first }
 {
     let (steps, exchanges) = (&mut Steps::<L>::new(steps), &mut Steps::<X>::new(exchanges));
+    let process = seat.process();
+    let word = settle(board, seat, process, steps, exchanges);
     let mut views = Vec::new(alloc);
+    if word == proposal_of(process) {
+        views.push(counts_of(0, 0, 0, 0))?;
+    }
     for _look in 0..LOOKS {
         let Some(view) = front(board, seat, steps, exchanges) else {
             continue;
@@ -176,17 +267,22 @@ fn play<L: Ledger, X: Ledger>(
         move_nothing(board, seat, &view, steps, exchanges);
         views.push(view)?;
     }
-    Ok(views)
+    Ok(Told { word, views })
 }
 
-/// Plays with counters of its own.
-fn play_alone(board: &Board, alloc: Global, seat: &mut BoardSeat) -> Result<Vec<Counts>, AllocError>
-    requires idle { IsIdle board.now seat.old }
+/// Plays with counters of its own, once all threads are there.
+fn play_alone(
+    board: &Board,
+    alloc: Global,
+    gate: &AtomicU64,
+    seat: &mut BoardSeat,
+) -> Result<Told, AllocError>
     requires four { board.now.book.processes ≡ 4 }
-    requires owner { HasOwnAccount board.now.book seat.old.view.first }
+    requires player { IsNewPlayer board.now seat.old }
     ensures idle { IsIdle board.now seat.new }
     ensures process { seat.new.view.first ≡ seat.old.view.first }
 {
+    meet(gate);
     play::<Brand, Brand>(board, alloc, seat, Blank::new(1), Blank::new(1))
 }
 
@@ -195,22 +291,20 @@ fn play_two<R: Threads>(
     rt: &R,
     board: &Board,
     alloc: Global,
+    gate: &AtomicU64,
     one: &mut BoardSeat,
     other: &mut BoardSeat,
-) -> (
-    Result<Vec<Counts>, AllocError>,
-    Result<Vec<Counts>, AllocError>,
-)
+) -> (Result<Told, AllocError>, Result<Told, AllocError>)
     requires four { board.now.book.processes ≡ 4 }
-    requires one { IsIdle board.now one.old × HasOwnAccount board.now.book one.old.view.first }
-    requires other { IsIdle board.now other.old × HasOwnAccount board.now.book other.old.view.first }
+    requires one { IsNewPlayer board.now one.old }
+    requires other { IsNewPlayer board.now other.old }
     ensures one { IsIdle board.now one.new × (one.new.view.first ≡ one.old.view.first) }
     ensures other { IsIdle board.now other.new × (other.new.view.first ≡ other.old.view.first) }
 {
     join_mut(
         rt,
-        &mut || play_alone(board, alloc, one),
-        &mut || play_alone(board, alloc, other),
+        &mut || play_alone(board, alloc, gate, one),
+        &mut || play_alone(board, alloc, gate, other),
     )
 }
 
@@ -223,36 +317,36 @@ fn play_four<R: Threads + Sync>(
     one: &mut BoardSeat,
     two: &mut BoardSeat,
     three: &mut BoardSeat,
-) -> Result<[Vec<Counts>; 4], AllocError>
+) -> Result<[Told; 4], AllocError>
     requires four { board.now.book.processes ≡ 4 }
-    requires zero { IsIdle board.now zero.old × HasOwnAccount board.now.book zero.old.view.first }
-    requires one { IsIdle board.now one.old × HasOwnAccount board.now.book one.old.view.first }
-    requires two { IsIdle board.now two.old × HasOwnAccount board.now.book two.old.view.first }
-    requires three { IsIdle board.now three.old × HasOwnAccount board.now.book three.old.view.first }
+    requires zero { IsNewPlayer board.now zero.old }
+    requires one { IsNewPlayer board.now one.old }
+    requires two { IsNewPlayer board.now two.old }
+    requires three { IsNewPlayer board.now three.old }
     ensures zero { IsIdle board.now zero.new × (zero.new.view.first ≡ zero.old.view.first) }
     ensures one { IsIdle board.now one.new × (one.new.view.first ≡ one.old.view.first) }
     ensures two { IsIdle board.now two.new × (two.new.view.first ≡ two.old.view.first) }
     ensures three { IsIdle board.now three.new × (three.new.view.first ≡ three.old.view.first) }
 {
+    let gate = &AtomicU64::new(0);
     let ((a, b), (c, d)) = join_mut(
         rt,
-        &mut || play_two(rt, board, alloc, zero, one),
-        &mut || play_two(rt, board, alloc, two, three),
+        &mut || play_two(rt, board, alloc, gate, zero, one),
+        &mut || play_two(rt, board, alloc, gate, two, three),
     );
     Ok([a?, b?, c?, d?])
 }
 
-/// The last of the seats that are left, if it is that of this process, which has an account of its own.
+/// The last of the seats that are left, if it is that of this process, which may play.
 fn last_player(board: &Board, seats: &mut Vec<BoardSeat>, process: u32) -> Option<BoardSeat>
     requires process { process < 4 }
     requires new { (p : ℕ) (d : SeatView) → p < length seats.old.items → slice_index_or seats.old.items p d ≡ record { board = board.now.id; view = starting_seat board.now.book p } }
-    ensures idle { IfSome result (λ seat. IsIdle board.now seat) }
+    ensures player { IfSome result (λ seat. IsNewPlayer board.now seat) }
     ensures process { IfSome result (λ seat. seat.view.first ≡ process) }
-    ensures owner { IfSome result (λ seat. HasOwnAccount board.now.book seat.view.first) }
     ensures rest { (p : ℕ) (d : SeatView) → p < length seats.new.items → slice_index_or seats.new.items p d ≡ record { board = board.now.id; view = starting_seat board.now.book p } }
 {
     let seat = last_seat(board, seats)?;
-    if seat.process() != process || !has_own_account(board.book(), process) {
+    if seat.process() != process || !may_play(board.book(), process) {
         return None;
     }
     Some(seat)
@@ -295,37 +389,53 @@ fn moving_word(p: u32, view: &Counts, j: u32) -> u64
     }
 }
 
-/// Whether a record of a closed board has these words.
-fn has_words(end: &BoardEnd, p: u32, i: u32, view: &Counts) -> bool
+/// A word of the record of the first round of account 0, which has this decision.
+fn round_word(decision: u64, j: u32) -> u64 {
+    match j {
+        0 => 1,
+        1 => 1 << 40,
+        2 => decision,
+        3 => 7,
+        _ => 0,
+    }
+}
+
+/// Whether a record of a closed board has these words: those of the round, or else of a move with this view.
+fn has_words(end: &BoardEnd, p: u32, i: u32, round: Option<u64>, view: &Counts) -> bool
     requires four { end.now.book.processes ≡ 4 }
     requires process { p < 4 }
     requires record { i < word_at end.now.book end.now.words (length_of p) }
     requires view { length view.now ≡ 4 }
 {
     for j in 0..11 {
-        if end.record_word(p, i, j) != moving_word(p, view, j) {
+        let word = match round {
+            Some(decision) => round_word(decision, j),
+            None => moving_word(p, view, j),
+        };
+        if end.record_word(p, i, j) != word {
             return false;
         }
     }
     true
 }
 
-/// Whether the closed board has the records with these views as all that the process has published, and as many of each
-/// process as these views count.
-fn has_records(end: &BoardEnd, p: u32, views: &Vec<Counts>) -> bool
+/// Whether the closed board has what the thread of a process was told: its records and no others, the round's first where it
+/// has won, with their views, and of each process as many as these views count.
+fn has_told(end: &BoardEnd, p: u32, told: &Told) -> bool
     requires four { end.now.book.processes ≡ 4 }
     requires process { p < 4 }
 {
     let lengths = counts_of(end.length(0), end.length(1), end.length(2), end.length(3));
-    if end.length(p) as usize != views.len() {
+    if end.length(p) as usize != told.views.len() {
         return false;
     }
     for i in 0..end.length(p) {
-        let view = &views[i as usize];
+        let view = &told.views[i as usize];
         if view.len() != 4 || view.get(p) != i || !lengths.covers(view) {
             return false;
         }
-        if !has_words(end, p, i, view) {
+        let won = i == 0 && told.word == proposal_of(p);
+        if !has_words(end, p, i, won.then_some(told.word), view) {
             return false;
         }
     }
@@ -343,7 +453,7 @@ fn rises(views: &Vec<Counts>) -> bool {
     true
 }
 
-/// Four threads publish and load at once on a board, which is then closed.
+/// Four threads play at once on a board, which is then closed.
 fn plays<R: Threads + Sync + Abort>(rt: &R, alloc: Global) -> Result<(), Fail> {
     let book = four_book(alloc)?;
     let (board, mut seats) = Board::new(alloc, &book)?;
@@ -354,16 +464,23 @@ fn plays<R: Threads + Sync + Abort>(rt: &R, alloc: Global) -> Result<(), Fail> {
     let mut zero = last_player(&board, &mut seats, 0).expect(rt, "process 0");
     let told = play_four(rt, &board, alloc, &mut zero, &mut one, &mut two, &mut three)?;
     let end = close_four(board, alloc, zero, one, two, three)?;
+    let mut winners = 0u32;
     for p in 0..4u32 {
-        let views = &told[p as usize];
+        let mine = &told[p as usize];
+        assert_eq!(rt; mine.word, told[0].word);
         assert_eq!(rt; end.length(p), RECORDS);
-        assert!(rt; rises(views));
-        assert!(rt; has_records(&end, p, views));
+        assert!(rt; rises(&mine.views));
+        assert!(rt; has_told(&end, p, mine));
+        winners = winners.saturating_add(u32::from(mine.word == proposal_of(p)));
     }
+    assert_eq!(rt; winners, 1);
     Ok(())
 }
 
 #[test]
 fn four_threads_play(rt: HostRuntime) -> Result<(), Fail> {
-    plays(&rt, rt.alloc())
+    for _board in 0..BOARDS {
+        plays(&rt, rt.alloc())?;
+    }
+    Ok(())
 }

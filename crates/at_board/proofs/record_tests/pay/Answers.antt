@@ -3,7 +3,7 @@ use Rattle.std.proofs.lemmas.List.{length-set}
 use Rattle.at_ledger.specs.Book.{BookTerms, IsBook}
 use Rattle.at_board.proofs.CountLaws.{publications_of-nil}
 use Rattle.at_board.proofs.OpeningLaws.{get_or-zeros}
-use Rattle.at_board.proofs.SeatKept.{own_part-with_part}
+use Rattle.at_board.proofs.SmallBoardLaws.{own_part-StoresWord}
 use Rattle.at_board.specs.declared.publication.Entry.TheVariants.{Own}
 use Rattle.at_board.specs.declared.publication.Publication.{Publication}
 use Rattle.at_board.specs.declared.view.Part.{Part}
@@ -27,10 +27,6 @@ payment p = record { process = p; view = 0 ∷ 0 ∷ []; entry = Own 0 ((1, 30) 
 counts-none : counts 2 [] ≡ 0 ∷ 0 ∷ []
 unfolding counts publications_of
 counts-none = refl
-
--- the part of a seat that has stored a word
-own_part-StoresWord : (v w : View) (j n : ℕ) → 0 < length v.parts → StoresWord v w j n → own_part w ≡ with_word (own_part v) j n
-own_part-StoresWord v w j n part told = ap own_part told ∙ own_part-with_part v (with_word (own_part v) j n) part
 
 -- it may be published by a new seat that has stored its words
 may_publish : (b : BookTerms) (v one two : View) → IsBook b → v ≡ starting_seat b v.first → HasOwnPart v → b.processes ≡ 2 → v.first < 2

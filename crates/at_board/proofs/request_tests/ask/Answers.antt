@@ -1,4 +1,4 @@
-use Rattle.std.proofs.Common.{◌≡◌, ℕ, ◌<◌, ◌^◌, [], ◌∷◌, ◌++◌, length, sym, ap, subst, ◌∙◌, arith}
+use Rattle.std.proofs.Common.{◌≡◌, ℕ, ◌<◌, ◌^◌, [], ◌∷◌, ◌++◌, length, refl, sym, ap, subst, ◌∙◌, arith}
 use Rattle.std.specs.List.{Contains}
 use Rattle.std.proofs.lemmas.List.{get_or-replicate}
 use Rattle.std.proofs.lemmas.List.Elements.{All-cons, All-nil, Contains-append_right}
@@ -6,7 +6,6 @@ use Rattle.at_ledger.specs.Book.{BookTerms, IsBook}
 use Rattle.at_ledger.specs.Call.{TargetPair}
 use Rattle.at_board.proofs.AskingFacts.{HasOwnPart-StoresRequestWord, MayAsk-StoresRequestWord, asking-StoresRequestWord}
 use Rattle.at_board.proofs.SeatKept.{own_part-with_part}
-use Rattle.at_board.specs.declared.request.Request.{Request}
 use Rattle.at_board.specs.declared.view.Asking.{Asking}
 use Rattle.at_board.specs.declared.view.Part.{Part}
 use Rattle.at_board.specs.declared.view.View.{View}
@@ -74,21 +73,17 @@ sees_payment b u w slot none told =
     let last : Contains (seen_as 0 slot n payment ∷ []) x = (0, omega arith, ap (λ k. seen_as 0 slot k payment) none) in
     subst (λ (t : View). Contains t.requests x) (sym told.same) (Contains-append_right u.requests (seen_as 0 slot n payment ∷ []) x last)
 
--- no step of asking takes a cell
-held-with_asking : (v : View) (a : ℕ) (w : Asking) → 0 < length v.parts → (own_part (with_asking v a w)).held ≡ (own_part v).held
-held-with_asking v a w part = ap (λ (t : Part). t.held) (own_part-with_part v (part_asking (own_part v) a w) part)
+-- a step of asking changes what the part has on accounts alone
+part-with_asking : (v u w : View) (a : ℕ) (t : Asking) → 0 < length v.parts → own_part v ≡ own_part u → w ≡ with_asking v a t
+    → own_part w ≡ record (own_part u) { asking = (own_part w).asking }
+part-with_asking v u w a t part start told =
+    let q : Part = own_part v in
+    let own : own_part w ≡ part_asking q a t = ap own_part told ∙ own_part-with_part v (part_asking q a t) part in
+    own ∙ (ap (λ xs. record q { asking = xs }) (sym (ap (λ (p : Part). p.asking) own)) ∙ ap (λ (p : Part). record p { asking = (own_part w).asking }) start)
 
-held-StoresRequestWord : (v u : View) (a j n : ℕ) → HasOwnPart v → StoresRequestWord v u a j n → (own_part u).held ≡ (own_part v).held
-held-StoresRequestWord v u a j n has told =
-    ap (λ (t : View). (own_part t).held) told
-    ∙ held-with_asking v a (with_request_word (asking_on (own_part v) a) j n) (omega (arith, has.one_part))
-
-held-Announces : (b : BookTerms) (v u : View) (a slot : ℕ) (r : Request) → HasOwnPart v → Announces b v u a slot r → (own_part u).held ≡ (own_part v).held
-held-Announces b v u a slot r has told =
-    let w : Asking = asking_on (own_part v) a in
-    ap (λ (t : View). (own_part t).held) told.same
-    ∙ held-with_asking (record v { seen = u.seen; requests = v.requests ++ seen_as a slot (length w.announced) r ∷ [] }) a (with_request w r (rounds a u.seen))
-    (omega (arith, has.one_part))
+part-after : (u v w : View) → own_part v ≡ record (own_part u) { asking = (own_part v).asking } → own_part w ≡ record (own_part v) { asking = (own_part w).asking }
+    → own_part w ≡ record (own_part u) { asking = (own_part w).asking }
+part-after u v w first second = second ∙ ap (λ (p : Part). record p { asking = (own_part w).asking }) first
 
 pub announce-requires-clause-request : goal.announce-requires-clause-request
 announce-requires-clause-request g c =
@@ -140,20 +135,26 @@ returns-clause-request g c = λ slot has.
     sees_payment b two c.announce.new.seat.view slot (ap (λ (w : Asking). length w.announced) (stored_asking b v one two slot c.requires.new part has first second))
     (c.announce.ensures.announced slot payment may)
 
-pub returns-clause-free : goal.returns-clause-free
-returns-clause-free g c =
+pub returns-clause-part : goal.returns-clause-part
+returns-clause-part g c =
     let b : BookTerms = c.args.board.now.book in
     let v : View = c.args.seat.now.view in
     let one : View = c.store_request_word.new.seat.view in
     let two : View = c.store_request_word-2.new.seat.view in
+    let last : View = c.announce.new.seat.view in
     let book : IsBook b = subst IsBook c.book.ensures c.accounts-accounts.ensures.checked in
     let first = c.store_request_word.ensures.stored in
     let second = c.store_request_word-2.ensures.stored in
     let part = c.process-process.ensures.part in
     let slot = c.requires.slot.0 in
     let may = asked b v one two slot book c.requires.new part c.requires.slot.1 first second in
+    let told = c.announce.ensures.announced slot payment may in
     let one_part = HasOwnPart-StoresRequestWord v one 0 0 (2 ^ 40) part first in
     let two_part = HasOwnPart-StoresRequestWord one two 0 1 7 one_part second in
-    held-Announces b two c.announce.new.seat.view 0 slot payment two_part (c.announce.ensures.announced slot payment may)
-    ∙ (held-StoresRequestWord one two 0 1 7 one_part second ∙ (held-StoresRequestWord v one 0 0 (2 ^ 40) part first
-    ∙ ap (λ (t : View). (own_part t).held) c.requires.new))
+    let w : Asking = asking_on (own_part two) 0 in
+    part-after v two last
+    (part-after v one two
+    (part-with_asking v v one 0 (with_request_word (asking_on (own_part v) 0) 0 (2 ^ 40)) (omega (arith, part.one_part)) refl first)
+    (part-with_asking one one two 0 (with_request_word (asking_on (own_part one) 0) 1 7) (omega (arith, one_part.one_part)) refl second))
+    (part-with_asking (record two { seen = last.seen; requests = two.requests ++ seen_as 0 slot (length w.announced) payment ∷ [] }) two last 0
+    (with_request w payment (rounds 0 last.seen)) (omega (arith, two_part.one_part)) refl told.same)

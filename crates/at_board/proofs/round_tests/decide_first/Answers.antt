@@ -1,6 +1,5 @@
-use Rattle.std.proofs.Common.{◌≡◌, ℕ, ◌<◌, ◌≤◌, true, [], refl, ap, subst, None, arith}
+use Rattle.std.proofs.Common.{◌≡◌, ℕ, ◌<◌, ◌≤◌, [], refl, ap, subst, None, arith}
 use Rattle.std.specs.List.{count_by, sum_by}
-use Rattle.at_base.specs.declared.decision.Decision.{Decision}
 use Rattle.at_ledger.specs.Book.{BookTerms, IsBook, account_of}
 use Rattle.at_board.proofs.PlaceLaws.{rounds_room-slots_of}
 use Rattle.at_board.proofs.RoundLaws.{firsts-nil}
@@ -10,13 +9,9 @@ use Rattle.at_board.specs.Balances.{IsCovered, credit_of, debit_of}
 use Rattle.at_board.specs.Conditions.{MayPropose}
 use Rattle.at_board.specs.Entries.{is_round_on}
 use Rattle.at_board.specs.Places.{slots_of}
-use Rattle.at_board.specs.SmallBoard.{payment}
+use Rattle.at_board.specs.SmallBoard.{first_decision, payment}
 use Rattle.at_board.specs.Views.{HasSlot, SeesRequest, own_part}
 use Rattle.at_board.proofs.round_tests.decide_first.Goals as goal
-
--- the payment succeeds in the first round
-abbrev first_decision : ℕ → Decision
-first_decision slot = record { ok = true; slot = slot; number = 0; place = 0 }
 
 may_propose : (b : BookTerms) (v : View) (own slot : ℕ) → IsBook b → HasSlot b v.first 0 own → slot < 8 → SeesRequest v 0 slot 0 payment
     → 7 ≤ (account_of b 0).opening → (own_part v).held ≡ None → MayPropose b v 0 0 (first_decision slot) payment
@@ -51,3 +46,11 @@ decide-requires-clause-proposal g c =
       may_propose b c.args.seat.now.view c.requires.owner.0 c.args.slot book c.requires.owner.1 c.requires.slot c.requires.request c.requires.covered c.requires.free,
       omega arith,
     )
+
+pub returns-clause-decided : goal.returns-clause-decided
+returns-clause-decided g c =
+    let b : BookTerms = c.args.board.now.book in
+    let book : IsBook b = subst IsBook c.book.ensures c.accounts-accounts.ensures.checked in
+    c.decide.ensures.decided (first_decision c.args.slot) payment
+    (may_propose b c.args.seat.now.view c.requires.owner.0 c.args.slot book c.requires.owner.1 c.requires.slot c.requires.request c.requires.covered c.requires.free)
+    (omega arith)

@@ -1,16 +1,11 @@
-use Rattle.std.proofs.Common.{◌≡◌, ℕ, ◌<◌, ◌+◌, ◌*◌, List, [], ◌∷◌, length, get_or, replicate, None, refl, sym, ap, subst, ◌∙◌, arith}
-use Rattle.std.proofs.lemmas.List.{length-set}
+use Rattle.std.proofs.Common.{◌≡◌, ℕ, ◌<◌, ◌+◌, ◌*◌, List, [], ◌∷◌, length, get_or, replicate, sym, ap, subst, ◌∙◌, arith}
 use Rattle.at_ledger.specs.Book.{BookTerms}
 use Rattle.at_board.proofs.FrontLaws.{length-IsFront}
-use Rattle.at_board.proofs.SeatKept.{own_part-with_part}
-use Rattle.at_board.proofs.SmallBoardLaws.{StoresSix, list_of_four, may_publish_moving, moving, six_stores}
-use Rattle.at_board.specs.declared.publication.Publication.{Publication}
-use Rattle.at_board.specs.declared.view.Part.{Part}
+use Rattle.at_board.proofs.SmallBoardLaws.{IsIdle-published, Stores, Stores-six, list_of_four, may_publish_moving, moving, with_six}
 use Rattle.at_board.specs.declared.view.View.{View}
 use Rattle.at_board.specs.Conditions.{MayPublish}
-use Rattle.at_board.specs.SmallBoard.{HasOwnAccount, IsIdle, IsOwnFront}
-use Rattle.at_board.specs.SeatView.{BoardView, SeatView}
-use Rattle.at_board.specs.Steps.{IsHistory, Publishes, held_after, with_record}
+use Rattle.at_board.specs.SmallBoard.{HasOwnAccount, IsOwnFront}
+use Rattle.at_board.specs.Steps.{IsHistory, held_after}
 use Rattle.at_board.specs.Views.{own_part}
 use Rattle.at_board.proofs.stress_tests.move_nothing.Goals as goal
 
@@ -30,29 +25,11 @@ get-requires-3 g c = omega (arith, length-view c.args.board.now.book c.args.seat
 pub get-requires-4 : goal.get-requires-4
 get-requires-4 g c = omega (arith, length-view c.args.board.now.book c.args.seat.now.view c.args.view.now c.requires.four c.requires.view)
 
--- a published record leaves the seat between two records
-idle_again : (board : BoardView) (v w u : SeatView) (x : Publication) (h i j k l : ℕ) → IsIdle board v → StoresSix v.view w.view h i j k l
-    → Publishes board.book w.view u.view x → u.board ≡ v.board → IsIdle board u
-idle_again board v w u x h i j k l idle stored told id =
-    let one : length w.view.parts ≡ 1 = stored.parts ∙ idle.one_part in
-    let q : Part = with_record board.book (own_part w.view) x in
-    let own : own_part u.view ≡ q = ap own_part told.same ∙ own_part-with_part (record w.view { seen = u.view.seen }) q (omega (arith, one)) in
-    let free : (own_part w.view).held ≡ None = ap (λ (t : Part). t.held) stored.part ∙ idle.free in
-    record {
-      of_board = record {
-        id = id ∙ idle.of_board.id;
-        book = ap (λ (t : View). t.book) told.same ∙ (stored.book ∙ idle.of_board.book);
-      };
-      one_part = ap (λ (t : View). length t.parts) told.same ∙ (length-set w.view.parts 0 q ∙ one);
-      free = ap (λ (t : Part). t.held) own ∙ ap (held_after x) free;
-      blank = ap (λ (t : Part). t.stored) own;
-    }
-
 -- the words are those of the record with the view
 may_move_nothing : (b : BookTerms) (v w : View) (view : List ℕ) (h i j k l : ℕ) → b.processes ≡ 4 → v.first < b.processes → IsHistory b v.seen
     → (own_part v).stored ≡ replicate (7 + b.processes) 0 → (own_part v).published < b.own_room → HasOwnAccount b v.first → IsOwnFront b v view
     → h ≡ 2 * (v.first + 1) → i ≡ get_or view 0 0 → j ≡ get_or view 1 0 → k ≡ get_or view 2 0 → l ≡ get_or view 3 0
-    → StoresSix v w h i j k l → MayPublish b w (moving v.first view)
+    → Stores v w (with_six (own_part v) h i j k l) → MayPublish b w (moving v.first view)
 may_move_nothing b v w view h i j k l four known history blank room owns front head ei ej ek el stored =
     let all : i ∷ j ∷ k ∷ l ∷ [] ≡ view = (λ t. ei t ∷ ej t ∷ ek t ∷ el t ∷ []) ∙ sym (list_of_four view (length-view b v view four front)) in
     subst (λ xs. MayPublish b w (moving v.first xs)) all
@@ -67,7 +44,7 @@ publish-requires-clause-record g c =
     let k = c.from-4.result in
     let l = c.from-5.result in
     let h = 2 * (c.from.result + 1) in
-    let stored = six_stores v c.store_record_word.new.seat.view c.store_record_word-2.new.seat.view c.store_record_word-3.new.seat.view c.store_record_word-4.new.seat.view
+    let stored = Stores-six v c.store_record_word.new.seat.view c.store_record_word-2.new.seat.view c.store_record_word-3.new.seat.view c.store_record_word-4.new.seat.view
     c.store_record_word-5.new.seat.view c.store_record_word-6.new.seat.view h i j k l c.requires.idle.one_part c.store_record_word.ensures.stored
     c.store_record_word-2.ensures.stored c.store_record_word-3.ensures.stored c.store_record_word-4.ensures.stored c.store_record_word-5.ensures.stored
     c.store_record_word-6.ensures.stored in
@@ -87,7 +64,7 @@ returns-clause-idle g c =
     let k = c.from-4.result in
     let l = c.from-5.result in
     let h = 2 * (c.from.result + 1) in
-    let stored = six_stores v c.store_record_word.new.seat.view c.store_record_word-2.new.seat.view c.store_record_word-3.new.seat.view c.store_record_word-4.new.seat.view
+    let stored = Stores-six v c.store_record_word.new.seat.view c.store_record_word-2.new.seat.view c.store_record_word-3.new.seat.view c.store_record_word-4.new.seat.view
     c.store_record_word-5.new.seat.view c.store_record_word-6.new.seat.view h i j k l c.requires.idle.one_part c.store_record_word.ensures.stored
     c.store_record_word-2.ensures.stored c.store_record_word-3.ensures.stored c.store_record_word-4.ensures.stored c.store_record_word-5.ensures.stored
     c.store_record_word-6.ensures.stored in
@@ -96,7 +73,8 @@ returns-clause-idle g c =
     (subst (λ t. IsHistory t v.seen) c.requires.idle.of_board.book c.process.ensures.seat.history) c.requires.idle.blank c.requires.room c.requires.owner
     c.requires.view (omega (arith, c.from.ensures, c.process.ensures.process)) (c.from-2.ensures ∙ c.get.ensures) (c.from-3.ensures ∙ c.get-2.ensures)
     (c.from-4.ensures ∙ c.get-3.ensures) (c.from-5.ensures ∙ c.get-4.ensures) stored in
-    idle_again c.args.board.now c.args.seat.now c.store_record_word-6.new.seat c.publish.new.seat (moving v.first c.args.view.now) h i j k l c.requires.idle stored
+    IsIdle-published c.args.board.now c.args.seat.now c.store_record_word-6.new.seat c.publish.new.seat (with_six (own_part v) h i j k l) (moving v.first c.args.view.now)
+    c.requires.idle.of_board c.requires.idle.one_part stored (ap (held_after (moving v.first c.args.view.now)) c.requires.idle.free)
     (c.publish.ensures.published (moving v.first c.args.view.now) may)
     (c.publish.ensures.board ∙ (c.store_record_word-6.ensures.board ∙ (c.store_record_word-5.ensures.board ∙ (c.store_record_word-4.ensures.board
     ∙ (c.store_record_word-3.ensures.board ∙ (c.store_record_word-2.ensures.board ∙ c.store_record_word.ensures.board))))))
@@ -110,7 +88,7 @@ returns-clause-process g c =
     let k = c.from-4.result in
     let l = c.from-5.result in
     let h = 2 * (c.from.result + 1) in
-    let stored = six_stores v c.store_record_word.new.seat.view c.store_record_word-2.new.seat.view c.store_record_word-3.new.seat.view c.store_record_word-4.new.seat.view
+    let stored = Stores-six v c.store_record_word.new.seat.view c.store_record_word-2.new.seat.view c.store_record_word-3.new.seat.view c.store_record_word-4.new.seat.view
     c.store_record_word-5.new.seat.view c.store_record_word-6.new.seat.view h i j k l c.requires.idle.one_part c.store_record_word.ensures.stored
     c.store_record_word-2.ensures.stored c.store_record_word-3.ensures.stored c.store_record_word-4.ensures.stored c.store_record_word-5.ensures.stored
     c.store_record_word-6.ensures.stored in
@@ -119,4 +97,4 @@ returns-clause-process g c =
     (subst (λ t. IsHistory t v.seen) c.requires.idle.of_board.book c.process.ensures.seat.history) c.requires.idle.blank c.requires.room c.requires.owner
     c.requires.view (omega (arith, c.from.ensures, c.process.ensures.process)) (c.from-2.ensures ∙ c.get.ensures) (c.from-3.ensures ∙ c.get-2.ensures)
     (c.from-4.ensures ∙ c.get-3.ensures) (c.from-5.ensures ∙ c.get-4.ensures) stored in
-    ap (λ (t : View). t.first) (c.publish.ensures.published (moving v.first c.args.view.now) may).same ∙ stored.first
+    ap (λ (t : View). t.first) (c.publish.ensures.published (moving v.first c.args.view.now) may).same ∙ ap (λ (t : View). t.first) stored.same
