@@ -58,7 +58,6 @@ MayAppend-first b v p view targets book new known zeros pays =
         own = ap (λ xs. get_or xs p 0) zeros ∙ (get_or-zeros b.processes p ∙ sym (ap length (publications_of-nil p)));
       };
       entry = (subst (λ xs. IsSoundOwn b p xs 0 targets) (sym none) pays, omega (arith, book.begun.some_own_room));
-      words = tt;
     } in
     subst (λ (t : View). MayAppend b t (record { entry = Own 0 targets; view = view })) (sym new) may
 
