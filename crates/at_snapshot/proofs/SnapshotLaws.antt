@@ -2,18 +2,18 @@
 use Rattle.std.proofs.Common.{◌≡◌, ℕ, Some, ◌+◌, ◌-◌, ◌<◌, ◌≤◌, List, length, get_or, take, refl, sym, ap, subst, ◌∙◌, arith, inl, inr}
 use Rattle.std.specs.List.{Contains, sum}
 use Rattle.std.proofs.lemmas.Bool.{cases_lt}
-use Rattle.std.proofs.lemmas.List.{ext_get_or, get_or_default}
+use Rattle.std.proofs.lemmas.List.{ext_get_or}
 use Rattle.at_ledger.specs.Book.{BookTerms}
 use Rattle.at_board.proofs.CountLaws.{IsPosition, count_of-take-le, count_of-take_mono, get_or-counts, get_or-publications_of, length-counts, position_of, sum-counts}
 use Rattle.at_board.proofs.FrontLaws.{ArePublishedBy-IsPrefix, ArePublishedBy-take, IsFront-IsPrefix, IsFront-counts, IsPrefix-count_of, IsPrefix-length, IsPrefix-prefix_of, IsPrefix-prefix_of_from_le, IsPrefix-take, IsPrefix-trans, get_or-IsFront, take-IsPrefix}
+use Rattle.at_board.proofs.SmallBoardLaws.{ArePublishedBy-IsHistory}
 use Rattle.at_board.specs.declared.publication.Publication.{Publication}
 use Rattle.at_board.specs.declared.view.View.{View}
 use Rattle.at_board.specs.BoardState.{publication_at}
 use Rattle.at_board.specs.Fronts.{IsFront, place, prefix_of}
-use Rattle.at_board.specs.Publications.{ArePublishedBy, IsPrefix, count_of, counts, no_publication, publications_of}
+use Rattle.at_board.specs.Publications.{IsPrefix, count_of, counts, no_publication, publications_of}
 use Rattle.at_board.specs.RecordWords.{lists_of}
 use Rattle.at_board.specs.Sound.{HasView}
-use Rattle.at_board.specs.Steps.{IsHistory}
 use Rattle.at_board.specs.Views.{loads_of, own_part}
 use Rattle.at_snapshot.specs.declared.collects.Collects.{Collects}
 use Rattle.at_snapshot.specs.declared.scan.Turn.{Turn}
@@ -23,10 +23,6 @@ use Rattle.at_snapshot.specs.Collected.{IsCollect, collect_of}
 use Rattle.at_snapshot.specs.Scans.{AreCollects, IsScanOf, ScanView, loads_at_least}
 use Rattle.at_snapshot.specs.Snapshots.{IsSnapshot, OnCounts}
 use Rattle.at_snapshot.specs.Turns.{HasRisen, IsLent, IsVerdict}
-
-ArePublishedBy-IsHistory : (b : BookTerms) (list : List Publication) → IsHistory b list → ArePublishedBy b.processes list
-ArePublishedBy-IsHistory b list history = λ k d within.
-    subst (λ (x : Publication). x.process < b.processes) (get_or_default list k no_publication d within) (history.views k within).process
 
 -- each length was loaded once since the start, and after one more collect twice
 loaded_once : (b : BookTerms) (scan : ScanView) (c : Collects) (v : View) → IsScanOf b scan v → scan.collects ≡ Some c

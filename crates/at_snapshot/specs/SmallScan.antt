@@ -1,10 +1,13 @@
 -- What the tests ask for on a small board.
-use Rattle.std.specs.Prelude.{◌≡◌, ℕ, ◌≤◌, List, [], ◌∷◌, ◌++◌}
+use Rattle.std.specs.Prelude.{◌≡◌, ℕ, ◌<◌, ◌≤◌, List, [], ◌∷◌, ◌++◌, length, slice_index}
 use Rattle.at_ledger.specs.Book.{BookTerms, account_of}
 use Rattle.at_board.specs.declared.publication.Entry.{Entry}
 use Rattle.at_board.specs.declared.publication.Entry.TheVariants.{Own}
 use Rattle.at_board.specs.declared.publication.Publication.{Publication}
 use Rattle.at_board.specs.declared.view.View.{View}
+use Rattle.at_board.specs.Publications.{count_of}
+use Rattle.at_board.specs.SeatView.{BoardView, IsOf, SeatView}
+use Rattle.at_board.specs.SmallBoard.{HasOwnAccount}
 use Rattle.at_board.specs.Sound.{IsSoundOwn}
 use Rattle.at_board.specs.Views.{own_part}
 
@@ -24,3 +27,13 @@ pub record HasPaid (v : View) : Type 0 where
   pub view : List ℕ
   pub seen : v.seen ≡ earlier ++ record { process = v.first; view = view; entry = payment } ∷ []
   pub published : (own_part v).published ≡ 1
+
+-- the seat of a process that publishes: it has seen all its records, and owns the account after that of its number alone
+pub record IsPublisher (board : BoardView) (seat : SeatView) : Type 0 where
+  pub of_board : IsOf seat board
+  pub counted : count_of seat.view.first seat.view.seen ≡ (own_part seat.view).published
+  pub owner : HasOwnAccount board.book seat.view.first
+
+-- the seat has seen so many records of each process
+abbrev pub HasSeen : SeatView → List ℕ → Type 0
+HasSeen seat counts = (p : ℕ) → p < length counts → slice_index counts p ≤ count_of p seat.view.seen

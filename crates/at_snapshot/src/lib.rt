@@ -10,6 +10,8 @@ mod scan;
 #[cfg(test)]
 mod scan_tests;
 mod snapshots;
+#[cfg(test)]
+mod traffic_tests;
 
 pub use crate::scan::{Scan, Turn};
 pub use crate::snapshots::snapshot;

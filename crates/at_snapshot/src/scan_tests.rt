@@ -36,7 +36,7 @@ fn three_book(alloc: Global) -> Result<Book, Fail> {
 }
 
 /// The last of the seats that are left of a new board's.
-fn last_seat(board: &Board, seats: &mut Vec<BoardSeat>) -> Option<BoardSeat>
+pub(crate) fn last_seat(board: &Board, seats: &mut Vec<BoardSeat>) -> Option<BoardSeat>
     requires { (p : ℕ) (d : SeatView) → p < length seats.old.items → slice_index_or seats.old.items p d ≡ record { board = board.now.id; view = starting_seat board.now.book p } }
     ensures seat { IfSome result (λ seat. (seat.board ≡ board.now.id) × (seat.view ≡ starting_seat board.now.book seat.view.first)) }
     ensures rest { (p : ℕ) (d : SeatView) → p < length seats.new.items → slice_index_or seats.new.items p d ≡ record { board = board.now.id; view = starting_seat board.now.book p } }
