@@ -115,7 +115,7 @@ fn journal(views: &[Vec<Counts>], receipts: &[Vec<Receipt>], records: u32) -> (u
             }
         }
     }
-    fronts.sort_unstable_by_key(|front| front.0);
+    fronts.sort_by_key(|front| front.0);
     let mut order = Vec::new();
     for process in 0..PROCESSES {
         for number in 0..records {
