@@ -1,16 +1,18 @@
 #!/bin/bash
 # Compares `journal` of the crate at_journal with a plain Rust program, on the largest closing and on one of half its size.
 #
-#   bench/measure_journal.sh [TURNS]
+#   bench/measure_journal.sh [TURNS [WORD...]]
 #
 # The proved crates are copied into a new folder, beside a program that makes the closings and calls `journal`. That program takes
 # it for granted, from a function in C, that its closings are coherent: nothing in the repository rests on it. Each program makes its
 # journals 15 times and prints the least time; they take turns TURNS times (5), and the least of all is told. Both have
-# to make the same lines. The folder is removed at the end.
+# to make the same lines. The words are put before each program, as `chrt -f 10`, by which other work on the machine waits.
+# The folder is removed at the end.
 
 set -euo pipefail
 export LC_ALL=C
 turns=${1:-5}
+before=("${@:2}")
 here=$(cd -- "$(dirname -- "$0")" && pwd)
 work=$(mktemp -d)
 trap 'rm -rf -- "$work"' EXIT
@@ -48,7 +50,7 @@ keep_best() {
         if [ -z "${best[$1 $lines]-}" ] || [ "$took" -lt "${best[$1 $lines]}" ]; then best[$1 $lines]=$took; fi
         if [ -n "${sums[$lines]-}" ] && [ "${sums[$lines]}" != "$sum" ]; then echo "the journals differ" >&2; exit 1; fi
         sums[$lines]=$sum
-    done < <("$2")
+    done < <("${before[@]}" "$2")
 }
 
 ratio() {

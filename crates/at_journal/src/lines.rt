@@ -146,7 +146,7 @@ pub(crate) fn lines(
     requires few { All (λ receipts. length receipts < 2 ^ 32) closing.now.receipts }
     ensures { IfOk result (λ lines. lines.items ≡ map (λ x. line_of x.process x.number (receipt_at (receipts_of closing.now x.process) x.number)) calls.now) }
 {
-    let mut lines = Vec::new(alloc);
+    let mut lines = Vec::with_capacity(alloc, calls.len())?;
     for one in calls {
         lines.push(line(closing, one))?;
     }

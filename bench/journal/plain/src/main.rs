@@ -63,16 +63,20 @@ struct Keyed {
     number: usize,
 }
 
-fn even_counts(records: u32) -> Counts {
-    Counts { len: PROCESSES, list: [records; 16] }
+fn front(p: u32, i: u32) -> Counts {
+    let mut list = [i; 16];
+    if i % 2 == 0 {
+        list[..p as usize].fill(i + 1);
+    }
+    Counts { len: PROCESSES, list }
 }
 
 fn read(p: u32, i: u32) -> Receipt {
-    let gained = if p % 8 == 0 { i / 2 } else { 0 };
+    let gained = if p % 8 == 0 { i / 2 } else { 0 } + u32::from(i % 2 == 0 && 0 < p);
     Receipt {
         call: Call::Read { account: p },
         reply: Reply::Balance(1_000_000 + u64::from(gained)),
-        at: At::Front(even_counts(i)),
+        at: At::Front(front(p, i)),
     }
 }
 
@@ -115,11 +119,12 @@ fn journal(views: &[Vec<Counts>], receipts: &[Vec<Receipt>], records: u32) -> (u
             }
         }
     }
-    fronts.sort_unstable_by_key(|front| front.0);
+    fronts.sort_by_key(|front| front.0);
     let mut order = Vec::new();
     for process in 0..PROCESSES {
         for number in 0..records {
-            order.push(Keyed { key: 16 * u64::from(number + 1), process, number: number as usize });
+            let before = if number % 2 == 0 { process + 1 } else { 16 };
+            order.push(Keyed { key: u64::from(16 * number + before), process, number: number as usize });
         }
     }
     order.sort_by_key(|one| one.key);
@@ -171,7 +176,7 @@ fn mixed(sum: u64, line: &Line) -> u64 {
 
 fn measure(records: u32) {
     let receipts = receipts(records);
-    let views: Vec<Vec<Counts>> = (0..PROCESSES).map(|_| (0..records).map(even_counts).collect()).collect();
+    let views: Vec<Vec<Counts>> = (0..PROCESSES).map(|p| (0..records).map(|i| front(p, i)).collect()).collect();
     let mut least = u128::MAX;
     let mut sum = 0;
     let mut count = 0;
