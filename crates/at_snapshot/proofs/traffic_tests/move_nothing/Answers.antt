@@ -60,7 +60,6 @@ may_append b v w from view source known one counted owner room told snapshot =
         subst (λ k. IsSoundOwn b k prefix from ((0, 0) ∷ [])) (sym first) sound,
         omega (arith, owns_of-le w.first w.seen, ap (λ k. count_of k w.seen) first, told.own, counted, room),
       );
-      words = tt;
     }
 
 pub append-requires-clause-record : goal.append-requires-clause-record
