@@ -7,6 +7,7 @@ use Rattle.atomic_table.specs.Table.{Allows, Me, keeps, step}
 use Rattle.at_ledger.specs.Book.{BookTerms, IsBegun}
 use Rattle.at_board.proofs.AnnounceLaws.{Announces-Ruled}
 use Rattle.at_board.proofs.FormLaws.{ArePacked-AreTargets, request_words-injective}
+use Rattle.at_board.proofs.OwnRequestLaws.{SeesOwnRequests-announce}
 use Rattle.at_board.proofs.PlaceLaws.{place_at-injective}
 use Rattle.at_board.proofs.RequestStoreLaws.{same_slot}
 use Rattle.at_board.proofs.RequestStoreStep.{next_number}
@@ -14,6 +15,7 @@ use Rattle.at_board.proofs.SeatCountLaws.{HasCounts-counted, IsSeat-asking, Sees
 use Rattle.at_board.proofs.StepLaws.{IsSeatOf}
 use Rattle.at_board.proofs.TableSteps.{store_at}
 use Rattle.at_board.specs.declared.request.Request.{Request}
+use Rattle.at_board.specs.declared.view.Asking.{Asking}
 use Rattle.at_board.specs.declared.view.SeenRequest.{SeenRequest}
 use Rattle.at_board.specs.declared.view.View.{View}
 use Rattle.at_board.specs.Conditions.{MayAnnounce}
@@ -86,12 +88,15 @@ module _ {S : Type 0} where
       (subst (λ (t : BookTerms). i ≡ place_at t (announced_of a slot)) (sym book) at))
 
 -- what holds of a seat after the step
-pub IsSeat-announce : (b : BookTerms) (v w : View) (process k a slot : ℕ) (r : Request) → v.book ≡ b → IsSeat v process k → Announces b v w a slot r
-    → IsSeat w process k
-IsSeat-announce b v w process k a slot r book seat told =
+pub IsSeat-announce : (b : BookTerms) (v w : View) (process k a slot : ℕ) (r : Request) → v.book ≡ b → HasSlot b v.first a slot → IsSeat v process k
+    → Announces b v w a slot r → IsSeat w process k
+IsSeat-announce b v w process k a slot r book mine seat told =
+    let after : Asking = with_request (asking_on (own_part v) a) r (rounds a w.seen) in
     subst (λ t. IsSeat t process k) (sym told.same)
-    (IsSeat-asking v w.seen (v.requests ++ seen_as a slot (next_number v a) r ∷ []) process k a (with_request (asking_on (own_part v) a) r (rounds a w.seen)) seat
-    (subst (λ t. IsHistory t w.seen) (sym book) told.history))
+    (IsSeat-asking v w.seen (v.requests ++ seen_as a slot (next_number v a) r ∷ []) process k a after seat
+    (subst (λ t. IsHistory t w.seen) (sym book) told.history) (told.own ∙ seat.published_is)
+    (SeesOwnRequests-announce v w.seen a slot after r (omega (arith, seat.one_part)) (subst (λ (t : BookTerms). HasSlot t v.first a slot) (sym book) mine) refl
+    seat.asked))
 
 pub HasCounts-announce : (b : BookTerms) (v w : View) (a slot : ℕ) (r : Request) (n : ℕ) (counts : List ℕ) → 0 < length v.parts
     → n ≡ next_number v a + 1 → Announces b v w a slot r → HasCounts v counts → HasCounts w (set counts a n)

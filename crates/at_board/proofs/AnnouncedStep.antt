@@ -1,12 +1,13 @@
 -- The load of an announced word that the rule allows.
-use Rattle.std.proofs.Common.{◌≡◌, ℕ, ◌<◌, List, [], ◌++◌, length, get_or, set, refl, sym, subst, arith}
+use Rattle.std.proofs.Common.{◌≡◌, ℕ, ◌<◌, List, [], ◌++◌, length, get_or, set, refl, sym, subst, arith, ◌∙◌}
 use Rattle.std.specs.List.{All}
 use mathlib.Core.Option.{none}
 use Rattle.std.proofs.lemmas.List.{set-get_or}
-use Rattle.std.proofs.lemmas.List.Elements.{All-append}
+use Rattle.std.proofs.lemmas.List.Elements.{All-append, Contains-append_left}
 use Rattle.atomic_table.specs.Table.{Allows, Me, keeps, step}
 use Rattle.at_ledger.specs.Book.{BookTerms, IsBegun}
 use Rattle.at_board.proofs.AnnouncedLaws.{All-all_of, LoadsAnnounced-Ruled}
+use Rattle.at_board.proofs.OwnRequestLaws.{SeesOwnRequests-asking}
 use Rattle.at_board.proofs.PlaceLaws.{place_at-injective}
 use Rattle.at_board.proofs.SeatCountLaws.{HasCounts-asking, IsSeat-asking, SeesInRange-asking}
 use Rattle.at_board.proofs.StepLaws.{IsSeatOf}
@@ -73,7 +74,9 @@ pub IsSeat-announced : (b : BookTerms) (v w : View) (process k a slot n : ℕ) �
 IsSeat-announced b v w process k a slot n book seat told =
     subst (λ t. IsSeat t process k) (sym told.same)
     (IsSeat-asking v w.seen (v.requests ++ all_of a slot told.row) process k a (with_row (asking_on (own_part v) a) slot n) seat
-    (subst (λ t. IsHistory t w.seen) (sym book) told.history))
+    (subst (λ t. IsHistory t w.seen) (sym book) told.history) (told.own ∙ seat.published_is)
+    (SeesOwnRequests-asking v w.seen (v.requests ++ all_of a slot told.row) a (with_row (asking_on (own_part v) a) slot n) (omega (arith, seat.one_part)) refl
+    (λ x there. Contains-append_left v.requests (all_of a slot told.row) x there) seat.asked))
 
 pub HasCounts-announced : (b : BookTerms) (v w : View) (a slot n : ℕ) (counts : List ℕ) → 0 < length v.parts → LoadsAnnounced b v w a slot n
     → HasCounts v counts → HasCounts w counts

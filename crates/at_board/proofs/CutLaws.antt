@@ -1,6 +1,6 @@
 -- A seat that stands for several processes may be cut.
 use Rattle.std.proofs.Common.{◌≡◌, ◌≢◌, ℕ, ◌+◌, ◌-◌, ◌<◌, ◌≤◌, ◌==◌, ◌&&◌, zero, suc, Bool, cond, List, [], ◌∷◌, ◌++◌, length, get_or, replicate, set, refl, sym, ap, subst, ◌∙◌, arith, inl, inr, ◌⊎◌, ltb}
-use Rattle.std.proofs.lemmas.List.{drop-replicate, get_or_append_left, get_or_push, length_push, take-replicate, take_all}
+use Rattle.std.proofs.lemmas.List.{drop-replicate, get_or-replicate, get_or_append_left, get_or_push, length_push, take-replicate, take_all}
 use lib.ListN.{get_elem?}
 use mathlib.Core.Option.{some, some-injective, some-ne-none}
 use Rattle.std.proofs.lemmas.Bool.{cases_eq, cases_lt, eq-eqb, le-ltb, lt-ltb, ne_eqb}
@@ -9,7 +9,9 @@ use Rattle.std.proofs.lemmas.List.{get_or-drop, get_or-take, length-drop, length
 use Rattle.atomic_table.proofs.Lists.{at_last, at_longer, at_set, set_else, set_here}
 use Rattle.at_ledger.specs.Book.{BookTerms, IsBegun, IsBook}
 use Rattle.at_board.proofs.CountLaws.{publications_of-nil}
+use Rattle.at_board.proofs.OpeningLaws.{count_of-nil}
 use Rattle.at_board.proofs.PrefixRuns.{IsRun-nil}
+use Rattle.at_board.specs.declared.view.Asking.{Asking}
 use Rattle.at_board.specs.Moves.{IsRun}
 use Rattle.atomic_table.specs.Seated.{TableId}
 use Rattle.at_board.specs.SeatView.{IsSeat, SeatView}
@@ -21,7 +23,7 @@ use Rattle.at_board.specs.declared.view.View.{View}
 use Rattle.at_board.specs.BoardState.{BoardState}
 use Rattle.at_board.specs.Cuts.{first_part, other_parts, starting_seat}
 use Rattle.at_board.specs.Seated.{AreSeated, Holds, Ruled}
-use Rattle.at_board.specs.Views.{HasPart, Knows, no_part, part_at, starting_part, starting_view}
+use Rattle.at_board.specs.Views.{HasPart, Knows, no_asking, no_part, part_at, starting_asking, starting_part, starting_view}
 
 -- a view after the cut is the first one, the new one, or another that stayed
 record CutCases (views : List View) (id j : ℕ) (v left right u : View) : Type 0 where
@@ -208,6 +210,9 @@ IsSeat-starting b p book within = record {
   one_part = refl;
   process_is = refl;
   published_is = refl;
+  own = count_of-nil p;
+  asked = λ a slot i has inside. absurd (omega (arith, inside,
+      ap (λ (w : Asking). length w.announced) (get_or-replicate (length b.accounts) a starting_asking no_asking has.account_in)));
   known = within;
   begun = book;
   history = IsHistory-nil b book.begun;

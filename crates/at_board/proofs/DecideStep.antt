@@ -1,6 +1,7 @@
 -- The step on a cell that the rule allows.
 use Rattle.std.proofs.Common.{◌≡◌, ℕ, ◌+◌, ◌<◌, ◌==◌, List, [], ◌∷◌, ◌++◌, length, get_or, set, Option, refl, sym, ap, subst, ◌∙◌, arith, inl, inr}
 use mathlib.Core.Option.{none}
+use Rattle.at_board.proofs.OwnRequestLaws.{asking_on-part_asking}
 use prog.Atomic.{either}
 use Rattle.std.proofs.lemmas.Bool.{cases_eq}
 use Rattle.std.proofs.lemmas.List.{get_or-set_other, get_or-set_same, length-set}
@@ -13,7 +14,7 @@ use Rattle.at_board.proofs.FormLaws.{same_decision}
 use Rattle.at_board.proofs.PlaceLaws.{place_at-injective}
 use Rattle.at_board.proofs.RoundSteps.{Decides-Ruled, IsPlace-MayPropose}
 use Rattle.at_board.proofs.SeatCountLaws.{HasCounts-with_part}
-use Rattle.at_board.proofs.SeatKept.{IsSeat-with_part}
+use Rattle.at_board.proofs.SeatKept.{IsSeat-with_part, same_requests}
 use Rattle.at_board.proofs.StepLaws.{IsSeatOf}
 use Rattle.at_board.specs.declared.request.Request.{Request}
 use Rattle.at_board.specs.declared.view.Asking.{Asking}
@@ -92,10 +93,13 @@ pub IsSeat-decided : (b : BookTerms) (v w : View) (process k a round : ℕ) (d :
 IsSeat-decided b v w process k a round d n book seat told =
     let seen : SeenDecision = record { account = a; round = round; decision = told.decision } in
     let u : View = record v { decisions = v.decisions ++ seen ∷ [] } in
+    let counted : Asking = record (asking_on (own_part v) a) { decides = (asking_on (own_part v) a).decides + 1 } in
     let before : IsSeat u process k = record {
       one_part = seat.one_part;
       process_is = seat.process_is;
       published_is = seat.published_is;
+      own = seat.own;
+      asked = seat.asked;
       known = seat.known;
       begun = seat.begun;
       history = seat.history;
@@ -103,7 +107,8 @@ IsSeat-decided b v w process k a round d n book seat told =
     } in
     subst (λ t. IsSeat t process k) (sym told.same)
     (IsSeat-with_part u w.seen (with_decide (own_part v) a told.held) process k before k seat.published_is
-    (subst (λ t. IsHistory t w.seen) (sym book) told.history))
+    (subst (λ t. IsHistory t w.seen) (sym book) told.history) (told.own ∙ seat.published_is)
+    (same_requests u w.seen (with_decide (own_part v) a told.held) process k before (λ c. asking_on-part_asking (own_part v) a c counted refl)))
 
 -- as many requests are announced
 announced-decide : (q : Part) (a k : ℕ) (held : Option Cell) → k < length q.asking

@@ -14,17 +14,18 @@ use Rattle.at_board.proofs.SameLaws.{IsPrefix-begins_with, begins_with-IsPrefix}
 use Rattle.at_board.proofs.SeatLaws.{AreSeated-set, knows_after}
 use Rattle.at_board.specs.declared.publication.Publication.{Publication}
 use Rattle.at_board.specs.declared.view.View.{View}
-use Rattle.at_board.specs.BoardState.{BoardState}
+use Rattle.at_board.specs.BoardState.{BoardState, request_at}
 use Rattle.at_board.specs.LearnSteps.{Learns, learned, longer, spent_view}
 use Rattle.at_board.specs.NoteSteps.{IsNote}
 use Rattle.at_board.specs.Publications.{IsPrefix, count_of}
+use Rattle.at_board.specs.RequestSteps.{seen_as}
 use Rattle.at_board.specs.Same.{begins_with}
 use Rattle.at_board.specs.Seated.{AreSeated, Holds, Ruled}
 use Rattle.at_board.specs.SeatCounts.{HasCounts}
 use Rattle.at_board.specs.Seen.{DecisionInRange, RequestInRange, SeesInRange}
 use Rattle.at_board.specs.SeatView.{IsSeat}
 use Rattle.at_board.specs.Steps.{IsHistory}
-use Rattle.at_board.specs.Views.{HasPart, IsAnnounced, IsDecided, Knows, part_at}
+use Rattle.at_board.specs.Views.{HasPart, IsAnnounced, IsDecided, Knows, asking_on, own_part, part_at}
 
 -- which of two lists was taken
 record TakesOther (process : ℕ) (mine other : List Publication) : Type 0 where
@@ -183,6 +184,8 @@ IsSeat-learned b v w process published book note_book seat note =
       one_part = seat.one_part;
       process_is = seat.process_is;
       published_is = seat.published_is;
+      own = count_of-longer v.first v.seen w.seen ∙ seat.own;
+      asked = λ a slot i has within. Contains-append_left v.requests w.requests (seen_as a slot i (request_at (asking_on (own_part v) a).announced i)) (seat.asked a slot i has within);
       known = seat.known;
       begun = seat.begun;
       history = longer-either (IsHistory v.book) v.first v.seen w.seen seat.history theirs;

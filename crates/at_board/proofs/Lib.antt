@@ -11,6 +11,7 @@ pub mod PayLaws
 pub mod FollowLaws
 pub mod PrefixRuns
 pub mod OpeningLaws
+pub mod OwnRequestLaws
 pub mod SeatLaws
 pub mod HistoryLaws
 pub mod LoadLaws

@@ -37,7 +37,7 @@ get_or-zeros n i =
 word_at-starting : (b : BookTerms) (x : Place) → word_at b (starting_words b) x ≡ 0
 word_at-starting b x = get_or-zeros (word_count b) (place_at b x)
 
-count_of-nil : (p : ℕ) → count_of p [] ≡ 0
+pub count_of-nil : (p : ℕ) → count_of p [] ≡ 0
 count_of-nil p = ap length (publications_of-nil p)
 
 Shown-starting : (b : BookTerms) → Shown b (starting_words b) starting_state

@@ -8,7 +8,7 @@ use Rattle.at_board.proofs.FormLaws.{IsForm-Sound, record_words-injective}
 use Rattle.at_board.specs.Forms.{IsForm}
 use Rattle.at_board.proofs.PublishLaws.{Publishes-Ruled}
 use Rattle.at_board.proofs.PushLaws.{IsSoundEntry-MayEnter}
-use Rattle.at_board.proofs.SeatKept.{IsSeat-with_part}
+use Rattle.at_board.proofs.SeatKept.{IsSeat-with_part, same_requests}
 use Rattle.at_board.proofs.StepLaws.{IsSeatOf, place_at-length_of}
 use Rattle.at_board.specs.declared.publication.Publication.{Publication}
 use Rattle.at_board.specs.declared.view.View.{View}
@@ -75,7 +75,8 @@ pub IsSeat-publish : (b : BookTerms) (v w : View) (process k : ℕ) (x : Publica
 IsSeat-publish b v w process k x book seat told =
     subst (λ t. IsSeat t process (k + 1)) (sym told.same)
     (IsSeat-with_part v w.seen (with_record b (own_part v) x) process k seat (k + 1) (ap (λ n. n + 1) seat.published_is)
-    (subst (λ t. IsHistory t w.seen) (sym book) told.history))
+    (subst (λ t. IsHistory t w.seen) (sym book) told.history) (told.own ∙ ap (λ n. n + 1) seat.published_is)
+    (same_requests v w.seen (with_record b (own_part v) x) process k seat (λ a. refl)))
 
 -- the same at an equal book and view
 pub MayPublish-same : (b c : BookTerms) (v u : View) (x : Publication) → c ≡ b → u ≡ v → MayPublish b v x → MayPublish c u x

@@ -3,6 +3,7 @@ use Rattle.std.proofs.Common.{◌≡◌, ℕ, ◌<◌, List, length, set, refl, 
 use mathlib.Core.Option.{none}
 use Rattle.atomic_table.specs.Table.{Allows, Me, keeps, step}
 use Rattle.at_ledger.specs.Book.{BookTerms}
+use Rattle.at_board.proofs.OwnRequestLaws.{SeesOwnRequests-asking}
 use Rattle.at_board.proofs.PlaceLaws.{place_at-injective}
 use Rattle.at_board.proofs.RequestStoreLaws.{StoresRequestWord-Ruled, same_slot}
 use Rattle.at_board.proofs.SeatCountLaws.{HasCounts-asking, IsSeat-asking, SeesInRange-asking}
@@ -77,7 +78,8 @@ module _ {S : Type 0} where
 pub IsSeat-request_stored : (v w : View) (process k a j n : ℕ) → IsSeat v process k → StoresRequestWord v w a j n → IsSeat w process k
 IsSeat-request_stored v w process k a j n seat told =
     subst (λ t. IsSeat t process k) (sym told)
-    (IsSeat-asking v v.seen v.requests process k a (with_request_word (asking_on (own_part v) a) j n) seat seat.history)
+    (IsSeat-asking v v.seen v.requests process k a (with_request_word (asking_on (own_part v) a) j n) seat seat.history seat.own
+    (SeesOwnRequests-asking v v.seen v.requests a (with_request_word (asking_on (own_part v) a) j n) (omega (arith, seat.one_part)) refl (λ x there. there) seat.asked))
 
 pub HasCounts-request_stored : (v w : View) (a j n : ℕ) (counts : List ℕ) → 0 < length v.parts → StoresRequestWord v w a j n
     → HasCounts v counts → HasCounts w counts

@@ -2,9 +2,10 @@
 use Rattle.std.proofs.Common.{◌≡◌, ℕ, ◌<◌, List, [], ◌∷◌, ◌++◌, length, get_or, set, refl, sym, subst, arith}
 use mathlib.Core.Option.{none}
 use Rattle.std.proofs.lemmas.List.{set-get_or}
-use Rattle.std.proofs.lemmas.List.Elements.{All-push}
+use Rattle.std.proofs.lemmas.List.Elements.{All-push, Contains-append_left}
 use Rattle.atomic_table.specs.Table.{Allows, Me, keeps, step}
 use Rattle.at_ledger.specs.Book.{BookTerms, IsBegun}
+use Rattle.at_board.proofs.OwnRequestLaws.{SeesOwnRequests-asking}
 use Rattle.at_board.proofs.PlaceLaws.{place_at-injective}
 use Rattle.at_board.proofs.RequestWordLaws.{LoadsRequestWord-Ruled}
 use Rattle.at_board.proofs.SeatCountLaws.{HasCounts-asking, IsSeat-asking, SeesInRange-asking}
@@ -78,7 +79,9 @@ pub IsSeat-request : (b : BookTerms) (v w : View) (process k a slot number j n :
 IsSeat-request b v w process k a slot number j n seat told =
     let x : SeenRequest = seen_as a slot number told.request in
     subst (λ t. IsSeat t process k) (sym told.same)
-    (IsSeat-asking v v.seen (v.requests ++ x ∷ []) process k a (with_loaded (asking_on (own_part v) a) x) seat seat.history)
+    (IsSeat-asking v v.seen (v.requests ++ x ∷ []) process k a (with_loaded (asking_on (own_part v) a) x) seat seat.history seat.own
+    (SeesOwnRequests-asking v v.seen (v.requests ++ x ∷ []) a (with_loaded (asking_on (own_part v) a) x) (omega (arith, seat.one_part)) refl
+    (λ y there. Contains-append_left v.requests (x ∷ []) y there) seat.asked))
 
 pub HasCounts-request : (b : BookTerms) (v w : View) (a slot number j n : ℕ) (counts : List ℕ) → 0 < length v.parts
     → LoadsRequestWord b v w a slot number j n → HasCounts v counts → HasCounts w counts

@@ -6,7 +6,7 @@ use Rattle.std.proofs.lemmas.List.{get_or-replicate, get_or-set_other, get_or-se
 use Rattle.std.proofs.lemmas.List.Elements.{All-nil}
 use Rattle.at_ledger.specs.Book.{BookTerms}
 use Rattle.at_board.proofs.OpeningLaws.{get_or-zeros}
-use Rattle.at_board.proofs.SeatKept.{IsSeat-with_part, own_part-with_part}
+use Rattle.at_board.proofs.OwnRequestLaws.{own_part-with_part}
 use Rattle.at_board.specs.declared.publication.Publication.{Publication}
 use Rattle.at_board.specs.declared.view.Asking.{Asking}
 use Rattle.at_board.specs.declared.view.Part.{Part}
@@ -14,10 +14,11 @@ use Rattle.at_board.specs.declared.view.SeenRequest.{SeenRequest}
 use Rattle.at_board.specs.declared.view.View.{View}
 use Rattle.at_board.specs.Cuts.{starting_seat}
 use Rattle.at_board.specs.Places.{record_width}
+use Rattle.at_board.specs.Publications.{count_of}
 use Rattle.at_board.specs.RequestSteps.{part_asking, with_asking}
 use Rattle.at_board.specs.SeatCounts.{HasCounts}
 use Rattle.at_board.specs.Seen.{DecisionInRange, RequestInRange, SeesInRange}
-use Rattle.at_board.specs.SeatView.{IsSeat}
+use Rattle.at_board.specs.SeatView.{IsSeat, SeesOwnRequests}
 use Rattle.at_board.specs.Steps.{IsHistory, LoadsLength, Publishes, StoresWord, with_load, with_part, with_record, with_word}
 use Rattle.at_board.specs.Views.{asking_on, no_asking, own_part, starting_asking}
 
@@ -87,18 +88,20 @@ SeesInRange-starting b p = record {
 
 -- a seat whose part has something new on an account
 pub IsSeat-asking : (v : View) (list : List Publication) (requests : List SeenRequest) (process k a : ℕ) (w : Asking) → IsSeat v process k
-    → IsHistory v.book list → IsSeat (with_asking (record v { seen = list; requests = requests }) a w) process k
-IsSeat-asking v list requests process k a w seat history =
-    let before : IsSeat (record v { requests = requests }) process k = record {
-      one_part = seat.one_part;
-      process_is = seat.process_is;
-      published_is = seat.published_is;
-      known = seat.known;
-      begun = seat.begun;
-      history = seat.history;
-      joined = seat.joined;
-    } in
-    IsSeat-with_part (record v { requests = requests }) list (part_asking (own_part v) a w) process k before k seat.published_is history
+    → IsHistory v.book list → count_of v.first list ≡ k → SeesOwnRequests (with_asking (record v { seen = list; requests = requests }) a w)
+    → IsSeat (with_asking (record v { seen = list; requests = requests }) a w) process k
+IsSeat-asking v list requests process k a w seat history own asked = record {
+  one_part = length-set v.parts 0 (part_asking (own_part v) a w) ∙ seat.one_part;
+  process_is = seat.process_is;
+  published_is = ap (λ (t : Part). t.published) (own_part-with_part (record v { seen = list; requests = requests }) (part_asking (own_part v) a w) (omega (arith, seat.one_part)))
+      ∙ seat.published_is;
+  own = own;
+  asked = asked;
+  known = seat.known;
+  begun = seat.begun;
+  history = history;
+  joined = seat.joined;
+}
 
 pub HasCounts-asking : (v : View) (list : List Publication) (requests : List SeenRequest) (a : ℕ) (w : Asking) (counts : List ℕ) → 0 < length v.parts
     → length w.announced ≡ length (asking_on (own_part v) a).announced → HasCounts v counts

@@ -1,39 +1,46 @@
 -- What holds of a seat stays so after its steps.
-use Rattle.std.proofs.Common.{◌≡◌, ℕ, ◌<◌, ◌^◌, List, length, sym, ap, subst, ◌∙◌, arith}
-use Rattle.std.proofs.lemmas.List.{get_or-set_same, length-set}
+use Rattle.std.proofs.Common.{◌≡◌, ℕ, ◌<◌, ◌^◌, List, refl, sym, ap, subst, ◌∙◌, arith}
+use Rattle.std.proofs.lemmas.List.{length-set}
 use Rattle.at_ledger.specs.Book.{BookTerms, IsBegun}
 use Rattle.at_board.specs.declared.publication.Publication.{Publication}
 use Rattle.at_board.specs.declared.view.Part.{Part}
 use Rattle.at_board.specs.declared.view.View.{View}
+use Rattle.at_board.proofs.OwnRequestLaws.{SeesOwnRequests-with_part, own_part-with_part}
 use Rattle.at_board.proofs.SizeLaws.{log_room_of-le}
 use Rattle.at_board.specs.Publications.{count_of}
-use Rattle.at_board.specs.SeatView.{IsSeat}
+use Rattle.at_board.specs.SeatView.{IsSeat, SeesOwnRequests}
 use Rattle.at_board.specs.Places.{record_word}
 use Rattle.at_board.specs.Steps.{IsHistory, LoadsLength, StoresWord, with_load, with_part, with_word}
-use Rattle.at_board.specs.Views.{no_part, own_part}
+use Rattle.at_board.specs.Views.{asking_on, own_part}
 
--- the part that was set is the view's own
-pub own_part-with_part : (v : View) (q : Part) → 0 < length v.parts → own_part (with_part v q) ≡ q
-own_part-with_part v q part = get_or-set_same v.parts 0 q no_part part
-
--- a view that has seen a history, with another part of as many records
+-- a view that has seen a history, with another part, all of whose records and requests it has seen
 pub IsSeat-with_part : (v : View) (list : List Publication) (q : Part) (process k : ℕ) → IsSeat v process k
-    → (published : ℕ) → q.published ≡ published → IsHistory v.book list → IsSeat (with_part (record v { seen = list }) q) process published
-IsSeat-with_part v list q process k seat published same history = record {
+    → (published : ℕ) → q.published ≡ published → IsHistory v.book list → count_of v.first list ≡ published
+    → SeesOwnRequests (with_part (record v { seen = list }) q) → IsSeat (with_part (record v { seen = list }) q) process published
+IsSeat-with_part v list q process k seat published same history own asked = record {
   one_part = length-set v.parts 0 q ∙ seat.one_part;
   process_is = seat.process_is;
   published_is = ap (λ (t : Part). t.published) (own_part-with_part (record v { seen = list }) q (omega (arith, seat.one_part))) ∙ same;
+  own = own;
+  asked = asked;
   known = seat.known;
   begun = seat.begun;
   history = history;
   joined = seat.joined;
 }
 
+-- a part that has announced the same
+pub same_requests : (v : View) (list : List Publication) (q : Part) (process k : ℕ) → IsSeat v process k
+    → ((a : ℕ) → (asking_on q a).announced ≡ (asking_on (own_part v) a).announced) → SeesOwnRequests (with_part (record v { seen = list }) q)
+same_requests v list q process k seat same =
+    SeesOwnRequests-with_part v list v.requests q (omega (arith, seat.one_part)) same (λ x there. there) seat.asked
+
 pub IsSeat-load : (b : BookTerms) (v w : View) (process k p n : ℕ) → v.book ≡ b → IsSeat v process k → LoadsLength b v w p n → IsSeat w process k
 IsSeat-load b v w process k p n book seat told =
     subst (λ t. IsSeat t process k) (sym told.same)
     (IsSeat-with_part v w.seen (with_load (own_part v) p n) process k seat k seat.published_is
-    (subst (λ t. IsHistory t w.seen) (sym book) told.history))
+    (subst (λ t. IsHistory t w.seen) (sym book) told.history) (told.own ∙ seat.published_is)
+    (same_requests v w.seen (with_load (own_part v) p n) process k seat (λ a. refl)))
 
 -- a process has few records
 pub count_of-IsHistory : (b : BookTerms) (list : List Publication) (p : ℕ) → IsBegun b → p < b.processes → IsHistory b list → count_of p list < 2 ^ 32
@@ -42,7 +49,8 @@ count_of-IsHistory b list p begun within history = omega (arith, history.room p 
 pub IsSeat-store : (v w : View) (process k j n : ℕ) → IsSeat v process k → StoresWord v w j n → IsSeat w process k
 IsSeat-store v w process k j n seat told =
     subst (λ t. IsSeat t process k) (sym told)
-    (IsSeat-with_part v v.seen (with_word (own_part v) j n) process k seat k seat.published_is seat.history)
+    (IsSeat-with_part v v.seen (with_word (own_part v) j n) process k seat k seat.published_is seat.history seat.own
+    (same_requests v v.seen (with_word (own_part v) j n) process k seat (λ a. refl)))
 
 -- the place of the seat's next record, by the seat's fields
 pub next_record : (v : View) (process k j : ℕ) → IsSeat v process k → record_word process k j ≡ record_word v.first (own_part v).published j

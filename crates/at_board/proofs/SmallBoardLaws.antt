@@ -12,7 +12,7 @@ use Rattle.at_board.proofs.FrontLaws.{place-IsFront-le}
 use Rattle.at_board.proofs.OpeningLaws.{get_or-zeros}
 use Rattle.at_board.proofs.PushLaws.{owns_of-le}
 use Rattle.at_board.proofs.RoundLaws.{firsts-nil}
-use Rattle.at_board.proofs.SeatKept.{own_part-with_part}
+use Rattle.at_board.proofs.OwnRequestLaws.{own_part-with_part}
 use Rattle.at_board.specs.declared.publication.Entry.TheVariants.{Own, Round}
 use Rattle.at_board.specs.declared.publication.Publication.{Publication}
 use Rattle.at_board.specs.declared.view.Part.{Part}

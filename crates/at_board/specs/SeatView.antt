@@ -3,8 +3,10 @@ use Rattle.std.specs.Prelude.{◌≡◌, ℕ, ◌<◌, length, All}
 use Rattle.atomic_table.specs.Seated.{TableId}
 use Rattle.at_ledger.specs.Book.{BookTerms, IsBook}
 use Rattle.at_board.specs.declared.view.View.{View}
+use Rattle.at_board.specs.BoardState.{request_at}
+use Rattle.at_board.specs.Publications.{count_of}
 use Rattle.at_board.specs.Steps.{IsHistory}
-use Rattle.at_board.specs.Views.{own_part}
+use Rattle.at_board.specs.Views.{HasSlot, SeesRequest, asking_on, own_part}
 
 -- a board by its identity and its book
 pub record BoardView : Type 0 where
@@ -16,11 +18,19 @@ pub record SeatView : Type 0 where
   pub board : TableId
   pub view : View
 
--- a seat's view has one part, its process's, and what it and those joined to it have seen are histories
+-- the view has seen each request that its process has announced, by its number
+abbrev pub SeesOwnRequests : View → Type 0
+SeesOwnRequests view = (a slot i : ℕ) → HasSlot view.book view.first a slot → i < length (asking_on (own_part view) a).announced →
+    SeesRequest view a slot i (request_at (asking_on (own_part view) a).announced i)
+
+-- a seat's view has one part, its process's, all of whose records and requests it has seen, and what it and those joined
+-- to it have seen are histories
 pub record IsSeat (view : View) (process published : ℕ) : Type 0 where
   pub one_part : length view.parts ≡ 1
   pub process_is : view.first ≡ process
   pub published_is : (own_part view).published ≡ published
+  pub own : count_of view.first view.seen ≡ published
+  pub asked : SeesOwnRequests view
   pub known : view.first < view.book.processes
   pub begun : IsBook view.book
   pub history : IsHistory view.book view.seen

@@ -2,7 +2,7 @@ use Rattle.std.proofs.Common.{◌≡◌, ℕ, ◌<◌, List, [], ◌∷◌, leng
 use Rattle.at_ledger.specs.Book.{BookTerms}
 use Rattle.at_board.proofs.CountLaws.{get_or-counts}
 use Rattle.at_board.proofs.FrontLaws.{IsFront-IsPrefix, IsFront-counts, IsPrefix-count_of, IsPrefix-trans}
-use Rattle.at_board.proofs.SeatKept.{own_part-with_part}
+use Rattle.at_board.proofs.OwnRequestLaws.{own_part-with_part}
 use Rattle.at_board.proofs.SmallBoardLaws.{ArePublishedBy-IsHistory}
 use Rattle.at_board.specs.declared.publication.Publication.{Publication}
 use Rattle.at_board.specs.declared.view.Part.{Part}

@@ -4,7 +4,7 @@ use Rattle.std.proofs.lemmas.List.Elements.{Contains-append_right}
 use Rattle.at_base.specs.Decision.{InRange, word_of}
 use Rattle.at_base.specs.declared.decision.Decision.{Decision}
 use Rattle.at_ledger.specs.Book.{BookTerms}
-use Rattle.at_board.proofs.SeatKept.{own_part-with_part}
+use Rattle.at_board.proofs.OwnRequestLaws.{own_part-with_part}
 use Rattle.at_board.specs.declared.view.Part.{Part}
 use Rattle.at_board.specs.declared.view.SeenDecision.{SeenDecision}
 use Rattle.at_board.specs.declared.view.View.{View}

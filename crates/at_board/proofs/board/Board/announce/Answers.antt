@@ -63,7 +63,7 @@ invariant_of-seat g c =
     Announces-played b c.self.inside.table.shared.table_id.slots c.seat.inside.seat.me c.store.new.seat.me a slot q c.announced_place-place.result
     c.from.result book at asks c.store.ensures.2 in (
       c.store.ensures.2.0 ∙ c.seat.invariant.0,
-      IsSeat-announce b v w c.seat.inside.process c.seat.inside.published a slot r book c.seat.invariant.1 (told r asked),
+      IsSeat-announce b v w c.seat.inside.process c.seat.inside.published a slot r book asked.asks.slot_in c.seat.invariant.1 (told r asked),
       HasCounts-announce b v w a slot r (c.announced-count.result + 1) c.seat.inside.announced.items (omega (arith, c.seat.invariant.1.one_part)) (omega (arith, counted)) (told r asked) c.seat.invariant.2,
       SeesInRange-announce b v w a slot r book c.seat.invariant.1.history.few asked (told r asked) c.seat.invariant.3,
     )
