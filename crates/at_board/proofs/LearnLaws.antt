@@ -5,24 +5,26 @@ use lib.ListN.{get_elem?}
 use mathlib.Core.Option.{some, some-injective}
 use Rattle.std.proofs.lemmas.Bool.{and_from, and_parts, cases_Bool, cases_eq, cases_lt, eq-eqb, eqb-true}
 use Rattle.std.proofs.lemmas.List.Elements.{All-append, All-cons, All-nil, Contains-append_left}
-use Rattle.atomic_table.proofs.Lists.{at_set, set_else}
+use Rattle.atomic_table.proofs.Lists.{at_set, set_else, set_here}
 use Rattle.atomic_table.specs.Table.{Joins}
 use Rattle.at_ledger.specs.Book.{BookTerms}
 use Rattle.at_board.proofs.FrontLaws.{All-IsPrefix, IsPrefix-both, IsPrefix-count_of, IsPrefix-refl}
 use Rattle.at_board.proofs.MoreLaws.{HasPart-more, HasRequests}
 use Rattle.at_board.proofs.SameLaws.{IsPrefix-begins_with, begins_with-IsPrefix}
-use Rattle.at_board.proofs.SeatLaws.{AreSeated-set, knows_after}
+use Rattle.at_board.proofs.SeatLaws.{AreSeated-set, knows_after, within_found}
+use Rattle.at_board.proofs.SeenLaws.{AgreesWithSeen-Ruled}
 use Rattle.at_board.specs.declared.publication.Publication.{Publication}
 use Rattle.at_board.specs.declared.view.View.{View}
 use Rattle.at_board.specs.BoardState.{BoardState, request_at}
 use Rattle.at_board.specs.LearnSteps.{Learns, learned, longer, spent_view}
+use Rattle.at_board.specs.Meetings.{AreSeen}
 use Rattle.at_board.specs.NoteSteps.{IsNote}
 use Rattle.at_board.specs.Publications.{IsPrefix, count_of}
 use Rattle.at_board.specs.RequestSteps.{seen_as}
 use Rattle.at_board.specs.Same.{begins_with}
 use Rattle.at_board.specs.Seated.{AreSeated, Holds, Ruled}
 use Rattle.at_board.specs.SeatCounts.{HasCounts}
-use Rattle.at_board.specs.Seen.{DecisionInRange, RequestInRange, SeesInRange}
+use Rattle.at_board.specs.Seen.{AgreesWithSeen, DecisionInRange, RequestInRange, SeesInRange}
 use Rattle.at_board.specs.SeatView.{IsSeat}
 use Rattle.at_board.specs.Steps.{IsHistory}
 use Rattle.at_board.specs.Views.{HasPart, IsAnnounced, IsDecided, Knows, asking_on, own_part, part_at}
@@ -164,13 +166,34 @@ module _ {S : Type 0} where
       Ruled-learned key s.words s.views id other v w holds found apart
       (sym (set_else s.views id other (learned v w) apart) ∙ there) part none
 
+module _ {S : Type 0} where
+  -- where the rule holds of a seat and a note, the note's list is a prefix, and all that the seat has then seen agrees
+  note_prefix : (b : BookTerms) (id other : ℕ) (v w : View) → 0 < length v.parts → AreSeen {S = S} (λ s. Ruled b s.words s.views) id v other w
+      → IsPrefix w.seen (learned v w).seen
+  note_prefix b id other v w part met =
+      let ruled = met.1 in
+      let mine = ruled.knows id v met.3 in
+      let theirs = ruled.knows other w met.4 in
+      let own = subst (λ p. HasPart b met.0.words ruled.state v p (part_at v 0)) (let e : v.first + 0 ≡ v.first = omega arith in e) (mine.parts 0 part) in
+      longer-both v.first v.seen w.seen ruled.state.published mine.seen theirs.seen (own.seen ∙ own.published)
+
+  learned_agrees : (b : BookTerms) (id other : ℕ) (v w : View) → 0 < length v.parts → length w.parts ≡ 0
+      → AreSeen {S = S} (λ s. Ruled b s.words s.views) id v other w → AgreesWithSeen (learned v w)
+  learned_agrees b id other v w part none met =
+      let views = set (set met.0.views id (learned v w)) other spent_view in
+      let after = Ruled-learned b met.0.words met.0.views id other v w met.1 met.3 met.2 met.4 part none in
+      let here = set_else (set met.0.views id (learned v w)) other id spent_view (λ e. met.2 (sym e))
+          ∙ set_here met.0.views id (learned v w) (within_found met.0.views id v met.3) in
+      AgreesWithSeen-Ruled b met.0.words views id (learned v w) after here
+
 -- what the seat has then seen
-pub Learns-learned : (b : BookTerms) (v w : View) (process published : ℕ) → v.book ≡ b → w.book ≡ b → IsSeat v process published → IsNote w
-    → Learns b v w (learned v w)
-Learns-learned b v w process published book note_book seat note = record {
+pub Learns-learned : {S : Type 0} (b : BookTerms) (id other : ℕ) (v w : View) (process published : ℕ) → v.book ≡ b → w.book ≡ b → IsSeat v process published → IsNote w
+    → AreSeen {S = S} (λ s. Ruled b s.words s.views) id v other w → Learns b v w (learned v w)
+Learns-learned b id other v w process published book note_book seat note met = record {
   more = IsPrefix-longer v.first v.seen w.seen;
   own = count_of-longer v.first v.seen w.seen;
-  heard = (0, omega arith, refl);
+  heard = note_prefix b id other v w (omega (arith, seat.one_part)) met;
+  agrees = learned_agrees b id other v w (omega (arith, seat.one_part)) note.no_part met;
   history = longer-either (IsHistory b) v.first v.seen w.seen (subst (λ t. IsHistory t v.seen) book seat.history) (subst (λ t. IsHistory t w.seen) note_book note.history);
   same = refl;
 }

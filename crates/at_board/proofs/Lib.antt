@@ -12,6 +12,7 @@ pub mod FollowLaws
 pub mod PrefixRuns
 pub mod OpeningLaws
 pub mod OwnRequestLaws
+pub mod SeatPairs
 pub mod SeatLaws
 pub mod HistoryLaws
 pub mod LoadLaws

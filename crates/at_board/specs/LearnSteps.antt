@@ -1,10 +1,11 @@
 -- What a seat knows that has learned a note.
-use Rattle.std.specs.Prelude.{◌≡◌, ℕ, ◌&&◌, ◌==◌, ◌++◌, List, [], ◌∷◌, Contains, if◌then◌else◌}
+use Rattle.std.specs.Prelude.{◌≡◌, ℕ, ◌&&◌, ◌==◌, ◌++◌, List, [], ◌∷◌, if◌then◌else◌}
 use Rattle.at_ledger.specs.Book.{BookTerms}
 use Rattle.at_board.specs.declared.publication.Publication.{Publication}
 use Rattle.at_board.specs.declared.view.View.{View}
 use Rattle.at_board.specs.Publications.{IsPrefix, count_of}
 use Rattle.at_board.specs.Same.{begins_with}
+use Rattle.at_board.specs.Seen.{AgreesWithSeen}
 use Rattle.at_board.specs.Steps.{IsHistory}
 
 -- the other list where it begins with mine and has no more publications of my process, and else mine
@@ -33,11 +34,11 @@ spent_view = record {
   parts = [];
 }
 
--- a seat has learned a note: what it has seen begins as before, with no more of its own, and the note's list stands among
--- those that were joined. That the seat's list begins with it is told by the next step
+-- a seat has learned a note: what it has seen begins as before and with what the note had seen, with no more of its own
 pub record Learns (b : BookTerms) (before note after : View) : Type 0 where
   pub more : IsPrefix before.seen after.seen
   pub own : count_of before.first after.seen ≡ count_of before.first before.seen
-  pub heard : Contains after.joined note.seen
+  pub heard : IsPrefix note.seen after.seen
   pub history : IsHistory b after.seen
+  pub agrees : AgreesWithSeen after
   pub same : after ≡ learned before note

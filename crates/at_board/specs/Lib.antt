@@ -19,6 +19,7 @@ pub mod Conditions
 pub mod Steps
 pub mod NoteSteps
 pub mod Same
+pub mod Meetings
 pub mod LearnSteps
 pub mod DecideSteps
 pub mod Cuts

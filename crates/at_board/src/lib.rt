@@ -11,6 +11,7 @@ mod crossing;
 mod dealing;
 mod ending;
 mod log_starts;
+mod meeting;
 mod note;
 mod notes;
 mod plays;

@@ -6,6 +6,7 @@ ghost use Rattle.at_board.specs.NoteSteps.{noted};
 ghost use Rattle.at_board.specs.SeatView.{IsOf};
 
 use crate::board::Board;
+use crate::meeting::meet;
 use crate::note::BoardNote;
 use crate::plays::{Learn, Note};
 use crate::seat::BoardSeat;
@@ -34,8 +35,7 @@ impl Board {
         }
     }
 
-    /// Takes in a note, in one step. The seat has then seen the longer of both lists, of which the next step tells that it
-    /// begins with both.
+    /// Takes in a note, in one step. The seat has then seen the longer of both lists, of which both are prefixes.
     pub fn learn<L: Ledger, X: Ledger>(
         &self,
         seat: &mut BoardSeat,
@@ -52,7 +52,9 @@ impl Board {
     {
         steps.tick();
         exchanges.tick();
-        let BoardNote { seat: told } = note;
-        self.table.shared.join_seat::<Learn>(&mut seat.seat, told);
+        let shared = &self.table.shared;
+        let BoardNote { seat: mut told } = note;
+        meet(shared, &mut seat.seat, &mut told);
+        shared.join_seat::<Learn>(&mut seat.seat, told);
     }
 }

@@ -1,23 +1,35 @@
-use Rattle.std.proofs.Common.{◌≡◌, sym, ap, subst, ◌∙◌, arith}
+use Rattle.std.proofs.Common.{◌≡◌, ◌<◌, length, sym, ap, subst, ◌∙◌, arith}
 use Rattle.at_ledger.specs.Book.{BookTerms}
 use Rattle.at_board.proofs.LearnLaws.{HasCounts-learned, IsSeat-learned, Learns-learned, SeesInRange-learned, learns}
 use Rattle.at_board.proofs.NoteLaws.{word_count-some}
 use Rattle.at_board.specs.declared.view.View.{View}
-use Rattle.at_board.specs.LearnSteps.{Learns}
+use Rattle.at_board.specs.LearnSteps.{Learns, learned}
+use Rattle.at_board.specs.Meetings.{AreSeen}
+use Rattle.at_board.specs.Seated.{Ruled}
 use Rattle.at_board.specs.SeatCounts.{HasCounts}
 use Rattle.at_board.specs.Seen.{SeesInRange}
 use Rattle.at_board.specs.SeatView.{IsSeat}
 use Rattle.at_board.proofs.board.Board.learn.Goals as goal
 
+pub meet-requires : goal.meet-requires
+meet-requires g c =
+    let ours = sym (ap (λ t. t.id) c.self.view_is) in record {
+      one = ap (λ s. s.board) c.seat.view_is ∙ (c.requires.board.id ∙ ours);
+      other = ap (λ s. s.board) c.note.view_is ∙ (c.requires.note.id ∙ ours);
+    }
+
 pub join_seat-requires : goal.join_seat-requires
 join_seat-requires g c =
-    let ours = sym (ap (λ t. t.id) c.self.view_is) in (
-      ap (λ s. s.board) c.seat.view_is ∙ (c.requires.board.id ∙ ours),
-      ap (λ s. s.board) c.note.view_is ∙ (c.requires.note.id ∙ ours),
-      c.note.invariant.0,
+    let ours = sym (ap (λ t. t.id) c.self.view_is) in
+    let one = c.meet.ensures.one in
+    let other = c.meet.ensures.other in (
+      ap (λ s. s.table_id) one ∙ (ap (λ s. s.board) c.seat.view_is ∙ (c.requires.board.id ∙ ours)),
+      ap (λ s. s.table_id) other ∙ (ap (λ s. s.board) c.note.view_is ∙ (c.requires.note.id ∙ ours)),
+      ap (λ s. s.me.1) other ∙ c.note.invariant.0,
       omega (arith, c.self.invariant.1, word_count-some c.self.inside.book c.self.invariant.2),
-      learns c.self.inside.table.shared.key.value c.seat.inside.seat.id c.note.inside.seat.id c.seat.inside.seat.me.0 c.note.inside.seat.me.0
-          (omega (arith, c.seat.invariant.1.one_part)) c.note.invariant.1.no_part,
+      learns c.self.inside.table.shared.key.value c.meet.new.one.id c.meet.new.other.id c.meet.new.one.me.0 c.meet.new.other.me.0
+          (subst (λ (t : View). 0 < length t.parts) (sym (ap (λ s. s.me.0) one)) (omega (arith, c.seat.invariant.1.one_part)))
+          (ap (λ s. length s.me.0.parts) other ∙ c.note.invariant.1.no_part),
     )
 
 pub invariant_of-seat : goal.invariant_of-seat
@@ -27,8 +39,9 @@ invariant_of-seat g c =
     let w : View = c.note.inside.seat.me.0 in
     let book : v.book ≡ b = ap (λ s. s.view.book) c.seat.view_is ∙ c.requires.board.book in
     let note_book : w.book ≡ b = ap (λ s. s.view.book) c.note.view_is ∙ c.requires.note.book in
-    let after = sym (ap (λ m. m.0) c.join_seat.ensures.2) in (
-      ap (λ m. m.1) c.join_seat.ensures.2 ∙ c.seat.invariant.0,
+    let after : learned v w ≡ c.join_seat.new.seat.me.0 =
+    sym (ap (λ m. m.0) c.join_seat.ensures.2 ∙ (λ t. learned (c.meet.ensures.one t).me.0 (c.meet.ensures.other t).me.0)) in (
+      ap (λ m. m.1) c.join_seat.ensures.2 ∙ (ap (λ s. s.me.1) c.meet.ensures.one ∙ c.seat.invariant.0),
       subst (λ t. IsSeat t c.seat.inside.process c.seat.inside.published) after
           (IsSeat-learned b v w c.seat.inside.process c.seat.inside.published book note_book c.seat.invariant.1 c.note.invariant.1),
       subst (λ t. HasCounts t c.seat.inside.announced.items) after (HasCounts-learned v w c.seat.inside.announced.items c.seat.invariant.2),
@@ -44,6 +57,11 @@ returns-clause-learned g c =
     let theirs : w ≡ c.args.note.view = ap (λ s. s.view) c.note.view_is in
     let book : v.book ≡ b = ap (λ (t : View). t.book) mine ∙ c.requires.board.book in
     let note_book : w.book ≡ b = ap (λ (t : View). t.book) theirs ∙ c.requires.note.book in
-    let told = Learns-learned b v w c.seat.inside.process c.seat.inside.published book note_book c.seat.invariant.1 c.note.invariant.1 in
+    let ours : c.self.inside.table.shared.key.value ≡ b = c.self.invariant.0 ∙ ap (λ t. t.book) c.self.view_is in
+    let met : AreSeen (λ s. Ruled b s.words s.views) c.seat.inside.seat.id v c.note.inside.seat.id w =
+    subst (λ (t : BookTerms). AreSeen (λ s. Ruled t s.words s.views) c.seat.inside.seat.id v c.note.inside.seat.id w) ours c.meet.ensures.seen in
+    let after : learned v w ≡ c.join_seat.new.seat.me.0 =
+    sym (ap (λ m. m.0) c.join_seat.ensures.2 ∙ (λ t. learned (c.meet.ensures.one t).me.0 (c.meet.ensures.other t).me.0)) in
+    let told = Learns-learned b c.seat.inside.seat.id c.note.inside.seat.id v w c.seat.inside.process c.seat.inside.published book note_book c.seat.invariant.1 c.note.invariant.1 met in
     subst (λ (t : View). Learns b t c.args.note.view c.join_seat.new.seat.me.0) mine
-    (subst (λ (t : View). Learns b v t c.join_seat.new.seat.me.0) theirs (subst (Learns b v w) (sym (ap (λ m. m.0) c.join_seat.ensures.2)) told))
+    (subst (λ (t : View). Learns b v t c.join_seat.new.seat.me.0) theirs (subst (Learns b v w) after told))
