@@ -9,7 +9,7 @@ use Rattle.std.proofs.lemmas.List.Elements.{All-nil, All-push, Contains-append_l
 use Rattle.at_ledger.specs.Book.{BookTerms, IsBegun}
 use Rattle.at_board.proofs.AnnounceSound.{Grows-announced, IsNext, Sound-announced, announced_rows, announced_rows-here, announced_rows-other, slot_cases}
 use Rattle.at_board.proofs.AskLaws.{HasPart-asking, HasPart-kept, IsLeft, Knows-kept, SameRequest, SeesMore, all_announced, length-Grows, other_slot, with_rows}
-use Rattle.at_board.proofs.FrontLaws.{All-IsPrefix, IsPrefix-length, IsPrefix-refl, take-IsPrefix-le}
+use Rattle.at_board.proofs.FrontLaws.{IsPrefix-length, IsPrefix-refl, take-IsPrefix-le}
 use Rattle.at_board.proofs.HistoryLaws.{IsHistory-Sound}
 use Rattle.at_board.proofs.LoadLaws.{parts_after}
 use Rattle.at_board.proofs.OpeningLaws.{get_or-zeros}
@@ -217,7 +217,6 @@ Announces-Ruled b words views id v a slot r ruled begun found part may =
       seen = IsPrefix-refl s.published;
       requests = All-push (IsAnnounced t) v.requests x (all_announced s rows v.requests grows knows.requests) new_is;
       decisions = knows.decisions;
-      joined = All-IsPrefix v.joined v.seen s.published knows.joined knows.seen;
       parts = parts_after (λ k p. HasPart b after t u (v.first + k) p) v.parts (part_asking q a new) part
           (subst (λ p. HasPart b after t u p (part_asking q a new)) (sym first) own_after)
           (λ k apart within.
@@ -239,7 +238,6 @@ Announces-Ruled b words views id v a slot r ruled begun found part may =
       record {
         more = knows.seen;
         own = sym own.published;
-        joined = knows_own.joined;
         history = IsHistory-Sound b after t shown sound begun;
         agrees = AgreesWithSeen-Knows b after t u sound knows_own;
         same = refl;

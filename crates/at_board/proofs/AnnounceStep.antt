@@ -26,7 +26,7 @@ use Rattle.at_board.specs.RequestSteps.{Announces, seen_as, with_request}
 use Rattle.at_board.specs.Rounds.{rounds}
 use Rattle.at_board.specs.Seated.{Ruled}
 use Rattle.at_board.specs.SeatCounts.{HasCounts}
-use Rattle.at_board.specs.Seen.{RequestInRange, SeesInRange}
+use Rattle.at_board.specs.Seen.{RequestInRange, SeesInRange, AgreesWithSeen}
 use Rattle.at_board.specs.SeatView.{IsSeat}
 use Rattle.at_board.specs.Steps.{IsHistory}
 use Rattle.at_board.specs.Views.{HasSlot, asking_on, own_part}
@@ -96,7 +96,7 @@ IsSeat-announce b v w process k a slot r book mine seat told =
     (IsSeat-asking v w.seen (v.requests ++ seen_as a slot (next_number v a) r ∷ []) process k a after seat
     (subst (λ t. IsHistory t w.seen) (sym book) told.history) (told.own ∙ seat.published_is)
     (SeesOwnRequests-announce v w.seen a slot after r (omega (arith, seat.one_part)) (subst (λ (t : BookTerms). HasSlot t v.first a slot) (sym book) mine) refl
-    seat.asked))
+    seat.asked) (subst AgreesWithSeen told.same told.agrees))
 
 pub HasCounts-announce : (b : BookTerms) (v w : View) (a slot : ℕ) (r : Request) (n : ℕ) (counts : List ℕ) → 0 < length v.parts
     → n ≡ next_number v a + 1 → Announces b v w a slot r → HasCounts v counts → HasCounts w (set counts a n)

@@ -8,7 +8,7 @@ use Rattle.std.proofs.lemmas.List.Elements.{All-append, All-contains, All-from_g
 use Rattle.std.proofs.lemmas.List.FromFn.{get_or-range_with_len, length-range_with_len}
 use Rattle.at_ledger.specs.Book.{BookTerms, IsBegun}
 use Rattle.at_board.proofs.AskLaws.{Grows-refl, HasAsking-kept, HasPart-asking, HasPart-kept, IsLeft-refl, SeesMore}
-use Rattle.at_board.proofs.FrontLaws.{All-IsPrefix, IsPrefix-refl}
+use Rattle.at_board.proofs.FrontLaws.{IsPrefix-refl}
 use Rattle.at_board.proofs.HistoryLaws.{IsHistory-Sound}
 use Rattle.at_board.proofs.LoadLaws.{parts_after}
 use Rattle.at_board.proofs.SeatLaws.{AreSeated-set, knows_after}
@@ -70,7 +70,6 @@ Knows-announced b words s v a slot n part within knows =
       requests = All-append (IsAnnounced s) v.requests (all_of a slot row) knows.requests
           (All-all_of (IsAnnounced s) a slot row (λ i inside. (inside, refl)));
       decisions = knows.decisions;
-      joined = All-IsPrefix v.joined v.seen s.published knows.joined knows.seen;
       parts = parts_after (λ k t. HasPart b words s u (v.first + k) t) v.parts after part
           (HasPart-asking b words words s s.rows v u p q a (with_row (asking_on q a) slot n) (Grows-refl s.rows) knows.seen more (sym own.published)
           (λ j is. refl) (λ c other apart has. (refl, λ j is. refl))
@@ -115,7 +114,6 @@ LoadsAnnounced-Ruled b words views id v a slot ruled begun found part within =
             (omega (arith, is.0, counted), is.1);
         more = knows.seen;
         own = ap (λ k. count_of k s.published) (sym first) ∙ sym own.published;
-        joined = mine.joined;
         history = IsHistory-Sound b words s ruled.shown ruled.sound begun;
         agrees = AgreesWithSeen-Knows b words s w ruled.sound mine;
         same = refl;

@@ -20,7 +20,7 @@ use Rattle.at_board.specs.Plays.{loaded_announced}
 use Rattle.at_board.specs.RequestSteps.{LoadsAnnounced, all_of, seen_as, with_row}
 use Rattle.at_board.specs.Seated.{Ruled}
 use Rattle.at_board.specs.SeatCounts.{HasCounts}
-use Rattle.at_board.specs.Seen.{RequestInRange, SeesInRange}
+use Rattle.at_board.specs.Seen.{RequestInRange, SeesInRange, AgreesWithSeen}
 use Rattle.at_board.specs.SeatView.{IsSeat}
 use Rattle.at_board.specs.Steps.{IsHistory}
 use Rattle.at_board.specs.Views.{asking_on, own_part}
@@ -76,7 +76,7 @@ IsSeat-announced b v w process k a slot n book seat told =
     (IsSeat-asking v w.seen (v.requests ++ all_of a slot told.row) process k a (with_row (asking_on (own_part v) a) slot n) seat
     (subst (λ t. IsHistory t w.seen) (sym book) told.history) (told.own ∙ seat.published_is)
     (SeesOwnRequests-asking v w.seen (v.requests ++ all_of a slot told.row) a (with_row (asking_on (own_part v) a) slot n) (omega (arith, seat.one_part)) refl
-    (λ x there. Contains-append_left v.requests (all_of a slot told.row) x there) seat.asked))
+    (λ x there. Contains-append_left v.requests (all_of a slot told.row) x there) seat.asked) (subst AgreesWithSeen told.same told.agrees))
 
 pub HasCounts-announced : (b : BookTerms) (v w : View) (a slot n : ℕ) (counts : List ℕ) → 0 < length v.parts → LoadsAnnounced b v w a slot n
     → HasCounts v counts → HasCounts w counts

@@ -139,7 +139,6 @@ Knows-kept b words after s rows v grows left knows = record {
   seen = knows.seen;
   requests = all_announced s rows v.requests grows knows.requests;
   decisions = knows.decisions;
-  joined = knows.joined;
   parts = λ k within. HasPart-kept b words after s rows v v (v.first + k) (part_at v k) grows (IsPrefix-refl v.seen) (λ x sees. sees) (knows.parts k within).seen (left k within) (knows.parts k within);
 }
 

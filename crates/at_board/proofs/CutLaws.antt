@@ -4,7 +4,6 @@ use Rattle.std.proofs.lemmas.List.{drop-replicate, get_or-replicate, get_or_appe
 use lib.ListN.{get_elem?}
 use mathlib.Core.Option.{some, some-injective, some-ne-none}
 use Rattle.std.proofs.lemmas.Bool.{cases_eq, cases_lt, eq-eqb, le-ltb, lt-ltb, ne_eqb}
-use Rattle.std.proofs.lemmas.List.Elements.{All-nil}
 use Rattle.std.proofs.lemmas.List.{get_or-drop, get_or-take, length-drop, length-set, length-take}
 use Rattle.atomic_table.proofs.Lists.{at_last, at_longer, at_set, set_else, set_here}
 use Rattle.at_ledger.specs.Book.{BookTerms, IsBegun, IsBook}
@@ -24,6 +23,7 @@ use Rattle.at_board.specs.BoardState.{BoardState}
 use Rattle.at_board.specs.Cuts.{first_part, other_parts, starting_seat}
 use Rattle.at_board.specs.Seated.{AreSeated, Holds, Ruled}
 use Rattle.at_board.specs.Views.{HasPart, Knows, no_asking, no_part, part_at, starting_asking, starting_part, starting_view}
+use Rattle.at_board.specs.Seen.{AgreesWithSeen}
 
 -- a view after the cut is the first one, the new one, or another that stayed
 record CutCases (views : List View) (id j : ℕ) (v left right u : View) : Type 0 where
@@ -57,7 +57,6 @@ Knows-first_part b words s v knows = record {
   seen = knows.seen;
   requests = knows.requests;
   decisions = knows.decisions;
-  joined = knows.joined;
   parts = λ k within.
       let few : (k < 1) × (k < length v.parts) = (omega (arith, length-take 1 v.parts), omega (arith, length-take 1 v.parts)) in
       subst (HasPart b words s (first_part v) (v.first + k)) (sym (get_or-take 1 v.parts k no_part few.0))
@@ -69,7 +68,6 @@ Knows-other_parts b words s v knows = record {
   seen = knows.seen;
   requests = knows.requests;
   decisions = knows.decisions;
-  joined = knows.joined;
   parts = λ k within.
       let inside : 1 + k < length v.parts = omega (arith, length-drop 1 v.parts) in
       let at : v.first + (1 + k) ≡ v.first + 1 + k = omega arith in
@@ -205,18 +203,29 @@ rest_view-last b p last =
     let one : b.processes - p ≡ 1 = omega arith in
     ap (λ n. record (starting_view b) { first = p; parts = replicate n (starting_part b) }) one
 
+-- nothing was seen
+AgreesWithSeen-starting : (b : BookTerms) (p : ℕ) → AgreesWithSeen (starting_seat b p)
+AgreesWithSeen-starting b p = record {
+  requests = λ a slot number r q one other. absurd (omega (arith, one.1));
+  decisions = λ a round d sees. absurd (omega (arith, sees.1));
+  records = λ k x within. absurd (omega (arith, within));
+}
+
 pub IsSeat-starting : (b : BookTerms) (p : ℕ) → IsBook b → p < b.processes → IsSeat (starting_seat b p) p 0
 IsSeat-starting b p book within = record {
   one_part = refl;
   process_is = refl;
   published_is = refl;
   own = count_of-nil p;
-  asked = λ a slot i has inside. absurd (omega (arith, inside,
-      ap (λ (w : Asking). length w.announced) (get_or-replicate (length b.accounts) a starting_asking no_asking has.account_in)));
+  asked = λ a slot i has inside. absurd (omega (
+    arith,
+    inside,
+    ap (λ (w : Asking). length w.announced) (get_or-replicate (length b.accounts) a starting_asking no_asking has.account_in),
+  ));
   known = within;
   begun = book;
   history = IsHistory-nil b book.begun;
-  joined = All-nil (IsHistory b);
+  agrees = AgreesWithSeen-starting b p;
 }
 
 -- the seat of a process on a new board

@@ -8,7 +8,7 @@ use Rattle.at_base.specs.declared.decision.Decision.{Decision}
 use Rattle.at_ledger.specs.Book.{BookTerms}
 use Rattle.at_board.proofs.CellLaws.{KeptCells-decided, cell, cells-own, decided, held-other, held-own}
 use Rattle.at_board.proofs.DecisionLaws.{no_decision}
-use Rattle.at_board.proofs.FrontLaws.{All-IsPrefix, IsPrefix-refl}
+use Rattle.at_board.proofs.FrontLaws.{IsPrefix-refl}
 use Rattle.at_board.proofs.LoadLaws.{parts_after}
 use Rattle.at_board.proofs.SeatLaws.{HasPart-all, rounds-IsPrefix}
 use Rattle.at_board.proofs.StoreLaws.{SameRecordWords, SameRequestWords}
@@ -95,7 +95,6 @@ Knows-found b words s v a round part within free knows =
       seen = IsPrefix-refl s.published;
       requests = knows.requests;
       decisions = All-IsDecided s v.decisions (record { account = a; round = round; decision = e }) knows.decisions (within, refl);
-      joined = All-IsPrefix v.joined v.seen s.published knows.joined knows.seen;
       parts = parts_after (λ k t. HasPart b words s u (v.first + k) t) v.parts (with_decide q a None) part
           (HasPart-count b words s u (v.first + 0) (record q { held = None }) a
           (HasPart-held b words s u (v.first + 0) q None (sym free ∙ own.held) own))
@@ -145,7 +144,6 @@ Knows-decided b words after s p a d v same record_same apart knows = record {
   seen = knows.seen;
   requests = knows.requests;
   decisions = λ k x within. IsDecided-decided s p a d (get_or v.decisions k x) (knows.decisions k x within);
-  joined = knows.joined;
   parts = λ k within.
       let has = knows.parts k within in
       HasPart-decided b words after s p a d v v (v.first + k) (part_at v k) (part_at v k).held (IsPrefix-refl v.seen) refl same
@@ -180,7 +178,6 @@ Knows-proposed b words after s a round d v part same record_same full knows =
       requests = knows.requests;
       decisions = All-IsDecided s' v.decisions (record { account = a; round = round; decision = d })
           (λ k x within. IsDecided-decided s v.first a d (get_or v.decisions k x) (knows.decisions k x within)) last;
-      joined = All-IsPrefix v.joined v.seen s.published knows.joined knows.seen;
       parts = parts_after (λ k t. HasPart b after s' u (v.first + k) t) v.parts (with_decide q a held) part
           (HasPart-count b after s' u (v.first + 0) (record q { held = held }) a (moved 0 part held holds))
           (λ k apart inside.

@@ -1,7 +1,7 @@
 -- The step on a cell that the rule allows.
-use Rattle.std.proofs.Common.{◌≡◌, ℕ, ◌+◌, ◌<◌, ◌==◌, List, [], ◌∷◌, ◌++◌, length, get_or, set, Option, refl, sym, ap, subst, ◌∙◌, arith, inl, inr}
+use Rattle.std.proofs.Common.{◌≡◌, ℕ, ◌+◌, ◌<◌, ◌==◌, List, [], ◌∷◌, length, get_or, set, Option, refl, sym, ap, subst, ◌∙◌, arith, inl, inr}
 use mathlib.Core.Option.{none}
-use Rattle.at_board.proofs.OwnRequestLaws.{asking_on-part_asking}
+use Rattle.at_board.proofs.OwnRequestLaws.{asking_on-part_asking, SeesOwnRequests-with_part, own_part-with_part}
 use prog.Atomic.{either}
 use Rattle.std.proofs.lemmas.Bool.{cases_eq}
 use Rattle.std.proofs.lemmas.List.{get_or-set_other, get_or-set_same, length-set}
@@ -14,7 +14,6 @@ use Rattle.at_board.proofs.FormLaws.{same_decision}
 use Rattle.at_board.proofs.PlaceLaws.{place_at-injective}
 use Rattle.at_board.proofs.RoundSteps.{Decides-Ruled, IsPlace-MayPropose}
 use Rattle.at_board.proofs.SeatCountLaws.{HasCounts-with_part}
-use Rattle.at_board.proofs.SeatKept.{IsSeat-with_part, same_requests}
 use Rattle.at_board.proofs.StepLaws.{IsSeatOf}
 use Rattle.at_board.specs.declared.request.Request.{Request}
 use Rattle.at_board.specs.declared.view.Asking.{Asking}
@@ -26,7 +25,7 @@ use Rattle.at_board.specs.Conditions.{MayPropose}
 use Rattle.at_board.specs.DecideSteps.{Decides, decided_round, with_decide, with_decision, word_after}
 use Rattle.at_board.specs.Places.{cell_of, place_at}
 use Rattle.at_board.specs.SeatCounts.{HasCounts}
-use Rattle.at_board.specs.Seen.{DecisionInRange, SeesInRange}
+use Rattle.at_board.specs.Seen.{DecisionInRange, SeesInRange, AgreesWithSeen}
 use Rattle.at_board.specs.SeatView.{IsSeat}
 use Rattle.at_board.specs.Seated.{Ruled}
 use Rattle.at_board.specs.Steps.{IsHistory, with_part}
@@ -91,24 +90,21 @@ module _ {S : Type 0} where
 pub IsSeat-decided : (b : BookTerms) (v w : View) (process k a round : ℕ) (d : Decision) (n : ℕ) → v.book ≡ b → IsSeat v process k
     → Decides b v w a round d n → IsSeat w process k
 IsSeat-decided b v w process k a round d n book seat told =
-    let seen : SeenDecision = record { account = a; round = round; decision = told.decision } in
-    let u : View = record v { decisions = v.decisions ++ seen ∷ [] } in
+    let u : View = with_decision v w.seen a round told.decision in
+    let q : Part = with_decide (own_part v) a told.held in
     let counted : Asking = record (asking_on (own_part v) a) { decides = (asking_on (own_part v) a).decides + 1 } in
-    let before : IsSeat u process k = record {
-      one_part = seat.one_part;
+    let part : 0 < length v.parts = omega (arith, seat.one_part) in
+    subst (λ t. IsSeat t process k) (sym told.same) (record {
+      one_part = length-set v.parts 0 q ∙ seat.one_part;
       process_is = seat.process_is;
-      published_is = seat.published_is;
-      own = seat.own;
-      asked = seat.asked;
+      published_is = ap (λ (t : Part). t.published) (own_part-with_part u q part) ∙ seat.published_is;
+      own = told.own ∙ seat.published_is;
+      asked = SeesOwnRequests-with_part v w.seen v.requests q part (λ c. asking_on-part_asking (own_part v) a c counted refl) (λ x there. there) seat.asked;
       known = seat.known;
       begun = seat.begun;
-      history = seat.history;
-      joined = seat.joined;
-    } in
-    subst (λ t. IsSeat t process k) (sym told.same)
-    (IsSeat-with_part u w.seen (with_decide (own_part v) a told.held) process k before k seat.published_is
-    (subst (λ t. IsHistory t w.seen) (sym book) told.history) (told.own ∙ seat.published_is)
-    (same_requests u w.seen (with_decide (own_part v) a told.held) process k before (λ c. asking_on-part_asking (own_part v) a c counted refl)))
+      history = subst (λ t. IsHistory t w.seen) (sym book) told.history;
+      agrees = subst AgreesWithSeen told.same told.agrees;
+    })
 
 -- as many requests are announced
 announced-decide : (q : Part) (a k : ℕ) (held : Option Cell) → k < length q.asking

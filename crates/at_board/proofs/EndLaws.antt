@@ -8,14 +8,14 @@ use Rattle.std.proofs.lemmas.List.Elements.{All-append, All-cons, All-nil, Conta
 use Rattle.atomic_table.specs.Table.{Final, Seen}
 use Rattle.at_ledger.specs.Book.{BookTerms, IsBook}
 use Rattle.at_board.proofs.HistoryLaws.{IsHistory-Sound}
-use Rattle.at_board.proofs.RecordLaws.{All-Contains, lists_of-Knows}
+use Rattle.at_board.proofs.FrontLaws.{IsPrefix-refl, IsPrefix-trans}
+use Rattle.at_board.proofs.RecordLaws.{All-Contains}
 use Rattle.at_board.specs.declared.view.Part.{Part}
 use Rattle.at_board.specs.declared.view.View.{View}
 use Rattle.at_board.specs.BoardState.{BoardState}
 use Rattle.at_board.specs.Cuts.{AreNew, starting_seat}
 use Rattle.at_board.specs.Ends.{AreAllFree, Gathers, IsEnd, IsFreeSeat, gathered}
 use Rattle.at_board.specs.Publications.{IsPrefix}
-use Rattle.at_board.specs.RecordWords.{lists_of}
 use Rattle.at_board.specs.Seated.{Ruled}
 use Rattle.at_board.specs.SeatView.{BoardView, SeatView}
 use Rattle.at_board.specs.Shown.{Shown}
@@ -57,7 +57,7 @@ Gathers-first board seat is one =
       own = λ k d within. let at : 0 ≡ k = omega (arith, within) in
           subst (λ n. part_at seat.view n ≡ own_part (get_or (seat ∷ []) n d).view) at refl;
       free = λ k within. let at : 0 ≡ k = omega (arith, within, one) in subst (λ n. (part_at seat.view n).held ≡ None) at is.free;
-      seen = HasAll-first lists_of seat;
+      seen = All-cons (λ s. IsPrefix s.view.seen seat.view.seen) seat [] (IsPrefix-refl seat.view.seen) (All-nil (λ s. IsPrefix s.view.seen seat.view.seen));
       requests = HasAll-first (λ v. v.requests) seat;
       decisions = HasAll-first (λ v. v.decisions) seat;
     }
@@ -68,11 +68,12 @@ pub next_seat : (board : BoardView) (seats : List SeatView) (v : View) (x : Seat
 next_seat board seats v x gathers is = omega (arith, is.process, gathers.first, gathers.parts)
 
 pub Gathers-more : (board : BoardView) (seats : List SeatView) (v : View) (x : SeatView) → Gathers seats v → IsFreeSeat board (length seats) x
-    → length x.view.parts ≡ 1 → Gathers (seats ++ x ∷ []) (gathered v x.view)
-Gathers-more board seats v x gathers is one =
+    → length x.view.parts ≡ 1 → IsPrefix v.seen (gathered v x.view).seen → IsPrefix x.view.seen (gathered v x.view).seen
+    → Gathers (seats ++ x ∷ []) (gathered v x.view)
+Gathers-more board seats v x gathers is one mine theirs =
     let w : View = x.view in
     let u : View = gathered v w in
-    let lists = lists_of v ++ lists_of w in
+    let P : SeatView → Type 0 = λ s. IsPrefix s.view.seen u.seen in
     record {
       first = gathers.first;
       parts = omega (arith, length-append v.parts w.parts, gathers.parts, one, length_push seats x);
@@ -95,9 +96,8 @@ Gathers-more board seats v x gathers is one =
             subst (λ q. q.held ≡ None) (sym (get_or-append_right v.parts w.parts (length v.parts) k no_part refl above))
             (subst (λ n. (part_at w n).held ≡ None) at is.free)
       ];
-      seen = HasAll-push lists_of seats x (lists_of v) (lists_of u) gathers.seen
-          (λ zs has. HasAll-right (u.seen ∷ []) lists zs (HasAll-left (lists_of v) (lists_of w) zs has))
-          (HasAll-right (u.seen ∷ []) lists (lists_of w) (HasAll-right (lists_of v) (lists_of w) (lists_of w) (HasAll-refl (lists_of w))));
+      seen = All-append P seats (x ∷ []) (λ k d within. IsPrefix-trans (get_or seats k d).view.seen v.seen u.seen (gathers.seen k d within) mine)
+          (All-cons P x [] theirs (All-nil P));
       requests = HasAll-push (λ t. t.requests) seats x v.requests u.requests gathers.requests (HasAll-left v.requests w.requests)
           (HasAll-right v.requests w.requests w.requests (HasAll-refl w.requests));
       decisions = HasAll-push (λ t. t.decisions) seats x v.decisions u.decisions gathers.decisions (HasAll-left v.decisions w.decisions)
@@ -125,9 +125,7 @@ module _ {S : Type 0} where
         shown = subst (λ ws. Shown b ws s) last.2 ruled.shown;
         sound = ruled.sound;
         free = λ p within. sym (has p within).held ∙ gathers.free p (omega (arith, within, gathers.parts, all));
-        seen = λ k d within. λ i list inside.
-            All-Contains (λ t. IsPrefix t s.published) (lists_of v) (get_or (lists_of (get_or seats k d).view) i list)
-            (lists_of-Knows b last.0.words s v knows) (gathers.seen k d within i list inside);
+        seen = λ k d within. IsPrefix-trans (get_or seats k d).view.seen v.seen s.published (gathers.seen k d within) knows.seen;
         requests = λ k d within. λ i x inside.
             All-Contains (IsAnnounced s) v.requests (get_or (get_or seats k d).view.requests i x) knows.requests (gathers.requests k d within i x inside);
         decisions = λ k d within. λ i x inside.

@@ -2,66 +2,34 @@
 use Rattle.std.proofs.Common.{◌≡◌, ◌≢◌, ℕ, ◌+◌, ◌-◌, ◌<◌, ◌==◌, Bool, cond, List, ◌++◌, length, get_or, set, refl, sym, ap, subst, ◌∙◌, arith, inl, inr, ◌⊎◌}
 use lib.ListN.{get_elem?}
 use mathlib.Core.Option.{some, some-injective}
-use Rattle.std.proofs.lemmas.Bool.{cases_eq, cases_lt, eq-eqb, le-ltb, lt-ltb, ne_eqb}
+use Rattle.std.proofs.lemmas.Bool.{cases_eq, cases_lt, eq-eqb, ne_eqb}
 use Rattle.std.proofs.lemmas.List.{get_or_append_left, get_or-append_right, length-append}
 use Rattle.std.proofs.lemmas.List.Elements.{All-append, Contains-append_left, Contains-append_right}
 use Rattle.atomic_table.proofs.Lists.{at_set, set_else, set_here}
 use Rattle.atomic_table.specs.Table.{Joins}
 use Rattle.at_ledger.specs.Book.{BookTerms}
-use Rattle.at_board.proofs.FrontLaws.{All-IsPrefix, IsPrefix-both, IsPrefix-refl}
 use Rattle.at_board.proofs.LearnLaws.{Knows-spent_view}
+use Rattle.at_board.proofs.LongerLaws.{IsLonger-longer}
 use Rattle.at_board.proofs.MoreLaws.{HasPart-more, HasRequests}
-use Rattle.at_board.proofs.RecordLaws.{lists_of-seen}
 use Rattle.at_board.proofs.SeatLaws.{knows_after, within_found}
-use Rattle.at_board.specs.declared.publication.Publication.{Publication}
 use Rattle.at_board.specs.declared.view.View.{View}
 use Rattle.at_board.specs.BoardState.{BoardState}
-use Rattle.at_board.specs.Ends.{gathered, longest}
+use Rattle.at_board.specs.Ends.{gathered}
 use Rattle.at_board.specs.LearnSteps.{spent_view}
-use Rattle.at_board.specs.Publications.{IsPrefix}
-use Rattle.at_board.specs.RecordWords.{lists_of}
 use Rattle.at_board.specs.Seated.{AreSeated, Holds, Ruled}
 use Rattle.at_board.specs.Views.{HasPart, IsAnnounced, IsDecided, Knows, no_part, part_at}
-
--- of two prefixes of one list both are prefixes of the longer, which is one of them
-record IsLongest (xs ys all : List Publication) : Type 0 where
-  first : IsPrefix xs (longest xs ys)
-  second : IsPrefix ys (longest xs ys)
-  before : IsPrefix (longest xs ys) all
-
-IsLongest-longest : (xs ys all : List Publication) → IsPrefix xs all → IsPrefix ys all → IsLongest xs ys all
-IsLongest-longest xs ys all one two =
-    elim (cases_lt (length xs) (length ys)) as (λ _. IsLongest xs ys all) [
-      | inl below ↦
-          let is : ys ≡ longest xs ys = sym (ap (λ (t : Bool). cond t ys xs) (lt-ltb (length xs) (length ys) below)) in
-          record {
-            first = subst (IsPrefix xs) is (IsPrefix-both xs ys all one two (omega arith));
-            second = subst (IsPrefix ys) is (IsPrefix-refl ys);
-            before = subst (λ t. IsPrefix t all) is two;
-          }
-      | inr above ↦
-          let is : xs ≡ longest xs ys = sym (ap (λ (t : Bool). cond t ys xs) (le-ltb (length xs) (length ys) above)) in
-          record {
-            first = subst (IsPrefix xs) is (IsPrefix-refl xs);
-            second = subst (IsPrefix ys) is (IsPrefix-both ys xs all two one above);
-            before = subst (λ t. IsPrefix t all) is one;
-          }
-    ]
 
 Knows-gathered : (b : BookTerms) (words : List ℕ) (s : BoardState) (v w : View) → w.first ≡ v.first + length v.parts
     → Knows b words s v → Knows b words s w → Knows b words s (gathered v w)
 Knows-gathered b words s v w next mine theirs =
     let u : View = gathered v w in
-    let long = IsLongest-longest v.seen w.seen s.published mine.seen theirs.seen in
+    let long = IsLonger-longer v.seen w.seen s.published mine.seen theirs.seen in
     let left : HasRequests u.requests v.requests = λ x there. Contains-append_left v.requests w.requests x there in
     let right : HasRequests u.requests w.requests = λ x there. Contains-append_right v.requests w.requests x there in
     record {
       seen = long.before;
       requests = All-append (IsAnnounced s) v.requests w.requests mine.requests theirs.requests;
       decisions = All-append (IsDecided s) v.decisions w.decisions mine.decisions theirs.decisions;
-      joined = All-append (λ list. IsPrefix list u.seen) (lists_of v) (lists_of w)
-          (All-IsPrefix (lists_of v) v.seen u.seen (lists_of-seen b words s v mine) long.first)
-          (All-IsPrefix (lists_of w) w.seen u.seen (lists_of-seen b words s w theirs) long.second);
       parts = λ k within. elim (cases_lt k (length v.parts)) as (λ _. HasPart b words s u (v.first + k) (get_or (v.parts ++ w.parts) k no_part)) [
         | inl below ↦
             subst (HasPart b words s u (v.first + k)) (sym (get_or_append_left v.parts w.parts no_part k below))

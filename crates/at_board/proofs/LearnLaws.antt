@@ -1,111 +1,41 @@
 -- Learning a note keeps the rule, and what it tells.
-use Rattle.std.proofs.Common.{◌≡◌, ◌≢◌, ℕ, ◌+◌, ◌<◌, [], ◌==◌, ◌&&◌, Bool, cond, List, ◌++◌, length, set, refl, sym, ap, subst, ◌∙◌, arith, inl, inr, ◌⊎◌}
+use Rattle.std.proofs.Common.{◌≡◌, ◌≢◌, ℕ, ◌+◌, ◌<◌, List, length, set, refl, sym, ap, subst, ◌∙◌, arith, inl, inr}
 use Rattle.std.specs.List.{All}
 use lib.ListN.{get_elem?}
 use mathlib.Core.Option.{some, some-injective}
-use Rattle.std.proofs.lemmas.Bool.{and_from, and_parts, cases_Bool, cases_eq, cases_lt, eq-eqb, eqb-true}
-use Rattle.std.proofs.lemmas.List.Elements.{All-append, All-cons, All-nil, Contains-append_left}
+use Rattle.std.proofs.lemmas.Bool.{cases_eq}
+use Rattle.std.proofs.lemmas.List.Elements.{All-append, All-nil, Contains-append_left}
 use Rattle.atomic_table.proofs.Lists.{at_set, set_else, set_here}
 use Rattle.atomic_table.specs.Table.{Joins}
 use Rattle.at_ledger.specs.Book.{BookTerms}
-use Rattle.at_board.proofs.FrontLaws.{All-IsPrefix, IsPrefix-both, IsPrefix-count_of, IsPrefix-refl}
+use Rattle.at_board.proofs.LongerLaws.{IsLonger-longer, IsLonger-seen, count_of-longer, longer-either}
 use Rattle.at_board.proofs.MoreLaws.{HasPart-more, HasRequests}
-use Rattle.at_board.proofs.SameLaws.{IsPrefix-begins_with, begins_with-IsPrefix}
 use Rattle.at_board.proofs.SeatLaws.{AreSeated-set, knows_after, within_found}
 use Rattle.at_board.proofs.SeenLaws.{AgreesWithSeen-Ruled}
-use Rattle.at_board.specs.declared.publication.Publication.{Publication}
 use Rattle.at_board.specs.declared.view.View.{View}
 use Rattle.at_board.specs.BoardState.{BoardState, request_at}
-use Rattle.at_board.specs.LearnSteps.{Learns, learned, longer, spent_view}
+use Rattle.at_board.specs.LearnSteps.{Learns, learned, spent_view}
 use Rattle.at_board.specs.Meetings.{AreSeen}
 use Rattle.at_board.specs.NoteSteps.{IsNote}
-use Rattle.at_board.specs.Publications.{IsPrefix, count_of}
 use Rattle.at_board.specs.RequestSteps.{seen_as}
-use Rattle.at_board.specs.Same.{begins_with}
 use Rattle.at_board.specs.Seated.{AreSeated, Holds, Ruled}
 use Rattle.at_board.specs.SeatCounts.{HasCounts}
 use Rattle.at_board.specs.Seen.{AgreesWithSeen, DecisionInRange, RequestInRange, SeesInRange}
 use Rattle.at_board.specs.SeatView.{IsSeat}
 use Rattle.at_board.specs.Steps.{IsHistory}
-use Rattle.at_board.specs.Views.{HasPart, IsAnnounced, IsDecided, Knows, asking_on, own_part, part_at}
-
--- which of two lists was taken
-record TakesOther (process : ℕ) (mine other : List Publication) : Type 0 where
-  taken : longer process mine other ≡ other
-  before : IsPrefix mine other
-  own : count_of process other ≡ count_of process mine
-
-longer_cases : (process : ℕ) (mine other : List Publication) → TakesOther process mine other ⊎ (longer process mine other ≡ mine)
-longer_cases process mine other =
-    let begins = begins_with other mine in
-    let as_many = count_of process other == count_of process mine in
-    elim (cases_Bool (begins && as_many)) as (λ _. TakesOther process mine other ⊎ (longer process mine other ≡ mine)) [
-      | inl taken ↦
-          let both = and_parts begins as_many taken in
-          inl (record {
-            taken = ap (λ (t : Bool). cond t other mine) taken;
-            before = IsPrefix-begins_with other mine both.0;
-            own = eqb-true (count_of process other) (count_of process mine) both.1;
-          })
-      | inr kept ↦ inr (ap (λ (t : Bool). cond t other mine) kept)
-    ]
-
--- what holds of both holds of the longer
-longer-either : (P : List Publication → Type 0) (process : ℕ) (mine other : List Publication) → P mine → P other → P (longer process mine other)
-longer-either P process mine other one two =
-    elim (longer_cases process mine other) as (λ _. P (longer process mine other)) [
-      | inl takes ↦ subst P (sym takes.taken) two
-      | inr keeps ↦ subst P (sym keeps) one
-    ]
-
--- the longer list begins with mine, and has as many publications of the process
-IsPrefix-longer : (process : ℕ) (mine other : List Publication) → IsPrefix mine (longer process mine other)
-IsPrefix-longer process mine other =
-    elim (longer_cases process mine other) as (λ _. IsPrefix mine (longer process mine other)) [
-      | inl takes ↦ subst (IsPrefix mine) (sym takes.taken) takes.before
-      | inr keeps ↦ subst (IsPrefix mine) (sym keeps) (IsPrefix-refl mine)
-    ]
-
-count_of-longer : (process : ℕ) (mine other : List Publication) → count_of process (longer process mine other) ≡ count_of process mine
-count_of-longer process mine other =
-    elim (longer_cases process mine other) as (λ _. count_of process (longer process mine other) ≡ count_of process mine) [
-      | inl takes ↦ ap (count_of process) takes.taken ∙ takes.own
-      | inr keeps ↦ ap (count_of process) keeps
-    ]
-
--- where both are prefixes of one list, and mine has all publications of the process there, both are prefixes of the longer
-longer-both : (process : ℕ) (mine other all : List Publication) → IsPrefix mine all → IsPrefix other all
-    → count_of process mine ≡ count_of process all → IsPrefix other (longer process mine other)
-longer-both process mine other all one two own =
-    elim (cases_lt (length other) (length mine)) as (λ _. IsPrefix other (longer process mine other)) [
-      | inl shorter ↦ longer-either (IsPrefix other) process mine other (IsPrefix-both other mine all two one (omega arith)) (IsPrefix-refl other)
-      | inr above ↦
-          let before = IsPrefix-both mine other all one two above in
-          let as_many : count_of process other ≡ count_of process mine =
-          omega (arith, own, IsPrefix-count_of process mine other before, IsPrefix-count_of process other all two) in
-          let passes = and_from (begins_with other mine) (count_of process other == count_of process mine) (begins_with-IsPrefix other mine before)
-          (eq-eqb (count_of process other) (count_of process mine) as_many) in
-          subst (IsPrefix other) (sym (ap (λ (t : Bool). cond t other mine) passes)) (IsPrefix-refl other)
-    ]
+use Rattle.at_board.specs.Views.{IsAnnounced, IsDecided, Knows, asking_on, own_part, part_at}
 
 Knows-learned : (b : BookTerms) (words : List ℕ) (s : BoardState) (v w : View) → 0 < length v.parts → Knows b words s v → Knows b words s w
     → Knows b words s (learned v w)
 Knows-learned b words s v w part mine theirs =
     let u : View = learned v w in
-    let first : v.first + 0 ≡ v.first = omega arith in
-    let own : HasPart b words s v v.first (part_at v 0) = subst (λ t. HasPart b words s v t (part_at v 0)) first (mine.parts 0 part) in
-    let longer = IsPrefix-longer v.first v.seen w.seen in
-    let second = longer-both v.first v.seen w.seen s.published mine.seen theirs.seen (own.seen ∙ own.published) in
-    let before = longer-either (λ list. IsPrefix list s.published) v.first v.seen w.seen mine.seen theirs.seen in
+    let long = IsLonger-longer v.seen w.seen s.published mine.seen theirs.seen in
     let more : HasRequests u.requests v.requests = λ x there. Contains-append_left v.requests w.requests x there in
     record {
-      seen = before;
+      seen = long.before;
       requests = All-append (IsAnnounced s) v.requests w.requests mine.requests theirs.requests;
       decisions = All-append (IsDecided s) v.decisions w.decisions mine.decisions theirs.decisions;
-      joined = All-cons (λ list. IsPrefix list u.seen) w.seen (v.joined ++ w.joined) second
-          (All-append (λ list. IsPrefix list u.seen) v.joined w.joined (All-IsPrefix v.joined v.seen u.seen mine.joined longer)
-          (All-IsPrefix w.joined w.seen u.seen theirs.joined second));
-      parts = λ k within. HasPart-more b words s v u (v.first + k) (part_at v k) longer before more (mine.parts k within);
+      parts = λ k within. HasPart-more b words s v u (v.first + k) (part_at v k) long.first long.before more (mine.parts k within);
     }
 
 pub Knows-spent_view : (b : BookTerms) (words : List ℕ) (s : BoardState) → Knows b words s spent_view
@@ -113,7 +43,6 @@ Knows-spent_view b words s = record {
   seen = (s.published, refl);
   requests = All-nil (IsAnnounced s);
   decisions = All-nil (IsDecided s);
-  joined = All-nil (λ list. IsPrefix list []);
   parts = λ k within. absurd (omega arith);
 }
 
@@ -167,53 +96,45 @@ module _ {S : Type 0} where
       (sym (set_else s.views id other (learned v w) apart) ∙ there) part none
 
 module _ {S : Type 0} where
-  -- where the rule holds of a seat and a note, the note's list is a prefix, and all that the seat has then seen agrees
-  note_prefix : (b : BookTerms) (id other : ℕ) (v w : View) → 0 < length v.parts → AreSeen {S = S} (λ s. Ruled b s.words s.views) id v other w
-      → IsPrefix w.seen (learned v w).seen
-  note_prefix b id other v w part met =
-      let ruled = met.1 in
-      let mine = ruled.knows id v met.3 in
-      let theirs = ruled.knows other w met.4 in
-      let own = subst (λ p. HasPart b met.0.words ruled.state v p (part_at v 0)) (let e : v.first + 0 ≡ v.first = omega arith in e) (mine.parts 0 part) in
-      longer-both v.first v.seen w.seen ruled.state.published mine.seen theirs.seen (own.seen ∙ own.published)
-
+  -- where the rule holds of a seat and a note, all that the seat has seen with the note agrees
   learned_agrees : (b : BookTerms) (id other : ℕ) (v w : View) → 0 < length v.parts → length w.parts ≡ 0
       → AreSeen {S = S} (λ s. Ruled b s.words s.views) id v other w → AgreesWithSeen (learned v w)
   learned_agrees b id other v w part none met =
       let views = set (set met.0.views id (learned v w)) other spent_view in
       let after = Ruled-learned b met.0.words met.0.views id other v w met.1 met.3 met.2 met.4 part none in
       let here = set_else (set met.0.views id (learned v w)) other id spent_view (λ e. met.2 (sym e))
-          ∙ set_here met.0.views id (learned v w) (within_found met.0.views id v met.3) in
+      ∙ set_here met.0.views id (learned v w) (within_found met.0.views id v met.3) in
       AgreesWithSeen-Ruled b met.0.words views id (learned v w) after here
 
 -- what the seat has then seen
 pub Learns-learned : {S : Type 0} (b : BookTerms) (id other : ℕ) (v w : View) (process published : ℕ) → v.book ≡ b → w.book ≡ b → IsSeat v process published → IsNote w
     → AreSeen {S = S} (λ s. Ruled b s.words s.views) id v other w → Learns b v w (learned v w)
-Learns-learned b id other v w process published book note_book seat note met = record {
-  more = IsPrefix-longer v.first v.seen w.seen;
-  own = count_of-longer v.first v.seen w.seen;
-  heard = note_prefix b id other v w (omega (arith, seat.one_part)) met;
-  agrees = learned_agrees b id other v w (omega (arith, seat.one_part)) note.no_part met;
-  history = longer-either (IsHistory b) v.first v.seen w.seen (subst (λ t. IsHistory t v.seen) book seat.history) (subst (λ t. IsHistory t w.seen) note_book note.history);
-  same = refl;
-}
+Learns-learned b id other v w process published book note_book seat note met =
+    let long = IsLonger-seen b id other v w met in
+    record {
+      more = long.first;
+      own = count_of-longer b id other v w (omega (arith, seat.one_part)) met;
+      heard = long.second;
+      history = longer-either (IsHistory b) v.seen w.seen (subst (λ t. IsHistory t v.seen) book seat.history) (subst (λ t. IsHistory t w.seen) note_book note.history);
+      agrees = learned_agrees b id other v w (omega (arith, seat.one_part)) note.no_part met;
+      same = refl;
+    }
 
-pub IsSeat-learned : (b : BookTerms) (v w : View) (process published : ℕ) → v.book ≡ b → w.book ≡ b → IsSeat v process published → IsNote w
-    → IsSeat (learned v w) process published
-IsSeat-learned b v w process published book note_book seat note =
-    let same : w.book ≡ v.book = note_book ∙ sym book in
-    let theirs : IsHistory v.book w.seen = subst (λ t. IsHistory t w.seen) same note.history in
+pub IsSeat-learned : {S : Type 0} (b : BookTerms) (id other : ℕ) (v w : View) (process published : ℕ) → v.book ≡ b → w.book ≡ b → IsSeat v process published
+    → IsNote w → AreSeen {S = S} (λ s. Ruled b s.words s.views) id v other w → IsSeat (learned v w) process published
+IsSeat-learned b id other v w process published book note_book seat note met =
+    let told = Learns-learned b id other v w process published book note_book seat note met in
     record {
       one_part = seat.one_part;
       process_is = seat.process_is;
       published_is = seat.published_is;
-      own = count_of-longer v.first v.seen w.seen ∙ seat.own;
-      asked = λ a slot i has within. Contains-append_left v.requests w.requests (seen_as a slot i (request_at (asking_on (own_part v) a).announced i)) (seat.asked a slot i has within);
+      own = told.own ∙ seat.own;
+      asked = λ a slot i has within.
+          Contains-append_left v.requests w.requests (seen_as a slot i (request_at (asking_on (own_part v) a).announced i)) (seat.asked a slot i has within);
       known = seat.known;
       begun = seat.begun;
-      history = longer-either (IsHistory v.book) v.first v.seen w.seen seat.history theirs;
-      joined = All-cons (IsHistory v.book) w.seen (v.joined ++ w.joined) theirs
-          (All-append (IsHistory v.book) v.joined w.joined seat.joined (subst (λ t. All (IsHistory t) w.joined) same note.joined));
+      history = subst (λ t. IsHistory t (learned v w).seen) (sym book) told.history;
+      agrees = told.agrees;
     }
 
 -- the seat's own part is the same

@@ -1,5 +1,6 @@
 pub mod CountLaws
 pub mod FrontLaws
+pub mod LongerLaws
 pub mod BlockLaws
 pub mod PlaceLaws
 pub mod SizeLaws
@@ -26,7 +27,6 @@ pub mod PublishStep
 pub mod CutLaws
 pub mod RecordLaws
 pub mod NoteLaws
-pub mod SameLaws
 pub mod MoreLaws
 pub mod LearnLaws
 pub mod DecisionLaws

@@ -4,7 +4,7 @@ use lib.ListN.{get_elem?}
 use mathlib.Core.Option.{some}
 use Rattle.std.proofs.lemmas.List.{get_or-set_other, get_or-set_same, length-set}
 use Rattle.at_ledger.specs.Book.{BookTerms, IsBegun}
-use Rattle.at_board.proofs.FrontLaws.{All-IsPrefix, IsPrefix-refl}
+use Rattle.at_board.proofs.FrontLaws.{IsPrefix-refl}
 use Rattle.at_board.proofs.HistoryLaws.{IsHistory-Sound}
 use Rattle.at_board.proofs.SeatLaws.{AreSeated-set, HasPart-all, knows_after}
 use Rattle.at_board.proofs.SeenLaws.{AgreesWithSeen-Knows}
@@ -55,7 +55,6 @@ Knows-load b words s v p n part knows =
       seen = IsPrefix-refl s.published;
       requests = knows.requests;
       decisions = knows.decisions;
-      joined = All-IsPrefix v.joined v.seen s.published knows.joined knows.seen;
       parts = parts_after (λ k q. HasPart b words s u (v.first + k) q) v.parts (with_load (own_part v) p n) part
           (HasPart-load b words s u (v.first + 0) (own_part v) p n (moved 0 part)) (λ k apart within. moved k within);
     }
@@ -85,7 +84,6 @@ LoadsLength-Ruled b words views id v p ruled begun found part within =
         more = knows.seen;
         counted = sym (ruled.shown.records.lengths p within);
         own = ap (λ k. count_of k s.published) (sym first) ∙ sym own.published;
-        joined = mine.joined;
         history = IsHistory-Sound b words s ruled.shown ruled.sound begun;
         agrees = AgreesWithSeen-Knows b words s w ruled.sound mine;
         same = refl;

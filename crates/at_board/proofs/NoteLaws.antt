@@ -20,7 +20,6 @@ Knows-noted b words s v knows = record {
   seen = knows.seen;
   requests = knows.requests;
   decisions = knows.decisions;
-  joined = knows.joined;
   parts = λ k within. absurd (omega arith);
 }
 
@@ -67,6 +66,5 @@ IsNote-noted v process published seat sees = record {
   no_part = refl;
   begun = seat.begun;
   history = seat.history;
-  joined = seat.joined;
   in_range = record { requests = sees.requests; decisions = sees.decisions };
 }

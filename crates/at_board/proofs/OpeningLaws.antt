@@ -9,11 +9,10 @@ use Rattle.at_base.specs.Decision.{word_of}
 use Rattle.at_ledger.specs.Book.{BookTerms}
 use Rattle.at_board.proofs.CountLaws.{publications_of-nil}
 use Rattle.at_board.proofs.FrontLaws.{IsPrefix-refl}
-use Rattle.at_board.specs.declared.publication.Publication.{Publication}
 use Rattle.at_board.specs.declared.view.View.{View}
 use Rattle.at_board.specs.BoardState.{BoardState, decision_at}
 use Rattle.at_board.specs.Places.{Place, announced_of, cell_of, length_of, place_at, record_width, record_word, request_word, word_at, word_count}
-use Rattle.at_board.specs.Publications.{IsPrefix, count_of}
+use Rattle.at_board.specs.Publications.{count_of}
 use Rattle.at_board.specs.Seated.{Ruled}
 use Rattle.at_board.specs.Shown.{Shown}
 use Rattle.at_board.specs.Sound.{Sound}
@@ -102,7 +101,6 @@ Knows-starting b = record {
   seen = IsPrefix-refl [];
   requests = All-nil (IsAnnounced starting_state);
   decisions = All-nil (IsDecided starting_state);
-  joined = All-nil (λ (list : List Publication). IsPrefix list []);
   parts = λ k within.
       let inside : k < b.processes = omega (arith, length-replicate b.processes (starting_part b)) in
       let e : k ≡ 0 + k = omega arith in

@@ -7,7 +7,7 @@ use Rattle.std.proofs.lemmas.Bool.{cases_eq, cases_lt, eq-eqb, ne_eqb}
 use Rattle.std.proofs.lemmas.List.{append-nil, get_or_append_left, get_or_push, length-replicate, length-set}
 use Rattle.at_ledger.specs.Book.{BookTerms, IsBegun, log_room_of}
 use Rattle.at_board.proofs.CountLaws.{count_of-push_other, count_of-push_own, publications_of-append, publications_of-nil, publications_of-other, publications_of-own}
-use Rattle.at_board.proofs.FrontLaws.{All-IsPrefix, IsPrefix-append, IsPrefix-refl, IsPrefix-trans}
+use Rattle.at_board.proofs.FrontLaws.{IsPrefix-append, IsPrefix-refl, IsPrefix-trans}
 use Rattle.at_board.proofs.HistoryLaws.{IsHistory-Sound}
 use Rattle.at_board.proofs.LoadLaws.{parts_after}
 use Rattle.at_board.proofs.OpeningLaws.{get_or-zeros}
@@ -217,7 +217,6 @@ Publishes-Ruled b words views id v x ruled begun found part may =
       seen = IsPrefix-refl all;
       requests = knows.requests;
       decisions = knows.decisions;
-      joined = All-IsPrefix v.joined v.seen all knows.joined longer;
       parts = parts_after (λ k t. HasPart b after s' w (v.first + k) t) v.parts (with_record b q x) part
           (subst (λ t. HasPart b after s' w t (with_record b q x)) (sym first)
           (HasPart-pushed_own b words after s x v w p q longer refl refl same_requests (same_records p (q.published + 1)) ruled.shown may.process own))
@@ -234,7 +233,6 @@ Publishes-Ruled b words views id v x ruled begun found part may =
       seen = IsPrefix-trans u.seen s.published all old.seen (IsPrefix-append s.published (x ∷ []));
       requests = old.requests;
       decisions = old.decisions;
-      joined = old.joined;
       parts = λ k within. HasPart-pushed_other b words after s p x u u (u.first + k) (part_at u k) (IsPrefix-refl u.seen) refl same_requests
           (same_records (u.first + k) (part_at u k).published)
           (other_process b ruled.seat views id j k v u ruled.seated found part there within apart) may.process (old.parts k within).seen (old.parts k within);
@@ -252,7 +250,6 @@ Publishes-Ruled b words views id v x ruled begun found part may =
         between = knows.seen.0;
         seen = ap (λ ys. ys ++ x ∷ []) knows.seen.1;
         own = omega (arith, own.published, subst (λ t. count_of t all ≡ count_of t s.published + 1) may.process (count_of-push_own s.published x));
-        joined = mine.joined;
         history = IsHistory-Sound b after s' shown sound begun;
         agrees = AgreesWithSeen-Knows b after s' w sound mine;
         same = refl;

@@ -20,6 +20,7 @@ use Rattle.at_board.specs.Seated.{Ruled}
 use Rattle.at_board.specs.SeatView.{IsSeat}
 use Rattle.at_board.specs.Steps.{IsHistory, Publishes, with_record}
 use Rattle.at_board.specs.Views.{own_part}
+use Rattle.at_board.specs.Seen.{AgreesWithSeen}
 
 -- what a seat may publish has the form of a record
 IsForm-MayPublish : (b : BookTerms) (words : List ℕ) (views : List View) (id : ℕ) (v : View) (x : Publication) → Ruled b words views → IsBegun b
@@ -76,7 +77,7 @@ IsSeat-publish b v w process k x book seat told =
     subst (λ t. IsSeat t process (k + 1)) (sym told.same)
     (IsSeat-with_part v w.seen (with_record b (own_part v) x) process k seat (k + 1) (ap (λ n. n + 1) seat.published_is)
     (subst (λ t. IsHistory t w.seen) (sym book) told.history) (told.own ∙ ap (λ n. n + 1) seat.published_is)
-    (same_requests v w.seen (with_record b (own_part v) x) process k seat (λ a. refl)))
+    (same_requests v w.seen (with_record b (own_part v) x) process k seat (λ a. refl)) (subst AgreesWithSeen told.same told.agrees))
 
 -- the same at an equal book and view
 pub MayPublish-same : (b c : BookTerms) (v u : View) (x : Publication) → c ≡ b → u ≡ v → MayPublish b v x → MayPublish c u x

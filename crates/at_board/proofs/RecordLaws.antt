@@ -2,17 +2,16 @@
 use Rattle.std.proofs.Common.{◌≡◌, ℕ, ◌<◌, List, get_or, sym, ap, subst, ◌∙◌, arith}
 use Rattle.std.specs.List.{All, Contains}
 use Rattle.std.proofs.lemmas.List.{get_or_append_left}
-use Rattle.std.proofs.lemmas.List.Elements.{All-cons}
 use Rattle.at_ledger.specs.Book.{BookTerms}
 use Rattle.at_board.proofs.CountLaws.{position_of, publications_of-append}
-use Rattle.at_board.proofs.FrontLaws.{All-IsPrefix, IsPrefix-count_of, IsPrefix-refl}
+use Rattle.at_board.proofs.FrontLaws.{IsPrefix-count_of}
 use Rattle.at_board.specs.declared.publication.Publication.{Publication}
 use Rattle.at_board.specs.declared.view.View.{View}
 use Rattle.at_board.specs.BoardState.{BoardState, publication_at}
 use Rattle.at_board.specs.Conditions.{MayLoadWord}
 use Rattle.at_board.specs.Places.{IsPlace, record_width, record_word, word_at}
 use Rattle.at_board.specs.Publications.{IsPrefix, count_of, no_publication, publications_of}
-use Rattle.at_board.specs.RecordWords.{IsRecordWord, lists_of}
+use Rattle.at_board.specs.RecordWords.{IsRecordWord}
 use Rattle.at_board.specs.SeatView.{IsSeat}
 use Rattle.at_board.specs.Shown.{Shown}
 use Rattle.at_board.specs.Steps.{IsHistory}
@@ -34,11 +33,9 @@ pub IsPlace-MayLoadWord : (b : BookTerms) (v u : View) (process published p i j 
     → v ≡ u → MayLoadWord b u p i j → IsPlace b (record_word p i j)
 IsPlace-MayLoadWord b v u process published p i j book seat mine may_here =
     let may : MayLoadWord b v p i j = subst (λ t. MayLoadWord b t p i j) (sym mine) may_here in
-    let list : List Publication = may.seen.list in
-    let history : IsHistory b list = subst (λ t. IsHistory t list) book
-    (All-Contains (IsHistory v.book) (lists_of v) list (All-cons (IsHistory v.book) v.seen v.joined seat.history seat.joined) may.seen.seen) in
-    let known = process-IsHistory b list p i history may.seen.within in
-    (known, omega (arith, may.seen.within, history.room p known), may.word)
+    let history : IsHistory b v.seen = subst (λ t. IsHistory t v.seen) book seat.history in
+    let known = process-IsHistory b v.seen p i history may.seen in
+    (known, omega (arith, may.seen, history.room p known), may.word)
 
 -- record i of a process is the same in a longer list
 publications_of-IsPrefix : (p i : ℕ) (xs ys : List Publication) → IsPrefix xs ys → i < count_of p xs
@@ -47,19 +44,9 @@ publications_of-IsPrefix p i xs ys (more, e) within =
     ap (λ t. publication_at t i) (ap (publications_of p) e ∙ publications_of-append p xs more)
     ∙ get_or_append_left (publications_of p xs) (publications_of p more) no_publication i within
 
--- each list that the view has seen is a prefix of its own list
-pub lists_of-seen : (b : BookTerms) (words : List ℕ) (s : BoardState) (v : View) → Knows b words s v → All (λ list. IsPrefix list v.seen) (lists_of v)
-lists_of-seen b words s v knows = All-cons (λ list. IsPrefix list v.seen) v.seen v.joined (IsPrefix-refl v.seen) knows.joined
-
--- and of all publications
-pub lists_of-Knows : (b : BookTerms) (words : List ℕ) (s : BoardState) (v : View) → Knows b words s v
-    → All (λ list. IsPrefix list s.published) (lists_of v)
-lists_of-Knows b words s v knows = All-IsPrefix (lists_of v) v.seen s.published (lists_of-seen b words s v knows) knows.seen
-
 pub IsRecordWord-Shown : (b : BookTerms) (words : List ℕ) (s : BoardState) (v : View) (p i j : ℕ) → Shown b words s → Knows b words s v
-    → p < b.processes → j < record_width b → IsRecordWord v p i j (word_at b words (record_word p i j))
-IsRecordWord-Shown b words s v p i j shown knows known inside = λ list seen within.
-    let before = All-Contains (λ t. IsPrefix t s.published) (lists_of v) list (lists_of-Knows b words s v knows) seen in
-    let counted : i < count_of p s.published = omega (arith, within, IsPrefix-count_of p list s.published before) in
+    → p < b.processes → j < record_width b → i < count_of p v.seen → IsRecordWord v p i j (word_at b words (record_word p i j))
+IsRecordWord-Shown b words s v p i j shown knows known inside within =
+    let counted : i < count_of p s.published = omega (arith, within, IsPrefix-count_of p v.seen s.published knows.seen) in
     shown.records.records p i j (known, omega (arith, counted, shown.records.room p known), inside) counted
-    ∙ ap (λ (x : Publication). get_or (record_words x) j 0) (publications_of-IsPrefix p i list s.published before within)
+    ∙ ap (λ (x : Publication). get_or (record_words x) j 0) (publications_of-IsPrefix p i v.seen s.published knows.seen within)

@@ -11,7 +11,7 @@ use Rattle.at_board.specs.declared.view.View.{View}
 use Rattle.at_board.specs.Conditions.{MayLoadWord}
 use Rattle.at_board.specs.Places.{place_at, record_width, record_word}
 use Rattle.at_board.specs.Plays.{loaded_word}
-use Rattle.at_board.specs.RecordWords.{IsRecordWord}
+use Rattle.at_board.specs.RecordWords.{IsRecordWord, SeesRecord}
 use Rattle.at_board.specs.Seated.{Ruled}
 use Rattle.at_board.specs.SeatView.{IsSeat}
 
@@ -30,9 +30,9 @@ module _ {S : Type 0} where
         (
           refl,
           AgreesWithSeen-Ruled me.0.book s.words s.views id me.0 ruled found,
-          λ p k j known inside at.
+          λ p k j known inside seen at.
               subst (IsRecordWord me.0 p k j) (sym (ap (λ t. get_or s.words t 0) at))
-              (IsRecordWord-Shown me.0.book s.words ruled.state me.0 p k j ruled.shown (ruled.knows id me.0 found) known inside),
+              (IsRecordWord-Shown me.0.book s.words ruled.state me.0 p k j ruled.shown (ruled.knows id me.0 found) known inside seen),
         ),
       )
 
@@ -44,4 +44,5 @@ module _ {S : Type 0} where
       let here = IsPlace-MayLoadWord b me.0 u process published p i j book seat mine may in
       subst (λ t. IsRecordWord t p i j n) mine
       (played.2 p i j (subst (λ (t : BookTerms). p < t.processes) (sym book) here.0) (subst (λ (t : BookTerms). j < record_width t) (sym book) here.2)
+      (subst (λ (t : View). SeesRecord t p i) (sym mine) may.seen)
       (subst (λ (t : BookTerms). at ≡ place_at t (record_word p i j)) (sym book) is))

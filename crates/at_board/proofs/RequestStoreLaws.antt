@@ -133,7 +133,6 @@ StoresRequestWord-Ruled b words views id v a slot j w ruled found part may insid
       seen = knows.seen;
       requests = knows.requests;
       decisions = knows.decisions;
-      joined = knows.joined;
       parts = parts_after (λ k t. HasPart b after s u (v.first + k) t) v.parts (part_asking q a new) part
           (subst (λ t. HasPart b after s u t (part_asking q a new)) (sym first) own_after)
           (λ k apart within. HasPart-kept b words after s s.rows v u (v.first + k) (part_at v k) (Grows-refl s.rows) (IsPrefix-refl v.seen) (λ x sees. sees)

@@ -17,7 +17,7 @@ use Rattle.at_board.specs.Plays.{stored_request_word}
 use Rattle.at_board.specs.RequestSteps.{StoresRequestWord, with_asking, with_request_word}
 use Rattle.at_board.specs.Seated.{Ruled}
 use Rattle.at_board.specs.SeatCounts.{HasCounts}
-use Rattle.at_board.specs.Seen.{SeesInRange}
+use Rattle.at_board.specs.Seen.{SeesInRange, AgreesWithSeen}
 use Rattle.at_board.specs.SeatView.{IsSeat}
 use Rattle.at_board.specs.Views.{HasSlot, asking_on, own_part}
 
@@ -75,11 +75,12 @@ module _ {S : Type 0} where
       (subst (λ (t : BookTerms). i ≡ place_at t (request_word a slot (next_number me.0 a) j)) (sym book) at)
 
 -- what holds of a seat after the store
-pub IsSeat-request_stored : (v w : View) (process k a j n : ℕ) → IsSeat v process k → StoresRequestWord v w a j n → IsSeat w process k
-IsSeat-request_stored v w process k a j n seat told =
+pub IsSeat-request_stored : (v w : View) (process k a j n : ℕ) → IsSeat v process k → StoresRequestWord v w a j n → AgreesWithSeen w → IsSeat w process k
+IsSeat-request_stored v w process k a j n seat told agrees =
     subst (λ t. IsSeat t process k) (sym told)
     (IsSeat-asking v v.seen v.requests process k a (with_request_word (asking_on (own_part v) a) j n) seat seat.history seat.own
-    (SeesOwnRequests-asking v v.seen v.requests a (with_request_word (asking_on (own_part v) a) j n) (omega (arith, seat.one_part)) refl (λ x there. there) seat.asked))
+    (SeesOwnRequests-asking v v.seen v.requests a (with_request_word (asking_on (own_part v) a) j n) (omega (arith, seat.one_part)) refl (λ x there. there) seat.asked)
+    (subst AgreesWithSeen told agrees))
 
 pub HasCounts-request_stored : (v w : View) (a j n : ℕ) (counts : List ℕ) → 0 < length v.parts → StoresRequestWord v w a j n
     → HasCounts v counts → HasCounts w counts

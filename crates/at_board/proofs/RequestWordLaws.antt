@@ -82,7 +82,6 @@ Knows-request b words s v a x part is knows =
       seen = knows.seen;
       requests = All-push (IsAnnounced s) v.requests x knows.requests is;
       decisions = knows.decisions;
-      joined = knows.joined;
       parts = parts_after (λ k t. HasPart b words s u (v.first + k) t) v.parts (part_asking q a (with_loaded (asking_on q a) x)) part
           (HasPart-asking b words words s s.rows v u p q a (with_loaded (asking_on q a) x) (Grows-refl s.rows) (IsPrefix-refl v.seen) more own.seen
           (λ j at. refl) (λ c other apart has. (refl, λ j at. refl))

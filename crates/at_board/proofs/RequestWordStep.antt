@@ -19,7 +19,7 @@ use Rattle.at_board.specs.RequestConditions.{MayLoadRequest}
 use Rattle.at_board.specs.RequestSteps.{LoadsRequestWord, seen_as, with_loaded}
 use Rattle.at_board.specs.Seated.{Ruled}
 use Rattle.at_board.specs.SeatCounts.{HasCounts}
-use Rattle.at_board.specs.Seen.{RequestInRange, SeesInRange}
+use Rattle.at_board.specs.Seen.{RequestInRange, SeesInRange, AgreesWithSeen}
 use Rattle.at_board.specs.SeatView.{IsSeat}
 use Rattle.at_board.specs.Views.{asking_on, own_part}
 
@@ -81,7 +81,7 @@ IsSeat-request b v w process k a slot number j n seat told =
     subst (λ t. IsSeat t process k) (sym told.same)
     (IsSeat-asking v v.seen (v.requests ++ x ∷ []) process k a (with_loaded (asking_on (own_part v) a) x) seat seat.history seat.own
     (SeesOwnRequests-asking v v.seen (v.requests ++ x ∷ []) a (with_loaded (asking_on (own_part v) a) x) (omega (arith, seat.one_part)) refl
-    (λ y there. Contains-append_left v.requests (x ∷ []) y there) seat.asked))
+    (λ y there. Contains-append_left v.requests (x ∷ []) y there) seat.asked) (subst AgreesWithSeen told.same told.agrees))
 
 pub HasCounts-request : (b : BookTerms) (v w : View) (a slot number j n : ℕ) (counts : List ℕ) → 0 < length v.parts
     → LoadsRequestWord b v w a slot number j n → HasCounts v counts → HasCounts w counts

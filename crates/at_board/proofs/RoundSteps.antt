@@ -92,7 +92,6 @@ Decides-found b words views id v a round d r ruled begun found part may within =
         won = inl refl;
         more = knows.seen;
         own = sym own.published;
-        joined = mine.joined;
         history = IsHistory-Sound b words s ruled.shown ruled.sound begun;
         agrees = AgreesWithSeen-Knows b words s w ruled.sound mine;
         same = refl;
@@ -149,7 +148,6 @@ Decides-proposed b words views id v a round d r ruled begun found part may past 
         won = inr (refl, refl);
         more = knows.seen;
         own = sym own.published;
-        joined = mine.joined;
         history = IsHistory-Sound b after s' shown sound begun;
         agrees = AgreesWithSeen-Knows b after s' w sound mine;
         same = refl;

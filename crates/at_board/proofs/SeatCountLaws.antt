@@ -17,7 +17,7 @@ use Rattle.at_board.specs.Places.{record_width}
 use Rattle.at_board.specs.Publications.{count_of}
 use Rattle.at_board.specs.RequestSteps.{part_asking, with_asking}
 use Rattle.at_board.specs.SeatCounts.{HasCounts}
-use Rattle.at_board.specs.Seen.{DecisionInRange, RequestInRange, SeesInRange}
+use Rattle.at_board.specs.Seen.{AgreesWithSeen, DecisionInRange, RequestInRange, SeesInRange}
 use Rattle.at_board.specs.SeatView.{IsSeat, SeesOwnRequests}
 use Rattle.at_board.specs.Steps.{IsHistory, LoadsLength, Publishes, StoresWord, with_load, with_part, with_record, with_word}
 use Rattle.at_board.specs.Views.{asking_on, no_asking, own_part, starting_asking}
@@ -89,8 +89,8 @@ SeesInRange-starting b p = record {
 -- a seat whose part has something new on an account
 pub IsSeat-asking : (v : View) (list : List Publication) (requests : List SeenRequest) (process k a : ℕ) (w : Asking) → IsSeat v process k
     → IsHistory v.book list → count_of v.first list ≡ k → SeesOwnRequests (with_asking (record v { seen = list; requests = requests }) a w)
-    → IsSeat (with_asking (record v { seen = list; requests = requests }) a w) process k
-IsSeat-asking v list requests process k a w seat history own asked = record {
+    → AgreesWithSeen (with_asking (record v { seen = list; requests = requests }) a w) → IsSeat (with_asking (record v { seen = list; requests = requests }) a w) process k
+IsSeat-asking v list requests process k a w seat history own asked agrees = record {
   one_part = length-set v.parts 0 (part_asking (own_part v) a w) ∙ seat.one_part;
   process_is = seat.process_is;
   published_is = ap (λ (t : Part). t.published) (own_part-with_part (record v { seen = list; requests = requests }) (part_asking (own_part v) a w) (omega (arith, seat.one_part)))
@@ -100,7 +100,7 @@ IsSeat-asking v list requests process k a w seat history own asked = record {
   known = seat.known;
   begun = seat.begun;
   history = history;
-  joined = seat.joined;
+  agrees = agrees;
 }
 
 pub HasCounts-asking : (v : View) (list : List Publication) (requests : List SeenRequest) (a : ℕ) (w : Asking) (counts : List ℕ) → 0 < length v.parts

@@ -9,6 +9,7 @@ use Rattle.at_board.proofs.OwnRequestLaws.{SeesOwnRequests-with_part, own_part-w
 use Rattle.at_board.proofs.SizeLaws.{log_room_of-le}
 use Rattle.at_board.specs.Publications.{count_of}
 use Rattle.at_board.specs.SeatView.{IsSeat, SeesOwnRequests}
+use Rattle.at_board.specs.Seen.{AgreesWithSeen}
 use Rattle.at_board.specs.Places.{record_word}
 use Rattle.at_board.specs.Steps.{IsHistory, LoadsLength, StoresWord, with_load, with_part, with_word}
 use Rattle.at_board.specs.Views.{asking_on, own_part}
@@ -16,8 +17,9 @@ use Rattle.at_board.specs.Views.{asking_on, own_part}
 -- a view that has seen a history, with another part, all of whose records and requests it has seen
 pub IsSeat-with_part : (v : View) (list : List Publication) (q : Part) (process k : ℕ) → IsSeat v process k
     → (published : ℕ) → q.published ≡ published → IsHistory v.book list → count_of v.first list ≡ published
-    → SeesOwnRequests (with_part (record v { seen = list }) q) → IsSeat (with_part (record v { seen = list }) q) process published
-IsSeat-with_part v list q process k seat published same history own asked = record {
+    → SeesOwnRequests (with_part (record v { seen = list }) q) → AgreesWithSeen (with_part (record v { seen = list }) q)
+    → IsSeat (with_part (record v { seen = list }) q) process published
+IsSeat-with_part v list q process k seat published same history own asked agrees = record {
   one_part = length-set v.parts 0 q ∙ seat.one_part;
   process_is = seat.process_is;
   published_is = ap (λ (t : Part). t.published) (own_part-with_part (record v { seen = list }) q (omega (arith, seat.one_part))) ∙ same;
@@ -26,7 +28,7 @@ IsSeat-with_part v list q process k seat published same history own asked = reco
   known = seat.known;
   begun = seat.begun;
   history = history;
-  joined = seat.joined;
+  agrees = agrees;
 }
 
 -- a part that has announced the same
@@ -40,17 +42,17 @@ IsSeat-load b v w process k p n book seat told =
     subst (λ t. IsSeat t process k) (sym told.same)
     (IsSeat-with_part v w.seen (with_load (own_part v) p n) process k seat k seat.published_is
     (subst (λ t. IsHistory t w.seen) (sym book) told.history) (told.own ∙ seat.published_is)
-    (same_requests v w.seen (with_load (own_part v) p n) process k seat (λ a. refl)))
+    (same_requests v w.seen (with_load (own_part v) p n) process k seat (λ a. refl)) (subst AgreesWithSeen told.same told.agrees))
 
 -- a process has few records
 pub count_of-IsHistory : (b : BookTerms) (list : List Publication) (p : ℕ) → IsBegun b → p < b.processes → IsHistory b list → count_of p list < 2 ^ 32
 count_of-IsHistory b list p begun within history = omega (arith, history.room p within, log_room_of-le b p begun within)
 
-pub IsSeat-store : (v w : View) (process k j n : ℕ) → IsSeat v process k → StoresWord v w j n → IsSeat w process k
-IsSeat-store v w process k j n seat told =
+pub IsSeat-store : (v w : View) (process k j n : ℕ) → IsSeat v process k → StoresWord v w j n → AgreesWithSeen w → IsSeat w process k
+IsSeat-store v w process k j n seat told agrees =
     subst (λ t. IsSeat t process k) (sym told)
     (IsSeat-with_part v v.seen (with_word (own_part v) j n) process k seat k seat.published_is seat.history seat.own
-    (same_requests v v.seen (with_word (own_part v) j n) process k seat (λ a. refl)))
+    (same_requests v v.seen (with_word (own_part v) j n) process k seat (λ a. refl)) (subst AgreesWithSeen told agrees))
 
 -- the place of the seat's next record, by the seat's fields
 pub next_record : (v : View) (process k j : ℕ) → IsSeat v process k → record_word process k j ≡ record_word v.first (own_part v).published j

@@ -1,6 +1,6 @@
 -- Two seats of one table at an atomic step on any word that the caller has. The step leaves the table as it is, and shows
 -- that the rule holds of some state in which both seats have their views.
-use Rattle.std.proofs.Common.{◌≡◌, ℕ, ◌+◌, ◌<◌, zero, suc, List, [], ◌∷◌, length, set, sym, refl, ap, subst, arith}
+use Rattle.std.proofs.Common.{◌≡◌, ℕ, zero, suc, List, [], ◌∷◌, length, set, sym, refl, ap, arith}
 use mathlib.Core.List.{Mem, not-mem-nil}
 use mathlib.Core.Option.{some-injective, some-ne-none}
 use mathlib.Core.Option as maybe
@@ -9,7 +9,7 @@ use seplogic.Ra.Ura.{Ura}
 use base.Share.{three_quarters}
 use base.Stored.{Coded}
 use base.Logic.{SProp, ent, sep, wand, ex, guard, upd, all, all_e, ex_i, upd_i}
-use base.Fml.{Lft, Share, Fml, ftrue, fsep, fbor, finv, fnamed, flft}
+use base.Fml.{Lft, Share, Fml, ftrue, fsep, fbor, fnamed, flft}
 use types.Logic.{Logic, sem}
 use types.Kit.{‵, raw, ◌⊛◌, some, given, ◌$◌, ◌∵◌, !, qed, move, drop, split, join, fsplit, fsplit3, fjoin, fjoin3, fpick, fpack, pick, learn, show, check, frame, each, assume, suffices, settle, done, use1, use2, rewrite}
 use denote.RattleType.{RattleType}
@@ -17,7 +17,7 @@ use denote.RawPtr.{Ptr, block_ptr}
 use denote.Steps.{nothing}
 use Rattle.std.specs.Sync.RawAtomic.{Shift, rests, opens, shuts, enters, leaves, word, along, back, found, if_none, asks, always}
 use Rattle.atomic_table.specs.Table.{State, Me}
-use Rattle.atomic_table.specs.Seated.{fact, seen, roster, shelf, carried, TableId, age, place, names, standing, inner, common, mine}
+use Rattle.atomic_table.specs.Seated.{fact, seen, roster, TableId, age, standing, inner, common, mine}
 use Rattle.atomic_table.proofs.Roster.{Moved, moves, apart}
 use Rattle.at_board.specs.Meetings.{AreSeen}
 

@@ -1,5 +1,5 @@
 -- What a view has seen agrees, since one sound board has it all.
-use Rattle.std.proofs.Common.{◌≡◌, ℕ, ◌<◌, ◌≤◌, List, length, get_or, set, sym, ap, subst, ◌∙◌, arith}
+use Rattle.std.proofs.Common.{◌≡◌, ℕ, ◌<◌, ◌≤◌, List, length, set, sym, ap, subst, ◌∙◌, arith}
 use Rattle.std.specs.List.{All}
 use lib.ListN.{get_elem?}
 use mathlib.Core.Option.{some}
@@ -10,7 +10,6 @@ use Rattle.atomic_table.proofs.Lists.{set_here}
 use Rattle.at_ledger.specs.Book.{BookTerms}
 use Rattle.at_board.proofs.DecisionLaws.{same_round}
 use Rattle.at_board.proofs.FrontLaws.{IsPrefix-length}
-use Rattle.at_board.proofs.RecordLaws.{lists_of-Knows}
 use Rattle.at_board.proofs.SeatLaws.{within_found}
 use Rattle.at_board.specs.declared.publication.Entry.{Entry}
 use Rattle.at_board.specs.declared.publication.Entry.TheVariants.{Own, Round}
@@ -20,7 +19,6 @@ use Rattle.at_board.specs.declared.view.View.{View}
 use Rattle.at_board.specs.BoardState.{BoardState, decision_at, publication_at, request_at}
 use Rattle.at_board.specs.Fronts.{prefix_of}
 use Rattle.at_board.specs.Publications.{IsPrefix, no_publication}
-use Rattle.at_board.specs.RecordWords.{lists_of}
 use Rattle.at_board.specs.Seated.{Ruled}
 use Rattle.at_board.specs.Seen.{AgreesOnDecision, AgreesOnEntry, AgreesWithSeen}
 use Rattle.at_board.specs.Sound.{IsSoundDecision, IsSoundEntry, Sound}
@@ -71,14 +69,13 @@ each_record P xs all before each =
 
 pub AgreesWithSeen-Knows : (b : BookTerms) (words : List ℕ) (s : BoardState) (v : View) → Sound b s → Knows b words s v → AgreesWithSeen v
 AgreesWithSeen-Knows b words s v sound knows = record {
-  joined = knows.joined;
   requests = λ a slot number r q one other.
       sym (request-seen b words s v a slot number r knows one) ∙ request-seen b words s v a slot number q knows other;
   decisions = λ a round d sees.
       let is = decision-seen b words s v a round d knows sees in
       AgreesOnDecision-Knows b words s v a round d sound knows is.0 is.1;
-  records = λ k list within.
-      each_record (λ x. AgreesOnEntry v x.entry) (get_or (lists_of v) k list) s.published (lists_of-Knows b words s v knows k list within)
+  records =
+      each_record (λ x. AgreesOnEntry v x.entry) v.seen s.published knows.seen
       (λ m inside.
       let x : Publication = publication_at s.published m in
       AgreesOnEntry-Knows b words s v x.process (prefix_of x.view s.published) x.entry sound knows (sound.entries m inside));

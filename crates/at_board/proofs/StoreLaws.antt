@@ -68,7 +68,6 @@ Knows-words b words after s v same record_same knows = record {
   seen = knows.seen;
   requests = knows.requests;
   decisions = knows.decisions;
-  joined = knows.joined;
   parts = λ k within. HasPart-words b words after s v v (v.first + k) (part_at v k) refl refl same (record_same k within) (knows.parts k within);
 }
 
@@ -171,7 +170,6 @@ StoresWord-Ruled b words views id v j w ruled found part room inside =
       seen = knows.seen;
       requests = knows.requests;
       decisions = knows.decisions;
-      joined = knows.joined;
       parts = parts_after (λ k t. HasPart b after s u (v.first + k) t) v.parts (with_word q j w) part
           (subst (λ t. HasPart b after s u t (with_word q j w)) (sym first)
           (HasPart-store b words s v u v.first q j w ruled.shown.sized here refl refl own))

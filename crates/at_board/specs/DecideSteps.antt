@@ -1,5 +1,5 @@
 -- What a step on the cell of a round changes in the view of its seat, and what it tells.
-use Rattle.std.specs.Prelude.{◌≡◌, ℕ, ◌+◌, ◌<◌, ◌≤◌, ◌⊎◌, ◌==◌, ◌++◌, List, [], ◌∷◌, length, take, slice_set, All, Option, Some, None, if◌then◌else◌}
+use Rattle.std.specs.Prelude.{◌≡◌, ℕ, ◌+◌, ◌<◌, ◌≤◌, ◌⊎◌, ◌==◌, ◌++◌, List, [], ◌∷◌, length, take, slice_set, Option, Some, None, if◌then◌else◌}
 use Rattle.atomic_table.specs.Table.{Me, Step}
 use Rattle.at_base.specs.Decision.{InRange, word_of}
 use Rattle.at_base.specs.declared.decision.Decision.{Decision}
@@ -50,7 +50,6 @@ pub record Decides (b : BookTerms) (before after : View) (a round : ℕ) (d : De
   pub won : (held ≡ None) ⊎ (held ≡ Some (record { account = a; round = round })) × (decision ≡ d)
   pub more : IsPrefix before.seen after.seen
   pub own : count_of before.first after.seen ≡ (own_part before).published
-  pub joined : All (λ list. IsPrefix list after.seen) before.joined
   pub history : IsHistory b after.seen
   pub agrees : AgreesWithSeen after
   pub same : after ≡ with_part (with_decision before after.seen a round decision) (with_decide (own_part before) a held)

@@ -1,12 +1,10 @@
 -- The end of a board.
-use Rattle.std.specs.Prelude.{◌≡◌, ℕ, ◌<◌, ◌≤◌, ◌++◌, List, length, nat_lt, slice_index_or, All, Contains, None, if◌then◌else◌}
+use Rattle.std.specs.Prelude.{◌≡◌, ℕ, ◌<◌, ◌≤◌, ◌++◌, List, length, slice_index_or, All, Contains, None}
 use Rattle.at_ledger.specs.Book.{BookTerms, IsBook, log_room_of}
-use Rattle.at_board.specs.declared.publication.Publication.{Publication}
 use Rattle.at_board.specs.declared.view.View.{View}
 use Rattle.at_board.specs.BoardState.{BoardState}
 use Rattle.at_board.specs.Places.{length_of, word_at, word_count}
-use Rattle.at_board.specs.Publications.{IsPrefix, count_of}
-use Rattle.at_board.specs.RecordWords.{lists_of}
+use Rattle.at_board.specs.Publications.{IsPrefix, count_of, longer}
 use Rattle.at_board.specs.SeatView.{BoardView, IsOf, SeatView}
 use Rattle.at_board.specs.Shown.{Shown}
 use Rattle.at_board.specs.Sound.{Sound}
@@ -29,17 +27,12 @@ pub record AreAllFree (board : BoardView) (seats : List SeatView) : Type 0 where
   pub count : length seats ≡ board.book.processes
   pub each : (p : ℕ) (d : SeatView) → p < board.book.processes → IsFreeSeat board p (slice_index_or seats p d)
 
--- the longer of two lists, of which one is a prefix of the other
-abbrev pub longest : List Publication → List Publication → List Publication
-longest xs ys = if nat_lt (length xs) (length ys) then ys else xs
-
 -- the view of two seats in one, of which the second stands for the processes after those of the first
 abbrev pub gathered : View → View → View
 gathered v w = record v {
-  seen = longest v.seen w.seen;
+  seen = longer v.seen w.seen;
   requests = v.requests ++ w.requests;
   decisions = v.decisions ++ w.decisions;
-  joined = lists_of v ++ lists_of w;
   parts = v.parts ++ w.parts;
 }
 
@@ -49,7 +42,7 @@ pub record Gathers (seats : List SeatView) (v : View) : Type 0 where
   pub parts : length v.parts ≡ length seats
   pub own : (k : ℕ) (d : SeatView) → k < length seats → part_at v k ≡ own_part (slice_index_or seats k d).view
   pub free : (k : ℕ) → k < length v.parts → (part_at v k).held ≡ None
-  pub seen : All (λ seat. All (Contains (lists_of v)) (lists_of seat.view)) seats
+  pub seen : All (λ seat. IsPrefix seat.view.seen v.seen) seats
   pub requests : All (λ seat. All (Contains v.requests) seat.view.requests) seats
   pub decisions : All (λ seat. All (Contains v.decisions) seat.view.decisions) seats
 
@@ -61,7 +54,7 @@ pub record IsEnd (e : EndView) (seats : List SeatView) : Type 0 where
   pub shown : Shown e.book e.words state
   pub sound : Sound e.book state
   pub free : (p : ℕ) → p < e.book.processes → state.held p ≡ None
-  pub seen : All (λ seat. All (λ list. IsPrefix list state.published) (lists_of seat.view)) seats
+  pub seen : All (λ seat. IsPrefix seat.view.seen state.published) seats
   pub requests : All (λ seat. All (IsAnnounced state) seat.view.requests) seats
   pub decisions : All (λ seat. All (IsDecided state) seat.view.decisions) seats
   pub counted : (p : ℕ) (d : SeatView) → p < e.book.processes →

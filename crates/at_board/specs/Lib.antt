@@ -18,7 +18,6 @@ pub mod Fresh
 pub mod Conditions
 pub mod Steps
 pub mod NoteSteps
-pub mod Same
 pub mod Meetings
 pub mod LearnSteps
 pub mod DecideSteps

@@ -1,5 +1,5 @@
 -- Notes: what a seat hands out of what it has seen.
-use Rattle.std.specs.Prelude.{◌≡◌, [], length, All}
+use Rattle.std.specs.Prelude.{◌≡◌, [], length}
 use Rattle.at_ledger.specs.Book.{IsBook}
 use Rattle.at_board.specs.declared.view.View.{View}
 use Rattle.at_board.specs.Seen.{SeesInRange}
@@ -9,11 +9,9 @@ use Rattle.at_board.specs.Steps.{IsHistory}
 abbrev pub noted : View → View
 noted v = record v { parts = [] }
 
--- a note's view has no part, what it and those joined to it have seen are histories, and its requests and decisions are
--- in range
+-- a note's view has no part, what it has seen is a history, and its requests and decisions are in range
 pub record IsNote (view : View) : Type 0 where
   pub no_part : length view.parts ≡ 0
   pub begun : IsBook view.book
   pub history : IsHistory view.book view.seen
-  pub joined : All (IsHistory view.book) view.joined
   pub in_range : SeesInRange view

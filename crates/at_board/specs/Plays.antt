@@ -8,7 +8,7 @@ use Rattle.at_board.specs.declared.request.TheConstants.{REQUEST_WORDS}
 use Rattle.at_board.specs.declared.view.View.{View}
 use Rattle.at_board.specs.Conditions.{MayAnnounce, MayAsk, MayPublish}
 use Rattle.at_board.specs.Places.{IsPlace, announced_of, length_of, place_at, record_width, record_word, request_word}
-use Rattle.at_board.specs.RecordWords.{IsRecordWord}
+use Rattle.at_board.specs.RecordWords.{IsRecordWord, SeesRecord}
 use Rattle.at_board.specs.RequestConditions.{MayLoadRequest}
 use Rattle.at_board.specs.RequestSteps.{Announces, LoadsAnnounced, LoadsRequestWord, StoresRequestWord}
 use Rattle.at_board.specs.Seen.{AgreesWithSeen}
@@ -24,7 +24,7 @@ module _ {S : Type 0} where
   -- at a word of a record that was seen
   abbrev pub loaded_word : Step S → Me S View → ℕ → Me S View → Type 0
   loaded_word st m n m' = (m' ≡ m) × AgreesWithSeen m.0 × ((p i j : ℕ) → p < m.0.book.processes → j < record_width m.0.book →
-      st.word ≡ place_at m.0.book (record_word p i j) → IsRecordWord m.0 p i j n)
+      SeesRecord m.0 p i → st.word ≡ place_at m.0.book (record_word p i j) → IsRecordWord m.0 p i j n)
 
   -- at a word of the seat's next record
   abbrev pub stored_word : Step S → Me S View → ℕ → Me S View → Type 0

@@ -1,5 +1,5 @@
 -- Lists of publications: which of them are a process's, and how many each process has.
-use Rattle.std.specs.Prelude.{◌≡◌, ℕ, ◌<◌, ◌==◌, ◌++◌, List, [], length, map, filter, All}
+use Rattle.std.specs.Prelude.{◌≡◌, ℕ, ◌<◌, ◌==◌, ◌++◌, List, [], length, map, filter, All, nat_lt, if◌then◌else◌}
 use Rattle.std.specs.List.{range_with_len}
 use Rattle.at_board.specs.declared.publication.Entry.TheVariants.{Own}
 use Rattle.at_board.specs.declared.publication.Publication.{Publication}
@@ -27,3 +27,7 @@ ArePublishedBy processes list = All (λ x. x.process < processes) list
 -- the first list is a prefix of the second
 abbrev pub IsPrefix : List Publication → List Publication → Type 0
 IsPrefix list longer = (more : List Publication) × (longer ≡ list ++ more)
+
+-- the longer of two lists
+abbrev pub longer : List Publication → List Publication → List Publication
+longer xs ys = if nat_lt (length xs) (length ys) then ys else xs

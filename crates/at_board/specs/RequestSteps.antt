@@ -48,7 +48,6 @@ pub record LoadsAnnounced (b : BookTerms) (before after : View) (a slot n : ℕ)
   pub known : (number : ℕ) (r : Request) → SeesRequest before a slot number r → (number < n) × (request_at row number ≡ r)
   pub more : IsPrefix before.seen after.seen
   pub own : count_of before.first after.seen ≡ (own_part before).published
-  pub joined : All (λ list. IsPrefix list after.seen) before.joined
   pub history : IsHistory b after.seen
   pub agrees : AgreesWithSeen after
   pub same : after ≡ with_asking (record before { seen = after.seen; requests = before.requests ++ all_of a slot row }) a
@@ -85,7 +84,6 @@ with_request w r heard =
 pub record Announces (b : BookTerms) (before after : View) (a slot : ℕ) (r : Request) : Type 0 where
   pub more : IsPrefix before.seen after.seen
   pub own : count_of before.first after.seen ≡ (own_part before).published
-  pub joined : All (λ list. IsPrefix list after.seen) before.joined
   pub history : IsHistory b after.seen
   pub agrees : AgreesWithSeen after
   pub same : let w : Asking = asking_on (own_part before) a in

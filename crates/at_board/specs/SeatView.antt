@@ -1,10 +1,11 @@
 -- Seats and boards as callers see them.
-use Rattle.std.specs.Prelude.{◌≡◌, ℕ, ◌<◌, length, All}
+use Rattle.std.specs.Prelude.{◌≡◌, ℕ, ◌<◌, length}
 use Rattle.atomic_table.specs.Seated.{TableId}
 use Rattle.at_ledger.specs.Book.{BookTerms, IsBook}
 use Rattle.at_board.specs.declared.view.View.{View}
 use Rattle.at_board.specs.BoardState.{request_at}
 use Rattle.at_board.specs.Publications.{count_of}
+use Rattle.at_board.specs.Seen.{AgreesWithSeen}
 use Rattle.at_board.specs.Steps.{IsHistory}
 use Rattle.at_board.specs.Views.{HasSlot, SeesRequest, asking_on, own_part}
 
@@ -23,8 +24,8 @@ abbrev pub SeesOwnRequests : View → Type 0
 SeesOwnRequests view = (a slot i : ℕ) → HasSlot view.book view.first a slot → i < length (asking_on (own_part view) a).announced →
     SeesRequest view a slot i (request_at (asking_on (own_part view) a).announced i)
 
--- a seat's view has one part, its process's, all of whose records and requests it has seen, and what it and those joined
--- to it have seen are histories
+-- a seat's view has one part, its process's, all of whose records and requests it has seen. What it has seen is a history, and
+-- agrees
 pub record IsSeat (view : View) (process published : ℕ) : Type 0 where
   pub one_part : length view.parts ≡ 1
   pub process_is : view.first ≡ process
@@ -34,7 +35,7 @@ pub record IsSeat (view : View) (process published : ℕ) : Type 0 where
   pub known : view.first < view.book.processes
   pub begun : IsBook view.book
   pub history : IsHistory view.book view.seen
-  pub joined : All (IsHistory view.book) view.joined
+  pub agrees : AgreesWithSeen view
 
 -- the seat belongs to the board
 pub record IsOf (seat : SeatView) (board : BoardView) : Type 0 where

@@ -11,8 +11,6 @@ use Rattle.at_board.specs.declared.view.SeenRequest.{SeenRequest}
 use Rattle.at_board.specs.declared.view.View.{View}
 use Rattle.at_board.specs.Fronts.{places_max}
 use Rattle.at_board.specs.Places.{IsPlace, request_word}
-use Rattle.at_board.specs.Publications.{IsPrefix}
-use Rattle.at_board.specs.RecordWords.{lists_of}
 use Rattle.at_board.specs.Sound.{AreTargets}
 use Rattle.at_board.specs.Views.{SeesDecision, SeesRequest}
 
@@ -45,11 +43,9 @@ AgreesOnEntry view (Round account round decision targets) =
     AgreesOnDecision view account round decision
     × ((r : Request) → SeesRequest view account decision.slot decision.number r → r.targets ≡ targets)
 
--- what the view has seen agrees: its list begins with those that were joined, and its requests, its decisions and the records
--- in each list say the same
+-- what the view has seen agrees: its requests, its decisions and its records say the same
 pub record AgreesWithSeen (view : View) : Type 0 where
-  pub joined : All (λ list. IsPrefix list view.seen) view.joined
   pub requests : (account slot number : ℕ) (r q : Request) → SeesRequest view account slot number r →
       SeesRequest view account slot number q → r ≡ q
   pub decisions : (account round : ℕ) (d : Decision) → SeesDecision view account round d → AgreesOnDecision view account round d
-  pub records : All (λ list. All (λ x. AgreesOnEntry view x.entry) list) (lists_of view)
+  pub records : All (λ x. AgreesOnEntry view x.entry) view.seen

@@ -1,5 +1,5 @@
 -- What a step changes in the view of its seat.
-use Rattle.std.specs.Prelude.{◌≡◌, ℕ, ◌+◌, ◌<◌, ◌≤◌, ◌==◌, ◌&&◌, ◌++◌, Bool, false, List, [], ◌∷◌, length, take, replicate, slice_set, All, Option, Some, None, if◌then◌else◌}
+use Rattle.std.specs.Prelude.{◌≡◌, ℕ, ◌+◌, ◌<◌, ◌≤◌, ◌==◌, ◌&&◌, ◌++◌, Bool, false, List, [], ◌∷◌, length, take, replicate, slice_set, Option, Some, None, if◌then◌else◌}
 use Rattle.at_base.specs.Decision.{InRange}
 use Rattle.at_ledger.specs.Book.{BookTerms, account_of, log_room_of}
 use Rattle.at_board.specs.declared.publication.Entry.{Entry}
@@ -68,13 +68,12 @@ pub record IsHistory (b : BookTerms) (list : List Publication) : Type 0 where
   pub runs : AreRuns b list
 
 -- a load of a length: the seat, which counts its loads of each length, has then seen a list that begins with the old one and
--- with all that was joined, and has so many publications of the process
+-- has so many publications of the process
 pub record LoadsLength (b : BookTerms) (before after : View) (p n : ℕ) : Type 0 where
   pub lengths : length (own_part before).loads ≡ b.processes
   pub more : IsPrefix before.seen after.seen
   pub counted : count_of p after.seen ≡ n
   pub own : count_of before.first after.seen ≡ (own_part before).published
-  pub joined : All (λ list. IsPrefix list after.seen) before.joined
   pub history : IsHistory b after.seen
   pub agrees : AgreesWithSeen after
   pub same : after ≡ with_part (record before { seen = after.seen }) (with_load (own_part before) p n)
@@ -88,7 +87,6 @@ pub record Publishes (b : BookTerms) (before after : View) (x : Publication) : T
   pub between : List Publication
   pub seen : after.seen ≡ (before.seen ++ between) ++ x ∷ []
   pub own : count_of before.first after.seen ≡ (own_part before).published + 1
-  pub joined : All (λ list. IsPrefix list after.seen) before.joined
   pub history : IsHistory b after.seen
   pub agrees : AgreesWithSeen after
   pub same : after ≡ with_part (record before { seen = after.seen }) (with_record b (own_part before) x)

@@ -71,7 +71,7 @@ starting_part b = record no_part {
 -- the table's first seat stands for all processes, and has seen nothing
 abbrev pub starting_view : BookTerms → View
 starting_view b =
-    record { book = b; seen = []; requests = []; decisions = []; joined = []; first = 0; parts = replicate b.processes (starting_part b) }
+    record { book = b; seen = []; requests = []; decisions = []; first = 0; parts = replicate b.processes (starting_part b) }
 
 -- what a process has on an account that it shares: its row, which the view has seen, and the words of its next request
 pub record HasAsking (b : BookTerms) (words : List ℕ) (s : BoardState) (v : View) (a slot : ℕ) (w : Asking) : Type 0 where
@@ -97,11 +97,9 @@ pub record HasPart (b : BookTerms) (words : List ℕ) (s : BoardState) (v : View
   pub accounts : length q.asking ≡ length b.accounts
   pub asking : (a slot : ℕ) → HasSlot b process a slot → HasAsking b words s v a slot (asking_on q a)
 
--- what a view has seen is a prefix of what was published, begins with all lists that were joined, was announced and was
--- decided, and its parts are its processes'
+-- what a view has seen is a prefix of what was published, was announced and was decided, and its parts are its processes'
 pub record Knows (b : BookTerms) (words : List ℕ) (s : BoardState) (v : View) : Type 0 where
   pub seen : IsPrefix v.seen s.published
   pub requests : All (IsAnnounced s) v.requests
   pub decisions : All (IsDecided s) v.decisions
-  pub joined : All (λ list. IsPrefix list v.seen) v.joined
   pub parts : (k : ℕ) → k < length v.parts → HasPart b words s v (v.first + k) (part_at v k)

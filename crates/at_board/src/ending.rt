@@ -9,6 +9,7 @@ ghost use Rattle.at_board.specs.SeatView.{BoardView};
 
 use crate::board::Board;
 use crate::board_end::BoardEnd;
+use crate::meeting::meet;
 use crate::plays::Gather;
 use crate::rule::BoardRule;
 use crate::seat::BoardSeat;
@@ -72,7 +73,9 @@ fn gather(
     };
     let mut all = first.into_seat();
     for other in rest {
-        shared.join_seat::<Gather>(&mut all, other.into_seat());
+        let mut next = other.into_seat();
+        meet(shared, &mut all, &mut next);
+        shared.join_seat::<Gather>(&mut all, next);
     }
     all
 }

@@ -14,8 +14,6 @@ pub struct View {
     pub seen: LinkedList<Publication>,
     pub requests: LinkedList<SeenRequest>,
     pub decisions: LinkedList<SeenDecision>,
-    /// What the seats and notes that were joined to this one had seen.
-    pub joined: LinkedList<LinkedList<Publication>>,
     /// The process of the first part. The others are of the processes after it.
     pub first: u32,
     pub parts: LinkedList<Part>,

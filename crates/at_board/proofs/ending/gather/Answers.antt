@@ -3,8 +3,11 @@ use Rattle.std.proofs.Math.Seq.{get_or-append_seam}
 use Rattle.std.proofs.lemmas.List.{length-append}
 use Rattle.at_board.proofs.EndLaws.{Gathers-first, Gathers-more, next_seat}
 use Rattle.at_board.proofs.GatherLaws.{gathers}
+use Rattle.at_board.proofs.LongerLaws.{IsLonger-seen}
 use Rattle.at_board.specs.declared.view.View.{View}
 use Rattle.at_board.specs.Ends.{AreAllFree, Gathers, IsFreeSeat, gathered}
+use Rattle.at_board.specs.Meetings.{AreSeen}
+use Rattle.at_board.specs.Seated.{Ruled}
 use Rattle.at_board.specs.SeatView.{BoardView, SeatView}
 use Rattle.at_board.proofs.ending.gather.Goals as goal
 
@@ -33,6 +36,18 @@ loop-other-init c =
       ),
     )
 
+pub meet-requires : goal.meet-requires
+meet-requires c =
+    let board : BoardView = record { id = c.args.shared.now.table_id; book = c.args.book.now } in
+    let other : SeatView = c.in-Some-other.other in
+    let done : List SeatView = c.loop-other.invariant.3.0 in
+    let parts : c.args.seats.items ≡ done ++ other ∷ c.next-in-loop-other.new.self.rest.items =
+    c.loop-other.invariant.3.1 ∙ ap (λ t. done ++ t) c.in-Some-other.ensures.steps.0 in
+    let free = free_at board c.args.seats.items done c.next-in-loop-other.new.self.rest.items other c.requires.seats parts in record {
+      one = c.loop-other.invariant.2;
+      other = c.into_seat-next.ensures.table ∙ free.of_board.id;
+    }
+
 pub join_seat-requires : goal.join_seat-requires
 join_seat-requires c =
     let board : BoardView = record { id = c.args.shared.now.table_id; book = c.args.book.now } in
@@ -41,13 +56,15 @@ join_seat-requires c =
     let parts : c.args.seats.items ≡ done ++ other ∷ c.next-in-loop-other.new.self.rest.items =
     c.loop-other.invariant.3.1 ∙ ap (λ t. done ++ t) c.in-Some-other.ensures.steps.0 in
     let free = free_at board c.args.seats.items done c.next-in-loop-other.new.self.rest.items other c.requires.seats parts in
-    let v : View = c.loop-other.all.me.0 in
-    let next = subst (λ (t : View). t.first ≡ v.first + length v.parts) (sym c.into_seat.ensures.view) (next_seat board done v other c.loop-other.invariant.3.2 free) in (
-      c.loop-other.invariant.2,
-      c.into_seat.ensures.table ∙ free.of_board.id,
-      c.into_seat.ensures.empty,
+    let v : View = c.meet.new.one.me.0 in
+    let all = subst (Gathers done) (sym (ap (λ s. s.me.0) c.meet.ensures.one)) c.loop-other.invariant.3.2 in
+    let is : c.meet.new.other.me.0 ≡ other.view = ap (λ s. s.me.0) c.meet.ensures.other ∙ c.into_seat-next.ensures.view in
+    let next = subst (λ (t : View). t.first ≡ v.first + length v.parts) (sym is) (next_seat board done v other all free) in (
+      ap (λ s. s.table_id) c.meet.ensures.one ∙ c.loop-other.invariant.2,
+      ap (λ s. s.table_id) c.meet.ensures.other ∙ (c.into_seat-next.ensures.table ∙ free.of_board.id),
+      ap (λ s. s.me.1) c.meet.ensures.other ∙ c.into_seat-next.ensures.empty,
       c.requires.words,
-      gathers c.args.shared.now.key.value c.loop-other.all.id c.into_seat.result.id v c.into_seat.result.me.0 next,
+      gathers c.args.shared.now.key.value c.meet.new.one.id c.meet.new.other.id v c.meet.new.other.me.0 next,
     )
 
 pub loop-other-preserved : goal.loop-other-preserved
@@ -59,14 +76,19 @@ loop-other-preserved c =
     let parts : c.args.seats.items ≡ done ++ other ∷ left = c.loop-other.invariant.3.1 ∙ ap (λ t. done ++ t) c.in-Some-other.ensures.steps.0 in
     let free = free_at board c.args.seats.items done left other c.requires.seats parts in
     let v : View = c.loop-other.all.me.0 in
+    let theirs : c.into_seat-next.result.me.0 ≡ other.view = c.into_seat-next.ensures.view in
+    let met = subst (λ (w : View). AreSeen (λ s. Ruled c.args.shared.now.key.value s.words s.views) c.loop-other.all.id v c.into_seat-next.result.id w) theirs c.meet.ensures.seen in
+    let long = IsLonger-seen c.args.shared.now.key.value c.loop-other.all.id c.into_seat-next.result.id v other.view met in
     let after : gathered v other.view ≡ c.join_seat.new.seat.me.0 =
-    ap (gathered v) (sym c.into_seat.ensures.view) ∙ sym (ap (λ m. m.0) c.join_seat.ensures.2) in (
+    sym (ap (λ m. m.0) c.join_seat.ensures.2
+    ∙ (λ t. gathered (c.meet.ensures.one t).me.0 ((ap (λ s. s.me.0) c.meet.ensures.other ∙ theirs) t))) in (
       tt,
       tt,
-      c.join_seat.ensures.0 ∙ c.loop-other.invariant.2,
+      c.join_seat.ensures.0 ∙ (ap (λ s. s.table_id) c.meet.ensures.one ∙ c.loop-other.invariant.2),
       (
         done ++ other ∷ [],
         parts ∙ sym (append_assoc done (other ∷ []) left),
-        subst (Gathers (done ++ other ∷ [])) after (Gathers-more board done v other c.loop-other.invariant.3.2 free c.into_seat.ensures.one_part),
+        subst (Gathers (done ++ other ∷ [])) after
+            (Gathers-more board done v other c.loop-other.invariant.3.2 free c.into_seat-next.ensures.one_part long.first long.second),
       ),
     )

@@ -1,11 +1,10 @@
 -- `meet` is a load of a local word, at which the rule is seen.
-use Rattle.atomic_table.proofs.Names.{◌≡◌, ℕ, ◌+◌, ◌*◌, ◌<◌, List, [], ◌∷◌, sym, refl, ap, subst, arith, lit<, a_type, dcons, dnil, named, Val, vunit, vptr, inst_fn, SProp, ent, sep, emp, Lft, Fml, ftrue, fsep, flft, sem, ‵, raw, ◌⊛◌, given, mean, at_ret, ◌$◌, ◌∵◌, !, qed, by, move, keep, drop, split, split3, join, fsplit, fsplit3, fjoin, fjoin3, learn, use0, use1, use3, rewrite, feq_i, stop, fld, load, lit, unit_lit, of_opd, no_more, and_then, first, blocks, exec, Calls-last, returns, enter, alloc_all, pass_all, free_all, look_at, get, through, sets, lands_last, is, env, agg, sub, whole, look_in, tables, yes, RattleType, owns, types_at, plain, Ptr, block_ptr, ptr_val, nothing, param, bounded, Stays, stay_dropped, walk_of, Goes-dropped, fact, fact_i, fact_use, Is, shows, cell_at, peeks, block_of, count_of, at_block, Coded, via, guard_i, RefOf, mut_vals, mut_Tells, shr_vals, shr_Tells, opens, closes, stay_ref, Goes-ref, unhide, hidden_shr, looks, shuts, lent_out, Tuple, shr_bor-open, obor_close, tokens_halve, addr}
+use Rattle.atomic_table.proofs.Names.{◌≡◌, ℕ, List, [], ◌∷◌, sym, refl, lit<, a_type, dcons, dnil, named, Val, vunit, vptr, inst_fn, SProp, emp, Lft, Fml, ftrue, fsep, flft, ‵, raw, ◌⊛◌, given, mean, at_ret, ◌$◌, ◌∵◌, !, qed, by, move, keep, drop, split, split3, join, fsplit, fsplit3, fjoin, fjoin3, learn, use0, use1, use3, rewrite, feq_i, stop, lit, unit_lit, of_opd, no_more, and_then, first, blocks, exec, Calls-last, returns, enter, alloc_all, pass_all, free_all, look_at, get, sets, lands_last, env, agg, tables, yes, RattleType, owns, types_at, plain, Ptr, block_ptr, nothing, param, bounded, Stays, stay_dropped, walk_of, Goes-dropped, fact, fact_i, Coded, via, RefOf, mut_vals, mut_Tells, shr_vals, shr_Tells, opens, closes, stay_ref, Goes-ref, unhide, hidden_shr, lent_out, Tuple, shr_bor-open, obor_close, tokens_halve, addr}
 use types.Kit.{fpick}
 use types.Run.{from}
 use types.ByLocal.{take_at, give_at}
 use Rattle.std.proofs.VecSteps.Shapes.{after as rest_after}
 use Rattle.std.proofs.raw_atomic.Walks.{proved, leaves}
-use Rattle.std.specs.Sync.RawAtomic.{asks, always}
 use Rattle.std.specs.contracts.marker.PhantomData as marker
 use Rattle.atomic_table.specs.Table.{Me}
 use Rattle.atomic_table.specs.Seated.{TableId, Placed, age, common, mine}
@@ -13,7 +12,7 @@ use Rattle.atomic_table.specs.contracts.shared.Shared as table
 use Rattle.atomic_table.specs.contracts.shared.Seat as seat
 use Rattle.atomic_table.proofs.Fields.{HandData}
 use Rattle.std.proofs.raw_atomic.Calls.{fm, seq_cst, found, finds, loads}
-use Rattle.at_board.proofs.SeatPairs.{both, told, after, meets}
+use Rattle.at_board.proofs.SeatPairs.{after, meets}
 use Rattle.at_board.specs.Meetings.{AreSeen}
 use Rattle.at_board.specs.contracts.meeting.meet.{ended, clauses}
 use Rattle.at_board.specs.contracts.meeting.meet.Key.{name as #self}

@@ -39,11 +39,14 @@ invariant_of-seat g c =
     let w : View = c.note.inside.seat.me.0 in
     let book : v.book ≡ b = ap (λ s. s.view.book) c.seat.view_is ∙ c.requires.board.book in
     let note_book : w.book ≡ b = ap (λ s. s.view.book) c.note.view_is ∙ c.requires.note.book in
+    let ours : c.self.inside.table.shared.key.value ≡ b = c.self.invariant.0 ∙ ap (λ t. t.book) c.self.view_is in
+    let met : AreSeen (λ s. Ruled b s.words s.views) c.seat.inside.seat.id v c.note.inside.seat.id w =
+    subst (λ (t : BookTerms). AreSeen (λ s. Ruled t s.words s.views) c.seat.inside.seat.id v c.note.inside.seat.id w) ours c.meet.ensures.seen in
     let after : learned v w ≡ c.join_seat.new.seat.me.0 =
     sym (ap (λ m. m.0) c.join_seat.ensures.2 ∙ (λ t. learned (c.meet.ensures.one t).me.0 (c.meet.ensures.other t).me.0)) in (
       ap (λ m. m.1) c.join_seat.ensures.2 ∙ (ap (λ s. s.me.1) c.meet.ensures.one ∙ c.seat.invariant.0),
       subst (λ t. IsSeat t c.seat.inside.process c.seat.inside.published) after
-          (IsSeat-learned b v w c.seat.inside.process c.seat.inside.published book note_book c.seat.invariant.1 c.note.invariant.1),
+          (IsSeat-learned b c.seat.inside.seat.id c.note.inside.seat.id v w c.seat.inside.process c.seat.inside.published book note_book c.seat.invariant.1 c.note.invariant.1 met),
       subst (λ t. HasCounts t c.seat.inside.announced.items) after (HasCounts-learned v w c.seat.inside.announced.items c.seat.invariant.2),
       subst SeesInRange after (SeesInRange-learned v w (note_book ∙ sym book) c.seat.invariant.3 c.note.invariant.1.in_range),
     )

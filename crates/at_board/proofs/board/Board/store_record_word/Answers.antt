@@ -43,7 +43,7 @@ invariant_of-seat g c =
     let told = StoresWord-played b c.self.inside.table.shared.table_id.slots c.seat.inside.seat.me c.store.new.seat.me c.args.j c.args.w
     c.record_place-place.result book at may c.store.ensures.2 in (
       c.store.ensures.2.0 ∙ c.seat.invariant.0,
-      IsSeat-store v c.store.new.seat.me.0 c.seat.inside.process c.seat.inside.published c.args.j c.args.w c.seat.invariant.1 told,
+      IsSeat-store v c.store.new.seat.me.0 c.seat.inside.process c.seat.inside.published c.args.j c.args.w c.seat.invariant.1 told c.store.ensures.2.1,
       HasCounts-store v c.store.new.seat.me.0 c.args.j c.args.w c.seat.inside.announced.items (omega (arith, c.seat.invariant.1.one_part)) told c.seat.invariant.2,
       SeesInRange-store v c.store.new.seat.me.0 c.args.j c.args.w told c.seat.invariant.3,
     )

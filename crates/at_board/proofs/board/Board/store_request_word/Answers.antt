@@ -52,7 +52,7 @@ invariant_of-seat g c =
     StoresRequestWord-played b c.self.inside.table.shared.table_id.slots c.seat.inside.seat.me c.store.new.seat.me a slot c.args.j c.args.w
     c.request_place-place.result book at may c.requires.word c.store.ensures.2 in (
       c.store.ensures.2.0 ∙ c.seat.invariant.0,
-      IsSeat-request_stored v w c.seat.inside.process c.seat.inside.published a c.args.j c.args.w c.seat.invariant.1 told,
+      IsSeat-request_stored v w c.seat.inside.process c.seat.inside.published a c.args.j c.args.w c.seat.invariant.1 told c.store.ensures.2.1,
       HasCounts-request_stored v w a c.args.j c.args.w c.seat.inside.announced.items (omega (arith, c.seat.invariant.1.one_part)) told c.seat.invariant.2,
       SeesInRange-request_stored v w a c.args.j c.args.w told c.seat.invariant.3,
     )
