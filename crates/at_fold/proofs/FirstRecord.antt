@@ -12,7 +12,7 @@ use Rattle.at_board.proofs.CountLaws.{get_or-counts, length-counts, publications
 use Rattle.at_board.proofs.FrontLaws.{IsFront-counts}
 use Rattle.at_board.proofs.OpeningLaws.{get_or-zeros}
 use Rattle.at_board.proofs.SameLaws.{begins_with-IsPrefix}
-use Rattle.at_board.proofs.SeatKept.{own_part-with_part}
+use Rattle.at_board.proofs.OwnRequestLaws.{own_part-with_part}
 use Rattle.at_board.specs.declared.publication.Entry.{Entry}
 use Rattle.at_board.specs.declared.publication.Entry.TheVariants.{Own}
 use Rattle.at_board.specs.declared.publication.Publication.{Publication}

@@ -4,7 +4,7 @@ use Rattle.std.proofs.lemmas.Grind.{same_number_lists}
 use Rattle.std.proofs.lemmas.List.{get_or-set_other, get_or-set_same, length-set}
 use Rattle.at_ledger.specs.Book.{BookTerms, log_room_of}
 use Rattle.at_board.proofs.FrontLaws.{length-IsFront}
-use Rattle.at_board.proofs.SeatKept.{own_part-with_part}
+use Rattle.at_board.proofs.OwnRequestLaws.{own_part-with_part}
 use Rattle.at_board.specs.declared.publication.Publication.{Publication}
 use Rattle.at_board.specs.declared.view.Part.{Part}
 use Rattle.at_board.specs.declared.view.View.{View}
@@ -112,7 +112,6 @@ Publishes-IsStoring b v u w x words j some storing told =
       between = here.between;
       seen = here.seen;
       own = here.own ∙ ap (λ (t : Part). t.published + 1) own;
-      joined = here.joined;
       history = here.history;
       agrees = here.agrees;
       same = here.same ∙ (ap (λ t. with_part (with_part (record v { seen = w.seen }) (with_stored q storing.stored)) (with_record b t x)) own

@@ -21,7 +21,6 @@ use Rattle.at_board.specs.Conditions.{MayEnter}
 use Rattle.at_board.specs.Entries.{is_round_on, targets_of}
 use Rattle.at_board.specs.Forms.{IsForm}
 use Rattle.at_board.specs.Fronts.{place, places_max, prefix_of}
-use Rattle.at_board.specs.RecordWords.{lists_of}
 use Rattle.at_board.specs.Rounds.{firsts, repeats, rounds, with_first}
 use Rattle.at_board.specs.SeatView.{IsSeat}
 use Rattle.at_board.specs.Seen.{DecisionInRange, RequestInRange, SeesInRange}
@@ -100,9 +99,3 @@ pub IsForm-IsHistory : (b : BookTerms) (list : List Publication) (m : ℕ) → I
 IsForm-IsHistory b list m begun history within =
     let x : Publication = publication_at list m in
     IsForm-IsShownEntry b x.process (prefix_of x.view list) list x.entry begun (history.entries m within) (history.decisions m within)
-
--- each list that a seat has seen is a history
-pub IsHistory-lists_of : (v : View) (process published : ℕ) (list : List Publication) → IsSeat v process published → Contains (lists_of v) list
-    → IsHistory v.book list
-IsHistory-lists_of v process published list seat seen =
-    All-Contains (IsHistory v.book) (lists_of v) list (All-cons (IsHistory v.book) v.seen v.joined seat.history seat.joined) seen

@@ -1,6 +1,5 @@
 -- What the words of a record that a seat has seen tell of it.
 use Rattle.std.proofs.Common.{◌≡◌, ℕ, ◌+◌, ◌-◌, ◌^◌, ◌<◌, ◌≤◌, List, ◌∷◌, length, get_or, set, take, refl, sym, ap, subst, ◌∙◌, arith, below_more}
-use Rattle.std.specs.List.{Contains}
 use Rattle.std.proofs.lemmas.Grind.{same_number_lists}
 use Rattle.std.proofs.lemmas.List.{get_or-append_right, get_or-set_other, get_or-set_same}
 use Rattle.at_ledger.specs.Book.{BookTerms, IsBegun}
@@ -14,7 +13,7 @@ use Rattle.at_board.specs.Entries.{targets_of}
 use Rattle.at_board.specs.Forms.{IsForm}
 use Rattle.at_board.specs.Fronts.{place}
 use Rattle.at_board.specs.Publications.{count_of, no_publication, publications_of}
-use Rattle.at_board.specs.RecordWords.{IsRecordWord, SeesRecord, lists_of}
+use Rattle.at_board.specs.RecordWords.{IsRecordWord, SeesRecord}
 use Rattle.at_board.specs.Sound.{HasView}
 use Rattle.at_board.specs.Steps.{IsHistory}
 use Rattle.at_board.specs.TargetsWord.{accounts_of, targets_word}
@@ -64,35 +63,28 @@ get_or-record_words x q =
     get_or-append_right xs x.view 7 (7 + q) 0 refl (omega arith) ∙ ap (λ k. get_or x.view k 0) e
 
 -- the first q counts of a view are those of record i of the process
-pub record IsLoaded (v : View) (p i : ℕ) (view : List ℕ) (q : ℕ) : Type 0 where
-  pub counts : (list : List Publication) → Contains (lists_of v) list → i < count_of p list → (k : ℕ) → k < q
-      → get_or view k 0 ≡ get_or (publication_at (publications_of p list) i).view k 0
-
-pub IsLoaded-none : (v : View) (p i : ℕ) (view : List ℕ) → IsLoaded v p i view 0
-IsLoaded-none v p i view = record { counts = λ list seen within k below. absurd (omega arith) }
+abbrev pub IsLoaded : View → ℕ → ℕ → List ℕ → ℕ → Type 0
+IsLoaded v p i view q = (k : ℕ) → k < q → get_or view k 0 ≡ get_or (publication_at (publications_of p v.seen) i).view k 0
 
 pub IsLoaded-more : (v : View) (p i : ℕ) (view : List ℕ) (q w : ℕ) → q < length view → IsLoaded v p i view q → IsRecordWord v p i (7 + q) w
     → IsLoaded v p i (set view q w) (q + 1)
-IsLoaded-more v p i view q w inside loaded word = record {
-  counts = λ list seen within.
-      let x : Publication = publication_at (publications_of p list) i in
-      below_more (λ k. get_or (set view q w) k 0 ≡ get_or x.view k 0) q
-      (λ k below. get_or-set_other view q k w 0 (omega arith) ∙ loaded.counts list seen within k below)
-      (get_or-set_same view q w 0 inside ∙ (word list seen within ∙ get_or-record_words x q));
-}
+IsLoaded-more v p i view q w inside loaded word =
+    let x : Publication = publication_at (publications_of p v.seen) i in
+    below_more (λ k. get_or (set view q w) k 0 ≡ get_or x.view k 0) q
+    (λ k below. get_or-set_other view q k w 0 (omega arith) ∙ loaded k below)
+    (get_or-set_same view q w 0 inside ∙ (word ∙ get_or-record_words x q))
 
-pub IsViewOf-IsLoaded : (b : BookTerms) (v : View) (p i : ℕ) (view : List ℕ) (q : ℕ) → IsBegun b
-    → ((list : List Publication) → Contains (lists_of v) list → IsHistory b list) → length view ≡ b.processes → q ≡ b.processes
-    → IsLoaded v p i view q → IsViewOf v p i view
-IsViewOf-IsLoaded b v p i view q begun histories sized all loaded = λ list seen within.
-    let x : Publication = publication_at (publications_of p list) i in
-    let shown = IsShownRecord-IsHistory b list p i begun (histories list seen) within in
-    same_number_lists view x.view (sized ∙ sym shown.sized) (λ k inside. loaded.counts list seen within k (omega (arith, inside, sized, all)))
+pub IsViewOf-IsLoaded : (b : BookTerms) (v : View) (p i : ℕ) (view : List ℕ) (q : ℕ) → IsBegun b → IsHistory b v.seen → SeesRecord v p i
+    → length view ≡ b.processes → q ≡ b.processes → IsLoaded v p i view q → IsViewOf v p i view
+IsViewOf-IsLoaded b v p i view q begun history sees sized all loaded =
+    let x : Publication = publication_at (publications_of p v.seen) i in
+    let shown = IsShownRecord-IsHistory b v.seen p i begun history sees in
+    same_number_lists view x.view (sized ∙ sym shown.sized) (λ k inside. loaded k (omega (arith, inside, sized, all)))
 
 -- a count of a view is small
-pub small-IsRecordWord : (b : BookTerms) (v : View) (p i q w : ℕ) → IsBegun b → ((list : List Publication) → Contains (lists_of v) list → IsHistory b list)
-    → SeesRecord v p i → q < b.processes → IsRecordWord v p i (7 + q) w → w < 2 ^ 32
-small-IsRecordWord b v p i q w begun histories sees known word =
-    let x : Publication = publication_at (publications_of p sees.list) i in
-    let shown = IsShownRecord-IsHistory b sees.list p i begun (histories sees.list sees.seen) sees.within in
-    omega (arith, word sees.list sees.seen sees.within, get_or-record_words x q, shown.small q known)
+pub small-IsRecordWord : (b : BookTerms) (v : View) (p i q w : ℕ) → IsBegun b → IsHistory b v.seen → SeesRecord v p i → q < b.processes
+    → IsRecordWord v p i (7 + q) w → w < 2 ^ 32
+small-IsRecordWord b v p i q w begun history sees known word =
+    let x : Publication = publication_at (publications_of p v.seen) i in
+    let shown = IsShownRecord-IsHistory b v.seen p i begun history sees in
+    omega (arith, word, get_or-record_words x q, shown.small q known)

@@ -4,7 +4,7 @@ use Rattle.std.specs.List.{All, Contains}
 use Rattle.std.proofs.lemmas.List.{get_or-set_other, get_or-set_same, length-set, set-set}
 use Rattle.at_ledger.specs.Book.{BookTerms}
 use Rattle.at_board.proofs.FrontLaws.{IsPrefix-trans}
-use Rattle.at_board.proofs.SeatKept.{own_part-with_part}
+use Rattle.at_board.proofs.OwnRequestLaws.{own_part-with_part}
 use Rattle.at_board.specs.declared.publication.Publication.{Publication}
 use Rattle.at_board.specs.declared.view.Loads.{Loads}
 use Rattle.at_board.specs.declared.view.Part.{Part}

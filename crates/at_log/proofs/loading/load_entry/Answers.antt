@@ -8,7 +8,6 @@ use Rattle.at_board.specs.Publications.{publications_of}
 use Rattle.at_board.specs.RecordWords.{IsRecordWord}
 use Rattle.at_board.specs.SeatView.{SeatView}
 use Rattle.at_board.specs.Steps.{IsHistory}
-use Rattle.at_log.proofs.FormFacts.{IsHistory-lists_of}
 use Rattle.at_log.proofs.SeenLaws.{IsShownRecord-IsHistory}
 use Rattle.at_log.proofs.loading.load_entry.Goals as goal
 
@@ -32,17 +31,16 @@ loop-j-preserved g c =
     }
 
 pub returns-clause-entry : goal.returns-clause-entry
-returns-clause-entry g c = λ list seen within.
+returns-clause-entry g c =
     let b : BookTerms = c.args.board.now.book in
     let v : View = c.args.seat.now.view in
-    let x : Publication = publication_at (publications_of c.args.p list) c.args.i in
+    let x : Publication = publication_at (publications_of c.args.p v.seen) c.args.i in
     let book : IsBook b = subst IsBook c.book.ensures c.accounts-accounts.ensures.checked in
-    let history : IsHistory b list =
-    subst (λ t. IsHistory t list) c.requires.board.book (IsHistory-lists_of v _ _ list c.process-process.ensures.seat seen) in
-    let word = λ (k : ℕ) (small : k < 7). c.loop-j.invariant.loaded k (omega (arith, small, c.loop-j-test.false)) list seen within in
+    let history : IsHistory b v.seen = subst (λ t. IsHistory t v.seen) c.requires.board.book c.process-process.ensures.seat.history in
+    let word = λ (k : ℕ) (small : k < 7). c.loop-j.invariant.loaded k (omega (arith, small, c.loop-j-test.false)) in
     let third = word 3 (omega arith) in
     let fourth = word 4 (omega arith) in
     let fifth = word 5 (omega arith) in
     let sixth = word 6 (omega arith) in
-    c.entry_of.ensures x.entry (IsShownRecord-IsHistory b list c.args.p c.args.i book.begun history within).form
+    c.entry_of.ensures x.entry (IsShownRecord-IsHistory b v.seen c.args.p c.args.i book.begun history c.requires.record).form
     (word 0 (omega arith)) (word 1 (omega arith)) (word 2 (omega arith)) (λ t. third t ∷ fourth t ∷ fifth t ∷ sixth t ∷ [])

@@ -1,13 +1,10 @@
-use Rattle.std.proofs.Common.{◌+◌, ◌<◌, List, length, sym, ap, subst, ◌∙◌, arith}
-use Rattle.std.specs.List.{Contains}
+use Rattle.std.proofs.Common.{◌+◌, ◌<◌, length, sym, ap, subst, ◌∙◌, arith}
 use Rattle.std.proofs.lemmas.List.{length-set}
 use Rattle.at_ledger.specs.Book.{BookTerms, IsBook}
-use Rattle.at_board.specs.declared.publication.Publication.{Publication}
 use Rattle.at_board.specs.declared.view.View.{View}
-use Rattle.at_board.specs.RecordWords.{IsRecordWord, lists_of}
+use Rattle.at_board.specs.RecordWords.{IsRecordWord}
 use Rattle.at_board.specs.SeatView.{SeatView}
 use Rattle.at_board.specs.Steps.{IsHistory}
-use Rattle.at_log.proofs.FormFacts.{IsHistory-lists_of}
 use Rattle.at_log.proofs.SeenLaws.{IsLoaded, IsLoaded-more, IsViewOf-IsLoaded, small-IsRecordWord}
 use Rattle.at_log.proofs.loading.load_view.Goals as goal
 
@@ -16,14 +13,13 @@ overflow_cast-count g c =
     let b : BookTerms = c.args.board.now.book in
     let v : View = c.args.seat.now.view in
     let book : IsBook b = subst IsBook c.book.ensures c.accounts-accounts.ensures.checked in
-    let histories : (list : List Publication) → Contains (lists_of v) list → IsHistory b list =
-    λ list seen. subst (λ t. IsHistory t list) c.requires.board.book (IsHistory-lists_of v _ _ list c.process-process.ensures.seat seen) in
+    let history : IsHistory b v.seen = subst (λ t. IsHistory t v.seen) c.requires.board.book c.process-process.ensures.seat.history in
     let word : IsRecordWord v c.args.p c.args.i (7 + c.loop-q.q) c.load_record_word-count.result =
     subst (λ (s : SeatView). IsRecordWord s.view c.args.p c.args.i (7 + c.loop-q.q) c.load_record_word-count.result) c.loop-q.invariant.same
     c.load_record_word-count.ensures.word in
     omega (
       arith,
-      small-IsRecordWord b v c.args.p c.args.i c.loop-q.q c.load_record_word-count.result book.begun histories c.requires.record
+      small-IsRecordWord b v c.args.p c.args.i c.loop-q.q c.load_record_word-count.result book.begun history c.requires.record
           (omega (arith, c.loop-q-test.true, c.processes-processes.ensures, ap (λ (t : BookTerms). t.processes) c.book-2.ensures)) word,
     )
 
@@ -54,9 +50,8 @@ returns-clause-view g c =
     let b : BookTerms = c.args.board.now.book in
     let v : View = c.args.seat.now.view in
     let book : IsBook b = subst IsBook c.book.ensures c.accounts-accounts.ensures.checked in
-    let histories : (list : List Publication) → Contains (lists_of v) list → IsHistory b list =
-    λ list seen. subst (λ t. IsHistory t list) c.requires.board.book (IsHistory-lists_of v _ _ list c.process-process.ensures.seat seen) in
-    IsViewOf-IsLoaded b v c.args.p c.args.i c.loop-q.view c.loop-q.q book.begun histories c.loop-q.invariant.sized
+    let history : IsHistory b v.seen = subst (λ t. IsHistory t v.seen) c.requires.board.book c.process-process.ensures.seat.history in
+    IsViewOf-IsLoaded b v c.args.p c.args.i c.loop-q.view c.loop-q.q book.begun history c.requires.record c.loop-q.invariant.sized
     (omega (
       arith,
       c.loop-q-test.false,

@@ -1,6 +1,7 @@
 use Rattle.std.proofs.Common.{◌≡◌, ℕ, ◌+◌, ◌<◌, List, ◌∷◌, get_or, suc, sym, ap, subst, ◌∙◌, arith}
 use Rattle.std.specs.List.{Contains}
 use Rattle.at_ledger.specs.Book.{BookTerms}
+use Rattle.at_board.proofs.FrontLaws.{IsPrefix-count_of}
 use Rattle.at_board.specs.declared.publication.Publication.{Publication}
 use Rattle.at_board.specs.declared.view.View.{View}
 use Rattle.at_board.specs.LearnSteps.{Learns}
@@ -12,15 +13,10 @@ use Rattle.at_log.proofs.log_tests.told_record.Goals as goal
 -- the first record of a process is seen by a note, and so by the seat that has learned it
 sees_first : (b : BookTerms) (v before note after : View) (p : ℕ) → note ≡ noted v → 0 < count_of v.first v.seen → p ≡ v.first
     → Learns b before note after → SeesRecord after p 0
-sees_first b v before note after p is some process told = record {
-  list = note.seen;
-  seen = (told.heard.0 + 1, omega (arith, told.heard.1), later after.seen after.joined note.seen told.heard);
-  within = subst (λ (t : View). 0 < count_of p t.seen) (sym is) (subst (λ k. 0 < count_of k v.seen) (sym process) some);
-}
-  where
-    later : (x : List Publication) (xs : List (List Publication)) (y : List Publication) (held : Contains xs y)
-        → get_or (x ∷ xs) (held.0 + 1) y ≡ y
-    later x xs y (k, within, same) = let e : k + 1 ≡ suc k = omega arith in ap (λ n. get_or (x ∷ xs) n y) e ∙ same
+sees_first b v before note after p is some process told =
+    let noted : 0 < count_of p note.seen =
+    subst (λ (t : View). 0 < count_of p t.seen) (sym is) (subst (λ k. 0 < count_of k v.seen) (sym process) some) in
+    omega (arith, noted, IsPrefix-count_of p note.seen after.seen told.heard)
 
 pub load_entry-entry-requires-clause-record : goal.load_entry-entry-requires-clause-record
 load_entry-entry-requires-clause-record g c =

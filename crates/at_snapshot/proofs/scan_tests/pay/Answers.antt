@@ -5,7 +5,7 @@ use Rattle.std.proofs.lemmas.List.{length-replicate}
 use Rattle.at_ledger.specs.Book.{BookTerms}
 use Rattle.at_board.proofs.CountLaws.{get_or-counts, length-counts, publications_of-nil}
 use Rattle.at_board.proofs.OpeningLaws.{get_or-zeros}
-use Rattle.at_board.proofs.SeatKept.{own_part-with_part}
+use Rattle.at_board.proofs.OwnRequestLaws.{own_part-with_part}
 use Rattle.at_board.specs.declared.view.Part.{Part}
 use Rattle.at_board.specs.declared.view.View.{View}
 use Rattle.at_board.specs.Cuts.{starting_seat}
