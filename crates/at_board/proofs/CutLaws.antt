@@ -211,8 +211,11 @@ IsSeat-starting b p book within = record {
   process_is = refl;
   published_is = refl;
   own = count_of-nil p;
-  asked = λ a slot i has inside. absurd (omega (arith, inside,
-      ap (λ (w : Asking). length w.announced) (get_or-replicate (length b.accounts) a starting_asking no_asking has.account_in)));
+  asked = λ a slot i has inside. absurd (omega (
+    arith,
+    inside,
+    ap (λ (w : Asking). length w.announced) (get_or-replicate (length b.accounts) a starting_asking no_asking has.account_in),
+  ));
   known = within;
   begun = book;
   history = IsHistory-nil b book.begun;

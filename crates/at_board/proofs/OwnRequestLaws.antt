@@ -39,11 +39,11 @@ pub asking_on-part_asking : (q : Part) (a c : ℕ) (w : Asking) → w.announced 
     → (asking_on (part_asking q a w) c).announced ≡ (asking_on q c).announced
 asking_on-part_asking q a c w same = elim (cases_eq c a) as (λ _. (get_or (set q.asking a w) c no_asking).announced ≡ (get_or q.asking c no_asking).announced) [
   | inl here ↦ elim (cases_lt a (length q.asking)) as (λ _. (get_or (set q.asking a w) c no_asking).announced ≡ (get_or q.asking c no_asking).announced) [
-      | inl inside ↦
-          ap (λ (t : Asking). t.announced) (ap (λ k. get_or (set q.asking a w) k no_asking) here ∙ get_or-set_same q.asking a w no_asking inside)
-          ∙ (same ∙ ap (λ k. (get_or q.asking k no_asking).announced) (sym here))
-      | inr past ↦ ap (λ (l : List Asking). (get_or l c no_asking).announced) (set_past q.asking a w past)
-    ]
+    | inl inside ↦
+        ap (λ (t : Asking). t.announced) (ap (λ k. get_or (set q.asking a w) k no_asking) here ∙ get_or-set_same q.asking a w no_asking inside)
+        ∙ (same ∙ ap (λ k. (get_or q.asking k no_asking).announced) (sym here))
+    | inr past ↦ ap (λ (l : List Asking). (get_or l c no_asking).announced) (set_past q.asking a w past)
+  ]
   | inr apart ↦ ap (λ (t : Asking). t.announced) (get_or-set_other q.asking a c w no_asking apart)
 ]
 
@@ -83,22 +83,22 @@ SeesOwnRequests-announce v list a slot w r part mine announced sees c other i ha
     let own = own_part-with_part u (part_asking q a w) part in
     let Goal : List Request → Type 0 = λ l. Contains (v.requests ++ x ∷ []) (seen_as c other i (request_at l i)) in
     let old : (asking_on (own_part (with_asking u a w)) c).announced ≡ (asking_on q c).announced → Goal (asking_on (own_part (with_asking u a w)) c).announced = λ is.
-        subst Goal (sym is) (Contains-append_left v.requests (x ∷ []) (seen_as c other i (request_at (asking_on q c).announced i))
-        (sees c other i has (subst (λ (l : List Request). i < length l) is within))) in
+    subst Goal (sym is) (Contains-append_left v.requests (x ∷ []) (seen_as c other i (request_at (asking_on q c).announced i))
+    (sees c other i has (subst (λ (l : List Request). i < length l) is within))) in
     elim (cases_eq c a) as (λ _. Goal (asking_on (own_part (with_asking u a w)) c).announced) [
       | inl here ↦ elim (cases_lt a (length q.asking)) as (λ _. Goal (asking_on (own_part (with_asking u a w)) c).announced) [
-          | inl inside ↦
-              let is : (asking_on (own_part (with_asking u a w)) c).announced ≡ row ++ r ∷ [] =
-              ap (λ (t : Part). (asking_on t c).announced) own
-              ∙ (ap (λ k. (get_or (set q.asking a w) k no_asking).announced) here
-              ∙ (ap (λ (t : Asking). t.announced) (get_or-set_same q.asking a w no_asking inside) ∙ announced)) in
-              let slots : slot ≡ other = same_slot v.book v.first a slot other mine (subst (λ k. HasSlot v.book v.first k other) here has) in
-              subst Goal (sym is) (subst (λ k. Contains (v.requests ++ x ∷ []) (seen_as k other i (request_at (row ++ r ∷ []) i))) (sym here)
-              (subst (λ s. Contains (v.requests ++ x ∷ []) (seen_as a s i (request_at (row ++ r ∷ []) i))) slots
-              (SeesRow-push v a slot i row r (λ k below. sees a slot k mine below) (subst (λ (l : List Request). i < length l) is within))))
-          | inr past ↦
-              old (ap (λ (t : Part). (asking_on t c).announced) own ∙ ap (λ (l : List Asking). (get_or l c no_asking).announced) (set_past q.asking a w past))
-        ]
+        | inl inside ↦
+            let is : (asking_on (own_part (with_asking u a w)) c).announced ≡ row ++ r ∷ [] =
+            ap (λ (t : Part). (asking_on t c).announced) own
+            ∙ (ap (λ k. (get_or (set q.asking a w) k no_asking).announced) here
+            ∙ (ap (λ (t : Asking). t.announced) (get_or-set_same q.asking a w no_asking inside) ∙ announced)) in
+            let slots : slot ≡ other = same_slot v.book v.first a slot other mine (subst (λ k. HasSlot v.book v.first k other) here has) in
+            subst Goal (sym is) (subst (λ k. Contains (v.requests ++ x ∷ []) (seen_as k other i (request_at (row ++ r ∷ []) i))) (sym here)
+            (subst (λ s. Contains (v.requests ++ x ∷ []) (seen_as a s i (request_at (row ++ r ∷ []) i))) slots
+            (SeesRow-push v a slot i row r (λ k below. sees a slot k mine below) (subst (λ (l : List Request). i < length l) is within))))
+        | inr past ↦
+            old (ap (λ (t : Part). (asking_on t c).announced) own ∙ ap (λ (l : List Asking). (get_or l c no_asking).announced) (set_past q.asking a w past))
+      ]
       | inr apart ↦
           old (ap (λ (t : Part). (asking_on t c).announced) own ∙ ap (λ (t : Asking). t.announced) (get_or-set_other q.asking a c w no_asking apart))
     ]
