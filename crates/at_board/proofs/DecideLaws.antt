@@ -22,6 +22,7 @@ use Rattle.at_board.specs.Balances.{IsCovered}
 use Rattle.at_board.specs.BoardState.{BoardState, decision_at, publication_at, request_at}
 use Rattle.at_board.specs.Conditions.{MayPropose}
 use Rattle.at_board.specs.Fronts.{prefix_of}
+use Rattle.at_board.specs.Places.{IsPlace, cell_of}
 use Rattle.at_board.specs.Rounds.{is_settled, rounds}
 use Rattle.at_board.specs.Sound.{IsHeld, IsPublished, IsSoundDecision, IsSoundEntry, IsSoundRequest, Sound}
 use Rattle.at_board.specs.Views.{IsAnnounced, Knows}
@@ -33,8 +34,8 @@ pub record IsProposed (b : BookTerms) (s : BoardState) (a round : ℕ) (d : Deci
   pub undecided : is_settled a d.slot d.number (take d.place s.published) ≡ false
 
 pub IsProposed-MayPropose : (b : BookTerms) (words : List ℕ) (s : BoardState) (v : View) (a round : ℕ) (d : Decision) (r : Request)
-    → Sound b s → Knows b words s v → MayPropose b v a round d r → IsProposed b s a round d
-IsProposed-MayPropose b words s v a round d r sound knows may =
+    → Sound b s → Knows b words s v → IsPlace b (cell_of a round) → MayPropose b v a round d r → IsProposed b s a round d
+IsProposed-MayPropose b words s v a round d r sound knows here may =
     let place : d.place ≤ length s.published = omega (arith, may.place, IsPrefix-length v.seen s.published knows.seen) in
     let same : take d.place v.seen ≡ take d.place s.published = sym (take-IsPrefix-le d.place v.seen s.published may.place knows.seen) in
     let next : rounds a (take d.place s.published) ≡ round = subst (λ t. rounds a t ≡ round) same may.next in
@@ -44,7 +45,7 @@ IsProposed-MayPropose b words s v a round d r sound knows may =
     record {
       law = record {
         range = may.range;
-        room = may.room;
+        room = here.1;
         slot_in = (sound.requests a d.slot d.number announced.0).slot_in;
         place = place;
         next = next;

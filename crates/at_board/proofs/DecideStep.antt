@@ -12,7 +12,8 @@ use Rattle.at_base.specs.declared.decision.Decision.{Decision}
 use Rattle.at_ledger.specs.Book.{BookTerms, IsBegun}
 use Rattle.at_board.proofs.FormLaws.{same_decision}
 use Rattle.at_board.proofs.PlaceLaws.{place_at-injective}
-use Rattle.at_board.proofs.RoundSteps.{Decides-Ruled, IsPlace-MayPropose}
+use Rattle.at_board.proofs.RoomLaws.{IsPlace-MayPropose}
+use Rattle.at_board.proofs.RoundSteps.{Decides-Ruled}
 use Rattle.at_board.proofs.SeatCountLaws.{HasCounts-with_part}
 use Rattle.at_board.proofs.StepLaws.{IsSeatOf}
 use Rattle.at_board.specs.declared.request.Request.{Request}
@@ -39,12 +40,13 @@ MayPropose-same b c v u a round d r book view may =
 
 module _ {S : Type 0} where
   decides : (b : BookTerms) (slots id : ℕ) (me : Me S View) (a round : ℕ) (d : Decision) (r : Request) → IsBegun b → IsSeatOf b me.0 → me.1 ≡ []
-      → MayPropose b me.0 a round d r
+      → IsHistory me.0.book me.0.seen → SeesInRange me.0 → MayPropose b me.0 a round d r
       → let i = place_at b (cell_of a round) in let w = word_of d in
       Allows (λ s. Ruled b s.words s.views) slots id me i (λ n. either (n == 0) w n) (decided_round (step slots i 0 w none) me)
-  decides b slots id me a round d r begun seat empty may s holds homes found fits =
+  decides b slots id me a round d r begun seat empty history sees may s holds homes found fits =
       let v : View = me.0 in
-      let done = Decides-Ruled b s.words s.views id v a round d r holds begun found (omega (arith, seat.one_part)) may in
+      let here = IsPlace-MayPropose b v a round d r seat.book history sees may in
+      let done = Decides-Ruled b s.words s.views id v a round d r holds begun found (omega (arith, seat.one_part)) here may in
       let n = get_or s.words (place_at b (cell_of a round)) 0 in (
         done.view,
         keeps,
@@ -55,7 +57,7 @@ module _ {S : Type 0} where
           λ k l e q other at word.
               let other_here : MayPropose b v k l e q = MayPropose-same v.book b v v k l e q seat.book refl other in
               let there : place_at b (cell_of a round) ≡ place_at b (cell_of k l) = subst (λ (t : BookTerms). place_at b (cell_of a round) ≡ place_at t (cell_of k l)) seat.book at in
-              let same = place_at-injective b (cell_of a round) (cell_of k l) (IsPlace-MayPropose b v a round d r may) (IsPlace-MayPropose b v k l e q other_here) there in
+              let same = place_at-injective b (cell_of a round) (cell_of k l) here (IsPlace-MayPropose b v k l e q seat.book history sees other_here) there in
               let account : a ≡ k = cc same in
               let number : round ≡ l = cc same in
               let decision : d ≡ e = same_decision d e may.range other_here.range word in
@@ -68,13 +70,14 @@ module _ {S : Type 0} where
 
   -- the same at a key, an index and a word that are these
   pub decides_at : (key b : BookTerms) (slots id : ℕ) (me : Me S View) (u : View) (a round : ℕ) (d : Decision) (r : Request) (i w : ℕ) → key ≡ b
-      → me.0 ≡ u → i ≡ place_at b (cell_of a round) → w ≡ word_of d → IsBegun b → IsSeatOf b me.0 → me.1 ≡ [] → MayPropose b u a round d r
+      → me.0 ≡ u → i ≡ place_at b (cell_of a round) → w ≡ word_of d → IsBegun b → IsSeatOf b me.0 → me.1 ≡ []
+      → IsHistory me.0.book me.0.seen → SeesInRange me.0 → MayPropose b u a round d r
       → Allows (λ s. Ruled key s.words s.views) slots id me i (λ n. either (n == 0) w n) (decided_round (step slots i 0 w none) me)
-  decides_at key b slots id me u a round d r i w is mine at word begun seat empty may =
+  decides_at key b slots id me u a round d r i w is mine at word begun seat empty history sees may =
       subst (λ (k : BookTerms). Allows (λ s. Ruled k s.words s.views) slots id me i (λ n. either (n == 0) w n) (decided_round (step slots i 0 w none) me)) (sym is)
       (subst (λ (j : ℕ). Allows (λ s. Ruled b s.words s.views) slots id me j (λ n. either (n == 0) w n) (decided_round (step slots j 0 w none) me)) (sym at)
       (subst (λ (k : ℕ). Allows (λ s. Ruled b s.words s.views) slots id me (place_at b (cell_of a round)) (λ n. either (n == 0) k n) (decided_round (step slots (place_at b (cell_of a round)) 0 k none) me)) (sym word)
-      (decides b slots id me a round d r begun seat empty (MayPropose-same b b u me.0 a round d r refl (sym mine) may))))
+      (decides b slots id me a round d r begun seat empty history sees (MayPropose-same b b u me.0 a round d r refl (sym mine) may))))
 
   -- what the step has told
   pub Decides-played : (b : BookTerms) (slots : ℕ) (me after : Me S View) (u : View) (a round : ℕ) (d : Decision) (r : Request) (i w n : ℕ) → me.0.book ≡ b

@@ -31,6 +31,7 @@ pub mod MoreLaws
 pub mod LearnLaws
 pub mod DecisionLaws
 pub mod SeenLaws
+pub mod RoomLaws
 pub mod RecordStep
 pub mod CellLaws
 pub mod DecideLaws

@@ -40,11 +40,6 @@ pub record Decided (b : BookTerms) (words : List ℕ) (views : List View) (id : 
   pub ruled : Ruled b (exchanged_words b words a round (word_of d)) (set views id view)
   pub told : Decides b v view a round d (word_after (word_at b words (cell_of a round)) (word_of d))
 
--- the cell of a round for which the seat may propose
-pub IsPlace-MayPropose : (b : BookTerms) (v : View) (a round : ℕ) (d : Decision) (r : Request) → MayPropose b v a round d r
-    → IsPlace b (cell_of a round)
-IsPlace-MayPropose b v a round d r may = (may.owner.1.account_in, may.room)
-
 -- what the seat has seen of the round is what the board has decided
 seen-decision : (s : BoardState) (v : View) (b : BookTerms) (words : List ℕ) (a round : ℕ) (e : Decision) → Knows b words s v
     → SeesDecision v a round e → (round < length (s.cells a)) × (decision_at (s.cells a) round ≡ e)
@@ -53,9 +48,9 @@ seen-decision s v b words a round e knows sees =
 
 -- the round is decided: the exchange finds it
 Decides-found : (b : BookTerms) (words : List ℕ) (views : List View) (id : ℕ) (v : View) (a round : ℕ) (d : Decision) (r : Request)
-    → (ruled : Ruled b words views) → IsBegun b → get_elem? views id ≡ some v → 0 < length v.parts → MayPropose b v a round d r
-    → round < length (ruled.state.cells a) → Decided b words views id v a round d
-Decides-found b words views id v a round d r ruled begun found part may within =
+    → (ruled : Ruled b words views) → IsBegun b → get_elem? views id ≡ some v → 0 < length v.parts → IsPlace b (cell_of a round)
+    → MayPropose b v a round d r → round < length (ruled.state.cells a) → Decided b words views id v a round d
+Decides-found b words views id v a round d r ruled begun found part here may within =
     let s : BoardState = ruled.state in
     let e : Decision = decision_at (s.cells a) round in
     let knows = ruled.knows id v found in
@@ -63,7 +58,7 @@ Decides-found b words views id v a round d r ruled begun found part may within =
     let own : HasPart b words s v v.first (own_part v) = subst (λ t. HasPart b words s v t (own_part v)) first (knows.parts 0 part) in
     let law : IsSoundDecision b s a round e = ruled.sound.decisions a round within in
     let n = word_at b words (cell_of a round) in
-    let is : n ≡ word_of e = ruled.shown.cells a round (IsPlace-MayPropose b v a round d r may) ∙ cell_word-within (s.cells a) round within in
+    let is : n ≡ word_of e = ruled.shown.cells a round here ∙ cell_word-within (s.cells a) round within in
     let apart : n ≢ 0 = λ z. omega (arith, is, z) in
     let same_words : exchanged_words b words a round (word_of d) ≡ words =
     ap (λ (t : Bool). set words (place_at b (cell_of a round)) (either t (word_of d) n)) (ne_eqb n 0 apart) ∙ set-get_or words (place_at b (cell_of a round)) 0 in
@@ -100,15 +95,14 @@ Decides-found b words views id v a round d r ruled begun found part may within =
 
 -- the round is undecided: the exchange decides the proposal
 Decides-proposed : (b : BookTerms) (words : List ℕ) (views : List View) (id : ℕ) (v : View) (a round : ℕ) (d : Decision) (r : Request)
-    → (ruled : Ruled b words views) → IsBegun b → get_elem? views id ≡ some v → 0 < length v.parts → MayPropose b v a round d r
-    → length (ruled.state.cells a) ≤ round → Decided b words views id v a round d
-Decides-proposed b words views id v a round d r ruled begun found part may past =
+    → (ruled : Ruled b words views) → IsBegun b → get_elem? views id ≡ some v → 0 < length v.parts → IsPlace b (cell_of a round)
+    → MayPropose b v a round d r → length (ruled.state.cells a) ≤ round → Decided b words views id v a round d
+Decides-proposed b words views id v a round d r ruled begun found part here may past =
     let s : BoardState = ruled.state in
     let knows = ruled.knows id v found in
     let first : v.first + 0 ≡ v.first = omega arith in
     let own : HasPart b words s v v.first (own_part v) = subst (λ t. HasPart b words s v t (own_part v)) first (knows.parts 0 part) in
-    let here = IsPlace-MayPropose b v a round d r may in
-    let proposed = IsProposed-MayPropose b words s v a round d r ruled.sound knows may in
+    let proposed = IsProposed-MayPropose b words s v a round d r ruled.sound knows here may in
     let full : length (s.cells a) ≡ round = omega (arith, past, proposed.within) in
     let n = word_at b words (cell_of a round) in
     let is : n ≡ 0 = ruled.shown.cells a round here ∙ cell_word-past (s.cells a) round past in
@@ -155,10 +149,10 @@ Decides-proposed b words views id v a round d r ruled begun found part may past 
     }
 
 pub Decides-Ruled : (b : BookTerms) (words : List ℕ) (views : List View) (id : ℕ) (v : View) (a round : ℕ) (d : Decision) (r : Request)
-    → Ruled b words views → IsBegun b → get_elem? views id ≡ some v → 0 < length v.parts → MayPropose b v a round d r
-    → Decided b words views id v a round d
-Decides-Ruled b words views id v a round d r ruled begun found part may =
+    → Ruled b words views → IsBegun b → get_elem? views id ≡ some v → 0 < length v.parts → IsPlace b (cell_of a round)
+    → MayPropose b v a round d r → Decided b words views id v a round d
+Decides-Ruled b words views id v a round d r ruled begun found part here may =
     elim (cases_lt round (length (ruled.state.cells a))) as (λ _. Decided b words views id v a round d) [
-      | inl within ↦ Decides-found b words views id v a round d r ruled begun found part may within
-      | inr past ↦ Decides-proposed b words views id v a round d r ruled begun found part may past
+      | inl within ↦ Decides-found b words views id v a round d r ruled begun found part here may within
+      | inr past ↦ Decides-proposed b words views id v a round d r ruled begun found part here may past
     ]

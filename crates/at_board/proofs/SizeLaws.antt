@@ -18,7 +18,7 @@ use Rattle.at_board.specs.Publications.{ArePublishedBy, count_of, counts}
 use Rattle.at_board.specs.Places.{place_at, record_width, record_word, slots_of, word_count}
 use Rattle.at_board.proofs.PlaceLaws.{place_at-record_word-le, place_at-record_word_next, rounds_room-slots_of}
 
-sum_by-add : {X : Type 0} (f g : X → ℕ) (xs : List X) → sum_by (λ x. f x + g x) xs ≡ sum_by f xs + sum_by g xs
+pub sum_by-add : {X : Type 0} (f g : X → ℕ) (xs : List X) → sum_by (λ x. f x + g x) xs ≡ sum_by f xs + sum_by g xs
 sum_by-add f g [] = refl
 sum_by-add f g (x ∷ xs) =
     omega (arith, sum_by-cons (λ y. f y + g y) x xs, sum_by-cons f x xs, sum_by-cons g x xs, sum_by-add f g xs)

@@ -19,23 +19,31 @@ use Rattle.at_board.specs.Entries.{is_round_on, names}
 use Rattle.at_board.specs.Fronts.{prefix_of, place}
 use Rattle.at_board.specs.Publications.{ArePublishedBy, no_publication}
 use Rattle.at_board.specs.Rounds.{firsts, named, repeats, rounds}
-use Rattle.at_board.specs.Sound.{IsDecidedSo, IsSoundEntry}
+use Rattle.at_board.specs.Sound.{HasView, IsDecidedSo, IsSoundEntry}
 
 -- each publication is of a process of the book
+ArePublishedBy-HasView : (b : BookTerms) (xs : List Publication) → ((i : ℕ) → i < length xs → HasView b (take i xs) (publication_at xs i))
+    → ArePublishedBy b.processes xs
+ArePublishedBy-HasView b xs views =
+    All-from_get_or (λ x. x.process < b.processes) xs no_publication (λ i within. (views i within).process)
+
 pub ArePublishedBy-HasRuns : (b : BookTerms) (s : BoardState) → HasRuns b s → ArePublishedBy b.processes s.published
-ArePublishedBy-HasRuns b s sound =
-    All-from_get_or (λ x. x.process < b.processes) s.published no_publication (λ i within. (sound.views i within).process)
+ArePublishedBy-HasRuns b s sound = ArePublishedBy-HasView b s.published sound.views
 
 -- a view is of publications before it
-pub place-view-le : (b : BookTerms) (s : BoardState) (m : ℕ) → HasRuns b s → m < length s.published
-    → place (publication_at s.published m).view ≤ m
-place-view-le b s m sound within =
-    let known = ArePublishedBy-take b.processes m s.published (ArePublishedBy-HasRuns b s sound) in
+pub place-HasView-le : (b : BookTerms) (xs : List Publication) (m : ℕ) → ((i : ℕ) → i < length xs → HasView b (take i xs) (publication_at xs i))
+    → m < length xs → place (publication_at xs m).view ≤ m
+place-HasView-le b xs m views within =
+    let known = ArePublishedBy-take b.processes m xs (ArePublishedBy-HasView b xs views) in
     omega (
       arith,
-      place-IsFront-le b.processes (publication_at s.published m).view (take m s.published) (sound.views m within).front known,
-      length-take m s.published,
+      place-IsFront-le b.processes (publication_at xs m).view (take m xs) (views m within).front known,
+      length-take m xs,
     )
+
+pub place-view-le : (b : BookTerms) (s : BoardState) (m : ℕ) → HasRuns b s → m < length s.published
+    → place (publication_at s.published m).view ≤ m
+place-view-le b s m sound within = place-HasView-le b s.published m sound.views within
 
 -- no more rounds stand in a shorter prefix
 pub rounds-take_mono : (a m k : ℕ) (xs : List Publication) → m ≤ k → rounds a (take m xs) ≤ rounds a (take k xs)
@@ -58,16 +66,21 @@ IsNextAtMost-HasRuns b s m sound within =
 pub take-publication_at : (xs : List Publication) (m : ℕ) → m < length xs → take (m + 1) xs ≡ take m xs ++ publication_at xs m ∷ []
 take-publication_at xs m within = take_more xs m no_publication within
 
--- the rounds of a prefix are all numbers below their count
+-- the rounds of a prefix are all numbers below their count, where each record's round is at most the next
+pub IsInitial-IsNextAtMost : (xs : List Publication) (m : ℕ)
+    → ((i : ℕ) → i < length xs → IsNextAtMost (take i xs) (publication_at xs i).entry) → m ≤ length xs
+    → (a : ℕ) → IsInitial a (take m xs)
+IsInitial-IsNextAtMost xs zero next within a = IsInitial-nil a
+IsInitial-IsNextAtMost xs (suc m) next within a =
+    let x : Publication = publication_at xs m in
+    let more = IsInitial-push a (take m xs) x.process x.view x.entry (IsInitial-IsNextAtMost xs m next (omega arith)) (next m (omega arith)) in
+    let e : m + 1 ≡ suc m = omega arith in
+    subst (IsInitial a) (sym (take-publication_at xs m (omega arith)) ∙ ap (λ k. take k xs) e) more
+
 pub IsInitial-take : (b : BookTerms) (s : BoardState) (m : ℕ) → HasRuns b s → m ≤ length s.published
     → (a : ℕ) → IsInitial a (take m s.published)
-IsInitial-take b s zero sound within a = IsInitial-nil a
-IsInitial-take b s (suc m) sound within a =
-    let x : Publication = publication_at s.published m in
-    let more = IsInitial-push a (take m s.published) x.process x.view x.entry (IsInitial-take b s m sound (omega arith))
-    (IsNextAtMost-HasRuns b s m sound (omega arith)) in
-    let e : m + 1 ≡ suc m = omega arith in
-    subst (IsInitial a) (sym (take-publication_at s.published m (omega arith)) ∙ ap (λ k. take k s.published) e) more
+IsInitial-take b s m sound within =
+    IsInitial-IsNextAtMost s.published m (λ i inside. IsNextAtMost-HasRuns b s i sound inside) within
 
 -- how many of the first decisions name a slot
 abbrev pub decided_for : ℕ → ℕ → List Decision → ℕ

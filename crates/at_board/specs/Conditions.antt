@@ -2,8 +2,7 @@
 use Rattle.std.specs.Prelude.{◌≡◌, ℕ, ◌+◌, ◌<◌, ◌≤◌, ◌↔◌, true, false, List, length, take, None}
 use Rattle.at_base.specs.Decision.{InRange}
 use Rattle.at_base.specs.declared.decision.Decision.{Decision}
-use Rattle.at_ledger.specs.Account.{rounds_room}
-use Rattle.at_ledger.specs.Book.{BookTerms, account_of, log_room_of}
+use Rattle.at_ledger.specs.Book.{BookTerms, log_room_of}
 use Rattle.at_ledger.specs.Call.{amount_of}
 use Rattle.at_board.specs.declared.publication.Entry.{Entry}
 use Rattle.at_board.specs.declared.publication.Entry.TheVariants.{Own, Round}
@@ -67,7 +66,6 @@ pub record MayPropose (b : BookTerms) (v : View) (a round : ℕ) (d : Decision) 
   pub range : InRange d
   pub place : d.place ≤ length v.seen
   pub next : rounds a (take d.place v.seen) ≡ round
-  pub room : round < rounds_room b.request_room (account_of b a)
   pub named : SeesRequest v a d.slot d.number r
   pub undecided : is_settled a d.slot d.number (take d.place v.seen) ≡ false
   pub since : r.since ≤ d.place

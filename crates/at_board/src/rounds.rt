@@ -36,6 +36,7 @@ impl Board {
     {
         steps.tick();
         exchanges.tick();
+        let _process = seat.process();
         let place = self.cell_place(account, round);
         let found = self
             .table

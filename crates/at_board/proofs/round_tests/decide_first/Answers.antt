@@ -1,14 +1,11 @@
 use Rattle.std.proofs.Common.{◌≡◌, ℕ, ◌<◌, ◌≤◌, [], refl, ap, subst, None, arith}
 use Rattle.std.specs.List.{count_by, sum_by}
 use Rattle.at_ledger.specs.Book.{BookTerms, IsBook, account_of}
-use Rattle.at_board.proofs.PlaceLaws.{rounds_room-slots_of}
 use Rattle.at_board.proofs.RoundLaws.{firsts-nil}
-use Rattle.at_board.proofs.SizeLaws.{mul-one-le}
 use Rattle.at_board.specs.declared.view.View.{View}
 use Rattle.at_board.specs.Balances.{IsCovered, credit_of, debit_of}
 use Rattle.at_board.specs.Conditions.{MayPropose}
 use Rattle.at_board.specs.Entries.{is_round_on}
-use Rattle.at_board.specs.Places.{slots_of}
 use Rattle.at_board.specs.SmallBoard.{first_decision, payment}
 use Rattle.at_board.specs.Views.{HasSlot, SeesRequest, own_part}
 use Rattle.at_board.proofs.round_tests.decide_first.Goals as goal
@@ -24,12 +21,6 @@ may_propose b v own slot book has small sees covered free =
       range = record { slot = small; number = omega arith; place = omega arith };
       place = omega arith;
       next = ap (count_by (λ x. is_round_on 0 x.entry)) firsts-nil;
-      room = omega (
-        arith,
-        rounds_room-slots_of b.request_room (account_of b 0),
-        mul-one-le (slots_of (account_of b 0)) b.request_room book.begun.some_request_room,
-        has.within,
-      );
       named = sees;
       undecided = refl;
       since = omega arith;

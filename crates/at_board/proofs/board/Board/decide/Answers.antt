@@ -3,7 +3,7 @@ use Rattle.at_base.specs.declared.decision.Decision.{Decision}
 use Rattle.at_ledger.specs.Book.{BookTerms, IsBegun}
 use Rattle.at_board.proofs.DecideStep.{Decides-played, HasCounts-decided, IsSeat-decided, SeesInRange-decided, decides_at}
 use Rattle.at_board.proofs.PlaceLaws.{place_at-below}
-use Rattle.at_board.proofs.RoundSteps.{IsPlace-MayPropose}
+use Rattle.at_board.proofs.RoomLaws.{IsPlace-MayPropose}
 use Rattle.at_board.proofs.StepLaws.{IsSeatOf-IsSeat}
 use Rattle.at_board.specs.declared.request.Request.{Request}
 use Rattle.at_board.specs.declared.view.View.{View}
@@ -14,7 +14,8 @@ use Rattle.at_board.proofs.board.Board.decide.Goals as goal
 
 pub cell_place-place-requires : goal.cell_place-place-requires
 cell_place-place-requires g c =
-    IsPlace-MayPropose c.args.self.now.book c.args.seat.now.view c.args.account c.args.round c.requires.proposal.0 c.requires.proposal.1 c.requires.proposal.2
+    IsPlace-MayPropose c.args.self.now.book c.args.seat.now.view c.args.account c.args.round c.requires.proposal.0 c.requires.proposal.1
+    c.requires.board.book c.process-process.ensures.seat.history c.process-process.ensures.in_range c.requires.proposal.2
 
 pub compare_exchange-found-requires : goal.compare_exchange-found-requires
 compare_exchange-found-requires g c =
@@ -26,6 +27,8 @@ compare_exchange-found-requires g c =
     let d : Decision = c.requires.proposal.0 in
     let r : Request = c.requires.proposal.1 in
     let may : MayPropose b c.args.seat.now.view c.args.account c.args.round d r = c.requires.proposal.2 in
+    let here = IsPlace-MayPropose b c.args.seat.now.view c.args.account c.args.round d r c.requires.board.book
+    c.process-process.ensures.seat.history c.process-process.ensures.in_range may in
     let kept = c.seat.invariant.1 in
     let seat = IsSeatOf-IsSeat b v c.seat.inside.process c.seat.inside.published book kept in (
       ap (λ s. s.board) c.seat.view_is ∙ (c.requires.board.id ∙ sym (ap (λ t. t.id) c.self.view_is)),
@@ -34,11 +37,12 @@ compare_exchange-found-requires g c =
         c.self.invariant.1,
         ap word_count ours,
         c.cell_place-place.ensures.place,
-        place_at-below b (cell_of c.args.account c.args.round) (IsPlace-MayPropose b c.args.seat.now.view c.args.account c.args.round d r may),
+        place_at-below b (cell_of c.args.account c.args.round) here,
       ),
       decides_at c.self.inside.table.shared.key.value b c.self.inside.table.shared.table_id.slots c.seat.inside.seat.id c.seat.inside.seat.me c.args.seat.now.view
           c.args.account c.args.round d r c.cell_place-place.result c.args.proposal (c.self.invariant.0 ∙ ours) mine c.cell_place-place.ensures.place
-          c.requires.proposal.3 (subst IsBegun ours c.self.invariant.2.begun) seat c.seat.invariant.0 may,
+          c.requires.proposal.3 (subst IsBegun ours c.self.invariant.2.begun) seat c.seat.invariant.0 kept.history
+          c.seat.invariant.3 may,
     )
 
 pub invariant_of-seat : goal.invariant_of-seat
