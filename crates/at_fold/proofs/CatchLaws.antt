@@ -1,24 +1,16 @@
 -- Counting loaded records.
-use Rattle.std.proofs.Common.{◌≡◌, ℕ, ◌+◌, ◌<◌, ◌≤◌, List, length, get_or, set, refl, sym, ap, ◌∙◌, arith}
-use Rattle.std.specs.List.{Contains, sum}
+use Rattle.std.proofs.Common.{◌≡◌, ℕ, ◌+◌, ◌<◌, ◌≤◌, List, length, get_or, set, sym, ap, ◌∙◌, arith}
+use Rattle.std.specs.List.{sum}
 use Rattle.std.proofs.lemmas.List.Sums.{sum_by-set}
 use Rattle.at_board.specs.declared.publication.Entry.{Entry}
 use Rattle.at_board.specs.declared.view.View.{View}
 use Rattle.at_board.specs.BoardState.{publication_at}
 use Rattle.at_board.specs.Publications.{count_of, publications_of}
-use Rattle.at_board.specs.RecordWords.{SeesRecord, lists_of}
 use Rattle.at_board.specs.Steps.{IsHistory}
 use Rattle.at_ledger.specs.Book.{BookTerms}
 use Rattle.at_log.specs.Loading.{IsEntryOf}
 use Rattle.at_fold.specs.HasCounted.{HasCounted, MayCount}
 use Rattle.at_fold.specs.Sums.{TotalSums}
-
--- what a seat has seen is the first of its lists
-Contains-seen : (v : View) → Contains (lists_of v) v.seen
-Contains-seen v = (0, omega arith, refl)
-
-pub SeesRecord-seen : (v : View) (p i : ℕ) → i < count_of p v.seen → SeesRecord v p i
-SeesRecord-seen v p i within = record { list = v.seen; seen = Contains-seen v; within = within }
 
 -- a loaded record may be counted
 pub MayCount-loaded : (t : TotalSums) (b : BookTerms) (v : View) (p i : ℕ) (e : Entry) → HasCounted t b v.seen → IsHistory b v.seen
@@ -29,7 +21,7 @@ MayCount-loaded t b v p i e counts history process within next entry = record {
   next = record {
     process = process;
     within = omega (arith, next, within);
-    entry = entry v.seen (Contains-seen v) within ∙ ap (λ k. (publication_at (publications_of p v.seen) k).entry) (sym next);
+    entry = entry ∙ ap (λ k. (publication_at (publications_of p v.seen) k).entry) (sym next);
   };
 }
 

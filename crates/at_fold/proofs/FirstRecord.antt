@@ -1,8 +1,8 @@
 -- The first record of a process on a new board, and what totals count where it is the only one.
-use Rattle.std.proofs.Common.{◌≡◌, ℕ, ◌+◌, ◌<◌, ◌==◌, ◌&&◌, zero, Bool, cond, true, List, [], ◌∷◌, ◌++◌, length, get_or, replicate, set, refl, sym, ap, subst, ◌∙◌, arith, inl, inr, get_or-set_other, get_or-set_same, length-append, length-set}
+use Rattle.std.proofs.Common.{◌≡◌, ℕ, ◌+◌, ◌<◌, zero, Bool, cond, List, [], ◌∷◌, ◌++◌, length, get_or, replicate, set, refl, sym, ap, subst, ◌∙◌, arith, inl, inr, get_or-set_other, get_or-set_same, length-append, length-set}
 use Rattle.std.specs.List.{sum}
 use Rattle.std.proofs.Math.Seq.{take-nil}
-use Rattle.std.proofs.lemmas.Bool.{cases_eq, eq-eqb}
+use Rattle.std.proofs.lemmas.Bool.{cases_eq, lt-ltb}
 use Rattle.std.proofs.lemmas.Grind.{same_number_lists}
 use Rattle.std.proofs.lemmas.List.{length-replicate, nil_from_length}
 use Rattle.at_base.specs.Counts.{Covers}
@@ -11,7 +11,6 @@ use Rattle.at_ledger.specs.Call.{TargetPair}
 use Rattle.at_board.proofs.CountLaws.{get_or-counts, length-counts, publications_of-append, publications_of-nil, publications_of-own}
 use Rattle.at_board.proofs.FrontLaws.{IsFront-counts}
 use Rattle.at_board.proofs.OpeningLaws.{get_or-zeros}
-use Rattle.at_board.proofs.SameLaws.{begins_with-IsPrefix}
 use Rattle.at_board.proofs.OwnRequestLaws.{own_part-with_part}
 use Rattle.at_board.specs.declared.publication.Entry.{Entry}
 use Rattle.at_board.specs.declared.publication.Entry.TheVariants.{Own}
@@ -20,9 +19,7 @@ use Rattle.at_board.specs.declared.view.Part.{Part}
 use Rattle.at_board.specs.declared.view.View.{View}
 use Rattle.at_board.specs.Cuts.{starting_seat}
 use Rattle.at_board.specs.Fronts.{IsFront, place, prefix_of}
-use Rattle.at_board.specs.LearnSteps.{longer}
-use Rattle.at_board.specs.Publications.{count_of, counts, publications_of}
-use Rattle.at_board.specs.Same.{begins_with}
+use Rattle.at_board.specs.Publications.{count_of, counts, longer, publications_of}
 use Rattle.at_board.specs.Sound.{IsSoundOwn}
 use Rattle.at_board.specs.Steps.{IsHistory, Publishes, with_record}
 use Rattle.at_board.specs.Views.{own_part}
@@ -100,12 +97,10 @@ HasOnlyFirst-both b seen two first second = record {
       ap (λ k. count_of k seen) here ∙ second;
 }
 
--- a seat that has seen nothing takes over a note with nothing of its process
-pub longer-nil : (p : ℕ) (list : List Publication) → count_of p list ≡ 0 → longer p [] list ≡ list
-longer-nil p list none =
-    let begins : begins_with list [] ≡ true = begins_with-IsPrefix list [] (list, refl) in
-    let as_many : (count_of p list == count_of p []) ≡ true = eq-eqb (count_of p list) (count_of p []) (none ∙ sym (ap length (publications_of-nil p))) in
-    ap (λ (t : Bool). cond (t && (count_of p list == count_of p [])) list []) begins ∙ ap (λ (t : Bool). cond t list []) as_many
+-- every list is the longer beside none
+pub longer-nil : (list : List Publication) → longer [] list ≡ list
+longer-nil [] = refl
+longer-nil (x ∷ list) = ap (λ (t : Bool). cond t (x ∷ list) []) (lt-ltb 0 (length (x ∷ list)) (omega arith))
 
 -- the counts of a list with that record alone
 pub counts-HasOnlyFirst : (b : BookTerms) (seen : List Publication) → 0 < b.processes → HasOnlyFirst b seen

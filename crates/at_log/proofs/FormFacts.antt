@@ -1,9 +1,8 @@
 -- The numbers of entries that a seat may append, or has seen, fit their words.
 use Rattle.std.proofs.Common.{◌≡◌, ℕ, ◌+◌, ◌<◌, ◌≤◌, List, [], ◌∷◌, ◌++◌, length, fold, cond, sym, subst, arith, inl, inr}
-use Rattle.std.specs.List.{Contains}
 use Rattle.std.proofs.lemmas.Bool.{cases_Bool}
 use Rattle.std.proofs.lemmas.List.{get_or-map, length-map, length_push, length-take}
-use Rattle.std.proofs.lemmas.List.Elements.{All-cons, All-from_get_or, All-get_or}
+use Rattle.std.proofs.lemmas.List.Elements.{All-from_get_or, All-get_or}
 use Rattle.std.proofs.lemmas.List.Sums.{count_by-le-length, get_or-le-sum_by}
 use Rattle.at_ledger.specs.Account.{no_account, rounds_room}
 use Rattle.at_ledger.specs.Book.{BookTerms, IsBegun}
@@ -22,7 +21,6 @@ use Rattle.at_board.specs.Entries.{is_round_on, targets_of}
 use Rattle.at_board.specs.Forms.{IsForm}
 use Rattle.at_board.specs.Fronts.{place, places_max, prefix_of}
 use Rattle.at_board.specs.Rounds.{firsts, repeats, rounds, with_first}
-use Rattle.at_board.specs.SeatView.{IsSeat}
 use Rattle.at_board.specs.Seen.{DecisionInRange, RequestInRange, SeesInRange}
 use Rattle.at_board.specs.ShownRounds.{IsShownDecision}
 use Rattle.at_board.specs.Sound.{AreTargets}

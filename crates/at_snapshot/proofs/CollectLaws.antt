@@ -1,18 +1,15 @@
 -- Collects: one load after another.
 use Rattle.std.proofs.Common.{◌≡◌, ◌≢◌, ℕ, ◌+◌, ◌<◌, ◌≤◌, List, length, get_or, set, refl, sym, ap, subst, ◌∙◌, arith, inl, inr}
-use Rattle.std.specs.List.{Contains}
 use Rattle.std.proofs.lemmas.Bool.{cases_eq, cases_lt}
 use Rattle.std.proofs.lemmas.List.{ext_get_or, get_or-set_other, get_or-set_same, length-set, length-map, get_or-map}
 use Rattle.at_ledger.specs.Book.{BookTerms}
 use Rattle.at_board.proofs.FrontLaws.{IsPrefix-count_of}
-use Rattle.at_board.specs.declared.publication.Publication.{Publication}
 use Rattle.at_board.specs.declared.view.Loads.{Loads}
 use Rattle.at_board.specs.declared.view.View.{View}
 use Rattle.at_board.specs.Publications.{count_of}
-use Rattle.at_board.specs.RecordWords.{lists_of}
 use Rattle.at_board.specs.Steps.{LoadsLength}
 use Rattle.at_board.specs.Views.{loads_of, own_part}
-use Rattle.at_snapshot.proofs.LoadedLaws.{HasLoaded-LoadsLength, HasLoaded-trans, first-HasLoaded, lists-HasLoaded, loads_of-other, loads_of-same, parts-HasLoaded, published-HasLoaded}
+use Rattle.at_snapshot.proofs.LoadedLaws.{HasLoaded-LoadsLength, HasLoaded-trans, first-HasLoaded, loads_of-other, loads_of-same, parts-HasLoaded, published-HasLoaded}
 use Rattle.at_snapshot.specs.Collected.{HasLoaded, IsCollect, collect_of}
 
 -- a collect as far as the process
@@ -23,7 +20,7 @@ pub record IsCollecting (b : BookTerms) (v w : View) (counts : List ℕ) (p : �
   pub done : (q : ℕ) → q < p → (loads_of (own_part w) q).times ≡ (loads_of (own_part v) q).times + 1
   pub left : (q : ℕ) → p ≤ q → (loads_of (own_part w) q).times ≡ (loads_of (own_part v) q).times
   pub last : (q : ℕ) → q < p → (loads_of (own_part w) q).last ≡ get_or counts q 0
-  pub least : (list : List Publication) (q : ℕ) → Contains (lists_of v) list → q < p → count_of q list ≤ get_or counts q 0
+  pub least : (q : ℕ) → q < p → count_of q v.seen ≤ get_or counts q 0
   pub most : (q : ℕ) → q < p → get_or counts q 0 ≤ count_of q w.seen
   pub own : v.first < p → get_or counts v.first 0 ≡ (own_part v).published
 
@@ -35,7 +32,7 @@ IsCollecting-start b v counts sized = record {
   done = λ q below. absurd (omega arith);
   left = λ q above. refl;
   last = λ q below. absurd (omega arith);
-  least = λ list q seen below. absurd (omega arith);
+  least = λ q below. absurd (omega arith);
   most = λ q below. absurd (omega arith);
   own = λ below. absurd (omega arith);
 }
@@ -97,11 +94,11 @@ IsCollecting-load b v u w counts p n part within so_far told =
                 (ap (λ (l : Loads). l.last) now ∙ sym here)
             | inr apart ↦ ap (λ (l : Loads). l.last) (others q apart) ∙ (so_far.last q (omega arith) ∙ sym (there q apart))
           ];
-      least = λ list q seen below.
-          elim (cases_eq q p) as (λ _. count_of q list ≤ get_or (set counts p n) q 0) [
-            | inl same ↦ subst (λ k. count_of k list ≤ get_or (set counts p n) k 0) (sym same)
-                (omega (arith, here, told.counted, IsPrefix-count_of p list w.seen (lists-HasLoaded b v w list loaded seen)))
-            | inr apart ↦ omega (arith, there q apart, so_far.least list q seen (omega arith))
+      least = λ q below.
+          elim (cases_eq q p) as (λ _. count_of q v.seen ≤ get_or (set counts p n) q 0) [
+            | inl same ↦ subst (λ k. count_of k v.seen ≤ get_or (set counts p n) k 0) (sym same)
+                (omega (arith, here, told.counted, IsPrefix-count_of p v.seen w.seen loaded.more))
+            | inr apart ↦ omega (arith, there q apart, so_far.least q (omega arith))
           ];
       most = λ q below.
           elim (cases_eq q p) as (λ _. get_or (set counts p n) q 0 ≤ count_of q w.seen) [
@@ -135,7 +132,7 @@ IsCollect-IsCollecting b v w counts some known whole =
     record {
       loaded = whole.loaded some;
       times = λ p within. whole.done p within;
-      least = λ list p seen within. omega (arith, at p, whole.least list p seen within);
+      least = λ p within. omega (arith, at p, whole.least p within);
       most = λ p within. omega (arith, at p, whole.most p within);
       own = sym (at v.first) ∙ whole.own known;
     }

@@ -1,16 +1,13 @@
 -- Loads of lengths: what they leave of a view, and one after another.
-use Rattle.std.proofs.Common.{◌≡◌, ◌≢◌, ℕ, ◌+◌, ◌<◌, zero, suc, List, length, sym, ap, subst, ◌∙◌, arith}
-use Rattle.std.specs.List.{All, Contains}
+use Rattle.std.proofs.Common.{◌≡◌, ◌≢◌, ℕ, ◌+◌, ◌<◌, List, length, sym, ap, ◌∙◌, arith}
 use Rattle.std.proofs.lemmas.List.{get_or-set_other, get_or-set_same, length-set, set-set}
 use Rattle.at_ledger.specs.Book.{BookTerms}
 use Rattle.at_board.proofs.FrontLaws.{IsPrefix-trans}
 use Rattle.at_board.proofs.OwnRequestLaws.{own_part-with_part}
-use Rattle.at_board.specs.declared.publication.Publication.{Publication}
 use Rattle.at_board.specs.declared.view.Loads.{Loads}
 use Rattle.at_board.specs.declared.view.Part.{Part}
 use Rattle.at_board.specs.declared.view.View.{View}
-use Rattle.at_board.specs.Publications.{IsPrefix, count_of}
-use Rattle.at_board.specs.RecordWords.{lists_of}
+use Rattle.at_board.specs.Publications.{count_of}
 use Rattle.at_board.specs.Steps.{LoadsLength, with_load, with_part}
 use Rattle.at_board.specs.Views.{loads_of, own_part}
 use Rattle.at_snapshot.specs.Collected.{HasLoaded}
@@ -35,14 +32,6 @@ first-HasLoaded b v w told = ap (λ (t : View). t.first) told.same
 pub book-HasLoaded : (b : BookTerms) (v w : View) → HasLoaded b v w → w.book ≡ v.book
 book-HasLoaded b v w told = ap (λ (t : View). t.book) told.same
 
-pub joined-HasLoaded : (b : BookTerms) (v w : View) → HasLoaded b v w → w.joined ≡ v.joined
-joined-HasLoaded b v w told = ap (λ (t : View). t.joined) told.same
-
--- all lists that were seen before are prefixes of what is seen now
-pub lists-HasLoaded : (b : BookTerms) (v w : View) (list : List Publication) → HasLoaded b v w → Contains (lists_of v) list → IsPrefix list w.seen
-lists-HasLoaded b v w list told (zero, within, same) = subst (λ t. IsPrefix t w.seen) same told.more
-lists-HasLoaded b v w list told (suc k, within, same) = subst (λ t. IsPrefix t w.seen) same (told.joined k list (omega arith))
-
 -- the own part after a load of a length
 pub own_part-LoadsLength : (b : BookTerms) (v w : View) (p n : ℕ) → 0 < length v.parts → LoadsLength b v w p n → own_part w ≡ with_load (own_part v) p n
 own_part-LoadsLength b v w p n part told = ap own_part told.same ∙ own_part-with_part (record v { seen = w.seen }) (with_load (own_part v) p n) part
@@ -53,7 +42,6 @@ HasLoaded-LoadsLength b v w p n part told =
     let loads = ap (λ (q : Part). q.loads) own in
     record {
       more = told.more;
-      joined = told.joined;
       own = told.own;
       history = told.history;
       lengths = ap (λ (xs : List Loads). length xs) loads ∙ (length-set (own_part v).loads p _ ∙ told.lengths);
@@ -67,7 +55,6 @@ HasLoaded-trans b v u w part first second =
     let last : Part = with_loads (own_part v) (own_part w).loads in
     record {
       more = IsPrefix-trans v.seen u.seen w.seen first.more second.more;
-      joined = subst (All (λ list. IsPrefix list w.seen)) (joined-HasLoaded b v u first) second.joined;
       own = ap (λ k. count_of k w.seen) (sym (first-HasLoaded b v u first)) ∙ (second.own ∙ published-HasLoaded b v u part first);
       history = second.history;
       lengths = second.lengths;

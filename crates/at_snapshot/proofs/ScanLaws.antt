@@ -1,51 +1,25 @@
 -- A scan after one more collect.
-use Rattle.std.proofs.Common.{◌≡◌, ℕ, ◌<◌, ◌≤◌, zero, suc, List, ◌∷◌, length, get_or, refl, sym, ap, subst, ◌∙◌, arith, Option, Some, None}
-use Rattle.std.specs.List.{Contains}
+use Rattle.std.proofs.Common.{◌≡◌, ℕ, ◌<◌, ◌≤◌, length, get_or, sym, ap, subst, ◌∙◌, arith, Option, Some, None}
 use Rattle.std.specs.Option.{IfSome}
 use Rattle.std.proofs.lemmas.List.{length-map}
 use Rattle.at_ledger.specs.Book.{BookTerms}
 use Rattle.at_board.proofs.FrontLaws.{IsPrefix-count_of, IsPrefix-refl, IsPrefix-trans}
-use Rattle.at_board.specs.declared.publication.Publication.{Publication}
 use Rattle.at_board.specs.declared.view.Loads.{Loads}
 use Rattle.at_board.specs.declared.view.View.{View}
-use Rattle.at_board.specs.Publications.{IsPrefix, count_of}
-use Rattle.at_board.specs.RecordWords.{lists_of}
+use Rattle.at_board.specs.Publications.{count_of}
 use Rattle.at_board.specs.Views.{own_part}
 use Rattle.at_snapshot.specs.declared.collects.Collects.{Collects}
-use Rattle.at_snapshot.proofs.LoadedLaws.{first-HasLoaded, joined-HasLoaded, lists-HasLoaded, published-HasLoaded}
+use Rattle.at_snapshot.proofs.LoadedLaws.{first-HasLoaded, published-HasLoaded}
 use Rattle.at_snapshot.specs.Collected.{HasLoaded, IsCollect, collect_of}
 use Rattle.at_snapshot.specs.Scans.{AreCollects, IsScanOf, ScanView, collects_after, scan_after}
 
 pub length-collect_of : (b : BookTerms) (v w : View) → HasLoaded b v w → length (collect_of w) ≡ b.processes
 length-collect_of b v w told = length-map (own_part w).loads (λ (l : Loads). l.last) ∙ told.lengths
 
-Contains-next : (x : List Publication) (xs : List (List Publication)) (y : List Publication) → Contains xs y → Contains (x ∷ xs) y
-Contains-next x xs y (k, within, same) = (suc k, omega arith, same)
-
--- what the seat had joined at the start is among what it has seen
-joined_seen : (b : BookTerms) (scan : ScanView) (v : View) (list : List Publication) → IsScanOf b scan v → Contains scan.start.joined list
-    → Contains (lists_of v) list
-joined_seen b scan v list so seen = Contains-next v.seen v.joined list (so.joined list seen)
-
--- all that the seat had seen at the start are prefixes of what it sees after a collect, which counts no less
-pub lists-IsScanOf : (b : BookTerms) (scan : ScanView) (v w : View) (list : List Publication) → IsScanOf b scan v → HasLoaded b v w
-    → Contains (lists_of scan.start) list → IsPrefix list w.seen
-lists-IsScanOf b scan v w list so told (zero, within, same) =
-    subst (λ t. IsPrefix t w.seen) same (IsPrefix-trans scan.start.seen v.seen w.seen so.started told.more)
-lists-IsScanOf b scan v w list so told (suc k, within, same) =
-    lists-HasLoaded b v w list told (joined_seen b scan v list so (k, omega arith, same))
-
-pub counts-IsScanOf : (b : BookTerms) (scan : ScanView) (v w : View) (list : List Publication) (p : ℕ) → IsScanOf b scan v → IsCollect b v w
-    → p < b.processes → Contains (lists_of scan.start) list → count_of p list ≤ get_or (collect_of w) p 0
-counts-IsScanOf b scan v w list p so told known (zero, within, same) =
-    omega (
-      arith,
-      ap (count_of p) same,
-      IsPrefix-count_of p scan.start.seen v.seen so.started,
-      told.least v.seen p (0, omega arith, refl) known,
-    )
-counts-IsScanOf b scan v w list p so told known (suc k, within, same) =
-    told.least list p (joined_seen b scan v list so (k, omega arith, same)) known
+-- a collect counts no less of a process than was seen at the start
+pub counts-IsScanOf : (b : BookTerms) (scan : ScanView) (v w : View) (p : ℕ) → IsScanOf b scan v → IsCollect b v w → p < b.processes
+    → count_of p scan.start.seen ≤ get_or (collect_of w) p 0
+counts-IsScanOf b scan v w p so told known = omega (arith, IsPrefix-count_of p scan.start.seen v.seen so.started, told.least p known)
 
 -- a scan that has collected
 pub AreCollects-IsScanOf : (b : BookTerms) (scan : ScanView) (c : Collects) (v : View) → IsScanOf b scan v → scan.collects ≡ Some c → AreCollects b scan c
@@ -64,7 +38,7 @@ last_le b scan c v w p so are told known =
       arith,
       are.last p known,
       IsPrefix-count_of p scan.mark.seen v.seen so.marked,
-      told.least v.seen p (0, omega arith, refl) known,
+      told.least p known,
     )
 
 AreCollects-after : (b : BookTerms) (start mark : View) (cs : Option Collects) (v w : View)
@@ -75,8 +49,8 @@ AreCollects-after b start mark None v w so told =
     record {
       first_length = length-collect_of b v w told.loaded;
       last_length = length-collect_of b v w told.loaded;
-      seen = λ list seen. lists-IsScanOf b scan v w list so told.loaded seen;
-      first = λ list p seen known. counts-IsScanOf b scan v w list p so told known seen;
+      seen = IsPrefix-trans start.seen v.seen w.seen so.started told.loaded.more;
+      first = λ p known. counts-IsScanOf b scan v w p so told known;
       last = told.most;
       rising = λ p within. omega arith;
       own_first = own_count b scan v w so told;
@@ -88,7 +62,7 @@ AreCollects-after b start mark (Some c) v w so told =
     record {
       first_length = are.first_length;
       last_length = length-collect_of b v w told.loaded;
-      seen = λ list seen. lists-IsScanOf b scan v w list so told.loaded seen;
+      seen = IsPrefix-trans start.seen v.seen w.seen so.started told.loaded.more;
       first = are.first;
       last = told.most;
       rising = λ p within.
@@ -105,7 +79,7 @@ IsScanOf-after b scan v w part so told = record {
   published = published-HasLoaded b v w part told.loaded ∙ so.published;
   started = IsPrefix-trans scan.start.seen v.seen w.seen so.started told.loaded.more;
   marked = IsPrefix-refl w.seen;
-  joined = λ list seen. subst (λ lists. Contains lists list) (sym (joined-HasLoaded b v w told.loaded)) (so.joined list seen);
+  own = so.own;
   loads = λ p known. omega (arith, so.loads p known, told.times p known);
   collects = AreCollects-after b scan.start scan.mark scan.collects v w so told;
 }

@@ -1,6 +1,6 @@
 -- Two equal collects in a row are a snapshot, and so is the view of a process that has published twice.
 use Rattle.std.proofs.Common.{◌≡◌, ℕ, Some, ◌+◌, ◌-◌, ◌<◌, ◌≤◌, List, length, get_or, take, refl, sym, ap, subst, ◌∙◌, arith, inl, inr}
-use Rattle.std.specs.List.{Contains, sum}
+use Rattle.std.specs.List.{sum}
 use Rattle.std.proofs.lemmas.Bool.{cases_lt}
 use Rattle.std.proofs.lemmas.List.{ext_get_or}
 use Rattle.at_ledger.specs.Book.{BookTerms}
@@ -12,13 +12,12 @@ use Rattle.at_board.specs.declared.view.View.{View}
 use Rattle.at_board.specs.BoardState.{publication_at}
 use Rattle.at_board.specs.Fronts.{IsFront, place, prefix_of}
 use Rattle.at_board.specs.Publications.{IsPrefix, count_of, counts, no_publication, publications_of}
-use Rattle.at_board.specs.RecordWords.{lists_of}
 use Rattle.at_board.specs.Sound.{HasView}
 use Rattle.at_board.specs.Views.{loads_of, own_part}
 use Rattle.at_snapshot.specs.declared.collects.Collects.{Collects}
 use Rattle.at_snapshot.specs.declared.scan.Turn.{Turn}
 use Rattle.at_snapshot.specs.declared.scan.Turn.TheVariants.{Clean, Borrowed, Again}
-use Rattle.at_snapshot.proofs.ScanLaws.{AreCollects-IsScanOf, length-collect_of, lists-IsScanOf}
+use Rattle.at_snapshot.proofs.ScanLaws.{AreCollects-IsScanOf, length-collect_of}
 use Rattle.at_snapshot.specs.Collected.{IsCollect, collect_of}
 use Rattle.at_snapshot.specs.Scans.{AreCollects, IsScanOf, ScanView, loads_at_least}
 use Rattle.at_snapshot.specs.Snapshots.{IsSnapshot, OnCounts}
@@ -48,19 +47,18 @@ counts-equal b scan c v w so are told same =
       get_or-counts n scan.mark.seen p 0 known,
       are.last p known,
       IsPrefix-count_of p scan.mark.seen v.seen so.marked,
-      told.least v.seen p (0, omega arith, refl) known,
+      told.least p known,
       ap (λ xs. get_or xs p 0) same,
     ))
 
 -- a front that begins with all that was seen at the start counts all of the scan's process
 own_counted : (b : BookTerms) (scan : ScanView) (v w : View) (view : List ℕ) → IsScanOf b scan v → v.first < b.processes → IsCollect b v w
-    → IsFront b.processes view w.seen → IsPrefix scan.start.seen (prefix_of view w.seen)
-    → count_of scan.start.first scan.start.seen ≡ (own_part scan.start).published → get_or view scan.start.first 0 ≡ (own_part scan.start).published
-own_counted b scan v w view so known told front begins all =
+    → IsFront b.processes view w.seen → IsPrefix scan.start.seen (prefix_of view w.seen) → get_or view scan.start.first 0 ≡ (own_part scan.start).published
+own_counted b scan v w view so known told front begins =
     let p : ℕ = scan.start.first in
     omega (
       arith,
-      all,
+      so.own,
       get_or-IsFront b.processes view w.seen p front (omega (arith, known, so.process)),
       IsPrefix-count_of p scan.start.seen (prefix_of view w.seen) begins,
       count_of-take-le p (place view) w.seen,
@@ -80,9 +78,9 @@ IsSnapshot-equal b scan c v w so process are told once same =
     let known = ArePublishedBy-IsPrefix n mark w.seen between (ArePublishedBy-IsHistory b w.seen told.loaded.history) in
     let equal = counts-equal b scan c v w so are told same in
     let front = subst (λ xs. IsFront n xs w.seen) equal (IsFront-IsPrefix n (counts n mark) mark w.seen (IsFront-counts n mark known) known between) in
-    let begins = λ (list : List Publication) (seen : Contains (lists_of scan.start) list).
-    IsPrefix-prefix_of_from_le (collect_of w) list w.seen (lists-IsScanOf b scan v w list so told.loaded seen)
-    (omega (arith, IsPrefix-length list mark (are.seen list seen), sum-counts n mark known, ap sum equal)) in
+    let start = scan.start.seen in
+    let begins = IsPrefix-prefix_of_from_le (collect_of w) start w.seen (IsPrefix-trans start v.seen w.seen so.started told.loaded.more)
+    (omega (arith, IsPrefix-length start mark are.seen, sum-counts n mark known, ap sum equal)) in
     record {
       front = front;
       begins = begins;
@@ -90,7 +88,7 @@ IsSnapshot-equal b scan c v w so process are told once same =
         loaded = λ p below. loaded_twice b scan v w p told below (once p below);
         taken = inl refl;
       };
-      own = own_counted b scan v w (collect_of w) so process told front (begins scan.start.seen (0, omega arith, refl));
+      own = own_counted b scan v w (collect_of w) so process told front begins;
     }
 
 -- the record whose view is lent: it was not seen at the start, and its view counts more of its process than was seen then
@@ -98,7 +96,7 @@ record IsNew (b : BookTerms) (scan : ScanView) (w : View) (q i m : ℕ) : Type 0
   pub at : IsPosition q i w.seen m
   pub view : HasView b (take m w.seen) (publication_at w.seen m)
   pub own : get_or (publication_at w.seen m).view q 0 ≡ i
-  pub above : (list : List Publication) → Contains (lists_of scan.start) list → count_of q list < i
+  pub above : count_of q scan.start.seen < i
   pub later : length scan.start.seen ≤ m
 
 is_new : (b : BookTerms) (scan : ScanView) (c : Collects) (v w : View) (q : ℕ) → IsScanOf b scan v → AreCollects b scan c → IsCollect b v w
@@ -111,9 +109,8 @@ is_new b scan c v w q so are told risen =
     let m = there.0 in
     let x = publication_at w.seen m in
     let view = told.loaded.history.views m there.1.within in
-    let above : (list : List Publication) → Contains (lists_of scan.start) list → count_of q list < i =
-    λ list seen. omega (arith, are.first list q seen known, risen.risen) in
     let start = scan.start.seen in
+    let above : count_of q start < i = omega (arith, are.first q known, risen.risen) in
     let before : IsPrefix start w.seen = IsPrefix-trans start v.seen w.seen so.started told.loaded.more in (
       m,
       record {
@@ -128,7 +125,7 @@ is_new b scan c v w q so are told risen =
             there.1.before,
             count_of-take_mono q m (length start) w.seen (omega arith),
             ap (count_of q) (take-IsPrefix start w.seen before),
-            above start (0, omega arith, refl),
+            above,
           ))
           | inr beyond ↦ beyond
         ];
@@ -156,13 +153,13 @@ IsSnapshot-lent b scan c v w lent so process are told once is =
     let all = ArePublishedBy-IsHistory b w.seen told.loaded.history in
     let front : IsFront n x.view w.seen =
     IsFront-IsPrefix n x.view (take m w.seen) w.seen new.view.front (ArePublishedBy-take n m w.seen all) (IsPrefix-take m w.seen) in
-    let begins = λ (list : List Publication) (seen : Contains (lists_of scan.start) list).
-    IsPrefix-prefix_of n x.view list w.seen q front known (lists-IsScanOf b scan v w list so told.loaded seen)
-    (omega (arith, new.own, new.above list seen)) in
+    let start = scan.start.seen in
+    let begins = IsPrefix-prefix_of n x.view start w.seen q front known (IsPrefix-trans start v.seen w.seen so.started told.loaded.more)
+    (omega (arith, new.own, new.above)) in
     subst (IsSnapshot b scan.start w) same (record {
       front = front;
       begins = begins;
-      own = own_counted b scan v w x.view so process told front (begins scan.start.seen (0, omega arith, refl));
+      own = own_counted b scan v w x.view so process told front begins;
       fresh = record {
         loaded = λ p below. loaded_twice b scan v w p told below (once p below);
         taken = inr (

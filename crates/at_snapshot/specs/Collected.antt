@@ -1,10 +1,8 @@
 -- What loads of lengths tell a seat.
-use Rattle.std.specs.Prelude.{◌≡◌, ℕ, ◌+◌, ◌<◌, ◌≤◌, List, length, map, slice_index, All, Contains}
+use Rattle.std.specs.Prelude.{◌≡◌, ℕ, ◌+◌, ◌<◌, ◌≤◌, List, length, map, slice_index}
 use Rattle.at_ledger.specs.Book.{BookTerms}
-use Rattle.at_board.specs.declared.publication.Publication.{Publication}
 use Rattle.at_board.specs.declared.view.View.{View}
 use Rattle.at_board.specs.Publications.{IsPrefix, count_of}
-use Rattle.at_board.specs.RecordWords.{lists_of}
 use Rattle.at_board.specs.Steps.{IsHistory, with_part}
 use Rattle.at_board.specs.Views.{loads_of, own_part}
 
@@ -12,20 +10,19 @@ use Rattle.at_board.specs.Views.{loads_of, own_part}
 abbrev pub collect_of : View → List ℕ
 collect_of view = map (λ l. l.last) (own_part view).loads
 
--- loads of lengths alone have changed the view: its list begins with the old one and with all that was joined
+-- loads of lengths alone have changed the view: its list begins with the old one
 pub record HasLoaded (b : BookTerms) (before after : View) : Type 0 where
   pub more : IsPrefix before.seen after.seen
-  pub joined : All (λ list. IsPrefix list after.seen) before.joined
   pub own : count_of before.first after.seen ≡ (own_part before).published
   pub history : IsHistory b after.seen
   pub lengths : length (own_part after).loads ≡ b.processes
   pub same : after ≡ with_part (record before { seen = after.seen }) (record (own_part before) { loads = (own_part after).loads })
 
--- a collect loads each length once. The number of each process counts at least its publications in each list that was seen
--- before, and at most those that are seen now
+-- a collect loads each length once. The number of each process counts at least its publications that were seen before, and
+-- at most those that are seen now
 pub record IsCollect (b : BookTerms) (before after : View) : Type 0 where
   pub loaded : HasLoaded b before after
   pub times : (p : ℕ) → p < b.processes → (loads_of (own_part after) p).times ≡ (loads_of (own_part before) p).times + 1
-  pub least : (list : List Publication) (p : ℕ) → Contains (lists_of before) list → p < b.processes → count_of p list ≤ slice_index (collect_of after) p
+  pub least : (p : ℕ) → p < b.processes → count_of p before.seen ≤ slice_index (collect_of after) p
   pub most : (p : ℕ) → p < b.processes → slice_index (collect_of after) p ≤ count_of p after.seen
   pub own : slice_index (collect_of after) before.first ≡ (own_part before).published

@@ -1,11 +1,9 @@
 -- Scans as callers see them.
-use Rattle.std.specs.Prelude.{◌≡◌, ℕ, ◌+◌, ◌<◌, ◌≤◌, List, length, slice_index, Contains, Option, Some, None, IfSome}
+use Rattle.std.specs.Prelude.{◌≡◌, ℕ, ◌+◌, ◌<◌, ◌≤◌, List, length, slice_index, Option, Some, None, IfSome}
 use Rattle.at_base.specs.Counts.{Covers}
 use Rattle.at_ledger.specs.Book.{BookTerms}
-use Rattle.at_board.specs.declared.publication.Publication.{Publication}
 use Rattle.at_board.specs.declared.view.View.{View}
 use Rattle.at_board.specs.Publications.{IsPrefix, count_of}
-use Rattle.at_board.specs.RecordWords.{lists_of}
 use Rattle.at_board.specs.Views.{loads_of, own_part}
 use Rattle.at_snapshot.specs.declared.collects.Collects.{Collects}
 use Rattle.at_snapshot.specs.Collected.{collect_of}
@@ -38,8 +36,8 @@ loads_at_least (Some c) = 1
 pub record AreCollects (b : BookTerms) (scan : ScanView) (c : Collects) : Type 0 where
   pub first_length : length c.first ≡ b.processes
   pub last_length : length c.last ≡ b.processes
-  pub seen : (list : List Publication) → Contains (lists_of scan.start) list → IsPrefix list scan.mark.seen
-  pub first : (list : List Publication) (p : ℕ) → Contains (lists_of scan.start) list → p < b.processes → count_of p list ≤ slice_index c.first p
+  pub seen : IsPrefix scan.start.seen scan.mark.seen
+  pub first : (p : ℕ) → p < b.processes → count_of p scan.start.seen ≤ slice_index c.first p
   pub last : (p : ℕ) → p < b.processes → slice_index c.last p ≤ count_of p scan.mark.seen
   pub rising : Covers c.last c.first
   pub own_first : slice_index c.first scan.start.first ≡ (own_part scan.start).published
@@ -51,6 +49,6 @@ pub record IsScanOf (b : BookTerms) (scan : ScanView) (view : View) : Type 0 whe
   pub published : (own_part view).published ≡ (own_part scan.start).published
   pub started : IsPrefix scan.start.seen view.seen
   pub marked : IsPrefix scan.mark.seen view.seen
-  pub joined : (list : List Publication) → Contains scan.start.joined list → Contains view.joined list
+  pub own : count_of scan.start.first scan.start.seen ≡ (own_part scan.start).published
   pub loads : (p : ℕ) → p < b.processes → (loads_of (own_part scan.start) p).times + loads_at_least scan.collects ≤ (loads_of (own_part view) p).times
   pub collects : IfSome scan.collects (AreCollects b scan)

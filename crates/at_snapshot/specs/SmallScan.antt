@@ -28,10 +28,9 @@ pub record HasPaid (v : View) : Type 0 where
   pub seen : v.seen ≡ earlier ++ record { process = v.first; view = view; entry = payment } ∷ []
   pub published : (own_part v).published ≡ 1
 
--- the seat of a process that publishes: it has seen all its records, and owns the account after that of its number alone
+-- the seat of a process that publishes, which owns the account after that of its number alone
 pub record IsPublisher (board : BoardView) (seat : SeatView) : Type 0 where
   pub of_board : IsOf seat board
-  pub counted : count_of seat.view.first seat.view.seen ≡ (own_part seat.view).published
   pub owner : HasOwnAccount board.book seat.view.first
 
 -- the seat has seen so many records of each process

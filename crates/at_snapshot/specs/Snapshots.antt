@@ -1,23 +1,21 @@
 -- Snapshots: fronts of what a seat has seen that begin with all that it had seen.
-use Rattle.std.specs.Prelude.{◌≡◌, ℕ, ◌+◌, ◌*◌, ◌<◌, ◌≤◌, List, slice_index, Contains}
+use Rattle.std.specs.Prelude.{◌≡◌, ℕ, ◌+◌, ◌*◌, ◌<◌, ◌≤◌, List, slice_index}
 use Rattle.at_ledger.specs.Book.{BookTerms}
-use Rattle.at_board.specs.declared.publication.Publication.{Publication}
 use Rattle.at_board.specs.declared.view.View.{View}
 use Rattle.at_board.specs.Fresh.{IsFresh}
 use Rattle.at_board.specs.Fronts.{IsFront, prefix_of}
-use Rattle.at_board.specs.Publications.{IsPrefix, count_of}
-use Rattle.at_board.specs.RecordWords.{lists_of}
+use Rattle.at_board.specs.Publications.{IsPrefix}
 use Rattle.at_board.specs.Views.{loads_of, own_part}
 use Rattle.at_snapshot.specs.declared.scan.Turn.{Turn}
 use Rattle.at_snapshot.specs.declared.scan.Turn.TheVariants.{Clean, Borrowed, Again}
 
 -- the counts are a front of what the seat has seen now, whose prefix begins with all that it had seen before, and are fresh.
--- A seat that had seen all that its process published counts all of it
+-- They count all that the seat's process has published
 pub record IsSnapshot (b : BookTerms) (before after : View) (counts : List ℕ) : Type 0 where
   pub front : IsFront b.processes counts after.seen
-  pub begins : (list : List Publication) → Contains (lists_of before) list → IsPrefix list (prefix_of counts after.seen)
+  pub begins : IsPrefix before.seen (prefix_of counts after.seen)
   pub fresh : IsFresh b before after counts
-  pub own : count_of before.first before.seen ≡ (own_part before).published → slice_index counts before.first ≡ (own_part before).published
+  pub own : slice_index counts before.first ≡ (own_part before).published
 
 -- what holds of the counts of an answer
 abbrev pub OnCounts : Turn → (List ℕ → Type 0) → Type 0

@@ -50,6 +50,7 @@ impl Scan {
         ensures start { result ≡ starting_scan seat.now.view }
         ensures scan { (b : BookTerms) → IsScanOf b result seat.now.view }
     {
+        let _process = seat.process();
         Scan {
             collects: None,
             start: Snapshot::of(seat),

@@ -2,11 +2,10 @@ use Rattle.std.proofs.Common.{◌<◌, sym, ap, subst, arith}
 use Rattle.at_board.specs.Conditions.{MayLoadWord}
 use Rattle.at_board.specs.Publications.{count_of}
 use Rattle.at_board.specs.SeatView.{SeatView}
-use Rattle.at_fold.proofs.CatchLaws.{SeesRecord-seen}
 use Rattle.at_fold.proofs.fold_tests.first_words.Goals as goal
 
 pub load_record_word-requires-clause-record : goal.load_record_word-requires-clause-record
 load_record_word-requires-clause-record g c =
     let s : SeatView = c.loop-j.seat in
     let some : 0 < count_of 0 s.view.seen = omega (arith, c.requires.one.first, ap (λ (t : SeatView). count_of 0 t.view.seen) c.loop-j.invariant) in
-    record { seen = SeesRecord-seen s.view 0 0 some; word = omega (arith, c.requires.alone, c.loop-j-test.true) }
+    record { seen = some; word = omega (arith, c.requires.alone, c.loop-j-test.true) }

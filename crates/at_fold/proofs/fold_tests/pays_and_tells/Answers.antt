@@ -2,8 +2,7 @@ use Rattle.std.proofs.Common.{◌≡◌, ◌+◌, [], sym, ap, subst, ◌∙◌,
 use Rattle.std.proofs.lemmas.Bool.{eqb-true}
 use Rattle.at_ledger.specs.Book.{BookTerms}
 use Rattle.at_board.specs.declared.view.View.{View}
-use Rattle.at_board.specs.LearnSteps.{longer}
-use Rattle.at_board.specs.Publications.{count_of}
+use Rattle.at_board.specs.Publications.{count_of, longer}
 use Rattle.at_fold.proofs.FirstRecord.{HasOnlyFirst-both, longer-nil}
 use Rattle.at_fold.specs.SmallFold.{HasOnlyFirst}
 use Rattle.at_fold.proofs.fold_tests.pays_and_tells.Goals as goal
@@ -22,6 +21,5 @@ returns-clause-told g c = λ zero_found.
     let noted : note.seen ≡ looked.seen = ap (λ (t : View). t.seen) c.note-note.ensures.noted in
     let taken : after.seen ≡ note.seen =
     ap (λ (t : View). t.seen) c.learn.ensures.learned.same
-    ∙ (ap (λ (t : View). longer t.first t.seen note.seen) c.requires.other
-    ∙ longer-nil 1 note.seen (ap (count_of 1) noted ∙ second)) in
+    ∙ (ap (λ (t : View). longer t.seen note.seen) c.requires.other ∙ longer-nil note.seen) in
     subst (HasOnlyFirst b) (sym (taken ∙ noted)) (HasOnlyFirst-both b looked.seen c.requires.two first second)

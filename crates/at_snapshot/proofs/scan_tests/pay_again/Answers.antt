@@ -1,4 +1,4 @@
-use Rattle.std.proofs.Common.{◌≡◌, ℕ, true, ◌<◌, ◌≤◌, List, [], ◌∷◌, ◌++◌, length, get_or, sum, refl, sym, ap, subst, ◌∙◌, arith}
+use Rattle.std.proofs.Common.{◌≡◌, ℕ, true, ◌<◌, ◌≤◌, List, [], ◌∷◌, ◌++◌, length, get_or, sum, sym, ap, subst, ◌∙◌, arith}
 use Rattle.std.proofs.lemmas.List.{length-append, length-take}
 use Rattle.at_ledger.specs.Book.{BookTerms, account_of, is_owner}
 use Rattle.at_board.proofs.PushLaws.{owns_of-le}
@@ -36,7 +36,7 @@ may_append b v w view part paid pays one known told snapshot is =
     let published : (own_part w).published ≡ 1 = published-HasLoaded b v w part told ∙ paid.published in
     let counted : count_of w.first w.seen ≡ 1 = ap (λ p. count_of p w.seen) first ∙ (told.own ∙ paid.published) in
     let x : Publication = record { process = v.first; view = paid.view; entry = payment } in
-    let begins : IsPrefix v.seen (prefix_of view w.seen) = snapshot.begins v.seen (0, omega arith, refl) in
+    let begins : IsPrefix v.seen (prefix_of view w.seen) = snapshot.begins in
     let few : length (prefix_of view w.seen) ≤ 1 = omega (arith, length-take (place view) w.seen, ap sum is) in
     let prefix : prefix_of view w.seen ≡ x ∷ [] =
     only_one paid.earlier begins.0 (prefix_of view w.seen) x few (begins.1 ∙ ap (λ xs. xs ++ begins.0) paid.seen) in

@@ -1,25 +1,19 @@
-use Rattle.std.proofs.Common.{◌≡◌, length, sym, ap, subst, ◌∙◌, arith}
+use Rattle.std.proofs.Common.{◌≡◌, ap, subst, arith}
 use Rattle.at_ledger.specs.Book.{BookTerms}
-use Rattle.at_board.proofs.CountLaws.{publications_of-nil}
 use Rattle.at_board.specs.declared.view.View.{View}
 use Rattle.at_board.specs.Cuts.{starting_seat}
-use Rattle.at_board.specs.Publications.{count_of}
 use Rattle.at_board.specs.SeatView.{BoardView, SeatView}
 use Rattle.at_board.specs.SmallBoard.{HasOwnAccount}
-use Rattle.at_board.specs.Views.{own_part}
 use Rattle.at_snapshot.specs.SmallScan.{IsPublisher}
 use Rattle.at_snapshot.proofs.traffic_tests.last_publisher.Goals as goal
 
--- the seat of a new board has seen all its records: none
+-- the seat of a new board
 IsPublisher-new : (board : BoardView) (seat : SeatView) → seat.board ≡ board.id → seat.view ≡ starting_seat board.book seat.view.first
     → HasOwnAccount board.book seat.view.first → IsPublisher board seat
-IsPublisher-new board seat id new owner =
-    let p = seat.view.first in
-    record {
-      of_board = record { id = id; book = ap (λ (t : View). t.book) new };
-      counted = ap (λ (t : View). count_of p t.seen) new ∙ (ap length (publications_of-nil p) ∙ sym (ap (λ (t : View). (own_part t).published) new));
-      owner = owner;
-    }
+IsPublisher-new board seat id new owner = record {
+  of_board = record { id = id; book = ap (λ (t : View). t.book) new };
+  owner = owner;
+}
 
 pub returns-clause-publisher : goal.returns-clause-publisher
 returns-clause-publisher c =

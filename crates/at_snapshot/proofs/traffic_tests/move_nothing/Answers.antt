@@ -1,14 +1,13 @@
-use Rattle.std.proofs.Common.{◌≡◌, ℕ, ◌+◌, ◌<◌, List, [], ◌∷◌, length, get_or, refl, sym, ap, subst, ◌∙◌, arith}
+use Rattle.std.proofs.Common.{◌≡◌, ℕ, ◌+◌, ◌<◌, List, [], ◌∷◌, length, get_or, sym, ap, subst, ◌∙◌, arith}
 use Rattle.at_ledger.specs.Book.{BookTerms}
 use Rattle.at_ledger.specs.Call.{TargetPair}
-use Rattle.at_board.proofs.CountLaws.{count_of-take-le}
-use Rattle.at_board.proofs.FrontLaws.{IsPrefix-count_of, get_or-IsFront, place-IsFront-le}
+use Rattle.at_board.proofs.FrontLaws.{place-IsFront-le}
 use Rattle.at_board.proofs.PushLaws.{owns_of-le}
 use Rattle.at_board.proofs.SmallBoardLaws.{ArePublishedBy-IsHistory, may_move}
 use Rattle.at_board.specs.declared.publication.Entry.TheVariants.{Own}
 use Rattle.at_board.specs.declared.view.View.{View}
-use Rattle.at_board.specs.Fronts.{place, prefix_of}
-use Rattle.at_board.specs.Publications.{IsPrefix, count_of}
+use Rattle.at_board.specs.Fronts.{prefix_of}
+use Rattle.at_board.specs.Publications.{count_of}
 use Rattle.at_board.specs.SmallBoard.{HasOwnAccount}
 use Rattle.at_board.specs.Sound.{IsSoundOwn}
 use Rattle.at_board.specs.Views.{own_part}
@@ -24,25 +23,14 @@ abbrev moving : ℕ → List TargetPair → List ℕ → Record
 moving from targets view = record { entry = Own from targets; view = view }
 
 -- the view of a snapshot counts all records of its process
-counts_own : (b : BookTerms) (v w : View) (view : List ℕ) → v.first < b.processes → count_of v.first v.seen ≡ (own_part v).published
-    → HasLoaded b v w → IsSnapshot b v w view → get_or view v.first 0 ≡ count_of v.first w.seen
-counts_own b v w view known counted told snapshot =
-    let p = v.first in
-    let before : IsPrefix v.seen (prefix_of view w.seen) = snapshot.begins v.seen (0, omega arith, refl) in
-    omega (
-      arith,
-      get_or-IsFront b.processes view w.seen p snapshot.front known,
-      IsPrefix-count_of p v.seen (prefix_of view w.seen) before,
-      count_of-take-le p (place view) w.seen,
-      told.own,
-      counted,
-    )
+counts_own : (b : BookTerms) (v w : View) (view : List ℕ) → HasLoaded b v w → IsSnapshot b v w view → get_or view v.first 0 ≡ count_of v.first w.seen
+counts_own b v w view told snapshot = snapshot.own ∙ sym told.own
 
 -- the seat may append the record with its snapshot
 may_append : (b : BookTerms) (v w : View) (from : ℕ) (view : List ℕ) → from ≡ v.first + 1 → v.first < b.processes → length v.parts ≡ 1
-    → count_of v.first v.seen ≡ (own_part v).published → HasOwnAccount b v.first → (own_part v).published < b.own_room → HasLoaded b v w
+    → HasOwnAccount b v.first → (own_part v).published < b.own_room → HasLoaded b v w
     → IsSnapshot b v w view → MayAppend b w (moving from ((0, 0) ∷ []) view)
-may_append b v w from view source known one counted owner room told snapshot =
+may_append b v w from view source known one owner room told snapshot =
     let first : w.first ≡ v.first = first-HasLoaded b v w told in
     let prefix = prefix_of view w.seen in
     let all = ArePublishedBy-IsHistory b w.seen told.history in
@@ -54,11 +42,11 @@ may_append b v w from view source known one counted owner room told snapshot =
       view = record {
         process = omega (arith, first, known);
         front = snapshot.front;
-        own = ap (λ k. get_or view k 0) first ∙ (counts_own b v w view known counted told snapshot ∙ ap (λ k. count_of k w.seen) (sym first));
+        own = ap (λ k. get_or view k 0) first ∙ (counts_own b v w view told snapshot ∙ ap (λ k. count_of k w.seen) (sym first));
       };
       entry = (
         subst (λ k. IsSoundOwn b k prefix from ((0, 0) ∷ [])) (sym first) sound,
-        omega (arith, owns_of-le w.first w.seen, ap (λ k. count_of k w.seen) first, told.own, counted, room),
+        omega (arith, owns_of-le w.first w.seen, ap (λ k. count_of k w.seen) first, told.own, room),
       );
     }
 
@@ -72,5 +60,5 @@ append-requires-clause-record g c =
     let known : v.first < b.processes =
     omega (arith, c.process-process.ensures.seat.known, ap (λ (t : BookTerms). t.processes) c.requires.publisher.of_board.book) in
     subst (λ ts. MayAppend b w (moving (c.process-process.result + 1) ts view)) (sym c.one.ensures)
-    (may_append b v w (c.process-process.result + 1) view source known c.process-process.ensures.part.one_part c.requires.publisher.counted
+    (may_append b v w (c.process-process.result + 1) view source known c.process-process.ensures.part.one_part
     c.requires.publisher.owner c.requires.room c.snapshot.ensures.loads c.snapshot.ensures.snapshot)

@@ -1,4 +1,4 @@
-use Rattle.std.proofs.Common.{◌-◌, ◌<◌, ◌≤◌, ℕ, false, IsTrue, List, length, get_or, refl, subst, sym, ap, ◌∙◌, arith}
+use Rattle.std.proofs.Common.{◌-◌, ◌<◌, ◌≤◌, ℕ, false, IsTrue, List, length, get_or, subst, sym, ap, ◌∙◌, arith}
 use Rattle.at_board.specs.declared.view.View.{View}
 use Rattle.at_board.specs.BoardState.{publication_at}
 use Rattle.at_board.specs.Publications.{count_of, publications_of}
@@ -18,23 +18,17 @@ load_view-requires-clause-record g c =
     let v : View = c.args.seat.now.view in
     let p = c.in-Some.p in
     let least : IsLeastRisen c.process.result c.args.self.now.first c.args.now.now p = c.in-Some.ensures in
-    record {
-      list = v.seen;
-      seen = (0, omega arith, refl);
-      within = subst (λ i. i - 1 < count_of p v.seen) (sym c.get.ensures)
-          (last_counted v c.process.result c.args.self.now.first c.args.now.now p least.risen c.requires.seen);
-    }
+    subst (λ i. i - 1 < count_of p v.seen) (sym c.get.ensures)
+    (last_counted v c.process.result c.args.self.now.first c.args.now.now p least.risen c.requires.seen)
 
 pub returns-in-Some-clause-answer : goal.returns-in-Some-clause-answer
 returns-in-Some-clause-answer g c =
     let v : View = c.args.seat.now.view in
     let p = c.in-Some.p in
     let least : IsLeastRisen c.process.result c.args.self.now.first c.args.now.now p = c.in-Some.ensures in
-    let within = last_counted v c.process.result c.args.self.now.first c.args.now.now p least.risen c.requires.seen in
     record {
       differs = λ same. false-true (c.if-are_equal.ensures.1 same);
       process = p;
       least = subst (λ k. IsLeastRisen k c.args.self.now.first c.args.now.now p) c.process.ensures.process least;
-      counts_are = c.load_view.ensures.view v.seen (0, omega arith, refl) (subst (λ i. i - 1 < count_of p v.seen) (sym c.get.ensures) within)
-          ∙ ap (λ i. (publication_at (publications_of p v.seen) (i - 1)).view) c.get.ensures;
+      counts_are = c.load_view.ensures.view ∙ ap (λ i. (publication_at (publications_of p v.seen) (i - 1)).view) c.get.ensures;
     }
