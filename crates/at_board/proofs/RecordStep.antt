@@ -6,7 +6,6 @@ use Rattle.atomic_table.proofs.Lists.{set_again}
 use Rattle.atomic_table.specs.Table.{Allows, Me, keeps, step}
 use Rattle.at_ledger.specs.Book.{BookTerms}
 use Rattle.at_board.proofs.RecordLaws.{IsPlace-MayLoadWord, IsRecordWord-Shown}
-use Rattle.at_board.proofs.SeenLaws.{AgreesWithSeen-Ruled}
 use Rattle.at_board.specs.declared.view.View.{View}
 use Rattle.at_board.specs.Conditions.{MayLoadWord}
 use Rattle.at_board.specs.Places.{place_at, record_width, record_word}
@@ -29,7 +28,6 @@ module _ {S : Type 0} where
         subst (λ ws. Ruled key ws (set s.views id me.0)) (sym same_words) (subst (Ruled key s.words) (sym same_views) holds),
         (
           refl,
-          AgreesWithSeen-Ruled me.0.book s.words s.views id me.0 ruled found,
           λ p k j known inside seen at.
               subst (IsRecordWord me.0 p k j) (sym (ap (λ t. get_or s.words t 0) at))
               (IsRecordWord-Shown me.0.book s.words ruled.state me.0 p k j ruled.shown (ruled.knows id me.0 found) known inside seen),
@@ -43,6 +41,6 @@ module _ {S : Type 0} where
   IsRecordWord-played b slots me after p i j at n u process published book seat mine may is played =
       let here = IsPlace-MayLoadWord b me.0 u process published p i j book seat mine may in
       subst (λ t. IsRecordWord t p i j n) mine
-      (played.2 p i j (subst (λ (t : BookTerms). p < t.processes) (sym book) here.0) (subst (λ (t : BookTerms). j < record_width t) (sym book) here.2)
+      (played.1 p i j (subst (λ (t : BookTerms). p < t.processes) (sym book) here.0) (subst (λ (t : BookTerms). j < record_width t) (sym book) here.2)
       (subst (λ (t : View). SeesRecord t p i) (sym mine) may.seen)
       (subst (λ (t : BookTerms). at ≡ place_at t (record_word p i j)) (sym book) is))

@@ -23,7 +23,7 @@ module _ {S : Type 0} where
 
   -- at a word of a record that was seen
   abbrev pub loaded_word : Step S → Me S View → ℕ → Me S View → Type 0
-  loaded_word st m n m' = (m' ≡ m) × AgreesWithSeen m.0 × ((p i j : ℕ) → p < m.0.book.processes → j < record_width m.0.book →
+  loaded_word st m n m' = (m' ≡ m) × ((p i j : ℕ) → p < m.0.book.processes → j < record_width m.0.book →
       SeesRecord m.0 p i → st.word ≡ place_at m.0.book (record_word p i j) → IsRecordWord m.0 p i j n)
 
   -- at a word of the seat's next record

@@ -6,7 +6,6 @@ ghost use Rattle.at_board.specs.Conditions.{MayPublish, MayStoreWord};
 ghost use Rattle.at_board.specs.Cuts.{AreNew};
 ghost use Rattle.at_board.specs.Places.{IsPlace, place_at, record_word};
 ghost use Rattle.at_board.specs.SeatView.{IsOf};
-ghost use Rattle.at_board.specs.Seen.{AgreesWithSeen};
 ghost use Rattle.at_board.specs.Steps.{LoadsLength, Publishes, StoresWord};
 
 use crate::NoMemory;
@@ -122,7 +121,6 @@ impl Board {
         requires board { IsOf seat.old self.now }
         requires word { MayStoreWord self.now.book seat.old.view j }
         ensures stored { StoresWord seat.old.view seat.new.view j w }
-        ensures agrees { AgreesWithSeen seat.new.view }
         ensures board { seat.new.board ≡ seat.old.board }
         ensures steps { steps.new ≡ steps.old + 1 }
         ensures exchanges { exchanges.new ≡ exchanges.old }

@@ -4,7 +4,6 @@ ghost use Rattle.std.specs.Prelude.{◌≡◌, ◌+◌};
 ghost use Rattle.at_board.specs.Conditions.{MayLoadWord};
 ghost use Rattle.at_board.specs.RecordWords.{IsRecordWord};
 ghost use Rattle.at_board.specs.SeatView.{IsOf};
-ghost use Rattle.at_board.specs.Seen.{AgreesWithSeen};
 
 use crate::board::Board;
 use crate::plays::LoadWord;
@@ -26,7 +25,6 @@ impl Board {
         requires board { IsOf seat.old self.now }
         requires record { MayLoadWord self.now.book seat.old.view p i j }
         ensures word { IsRecordWord seat.old.view p i j result }
-        ensures agrees { AgreesWithSeen seat.old.view }
         ensures same { seat.new ≡ seat.old }
         ensures steps { steps.new ≡ steps.old + 1 }
         ensures exchanges { exchanges.new ≡ exchanges.old }

@@ -8,7 +8,6 @@ ghost use Rattle.at_board.specs.Places.{IsPlace, announced_of, place_at, request
 ghost use Rattle.at_board.specs.RequestConditions.{MayLoadRequest};
 ghost use Rattle.at_board.specs.RequestSteps.{Announces, LoadsAnnounced, LoadsRequestWord, StoresRequestWord};
 ghost use Rattle.at_board.specs.SeatView.{IsOf};
-ghost use Rattle.at_board.specs.Seen.{AgreesWithSeen};
 ghost use Rattle.at_board.specs.Views.{HasSlot, asking_on, own_part};
 
 use crate::board::Board;
@@ -42,7 +41,6 @@ impl Board {
         requires asks { (slot : ℕ) × MayAsk self.now.book seat.old.view account slot }
         requires word { j < REQUEST_WORDS }
         ensures stored { StoresRequestWord seat.old.view seat.new.view account j w }
-        ensures agrees { AgreesWithSeen seat.new.view }
         ensures board { seat.new.board ≡ seat.old.board }
         ensures steps { steps.new ≡ steps.old + 1 }
         ensures exchanges { exchanges.new ≡ exchanges.old }

@@ -1,11 +1,10 @@
-use Rattle.std.proofs.Common.{◌≡◌, sym, ap, subst, ◌∙◌, arith}
+use Rattle.std.proofs.Common.{◌≡◌, sym, ap, ◌∙◌, arith}
 use Rattle.at_ledger.specs.Book.{BookTerms}
 use Rattle.at_board.proofs.PlaceLaws.{place_at-below}
 use Rattle.at_board.proofs.RecordLaws.{IsPlace-MayLoadWord}
 use Rattle.at_board.proofs.RecordStep.{IsRecordWord-played, loads_word}
 use Rattle.at_board.specs.declared.view.View.{View}
 use Rattle.at_board.specs.Places.{IsPlace, record_word, word_count}
-use Rattle.at_board.specs.Seen.{AgreesWithSeen}
 use Rattle.at_board.proofs.board.Board.load_record_word.Goals as goal
 
 pub record_place-place-requires : goal.record_place-place-requires
@@ -41,6 +40,3 @@ returns-clause-word g c =
     let book : c.seat.inside.seat.me.0.book ≡ b = ap (λ (t : View). t.book) mine ∙ c.requires.board.book in
     IsRecordWord-played b c.self.inside.table.shared.table_id.slots c.seat.inside.seat.me c.load.new.seat.me c.args.p c.args.i c.args.j c.record_place-place.result c.load.result
     c.args.seat.now.view c.seat.inside.process c.seat.inside.published book c.seat.invariant.1 mine c.requires.record c.record_place-place.ensures.place c.load.ensures.2
-
-pub returns-clause-agrees : goal.returns-clause-agrees
-returns-clause-agrees g c = subst AgreesWithSeen (ap (λ s. s.view) c.seat.view_is) c.load.ensures.2.1

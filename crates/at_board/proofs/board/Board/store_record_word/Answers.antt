@@ -62,6 +62,3 @@ returns-clause-stored g c =
     let told = StoresWord-played b c.self.inside.table.shared.table_id.slots c.seat.inside.seat.me c.store.new.seat.me c.args.j c.args.w
     c.record_place-place.result book at may c.store.ensures.2 in
     subst (λ (t : View). StoresWord t c.store.new.seat.me.0 c.args.j c.args.w) mine told
-
-pub returns-clause-agrees : goal.returns-clause-agrees
-returns-clause-agrees g c = c.store.ensures.2.1

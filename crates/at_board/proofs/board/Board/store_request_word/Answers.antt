@@ -77,6 +77,3 @@ returns-clause-stored g c =
     StoresRequestWord-played b c.self.inside.table.shared.table_id.slots c.seat.inside.seat.me c.store.new.seat.me a slot c.args.j c.args.w
     c.request_place-place.result book at may c.requires.word c.store.ensures.2 in
     subst (λ (t : View). StoresRequestWord t w a c.args.j c.args.w) mine told
-
-pub returns-clause-agrees : goal.returns-clause-agrees
-returns-clause-agrees g c = c.store.ensures.2.1
