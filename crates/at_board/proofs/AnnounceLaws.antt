@@ -237,6 +237,8 @@ Announces-Ruled b words views id v a slot r ruled begun found part may =
       },
       record {
         more = knows.seen;
+        all = record { state = t; sound = sound; published = refl };
+        row = announced_rows-here s.rows a slot r ∙ ap (λ l. l ++ r ∷ []) (sym asking.announced);
         own = sym own.published;
         history = IsHistory-Sound b after t shown sound begun;
         agrees = AgreesWithSeen-Knows b after t u sound knows_own;

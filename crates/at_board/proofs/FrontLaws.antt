@@ -1,6 +1,6 @@
 -- Fronts and the prefixes that they count.
 use Rattle.std.proofs.Common.{◌≡◌, ℕ, ◌+◌, ◌<◌, ◌≤◌, zero, suc, List, [], ◌∷◌, ◌++◌, length, get_or, take, drop, refl, sym, ap, subst, ◌∙◌, arith, inl, inr}
-use Rattle.std.specs.List.{All, sum, sum_by, range_with_len}
+use Rattle.std.specs.List.{sum, sum_by, range_with_len}
 use Rattle.std.proofs.lemmas.Bool.{cases_lt}
 use Rattle.std.proofs.lemmas.List.{length-append, length-take, append-nil, append_assoc, take-append-drop, take-take, take-append-le, take_all, take_at, get_or-take}
 use Rattle.std.proofs.lemmas.List.Sums.{sum_by-cons}
@@ -23,11 +23,6 @@ IsPrefix-take m xs = (drop m xs, sym (take-append-drop m xs))
 
 pub IsPrefix-trans : (xs ys zs : List Publication) → IsPrefix xs ys → IsPrefix ys zs → IsPrefix xs zs
 IsPrefix-trans xs ys zs (more, a) (most, b) = (more ++ most, b ∙ (ap (λ t. t ++ most) a ∙ append_assoc xs more most))
-
--- prefixes of a list are prefixes of a longer one
-pub All-IsPrefix : (lists : List (List Publication)) (xs ys : List Publication) → All (λ t. IsPrefix t xs) lists → IsPrefix xs ys
-    → All (λ t. IsPrefix t ys) lists
-All-IsPrefix lists xs ys each before k list within = IsPrefix-trans (get_or lists k list) xs ys (each k list within) before
 
 pub IsPrefix-length : (xs ys : List Publication) → IsPrefix xs ys → length xs ≤ length ys
 IsPrefix-length xs ys (more, e) = omega (arith, ap length e, length-append xs more)

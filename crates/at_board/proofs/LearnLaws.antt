@@ -114,7 +114,7 @@ Learns-learned b id other v w process published book note_book seat note met =
     record {
       more = long.first;
       own = count_of-longer b id other v w (omega (arith, seat.one_part)) met;
-      heard = long.second;
+      told = long.second;
       history = longer-either (IsHistory b) v.seen w.seen (subst (λ t. IsHistory t v.seen) book seat.history) (subst (λ t. IsHistory t w.seen) note_book note.history);
       agrees = learned_agrees b id other v w (omega (arith, seat.one_part)) note.no_part met;
       same = refl;

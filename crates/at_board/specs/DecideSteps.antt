@@ -35,8 +35,8 @@ with_decision v list a round d =
     record v { seen = list; decisions = v.decisions ++ record { account = a; round = round; decision = d } ∷ [] }
 
 -- an exchange on the cell of a round, which then has this word. It is the word of a decision, which is the proposal where
--- the seat then holds the cell. The seat has seen at least so many publications as the decision was made at, where exactly
--- the rounds before it stand
+-- the seat then holds the cell. The seat has seen at least as many publications as the decision's place, where exactly the
+-- rounds before this one stand
 pub record Decides (b : BookTerms) (before after : View) (a round : ℕ) (d : Decision) (w : ℕ) : Type 0 where
   pub decision : Decision
   pub held : Option Cell

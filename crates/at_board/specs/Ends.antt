@@ -4,7 +4,8 @@ use Rattle.at_ledger.specs.Book.{BookTerms, IsBook, log_room_of}
 use Rattle.at_board.specs.declared.view.View.{View}
 use Rattle.at_board.specs.BoardState.{BoardState}
 use Rattle.at_board.specs.Places.{length_of, word_at, word_count}
-use Rattle.at_board.specs.Publications.{IsPrefix, count_of, longer}
+use Rattle.at_board.specs.LearnSteps.{learned}
+use Rattle.at_board.specs.Publications.{IsPrefix, count_of}
 use Rattle.at_board.specs.SeatView.{BoardView, IsOf, SeatView}
 use Rattle.at_board.specs.Shown.{Shown}
 use Rattle.at_board.specs.Sound.{Sound}
@@ -29,12 +30,7 @@ pub record AreAllFree (board : BoardView) (seats : List SeatView) : Type 0 where
 
 -- the view of two seats in one, of which the second stands for the processes after those of the first
 abbrev pub gathered : View → View → View
-gathered v w = record v {
-  seen = longer v.seen w.seen;
-  requests = v.requests ++ w.requests;
-  decisions = v.decisions ++ w.decisions;
-  parts = v.parts ++ w.parts;
-}
+gathered v w = record (learned v w) { parts = v.parts ++ w.parts }
 
 -- the view has the own parts of the first seats in order, which hold no cell, and all that they have seen
 pub record Gathers (seats : List SeatView) (v : View) : Type 0 where
@@ -46,9 +42,9 @@ pub record Gathers (seats : List SeatView) (v : View) : Type 0 where
   pub requests : All (λ seat. All (Contains v.requests) seat.view.requests) seats
   pub decisions : All (λ seat. All (Contains v.decisions) seat.view.decisions) seats
 
--- the last state of a board: the words stand for it, it is sound, no process holds a cell, what these seats had seen is a
--- prefix of what was published, was announced and was decided, each process published as many records as its seat's part
--- says, and its row on each account that it shares has the requests that this part announced
+-- the last state of a board: the words stand for it, it is sound, and no process holds a cell. The list that each seat had seen
+-- is a prefix of what was published, its requests were announced and its decisions made. Each process published as many
+-- records as its seat's part says, and its row on each account that it shares has the requests that this part announced
 pub record IsEnd (e : EndView) (seats : List SeatView) : Type 0 where
   pub state : BoardState
   pub shown : Shown e.book e.words state

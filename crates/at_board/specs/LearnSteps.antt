@@ -14,7 +14,7 @@ learned v w = record v {
   decisions = v.decisions ++ w.decisions;
 }
 
--- the view of a seat or a note that was joined to another seat
+-- what is left of the view of a seat or a note that was joined to a seat
 abbrev pub spent_view : View
 spent_view = record {
   book = record { processes = 0; own_room = 0; request_room = 0; accounts = [] };
@@ -25,11 +25,11 @@ spent_view = record {
   parts = [];
 }
 
--- a seat has learned a note: what it has seen begins as before and with what the note had seen, with no more of its own
+-- a seat has learned a note: its list begins with its old one and with the note's, and has no more of its own process
 pub record Learns (b : BookTerms) (before note after : View) : Type 0 where
   pub more : IsPrefix before.seen after.seen
   pub own : count_of before.first after.seen ≡ count_of before.first before.seen
-  pub heard : IsPrefix note.seen after.seen
+  pub told : IsPrefix note.seen after.seen
   pub history : IsHistory b after.seen
   pub agrees : AgreesWithSeen after
   pub same : after ≡ learned before note

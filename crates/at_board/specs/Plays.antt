@@ -1,4 +1,4 @@
--- What a step of the table tells its seat: the step, what the seat was, the number found or stored, and what the seat is.
+-- What a step of the table tells its seat, of the step, the seat before, the number found or stored, and the seat after.
 use Rattle.std.specs.Prelude.{◌≡◌, ℕ, ◌<◌, length}
 use Rattle.atomic_table.specs.Table.{Me, Step}
 use Rattle.at_ledger.specs.Book.{log_room_of}

@@ -26,7 +26,7 @@ ArePublishedBy processes list = All (λ x. x.process < processes) list
 
 -- the first list is a prefix of the second
 abbrev pub IsPrefix : List Publication → List Publication → Type 0
-IsPrefix list longer = (more : List Publication) × (longer ≡ list ++ more)
+IsPrefix list whole = (more : List Publication) × (whole ≡ list ++ more)
 
 -- the longer of two lists
 abbrev pub longer : List Publication → List Publication → List Publication

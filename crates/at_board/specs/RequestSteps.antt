@@ -14,7 +14,7 @@ use Rattle.at_board.specs.Publications.{IsPrefix, count_of}
 use Rattle.at_board.specs.Rounds.{rounds}
 use Rattle.at_board.specs.Seen.{AgreesWithSeen}
 use Rattle.at_board.specs.Sound.{AreTargets}
-use Rattle.at_board.specs.Steps.{IsHistory, with_part}
+use Rattle.at_board.specs.Steps.{IsHistory, SeesAll, with_part}
 use Rattle.at_board.specs.Views.{SeesRequest, asking_on, own_part}
 use Rattle.at_board.specs.Words.{request_words}
 
@@ -38,7 +38,7 @@ all_of a slot row = map (λ i. seen_as a slot i (request_at row i)) (range_with_
 abbrev pub with_row : Asking → ℕ → ℕ → Asking
 with_row w slot n = record w { rows = w.rows ++ record { slot = slot; count = n } ∷ [] }
 
--- a load of an announced word: the seat has then seen these requests, and all that was published when they were announced
+-- a load of an announced word: the seat has then seen these requests, and at least as many publications as the `since` of each
 pub record LoadsAnnounced (b : BookTerms) (before after : View) (a slot n : ℕ) : Type 0 where
   pub row : List Request
   pub counted : length row ≡ n
@@ -57,7 +57,7 @@ pub record LoadsAnnounced (b : BookTerms) (before after : View) (a slot n : ℕ)
 abbrev pub with_loaded : Asking → SeenRequest → Asking
 with_loaded w x = record w { requests = w.requests ++ x ∷ [] }
 
--- a load of a word of an announced request: the seat has then seen the request, which no other was seen in place of
+-- a load of a word of an announced request: the seat has then seen the request, and had seen no other in its place
 pub record LoadsRequestWord (b : BookTerms) (before after : View) (a slot number j w : ℕ) : Type 0 where
   pub request : Request
   pub word : w ≡ slice_index (request_words request) j
@@ -80,9 +80,11 @@ abbrev pub with_request : Asking → Request → ℕ → Asking
 with_request w r heard =
     record w { announced = w.announced ++ r ∷ []; stored = replicate REQUEST_WORDS 0; heard = heard; rows = []; requests = [] }
 
--- an announcing step: the seat has then seen all publications, and its request by the next number
+-- an announcing step: the seat has then seen all publications, and its request at the end of the row
 pub record Announces (b : BookTerms) (before after : View) (a slot : ℕ) (r : Request) : Type 0 where
   pub more : IsPrefix before.seen after.seen
+  pub all : SeesAll b after
+  pub row : all.state.rows a slot ≡ (asking_on (own_part before) a).announced ++ r ∷ []
   pub own : count_of before.first after.seen ≡ (own_part before).published
   pub history : IsHistory b after.seen
   pub agrees : AgreesWithSeen after

@@ -1,4 +1,4 @@
--- What a seat keeps of the requests on each account.
+-- What a seat keeps beside its view, and the sizes of its part.
 use Rattle.std.specs.Prelude.{◌≡◌, ℕ, ◌<◌, List, length, slice_index}
 use Rattle.at_board.specs.declared.view.View.{View}
 use Rattle.at_board.specs.Places.{record_width}

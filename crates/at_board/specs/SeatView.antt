@@ -24,8 +24,8 @@ abbrev pub SeesOwnRequests : View → Type 0
 SeesOwnRequests view = (a slot i : ℕ) → HasSlot view.book view.first a slot → i < length (asking_on (own_part view) a).announced →
     SeesRequest view a slot i (request_at (asking_on (own_part view) a).announced i)
 
--- a seat's view has one part, its process's, all of whose records and requests it has seen. What it has seen is a history, and
--- agrees
+-- a seat's view has one part, its process's. It has seen all records and requests of that process. Its list is a history, and
+-- all that it has seen agrees
 pub record IsSeat (view : View) (process published : ℕ) : Type 0 where
   pub one_part : length view.parts ≡ 1
   pub process_is : view.first ≡ process

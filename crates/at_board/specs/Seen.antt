@@ -25,7 +25,7 @@ pub record DecisionInRange (b : BookTerms) (x : SeenDecision) : Type 0 where
   pub words : IsPlace b (request_word x.account x.decision.slot x.decision.number 0)
   pub range : InRange x.decision
 
--- so are each request and each decision that the view has seen
+-- each request and each decision that the view has seen is in range
 pub record SeesInRange (view : View) : Type 0 where
   pub requests : All (RequestInRange view.book) view.requests
   pub decisions : All (DecisionInRange view.book) view.decisions

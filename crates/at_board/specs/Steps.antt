@@ -8,14 +8,14 @@ use Rattle.at_board.specs.declared.publication.Publication.{Publication}
 use Rattle.at_board.specs.declared.view.Cell.{Cell}
 use Rattle.at_board.specs.declared.view.Part.{Part}
 use Rattle.at_board.specs.declared.view.View.{View}
-use Rattle.at_board.specs.BoardState.{publication_at}
+use Rattle.at_board.specs.BoardState.{BoardState, publication_at}
 use Rattle.at_board.specs.Fronts.{place, places_max, prefix_of}
 use Rattle.at_board.specs.Moves.{AreRuns}
 use Rattle.at_board.specs.Places.{record_width, slots_of}
 use Rattle.at_board.specs.Publications.{IsPrefix, count_of}
 use Rattle.at_board.specs.Seen.{AgreesWithSeen}
 use Rattle.at_board.specs.ShownRounds.{AgreeOnRound, IsShownDecision}
-use Rattle.at_board.specs.Sound.{AreTargets, HasView, IsSoundOwn, IsSoundRound}
+use Rattle.at_board.specs.Sound.{AreTargets, HasView, IsSoundOwn, IsSoundRound, Sound}
 use Rattle.at_board.specs.Views.{loads_of, own_part}
 
 -- the view with this part in place of the seat's own
@@ -56,7 +56,7 @@ IsShownEntry b process prefix (Round account round decision targets) =
     IsSoundRound b process prefix account round × AreTargets b targets × InRange decision
     × (decision.slot < slots_of (account_of b account))
 
--- what holds of each list that a seat has seen
+-- what holds of the list that a seat or a note has seen
 pub record IsHistory (b : BookTerms) (list : List Publication) : Type 0 where
   pub views : (m : ℕ) → m < length list → HasView b (take m list) (publication_at list m)
   pub entries : (m : ℕ) → m < length list → let x : Publication = publication_at list m in
@@ -82,10 +82,17 @@ pub record LoadsLength (b : BookTerms) (before after : View) (p n : ℕ) : Type 
 abbrev pub StoresWord : View → View → ℕ → ℕ → Type 0
 StoresWord before after j w = after ≡ with_part before (with_word (own_part before) j w)
 
+-- a sound board has published just what the view has seen
+pub record SeesAll (b : BookTerms) (v : View) : Type 0 where
+  pub state : BoardState
+  pub sound : Sound b state
+  pub published : state.published ≡ v.seen
+
 -- a publishing step: the seat has then seen all publications, its own at their end
 pub record Publishes (b : BookTerms) (before after : View) (x : Publication) : Type 0 where
   pub between : List Publication
   pub seen : after.seen ≡ (before.seen ++ between) ++ x ∷ []
+  pub all : SeesAll b after
   pub own : count_of before.first after.seen ≡ (own_part before).published + 1
   pub history : IsHistory b after.seen
   pub agrees : AgreesWithSeen after

@@ -30,7 +30,7 @@ asking_on q a = slice_index_or q.asking a no_asking
 abbrev pub loads_of : Part → ℕ → Loads
 loads_of q p = slice_index_or q.loads p (record { times = 0; last = 0 })
 
--- the part of a view's first process, which is a seat's own
+-- the part of a view's k-th process. A seat's own is the first
 abbrev pub part_at : View → ℕ → Part
 part_at v k = slice_index_or v.parts k no_part
 
@@ -97,7 +97,8 @@ pub record HasPart (b : BookTerms) (words : List ℕ) (s : BoardState) (v : View
   pub accounts : length q.asking ≡ length b.accounts
   pub asking : (a slot : ℕ) → HasSlot b process a slot → HasAsking b words s v a slot (asking_on q a)
 
--- what a view has seen is a prefix of what was published, was announced and was decided, and its parts are its processes'
+-- the list that a view has seen is a prefix of what was published, its requests were announced and its decisions made, and its
+-- parts are its processes'
 pub record Knows (b : BookTerms) (words : List ℕ) (s : BoardState) (v : View) : Type 0 where
   pub seen : IsPrefix v.seen s.published
   pub requests : All (IsAnnounced s) v.requests

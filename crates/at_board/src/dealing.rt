@@ -1,6 +1,6 @@
 //! The first seat of a board, cut into one seat for each process.
 
-ghost use Rattle.std.specs.Prelude.{◌≡◌, ℕ, ◌<◌, [], length, replicate, slice_index_or, IfOk};
+ghost use Rattle.std.specs.Prelude.{◌≡◌, ◌<◌, [], length, replicate, IfOk};
 ghost use Rattle.at_board.specs.Cuts.{AreNew};
 ghost use Rattle.at_board.specs.Places.{word_count};
 ghost use Rattle.at_board.specs.Views.{starting_view};

@@ -1,11 +1,9 @@
 //! The end of a board, when no thread shares it any more.
 
-ghost use Rattle.std.specs.Prelude.{◌≡◌, ℕ, ◌<◌, ◌≤◌, [], length, IfErr, IfOk};
+ghost use Rattle.std.specs.Prelude.{◌≡◌, ◌<◌, ◌≤◌, [], IfErr, IfOk};
 ghost use Rattle.std.specs.Mem.Slots.{IsFull, slots_items, slots_len};
 ghost use Rattle.std.specs.Vec.{vec_capacity, vec_len};
-ghost use Rattle.at_ledger.specs.Book.{IsBook};
 ghost use Rattle.at_board.specs.Ends.{AreAllFree, Gathers, IsEnd};
-ghost use Rattle.at_board.specs.SeatView.{BoardView};
 
 use crate::board::Board;
 use crate::board_end::BoardEnd;
@@ -28,7 +26,7 @@ pub struct BoardRefused {
 
 impl Board {
     /// Closes the board with all its seats, in order, of which none holds a cell. Takes time in proportion to the words, and
-    /// as much memory again, before the board is closed.
+    /// memory for a copy of them before the board is closed.
     pub fn close(self, alloc: Global, seats: Vec<BoardSeat>) -> Result<BoardEnd, BoardRefused>
         requires { AreAllFree self seats.items }
         ensures book { IfOk result (λ e. e.book ≡ self.book) }

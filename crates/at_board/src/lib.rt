@@ -1,8 +1,8 @@
 //! The board that processes share: one list of publications that no word holds, kept by one rule over single steps.
 //!
 //! Between any two steps of any threads the words stand for a sound state, and what each seat has seen is a prefix of the one list.
-//! After a load of a length and after a publication the caller knows that every prefix of what its seat has seen is a run of the
-//! sequential ledger, in which each move is done and which ends with the balances of that prefix.
+//! A seat keeps between all its steps that every prefix of what it has seen is a run of the sequential ledger, in which each move
+//! is done and which ends with the balances of that prefix.
 #![tactic(auto)]
 
 mod board;

@@ -14,7 +14,7 @@ use crate::steps::Steps;
 use std::sync::ledger::Ledger;
 
 impl Board {
-    /// A copy of what the seat has seen, in one step.
+    /// A copy of what the seat has seen, in one step, which counts as an exchange.
     pub fn note<L: Ledger, X: Ledger>(
         &self,
         seat: &mut BoardSeat,
@@ -35,7 +35,8 @@ impl Board {
         }
     }
 
-    /// Takes in a note, in one step. The seat has then seen the longer of both lists, of which both are prefixes.
+    /// Takes in a note, in one step, which counts as an exchange. The seat has then seen the longer of the two lists, of which
+    /// both are prefixes.
     pub fn learn<L: Ledger, X: Ledger>(
         &self,
         seat: &mut BoardSeat,

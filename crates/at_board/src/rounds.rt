@@ -1,6 +1,6 @@
 //! Rounds of shared accounts: which request is decided next.
 
-ghost use Rattle.std.specs.Prelude.{◌≡◌, ℕ, ◌+◌};
+ghost use Rattle.std.specs.Prelude.{◌≡◌, ◌+◌};
 ghost use Rattle.at_base.specs.Decision.{word_of};
 ghost use Rattle.at_base.specs.declared.decision.Decision.{Decision};
 ghost use Rattle.at_board.specs.declared.request.Request.{Request};

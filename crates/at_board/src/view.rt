@@ -12,7 +12,9 @@ pub struct View {
     pub book: Book,
     /// The publications seen.
     pub seen: LinkedList<Publication>,
+    /// The requests seen.
     pub requests: LinkedList<SeenRequest>,
+    /// The decisions seen.
     pub decisions: LinkedList<SeenDecision>,
     /// The process of the first part. The others are of the processes after it.
     pub first: u32,
@@ -72,7 +74,7 @@ pub struct Asking {
     pub announced: LinkedList<Request>,
     /// The words of its next request, 0 where none was stored.
     pub stored: LinkedList<u64>,
-    /// How many steps `decide` it has made.
+    /// How many `decide` steps it has made.
     pub decides: u64,
     /// How many rounds it had seen right after its last announcement.
     pub heard: u32,

@@ -111,6 +111,7 @@ Publishes-IsStoring b v u w x words j some storing told =
     record {
       between = here.between;
       seen = here.seen;
+      all = here.all;
       own = here.own ∙ ap (λ (t : Part). t.published + 1) own;
       history = here.history;
       agrees = here.agrees;

@@ -16,7 +16,7 @@ use at_board::{Board, BoardSeat, Entry, RECORD_WORDS, Steps, unpack_targets};
 use at_ledger::Targets;
 use std::sync::ledger::Ledger;
 
-/// The entry of a record that the seat has seen. Takes no memory.
+/// The entry of a record that the seat has seen, in seven steps. Takes no memory.
 pub fn load_entry<L: Ledger, X: Ledger>(
     board: &Board,
     seat: &mut BoardSeat,
@@ -69,7 +69,7 @@ pub fn load_view<L: Ledger, X: Ledger>(
     view
 }
 
-/// The entry of these words. Of words that no entry has the answer is some entry.
+/// The entry of these words. For words that no entry has, the answer is some entry.
 fn entry_of(head: u64, accounts: u64, decision: u64, amounts: [u64; 4]) -> Entry
     ensures { (e : Entry) → IsForm e → head ≡ head_of e → accounts ≡ targets_word (accounts_of (targets_of e)) → decision ≡ decision_word e → amounts ≡ amount_words (targets_of e) → result ≡ e }
 {
@@ -89,7 +89,7 @@ fn entry_of(head: u64, accounts: u64, decision: u64, amounts: [u64; 4]) -> Entry
     }
 }
 
-/// The targets of these words. Of words that no targets have the answer is some targets.
+/// The targets of these words. For words that no targets have, the answer is some targets.
 fn targets_from(word: u64, amounts: [u64; 4]) -> Targets
     ensures { (ts : List TargetPair) → ArePacked (accounts_of ts) → word ≡ targets_word (accounts_of ts) → amounts ≡ amount_words ts → result ≡ ts }
 {

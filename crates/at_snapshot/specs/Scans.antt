@@ -43,7 +43,7 @@ pub record AreCollects (b : BookTerms) (scan : ScanView) (c : Collects) : Type 0
   pub own_first : slice_index c.first scan.start.first ≡ (own_part scan.start).published
   pub own_last : slice_index c.last scan.start.first ≡ (own_part scan.start).published
 
--- the view is that of a scan's seat, which has published nothing since the start. Each step but a publishing one keeps this
+-- the view is that of a scan's seat, which has published nothing since the start
 pub record IsScanOf (b : BookTerms) (scan : ScanView) (view : View) : Type 0 where
   pub process : view.first ≡ scan.start.first
   pub published : (own_part view).published ≡ (own_part scan.start).published

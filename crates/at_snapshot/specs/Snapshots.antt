@@ -23,7 +23,7 @@ OnCounts (Clean counts) holds = holds counts
 OnCounts (Borrowed counts) holds = holds counts
 OnCounts Again holds = Unit {0}
 
--- each length was loaded as often at most
+-- each length was loaded at most so many times more
 abbrev pub HasCollected : BookTerms → View → View → ℕ → Type 0
 HasCollected b before after collects = (p : ℕ) → p < b.processes → (loads_of (own_part after) p).times ≤ (loads_of (own_part before) p).times + collects
 

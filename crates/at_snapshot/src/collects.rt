@@ -43,7 +43,7 @@ pub(crate) fn collect<L: Ledger, X: Ledger>(
     counts
 }
 
-/// Whether two lists of as many counts are one.
+/// Whether two lists of equally many counts are equal.
 pub(crate) fn are_equal(counts: &Counts, others: &Counts) -> bool
     requires { length counts.now ≡ length others.now }
     ensures { IsTrue result ↔ (counts.now ≡ others.now) }
@@ -51,7 +51,7 @@ pub(crate) fn are_equal(counts: &Counts, others: &Counts) -> bool
     counts.covers(others) && others.covers(counts)
 }
 
-/// The least process but one whose count is at least two above the first.
+/// The least process, other than the given one, whose count is at least two above the first.
 pub(crate) fn risen(first: &Counts, now: &Counts, process: u32) -> Option<u32>
     requires { length first.now ≡ length now.now }
     ensures { MatchOption result ((p : ℕ) → ¬ HasRisen process first.now now.now p) (λ p. IsLeastRisen process first.now now.now p) }

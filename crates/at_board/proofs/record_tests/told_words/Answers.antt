@@ -16,7 +16,7 @@ may_load : (b : BookTerms) (v before note after : View) (p j : ℕ) → note ≡
 may_load b v before note after p j is some process word told =
     let noted : 0 < count_of p note.seen =
     subst (λ (t : View). 0 < count_of p t.seen) (sym is) (subst (λ k. 0 < count_of k v.seen) (sym process) some) in
-    record { seen = omega (arith, noted, IsPrefix-count_of p note.seen after.seen told.heard); word = omega arith }
+    record { seen = omega (arith, noted, IsPrefix-count_of p note.seen after.seen told.told); word = omega arith }
 
 pub load_record_word-accounts-requires-clause-record : goal.load_record_word-accounts-requires-clause-record
 load_record_word-accounts-requires-clause-record g c =

@@ -16,7 +16,7 @@ sees_first : (b : BookTerms) (v before note after : View) (p : ℕ) → note ≡
 sees_first b v before note after p is some process told =
     let noted : 0 < count_of p note.seen =
     subst (λ (t : View). 0 < count_of p t.seen) (sym is) (subst (λ k. 0 < count_of k v.seen) (sym process) some) in
-    omega (arith, noted, IsPrefix-count_of p note.seen after.seen told.heard)
+    omega (arith, noted, IsPrefix-count_of p note.seen after.seen told.told)
 
 pub load_entry-entry-requires-clause-record : goal.load_entry-entry-requires-clause-record
 load_entry-entry-requires-clause-record g c =
