@@ -11,6 +11,7 @@ ghost use Rattle.at_board.specs.SeatView.{IsOf};
 
 use crate::board::Board;
 use crate::plays::Decide;
+use crate::request::REQUEST_WORDS;
 use crate::seat::BoardSeat;
 use crate::steps::Steps;
 use std::sync::ledger::Ledger;
@@ -54,7 +55,7 @@ impl Board {
         let room = self.book.request_room() as usize;
         self.slots_start
             + slots
-            + 6 * (slots * room)
+            + REQUEST_WORDS as usize * (slots * room)
             + self.first_slot(account) * room
             + round as usize
     }
