@@ -4,6 +4,7 @@ use Rattle.std.specs.List.{sum_by}
 use Rattle.std.proofs.lemmas.Bool.{and_parts, cases_Bool, cases_eq, cases_lt, eq-eqb, eqb-true, le-ltb, lt-ltb, ltb-false, ltb-true, ne_eqb}
 use Rattle.std.proofs.lemmas.List.{take-take, take_all}
 use Rattle.std.proofs.lemmas.List.Filters.{length-filter_more}
+use Rattle.std.proofs.lemmas.List.Elements.{All-contains}
 use Rattle.std.proofs.lemmas.List.Sums.{sum_by-le, sum_by_more}
 use Rattle.at_ledger.specs.Account.{no_account, rounds_room, rounds_room_of}
 use Rattle.at_ledger.specs.Book.{BookTerms, account_of, log_room_of}
@@ -16,14 +17,20 @@ use Rattle.at_board.proofs.SoundRounds.{IsInitial-IsNextAtMost, place-HasView-le
 use Rattle.at_board.specs.declared.publication.Entry.{Entry}
 use Rattle.at_board.specs.declared.publication.Entry.TheVariants.{Own, Round}
 use Rattle.at_board.specs.declared.publication.Publication.{Publication}
+use Rattle.at_board.specs.declared.view.SeenDecision.{SeenDecision}
+use Rattle.at_board.specs.declared.view.View.{View}
 use Rattle.at_board.specs.BoardState.{publication_at}
+use Rattle.at_board.specs.Conditions.{MayEnter}
 use Rattle.at_board.specs.Entries.{is_own, is_round_on}
 use Rattle.at_board.specs.Fronts.{place, prefix_of}
 use Rattle.at_board.specs.Publications.{count_of, no_publication, publications_of}
 use Rattle.at_board.specs.Rounds.{firsts, owns_of, repeats, rounds}
+use Rattle.at_board.specs.SeatView.{IsSeat}
+use Rattle.at_board.specs.Seen.{DecisionInRange, SeesInRange}
 use Rattle.at_board.specs.ShownRounds.{IsShownDecision}
 use Rattle.at_board.specs.Sound.{HasView, IsSoundRound}
 use Rattle.at_board.specs.Steps.{IsHistory, IsShownEntry}
+use Rattle.at_board.specs.Views.{own_part}
 
 -- whether a record is a process's, of a round of an account
 abbrev rounds_by : ℕ → ℕ → Publication → ℕ
@@ -241,3 +248,22 @@ count_of-round_room b xs x c r history view sound room =
       | inr apart ↦ omega (arith, sum_by-rounds_by-le_room b xs p a history, ap one_if (ne_eqb c a apart))
     ] in
     omega (arith, history.own_room p, count_of-room b xs p c history each, ap one_if (lt-ltb c n sound.account_in))
+
+-- and for each record that may come next
+count_of-MayEnter : (b : BookTerms) (v : View) (p : ℕ) (view : List ℕ) (e : Entry) → v.book ≡ b → IsHistory b v.seen → SeesInRange v → p ≡ v.first
+    → HasView b v.seen (published p view e) → MayEnter b v (prefix_of view v.seen) e → count_of v.first v.seen < log_room_of b v.first
+count_of-MayEnter b v p view (Own from targets) book history sees process has law = count_of-own_room b v.seen v.first history law.1
+count_of-MayEnter b v p view (Round a r d targets) book history sees process has law =
+    let x : Publication = published p view (Round a r d targets) in
+    let decision : SeenDecision = record { account = a; round = r; decision = d } in
+    let sound : IsSoundRound b p (prefix_of view v.seen) a r = subst (λ t. IsSoundRound b t (prefix_of view v.seen) a r) (sym process) law.0 in
+    let room = (subst (λ (t : BookTerms). DecisionInRange t decision) book
+    (All-contains (DecisionInRange v.book) v.decisions decision sees.decisions law.1)).room in
+    subst (λ t. count_of t v.seen < log_room_of b t) process (count_of-round_room b v.seen x a r history has sound room)
+
+-- so the log of a seat's process has room for what the seat may publish
+pub published-MayEnter : (b : BookTerms) (v : View) (x : Publication) (process published : ℕ) → v.book ≡ b → IsSeat v process published → SeesInRange v
+    → x.process ≡ v.first → HasView b v.seen x → MayEnter b v (prefix_of x.view v.seen) x.entry → (own_part v).published < log_room_of b v.first
+published-MayEnter b v x process published book seat sees is has law =
+    let history : IsHistory b v.seen = subst (λ (t : BookTerms). IsHistory t v.seen) book seat.history in
+    omega (arith, seat.own, seat.published_is, count_of-MayEnter b v x.process x.view x.entry book history sees is has law)
