@@ -32,7 +32,6 @@ may_append b v view targets book new known zeros pays =
     let seen : [] ≡ v.seen = sym (ap (λ (t : View). t.seen) new) in
     let none : prefix_of view [] ≡ [] = take-nil (place view) in
     record {
-      room = omega (arith, ap (λ (t : View). (own_part t).published) new, book.begun.some_own_room);
       view = subst (λ xs. HasView b xs (published_by p (record { entry = Own 0 targets; view = view }))) seen (record {
         process = known;
         front = ap (counts b.processes) none ∙ (counts-nil b.processes ∙ sym zeros);

@@ -38,7 +38,6 @@ may_append b v w from view source known one owner room told snapshot =
     let sound : IsSoundOwn b v.first prefix from ((0, 0) ∷ []) =
     subst (λ k. IsSoundOwn b v.first prefix k ((0, 0) ∷ [])) (sym source) (may_move b v.first w.seen view told.history owner (omega (arith, within))) in
     record {
-      room = omega (arith, published-HasLoaded b v w (omega (arith, one)) told, room);
       view = record {
         process = omega (arith, first, known);
         front = snapshot.front;
