@@ -1,5 +1,5 @@
-use Rattle.std.proofs.Common.{◌≡◌, ℕ, ◌+◌, ◌*◌, ◌<◌, None, ap, subst, ◌∙◌, arith, inl, inr}
-use Rattle.at_ledger.specs.Book.{BookTerms, IsBook}
+use Rattle.std.proofs.Common.{◌≡◌, ℕ, ◌+◌, ◌*◌, None, ap, ◌∙◌, arith, inl, inr}
+use Rattle.at_ledger.specs.Book.{BookTerms}
 use Rattle.at_board.proofs.SmallBoardLaws.{IsIdle-published, Stores-four, may_publish_round, round_record, with_four}
 use Rattle.at_board.specs.declared.view.View.{View}
 use Rattle.at_board.specs.SmallBoard.{HasWon}

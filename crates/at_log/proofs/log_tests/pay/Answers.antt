@@ -13,7 +13,6 @@ use Rattle.at_board.specs.Fronts.{place, prefix_of}
 use Rattle.at_board.specs.Publications.{counts}
 use Rattle.at_board.specs.Rounds.{owns_of}
 use Rattle.at_board.specs.Sound.{HasView, IsSoundOwn}
-use Rattle.at_board.specs.Views.{own_part}
 use Rattle.at_log.specs.Appending.{MayAppend}
 use Rattle.at_log.specs.ClosingTerms.{published_by}
 use Rattle.at_log.proofs.log_tests.pay.Goals as goal

@@ -8,9 +8,8 @@ use Rattle.at_board.specs.Balances.{IsCovered}
 use Rattle.at_board.specs.Fronts.{place, prefix_of}
 use Rattle.at_board.specs.Publications.{IsPrefix, count_of}
 use Rattle.at_board.specs.Rounds.{firsts}
-use Rattle.at_board.specs.Views.{own_part}
 use Rattle.at_log.specs.Appending.{MayAppend}
-use Rattle.at_snapshot.proofs.LoadedLaws.{first-HasLoaded, published-HasLoaded}
+use Rattle.at_snapshot.proofs.LoadedLaws.{first-HasLoaded}
 use Rattle.at_snapshot.specs.Collected.{HasLoaded}
 use Rattle.at_snapshot.specs.SmallScan.{HasPaid, MayPayTwice, payment}
 use Rattle.at_snapshot.specs.Snapshots.{IsSnapshot}

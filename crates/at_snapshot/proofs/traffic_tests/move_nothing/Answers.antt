@@ -13,7 +13,7 @@ use Rattle.at_board.specs.Sound.{IsSoundOwn}
 use Rattle.at_board.specs.Views.{own_part}
 use Rattle.at_log.specs.declared.record.Record.{Record}
 use Rattle.at_log.specs.Appending.{MayAppend}
-use Rattle.at_snapshot.proofs.LoadedLaws.{first-HasLoaded, published-HasLoaded}
+use Rattle.at_snapshot.proofs.LoadedLaws.{first-HasLoaded}
 use Rattle.at_snapshot.specs.Collected.{HasLoaded}
 use Rattle.at_snapshot.specs.Snapshots.{IsSnapshot}
 use Rattle.at_snapshot.proofs.traffic_tests.move_nothing.Goals as goal
