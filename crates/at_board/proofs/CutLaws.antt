@@ -178,6 +178,7 @@ IsHistory-nil b begun = record {
   entries = λ m within. absurd (omega arith);
   decisions = λ m within. absurd (omega arith);
   agree = λ m k within inside. absurd (omega arith);
+  own_room = λ p. omega arith;
   room = λ p within. omega (arith, ap length (publications_of-nil p));
   few = omega arith;
   runs = λ m within. subst (IsRun b) (sym (take_all m [] (omega arith))) (IsRun-nil b begun);

@@ -24,7 +24,7 @@ use Rattle.at_board.specs.declared.view.SeenDecision.{SeenDecision}
 use Rattle.at_board.specs.declared.view.View.{View}
 use Rattle.at_board.specs.Conditions.{MayPropose}
 use Rattle.at_board.specs.DecideSteps.{Decides, decided_round, with_decide, with_decision, word_after}
-use Rattle.at_board.specs.Places.{cell_of, place_at}
+use Rattle.at_board.specs.Places.{IsPlace, cell_of, place_at}
 use Rattle.at_board.specs.SeatCounts.{HasCounts}
 use Rattle.at_board.specs.Seen.{DecisionInRange, SeesInRange, AgreesWithSeen}
 use Rattle.at_board.specs.SeatView.{IsSeat}
@@ -132,15 +132,15 @@ HasCounts-decided b v w a round d n counts part told has =
     (HasCounts-with_part u (with_decide q a told.held) counts part (length-set q.asking a _) refl
     (λ k within. announced-decide q a k told.held (omega (arith, within, has.accounts))) before)
 
-pub SeesInRange-decided : (b : BookTerms) (v w u : View) (a round : ℕ) (d e : Decision) (r : Request) (n : ℕ) → v.book ≡ b → MayPropose b u a round e r
+pub SeesInRange-decided : (b : BookTerms) (v w : View) (a round : ℕ) (d : Decision) (n : ℕ) → v.book ≡ b → IsPlace b (cell_of a round)
     → Decides b v w a round d n → SeesInRange v → SeesInRange w
-SeesInRange-decided b v w u a round d e r n book may told sees =
+SeesInRange-decided b v w a round d n book here told sees =
     let seen : SeenDecision = record { account = a; round = round; decision = told.decision } in
     let P : SeenDecision → Type 0 = DecisionInRange v.book in
-    let here : P seen = subst (λ (t : BookTerms). DecisionInRange t seen) (sym book)
-    (record { words = (may.owner.1.account_in, told.slot_in, told.number_in, omega arith); range = told.range }) in
+    let new : P seen = subst (λ (t : BookTerms). DecisionInRange t seen) (sym book)
+    (record { words = (here.0, told.slot_in, told.number_in, omega arith); range = told.range; room = here.1 }) in
     let after : SeesInRange (with_part (with_decision v w.seen a round told.decision) (with_decide (own_part v) a told.held)) = record {
       requests = sees.requests;
-      decisions = All-append P v.decisions (seen ∷ []) sees.decisions (All-cons P seen [] here (All-nil P));
+      decisions = All-append P v.decisions (seen ∷ []) sees.decisions (All-cons P seen [] new (All-nil P));
     } in
     subst SeesInRange (sym told.same) after

@@ -70,6 +70,7 @@ IsHistory-Sound b words s shown sound begun = record {
       let y : Publication = publication_at s.published k in
       AgreeOnRound-Sound b s x.process y.process (prefix_of x.view s.published) (prefix_of y.view s.published) x.entry y.entry
       (sound.entries m within) (sound.entries k inside);
+  own_room = sound.own_room;
   room = shown.records.room;
   few = length-ArePublishedBy b s.published begun (ArePublishedBy-HasRuns b s (HasRuns-Sound b s sound)) shown.records.room;
   runs = AreRuns-HasRuns b s (HasRuns-Sound b s sound) begun;

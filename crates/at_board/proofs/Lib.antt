@@ -17,6 +17,7 @@ pub mod SeatPairs
 pub mod SeatLaws
 pub mod HistoryLaws
 pub mod LoadLaws
+pub mod LogRoomLaws
 pub mod StoreLaws
 pub mod PushLaws
 pub mod PublishLaws

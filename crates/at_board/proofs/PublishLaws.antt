@@ -78,15 +78,15 @@ kept-published : (b : BookTerms) (words : List ℕ) (p n : ℕ) → p < b.proces
 kept-published b words p n within y is apart = word_at-set_other b words (length_of p) y n within is apart
 
 Shown-publish : (b : BookTerms) (words : List ℕ) (s : BoardState) (v : View) (q : Part) (x : Publication) → Shown b words s
-    → HasPart b words s v v.first q → MayPublish b v x → q ≡ own_part v
+    → HasPart b words s v v.first q → MayPublish b v x → q ≡ own_part v → (own_part v).published < log_room_of b v.first
     → Shown b (published_words b words v.first (q.published + 1)) (pushed s v.first x)
-Shown-publish b words s v q x shown own may is =
+Shown-publish b words s v q x shown own may is free =
     let p = v.first in
     let xs = s.published in
     let after = published_words b words p (q.published + 1) in
     let kept = kept-published b words p (q.published + 1) own.known in
     let stored : q.stored ≡ record_words x = ap (λ (t : Part). t.stored) is ∙ may.stored in
-    let room : q.published < log_room_of b p = subst (λ (t : Part). t.published < log_room_of b p) (sym is) may.room in
+    let room : q.published < log_room_of b p = subst (λ (t : Part). t.published < log_room_of b p) (sym is) free in
     let more : count_of p (xs ++ x ∷ []) ≡ count_of p xs + 1 =
     subst (λ t. count_of t (xs ++ x ∷ []) ≡ count_of t xs + 1) may.process (count_of-push_own xs x) in
     let other : (k : ℕ) → k ≢ p → x.process ≡ k → ⊥ = λ k apart e. apart (sym e ∙ may.process) in
@@ -192,9 +192,9 @@ HasPart-pushed_own b words after s x v u p q longer all requests same record_sam
     }
 
 pub Publishes-Ruled : (b : BookTerms) (words : List ℕ) (views : List View) (id : ℕ) (v : View) (x : Publication) → Ruled b words views → IsBegun b
-    → get_elem? views id ≡ some v → 0 < length v.parts → MayPublish b v x
+    → get_elem? views id ≡ some v → 0 < length v.parts → (own_part v).published < log_room_of b v.first → MayPublish b v x
     → (w : View) × Ruled b (published_words b words v.first ((own_part v).published + 1)) (set views id w) × Publishes b v w x
-Publishes-Ruled b words views id v x ruled begun found part may =
+Publishes-Ruled b words views id v x ruled begun found part room may =
     let s : BoardState = ruled.state in
     let p = v.first in
     let q : Part = own_part v in
@@ -207,7 +207,7 @@ Publishes-Ruled b words views id v x ruled begun found part may =
     let w : View = with_part (record v { seen = all }) (with_record b q x) in
     let push = MayPush-MayPublish b words s v x ruled.sound knows (own.seen ∙ own.published) may in
     let sound : Sound b s' = Sound-pushed b words s v x ruled.sound knows push may in
-    let shown : Shown b after s' = Shown-publish b words s v q x ruled.shown own may refl in
+    let shown : Shown b after s' = Shown-publish b words s v q x ruled.shown own may refl room in
     let same_requests : SameRequestWords b words after =
     λ a slot i j is. kept-published b words p (q.published + 1) own.known (request_word a slot i j) is (λ e. cc) in
     let same_records : (k i : ℕ) → SameRecordWords b words after k i =

@@ -1,9 +1,9 @@
 -- The publishing step that the rule allows.
-use Rattle.std.proofs.Common.{◌≡◌, ℕ, ◌+◌, List, [], refl, sym, subst, ap, ◌∙◌, arith}
+use Rattle.std.proofs.Common.{◌≡◌, ℕ, ◌+◌, ◌<◌, List, [], refl, sym, subst, ap, ◌∙◌, arith}
 use lib.ListN.{get_elem?}
 use mathlib.Core.Option.{none, some}
 use Rattle.atomic_table.specs.Table.{Allows, Me, keeps, step}
-use Rattle.at_ledger.specs.Book.{BookTerms, IsBegun}
+use Rattle.at_ledger.specs.Book.{BookTerms, IsBegun, log_room_of}
 use Rattle.at_board.proofs.FormLaws.{IsForm-Sound, record_words-injective}
 use Rattle.at_board.specs.Forms.{IsForm}
 use Rattle.at_board.proofs.PublishLaws.{Publishes-Ruled}
@@ -37,11 +37,12 @@ same_record b words views id v x y ruled begun found one other =
     (one.process ∙ sym other.process) (sym one.stored ∙ other.stored)
 
 module _ {S : Type 0} where
-  publishes : (b : BookTerms) (slots id : ℕ) (me : Me S View) (x : Publication) → IsBegun b → IsSeatOf b me.0 → me.1 ≡ [] → MayPublish b me.0 x
+  publishes : (b : BookTerms) (slots id : ℕ) (me : Me S View) (x : Publication) → IsBegun b → IsSeatOf b me.0 → me.1 ≡ []
+      → (own_part me.0).published < log_room_of b me.0.first → MayPublish b me.0 x
       → let i = place_at b (length_of me.0.first) in let n = (own_part me.0).published + 1 in
       Allows (λ s. Ruled b s.words s.views) slots id me i (λ _. n) (λ _. published_record (step slots i n 0 none) me n)
-  publishes b slots id me x begun seat empty may s holds homes found fits =
-      let done = Publishes-Ruled b s.words s.views id me.0 x holds begun found (omega (arith, seat.one_part)) may in (
+  publishes b slots id me x begun seat empty room may s holds homes found fits =
+      let done = Publishes-Ruled b s.words s.views id me.0 x holds begun found (omega (arith, seat.one_part)) room may in (
         done.0,
         keeps,
         tt,
@@ -56,13 +57,14 @@ module _ {S : Type 0} where
       )
 
   pub publishes_at : (key b : BookTerms) (slots id : ℕ) (me : Me S View) (x : Publication) (i n : ℕ) → key ≡ b → i ≡ me.0.first
-      → n ≡ (own_part me.0).published + 1 → IsBegun b → IsSeatOf b me.0 → me.1 ≡ [] → MayPublish b me.0 x
+      → n ≡ (own_part me.0).published + 1 → IsBegun b → IsSeatOf b me.0 → me.1 ≡ []
+      → (own_part me.0).published < log_room_of b me.0.first → MayPublish b me.0 x
       → Allows (λ s. Ruled key s.words s.views) slots id me i (λ _. n) (λ _. published_record (step slots i n 0 none) me n)
-  publishes_at key b slots id me x i n is at counted begun seat empty may =
+  publishes_at key b slots id me x i n is at counted begun seat empty room may =
       subst (λ (k : BookTerms). Allows (λ s. Ruled k s.words s.views) slots id me i (λ _. n) (λ _. published_record (step slots i n 0 none) me n)) (sym is)
       (subst (λ (k : ℕ). Allows (λ s. Ruled b s.words s.views) slots id me k (λ _. n) (λ _. published_record (step slots k n 0 none) me n)) (place_at-length_of b me.0.first ∙ sym at)
       (subst (λ (k : ℕ). Allows (λ s. Ruled b s.words s.views) slots id me (place_at b (length_of me.0.first)) (λ _. k) (λ _. published_record (step slots (place_at b (length_of me.0.first)) k 0 none) me k)) (sym counted)
-      (publishes b slots id me x begun seat empty may)))
+      (publishes b slots id me x begun seat empty room may)))
 
   -- what the publishing step has told
   pub Publishes-played : (b : BookTerms) (slots i : ℕ) (me after : Me S View) (x : Publication) (n : ℕ) → me.0.book ≡ b → MayPublish b me.0 x

@@ -109,7 +109,7 @@ IsNextAtMost-IsShownEntry : (b : BookTerms) (p : ℕ) (prefix xs : List Publicat
 IsNextAtMost-IsShownEntry b p prefix xs (Own from targets) law more = tt
 IsNextAtMost-IsShownEntry b p prefix xs (Round a r d targets) law more = omega (arith, more a, law.0.next)
 
-IsNextAtMost-IsHistory : (b : BookTerms) (xs : List Publication) (m : ℕ) → IsHistory b xs → m < length xs
+pub IsNextAtMost-IsHistory : (b : BookTerms) (xs : List Publication) (m : ℕ) → IsHistory b xs → m < length xs
     → IsNextAtMost (take m xs) (publication_at xs m).entry
 IsNextAtMost-IsHistory b xs m history within =
     let x : Publication = publication_at xs m in

@@ -145,7 +145,6 @@ may_publish_moving b v w h i j k l four known history blank room owns front head
     let within = place-IsFront-le b.processes view v.seen front.front all in
     record {
       process = sym first;
-      room = omega (arith, ap (λ (q : Part). q.published) told.part, room);
       stored = ap (λ (q : Part). q.stored) told.part
           ∙ six_words (own_part v) (7 + b.processes) p h i j k l blank (omega (arith, four)) head;
       view = subst (λ xs. HasView b xs (moving p view)) (sym seen) (record {
@@ -196,10 +195,10 @@ shared-HasSlot b p a slot has =
     ]
 
 -- the seat that has won the round may publish it, once it has stored the words
-pub may_publish_round : (b : BookTerms) (v w : View) (slot d : ℕ) → b.processes ≡ 4 → v.first < b.processes → 0 < b.own_room
-    → HasSlot b v.first 0 slot → HasWon b v slot → d ≡ 2 + 2 * slot → Stores v w (with_four (own_part v) d)
+pub may_publish_round : (b : BookTerms) (v w : View) (slot d : ℕ) → b.processes ≡ 4 → v.first < b.processes → HasSlot b v.first 0 slot
+    → HasWon b v slot → d ≡ 2 + 2 * slot → Stores v w (with_four (own_part v) d)
     → MayPublish b w (round_record v.first slot)
-may_publish_round b v w slot d four known room has won word told =
+may_publish_round b v w slot d four known has won word told =
     let p = v.first in
     let x = round_record p slot in
     let first : w.first ≡ p = ap (λ (t : View). t.first) told.same in
@@ -209,7 +208,6 @@ may_publish_round b v w slot d four known room has won word told =
     let decided : d ≡ word_of (first_decision slot) = omega (arith, word) in
     record {
       process = sym first;
-      room = omega (arith, ap (λ (q : Part). q.published) told.part, won.published, room);
       stored = ap (λ (q : Part). q.stored) told.part
           ∙ (ap (λ xs. (with_four (record (own_part v) { stored = xs }) d).stored) zeros
           ∙ ap (λ m. 1 ∷ 2 ^ 40 ∷ m ∷ 7 ∷ 0 ∷ 0 ∷ 0 ∷ 0 ∷ 0 ∷ 0 ∷ 0 ∷ []) decided);

@@ -33,7 +33,6 @@ MayEnter b v prefix (Round account round decision targets) =
 -- the seat may publish this record: its words are stored, and it keeps the laws after all that the seat has seen
 pub record MayPublish (b : BookTerms) (v : View) (x : Publication) : Type 0 where
   pub process : x.process ≡ v.first
-  pub room : (own_part v).published < log_room_of b v.first
   pub stored : (own_part v).stored ≡ record_words x
   pub view : HasView b v.seen x
   pub entry : MayEnter b v (prefix_of x.view v.seen) x.entry

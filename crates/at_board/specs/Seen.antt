@@ -1,8 +1,9 @@
 -- What holds of all the requests, decisions and records that a view has seen.
-use Rattle.std.specs.Prelude.{◌≡◌, ℕ, ◌≤◌, All}
+use Rattle.std.specs.Prelude.{◌≡◌, ℕ, ◌<◌, ◌≤◌, All}
 use Rattle.at_base.specs.Decision.{InRange}
 use Rattle.at_base.specs.declared.decision.Decision.{Decision}
-use Rattle.at_ledger.specs.Book.{BookTerms}
+use Rattle.at_ledger.specs.Account.{rounds_room}
+use Rattle.at_ledger.specs.Book.{BookTerms, account_of}
 use Rattle.at_board.specs.declared.publication.Entry.{Entry}
 use Rattle.at_board.specs.declared.publication.Entry.TheVariants.{Own, Round}
 use Rattle.at_board.specs.declared.request.Request.{Request}
@@ -20,10 +21,11 @@ pub record RequestInRange (b : BookTerms) (x : SeenRequest) : Type 0 where
   pub targets : AreTargets b x.request.targets
   pub since : x.request.since ≤ places_max
 
--- the numbers of a decision fit its word, and the board has words for the request that it names
+-- the numbers of a decision fit its word, and the board has words for the request that it names and for the round
 pub record DecisionInRange (b : BookTerms) (x : SeenDecision) : Type 0 where
   pub words : IsPlace b (request_word x.account x.decision.slot x.decision.number 0)
   pub range : InRange x.decision
+  pub room : x.round < rounds_room b.request_room (account_of b x.account)
 
 -- each request and each decision that the view has seen is in range
 pub record SeesInRange (view : View) : Type 0 where

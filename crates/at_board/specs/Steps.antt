@@ -13,6 +13,7 @@ use Rattle.at_board.specs.Fronts.{place, places_max, prefix_of}
 use Rattle.at_board.specs.Moves.{AreRuns}
 use Rattle.at_board.specs.Places.{record_width, slots_of}
 use Rattle.at_board.specs.Publications.{IsPrefix, count_of}
+use Rattle.at_board.specs.Rounds.{owns_of}
 use Rattle.at_board.specs.Seen.{AgreesWithSeen}
 use Rattle.at_board.specs.ShownRounds.{AgreeOnRound, IsShownDecision}
 use Rattle.at_board.specs.Sound.{AreTargets, HasView, IsSoundOwn, IsSoundRound, Sound}
@@ -63,6 +64,7 @@ pub record IsHistory (b : BookTerms) (list : List Publication) : Type 0 where
       IsShownEntry b x.process (prefix_of x.view list) x.entry
   pub decisions : (m : ℕ) → m < length list → IsShownDecision b list (publication_at list m).entry
   pub agree : (m k : ℕ) → m < length list → k < length list → AgreeOnRound (publication_at list m).entry (publication_at list k).entry
+  pub own_room : (p : ℕ) → owns_of p list ≤ b.own_room
   pub room : (p : ℕ) → p < b.processes → count_of p list ≤ log_room_of b p
   pub few : length list ≤ places_max
   pub runs : AreRuns b list

@@ -48,7 +48,6 @@ MayAppend-first b v p view targets book new known zeros pays =
     let w : View = starting_seat b p in
     let none : prefix_of view [] ≡ [] = take-nil (place view) in
     let may : MayAppend b w (record { entry = Own 0 targets; view = view }) = record {
-      room = omega (arith, book.begun.some_own_room);
       view = record {
         process = known;
         front = ap (counts b.processes) none ∙ (counts-nil b.processes ∙ sym zeros);

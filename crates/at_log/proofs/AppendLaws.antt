@@ -4,6 +4,7 @@ use Rattle.std.proofs.lemmas.Grind.{same_number_lists}
 use Rattle.std.proofs.lemmas.List.{get_or-set_other, get_or-set_same, length-set}
 use Rattle.at_ledger.specs.Book.{BookTerms, log_room_of}
 use Rattle.at_board.proofs.FrontLaws.{length-IsFront}
+use Rattle.at_board.proofs.LogRoomLaws.{published-MayEnter}
 use Rattle.at_board.proofs.OwnRequestLaws.{own_part-with_part}
 use Rattle.at_board.specs.declared.publication.Publication.{Publication}
 use Rattle.at_board.specs.declared.view.Part.{Part}
@@ -11,6 +12,8 @@ use Rattle.at_board.specs.declared.view.View.{View}
 use Rattle.at_board.specs.Conditions.{MayPublish, MayStoreWord}
 use Rattle.at_board.specs.Places.{record_width}
 use Rattle.at_board.specs.SeatCounts.{HasOwnPart}
+use Rattle.at_board.specs.SeatView.{IsSeat}
+use Rattle.at_board.specs.Seen.{SeesInRange}
 use Rattle.at_board.specs.Steps.{Publishes, StoresWord, with_part, with_record, with_word}
 use Rattle.at_board.specs.Views.{no_part, own_part}
 use Rattle.at_board.specs.Words.{record_words}
@@ -69,13 +72,19 @@ IsStoring-more v u w words j n some inside storing word told =
           (get_or-set_same storing.stored j n 0 (omega (arith, inside, storing.sized)) ∙ word);
     }
 
+-- the log has room for the record
+pub published-MayAppend : (b : BookTerms) (v : View) (x : Record) (process published : ℕ) → v.book ≡ b → IsSeat v process published → SeesInRange v
+    → MayAppend b v x → (own_part v).published < log_room_of b v.first
+published-MayAppend b v x process published book seat sees may =
+    published-MayEnter b v (published_by v.first x) process published book seat sees refl may.view may.entry
+
 -- all that a store asks
-pub MayStoreWord-IsStoring : (b : BookTerms) (v u : View) (x : Record) (words : List ℕ) (j k : ℕ) → 0 < length v.parts → MayAppend b v x
-    → IsStoring v u words k → j < record_width b → MayStoreWord b u j
-MayStoreWord-IsStoring b v u x words j k some may storing inside =
+pub MayStoreWord-IsStoring : (b : BookTerms) (v u : View) (words : List ℕ) (j k : ℕ) → 0 < length v.parts
+    → (own_part v).published < log_room_of b v.first → IsStoring v u words k → j < record_width b → MayStoreWord b u j
+MayStoreWord-IsStoring b v u words j k some room storing inside =
     subst (λ t. MayStoreWord b t j) (sym storing.same)
     (record {
-      room = subst (λ (q : Part). q.published < log_room_of b v.first) (sym (own_part-with_part v (with_stored (own_part v) storing.stored) some)) may.room;
+      room = subst (λ (q : Part). q.published < log_room_of b v.first) (sym (own_part-with_part v (with_stored (own_part v) storing.stored) some)) room;
       word = inside;
     })
 
@@ -95,7 +104,6 @@ MayPublish-IsStoring b v u x j book part may storing all =
     subst (λ t. MayPublish b t y) (sym storing.same)
     (record {
       process = refl;
-      room = subst (λ (q : Part). q.published < log_room_of b v.first) (sym own) may.room;
       stored = ap (λ (q : Part). q.stored) own ∙ words;
       view = may.view;
       entry = may.entry;

@@ -1,16 +1,13 @@
 -- What an append asks of a seat and a record.
-use Rattle.std.specs.Prelude.{◌<◌}
-use Rattle.at_ledger.specs.Book.{BookTerms, log_room_of}
+use Rattle.at_ledger.specs.Book.{BookTerms}
 use Rattle.at_board.specs.declared.view.View.{View}
 use Rattle.at_board.specs.Conditions.{MayEnter}
 use Rattle.at_board.specs.Fronts.{prefix_of}
 use Rattle.at_board.specs.Sound.{HasView}
-use Rattle.at_board.specs.Views.{own_part}
 use Rattle.at_log.specs.declared.record.Record.{Record}
 use Rattle.at_log.specs.ClosingTerms.{published_by}
 
--- the seat may publish this record next: there is room for it, and it keeps the laws after all that the seat has seen
+-- the seat may publish this record next: it keeps the laws after all that the seat has seen
 pub record MayAppend (b : BookTerms) (v : View) (x : Record) : Type 0 where
-  pub room : (own_part v).published < log_room_of b v.first
   pub view : HasView b v.seen (published_by v.first x)
   pub entry : MayEnter b v (prefix_of x.view v.seen) x.entry

@@ -45,7 +45,6 @@ may_publish b v one two book new part processes known pays first second =
     ap (λ n. (with_word (with_word (record (starting_part b) { stored = replicate n 0 }) 1 1099511627777) 3 30).stored) width in
     record {
       process = sym first_is;
-      room = omega (arith, ap (λ (q : Part). q.published) all, book.begun.some_own_room);
       stored = ap (λ (q : Part). q.stored) all ∙ stored;
       view = subst (λ xs. HasView b xs (payment p)) (sym seen) (record {
         process = omega (arith, known, processes);

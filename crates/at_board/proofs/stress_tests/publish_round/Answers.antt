@@ -1,5 +1,5 @@
-use Rattle.std.proofs.Common.{◌≡◌, ℕ, ◌+◌, ◌*◌, ◌<◌, None, ap, subst, ◌∙◌, arith, inl, inr}
-use Rattle.at_ledger.specs.Book.{BookTerms, IsBook}
+use Rattle.std.proofs.Common.{◌≡◌, ℕ, ◌+◌, ◌*◌, None, ap, ◌∙◌, arith, inl, inr}
+use Rattle.at_ledger.specs.Book.{BookTerms}
 use Rattle.at_board.proofs.SmallBoardLaws.{IsIdle-published, Stores-four, may_publish_round, round_record, with_four}
 use Rattle.at_board.specs.declared.view.View.{View}
 use Rattle.at_board.specs.SmallBoard.{HasWon}
@@ -13,13 +13,12 @@ publish-requires-clause-record g c =
     let v : View = c.args.seat.now.view in
     let slot = c.args.slot in
     let d = 2 + 2 * c.from.result in
-    let book : IsBook b = subst IsBook c.book.ensures c.accounts-accounts.ensures.checked in
     let stored = Stores-four v c.store_record_word.new.seat.view c.store_record_word-2.new.seat.view c.store_record_word-3.new.seat.view
     c.store_record_word-4.new.seat.view d c.process-process.ensures.part.one_part c.store_record_word.ensures.stored c.store_record_word-2.ensures.stored
     c.store_record_word-3.ensures.stored c.store_record_word-4.ensures.stored in
     let may = may_publish_round b v c.store_record_word-4.new.seat.view slot d c.requires.four
     (omega (arith, c.process-process.ensures.seat.known, ap (λ (t : BookTerms). t.processes) c.requires.board.book))
-    (omega (arith, book.begun.some_own_room)) c.requires.slot c.requires.won (omega (arith, c.from.ensures)) stored in
+    c.requires.slot c.requires.won (omega (arith, c.from.ensures)) stored in
     (round_record v.first slot, may)
 
 -- the record gives up the cell
@@ -35,13 +34,12 @@ returns-clause-idle g c =
     let v : View = c.args.seat.now.view in
     let slot = c.args.slot in
     let d = 2 + 2 * c.from.result in
-    let book : IsBook b = subst IsBook c.book.ensures c.accounts-accounts.ensures.checked in
     let stored = Stores-four v c.store_record_word.new.seat.view c.store_record_word-2.new.seat.view c.store_record_word-3.new.seat.view
     c.store_record_word-4.new.seat.view d c.process-process.ensures.part.one_part c.store_record_word.ensures.stored c.store_record_word-2.ensures.stored
     c.store_record_word-3.ensures.stored c.store_record_word-4.ensures.stored in
     let may = may_publish_round b v c.store_record_word-4.new.seat.view slot d c.requires.four
     (omega (arith, c.process-process.ensures.seat.known, ap (λ (t : BookTerms). t.processes) c.requires.board.book))
-    (omega (arith, book.begun.some_own_room)) c.requires.slot c.requires.won (omega (arith, c.from.ensures)) stored in
+    c.requires.slot c.requires.won (omega (arith, c.from.ensures)) stored in
     IsIdle-published c.args.board.now c.args.seat.now c.store_record_word-4.new.seat c.publish.new.seat (with_four (own_part v) d) (round_record v.first slot)
     c.requires.board c.process-process.ensures.part.one_part stored (gives_up_cell b v v.first slot c.requires.won)
     (c.publish.ensures.published (round_record v.first slot) may)
@@ -54,11 +52,10 @@ returns-clause-process g c =
     let v : View = c.args.seat.now.view in
     let slot = c.args.slot in
     let d = 2 + 2 * c.from.result in
-    let book : IsBook b = subst IsBook c.book.ensures c.accounts-accounts.ensures.checked in
     let stored = Stores-four v c.store_record_word.new.seat.view c.store_record_word-2.new.seat.view c.store_record_word-3.new.seat.view
     c.store_record_word-4.new.seat.view d c.process-process.ensures.part.one_part c.store_record_word.ensures.stored c.store_record_word-2.ensures.stored
     c.store_record_word-3.ensures.stored c.store_record_word-4.ensures.stored in
     let may = may_publish_round b v c.store_record_word-4.new.seat.view slot d c.requires.four
     (omega (arith, c.process-process.ensures.seat.known, ap (λ (t : BookTerms). t.processes) c.requires.board.book))
-    (omega (arith, book.begun.some_own_room)) c.requires.slot c.requires.won (omega (arith, c.from.ensures)) stored in
+    c.requires.slot c.requires.won (omega (arith, c.from.ensures)) stored in
     ap (λ (t : View). t.first) (c.publish.ensures.published (round_record v.first slot) may).same ∙ ap (λ (t : View). t.first) stored.same

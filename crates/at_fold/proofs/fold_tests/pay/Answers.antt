@@ -1,4 +1,4 @@
-use Rattle.std.proofs.Common.{◌≡◌, ◌<◌, replicate, ap, subst, ◌∙◌, arith}
+use Rattle.std.proofs.Common.{◌<◌, replicate, ap, subst, ◌∙◌, arith}
 use Rattle.at_ledger.specs.Book.{BookTerms, IsBook}
 use Rattle.at_board.specs.declared.view.View.{View}
 use Rattle.at_fold.proofs.FirstRecord.{HasPaid-first, MayAppend-first}

@@ -6,7 +6,7 @@ use Rattle.at_board.specs.Places.{record_width}
 use Rattle.at_board.specs.Steps.{IsHistory}
 use Rattle.at_board.specs.Views.{own_part}
 use Rattle.at_board.specs.Words.{record_words}
-use Rattle.at_log.proofs.AppendLaws.{IsStoring-more, MayPublish-IsStoring, Publishes-IsStoring}
+use Rattle.at_log.proofs.AppendLaws.{IsStoring-more, MayPublish-IsStoring, MayStoreWord-IsStoring, Publishes-IsStoring, published-MayAppend}
 use Rattle.at_log.proofs.FormFacts.{IsForm-MayAppend}
 use Rattle.at_log.proofs.LastLaws.{IsLast-Publishes}
 use Rattle.at_log.specs.declared.record.Record.{Record}
@@ -34,6 +34,16 @@ record_word-requires-clause-word g c =
       width,
       length-IsFront b.processes x.view c.args.seat.now.view.seen c.requires.record.view.front,
     )
+
+pub store_record_word-requires-clause-word : goal.store_record_word-requires-clause-word
+store_record_word-requires-clause-word g c =
+    let b : BookTerms = c.args.board.now.book in
+    let v : View = c.args.seat.now.view in
+    let told = c.process-process.ensures in
+    let width = ap (λ (t : BookTerms). t.processes) c.book-2.ensures in
+    let room = published-MayAppend b v c.args.rec.now c.process-process.result (own_part v).published c.requires.board.book told.seat told.in_range c.requires.record in
+    MayStoreWord-IsStoring b v c.loop-j.seat.view (record_words (published_by v.first c.args.rec.now)) c.loop-j.j c.loop-j.j (omega (arith, told.part.one_part)) room
+    c.loop-j.invariant.storing (omega (arith, c.loop-j-test.true, c.processes-width.ensures, width))
 
 pub loop-j-preserved : goal.loop-j-preserved
 loop-j-preserved g c =

@@ -13,7 +13,6 @@ use Rattle.at_board.specs.Fronts.{place, prefix_of}
 use Rattle.at_board.specs.Publications.{counts}
 use Rattle.at_board.specs.Rounds.{owns_of}
 use Rattle.at_board.specs.Sound.{HasView, IsSoundOwn}
-use Rattle.at_board.specs.Views.{own_part}
 use Rattle.at_log.specs.Appending.{MayAppend}
 use Rattle.at_log.specs.ClosingTerms.{published_by}
 use Rattle.at_log.proofs.log_tests.pay.Goals as goal
@@ -32,7 +31,6 @@ may_append b v view targets book new known zeros pays =
     let seen : [] ≡ v.seen = sym (ap (λ (t : View). t.seen) new) in
     let none : prefix_of view [] ≡ [] = take-nil (place view) in
     record {
-      room = omega (arith, ap (λ (t : View). (own_part t).published) new, book.begun.some_own_room);
       view = subst (λ xs. HasView b xs (published_by p (record { entry = Own 0 targets; view = view }))) seen (record {
         process = known;
         front = ap (counts b.processes) none ∙ (counts-nil b.processes ∙ sym zeros);

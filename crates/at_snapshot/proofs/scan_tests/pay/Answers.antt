@@ -39,7 +39,6 @@ may_append b v view new known zeros pays =
     let seen : [] ≡ v.seen = sym (ap (λ (t : View). t.seen) new) in
     let none : prefix_of view [] ≡ [] = take-nil (place view) in
     record {
-      room = omega (arith, ap (λ (t : View). (own_part t).published) new, pays.room);
       view = subst (λ xs. HasView b xs (published_by p (with_view view))) seen (record {
         process = known;
         front = ap (counts b.processes) none ∙ (counts-nil b.processes ∙ sym zeros);

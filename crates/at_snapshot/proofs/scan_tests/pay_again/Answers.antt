@@ -8,9 +8,8 @@ use Rattle.at_board.specs.Balances.{IsCovered}
 use Rattle.at_board.specs.Fronts.{place, prefix_of}
 use Rattle.at_board.specs.Publications.{IsPrefix, count_of}
 use Rattle.at_board.specs.Rounds.{firsts}
-use Rattle.at_board.specs.Views.{own_part}
 use Rattle.at_log.specs.Appending.{MayAppend}
-use Rattle.at_snapshot.proofs.LoadedLaws.{first-HasLoaded, published-HasLoaded}
+use Rattle.at_snapshot.proofs.LoadedLaws.{first-HasLoaded}
 use Rattle.at_snapshot.specs.Collected.{HasLoaded}
 use Rattle.at_snapshot.specs.SmallScan.{HasPaid, MayPayTwice, payment}
 use Rattle.at_snapshot.specs.Snapshots.{IsSnapshot}
@@ -33,7 +32,6 @@ may_append : (b : BookTerms) (v w : View) (view : List ℕ) → 0 < length v.par
     → HasLoaded b v w → IsSnapshot b v w view → view ≡ 0 ∷ 1 ∷ 0 ∷ [] → MayAppend b w (record { entry = payment; view = view })
 may_append b v w view part paid pays one known told snapshot is =
     let first : w.first ≡ v.first = first-HasLoaded b v w told in
-    let published : (own_part w).published ≡ 1 = published-HasLoaded b v w part told ∙ paid.published in
     let counted : count_of w.first w.seen ≡ 1 = ap (λ p. count_of p w.seen) first ∙ (told.own ∙ paid.published) in
     let x : Publication = record { process = v.first; view = paid.view; entry = payment } in
     let begins : IsPrefix v.seen (prefix_of view w.seen) = snapshot.begins in
@@ -41,7 +39,6 @@ may_append b v w view part paid pays one known told snapshot is =
     let prefix : prefix_of view w.seen ≡ x ∷ [] =
     only_one paid.earlier begins.0 (prefix_of view w.seen) x few (begins.1 ∙ ap (λ xs. xs ++ begins.0) paid.seen) in
     record {
-      room = omega (arith, published, pays.room);
       view = record {
         process = omega (arith, first, one, known);
         front = snapshot.front;

@@ -13,7 +13,7 @@ use Rattle.at_board.specs.Sound.{IsSoundOwn}
 use Rattle.at_board.specs.Views.{own_part}
 use Rattle.at_log.specs.declared.record.Record.{Record}
 use Rattle.at_log.specs.Appending.{MayAppend}
-use Rattle.at_snapshot.proofs.LoadedLaws.{first-HasLoaded, published-HasLoaded}
+use Rattle.at_snapshot.proofs.LoadedLaws.{first-HasLoaded}
 use Rattle.at_snapshot.specs.Collected.{HasLoaded}
 use Rattle.at_snapshot.specs.Snapshots.{IsSnapshot}
 use Rattle.at_snapshot.proofs.traffic_tests.move_nothing.Goals as goal
@@ -38,7 +38,6 @@ may_append b v w from view source known one owner room told snapshot =
     let sound : IsSoundOwn b v.first prefix from ((0, 0) ∷ []) =
     subst (λ k. IsSoundOwn b v.first prefix k ((0, 0) ∷ [])) (sym source) (may_move b v.first w.seen view told.history owner (omega (arith, within))) in
     record {
-      room = omega (arith, published-HasLoaded b v w (omega (arith, one)) told, room);
       view = record {
         process = omega (arith, first, known);
         front = snapshot.front;

@@ -54,6 +54,8 @@ invariant_of-seat g c =
     let d : Decision = c.requires.proposal.0 in
     let r : Request = c.requires.proposal.1 in
     let may : MayPropose b c.args.seat.now.view c.args.account c.args.round d r = c.requires.proposal.2 in
+    let here = IsPlace-MayPropose b c.args.seat.now.view c.args.account c.args.round d r c.requires.board.book
+    c.process-process.ensures.seat.history c.process-process.ensures.in_range may in
     let w : View = c.compare_exchange-found.new.seat.me.0 in
     let n = word_after c.compare_exchange-found.result c.args.proposal in
     let told : Decides b v w c.args.account c.args.round d n = subst (λ (t : View). Decides b t w c.args.account c.args.round d n) (sym mine)
@@ -63,7 +65,7 @@ invariant_of-seat g c =
       c.compare_exchange-found.ensures.2.0 ∙ c.seat.invariant.0,
       IsSeat-decided b v w c.seat.inside.process c.seat.inside.published c.args.account c.args.round d n book c.seat.invariant.1 told,
       HasCounts-decided b v w c.args.account c.args.round d n c.seat.inside.announced.items (omega (arith, c.seat.invariant.1.one_part)) told c.seat.invariant.2,
-      SeesInRange-decided b v w c.args.seat.now.view c.args.account c.args.round d d r n book may told c.seat.invariant.3,
+      SeesInRange-decided b v w c.args.account c.args.round d n book here told c.seat.invariant.3,
     )
 
 pub returns-clause-decided : goal.returns-clause-decided

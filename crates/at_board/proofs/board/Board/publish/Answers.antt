@@ -1,5 +1,6 @@
 use Rattle.std.proofs.Common.{◌≡◌, ◌+◌, sym, ap, ◌∙◌, arith}
 use Rattle.at_ledger.specs.Book.{BookTerms}
+use Rattle.at_board.proofs.LogRoomLaws.{published-MayEnter}
 use Rattle.at_board.proofs.PlaceLaws.{place_at-below}
 use Rattle.at_board.proofs.PublishStep.{IsSeat-publish, MayPublish-same, Publishes-played, Publishes-same, publishes_at}
 use Rattle.at_board.proofs.SeatCountLaws.{HasCounts-publish, SeesInRange-publish}
@@ -21,12 +22,13 @@ store-requires g c =
     let book : v.book ≡ b = ap (λ (t : View). t.book) mine ∙ (c.requires.board.book ∙ sym ours) in
     let may : MayPublish b v c.requires.record.0 = MayPublish-same c.args.self.now.book b c.args.seat.now.view v c.requires.record.0 ours mine c.requires.record.1 in
     let kept = c.seat.invariant.1 in
-    let seat = IsSeatOf-IsSeat b v c.seat.inside.process c.seat.inside.published book kept in (
+    let seat = IsSeatOf-IsSeat b v c.seat.inside.process c.seat.inside.published book kept in
+    let room = published-MayEnter b v c.requires.record.0 c.seat.inside.process c.seat.inside.published book kept c.seat.invariant.3 may.process may.view may.entry in (
       ap (λ s. s.board) c.seat.view_is ∙ (c.requires.board.id ∙ sym (ap (λ t. t.id) c.self.view_is)),
       omega (arith, c.self.invariant.1, kept.process_is, place_at-length_of b v.first, place_at-below b (length_of v.first) seat.known),
       publishes_at c.self.inside.table.shared.key.value b c.self.inside.table.shared.table_id.slots c.seat.inside.seat.id c.seat.inside.seat.me c.requires.record.0
           c.seat.inside.process (c.from.result + 1) c.self.invariant.0 (sym kept.process_is) (omega (arith, c.from.ensures, kept.published_is))
-          c.self.invariant.2.begun seat c.seat.invariant.0 may,
+          c.self.invariant.2.begun seat c.seat.invariant.0 room may,
     )
 
 pub overflow_add-seat : goal.overflow_add-seat
@@ -39,7 +41,8 @@ overflow_add-seat g c =
     let may : MayPublish b v c.requires.record.0 = MayPublish-same c.args.self.now.book b c.args.seat.now.view v c.requires.record.0 ours mine c.requires.record.1 in
     let kept = c.seat.invariant.1 in
     let seat = IsSeatOf-IsSeat b v c.seat.inside.process c.seat.inside.published book kept in
-    omega (arith, kept.published_is, may.room, log_room_of-le b v.first c.self.invariant.2.begun seat.known)
+    let room = published-MayEnter b v c.requires.record.0 c.seat.inside.process c.seat.inside.published book kept c.seat.invariant.3 may.process may.view may.entry in
+    omega (arith, kept.published_is, room, log_room_of-le b v.first c.self.invariant.2.begun seat.known)
 
 pub invariant_of-seat : goal.invariant_of-seat
 invariant_of-seat g c =
