@@ -379,7 +379,7 @@ length_two b xs two history =
     omega (arith, all, both)
 
 -- a list of one element at most that begins with a list that ends with x has x alone
-only_one : (earlier more ys : List Publication) (x : Publication) → length ys ≤ 1 → ys ≡ (earlier ++ x ∷ []) ++ more → ys ≡ x ∷ []
+pub only_one : (earlier more ys : List Publication) (x : Publication) → length ys ≤ 1 → ys ≡ (earlier ++ x ∷ []) ++ more → ys ≡ x ∷ []
 only_one [] [] ys x few is = is
 only_one [] (y ∷ more) ys x few is = absurd (omega (arith, few, ap length is))
 only_one (y ∷ earlier) more ys x few is =
