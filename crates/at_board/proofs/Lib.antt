@@ -57,4 +57,5 @@ pub mod AnnounceLaws
 pub mod AnnounceStep
 pub mod AskingFacts
 pub mod SmallBoardLaws
+pub mod LaterRoundLaws
 pub mod CrossLaws

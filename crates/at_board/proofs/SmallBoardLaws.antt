@@ -57,10 +57,10 @@ pub record Stores (v w : View) (q : Part) : Type 0 where
   pub parts : length w.parts ≡ length v.parts
   pub same : w ≡ record v { parts = w.parts }
 
-Stores-none : (v : View) → Stores v v (own_part v)
+pub Stores-none : (v : View) → Stores v v (own_part v)
 Stores-none v = record { part = refl; parts = refl; same = refl }
 
-Stores-more : (v w u : View) (q : Part) (j n : ℕ) → length v.parts ≡ 1 → Stores v w q → StoresWord w u j n → Stores v u (with_word q j n)
+pub Stores-more : (v w u : View) (q : Part) (j n : ℕ) → length v.parts ≡ 1 → Stores v w q → StoresWord w u j n → Stores v u (with_word q j n)
 Stores-more v w u q j n one before told =
     let part : 0 < length w.parts = omega (arith, one, before.parts) in
     record {
@@ -187,7 +187,7 @@ unfolding counts publications_of
 counts-none = refl
 
 -- only a shared account has slots
-shared-HasSlot : (b : BookTerms) (p a slot : ℕ) → HasSlot b p a slot → is_shared (account_of b a) ≡ true
+pub shared-HasSlot : (b : BookTerms) (p a slot : ℕ) → HasSlot b p a slot → is_shared (account_of b a) ≡ true
 shared-HasSlot b p a slot has =
     elim (cases_Bool (is_shared (account_of b a))) as (λ _. is_shared (account_of b a) ≡ true) [
       | inl shared ↦ shared

@@ -10,6 +10,8 @@ mod board_end;
 mod crossing;
 mod dealing;
 mod ending;
+#[cfg(test)]
+mod later_round_tests;
 mod log_starts;
 mod meeting;
 mod note;

@@ -90,7 +90,7 @@ fn counts_of(a: u32, b: u32, c: u32, d: u32) -> Counts
 }
 
 /// Loads a length between two records.
-fn look<L: Ledger, X: Ledger>(
+pub(crate) fn look<L: Ledger, X: Ledger>(
     board: &Board,
     seat: &mut BoardSeat,
     p: u32,

@@ -1,0 +1,313 @@
+//! The second round of a shared account, after a first one that both of its owners have published.
+
+ghost use Rattle.std.specs.Prelude.{◌≡◌, ◌<◌, IfOk, IsTrue};
+ghost use Rattle.at_board.specs.declared.request.Request.{Request};
+ghost use Rattle.at_board.specs.Conditions.{MayPropose};
+ghost use Rattle.at_board.specs.Cuts.{starting_seat};
+ghost use Rattle.at_board.specs.DecideSteps.{Decides};
+ghost use Rattle.at_board.specs.Publications.{IsPrefix};
+ghost use Rattle.at_board.specs.RequestSteps.{Announces};
+ghost use Rattle.at_board.specs.SeatView.{IsOf};
+ghost use Rattle.at_board.specs.SmallBoard.{HasBegun, HasTwoOwners, IsIdle, MayAskIn, MayRepeat, MayRecord, decision_in, first_once, first_twice, payment_in, record_in};
+ghost use Rattle.at_board.specs.Steps.{Publishes};
+ghost use Rattle.at_board.specs.Views.{HasSlot, SeesRequest};
+
+use crate::request_tests::{last_seat, slot_on};
+use crate::stress_tests::look;
+use crate::{Board, BoardEnd, BoardSeat, Steps};
+use at_ledger::{Book, Draft, DraftAccount};
+use std::alloc::{AllocError, Global};
+use std::marker::Brand;
+use std::process::Abort;
+use std::sync::ledger::{Blank, Ledger};
+use std::test::Fail;
+
+/// A book of two processes that share account 0, of which one has account 1.
+fn two_account_book(alloc: Global) -> Result<Book, Fail> {
+    let both = vec![in alloc; 0u64, 1]?;
+    let alone = vec![in alloc; 1u64]?;
+    let accounts = vec![in alloc;
+        DraftAccount {
+            opening: 100,
+            owners: both
+        },
+        DraftAccount {
+            opening: 0,
+            owners: alone
+        },
+    ]?;
+    let draft = Draft {
+        processes: 2,
+        own_room: 4,
+        request_room: 4,
+        accounts,
+    };
+    Ok(Book::new(alloc, &draft)?)
+}
+
+/// Whether a process shares account 0 by its own number.
+fn has_own_slot(book: &Book, process: u32) -> bool
+    ensures { IsTrue result → HasSlot book.now process 0 process }
+{
+    match slot_on(book, 0, process) {
+        Some(slot) => slot == process,
+        None => false,
+    }
+}
+
+/// Whether two processes share account 0, which covers 90.
+fn has_two_owners(book: &Book) -> bool
+    ensures { IsTrue result → HasTwoOwners book.now }
+{
+    if book.processes() != 2 || book.accounts() < 2 {
+        return false;
+    }
+    if book.own_room() < 2 || book.request_room() < 2 || book.opening(0) < 90 {
+        return false;
+    }
+    has_own_slot(book, 0) && has_own_slot(book, 1)
+}
+
+/// Process 0 asks to pay account 1 in a round, at the place after two records of each round before it.
+fn ask_in<L: Ledger, X: Ledger>(
+    board: &Board,
+    seat: &mut BoardSeat,
+    round: u32,
+    amount: u64,
+    steps: &mut Steps<L>,
+    exchanges: &mut Steps<X>,
+)
+    requires board { IsOf seat.old board.now }
+    requires owners { HasTwoOwners board.now.book }
+    requires process { seat.old.view.first ≡ 0 }
+    requires asks { MayAskIn seat.old.view round }
+    ensures board { seat.new.board ≡ seat.old.board }
+    ensures announced { Announces board.now.book seat.old.view seat.new.view 0 0 (payment_in round amount) }
+{
+    let _process = seat.process();
+    board.store_request_word(seat, 0, 0, 1_099_511_627_777, steps, exchanges);
+    board.store_request_word(seat, 0, 1, amount, steps, exchanges);
+    board.store_request_word(seat, 0, 5, 2 * u64::from(round), steps, exchanges);
+    board.announce(seat, 0, steps, exchanges);
+}
+
+/// Proposes that a round of account 0 decide process 0's request of its number, which succeeds.
+fn decide_in<L: Ledger, X: Ledger>(
+    board: &Board,
+    seat: &mut BoardSeat,
+    round: u32,
+    steps: &mut Steps<L>,
+    exchanges: &mut Steps<X>,
+) -> u64
+    requires board { IsOf seat.old board.now }
+    requires early { round < 2 }
+    requires proposal { (r : Request) × MayPropose board.now.book seat.old.view 0 round (decision_in round) r }
+    ensures board { seat.new.board ≡ seat.old.board }
+    ensures decided { Decides board.now.book seat.old.view seat.new.view 0 round (decision_in round) result }
+{
+    board.decide(
+        seat,
+        0,
+        round,
+        2 + 524_304 * u64::from(round),
+        steps,
+        exchanges,
+    )
+}
+
+/// Publishes what was decided in a round, at the front of two records of each round before it.
+fn publish_in<L: Ledger, X: Ledger>(
+    board: &Board,
+    seat: &mut BoardSeat,
+    round: u32,
+    amount: u64,
+    steps: &mut Steps<L>,
+    exchanges: &mut Steps<X>,
+)
+    requires board { IsOf seat.old board.now }
+    requires owners { HasTwoOwners board.now.book }
+    requires early { round < 2 }
+    requires may { MayRecord board.now.book seat.old.view (record_in seat.old.view.first round amount) }
+    ensures board { seat.new.board ≡ seat.old.board }
+    ensures published { Publishes board.now.book seat.old.view seat.new.view (record_in seat.old.view.first round amount) }
+{
+    let _process = seat.process();
+    let count = u64::from(round);
+    let decision = 2 + 524_304 * count;
+    board.store_record_word(seat, 0, 1 + 8_589_934_592 * count, steps, exchanges);
+    board.store_record_word(seat, 1, 1_099_511_627_777, steps, exchanges);
+    board.store_record_word(seat, 2, decision, steps, exchanges);
+    board.store_record_word(seat, 3, amount, steps, exchanges);
+    board.store_record_word(seat, 7, count, steps, exchanges);
+    board.store_record_word(seat, 8, count, steps, exchanges);
+    board.publish(seat, steps, exchanges);
+}
+
+/// Process 0 asks for the first round, decides it and publishes it. Answers whether it has, before any other record.
+fn begin<L: Ledger, X: Ledger>(
+    board: &Board,
+    seat: &mut BoardSeat,
+    steps: &mut Steps<L>,
+    exchanges: &mut Steps<X>,
+) -> bool
+    requires board { seat.old.board ≡ board.now.id }
+    requires new { seat.old.view ≡ starting_seat board.now.book 0 }
+    requires owners { HasTwoOwners board.now.book }
+    ensures begun { IsTrue result → HasBegun board.now seat.new }
+    ensures request { IsTrue result → SeesRequest seat.new.view 0 0 0 (payment_in 0 60) }
+    ensures seen { IsTrue result → seat.new.view.seen ≡ first_once }
+{
+    ask_in(board, seat, 0, 60, steps, exchanges);
+    if decide_in(board, seat, 0, steps, exchanges) != 2 {
+        return false;
+    }
+    publish_in(board, seat, 0, 60, steps, exchanges);
+    look(board, seat, 1, steps, exchanges) == 0
+}
+
+/// Process 1 proposes the same for the first round, and publishes it too. Answers whether it has, right after the other.
+fn repeat<L: Ledger, X: Ledger>(
+    board: &Board,
+    seat: &mut BoardSeat,
+    steps: &mut Steps<L>,
+    exchanges: &mut Steps<X>,
+) -> bool
+    requires owners { HasTwoOwners board.now.book }
+    requires may { MayRepeat board.now seat.old }
+    ensures idle { IsTrue result → IsIdle board.now seat.new }
+    ensures process { IsTrue result → seat.new.view.first ≡ 1 }
+    ensures seen { IsTrue result → seat.new.view.seen ≡ first_twice }
+{
+    if decide_in(board, seat, 0, steps, exchanges) != 2 {
+        return false;
+    }
+    publish_in(board, seat, 0, 60, steps, exchanges);
+    look(board, seat, 0, steps, exchanges) == 1
+}
+
+/// Process 0 asks for the second round, decides it and publishes it. Answers whether it has.
+fn go_on<L: Ledger, X: Ledger>(
+    board: &Board,
+    seat: &mut BoardSeat,
+    steps: &mut Steps<L>,
+    exchanges: &mut Steps<X>,
+) -> bool
+    requires owners { HasTwoOwners board.now.book }
+    requires begun { HasBegun board.now seat.old }
+    requires seen { IsPrefix first_twice seat.old.view.seen }
+    ensures idle { IsTrue result → IsIdle board.now seat.new }
+    ensures process { IsTrue result → seat.new.view.first ≡ 0 }
+{
+    ask_in(board, seat, 1, 30, steps, exchanges);
+    if decide_in(board, seat, 1, steps, exchanges) != 524_306 {
+        return false;
+    }
+    publish_in(board, seat, 1, 30, steps, exchanges);
+    true
+}
+
+/// Closes a board with its two seats.
+fn close_two(
+    board: Board,
+    alloc: Global,
+    zero: BoardSeat,
+    one: BoardSeat,
+) -> Result<BoardEnd, AllocError>
+    requires two { board.book.processes ≡ 2 }
+    requires zero { IsIdle board zero × (zero.view.first ≡ 0) }
+    requires one { IsIdle board one × (one.view.first ≡ 1) }
+    ensures { IfOk result (λ e. e.book ≡ board.book) }
+{
+    let seats = vec![in alloc; zero, one]?;
+    match board.close(alloc, seats) {
+        Ok(end) => Ok(end),
+        Err(_) => Err(AllocError),
+    }
+}
+
+/// Process 0's seat tells process 1's what it has seen.
+fn tell_first<L: Ledger, X: Ledger>(
+    board: &Board,
+    zero: &mut BoardSeat,
+    one: &mut BoardSeat,
+    steps: &mut Steps<L>,
+    exchanges: &mut Steps<X>,
+)
+    requires begun { HasBegun board.now zero.old }
+    requires request { SeesRequest zero.old.view 0 0 0 (payment_in 0 60) }
+    requires seen { zero.old.view.seen ≡ first_once }
+    requires board { one.old.board ≡ board.now.id }
+    requires new { one.old.view ≡ starting_seat board.now.book 1 }
+    ensures begun { HasBegun board.now zero.new }
+    ensures may { MayRepeat board.now one.new }
+{
+    let note = board.note(zero, steps, exchanges);
+    board.learn(one, note, steps, exchanges);
+}
+
+/// Process 1's seat tells process 0's what it has seen.
+fn tell_again<L: Ledger, X: Ledger>(
+    board: &Board,
+    one: &mut BoardSeat,
+    zero: &mut BoardSeat,
+    steps: &mut Steps<L>,
+    exchanges: &mut Steps<X>,
+)
+    requires idle { IsIdle board.now one.old }
+    requires process { one.old.view.first ≡ 1 }
+    requires seen { one.old.view.seen ≡ first_twice }
+    requires begun { HasBegun board.now zero.old }
+    ensures idle { IsIdle board.now one.new }
+    ensures process { one.new.view.first ≡ 1 }
+    ensures begun { HasBegun board.now zero.new }
+    ensures told { IsPrefix first_twice zero.new.view.seen }
+{
+    let note = board.note(one, steps, exchanges);
+    board.learn(zero, note, steps, exchanges);
+}
+
+/// Process 0 publishes the first round, process 1 publishes it again, and process 0 the second. The closed board has their words.
+fn settles_twice<L: Ledger, X: Ledger, R: Abort>(
+    rt: &R,
+    alloc: Global,
+    one: Blank,
+    other: Blank,
+) -> Result<(), Fail>
+    requires names { (one.name ≡ L.name) × (other.name ≡ X.name) }
+    requires parts { (one.parts ≡ L.parts) × (other.parts ≡ X.parts) }
+    requires some { (0 < one.parts) × (0 < other.parts) }
+{
+    let (steps, exchanges) = (&mut Steps::<L>::new(one), &mut Steps::<X>::new(other));
+    let book = two_account_book(alloc)?;
+    let (board, mut seats) = Board::new(alloc, &book)?;
+    assert!(rt; has_two_owners(board.book()));
+    let mut second = last_seat(&board, &mut seats).expect(rt, "a seat");
+    let mut first = last_seat(&board, &mut seats).expect(rt, "a seat");
+    assert!(rt; first.process() == 0 && second.process() == 1);
+    assert!(rt; begin(&board, &mut first, steps, exchanges));
+    tell_first(&board, &mut first, &mut second, steps, exchanges);
+    assert!(rt; repeat(&board, &mut second, steps, exchanges));
+    tell_again(&board, &mut second, &mut first, steps, exchanges);
+    assert!(rt; go_on(&board, &mut first, steps, exchanges));
+    let end = close_two(board, alloc, first, second)?;
+    assert!(rt; end.length(0) == 2 && end.length(1) == 1);
+    assert_eq!(rt;
+        (end.record_word(0, 1, 0), end.record_word(0, 1, 2)),
+        (8_589_934_593, 524_306)
+    );
+    assert_eq!(rt; end.record_word(0, 1, 3), 30);
+    assert_eq!(rt;
+        (end.record_word(0, 1, 7), end.record_word(0, 1, 8)),
+        (1, 1)
+    );
+    assert_eq!(rt;
+        (end.record_word(1, 0, 0), end.record_word(1, 0, 2)),
+        (1, 2)
+    );
+    Ok(())
+}
+
+#[test]
+fn a_later_round_is_published(rt: HostRuntime) -> Result<(), Fail> {
+    settles_twice::<Brand, Brand, _>(&rt, rt.alloc(), Blank::new(1), Blank::new(1))
+}
