@@ -97,7 +97,6 @@ may_publish_in b v u round m h d k two may head word count told =
     let ed : d ≡ word_of (decision_in round) = omega (arith, word) in
     record {
       process = sym (ap (λ (t : View). t.first) told.same);
-      room = omega (arith, ap (λ (q : Part). q.published) told.part, may.room);
       stored = ap (λ (q : Part). q.stored) told.part
           ∙ (ap (λ xs. (with_round (record (own_part v) { stored = xs }) h d m k).stored) zeros
           ∙ (λ t. eh t ∷ 1099511627777 ∷ ed t ∷ m ∷ 0 ∷ 0 ∷ 0 ∷ count t ∷ count t ∷ []));

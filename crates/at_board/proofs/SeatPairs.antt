@@ -2,7 +2,7 @@
 -- that the rule holds of some state in which both seats have their views.
 use Rattle.std.proofs.Common.{◌≡◌, ℕ, zero, suc, List, [], ◌∷◌, length, set, sym, refl, ap, arith}
 use mathlib.Core.List.{Mem, not-mem-nil}
-use mathlib.Core.Option.{some-injective, some-ne-none}
+use mathlib.Core.Option.{some-injective}
 use mathlib.Core.Option as maybe
 use lib.ListN.{get_elem?}
 use seplogic.Ra.Ura.{Ura}

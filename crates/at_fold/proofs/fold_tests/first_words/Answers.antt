@@ -1,5 +1,4 @@
-use Rattle.std.proofs.Common.{◌<◌, sym, ap, subst, arith}
-use Rattle.at_board.specs.Conditions.{MayLoadWord}
+use Rattle.std.proofs.Common.{◌<◌, ap, arith}
 use Rattle.at_board.specs.Publications.{count_of}
 use Rattle.at_board.specs.SeatView.{SeatView}
 use Rattle.at_fold.proofs.fold_tests.first_words.Goals as goal
