@@ -1,16 +1,17 @@
 -- The end of a board.
-use Rattle.std.specs.Prelude.{◌≡◌, ℕ, ◌<◌, ◌≤◌, ◌++◌, List, length, slice_index_or, All, Contains, None}
+use Rattle.std.specs.Prelude.{◌≡◌, ℕ, ◌<◌, ◌≤◌, ◌++◌, List, length, slice_index, slice_index_or, All, Contains, None}
 use Rattle.at_ledger.specs.Book.{BookTerms, IsBook, log_room_of}
 use Rattle.at_board.specs.declared.view.View.{View}
-use Rattle.at_board.specs.BoardState.{BoardState}
+use Rattle.at_board.specs.BoardState.{BoardState, publication_at}
 use Rattle.at_board.specs.Places.{length_of, word_at, word_count}
 use Rattle.at_board.specs.LearnSteps.{learned}
-use Rattle.at_board.specs.Publications.{IsPrefix, count_of}
+use Rattle.at_board.specs.Publications.{IsPrefix, count_of, publications_of}
 use Rattle.at_board.specs.SeatView.{BoardView, IsOf, SeatView}
 use Rattle.at_board.specs.Shown.{Shown}
 use Rattle.at_board.specs.Sound.{Sound}
 use Rattle.at_board.specs.Steps.{IsHistory}
 use Rattle.at_board.specs.Views.{HasSlot, IsAnnounced, IsDecided, asking_on, own_part, part_at}
+use Rattle.at_board.specs.Words.{record_words}
 
 -- a closed board by its book and its words
 pub record EndView : Type 0 where
@@ -64,3 +65,7 @@ pub record HasWords (e : EndView) : Type 0 where
   pub book : IsBook e.book
   pub sized : length e.words ≡ word_count e.book
   pub room : (p : ℕ) → p < e.book.processes → word_at e.book e.words (length_of p) ≤ log_room_of e.book p
+
+-- the number is word j of record i of the process
+abbrev pub IsPublishedWord : BoardState → ℕ → ℕ → ℕ → ℕ → Type 0
+IsPublishedWord s p i j w = w ≡ slice_index (record_words (publication_at (publications_of p s.published) i)) j

@@ -1,7 +1,11 @@
 //! What a closed board leaves.
 
 ghost use Rattle.std.specs.Prelude.{◌≡◌, ℕ, ◌<◌};
+ghost use Rattle.at_board.specs.BoardState.{BoardState};
+ghost use Rattle.at_board.specs.Ends.{IsPublishedWord};
 ghost use Rattle.at_board.specs.Places.{length_of, record_width, record_word, word_at};
+ghost use Rattle.at_board.specs.Publications.{count_of};
+ghost use Rattle.at_board.specs.Shown.{Shown};
 
 use crate::log_starts::record_index;
 use arrayvec::ArrayVec;
@@ -34,7 +38,8 @@ impl BoardEnd {
     /// How many records a process has published.
     pub fn length(&self, p: u32) -> u32
         requires { p < self.now.book.processes }
-        ensures { result ≡ word_at self.now.book self.now.words (length_of p) }
+        ensures word { result ≡ word_at self.now.book self.now.words (length_of p) }
+        ensures count { (s : BoardState) → Shown self.now.book self.now.words s → result ≡ count_of p s.published }
     {
         self.words[p as usize] as u32
     }
@@ -44,7 +49,8 @@ impl BoardEnd {
         requires process { p < self.now.book.processes }
         requires record { i < word_at self.now.book self.now.words (length_of p) }
         requires word { j < record_width self.now.book }
-        ensures { result ≡ word_at self.now.book self.now.words (record_word p i j) }
+        ensures word { result ≡ word_at self.now.book self.now.words (record_word p i j) }
+        ensures record { (s : BoardState) → Shown self.now.book self.now.words s → IsPublishedWord s p i j result }
     {
         self.words[record_index(&self.book, &self.log_starts, p, i, j)]
     }

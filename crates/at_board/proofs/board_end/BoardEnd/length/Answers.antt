@@ -28,8 +28,8 @@ overflow_cast-result c =
     let e : EndView = record { book = b; words = c.self.inside.words.items } in
     omega (arith, word_read e p c.index.result.now inside c.index.ensures, c.self.invariant.0.room p known, log_room_of-le b p c.self.invariant.0.book.begun known)
 
-pub returns : goal.returns
-returns c =
+pub returns-clause-word : goal.returns-clause-word
+returns-clause-word c =
     let b : BookTerms = c.self.inside.book in
     let p = c.args.p in
     let known : p < b.processes = subst (λ (t : EndView). p < t.book.processes) (sym c.self.view_is) c.requires in
@@ -37,3 +37,6 @@ returns c =
     omega (arith, c.self.invariant.0.sized, place_at-below b (length_of p) known, place_at-length_of b p) in
     let e : EndView = record { book = b; words = c.self.inside.words.items } in
     subst (λ (t : EndView). c.index.result.now ≡ word_at t.book t.words (length_of p)) c.self.view_is (word_read e p c.index.result.now inside c.index.ensures)
+
+pub returns-clause-count : goal.returns-clause-count
+returns-clause-count c = λ s shown. returns-clause-word c ∙ shown.records.lengths c.args.p c.requires
