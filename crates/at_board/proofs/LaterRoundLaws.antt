@@ -15,7 +15,7 @@ use Rattle.at_board.proofs.FrontLaws.{IsPrefix-length, IsPrefix-trans, take-IsPr
 use Rattle.at_board.proofs.OpeningLaws.{get_or-zeros}
 use Rattle.at_board.proofs.OwnRequestLaws.{own_part-with_part}
 use Rattle.at_board.proofs.RoundLaws.{firsts-nil}
-use Rattle.at_board.proofs.SmallBoardLaws.{ArePublishedBy-IsHistory, Stores, Stores-more, Stores-none, shared-HasSlot}
+use Rattle.at_board.proofs.SmallBoardLaws.{ArePublishedBy-IsHistory, Stores, Stores-more, Stores-none, counts-nil, shared-HasSlot}
 use Rattle.at_board.specs.declared.publication.Entry.TheVariants.{Round}
 use Rattle.at_board.specs.declared.publication.Publication.{Publication}
 use Rattle.at_board.specs.declared.request.Request.{Request}
@@ -274,10 +274,6 @@ may_propose_first b v slot owners has request free =
       free = free;
     }
 
-counts_none : counts 2 [] ≡ 0 ∷ 0 ∷ []
-unfolding counts publications_of
-counts_none = refl
-
 pub may_record_first : (b : BookTerms) (v w : View) (slot n : ℕ) → HasTwoOwners b → HasSlot b v.first 0 slot → v.first < 2 → length v.parts ≡ 1
     → (own_part v).stored ≡ replicate (7 + b.processes) 0 → (own_part v).published ≡ 0 → SeesRequest v 0 0 0 (payment_in 0 60)
     → (told : Decides b v w 0 0 (decision_in 0) n) → n ≡ 2 → MayRecord b w (record_in w.first 0 60)
@@ -288,7 +284,7 @@ may_record_first b v w slot n owners has known one blank published request told 
     may_record b v w 0 60 n (omega (arith, one)) (omega arith) blank (omega (arith, published, owners.own_room)) request told word
     (record {
       process = omega (arith, first, known, owners.processes);
-      front = subst (λ k. counts k [] ≡ 0 ∷ 0 ∷ []) (sym owners.processes) counts_none;
+      front = subst (λ k. counts k [] ≡ 0 ∷ 0 ∷ []) (sym owners.processes) (counts-nil 2);
       own = get_or-zeros 2 w.first ∙ sym counted;
     })
     (record {

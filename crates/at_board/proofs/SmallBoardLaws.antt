@@ -1,13 +1,15 @@
 -- Seats of a small board between two records, for the tests.
-use Rattle.std.proofs.Common.{◌≡◌, ℕ, ◌+◌, ◌*◌, ◌^◌, ◌<◌, true, cond, List, [], ◌∷◌, length, get_or, replicate, None, is_some, refl, sym, ap, subst, ◌∙◌, arith, inl, inr}
+use Rattle.std.proofs.Common.{◌≡◌, ℕ, ◌+◌, ◌*◌, ◌^◌, ◌<◌, true, cond, List, [], ◌∷◌, length, get_or, sum, replicate, take, None, is_some, refl, sym, ap, subst, ◌∙◌, arith, inl, inr}
 use Rattle.std.specs.List.{count_by}
 use Rattle.std.proofs.lemmas.Bool.{cases_Bool}
-use Rattle.std.proofs.lemmas.List.{length-set}
+use Rattle.std.proofs.lemmas.Grind.{same_number_lists}
+use Rattle.std.proofs.lemmas.List.{length-replicate, length-set, replicate-append-replicate}
 use Rattle.std.proofs.lemmas.List.Elements.{All-cons, All-from_get_or, All-nil}
 use Rattle.at_base.specs.Decision.{word_of}
 use Rattle.at_ledger.specs.Account.{is_shared}
 use Rattle.at_ledger.specs.Book.{BookTerms, account_of}
 use Rattle.at_ledger.specs.Call.{TargetPair}
+use Rattle.at_board.proofs.CountLaws.{get_or-counts, length-counts, publications_of-nil, sum-counts}
 use Rattle.at_board.proofs.FrontLaws.{place-IsFront-le}
 use Rattle.at_board.proofs.OpeningLaws.{get_or-zeros}
 use Rattle.at_board.proofs.PushLaws.{owns_of-le}
@@ -20,8 +22,8 @@ use Rattle.at_board.specs.declared.view.View.{View}
 use Rattle.at_board.specs.Conditions.{MayPublish}
 use Rattle.at_board.specs.Entries.{is_round_on}
 use Rattle.at_board.specs.Fronts.{place, prefix_of}
-use Rattle.at_board.specs.Publications.{ArePublishedBy, counts, no_publication, publications_of}
-use Rattle.at_board.specs.Rounds.{owns_of}
+use Rattle.at_board.specs.Publications.{ArePublishedBy, counts, no_publication}
+use Rattle.at_board.specs.Rounds.{owns_of, rounds}
 use Rattle.at_board.specs.SeatView.{BoardView, IsOf, SeatView}
 use Rattle.at_board.specs.SmallBoard.{HasOwnAccount, HasWon, IsIdle, IsOwnFront, first_decision, payment}
 use Rattle.at_board.specs.Sound.{HasView, IsSoundOwn, IsSoundRound}
@@ -178,13 +180,18 @@ IsIdle-published board v w u q x of_board one_part stored free told id =
       blank = ap (λ (t : Part). t.stored) own;
     }
 
--- the record of the first round of account 0, in which a slot's payment is decided, before anything is published
-abbrev pub round_record : ℕ → ℕ → Publication
-round_record p slot = record { process = p; view = 0 ∷ 0 ∷ 0 ∷ 0 ∷ []; entry = Round 0 0 (first_decision slot) ((0, 7) ∷ []) }
+-- the record of the first round of account 0, in which a slot's payment is decided, before any of n processes has published
+abbrev pub round_record : ℕ → ℕ → ℕ → Publication
+round_record n p slot = record { process = p; view = replicate n 0; entry = Round 0 0 (first_decision slot) ((0, 7) ∷ []) }
 
-counts-none : counts 4 [] ≡ 0 ∷ 0 ∷ 0 ∷ 0 ∷ []
-unfolding counts publications_of
-counts-none = refl
+-- nothing counts 0 of each process
+pub counts-nil : (n : ℕ) → counts n [] ≡ replicate n 0
+counts-nil n =
+    same_number_lists (counts n []) (replicate n 0) (length-counts n [] ∙ sym (length-replicate n 0))
+    (λ k below. get_or-counts n [] k 0 (omega (arith, below, length-counts n [])) ∙ (ap length (publications_of-nil k) ∙ sym (get_or-zeros n k)))
+
+pub place-zeros : (n : ℕ) → place (replicate n 0) ≡ 0
+place-zeros n = ap sum (sym (counts-nil n)) ∙ sum-counts n [] (All-nil (λ (x : Publication). x.process < n))
 
 -- only a shared account has slots
 pub shared-HasSlot : (b : BookTerms) (p a slot : ℕ) → HasSlot b p a slot → is_shared (account_of b a) ≡ true
@@ -195,33 +202,33 @@ shared-HasSlot b p a slot has =
     ]
 
 -- the seat that has won the round may publish it, once it has stored the words
-pub may_publish_round : (b : BookTerms) (v w : View) (slot d : ℕ) → b.processes ≡ 4 → v.first < b.processes → HasSlot b v.first 0 slot
+pub may_publish_round : (b : BookTerms) (v w : View) (slot d : ℕ) → v.first < b.processes → HasSlot b v.first 0 slot
     → HasWon b v slot → d ≡ 2 + 2 * slot → Stores v w (with_four (own_part v) d)
-    → MayPublish b w (round_record v.first slot)
-may_publish_round b v w slot d four known has won word told =
+    → MayPublish b w (round_record b.processes v.first slot)
+may_publish_round b v w slot d known has won word told =
+    let n = b.processes in
     let p = v.first in
-    let x = round_record p slot in
+    let x = round_record n p slot in
     let first : w.first ≡ p = ap (λ (t : View). t.first) told.same in
     let seen : w.seen ≡ v.seen = ap (λ (t : View). t.seen) told.same in
-    let width : 7 + b.processes ≡ 11 = omega (arith, four) in
-    let zeros : (own_part v).stored ≡ replicate 11 0 = won.blank ∙ ap (λ m. replicate m 0) width in
+    let zeros : (own_part v).stored ≡ 0 ∷ 0 ∷ 0 ∷ 0 ∷ 0 ∷ 0 ∷ 0 ∷ replicate n 0 = won.blank ∙ sym (replicate-append-replicate 7 n 0) in
     let decided : d ≡ word_of (first_decision slot) = omega (arith, word) in
     record {
       process = sym first;
       stored = ap (λ (q : Part). q.stored) told.part
           ∙ (ap (λ xs. (with_four (record (own_part v) { stored = xs }) d).stored) zeros
-          ∙ ap (λ m. 1 ∷ 2 ^ 40 ∷ m ∷ 7 ∷ 0 ∷ 0 ∷ 0 ∷ 0 ∷ 0 ∷ 0 ∷ 0 ∷ []) decided);
+          ∙ ap (λ m. 1 ∷ 2 ^ 40 ∷ m ∷ 7 ∷ 0 ∷ 0 ∷ 0 ∷ replicate n 0) decided);
       view = subst (λ xs. HasView b xs x) (sym seen) (record {
         process = known;
-        front = subst (λ n. counts n [] ≡ 0 ∷ 0 ∷ 0 ∷ 0 ∷ []) (sym four) counts-none;
-        own = get_or-zeros 4 p ∙ sym won.counted;
+        front = ap (λ k. counts n (take k v.seen)) (place-zeros n) ∙ counts-nil n;
+        own = get_or-zeros n p ∙ sym won.counted;
       });
       entry = (
         subst (λ k. IsSoundRound b k (prefix_of x.view w.seen) 0 0) (sym first) (record {
           account_in = has.account_in;
           shared = shared-HasSlot b p 0 slot has;
           owner = ap is_some has.owner;
-          next = ap (count_by (λ y. is_round_on 0 y.entry)) firsts-nil;
+          next = ap (λ k. rounds 0 (take k w.seen)) (place-zeros n) ∙ ap (count_by (λ y. is_round_on 0 y.entry)) firsts-nil;
         }),
         subst (λ (t : View). SeesDecision t 0 0 (first_decision slot)) (sym told.same) won.decision,
         (payment, subst (λ (t : View). SeesRequest t 0 slot 0 payment) (sym told.same) won.request, refl),

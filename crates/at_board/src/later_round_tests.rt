@@ -1,6 +1,6 @@
 //! The second round of a shared account, after a first one that both of its owners have published.
 
-ghost use Rattle.std.specs.Prelude.{◌≡◌, ◌<◌, IfOk, IsTrue};
+ghost use Rattle.std.specs.Prelude.{◌≡◌, ◌<◌, IsTrue};
 ghost use Rattle.at_board.specs.declared.request.Request.{Request};
 ghost use Rattle.at_board.specs.Conditions.{MayPropose};
 ghost use Rattle.at_board.specs.Cuts.{starting_seat};
@@ -13,10 +13,11 @@ ghost use Rattle.at_board.specs.Steps.{Publishes};
 ghost use Rattle.at_board.specs.Views.{HasSlot, SeesRequest};
 
 use crate::request_tests::{last_seat, slot_on};
+use crate::round_tests::close_two;
 use crate::stress_tests::look;
-use crate::{Board, BoardEnd, BoardSeat, Steps};
+use crate::{Board, BoardSeat, Steps};
 use at_ledger::{Book, Draft, DraftAccount};
-use std::alloc::{AllocError, Global};
+use std::alloc::Global;
 use std::marker::Brand;
 use std::process::Abort;
 use std::sync::ledger::{Blank, Ledger};
@@ -204,25 +205,6 @@ fn go_on<L: Ledger, X: Ledger>(
     }
     publish_in(board, seat, 1, 30, steps, exchanges);
     true
-}
-
-/// Closes a board with its two seats.
-fn close_two(
-    board: Board,
-    alloc: Global,
-    zero: BoardSeat,
-    one: BoardSeat,
-) -> Result<BoardEnd, AllocError>
-    requires two { board.book.processes ≡ 2 }
-    requires zero { IsIdle board zero × (zero.view.first ≡ 0) }
-    requires one { IsIdle board one × (one.view.first ≡ 1) }
-    ensures { IfOk result (λ e. e.book ≡ board.book) }
-{
-    let seats = vec![in alloc; zero, one]?;
-    match board.close(alloc, seats) {
-        Ok(end) => Ok(end),
-        Err(_) => Err(AllocError),
-    }
 }
 
 /// Process 0's seat tells process 1's what it has seen.

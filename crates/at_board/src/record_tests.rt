@@ -3,10 +3,11 @@
 ghost use Rattle.std.specs.Prelude.{◌≡◌, ◌<◌, [], ◌∷◌, IsTrue};
 ghost use Rattle.at_board.specs.Cuts.{starting_seat};
 ghost use Rattle.at_board.specs.Publications.{count_of};
-ghost use Rattle.at_board.specs.SeatView.{IsOf};
+ghost use Rattle.at_board.specs.SmallBoard.{IsIdle};
 ghost use Rattle.at_board.specs.Sound.{IsSoundOwn};
 
 use crate::request_tests::last_seat;
+use crate::round_tests::close_two;
 use crate::{Board, BoardSeat, Steps};
 use at_ledger::{Book, Draft, DraftAccount};
 use std::alloc::Global;
@@ -62,7 +63,8 @@ fn pay<L: Ledger, X: Ledger>(
     requires new { seat.old.view ≡ starting_seat board.now.book seat.old.view.first }
     requires processes { (board.now.book.processes ≡ 2) × (seat.old.view.first < 2) }
     requires pays { IsSoundOwn board.now.book seat.old.view.first [] 0 ((1, 30) ∷ []) }
-    ensures board { IsOf seat.new board.now }
+    ensures idle { IsIdle board.now seat.new }
+    ensures process { seat.new.view.first ≡ seat.old.view.first }
     ensures published { 0 < count_of seat.new.view.first seat.new.view.seen }
 {
     let _accounts = board.book().accounts();
@@ -80,9 +82,11 @@ fn told_words<L: Ledger, X: Ledger>(
     steps: &mut Steps<L>,
     exchanges: &mut Steps<X>,
 ) -> (u64, u64)
-    requires seat { IsOf seat.old board.now }
-    requires other { IsOf other.old board.now }
+    requires seat { IsIdle board.now seat.old }
+    requires other { IsIdle board.now other.old }
     requires published { 0 < count_of seat.old.view.first seat.old.view.seen }
+    ensures seat { seat.new ≡ seat.old }
+    ensures other { IsIdle board.now other.new × (other.new.view.first ≡ other.old.view.first) }
 {
     let note = board.note(seat, steps, exchanges);
     board.learn(other, note, steps, exchanges);
@@ -91,7 +95,7 @@ fn told_words<L: Ledger, X: Ledger>(
     (accounts, amount)
 }
 
-/// One process pays, and the other reads what, through notes alone.
+/// One process pays, and the other reads what, through notes alone. The closed board has the words of the record.
 fn pays_and_tells<L: Ledger, X: Ledger, R: Abort>(
     rt: &R,
     alloc: Global,
@@ -108,12 +112,19 @@ fn pays_and_tells<L: Ledger, X: Ledger, R: Abort>(
     let mut other = last_seat(&board, &mut seats).expect(rt, "a seat");
     let mut seat = last_seat(&board, &mut seats).expect(rt, "a seat");
     assert!(rt; board.book().processes() == 2);
-    assert!(rt; seat.process() < 2);
+    assert!(rt; seat.process() == 0 && other.process() == 1);
     assert!(rt; may_pay(board.book(), seat.process()));
     pay(&board, &mut seat, steps, exchanges);
     assert_eq!(rt; seat.published(), 1);
     let told = told_words(&board, &mut seat, &mut other, steps, exchanges);
     assert_eq!(rt; told, (1_099_511_627_777, 30));
+    let end = close_two(board, alloc, seat, other)?;
+    assert!(rt; end.length(0) == 1 && end.length(1) == 0);
+    assert_eq!(rt;
+        (end.record_word(0, 0, 0), end.record_word(0, 0, 2)),
+        (0, 0)
+    );
+    assert_eq!(rt; (end.record_word(0, 0, 1), end.record_word(0, 0, 3)), told);
     Ok(())
 }
 

@@ -5,7 +5,7 @@ ghost use Rattle.at_ledger.specs.Book.{account_of};
 ghost use Rattle.at_board.specs.Cuts.{starting_seat};
 ghost use Rattle.at_board.specs.Places.{slots_of};
 ghost use Rattle.at_board.specs.SeatView.{IsOf, SeatView};
-ghost use Rattle.at_board.specs.SmallBoard.{payment};
+ghost use Rattle.at_board.specs.SmallBoard.{IsIdle, payment};
 ghost use Rattle.at_board.specs.Views.{HasSlot, SeesRequest, own_part};
 
 use crate::{Board, BoardSeat, Steps};
@@ -49,6 +49,7 @@ pub(crate) fn slot_on(book: &Book, account: u32, process: u32) -> Option<u32>
 pub(crate) fn last_seat(board: &Board, seats: &mut Vec<BoardSeat>) -> Option<BoardSeat>
     requires { (p : ℕ) (d : SeatView) → p < length seats.old.items → slice_index_or seats.old.items p d ≡ record { board = board.now.id; view = starting_seat board.now.book p } }
     ensures seat { IfSome result (λ seat. (seat.board ≡ board.now.id) × (seat.view ≡ starting_seat board.now.book seat.view.first)) }
+    ensures idle { IfSome result (λ seat. IsIdle board.now seat) }
     ensures rest { (p : ℕ) (d : SeatView) → p < length seats.new.items → slice_index_or seats.new.items p d ≡ record { board = board.now.id; view = starting_seat board.now.book p } }
 {
     seats.pop()

@@ -1,14 +1,16 @@
 //! Small boards on which a round is decided, a seat tells another what it has seen, and which are closed.
 
-ghost use Rattle.std.specs.Prelude.{◌≡◌, ℕ, ◌<◌, ◌≤◌, None};
+ghost use Rattle.std.specs.Prelude.{◌≡◌, ℕ, ◌<◌, ◌≤◌, None, IfOk};
 ghost use Rattle.at_ledger.specs.Book.{account_of};
+ghost use Rattle.at_board.specs.Cuts.{starting_seat};
 ghost use Rattle.at_board.specs.DecideSteps.{Decides};
 ghost use Rattle.at_board.specs.SeatView.{IsOf};
-ghost use Rattle.at_board.specs.SmallBoard.{first_decision, payment};
+ghost use Rattle.at_board.specs.SmallBoard.{HasWon, IsIdle, first_decision, payment};
 ghost use Rattle.at_board.specs.Views.{HasSlot, SeesRequest, own_part};
 
 use crate::request_tests::{ask, last_seat, slot_on, small_book};
-use crate::{Board, BoardSeat, Steps};
+use crate::{Board, BoardEnd, BoardSeat, Steps};
+use at_base::unpack_decision;
 use std::alloc::{AllocError, Global};
 use std::marker::Brand;
 use std::process::Abort;
@@ -16,7 +18,7 @@ use std::sync::ledger::{Blank, Ledger};
 use std::test::Fail;
 
 /// Proposes that the first round of account 0 decide the first request of a slot, which succeeds.
-pub(crate) fn decide_first<L: Ledger, X: Ledger>(
+fn decide_first<L: Ledger, X: Ledger>(
     board: &Board,
     seat: &mut BoardSeat,
     slot: u32,
@@ -36,8 +38,77 @@ pub(crate) fn decide_first<L: Ledger, X: Ledger>(
     board.decide(seat, 0, 0, 2 + 2 * u64::from(slot), steps, exchanges)
 }
 
-/// One process asks and proposes what it asked for.
-fn asks_and_decides<L: Ledger, X: Ledger, R: Abort>(
+/// Publishes the first round of account 0, in which the process's payment was decided.
+fn publish_round<L: Ledger, X: Ledger>(
+    board: &Board,
+    seat: &mut BoardSeat,
+    slot: u32,
+    steps: &mut Steps<L>,
+    exchanges: &mut Steps<X>,
+)
+    requires board { IsOf seat.old board.now }
+    requires slot { HasSlot board.now.book seat.old.view.first 0 slot }
+    requires won { HasWon board.now.book seat.old.view slot }
+    ensures idle { IsIdle board.now seat.new }
+    ensures process { seat.new.view.first ≡ seat.old.view.first }
+{
+    let _accounts = board.book().accounts();
+    let _process = seat.process();
+    board.store_record_word(seat, 0, 1, steps, exchanges);
+    board.store_record_word(seat, 1, 1 << 40, steps, exchanges);
+    board.store_record_word(seat, 2, 2 + 2 * u64::from(slot), steps, exchanges);
+    board.store_record_word(seat, 3, 7, steps, exchanges);
+    board.publish(seat, steps, exchanges);
+}
+
+/// Asks for a payment on account 0 and proposes it for the first round, which it publishes where it has won. Answers the word
+/// of the round.
+pub(crate) fn settle<L: Ledger, X: Ledger>(
+    board: &Board,
+    seat: &mut BoardSeat,
+    slot: u32,
+    steps: &mut Steps<L>,
+    exchanges: &mut Steps<X>,
+) -> u64
+    requires board { seat.old.board ≡ board.now.id }
+    requires new { seat.old.view ≡ starting_seat board.now.book seat.old.view.first }
+    requires slot { HasSlot board.now.book seat.old.view.first 0 slot }
+    requires small { slot < 8 }
+    requires covered { 7 ≤ (account_of board.now.book 0).opening }
+    ensures idle { IsIdle board.now seat.new }
+    ensures process { seat.new.view.first ≡ seat.old.view.first }
+{
+    ask(board, seat, steps, exchanges);
+    let _process = seat.process();
+    let word = decide_first(board, seat, slot, steps, exchanges);
+    let _decision = unpack_decision(word);
+    if word == 2 + 2 * u64::from(slot) {
+        publish_round(board, seat, slot, steps, exchanges);
+    }
+    word
+}
+
+/// Closes a board with its two seats.
+pub(crate) fn close_two(
+    board: Board,
+    alloc: Global,
+    zero: BoardSeat,
+    one: BoardSeat,
+) -> Result<BoardEnd, AllocError>
+    requires two { board.book.processes ≡ 2 }
+    requires zero { IsIdle board zero × (zero.view.first ≡ 0) }
+    requires one { IsIdle board one × (one.view.first ≡ 1) }
+    ensures { IfOk result (λ e. e.book ≡ board.book) }
+{
+    let seats = vec![in alloc; zero, one]?;
+    match board.close(alloc, seats) {
+        Ok(end) => Ok(end),
+        Err(_) => Err(AllocError),
+    }
+}
+
+/// One process settles a round of its account with another. The closed board has the words of its record.
+fn settles<L: Ledger, X: Ledger, R: Abort>(
     rt: &R,
     alloc: Global,
     one: Blank,
@@ -50,17 +121,29 @@ fn asks_and_decides<L: Ledger, X: Ledger, R: Abort>(
     let (steps, exchanges) = (&mut Steps::<L>::new(one), &mut Steps::<X>::new(other));
     let book = small_book(alloc)?;
     let (board, mut seats) = Board::new(alloc, &book)?;
-    let mut seat = last_seat(&board, &mut seats).expect(rt, "a seat");
-    let slot = slot_on(board.book(), 0, seat.process()).expect(rt, "an owner");
+    assert!(rt; board.book().processes() == 2);
+    let mut second = last_seat(&board, &mut seats).expect(rt, "a seat");
+    let first = last_seat(&board, &mut seats).expect(rt, "a seat");
+    assert!(rt; first.process() == 0 && second.process() == 1);
+    let slot = slot_on(board.book(), 0, second.process()).expect(rt, "an owner");
     assert!(rt; slot < 8 && 7 <= board.book().opening(0));
-    ask(&board, &mut seat, steps, exchanges);
-    assert_eq!(rt; decide_first(&board, &mut seat, slot, steps, exchanges), 4);
+    assert_eq!(rt; settle(&board, &mut second, slot, steps, exchanges), 4);
+    let end = close_two(board, alloc, first, second)?;
+    assert!(rt; end.length(0) == 0 && end.length(1) == 1);
+    assert_eq!(rt;
+        (end.record_word(1, 0, 0), end.record_word(1, 0, 1)),
+        (1, 1 << 40)
+    );
+    assert_eq!(rt;
+        (end.record_word(1, 0, 2), end.record_word(1, 0, 3)),
+        (4, 7)
+    );
     Ok(())
 }
 
 #[test]
-fn a_round_is_decided(rt: HostRuntime) -> Result<(), Fail> {
-    asks_and_decides::<Brand, Brand, _>(&rt, rt.alloc(), Blank::new(1), Blank::new(1))
+fn a_round_is_settled(rt: HostRuntime) -> Result<(), Fail> {
+    settles::<Brand, Brand, _>(&rt, rt.alloc(), Blank::new(1), Blank::new(1))
 }
 
 /// One seat hands a note to another.

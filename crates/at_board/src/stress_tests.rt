@@ -1,18 +1,17 @@
 //! Four threads publish, load and decide at once on one board, and the closed board has what they were told.
 
-ghost use Rattle.std.specs.Prelude.{◌≡◌, ℕ, ◌<◌, ◌≤◌, [], ◌∷◌, length, slice_index_or, IfOk, IfSome, IsTrue};
-ghost use Rattle.at_ledger.specs.Book.{account_of};
+ghost use Rattle.std.specs.Prelude.{◌≡◌, ℕ, ◌<◌, [], ◌∷◌, length, slice_index_or, IfOk, IfSome, IsTrue};
 ghost use Rattle.at_board.specs.Cuts.{starting_seat};
 ghost use Rattle.at_board.specs.Places.{length_of, word_at};
-ghost use Rattle.at_board.specs.SeatView.{IsOf, SeatView};
-ghost use Rattle.at_board.specs.SmallBoard.{HasOwnAccount, HasWon, IsIdle, IsNewPlayer, IsOwnFront, MayPlay};
+ghost use Rattle.at_board.specs.SeatView.{SeatView};
+ghost use Rattle.at_board.specs.SmallBoard.{HasOwnAccount, IsIdle, IsNewPlayer, IsOwnFront, MayPlay};
 ghost use Rattle.at_board.specs.Steps.{LoadsLength};
-ghost use Rattle.at_board.specs.Views.{HasSlot, own_part};
+ghost use Rattle.at_board.specs.Views.{own_part};
 
-use crate::request_tests::{ask, last_seat, slot_on};
-use crate::round_tests::decide_first;
+use crate::request_tests::{last_seat, slot_on};
+use crate::round_tests::settle;
 use crate::{Board, BoardEnd, BoardSeat, RECORD_WORDS, Steps};
-use at_base::{Counts, unpack_decision};
+use at_base::Counts;
 use at_ledger::{Book, Draft, DraftAccount};
 use std::alloc::{AllocError, Global};
 use std::marker::Brand;
@@ -157,58 +156,6 @@ fn move_nothing<L: Ledger, X: Ledger>(
     board.store_record_word(seat, 9, u64::from(view.get(2)), steps, exchanges);
     board.store_record_word(seat, 10, u64::from(view.get(3)), steps, exchanges);
     board.publish(seat, steps, exchanges);
-}
-
-/// Publishes the first round of account 0, in which the process's payment was decided.
-fn publish_round<L: Ledger, X: Ledger>(
-    board: &Board,
-    seat: &mut BoardSeat,
-    slot: u32,
-    steps: &mut Steps<L>,
-    exchanges: &mut Steps<X>,
-)
-    requires board { IsOf seat.old board.now }
-    requires four { board.now.book.processes ≡ 4 }
-    requires slot { HasSlot board.now.book seat.old.view.first 0 slot }
-    requires won { HasWon board.now.book seat.old.view slot }
-    ensures idle { IsIdle board.now seat.new }
-    ensures process { seat.new.view.first ≡ seat.old.view.first }
-{
-    let _accounts = board.book().accounts();
-    let _process = seat.process();
-    board.store_record_word(seat, 0, 1, steps, exchanges);
-    board.store_record_word(seat, 1, 1 << 40, steps, exchanges);
-    board.store_record_word(seat, 2, 2 + 2 * u64::from(slot), steps, exchanges);
-    board.store_record_word(seat, 3, 7, steps, exchanges);
-    board.publish(seat, steps, exchanges);
-}
-
-/// Asks for a payment on account 0 and proposes it for the first round, which it publishes where it has won. Answers the word
-/// of the round.
-fn settle<L: Ledger, X: Ledger>(
-    board: &Board,
-    seat: &mut BoardSeat,
-    slot: u32,
-    steps: &mut Steps<L>,
-    exchanges: &mut Steps<X>,
-) -> u64
-    requires board { seat.old.board ≡ board.now.id }
-    requires new { seat.old.view ≡ starting_seat board.now.book seat.old.view.first }
-    requires four { board.now.book.processes ≡ 4 }
-    requires slot { HasSlot board.now.book seat.old.view.first 0 slot }
-    requires small { slot < 8 }
-    requires covered { 7 ≤ (account_of board.now.book 0).opening }
-    ensures idle { IsIdle board.now seat.new }
-    ensures process { seat.new.view.first ≡ seat.old.view.first }
-{
-    ask(board, seat, steps, exchanges);
-    let _process = seat.process();
-    let word = decide_first(board, seat, slot, steps, exchanges);
-    let _decision = unpack_decision(word);
-    if word == 2 + 2 * u64::from(slot) {
-        publish_round(board, seat, slot, steps, exchanges);
-    }
-    word
 }
 
 /// Waits until all four threads are there, or a while where not.

@@ -13,7 +13,7 @@ use Rattle.at_board.specs.DecideSteps.{Decides, with_decide, with_decision}
 use Rattle.at_board.specs.Publications.{count_of}
 use Rattle.at_board.specs.SmallBoard.{HasWon, first_decision, payment}
 use Rattle.at_board.specs.Views.{SeesDecision, SeesRequest, own_part}
-use Rattle.at_board.proofs.stress_tests.settle.Goals as goal
+use Rattle.at_board.proofs.round_tests.settle.Goals as goal
 
 -- the decision of a word that has one
 abbrev found : Option Decision → Decision
