@@ -13,9 +13,11 @@ use Rattle.at_board.specs.Fronts.{prefix_of}
 use Rattle.at_board.specs.Publications.{count_of, counts}
 use Rattle.at_board.specs.Rounds.{owns_of}
 use Rattle.at_board.specs.Sound.{HasView, IsSoundOwn}
-use Rattle.at_board.specs.Steps.{StoresWord, held_after, with_word}
+use Rattle.at_board.specs.Steps.{held_after, with_word}
 use Rattle.at_board.specs.Views.{own_part}
 use Rattle.at_board.specs.Words.{record_words}
+use Rattle.at_board.proofs.record_tests.pay.Given as given
+use Rattle.at_board.proofs.record_tests.pay.Goals.{After-store_record_word-2}
 use Rattle.at_board.proofs.record_tests.pay.Goals as goal
 
 -- a payment of 30 from account 0 to account 1, by a process that has seen nothing
@@ -25,11 +27,6 @@ payment p = record { process = p; view = 0 ∷ 0 ∷ []; entry = Own 0 ((1, 30) 
 -- the targets word and the amount of its record
 abbrev with_two : Part → Part
 with_two q = with_word (with_word q 1 1099511627777) 3 30
-
-Stores-two : (v one two : View) → length v.parts ≡ 1 → StoresWord v one 1 1099511627777 → StoresWord one two 3 30 → Stores v two (with_two (own_part v))
-Stores-two v one two part first second =
-    Stores-more v one two (with_word (own_part v) 1 1099511627777) 3 30 part
-    (Stores-more v v one (own_part v) 1 1099511627777 part (Stores-none v) first) second
 
 -- it may be published by a new seat that has stored its words
 may_publish : (b : BookTerms) (v w : View) → IsBook b → v ≡ starting_seat b v.first → b.processes ≡ 2 → v.first < 2
@@ -55,50 +52,40 @@ may_publish b v w book new processes known pays told =
       );
     }
 
-pub publish-requires-clause-record : goal.publish-requires-clause-record
-publish-requires-clause-record g c =
-    let b : BookTerms = c.args.board.now.book in
+stored : (g : given.Over) (c : After-store_record_word-2 g) → Stores c.args.seat.now.view c.store_record_word-2.new.seat.view (with_two (own_part c.args.seat.now.view))
+stored g c =
     let v : View = c.args.seat.now.view in
-    let book : IsBook b = subst IsBook c.book.ensures c.accounts-accounts.ensures.checked in
-    let stored = Stores-two v c.store_record_word.new.seat.view c.store_record_word-2.new.seat.view c.process-process.ensures.part.one_part
-    c.store_record_word.ensures.stored c.store_record_word-2.ensures.stored in (
-      payment v.first,
-      may_publish b v c.store_record_word-2.new.seat.view book c.requires.new c.requires.processes.0 c.requires.processes.1 c.requires.pays stored,
-    )
+    let one : View = c.store_record_word.new.seat.view in
+    let part = c.process-process.ensures.part.one_part in
+    Stores-more v one c.store_record_word-2.new.seat.view (with_word (own_part v) 1 1099511627777) 3 30 part
+    (Stores-more v v one (own_part v) 1 1099511627777 part (Stores-none v) c.store_record_word.ensures.stored) c.store_record_word-2.ensures.stored
+
+may : (g : given.Over) (c : After-store_record_word-2 g) → MayPublish c.args.board.now.book c.store_record_word-2.new.seat.view (payment c.args.seat.now.view.first)
+may g c =
+    may_publish c.args.board.now.book c.args.seat.now.view c.store_record_word-2.new.seat.view (subst IsBook c.book.ensures c.accounts-accounts.ensures.checked)
+    c.requires.new c.requires.processes.0 c.requires.processes.1 c.requires.pays (stored g c)
+
+pub publish-requires-clause-record : goal.publish-requires-clause-record
+publish-requires-clause-record g c = (payment c.args.seat.now.view.first, may g (goal.at.publish-requires-clause-record g c).After-store_record_word-2)
 
 pub returns-clause-idle : goal.returns-clause-idle
 returns-clause-idle g c =
-    let b : BookTerms = c.args.board.now.book in
+    let before : After-store_record_word-2 g = (goal.at.returns-clause-idle g c).After-store_record_word-2 in
     let v : View = c.args.seat.now.view in
-    let one_part = c.process-process.ensures.part.one_part in
-    let book : IsBook b = subst IsBook c.book.ensures c.accounts-accounts.ensures.checked in
-    let stored = Stores-two v c.store_record_word.new.seat.view c.store_record_word-2.new.seat.view one_part
-    c.store_record_word.ensures.stored c.store_record_word-2.ensures.stored in
-    let may = may_publish b v c.store_record_word-2.new.seat.view book c.requires.new c.requires.processes.0 c.requires.processes.1 c.requires.pays stored in
-    IsIdle-published c.args.board.now c.args.seat.now c.store_record_word-2.new.seat c.publish.new.seat (with_two (own_part v)) (payment v.first)
-    (record { id = c.requires.board; book = ap (λ (t : View). t.book) c.requires.new }) one_part stored
-    (ap (λ (t : View). held_after (payment v.first) (own_part t).held) c.requires.new)
-    (c.publish.ensures.published (payment v.first) may)
+    let x = payment v.first in
+    IsIdle-published c.args.board.now c.args.seat.now c.store_record_word-2.new.seat c.publish.new.seat (with_two (own_part v)) x
+    (record { id = c.requires.board; book = ap (λ (t : View). t.book) c.requires.new }) c.process-process.ensures.part.one_part (stored g before)
+    (ap (λ (t : View). held_after x (own_part t).held) c.requires.new) (c.publish.ensures.published x (may g before))
     (c.publish.ensures.board ∙ (c.store_record_word-2.ensures.board ∙ c.store_record_word.ensures.board))
 
 pub returns-clause-process : goal.returns-clause-process
 returns-clause-process g c =
-    let b : BookTerms = c.args.board.now.book in
-    let v : View = c.args.seat.now.view in
-    let book : IsBook b = subst IsBook c.book.ensures c.accounts-accounts.ensures.checked in
-    let stored = Stores-two v c.store_record_word.new.seat.view c.store_record_word-2.new.seat.view c.process-process.ensures.part.one_part
-    c.store_record_word.ensures.stored c.store_record_word-2.ensures.stored in
-    let may = may_publish b v c.store_record_word-2.new.seat.view book c.requires.new c.requires.processes.0 c.requires.processes.1 c.requires.pays stored in
-    ap (λ (t : View). t.first) (c.publish.ensures.published (payment v.first) may).same ∙ ap (λ (t : View). t.first) stored.same
+    let before : After-store_record_word-2 g = (goal.at.returns-clause-process g c).After-store_record_word-2 in
+    ap (λ (t : View). t.first) (c.publish.ensures.published (payment c.args.seat.now.view.first) (may g before)).same ∙ ap (λ (t : View). t.first) (stored g before).same
 
 pub returns-clause-published : goal.returns-clause-published
 returns-clause-published g c =
-    let b : BookTerms = c.args.board.now.book in
-    let v : View = c.args.seat.now.view in
+    let before : After-store_record_word-2 g = (goal.at.returns-clause-published g c).After-store_record_word-2 in
     let w : View = c.publish.new.seat.view in
-    let book : IsBook b = subst IsBook c.book.ensures c.accounts-accounts.ensures.checked in
-    let stored = Stores-two v c.store_record_word.new.seat.view c.store_record_word-2.new.seat.view c.process-process.ensures.part.one_part
-    c.store_record_word.ensures.stored c.store_record_word-2.ensures.stored in
-    let may = may_publish b v c.store_record_word-2.new.seat.view book c.requires.new c.requires.processes.0 c.requires.processes.1 c.requires.pays stored in
-    let told = c.publish.ensures.published (payment v.first) may in
+    let told = c.publish.ensures.published (payment c.args.seat.now.view.first) (may g before) in
     omega (arith, told.own, ap (λ p. count_of p w.seen) (ap (λ (t : View). t.first) told.same))

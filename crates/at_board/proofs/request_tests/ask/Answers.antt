@@ -16,6 +16,8 @@ use Rattle.at_board.specs.Rounds.{rounds}
 use Rattle.at_board.specs.SeatCounts.{HasOwnPart}
 use Rattle.at_board.specs.SmallBoard.{payment}
 use Rattle.at_board.specs.Views.{HasSlot, SeesRequest, asking_on, no_asking, own_part, starting_asking}
+use Rattle.at_board.proofs.request_tests.ask.Given as given
+use Rattle.at_board.proofs.request_tests.ask.Goals.{After-store_request_word-2}
 use Rattle.at_board.proofs.request_tests.ask.Goals as goal
 
 -- what a new seat has on the account
@@ -85,40 +87,30 @@ part-after : (u v w : View) → own_part v ≡ record (own_part u) { asking = (o
     → own_part w ≡ record (own_part u) { asking = (own_part w).asking }
 part-after u v w first second = second ∙ ap (λ (p : Part). record p { asking = (own_part w).asking }) first
 
+may : (g : given.Over) (c : After-store_request_word-2 g) → MayAnnounce c.args.board.now.book c.store_request_word-2.new.seat.view 0 c.requires.slot.0 payment
+may g c =
+    asked c.args.board.now.book c.args.seat.now.view c.store_request_word.new.seat.view c.store_request_word-2.new.seat.view c.requires.slot.0
+    (subst IsBook c.book.ensures c.accounts-accounts.ensures.checked) c.requires.new c.process-process.ensures.part c.requires.slot.1
+    c.store_request_word.ensures.stored c.store_request_word-2.ensures.stored
+
 pub announce-requires-clause-request : goal.announce-requires-clause-request
 announce-requires-clause-request g c =
-    let b : BookTerms = c.args.board.now.book in
-    let slot = c.requires.slot.0 in
-    let book : IsBook b = subst IsBook c.book.ensures c.accounts-accounts.ensures.checked in (
-      slot,
-      payment,
-      asked b c.args.seat.now.view c.store_request_word.new.seat.view c.store_request_word-2.new.seat.view slot book c.requires.new c.process-process.ensures.part
-          c.requires.slot.1 c.store_request_word.ensures.stored c.store_request_word-2.ensures.stored,
-    )
+    (c.requires.slot.0, payment, may g (goal.at.announce-requires-clause-request g c).After-store_request_word-2)
 
 pub returns-clause-board : goal.returns-clause-board
 returns-clause-board g c =
-    let b : BookTerms = c.args.board.now.book in
-    let slot = c.requires.slot.0 in
-    let book : IsBook b = subst IsBook c.book.ensures c.accounts-accounts.ensures.checked in
-    let may = asked b c.args.seat.now.view c.store_request_word.new.seat.view c.store_request_word-2.new.seat.view slot book c.requires.new c.process-process.ensures.part
-    c.requires.slot.1 c.store_request_word.ensures.stored c.store_request_word-2.ensures.stored in
-    let view_book = ap (λ (t : View). t.book) (c.announce.ensures.announced slot payment may).same
-    ∙ (ap (λ (t : View). t.book) c.store_request_word-2.ensures.stored ∙ (ap (λ (t : View). t.book) c.store_request_word.ensures.stored
-    ∙ ap (λ (t : View). t.book) c.requires.new)) in
+    let before : After-store_request_word-2 g = (goal.at.returns-clause-board g c).After-store_request_word-2 in
     record {
       id = c.announce.ensures.board ∙ (c.store_request_word-2.ensures.board ∙ (c.store_request_word.ensures.board ∙ c.requires.board));
-      book = view_book;
+      book = ap (λ (t : View). t.book) (c.announce.ensures.announced c.requires.slot.0 payment (may g before)).same
+          ∙ (ap (λ (t : View). t.book) c.store_request_word-2.ensures.stored ∙ (ap (λ (t : View). t.book) c.store_request_word.ensures.stored
+          ∙ ap (λ (t : View). t.book) c.requires.new));
     }
 
 pub returns-clause-process : goal.returns-clause-process
 returns-clause-process g c =
-    let b : BookTerms = c.args.board.now.book in
-    let slot = c.requires.slot.0 in
-    let book : IsBook b = subst IsBook c.book.ensures c.accounts-accounts.ensures.checked in
-    let may = asked b c.args.seat.now.view c.store_request_word.new.seat.view c.store_request_word-2.new.seat.view slot book c.requires.new c.process-process.ensures.part
-    c.requires.slot.1 c.store_request_word.ensures.stored c.store_request_word-2.ensures.stored in
-    ap (λ (t : View). t.first) (c.announce.ensures.announced slot payment may).same
+    let before : After-store_request_word-2 g = (goal.at.returns-clause-process g c).After-store_request_word-2 in
+    ap (λ (t : View). t.first) (c.announce.ensures.announced c.requires.slot.0 payment (may g before)).same
     ∙ (ap (λ (t : View). t.first) c.store_request_word-2.ensures.stored ∙ ap (λ (t : View). t.first) c.store_request_word.ensures.stored)
 
 pub returns-clause-request : goal.returns-clause-request
@@ -131,24 +123,21 @@ returns-clause-request g c = λ slot has.
     let first = c.store_request_word.ensures.stored in
     let second = c.store_request_word-2.ensures.stored in
     let part = c.process-process.ensures.part in
-    let may = asked b v one two slot book c.requires.new part has first second in
     sees_payment b two c.announce.new.seat.view slot (ap (λ (w : Asking). length w.announced) (stored_asking b v one two slot c.requires.new part has first second))
-    (c.announce.ensures.announced slot payment may)
+    (c.announce.ensures.announced slot payment (asked b v one two slot book c.requires.new part has first second))
 
 pub returns-clause-part : goal.returns-clause-part
 returns-clause-part g c =
-    let b : BookTerms = c.args.board.now.book in
+    let before : After-store_request_word-2 g = (goal.at.returns-clause-part g c).After-store_request_word-2 in
     let v : View = c.args.seat.now.view in
     let one : View = c.store_request_word.new.seat.view in
     let two : View = c.store_request_word-2.new.seat.view in
     let last : View = c.announce.new.seat.view in
-    let book : IsBook b = subst IsBook c.book.ensures c.accounts-accounts.ensures.checked in
     let first = c.store_request_word.ensures.stored in
     let second = c.store_request_word-2.ensures.stored in
     let part = c.process-process.ensures.part in
     let slot = c.requires.slot.0 in
-    let may = asked b v one two slot book c.requires.new part c.requires.slot.1 first second in
-    let told = c.announce.ensures.announced slot payment may in
+    let told = c.announce.ensures.announced slot payment (may g before) in
     let one_part = HasOwnPart-StoresRequestWord v one 0 0 (2 ^ 40) part first in
     let two_part = HasOwnPart-StoresRequestWord one two 0 1 7 one_part second in
     let w : Asking = asking_on (own_part two) 0 in

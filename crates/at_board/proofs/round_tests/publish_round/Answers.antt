@@ -1,25 +1,33 @@
 use Rattle.std.proofs.Common.{◌≡◌, ℕ, ◌+◌, ◌*◌, ◌==◌, cond, Some, None, ap, ◌∙◌, arith, inl, inr}
 use Rattle.at_ledger.specs.Book.{BookTerms}
-use Rattle.at_board.proofs.SmallBoardLaws.{IsIdle-published, Stores-four, may_publish_round, place-zeros, round_record, with_four}
+use Rattle.at_board.proofs.SmallBoardLaws.{IsIdle-published, Stores, Stores-four, may_publish_round, place-zeros, round_record, with_four}
 use Rattle.at_board.specs.declared.view.View.{View}
+use Rattle.at_board.specs.Conditions.{MayPublish}
 use Rattle.at_board.specs.SmallBoard.{HasWon}
 use Rattle.at_board.specs.Steps.{held_after}
 use Rattle.at_board.specs.Views.{own_part}
+use Rattle.at_board.proofs.round_tests.publish_round.Given as given
+use Rattle.at_board.proofs.round_tests.publish_round.Goals.{After-store_record_word-4}
 use Rattle.at_board.proofs.round_tests.publish_round.Goals as goal
+
+-- the words of the record are stored, and it may be published
+stored : (g : given.Over) (c : After-store_record_word-4 g)
+    → Stores c.args.seat.now.view c.store_record_word-4.new.seat.view (with_four (own_part c.args.seat.now.view) (2 + 2 * c.from.result))
+stored g c =
+    Stores-four c.args.seat.now.view c.store_record_word.new.seat.view c.store_record_word-2.new.seat.view c.store_record_word-3.new.seat.view
+    c.store_record_word-4.new.seat.view (2 + 2 * c.from.result) c.process-process.ensures.part.one_part c.store_record_word.ensures.stored
+    c.store_record_word-2.ensures.stored c.store_record_word-3.ensures.stored c.store_record_word-4.ensures.stored
+
+may : (g : given.Over) (c : After-store_record_word-4 g)
+    → MayPublish c.args.board.now.book c.store_record_word-4.new.seat.view (round_record c.args.board.now.book.processes c.args.seat.now.view.first c.args.slot)
+may g c =
+    may_publish_round c.args.board.now.book c.args.seat.now.view c.store_record_word-4.new.seat.view c.args.slot (2 + 2 * c.from.result)
+    (omega (arith, c.process-process.ensures.seat.known, ap (λ (t : BookTerms). t.processes) c.requires.board.book))
+    c.requires.slot c.requires.won (omega (arith, c.from.ensures)) (stored g c)
 
 pub publish-requires-clause-record : goal.publish-requires-clause-record
 publish-requires-clause-record g c =
-    let b : BookTerms = c.args.board.now.book in
-    let v : View = c.args.seat.now.view in
-    let slot = c.args.slot in
-    let d = 2 + 2 * c.from.result in
-    let stored = Stores-four v c.store_record_word.new.seat.view c.store_record_word-2.new.seat.view c.store_record_word-3.new.seat.view
-    c.store_record_word-4.new.seat.view d c.process-process.ensures.part.one_part c.store_record_word.ensures.stored c.store_record_word-2.ensures.stored
-    c.store_record_word-3.ensures.stored c.store_record_word-4.ensures.stored in
-    let may = may_publish_round b v c.store_record_word-4.new.seat.view slot d
-    (omega (arith, c.process-process.ensures.seat.known, ap (λ (t : BookTerms). t.processes) c.requires.board.book))
-    c.requires.slot c.requires.won (omega (arith, c.from.ensures)) stored in
-    (round_record b.processes v.first slot, may)
+    (round_record c.args.board.now.book.processes c.args.seat.now.view.first c.args.slot, may g (goal.at.publish-requires-clause-record g c).After-store_record_word-4)
 
 -- the record gives up the cell
 gives_up_cell : (b : BookTerms) (v : View) (n p slot : ℕ) → HasWon b v slot → held_after (round_record n p slot) (own_part v).held ≡ None
@@ -30,32 +38,18 @@ gives_up_cell b v n p slot won = elim won.held as (λ _. held_after (round_recor
 
 pub returns-clause-idle : goal.returns-clause-idle
 returns-clause-idle g c =
-    let b : BookTerms = c.args.board.now.book in
+    let before : After-store_record_word-4 g = (goal.at.returns-clause-idle g c).After-store_record_word-4 in
     let v : View = c.args.seat.now.view in
-    let slot = c.args.slot in
-    let d = 2 + 2 * c.from.result in
-    let stored = Stores-four v c.store_record_word.new.seat.view c.store_record_word-2.new.seat.view c.store_record_word-3.new.seat.view
-    c.store_record_word-4.new.seat.view d c.process-process.ensures.part.one_part c.store_record_word.ensures.stored c.store_record_word-2.ensures.stored
-    c.store_record_word-3.ensures.stored c.store_record_word-4.ensures.stored in
-    let may = may_publish_round b v c.store_record_word-4.new.seat.view slot d
-    (omega (arith, c.process-process.ensures.seat.known, ap (λ (t : BookTerms). t.processes) c.requires.board.book))
-    c.requires.slot c.requires.won (omega (arith, c.from.ensures)) stored in
-    IsIdle-published c.args.board.now c.args.seat.now c.store_record_word-4.new.seat c.publish.new.seat (with_four (own_part v) d) (round_record b.processes v.first slot)
-    c.requires.board c.process-process.ensures.part.one_part stored (gives_up_cell b v b.processes v.first slot c.requires.won)
-    (c.publish.ensures.published (round_record b.processes v.first slot) may)
+    let n = c.args.board.now.book.processes in
+    let x = round_record n v.first c.args.slot in
+    IsIdle-published c.args.board.now c.args.seat.now c.store_record_word-4.new.seat c.publish.new.seat (with_four (own_part v) (2 + 2 * c.from.result)) x
+    c.requires.board c.process-process.ensures.part.one_part (stored g before) (gives_up_cell c.args.board.now.book v n v.first c.args.slot c.requires.won)
+    (c.publish.ensures.published x (may g before))
     (c.publish.ensures.board ∙ (c.store_record_word-4.ensures.board ∙ (c.store_record_word-3.ensures.board
     ∙ (c.store_record_word-2.ensures.board ∙ c.store_record_word.ensures.board))))
 
 pub returns-clause-process : goal.returns-clause-process
 returns-clause-process g c =
-    let b : BookTerms = c.args.board.now.book in
-    let v : View = c.args.seat.now.view in
-    let slot = c.args.slot in
-    let d = 2 + 2 * c.from.result in
-    let stored = Stores-four v c.store_record_word.new.seat.view c.store_record_word-2.new.seat.view c.store_record_word-3.new.seat.view
-    c.store_record_word-4.new.seat.view d c.process-process.ensures.part.one_part c.store_record_word.ensures.stored c.store_record_word-2.ensures.stored
-    c.store_record_word-3.ensures.stored c.store_record_word-4.ensures.stored in
-    let may = may_publish_round b v c.store_record_word-4.new.seat.view slot d
-    (omega (arith, c.process-process.ensures.seat.known, ap (λ (t : BookTerms). t.processes) c.requires.board.book))
-    c.requires.slot c.requires.won (omega (arith, c.from.ensures)) stored in
-    ap (λ (t : View). t.first) (c.publish.ensures.published (round_record b.processes v.first slot) may).same ∙ ap (λ (t : View). t.first) stored.same
+    let before : After-store_record_word-4 g = (goal.at.returns-clause-process g c).After-store_record_word-4 in
+    let x = round_record c.args.board.now.book.processes c.args.seat.now.view.first c.args.slot in
+    ap (λ (t : View). t.first) (c.publish.ensures.published x (may g before)).same ∙ ap (λ (t : View). t.first) (stored g before).same

@@ -2,11 +2,14 @@ use Rattle.std.proofs.Common.{◌≡◌, ℕ, ◌<◌, ◌+◌, ◌*◌, List, [
 use Rattle.at_ledger.specs.Book.{BookTerms}
 use Rattle.at_board.proofs.FrontLaws.{length-IsFront}
 use Rattle.at_board.proofs.SmallBoardLaws.{IsIdle-published, Stores, Stores-six, list_of_four, may_publish_moving, moving, with_six}
+use Rattle.at_board.specs.declared.view.Part.{Part}
 use Rattle.at_board.specs.declared.view.View.{View}
 use Rattle.at_board.specs.Conditions.{MayPublish}
 use Rattle.at_board.specs.SmallBoard.{HasOwnAccount, IsOwnFront}
 use Rattle.at_board.specs.Steps.{IsHistory, held_after}
 use Rattle.at_board.specs.Views.{own_part}
+use Rattle.at_board.proofs.stress_tests.move_nothing.Given as given
+use Rattle.at_board.proofs.stress_tests.move_nothing.Goals.{After-store_record_word-6}
 use Rattle.at_board.proofs.stress_tests.move_nothing.Goals as goal
 
 -- the view has four counts
@@ -35,66 +38,44 @@ may_move_nothing b v w view h i j k l four known history blank room owns front h
     subst (λ xs. MayPublish b w (moving v.first xs)) all
     (may_publish_moving b v w h i j k l four known history blank room owns (subst (IsOwnFront b v) (sym all) front) head stored)
 
-pub publish-requires-clause-record : goal.publish-requires-clause-record
-publish-requires-clause-record g c =
+-- the part of the seat with the record's words
+abbrev part_with : (g : given.Over) → After-store_record_word-6 g → Part
+part_with g c = with_six (own_part c.args.seat.now.view) (2 * (c.from.result + 1)) c.from-2.result c.from-3.result c.from-4.result c.from-5.result
+
+stored : (g : given.Over) (c : After-store_record_word-6 g) → Stores c.args.seat.now.view c.store_record_word-6.new.seat.view (part_with g c)
+stored g c =
+    Stores-six c.args.seat.now.view c.store_record_word.new.seat.view c.store_record_word-2.new.seat.view c.store_record_word-3.new.seat.view
+    c.store_record_word-4.new.seat.view c.store_record_word-5.new.seat.view c.store_record_word-6.new.seat.view (2 * (c.from.result + 1))
+    c.from-2.result c.from-3.result c.from-4.result c.from-5.result c.requires.idle.one_part c.store_record_word.ensures.stored
+    c.store_record_word-2.ensures.stored c.store_record_word-3.ensures.stored c.store_record_word-4.ensures.stored c.store_record_word-5.ensures.stored
+    c.store_record_word-6.ensures.stored
+
+may : (g : given.Over) (c : After-store_record_word-6 g)
+    → MayPublish c.args.board.now.book c.store_record_word-6.new.seat.view (moving c.args.seat.now.view.first c.args.view.now)
+may g c =
     let b : BookTerms = c.args.board.now.book in
     let v : View = c.args.seat.now.view in
-    let i = c.from-2.result in
-    let j = c.from-3.result in
-    let k = c.from-4.result in
-    let l = c.from-5.result in
-    let h = 2 * (c.from.result + 1) in
-    let stored = Stores-six v c.store_record_word.new.seat.view c.store_record_word-2.new.seat.view c.store_record_word-3.new.seat.view c.store_record_word-4.new.seat.view
-    c.store_record_word-5.new.seat.view c.store_record_word-6.new.seat.view h i j k l c.requires.idle.one_part c.store_record_word.ensures.stored
-    c.store_record_word-2.ensures.stored c.store_record_word-3.ensures.stored c.store_record_word-4.ensures.stored c.store_record_word-5.ensures.stored
-    c.store_record_word-6.ensures.stored in
-    let may = may_move_nothing b v c.store_record_word-6.new.seat.view c.args.view.now h i j k l c.requires.four
-    (omega (arith, c.process.ensures.seat.known, ap (λ (t : BookTerms). t.processes) c.requires.idle.of_board.book))
+    may_move_nothing b v c.store_record_word-6.new.seat.view c.args.view.now (2 * (c.from.result + 1)) c.from-2.result c.from-3.result c.from-4.result c.from-5.result
+    c.requires.four (omega (arith, c.process.ensures.seat.known, ap (λ (t : BookTerms). t.processes) c.requires.idle.of_board.book))
     (subst (λ t. IsHistory t v.seen) c.requires.idle.of_board.book c.process.ensures.seat.history) c.requires.idle.blank c.requires.room c.requires.owner
     c.requires.view (omega (arith, c.from.ensures, c.process.ensures.process)) (c.from-2.ensures ∙ c.get.ensures) (c.from-3.ensures ∙ c.get-2.ensures)
-    (c.from-4.ensures ∙ c.get-3.ensures) (c.from-5.ensures ∙ c.get-4.ensures) stored in
-    (moving v.first c.args.view.now, may)
+    (c.from-4.ensures ∙ c.get-3.ensures) (c.from-5.ensures ∙ c.get-4.ensures) (stored g c)
+
+pub publish-requires-clause-record : goal.publish-requires-clause-record
+publish-requires-clause-record g c =
+    (moving c.args.seat.now.view.first c.args.view.now, may g (goal.at.publish-requires-clause-record g c).After-store_record_word-6)
 
 pub returns-clause-idle : goal.returns-clause-idle
 returns-clause-idle g c =
-    let b : BookTerms = c.args.board.now.book in
-    let v : View = c.args.seat.now.view in
-    let i = c.from-2.result in
-    let j = c.from-3.result in
-    let k = c.from-4.result in
-    let l = c.from-5.result in
-    let h = 2 * (c.from.result + 1) in
-    let stored = Stores-six v c.store_record_word.new.seat.view c.store_record_word-2.new.seat.view c.store_record_word-3.new.seat.view c.store_record_word-4.new.seat.view
-    c.store_record_word-5.new.seat.view c.store_record_word-6.new.seat.view h i j k l c.requires.idle.one_part c.store_record_word.ensures.stored
-    c.store_record_word-2.ensures.stored c.store_record_word-3.ensures.stored c.store_record_word-4.ensures.stored c.store_record_word-5.ensures.stored
-    c.store_record_word-6.ensures.stored in
-    let may = may_move_nothing b v c.store_record_word-6.new.seat.view c.args.view.now h i j k l c.requires.four
-    (omega (arith, c.process.ensures.seat.known, ap (λ (t : BookTerms). t.processes) c.requires.idle.of_board.book))
-    (subst (λ t. IsHistory t v.seen) c.requires.idle.of_board.book c.process.ensures.seat.history) c.requires.idle.blank c.requires.room c.requires.owner
-    c.requires.view (omega (arith, c.from.ensures, c.process.ensures.process)) (c.from-2.ensures ∙ c.get.ensures) (c.from-3.ensures ∙ c.get-2.ensures)
-    (c.from-4.ensures ∙ c.get-3.ensures) (c.from-5.ensures ∙ c.get-4.ensures) stored in
-    IsIdle-published c.args.board.now c.args.seat.now c.store_record_word-6.new.seat c.publish.new.seat (with_six (own_part v) h i j k l) (moving v.first c.args.view.now)
-    c.requires.idle.of_board c.requires.idle.one_part stored (ap (held_after (moving v.first c.args.view.now)) c.requires.idle.free)
-    (c.publish.ensures.published (moving v.first c.args.view.now) may)
+    let before : After-store_record_word-6 g = (goal.at.returns-clause-idle g c).After-store_record_word-6 in
+    let x = moving c.args.seat.now.view.first c.args.view.now in
+    IsIdle-published c.args.board.now c.args.seat.now c.store_record_word-6.new.seat c.publish.new.seat (part_with g before) x
+    c.requires.idle.of_board c.requires.idle.one_part (stored g before) (ap (held_after x) c.requires.idle.free) (c.publish.ensures.published x (may g before))
     (c.publish.ensures.board ∙ (c.store_record_word-6.ensures.board ∙ (c.store_record_word-5.ensures.board ∙ (c.store_record_word-4.ensures.board
     ∙ (c.store_record_word-3.ensures.board ∙ (c.store_record_word-2.ensures.board ∙ c.store_record_word.ensures.board))))))
 
 pub returns-clause-process : goal.returns-clause-process
 returns-clause-process g c =
-    let b : BookTerms = c.args.board.now.book in
-    let v : View = c.args.seat.now.view in
-    let i = c.from-2.result in
-    let j = c.from-3.result in
-    let k = c.from-4.result in
-    let l = c.from-5.result in
-    let h = 2 * (c.from.result + 1) in
-    let stored = Stores-six v c.store_record_word.new.seat.view c.store_record_word-2.new.seat.view c.store_record_word-3.new.seat.view c.store_record_word-4.new.seat.view
-    c.store_record_word-5.new.seat.view c.store_record_word-6.new.seat.view h i j k l c.requires.idle.one_part c.store_record_word.ensures.stored
-    c.store_record_word-2.ensures.stored c.store_record_word-3.ensures.stored c.store_record_word-4.ensures.stored c.store_record_word-5.ensures.stored
-    c.store_record_word-6.ensures.stored in
-    let may = may_move_nothing b v c.store_record_word-6.new.seat.view c.args.view.now h i j k l c.requires.four
-    (omega (arith, c.process.ensures.seat.known, ap (λ (t : BookTerms). t.processes) c.requires.idle.of_board.book))
-    (subst (λ t. IsHistory t v.seen) c.requires.idle.of_board.book c.process.ensures.seat.history) c.requires.idle.blank c.requires.room c.requires.owner
-    c.requires.view (omega (arith, c.from.ensures, c.process.ensures.process)) (c.from-2.ensures ∙ c.get.ensures) (c.from-3.ensures ∙ c.get-2.ensures)
-    (c.from-4.ensures ∙ c.get-3.ensures) (c.from-5.ensures ∙ c.get-4.ensures) stored in
-    ap (λ (t : View). t.first) (c.publish.ensures.published (moving v.first c.args.view.now) may).same ∙ ap (λ (t : View). t.first) stored.same
+    let before : After-store_record_word-6 g = (goal.at.returns-clause-process g c).After-store_record_word-6 in
+    let x = moving c.args.seat.now.view.first c.args.view.now in
+    ap (λ (t : View). t.first) (c.publish.ensures.published x (may g before)).same ∙ ap (λ (t : View). t.first) (stored g before).same
