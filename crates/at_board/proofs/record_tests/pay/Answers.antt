@@ -15,7 +15,6 @@ use Rattle.at_board.specs.Rounds.{owns_of}
 use Rattle.at_board.specs.Sound.{HasView, IsSoundOwn}
 use Rattle.at_board.specs.Steps.{held_after, with_word}
 use Rattle.at_board.specs.Views.{own_part}
-use Rattle.at_board.specs.Words.{record_words}
 use Rattle.at_board.proofs.record_tests.pay.Given as given
 use Rattle.at_board.proofs.record_tests.pay.Goals.{After-store_record_word-2}
 use Rattle.at_board.proofs.record_tests.pay.Goals as goal
