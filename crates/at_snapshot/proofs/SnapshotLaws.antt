@@ -52,8 +52,9 @@ counts-equal b scan c v w so are told same =
     ))
 
 -- a front that begins with all that was seen at the start counts all of the scan's process
-own_counted : (b : BookTerms) (scan : ScanView) (v w : View) (view : List ℕ) → SeesOwnRecords scan.start → IsScanOf b scan v → v.first < b.processes → IsCollect b v w
-    → IsFront b.processes view w.seen → IsPrefix scan.start.seen (prefix_of view w.seen) → get_or view scan.start.first 0 ≡ (own_part scan.start).published
+own_counted : (b : BookTerms) (scan : ScanView) (v w : View) (view : List ℕ) → SeesOwnRecords scan.start → IsScanOf b scan v
+    → v.first < b.processes → IsCollect b v w → IsFront b.processes view w.seen
+    → IsPrefix scan.start.seen (prefix_of view w.seen) → get_or view scan.start.first 0 ≡ (own_part scan.start).published
 own_counted b scan v w view own so known told front begins =
     let p : ℕ = scan.start.first in
     omega (
@@ -132,8 +133,8 @@ is_new b scan c v w q so are told risen =
       },
     )
 
-pub IsSnapshot-lent : (b : BookTerms) (scan : ScanView) (c : Collects) (v w : View) (lent : List ℕ) → SeesOwnRecords scan.start → IsScanOf b scan v → v.first < b.processes
-    → AreCollects b scan c → IsCollect b v w
+pub IsSnapshot-lent : (b : BookTerms) (scan : ScanView) (c : Collects) (v w : View) (lent : List ℕ) → SeesOwnRecords scan.start
+    → IsScanOf b scan v → v.first < b.processes → AreCollects b scan c → IsCollect b v w
     → ((p : ℕ) → p < b.processes → (loads_of (own_part scan.start) p).times + 1 ≤ (loads_of (own_part v) p).times)
     → IsLent c w (collect_of w) lent → IsSnapshot b scan.start w lent
 IsSnapshot-lent b scan c v w lent own so process are told once is =
@@ -175,8 +176,8 @@ IsSnapshot-lent b scan c v w lent own so process are told once is =
     })
 
 -- what a later turn answers
-pub OnCounts-IsVerdict : (b : BookTerms) (scan : ScanView) (c : Collects) (v w : View) (turn : Turn) → SeesOwnRecords scan.start → IsScanOf b scan v → v.first < b.processes → scan.collects ≡ Some c
-    → IsCollect b v w → IsVerdict c w (collect_of w) turn → OnCounts turn (IsSnapshot b scan.start w)
+pub OnCounts-IsVerdict : (b : BookTerms) (scan : ScanView) (c : Collects) (v w : View) (turn : Turn) → SeesOwnRecords scan.start
+    → IsScanOf b scan v → v.first < b.processes → scan.collects ≡ Some c → IsCollect b v w → IsVerdict c w (collect_of w) turn → OnCounts turn (IsSnapshot b scan.start w)
 OnCounts-IsVerdict b scan c v w (Clean counts) own so process is told verdict =
     subst (IsSnapshot b scan.start w) (sym verdict.counts_are)
     (IsSnapshot-equal b scan c v w own so process (AreCollects-IsScanOf b scan c v so is) told (loaded_once b scan c v so is) verdict.equal)

@@ -30,7 +30,7 @@ pub enum Turn {
 #[derive(Drop)]
 pub struct Scan {
     pub(crate) collects: Option<Collects>,
-    /// The seat at the start, for contracts alone.
+    /// The seat at the start, for contracts alone. It had seen all records of its own process.
     pub(crate) start: Snapshot<BoardSeat>,
     /// The seat at the end of the last collect.
     pub(crate) mark: Snapshot<BoardSeat>,
