@@ -9,7 +9,7 @@ use Rattle.at_board.specs.declared.view.View.{View}
 use Rattle.at_board.specs.Publications.{count_of}
 use Rattle.at_board.specs.Steps.{LoadsLength}
 use Rattle.at_board.specs.Views.{loads_of, own_part}
-use Rattle.at_snapshot.proofs.LoadedLaws.{HasLoaded-LoadsLength, HasLoaded-trans, first-HasLoaded, loads_of-other, loads_of-same, parts-HasLoaded, published-HasLoaded}
+use Rattle.at_snapshot.proofs.LoadedLaws.{HasLoaded-LoadsLength, HasLoaded-trans, loads_of-other, loads_of-same, parts-HasLoaded}
 use Rattle.at_snapshot.specs.Collected.{HasLoaded, IsCollect, collect_of}
 
 -- a collect as far as the process
@@ -22,7 +22,6 @@ pub record IsCollecting (b : BookTerms) (v w : View) (counts : List ℕ) (p : �
   pub last : (q : ℕ) → q < p → (loads_of (own_part w) q).last ≡ get_or counts q 0
   pub least : (q : ℕ) → q < p → count_of q v.seen ≤ get_or counts q 0
   pub most : (q : ℕ) → q < p → get_or counts q 0 ≤ count_of q w.seen
-  pub own : v.first < p → get_or counts v.first 0 ≡ (own_part v).published
 
 pub IsCollecting-start : (b : BookTerms) (v : View) (counts : List ℕ) → length counts ≡ b.processes → IsCollecting b v v counts 0
 IsCollecting-start b v counts sized = record {
@@ -34,14 +33,11 @@ IsCollecting-start b v counts sized = record {
   last = λ q below. absurd (omega arith);
   least = λ q below. absurd (omega arith);
   most = λ q below. absurd (omega arith);
-  own = λ below. absurd (omega arith);
 }
 
 -- what stands before a load: as it was, or after loads
 pub record IsBefore (b : BookTerms) (v u : View) : Type 0 where
-  pub first : u.first ≡ v.first
   pub part : 0 < length u.parts
-  pub published : (own_part u).published ≡ (own_part v).published
   pub after : (w : View) (p n : ℕ) → LoadsLength b u w p n → HasLoaded b v w
 
 pub IsBefore-IsCollecting : (b : BookTerms) (v u : View) (counts : List ℕ) (p : ℕ) → 0 < length v.parts → IsCollecting b v u counts p → IsBefore b v u
@@ -51,17 +47,13 @@ IsBefore-IsCollecting b v u counts p part so_far =
           let loaded = so_far.loaded begun in
           let some : 0 < length u.parts = omega (arith, part, parts-HasLoaded b v u loaded) in
           record {
-            first = first-HasLoaded b v u loaded;
             part = some;
-            published = published-HasLoaded b v u part loaded;
             after = λ w q n told. HasLoaded-trans b v u w part loaded (HasLoaded-LoadsLength b u w q n some told);
           }
       | inr none ↦
           let same : u ≡ v = so_far.start (omega arith) in
           record {
-            first = ap (λ (t : View). t.first) same;
             part = omega (arith, part, ap (λ (t : View). length t.parts) same);
-            published = ap (λ t. (own_part t).published) same;
             after = λ w q n told. HasLoaded-LoadsLength b v w q n part (subst (λ (t : View). LoadsLength b t w q n) same told);
           }
     ]
@@ -105,12 +97,6 @@ IsCollecting-load b v u w counts p n part within so_far told =
             | inl same ↦ subst (λ k. get_or (set counts p n) k 0 ≤ count_of k w.seen) (sym same) (omega (arith, here, told.counted))
             | inr apart ↦ omega (arith, there q apart, so_far.most q (omega arith), IsPrefix-count_of q u.seen w.seen told.more)
           ];
-      own = λ below.
-          elim (cases_eq v.first p) as (λ _. get_or (set counts p n) v.first 0 ≡ (own_part v).published) [
-            | inl same ↦ ap (λ k. get_or (set counts p n) k 0) same ∙ (here ∙ (sym told.counted
-                ∙ (ap (λ k. count_of k w.seen) (sym same) ∙ (ap (λ k. count_of k w.seen) (sym before.first) ∙ (told.own ∙ before.published)))))
-            | inr apart ↦ there v.first apart ∙ so_far.own (omega arith)
-          ];
     }
 
 -- a collect's counts are the numbers last loaded
@@ -124,9 +110,8 @@ collect_of-IsCollecting b v w counts some whole =
     let below : q < b.processes = omega (arith, within, whole.sized) in
     sym (get_or-map (λ (l : Loads). l.last) loads q (record { times = 0; last = 0 }) 0 (omega (arith, below, lengths)) ∙ whole.last q below))
 
-pub IsCollect-IsCollecting : (b : BookTerms) (v w : View) (counts : List ℕ) → 0 < b.processes → v.first < b.processes
-    → IsCollecting b v w counts b.processes → IsCollect b v w
-IsCollect-IsCollecting b v w counts some known whole =
+pub IsCollect-IsCollecting : (b : BookTerms) (v w : View) (counts : List ℕ) → 0 < b.processes → IsCollecting b v w counts b.processes → IsCollect b v w
+IsCollect-IsCollecting b v w counts some whole =
     let same = collect_of-IsCollecting b v w counts some whole in
     let at : (q : ℕ) → get_or counts q 0 ≡ get_or (collect_of w) q 0 = λ q. ap (λ xs. get_or xs q 0) same in
     record {
@@ -134,5 +119,4 @@ IsCollect-IsCollecting b v w counts some known whole =
       times = λ p within. whole.done p within;
       least = λ p within. omega (arith, at p, whole.least p within);
       most = λ p within. omega (arith, at p, whole.most p within);
-      own = sym (at v.first) ∙ whole.own known;
     }

@@ -1,5 +1,5 @@
 -- A scan after one more collect.
-use Rattle.std.proofs.Common.{◌≡◌, ℕ, ◌<◌, ◌≤◌, length, get_or, sym, ap, subst, ◌∙◌, arith, Option, Some, None}
+use Rattle.std.proofs.Common.{◌≡◌, ℕ, ◌<◌, ◌≤◌, length, get_or, subst, ◌∙◌, arith, Option, Some, None}
 use Rattle.std.specs.Option.{IfSome}
 use Rattle.std.proofs.lemmas.List.{length-map}
 use Rattle.at_ledger.specs.Book.{BookTerms}
@@ -25,11 +25,6 @@ counts-IsScanOf b scan v w p so told known = omega (arith, IsPrefix-count_of p s
 pub AreCollects-IsScanOf : (b : BookTerms) (scan : ScanView) (c : Collects) (v : View) → IsScanOf b scan v → scan.collects ≡ Some c → AreCollects b scan c
 AreCollects-IsScanOf b scan c v so is = subst (λ collects. IfSome collects (AreCollects b scan)) is so.collects
 
--- the number of the scan's process
-pub own_count : (b : BookTerms) (scan : ScanView) (v w : View) → IsScanOf b scan v → IsCollect b v w
-    → get_or (collect_of w) scan.start.first 0 ≡ (own_part scan.start).published
-own_count b scan v w so told = ap (λ k. get_or (collect_of w) k 0) (sym so.process) ∙ (told.own ∙ so.published)
-
 -- what was counted last is counted again
 pub last_le : (b : BookTerms) (scan : ScanView) (c : Collects) (v w : View) (p : ℕ) → IsScanOf b scan v → AreCollects b scan c → IsCollect b v w
     → p < b.processes → get_or c.last p 0 ≤ get_or (collect_of w) p 0
@@ -53,8 +48,6 @@ AreCollects-after b start mark None v w so told =
       first = λ p known. counts-IsScanOf b scan v w p so told known;
       last = told.most;
       rising = λ p within. omega arith;
-      own_first = own_count b scan v w so told;
-      own_last = own_count b scan v w so told;
     }
 AreCollects-after b start mark (Some c) v w so told =
     let scan : ScanView = record { start = start; mark = mark; collects = Some c } in
@@ -68,8 +61,6 @@ AreCollects-after b start mark (Some c) v w so told =
       rising = λ p within.
           let known : p < b.processes = omega (arith, within, length-collect_of b v w told.loaded) in
           omega (arith, are.rising p (omega (arith, known, are.last_length)), last_le b scan c v w p so are told known);
-      own_first = are.own_first;
-      own_last = own_count b scan v w so told;
     }
 
 pub IsScanOf-after : (b : BookTerms) (scan : ScanView) (v w : View) → 0 < length v.parts → IsScanOf b scan v → IsCollect b v w
@@ -79,7 +70,6 @@ IsScanOf-after b scan v w part so told = record {
   published = published-HasLoaded b v w part told.loaded ∙ so.published;
   started = IsPrefix-trans scan.start.seen v.seen w.seen so.started told.loaded.more;
   marked = IsPrefix-refl w.seen;
-  own = so.own;
   loads = λ p known. omega (arith, so.loads p known, told.times p known);
   collects = AreCollects-after b scan.start scan.mark scan.collects v w so told;
 }

@@ -19,7 +19,7 @@ use Rattle.at_snapshot.specs.declared.scan.Turn.{Turn}
 use Rattle.at_snapshot.specs.declared.scan.Turn.TheVariants.{Clean, Borrowed, Again}
 use Rattle.at_snapshot.proofs.ScanLaws.{AreCollects-IsScanOf, length-collect_of}
 use Rattle.at_snapshot.specs.Collected.{IsCollect, collect_of}
-use Rattle.at_snapshot.specs.Scans.{AreCollects, IsScanOf, ScanView, loads_at_least}
+use Rattle.at_snapshot.specs.Scans.{AreCollects, IsScanOf, ScanView, SeesOwnRecords, loads_at_least}
 use Rattle.at_snapshot.specs.Snapshots.{IsSnapshot, OnCounts}
 use Rattle.at_snapshot.specs.Turns.{HasRisen, IsLent, IsVerdict}
 
@@ -52,13 +52,14 @@ counts-equal b scan c v w so are told same =
     ))
 
 -- a front that begins with all that was seen at the start counts all of the scan's process
-own_counted : (b : BookTerms) (scan : ScanView) (v w : View) (view : List ℕ) → IsScanOf b scan v → v.first < b.processes → IsCollect b v w
-    → IsFront b.processes view w.seen → IsPrefix scan.start.seen (prefix_of view w.seen) → get_or view scan.start.first 0 ≡ (own_part scan.start).published
-own_counted b scan v w view so known told front begins =
+own_counted : (b : BookTerms) (scan : ScanView) (v w : View) (view : List ℕ) → SeesOwnRecords scan.start → IsScanOf b scan v
+    → v.first < b.processes → IsCollect b v w → IsFront b.processes view w.seen
+    → IsPrefix scan.start.seen (prefix_of view w.seen) → get_or view scan.start.first 0 ≡ (own_part scan.start).published
+own_counted b scan v w view own so known told front begins =
     let p : ℕ = scan.start.first in
     omega (
       arith,
-      so.own,
+      own,
       get_or-IsFront b.processes view w.seen p front (omega (arith, known, so.process)),
       IsPrefix-count_of p scan.start.seen (prefix_of view w.seen) begins,
       count_of-take-le p (place view) w.seen,
@@ -67,11 +68,11 @@ own_counted b scan v w view so known told front begins =
       so.published,
     )
 
-pub IsSnapshot-equal : (b : BookTerms) (scan : ScanView) (c : Collects) (v w : View) → IsScanOf b scan v → v.first < b.processes
+pub IsSnapshot-equal : (b : BookTerms) (scan : ScanView) (c : Collects) (v w : View) → SeesOwnRecords scan.start → IsScanOf b scan v → v.first < b.processes
     → AreCollects b scan c → IsCollect b v w
     → ((p : ℕ) → p < b.processes → (loads_of (own_part scan.start) p).times + 1 ≤ (loads_of (own_part v) p).times)
     → c.last ≡ collect_of w → IsSnapshot b scan.start w (collect_of w)
-IsSnapshot-equal b scan c v w so process are told once same =
+IsSnapshot-equal b scan c v w own so process are told once same =
     let n = b.processes in
     let mark = scan.mark.seen in
     let between : IsPrefix mark w.seen = IsPrefix-trans mark v.seen w.seen so.marked told.loaded.more in
@@ -88,7 +89,7 @@ IsSnapshot-equal b scan c v w so process are told once same =
         loaded = λ p below. loaded_twice b scan v w p told below (once p below);
         taken = inl refl;
       };
-      own = own_counted b scan v w (collect_of w) so process told front begins;
+      own = own_counted b scan v w (collect_of w) own so process told front begins;
     }
 
 -- the record whose view is lent: it was not seen at the start, and its view counts more of its process than was seen then
@@ -132,11 +133,11 @@ is_new b scan c v w q so are told risen =
       },
     )
 
-pub IsSnapshot-lent : (b : BookTerms) (scan : ScanView) (c : Collects) (v w : View) (lent : List ℕ) → IsScanOf b scan v → v.first < b.processes
-    → AreCollects b scan c → IsCollect b v w
+pub IsSnapshot-lent : (b : BookTerms) (scan : ScanView) (c : Collects) (v w : View) (lent : List ℕ) → SeesOwnRecords scan.start
+    → IsScanOf b scan v → v.first < b.processes → AreCollects b scan c → IsCollect b v w
     → ((p : ℕ) → p < b.processes → (loads_of (own_part scan.start) p).times + 1 ≤ (loads_of (own_part v) p).times)
     → IsLent c w (collect_of w) lent → IsSnapshot b scan.start w lent
-IsSnapshot-lent b scan c v w lent so process are told once is =
+IsSnapshot-lent b scan c v w lent own so process are told once is =
     let n = b.processes in
     let q = is.process in
     let i = get_or (collect_of w) q 0 - 1 in
@@ -159,7 +160,7 @@ IsSnapshot-lent b scan c v w lent so process are told once is =
     subst (IsSnapshot b scan.start w) same (record {
       front = front;
       begins = begins;
-      own = own_counted b scan v w x.view so process told front begins;
+      own = own_counted b scan v w x.view own so process told front begins;
       fresh = record {
         loaded = λ p below. loaded_twice b scan v w p told below (once p below);
         taken = inr (
@@ -175,11 +176,11 @@ IsSnapshot-lent b scan c v w lent so process are told once is =
     })
 
 -- what a later turn answers
-pub OnCounts-IsVerdict : (b : BookTerms) (scan : ScanView) (c : Collects) (v w : View) (turn : Turn) → IsScanOf b scan v → v.first < b.processes → scan.collects ≡ Some c
-    → IsCollect b v w → IsVerdict c w (collect_of w) turn → OnCounts turn (IsSnapshot b scan.start w)
-OnCounts-IsVerdict b scan c v w (Clean counts) so process is told verdict =
+pub OnCounts-IsVerdict : (b : BookTerms) (scan : ScanView) (c : Collects) (v w : View) (turn : Turn) → SeesOwnRecords scan.start
+    → IsScanOf b scan v → v.first < b.processes → scan.collects ≡ Some c → IsCollect b v w → IsVerdict c w (collect_of w) turn → OnCounts turn (IsSnapshot b scan.start w)
+OnCounts-IsVerdict b scan c v w (Clean counts) own so process is told verdict =
     subst (IsSnapshot b scan.start w) (sym verdict.counts_are)
-    (IsSnapshot-equal b scan c v w so process (AreCollects-IsScanOf b scan c v so is) told (loaded_once b scan c v so is) verdict.equal)
-OnCounts-IsVerdict b scan c v w (Borrowed counts) so process is told verdict =
-    IsSnapshot-lent b scan c v w counts so process (AreCollects-IsScanOf b scan c v so is) told (loaded_once b scan c v so is) verdict
-OnCounts-IsVerdict b scan c v w Again so process is told verdict = tt
+    (IsSnapshot-equal b scan c v w own so process (AreCollects-IsScanOf b scan c v so is) told (loaded_once b scan c v so is) verdict.equal)
+OnCounts-IsVerdict b scan c v w (Borrowed counts) own so process is told verdict =
+    IsSnapshot-lent b scan c v w counts own so process (AreCollects-IsScanOf b scan c v so is) told (loaded_once b scan c v so is) verdict
+OnCounts-IsVerdict b scan c v w Again own so process is told verdict = tt

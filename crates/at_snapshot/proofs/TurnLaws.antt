@@ -3,16 +3,18 @@ use Rattle.std.proofs.Common.{◌≡◌, ℕ, ◌+◌, ◌*◌, ◌<◌, ◌≤�
 use Rattle.std.proofs.lemmas.Bool.{cases_eq, cases_lt}
 use Rattle.std.proofs.lemmas.Nat.{mul-le}
 use Rattle.at_ledger.specs.Book.{BookTerms}
+use Rattle.at_board.proofs.FrontLaws.{IsPrefix-count_of}
 use Rattle.at_board.specs.declared.view.View.{View}
+use Rattle.at_board.specs.Publications.{count_of}
 use Rattle.at_board.specs.Views.{loads_of, own_part}
 use Rattle.at_snapshot.specs.declared.collects.Collects.{Collects}
 use Rattle.at_snapshot.specs.declared.scan.Turn.{Turn}
 use Rattle.at_snapshot.specs.declared.scan.Turn.TheVariants.{Clean, Borrowed, Again}
 use Rattle.at_snapshot.proofs.LoadedLaws.{HasLoaded-trans, first-HasLoaded, parts-HasLoaded}
-use Rattle.at_snapshot.proofs.ScanLaws.{IsScanOf-after, last_le, length-collect_of, own_count}
+use Rattle.at_snapshot.proofs.ScanLaws.{IsScanOf-after, last_le, length-collect_of}
 use Rattle.at_snapshot.proofs.UnmovedLaws.{unmoved, unmoved-falls, unmoved-same, unmoved-some}
 use Rattle.at_snapshot.specs.Collected.{HasLoaded, IsCollect, collect_of}
-use Rattle.at_snapshot.specs.Scans.{AreCollects, IsScanOf, ScanView, collects_after, scan_after, starting_scan}
+use Rattle.at_snapshot.specs.Scans.{AreCollects, IsScanOf, ScanView, SeesOwnRecords, collects_after, scan_after, starting_scan}
 use Rattle.at_snapshot.specs.Snapshots.{HasCollected, snapshot_steps}
 use Rattle.at_snapshot.specs.Turns.{IsAnswer, IsUndecided, view_steps}
 
@@ -22,14 +24,22 @@ turns_left n None = n + 1
 turns_left n (Some c) = unmoved c.first c.last
 
 -- no count is two above the first
-close_to_first : (b : BookTerms) (scan : ScanView) (c : Collects) (v w : View) (p : ℕ) → IsScanOf b scan v → AreCollects b scan c → IsCollect b v w
-    → IsUndecided c w (collect_of w) → p < b.processes → get_or (collect_of w) p 0 ≤ get_or c.first p 0 + 1
-close_to_first b scan c v w p so are told undecided known =
-    let own : w.first ≡ scan.start.first = first-HasLoaded b v w told.loaded ∙ so.process in
+close_to_first : (b : BookTerms) (scan : ScanView) (c : Collects) (v w : View) (p : ℕ) → SeesOwnRecords scan.start
+    → IsScanOf b scan v → AreCollects b scan c → IsCollect b v w → IsUndecided c w (collect_of w) → p < b.processes → get_or (collect_of w) p 0 ≤ get_or c.first p 0 + 1
+close_to_first b scan c v w p own so are told undecided known =
     elim (cases_eq p w.first) as (λ _. get_or (collect_of w) p 0 ≤ get_or c.first p 0 + 1) [
       | inl mine ↦
-          let at : p ≡ scan.start.first = mine ∙ own in
-          omega (arith, ap (λ k. get_or (collect_of w) k 0) at, own_count b scan v w so told, ap (λ k. get_or c.first k 0) at, are.own_first)
+          let same : w.first ≡ v.first = first-HasLoaded b v w told.loaded in
+          omega (
+            arith,
+            told.most p known,
+            ap (λ k. count_of k w.seen) (mine ∙ same),
+            told.loaded.own,
+            so.published,
+            own,
+            ap (λ k. count_of k scan.start.seen) (mine ∙ (same ∙ so.process)),
+            are.first p known,
+          )
       | inr other ↦
           elim (cases_lt (get_or c.first p 0 + 1) (get_or (collect_of w) p 0)) as (λ _. get_or (collect_of w) p 0 ≤ get_or c.first p 0 + 1) [
             | inl risen ↦ absurd (undecided.none p (record { within = omega (arith, known, length-collect_of b v w told.loaded); other = other; risen = omega arith }))
@@ -38,36 +48,49 @@ close_to_first b scan c v w p so are told undecided known =
     ]
 
 -- a turn that answers Again leaves fewer
-turns_left-undecided : (b : BookTerms) (scan : ScanView) (c : Collects) (v w : View) → IsScanOf b scan v → AreCollects b scan c → IsCollect b v w
-    → IsUndecided c w (collect_of w) → unmoved c.first (collect_of w) < unmoved c.first c.last
-turns_left-undecided b scan c v w so are told undecided =
+turns_left-undecided : (b : BookTerms) (scan : ScanView) (c : Collects) (v w : View) → SeesOwnRecords scan.start
+    → IsScanOf b scan v → AreCollects b scan c → IsCollect b v w → IsUndecided c w (collect_of w) → unmoved c.first (collect_of w) < unmoved c.first c.last
+turns_left-undecided b scan c v w own so are told undecided =
     let known : (p : ℕ) → p < length c.first → p < b.processes = λ p within. omega (arith, within, are.first_length) in
     unmoved-falls c.first c.last (collect_of w) (are.last_length ∙ sym are.first_length) (length-collect_of b v w told.loaded ∙ sym are.first_length)
     (λ p within. are.rising p (omega (arith, within, are.first_length, are.last_length)))
     (λ p within. last_le b scan c v w p so are told (known p within))
-    (λ p within. close_to_first b scan c v w p so are told undecided (known p within))
+    (λ p within. close_to_first b scan c v w p own so are told undecided (known p within))
     undecided.differs
 
-pub turns_left-Again : (b : BookTerms) (start mark : View) (cs : Option Collects) (v w : View)
+pub turns_left-Again : (b : BookTerms) (start mark : View) (cs : Option Collects) (v w : View) → SeesOwnRecords start
     → IsScanOf b (record { start = start; mark = mark; collects = cs }) v → IsCollect b v w
     → IsAnswer (record { start = start; mark = mark; collects = cs }) w Again
     → turns_left b.processes (Some (collects_after cs (collect_of w))) < turns_left b.processes cs
-turns_left-Again b start mark None v w so told answer = omega (arith, unmoved-same (collect_of w), length-collect_of b v w told.loaded)
-turns_left-Again b start mark (Some c) v w so told answer =
-    turns_left-undecided b (record { start = start; mark = mark; collects = Some c }) c v w so so.collects told answer
+turns_left-Again b start mark None v w own so told answer = omega (arith, unmoved-same (collect_of w), length-collect_of b v w told.loaded)
+turns_left-Again b start mark (Some c) v w own so told answer =
+    turns_left-undecided b (record { start = start; mark = mark; collects = Some c }) c v w own so so.collects told answer
 
 -- the scan's own count never moves
-pub turns_left-some : (b : BookTerms) (start mark : View) (cs : Option Collects) (v : View) → start.first < b.processes
-    → IsScanOf b (record { start = start; mark = mark; collects = cs }) v → 1 ≤ turns_left b.processes cs
-turns_left-some b start mark None v known so = omega arith
-turns_left-some b start mark (Some c) v known so =
+pub turns_left-some : (b : BookTerms) (start mark : View) (cs : Option Collects) (v : View) → start.first < b.processes → SeesOwnRecords start
+    → IsScanOf b (record { start = start; mark = mark; collects = cs }) v → ((c : Collects) → cs ≡ Some c → HasLoaded b start v)
+    → 1 ≤ turns_left b.processes cs
+turns_left-some b start mark None v known own so loaded = omega arith
+turns_left-some b start mark (Some c) v known own so loaded =
     let are : AreCollects b (record { start = start; mark = mark; collects = Some c }) c = so.collects in
-    unmoved-some c.first c.last start.first (are.last_length ∙ sym are.first_length) (omega (arith, known, are.first_length)) (are.own_first ∙ sym are.own_last)
+    let p = start.first in
+    let same : get_or c.first p 0 ≡ get_or c.last p 0 =
+    omega (
+      arith,
+      own,
+      are.first p known,
+      are.rising p (omega (arith, known, are.last_length)),
+      are.last p known,
+      IsPrefix-count_of p mark.seen v.seen so.marked,
+      (loaded c refl).own,
+    ) in
+    unmoved-some c.first c.last p (are.last_length ∙ sym are.first_length) (omega (arith, known, are.first_length)) same
 
 -- a snapshot after so many turns, from a view and a number of steps
 pub record IsSnapping (b : BookTerms) (begun : View) (scan : ScanView) (v : View) (before steps turns : ℕ) : Type 0 where
   pub scan_of : IsScanOf b scan v
   pub start : scan.start ≡ begun
+  pub own : SeesOwnRecords scan.start
   pub new : scan.collects ≡ None → v ≡ begun
   pub loaded : (c : Collects) → scan.collects ≡ Some c → HasLoaded b begun v
   pub times : (p : ℕ) → p < b.processes → (loads_of (own_part v) p).times ≡ (loads_of (own_part begun) p).times + turns
@@ -85,11 +108,12 @@ parts-more : (b : BookTerms) (begun v : View) (cs : Option Collects) → (cs ≡
 parts-more b begun v None new loaded = ap (λ (t : View). length t.parts) (new refl)
 parts-more b begun v (Some c) new loaded = parts-HasLoaded b begun v (loaded c refl)
 
-pub IsSnapping-start : (b : BookTerms) (begun : View) (before : ℕ) → IsScanOf b (starting_scan begun) begun
+pub IsSnapping-start : (b : BookTerms) (begun : View) (before : ℕ) → SeesOwnRecords begun → IsScanOf b (starting_scan begun) begun
     → IsSnapping b begun (starting_scan begun) begun before before 0
-IsSnapping-start b begun before so = record {
+IsSnapping-start b begun before own so = record {
   scan_of = so;
   start = refl;
+  own = own;
   new = λ none. refl;
   loaded = λ c is. absurd (cc);
   times = λ p known. omega arith;
@@ -101,11 +125,12 @@ pub IsSnapping-Again : (b : BookTerms) (begun : View) (scan : ScanView) (v w : V
     → IsSnapping b begun scan v before steps turns → IsCollect b v w → IsAnswer scan w Again
     → IsSnapping b begun (scan_after scan w) w before (steps + b.processes) (turns + 1)
 IsSnapping-Again b begun scan v w before steps turns part so_far told answer =
-    let less = turns_left-Again b scan.start scan.mark scan.collects v w so_far.scan_of told answer in
+    let less = turns_left-Again b scan.start scan.mark scan.collects v w so_far.own so_far.scan_of told answer in
     let part' : 0 < length v.parts = omega (arith, part, parts-more b begun v scan.collects so_far.new so_far.loaded) in
     record {
       scan_of = IsScanOf-after b scan v w part' so_far.scan_of told;
       start = so_far.start;
+      own = so_far.own;
       new = λ none. absurd (cc);
       loaded = λ c is. HasLoaded-more b begun v w scan.collects part so_far.new so_far.loaded told.loaded;
       times = λ p known. omega (arith, told.times p known, so_far.times p known);
@@ -117,8 +142,13 @@ IsSnapping-Again b begun scan v w before steps turns part so_far told answer =
 few_turns : (b : BookTerms) (begun : View) (scan : ScanView) (v : View) (before steps turns : ℕ) → begun.first < b.processes
     → IsSnapping b begun scan v before steps turns → turns ≤ b.processes
 few_turns b begun scan v before steps turns known so_far =
-    let own : scan.start.first < b.processes = omega (arith, known, ap (λ (t : View). t.first) so_far.start) in
-    omega (arith, so_far.few, turns_left-some b scan.start scan.mark scan.collects v own so_far.scan_of)
+    let known' : scan.start.first < b.processes = omega (arith, known, ap (λ (t : View). t.first) so_far.start) in
+    omega (
+      arith,
+      so_far.few,
+      turns_left-some b scan.start scan.mark scan.collects v known' so_far.own so_far.scan_of
+          (λ c is. subst (λ (t : View). HasLoaded b t v) (sym so_far.start) (so_far.loaded c is)),
+    )
 
 view_steps-le : (n : ℕ) (turn : Turn) → view_steps n turn ≤ n
 view_steps-le n (Clean counts) = omega arith

@@ -25,4 +25,3 @@ pub record IsCollect (b : BookTerms) (before after : View) : Type 0 where
   pub times : (p : ℕ) → p < b.processes → (loads_of (own_part after) p).times ≡ (loads_of (own_part before) p).times + 1
   pub least : (p : ℕ) → p < b.processes → count_of p before.seen ≤ slice_index (collect_of after) p
   pub most : (p : ℕ) → p < b.processes → slice_index (collect_of after) p ≤ count_of p after.seen
-  pub own : slice_index (collect_of after) before.first ≡ (own_part before).published

@@ -8,6 +8,10 @@ use Rattle.at_board.specs.Views.{loads_of, own_part}
 use Rattle.at_snapshot.specs.declared.collects.Collects.{Collects}
 use Rattle.at_snapshot.specs.Collected.{collect_of}
 
+-- the view has seen all records of its own process
+abbrev pub SeesOwnRecords : View → Type 0
+SeesOwnRecords view = count_of view.first view.seen ≡ (own_part view).published
+
 -- a scan by what its seat had seen at the start and at the end of the last collect, and by its first collect and its last
 pub record ScanView : Type 0 where
   pub start : View
@@ -31,8 +35,8 @@ abbrev pub loads_at_least : Option Collects → ℕ
 loads_at_least None = 0
 loads_at_least (Some c) = 1
 
--- the collects of a scan: the first counts all that was seen at the start, the last no more than what was seen at its end,
--- no count has fallen, and that of the scan's process has stayed
+-- the collects of a scan: the first counts all that was seen at the start, the last no more than what was seen at its end, and
+-- no count has fallen
 pub record AreCollects (b : BookTerms) (scan : ScanView) (c : Collects) : Type 0 where
   pub first_length : length c.first ≡ b.processes
   pub last_length : length c.last ≡ b.processes
@@ -40,8 +44,6 @@ pub record AreCollects (b : BookTerms) (scan : ScanView) (c : Collects) : Type 0
   pub first : (p : ℕ) → p < b.processes → count_of p scan.start.seen ≤ slice_index c.first p
   pub last : (p : ℕ) → p < b.processes → slice_index c.last p ≤ count_of p scan.mark.seen
   pub rising : Covers c.last c.first
-  pub own_first : slice_index c.first scan.start.first ≡ (own_part scan.start).published
-  pub own_last : slice_index c.last scan.start.first ≡ (own_part scan.start).published
 
 -- the view is that of a scan's seat, which has published nothing since the start
 pub record IsScanOf (b : BookTerms) (scan : ScanView) (view : View) : Type 0 where
@@ -49,6 +51,5 @@ pub record IsScanOf (b : BookTerms) (scan : ScanView) (view : View) : Type 0 whe
   pub published : (own_part view).published ≡ (own_part scan.start).published
   pub started : IsPrefix scan.start.seen view.seen
   pub marked : IsPrefix scan.mark.seen view.seen
-  pub own : count_of scan.start.first scan.start.seen ≡ (own_part scan.start).published
   pub loads : (p : ℕ) → p < b.processes → (loads_of (own_part scan.start) p).times + loads_at_least scan.collects ≤ (loads_of (own_part view) p).times
   pub collects : IfSome scan.collects (AreCollects b scan)

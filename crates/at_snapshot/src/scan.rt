@@ -4,7 +4,7 @@ ghost use Rattle.std.specs.Prelude.{◌≡◌, ◌+◌};
 ghost use Rattle.at_ledger.specs.Book.{BookTerms};
 ghost use Rattle.at_board.specs.SeatView.{IsOf};
 ghost use Rattle.at_snapshot.specs.Collected.{IsCollect, collect_of};
-ghost use Rattle.at_snapshot.specs.Scans.{IsScanOf, scan_after, starting_scan};
+ghost use Rattle.at_snapshot.specs.Scans.{IsScanOf, SeesOwnRecords, scan_after, starting_scan};
 ghost use Rattle.at_snapshot.specs.Snapshots.{IsSnapshot, OnCounts};
 ghost use Rattle.at_snapshot.specs.Turns.{IsAnswer, view_steps};
 
@@ -30,18 +30,20 @@ pub enum Turn {
 #[derive(Drop)]
 pub struct Scan {
     pub(crate) collects: Option<Collects>,
-    /// The seat at the start, for contracts alone.
+    /// The seat at the start, for contracts alone. It had seen all records of its own process.
     pub(crate) start: Snapshot<BoardSeat>,
     /// The seat at the end of the last collect.
     pub(crate) mark: Snapshot<BoardSeat>,
 }
 
 impl Model for Scan {
-    ghost use Rattle.at_snapshot.specs.Scans.{ScanView};
+    ghost use Rattle.at_snapshot.specs.Scans.{ScanView, SeesOwnRecords};
 
     ghost Value = { ScanView };
 
     ghost view = { λ s. record { start = s.start.value.view; mark = s.mark.value.view; collects = s.collects } };
+
+    ghost invariant = { λ s. SeesOwnRecords s.start.value.view };
 }
 
 impl Scan {
@@ -69,6 +71,7 @@ impl Scan {
         requires board { IsOf seat.old board.now }
         requires scan { IsScanOf board.now.book self.old seat.old.view }
         ensures collect { IsCollect board.now.book seat.old.view seat.new.view }
+        ensures start { SeesOwnRecords self.old.start }
         ensures after { self.new ≡ scan_after self.old seat.new.view }
         ensures scan { IsScanOf board.now.book self.new seat.new.view }
         ensures answer { IsAnswer self.old seat.new.view result }
@@ -88,6 +91,7 @@ impl Scan {
     /// Takes a collect of the seat for the last one, and gives the collects before it.
     fn keep(&mut self, now: &Counts, seat: &BoardSeat) -> Option<Collects>
         requires { now.now ≡ collect_of seat.now.view }
+        ensures start { SeesOwnRecords self.old.start }
         ensures after { self.new ≡ scan_after self.old seat.now.view }
         ensures before { result ≡ self.old.collects }
     {

@@ -36,6 +36,5 @@ returns-clause-collect g c =
     let v : View = c.args.seat.now.view in
     let book : IsBook b = subst IsBook c.book.ensures c.accounts-accounts.ensures.checked in
     let at : c.loop-p.p ≡ b.processes = omega (arith, c.processes-n.ensures, ap (λ (t : BookTerms). t.processes) c.book-2.ensures) in
-    let known : v.first < b.processes = omega (arith, c.process-process.ensures.seat.known, ap (λ (t : BookTerms). t.processes) c.requires.book) in
-    IsCollect-IsCollecting b v c.loop-p.seat.view c.loop-p.counts book.begun.some_process known
+    IsCollect-IsCollecting b v c.loop-p.seat.view c.loop-p.counts book.begun.some_process
     (subst (IsCollecting b v c.loop-p.seat.view c.loop-p.counts) at c.loop-p.invariant.0)

@@ -13,7 +13,7 @@ loop-counts-init g c =
     let b : BookTerms = c.args.board.now.book in
     let v : View = c.args.seat.now.view in
     let so = subst (λ (s : ScanView). IsScanOf b s v) c.start-scan.ensures.start (c.start-scan.ensures.scan b) in (
-      (0, subst (λ (s : ScanView). IsSnapping b v s v c.args.steps.now c.args.steps.now 0) (sym c.start-scan.ensures.start) (IsSnapping-start b v c.args.steps.now so)),
+      (0, subst (λ (s : ScanView). IsSnapping b v s v c.args.steps.now c.args.steps.now 0) (sym c.start-scan.ensures.start) (IsSnapping-start b v c.args.steps.now c.process-process.ensures.seat.own so)),
       c.requires,
       refl,
     )
@@ -43,7 +43,7 @@ loop-counts-smaller g c =
     let b : BookTerms = c.args.board.now.book in
     let scan : ScanView = c.loop-counts.scan in
     subst (λ (s : ScanView). turns_left b.processes s.collects < turns_left b.processes scan.collects) (sym c.turn.ensures.after)
-    (turns_left-Again b scan.start scan.mark scan.collects c.loop-counts.seat.view c.turn.new.seat.view c.loop-counts.invariant.0.1.scan_of c.turn.ensures.collect
+    (turns_left-Again b scan.start scan.mark scan.collects c.loop-counts.seat.view c.turn.new.seat.view c.loop-counts.invariant.0.1.own c.loop-counts.invariant.0.1.scan_of c.turn.ensures.collect
     c.in-Again.ensures.answer)
 
 -- what holds after the last turn

@@ -34,4 +34,4 @@ returns-in-Some-clause-snapshot g c =
     omega (arith, c.process-process.ensures.seat.known, ap (λ (t : BookTerms). t.processes) c.requires.board.book) in
     let verdict = subst (λ now. IsVerdict c.in-Some.before w now c.compare.result) c.collect-now.ensures.counts c.compare.ensures.answer in
     subst (λ (s : SeatView). OnCounts c.compare.result (IsSnapshot b scan.start s.view)) (sym c.compare.ensures.same)
-    (OnCounts-IsVerdict b scan c.in-Some.before c.args.seat.now.view w c.compare.result c.requires.scan known is c.collect-now.ensures.collect verdict)
+    (OnCounts-IsVerdict b scan c.in-Some.before c.args.seat.now.view w c.compare.result c.keep.ensures.start c.requires.scan known is c.collect-now.ensures.collect verdict)
