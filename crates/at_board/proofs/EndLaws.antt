@@ -1,25 +1,32 @@
 -- What is known at the end of a board.
-use Rattle.std.proofs.Common.{ap, ◌≡◌, ℕ, ◌+◌, ◌-◌, ◌<◌, List, [], ◌∷◌, ◌++◌, length, get_or, None, refl, sym, subst, ◌∙◌, arith, inl, inr}
-use Rattle.std.specs.List.{All, Contains}
+use Rattle.std.proofs.Common.{ap, ◌≡◌, ℕ, ◌+◌, ◌-◌, ◌<◌, List, [], ◌∷◌, ◌++◌, length, get_or, map, take, None, refl, sym, subst, ◌∙◌, arith, inl, inr}
+use Rattle.std.specs.List.{All, Contains, range_with_len}
 use Rattle.std.proofs.lemmas.Bool.{cases_lt}
 use Rattle.std.proofs.Math.Seq.{get_or-append_seam}
-use Rattle.std.proofs.lemmas.List.{get_or-append_right, get_or_append_left, get_or_default, length-append, length_push}
+use Rattle.std.proofs.lemmas.Grind.{same_number_lists}
+use Rattle.std.proofs.lemmas.List.{get_or-append_right, get_or-map, get_or_append_left, get_or_default, length-append, length-map, length_push, same_lists}
+use Rattle.std.proofs.lemmas.List.FromFn.{get_or-map-range_with_len, length-map-range_with_len}
 use Rattle.std.proofs.lemmas.List.Elements.{All-append, All-cons, All-nil, Contains-append_left, Contains-append_right}
 use Rattle.atomic_table.specs.Table.{Final, Seen}
 use Rattle.at_ledger.specs.Book.{BookTerms, IsBook}
+use Rattle.at_board.proofs.CountLaws.{get_or-publications_of, position_of}
+use Rattle.at_board.proofs.FrontLaws.{IsPrefix-refl, IsPrefix-trans, length-IsFront}
 use Rattle.at_board.proofs.HistoryLaws.{IsHistory-Sound}
-use Rattle.at_board.proofs.FrontLaws.{IsPrefix-refl, IsPrefix-trans}
 use Rattle.at_board.proofs.RecordLaws.{All-Contains}
+use Rattle.at_board.specs.declared.publication.Publication.{Publication}
 use Rattle.at_board.specs.declared.view.Part.{Part}
 use Rattle.at_board.specs.declared.view.View.{View}
-use Rattle.at_board.specs.BoardState.{BoardState}
+use Rattle.at_board.specs.BoardState.{BoardState, publication_at}
 use Rattle.at_board.specs.Cuts.{AreNew, starting_seat}
-use Rattle.at_board.specs.Ends.{AreAllFree, Gathers, IsEnd, IsFreeSeat, gathered}
-use Rattle.at_board.specs.Publications.{IsPrefix}
+use Rattle.at_board.specs.Ends.{AreAllFree, Gathers, IsEnd, IsFreeSeat, end_of, gathered, records_in, records_of}
+use Rattle.at_board.specs.Places.{length_of, record_width, record_word, word_at}
+use Rattle.at_board.specs.Publications.{IsPrefix, count_of, no_publication, publications_of}
 use Rattle.at_board.specs.Seated.{Ruled}
 use Rattle.at_board.specs.SeatView.{BoardView, SeatView}
 use Rattle.at_board.specs.Shown.{Shown}
+use Rattle.at_board.specs.Sound.{Sound}
 use Rattle.at_board.specs.Views.{HasPart, IsAnnounced, IsDecided, Knows, asking_on, no_part, own_part, part_at}
+use Rattle.at_board.specs.Words.{record_words}
 
 -- a list has all elements of another
 abbrev pub HasAll : {X : Type 0} → List X → List X → Type 0
@@ -104,13 +111,54 @@ Gathers-more board seats v x gathers is one mine theirs =
           (HasAll-right v.decisions w.decisions w.decisions (HasAll-refl w.decisions));
     }
 
+-- a record of a sound list has all its words
+length-record_words : (b : BookTerms) (s : BoardState) (p i : ℕ) → Sound b s → i < count_of p s.published
+    → length (record_words (publication_at (publications_of p s.published) i)) ≡ record_width b
+length-record_words b s p i sound within =
+    let at = position_of p i s.published within in
+    let m = at.0 in
+    let x = publication_at s.published m in
+    let here : publication_at (publications_of p s.published) i ≡ x =
+    ap (publication_at (publications_of p s.published)) (sym at.1.before)
+    ∙ get_or-publications_of p m s.published no_publication at.1.within (at.1.own no_publication) in
+    let view : length x.view ≡ b.processes = length-IsFront b.processes x.view (take m s.published) (sound.views m at.1.within).front in
+    ap (λ (y : Publication). length (record_words y)) here ∙ omega (arith, view)
+
+pub records_of-end_of : (b : BookTerms) (words : List ℕ) (p : ℕ) → p < b.processes → records_of (end_of b words) p ≡ records_in b words p
+records_of-end_of b words p known = get_or-map-range_with_len (records_in b words) 0 b.processes p p [] known (omega arith)
+
+-- the records that the words have are those that were published
+records_in-Shown : (b : BookTerms) (words : List ℕ) (s : BoardState) (p : ℕ) → Shown b words s → Sound b s → p < b.processes
+    → records_in b words p ≡ map record_words (publications_of p s.published)
+records_in-Shown b words s p shown sound known =
+    let n = word_at b words (length_of p) in
+    let width = record_width b in
+    let list = publications_of p s.published in
+    let words_of : ℕ → List ℕ = λ i. map (λ j. word_at b words (record_word p i j)) (range_with_len 0 width) in
+    let counted : n ≡ length list = shown.records.lengths p known in
+    let room = shown.records.room p known in
+    same_lists (records_in b words p) (map record_words list)
+    (length-map-range_with_len words_of 0 n ∙ (counted ∙ sym (length-map list record_words)))
+    (λ i d below.
+    let inside : i < length list = omega (arith, below, length-map-range_with_len words_of 0 n, counted) in
+    let x = publication_at list i in
+    let sized = length-record_words b s p i sound inside in
+    let same : words_of i ≡ record_words x =
+    same_number_lists (words_of i) (record_words x) (length-map-range_with_len (λ j. word_at b words (record_word p i j)) 0 width ∙ sym sized)
+    (λ j within.
+    let short : j < width = omega (arith, within, length-map-range_with_len (λ k. word_at b words (record_word p i k)) 0 width) in
+    get_or-map-range_with_len (λ k. word_at b words (record_word p i k)) 0 width j j 0 short (omega arith)
+    ∙ shown.records.records p i j (known, omega (arith, inside, room), short) inside) in
+    get_or-map-range_with_len words_of 0 n i i d (omega (arith, inside, counted)) (omega arith)
+    ∙ (same ∙ sym (get_or-map record_words list i no_publication d inside)))
+
 module _ {S : Type 0} where
   -- the last state
   abbrev pub IsLast : BookTerms → ℕ → View → List ℕ → List S → Type 0
   IsLast b id v words slots = Final (Seen {S = S} (λ s. Ruled b s.words s.views) id v) words slots
 
   pub IsEnd-Final : (b : BookTerms) (words : List ℕ) (slots : List S) (id : ℕ) (v : View) (seats : List SeatView) → IsBook b → Gathers seats v
-      → length seats ≡ b.processes → IsLast b id v words slots → IsEnd (record { book = b; words = words }) seats
+      → length seats ≡ b.processes → IsLast b id v words slots → IsEnd (end_of b words) seats
   IsEnd-Final b words slots id v seats book gathers all last =
       let ruled : Ruled b last.0.words last.0.views = last.1.0 in
       let s : BoardState = ruled.state in
@@ -122,7 +170,7 @@ module _ {S : Type 0} where
       λ p d within. gathers.own p d (omega (arith, within, all)) in
       record {
         state = s;
-        shown = subst (λ ws. Shown b ws s) last.2 ruled.shown;
+        records = λ p within. records_of-end_of b words p within ∙ records_in-Shown b words s p (subst (λ ws. Shown b ws s) last.2 ruled.shown) ruled.sound within;
         sound = ruled.sound;
         free = λ p within. sym (has p within).held ∙ gathers.free p (omega (arith, within, gathers.parts, all));
         seen = λ k d within. IsPrefix-trans (get_or seats k d).view.seen v.seen s.published (gathers.seen k d within) knows.seen;

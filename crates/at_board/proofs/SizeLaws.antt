@@ -15,7 +15,7 @@ use Rattle.at_board.proofs.CountLaws.{sum-counts}
 use Rattle.at_board.specs.declared.publication.Publication.{Publication}
 use Rattle.at_board.specs.Fronts.{places_max}
 use Rattle.at_board.specs.Publications.{ArePublishedBy, count_of, counts}
-use Rattle.at_board.specs.Places.{place_at, record_width, record_word, slots_of, word_count}
+use Rattle.at_board.specs.Places.{place_at, record_width, record_word, slots_of, word_count, words_max}
 use Rattle.at_board.proofs.PlaceLaws.{place_at-record_word-le, place_at-record_word_next, rounds_room-slots_of}
 
 pub sum_by-add : {X : Type 0} (f g : X → ℕ) (xs : List X) → sum_by (λ x. f x + g x) xs ≡ sum_by f xs + sum_by g xs
@@ -146,7 +146,7 @@ length-ArePublishedBy b list begun known room =
     )
 
 -- the words of the largest board
-pub word_count-le : (b : BookTerms) → IsBegun b → word_count b ≤ 3080208
+pub word_count-le : (b : BookTerms) → IsBegun b → word_count b ≤ words_max
 unfolding word_count
 word_count-le b begun =
     let range = range_with_len 0 b.processes in

@@ -1,22 +1,34 @@
 -- The end of a board.
-use Rattle.std.specs.Prelude.{◌≡◌, ℕ, ◌<◌, ◌≤◌, ◌++◌, List, length, slice_index, slice_index_or, All, Contains, None}
+use Rattle.std.specs.Prelude.{◌≡◌, ℕ, ◌<◌, ◌≤◌, ◌++◌, List, [], length, map, slice_index_or, All, Contains, None}
+use Rattle.std.specs.List.{range_with_len}
 use Rattle.at_ledger.specs.Book.{BookTerms, IsBook, log_room_of}
 use Rattle.at_board.specs.declared.view.View.{View}
-use Rattle.at_board.specs.BoardState.{BoardState, publication_at}
-use Rattle.at_board.specs.Places.{length_of, word_at, word_count}
+use Rattle.at_board.specs.BoardState.{BoardState}
+use Rattle.at_board.specs.Places.{length_of, record_width, record_word, word_at, word_count}
 use Rattle.at_board.specs.LearnSteps.{learned}
 use Rattle.at_board.specs.Publications.{IsPrefix, count_of, publications_of}
 use Rattle.at_board.specs.SeatView.{BoardView, IsOf, SeatView}
-use Rattle.at_board.specs.Shown.{Shown}
 use Rattle.at_board.specs.Sound.{Sound}
 use Rattle.at_board.specs.Steps.{IsHistory}
 use Rattle.at_board.specs.Views.{HasSlot, IsAnnounced, IsDecided, asking_on, own_part, part_at}
 use Rattle.at_board.specs.Words.{record_words}
 
--- a closed board by its book and its words
+-- the records that the words of a board have of a process, each by its words
+abbrev pub records_in : BookTerms → List ℕ → ℕ → List (List ℕ)
+records_in b words p =
+    map (λ i. map (λ j. word_at b words (record_word p i j)) (range_with_len 0 (record_width b))) (range_with_len 0 (word_at b words (length_of p)))
+
+-- a closed board by its book and the records of all processes, each by its words
 pub record EndView : Type 0 where
   pub book : BookTerms
-  pub words : List ℕ
+  pub records : List (List (List ℕ))
+
+abbrev pub end_of : BookTerms → List ℕ → EndView
+end_of b words = record { book = b; records = map (records_in b words) (range_with_len 0 b.processes) }
+
+-- the records of a process
+abbrev pub records_of : EndView → ℕ → List (List ℕ)
+records_of e p = slice_index_or e.records p []
 
 -- the seat is that of a process of the board, which holds no cell
 pub record IsFreeSeat (board : BoardView) (p : ℕ) (seat : SeatView) : Type 0 where
@@ -43,12 +55,12 @@ pub record Gathers (seats : List SeatView) (v : View) : Type 0 where
   pub requests : All (λ seat. All (Contains v.requests) seat.view.requests) seats
   pub decisions : All (λ seat. All (Contains v.decisions) seat.view.decisions) seats
 
--- the last state of a board: the words stand for it, it is sound, and no process holds a cell. The list that each seat had seen
--- is a prefix of what was published, its requests were announced and its decisions made. Each process published as many
--- records as its seat's part says, and its row on each account that it shares has the requests that this part announced
+-- the last state of a board: the records are its publications, it is sound, and no process holds a cell. The list that each
+-- seat had seen is a prefix of what was published, its requests were announced and its decisions made. Each process published
+-- as many records as its seat's part says, and its row on each account that it shares has the requests that this part announced
 pub record IsEnd (e : EndView) (seats : List SeatView) : Type 0 where
   pub state : BoardState
-  pub shown : Shown e.book e.words state
+  pub records : (p : ℕ) → p < e.book.processes → records_of e p ≡ map record_words (publications_of p state.published)
   pub sound : Sound e.book state
   pub free : (p : ℕ) → p < e.book.processes → state.held p ≡ None
   pub seen : All (λ seat. IsPrefix seat.view.seen state.published) seats
@@ -61,11 +73,7 @@ pub record IsEnd (e : EndView) (seats : List SeatView) : Type 0 where
   pub history : IsHistory e.book state.published
 
 -- the words are those of a board for the book, and no log is longer than its room
-pub record HasWords (e : EndView) : Type 0 where
-  pub book : IsBook e.book
-  pub sized : length e.words ≡ word_count e.book
-  pub room : (p : ℕ) → p < e.book.processes → word_at e.book e.words (length_of p) ≤ log_room_of e.book p
-
--- the number is word j of record i of the process
-abbrev pub IsPublishedWord : BoardState → ℕ → ℕ → ℕ → ℕ → Type 0
-IsPublishedWord s p i j w = w ≡ slice_index (record_words (publication_at (publications_of p s.published) i)) j
+pub record HasWords (b : BookTerms) (words : List ℕ) : Type 0 where
+  pub book : IsBook b
+  pub sized : length words ≡ word_count b
+  pub room : (p : ℕ) → p < b.processes → word_at b words (length_of p) ≤ log_room_of b p

@@ -83,6 +83,10 @@ place_at b x =
 unfoldable pub word_count : BookTerms → ℕ
 word_count b = sum (map sum (groups b))
 
+-- and the largest board
+abbrev pub words_max : ℕ
+words_max = 3080208
+
 -- the word at a place
 abbrev pub word_at : BookTerms → List ℕ → Place → ℕ
 word_at b words x = slice_index words (place_at b x)

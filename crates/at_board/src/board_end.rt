@@ -1,11 +1,8 @@
 //! What a closed board leaves.
 
-ghost use Rattle.std.specs.Prelude.{◌≡◌, ℕ, ◌<◌};
-ghost use Rattle.at_board.specs.BoardState.{BoardState};
-ghost use Rattle.at_board.specs.Ends.{IsPublishedWord};
-ghost use Rattle.at_board.specs.Places.{length_of, record_width, record_word, word_at};
-ghost use Rattle.at_board.specs.Publications.{count_of};
-ghost use Rattle.at_board.specs.Shown.{Shown};
+ghost use Rattle.std.specs.Prelude.{◌≡◌, ◌<◌, [], length, slice_index, slice_index_or};
+ghost use Rattle.at_board.specs.Ends.{records_of};
+ghost use Rattle.at_board.specs.Places.{record_width};
 
 use crate::log_starts::record_index;
 use arrayvec::ArrayVec;
@@ -22,14 +19,14 @@ pub struct BoardEnd {
 
 impl Model for BoardEnd {
     ghost use Rattle.std.specs.Prelude.{◌≡◌, ℕ, ◌<◌, length, slice_index};
-    ghost use Rattle.at_board.specs.Ends.{EndView, HasWords};
+    ghost use Rattle.at_board.specs.Ends.{EndView, HasWords, end_of};
     ghost use Rattle.at_board.specs.Places.{place_at, record_word};
 
     ghost Value = { EndView };
 
-    ghost view = { λ e. record { book = e.book; words = e.words.items } };
+    ghost view = { λ e. end_of e.book e.words.items };
 
-    ghost invariant = { λ e. HasWords record { book = e.book; words = e.words.items }
+    ghost invariant = { λ e. HasWords e.book e.words.items
         × (length e.log_starts.items ≡ e.book.processes)
         × ((p : ℕ) → p < e.book.processes → slice_index e.log_starts.items p ≡ place_at e.book (record_word p 0 0)) };
 }
@@ -38,8 +35,7 @@ impl BoardEnd {
     /// How many records a process has published.
     pub fn length(&self, p: u32) -> u32
         requires { p < self.now.book.processes }
-        ensures word { result ≡ word_at self.now.book self.now.words (length_of p) }
-        ensures count { (s : BoardState) → Shown self.now.book self.now.words s → result ≡ count_of p s.published }
+        ensures { result ≡ length (records_of self.now p) }
     {
         self.words[p as usize] as u32
     }
@@ -47,10 +43,9 @@ impl BoardEnd {
     /// A word of a published record.
     pub fn record_word(&self, p: u32, i: u32, j: u32) -> u64
         requires process { p < self.now.book.processes }
-        requires record { i < word_at self.now.book self.now.words (length_of p) }
+        requires record { i < length (records_of self.now p) }
         requires word { j < record_width self.now.book }
-        ensures word { result ≡ word_at self.now.book self.now.words (record_word p i j) }
-        ensures record { (s : BoardState) → Shown self.now.book self.now.words s → IsPublishedWord s p i j result }
+        ensures { result ≡ slice_index (slice_index_or (records_of self.now p) i []) j }
     {
         self.words[record_index(&self.book, &self.log_starts, p, i, j)]
     }

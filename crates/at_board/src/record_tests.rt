@@ -7,27 +7,29 @@ ghost use Rattle.at_board.specs.SmallBoard.{IsIdle};
 ghost use Rattle.at_board.specs.Sound.{IsSoundOwn};
 
 use crate::request_tests::last_seat;
-use crate::round_tests::close_two;
+use crate::round_tests::{close_two, has_record};
 use crate::{Board, BoardSeat, Steps};
 use at_ledger::{Book, Draft, DraftAccount};
-use std::alloc::Global;
+use std::alloc::{AllocError, Global};
 use std::marker::Brand;
 use std::process::Abort;
 use std::sync::ledger::{Blank, Ledger};
 use std::test::Fail;
 
-/// A book of two processes with an account each.
-fn single_book(alloc: Global) -> Result<Book, Fail> {
+/// A book of some processes with an account each, beside an account without an owner.
+fn single_book(alloc: Global, processes: u64) -> Result<Book, Fail> {
     let mut accounts = Vec::new(alloc);
-    for owner in 0u64..2 {
+    for owner in 0..processes {
         let owners = vec![in alloc; owner]?;
         accounts.push(DraftAccount {
             opening: 100,
             owners,
         })?;
     }
+    let owners = Vec::new(alloc);
+    accounts.push(DraftAccount { opening: 0, owners })?;
     let draft = Draft {
-        processes: 2,
+        processes,
         own_room: 4,
         request_room: 4,
         accounts,
@@ -61,7 +63,6 @@ fn pay<L: Ledger, X: Ledger>(
 )
     requires board { seat.old.board ≡ board.now.id }
     requires new { seat.old.view ≡ starting_seat board.now.book seat.old.view.first }
-    requires processes { (board.now.book.processes ≡ 2) × (seat.old.view.first < 2) }
     requires pays { IsSoundOwn board.now.book seat.old.view.first [] 0 ((1, 30) ∷ []) }
     ensures idle { IsIdle board.now seat.new }
     ensures process { seat.new.view.first ≡ seat.old.view.first }
@@ -107,7 +108,7 @@ fn pays_and_tells<L: Ledger, X: Ledger, R: Abort>(
     requires some { (0 < one.parts) × (0 < another.parts) }
 {
     let (steps, exchanges) = (&mut Steps::<L>::new(one), &mut Steps::<X>::new(another));
-    let book = single_book(alloc)?;
+    let book = single_book(alloc, 2)?;
     let (board, mut seats) = Board::new(alloc, &book)?;
     let mut other = last_seat(&board, &mut seats).expect(rt, "a seat");
     let mut seat = last_seat(&board, &mut seats).expect(rt, "a seat");
@@ -131,4 +132,37 @@ fn pays_and_tells<L: Ledger, X: Ledger, R: Abort>(
 #[test]
 fn a_record_is_told(rt: HostRuntime) -> Result<(), Fail> {
     pays_and_tells::<Brand, Brand, _>(&rt, rt.alloc(), Blank::new(1), Blank::new(1))
+}
+
+/// The only process pays an account without an owner. The closed board has the words of the record.
+fn pays_alone<L: Ledger, X: Ledger, R: Abort>(
+    rt: &R,
+    alloc: Global,
+    one: Blank,
+    another: Blank,
+) -> Result<(), Fail>
+    requires names { (one.name ≡ L.name) × (another.name ≡ X.name) }
+    requires parts { (one.parts ≡ L.parts) × (another.parts ≡ X.parts) }
+    requires some { (0 < one.parts) × (0 < another.parts) }
+{
+    let (steps, exchanges) = (&mut Steps::<L>::new(one), &mut Steps::<X>::new(another));
+    let book = single_book(alloc, 1)?;
+    let (board, mut seats) = Board::new(alloc, &book)?;
+    assert!(rt; board.book().processes() == 1);
+    let mut seat = last_seat(&board, &mut seats).expect(rt, "a seat");
+    assert!(rt; seat.process() == 0 && may_pay(board.book(), 0));
+    pay(&board, &mut seat, steps, exchanges);
+    let seats = vec![in alloc; seat]?;
+    let Ok(end) = board.close(alloc, seats) else {
+        return Err(AllocError.into());
+    };
+    assert_eq!(rt; end.length(0), 1);
+    let words = [0, 1_099_511_627_777, 0, 30, 0, 0, 0, 0];
+    assert!(rt; has_record(&end, 0, 0, words.as_slice()));
+    Ok(())
+}
+
+#[test]
+fn a_lone_process_pays(rt: HostRuntime) -> Result<(), Fail> {
+    pays_alone::<Brand, Brand, _>(&rt, rt.alloc(), Blank::new(1), Blank::new(1))
 }

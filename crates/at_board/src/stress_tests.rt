@@ -2,7 +2,7 @@
 
 ghost use Rattle.std.specs.Prelude.{◌≡◌, ℕ, ◌<◌, [], ◌∷◌, length, slice_index_or, IfOk, IfSome, IsTrue};
 ghost use Rattle.at_board.specs.Cuts.{starting_seat};
-ghost use Rattle.at_board.specs.Places.{length_of, word_at};
+ghost use Rattle.at_board.specs.Ends.{records_of};
 ghost use Rattle.at_board.specs.SeatView.{SeatView};
 ghost use Rattle.at_board.specs.SmallBoard.{HasOwnAccount, IsIdle, IsNewPlayer, IsOwnFront, MayPlay};
 ghost use Rattle.at_board.specs.Steps.{LoadsLength};
@@ -351,7 +351,7 @@ fn round_word(decision: u64, j: u32) -> u64 {
 fn has_words(end: &BoardEnd, p: u32, i: u32, round: Option<u64>, view: &Counts) -> bool
     requires four { end.now.book.processes ≡ 4 }
     requires process { p < 4 }
-    requires record { i < word_at end.now.book end.now.words (length_of p) }
+    requires record { i < length (records_of end.now p) }
     requires view { length view.now ≡ 4 }
 {
     for j in 0..11 {

@@ -2,7 +2,7 @@
 
 ghost use Rattle.std.specs.Prelude.{◌≡◌, ◌^◌, ◌<◌, ◌≤◌, length, sum_by};
 ghost use Rattle.at_ledger.specs.Book.{account_of};
-ghost use Rattle.at_board.specs.Places.{place_at, record_word, slots_of, word_count};
+ghost use Rattle.at_board.specs.Places.{place_at, record_word, slots_of, word_count, words_max};
 
 use crate::publication::RECORD_WORDS;
 use crate::request::REQUEST_WORDS;
@@ -11,8 +11,10 @@ use at_ledger::Book;
 /// The words of a board for the book. Beside the records each slot has an announced word, and for each of its requests the
 /// request's words and the cell of a round.
 pub(crate) fn word_count(book: &Book) -> usize
-    ensures { result ≡ word_count book.now }
+    ensures count { result ≡ word_count book.now }
+    ensures few { result ≤ words_max }
 {
+    let _accounts = book.accounts();
     let numbers = book.request_room() as usize;
     let slot = 1 + (REQUEST_WORDS as usize + 1) * numbers;
     records_end(book) + slot_count(book) as usize * slot

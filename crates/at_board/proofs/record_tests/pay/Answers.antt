@@ -1,8 +1,9 @@
-use Rattle.std.proofs.Common.{◌≡◌, ℕ, ◌+◌, ◌<◌, [], ◌∷◌, length, replicate, sym, ap, subst, ◌∙◌, arith}
+use Rattle.std.proofs.Common.{◌≡◌, ℕ, ◌+◌, ◌<◌, [], ◌∷◌, length, replicate, take, sym, ap, subst, ◌∙◌, arith}
+use Rattle.std.proofs.lemmas.List.{replicate-append-replicate}
 use Rattle.at_ledger.specs.Book.{BookTerms, IsBook}
 use Rattle.at_board.proofs.CountLaws.{publications_of-nil}
 use Rattle.at_board.proofs.OpeningLaws.{get_or-zeros}
-use Rattle.at_board.proofs.SmallBoardLaws.{IsIdle-published, Stores, Stores-more, Stores-none, counts-nil}
+use Rattle.at_board.proofs.SmallBoardLaws.{IsIdle-published, Stores, Stores-more, Stores-none, counts-nil, place-zeros}
 use Rattle.at_board.specs.declared.publication.Entry.TheVariants.{Own}
 use Rattle.at_board.specs.declared.publication.Publication.{Publication}
 use Rattle.at_board.specs.declared.view.Part.{Part}
@@ -19,34 +20,35 @@ use Rattle.at_board.proofs.record_tests.pay.Given as given
 use Rattle.at_board.proofs.record_tests.pay.Goals.{After-store_record_word-2}
 use Rattle.at_board.proofs.record_tests.pay.Goals as goal
 
--- a payment of 30 from account 0 to account 1, by a process that has seen nothing
-abbrev payment : ℕ → Publication
-payment p = record { process = p; view = 0 ∷ 0 ∷ []; entry = Own 0 ((1, 30) ∷ []) }
+-- a payment of 30 from account 0 to account 1, by a process of n that has seen nothing
+abbrev payment : ℕ → ℕ → Publication
+payment n p = record { process = p; view = replicate n 0; entry = Own 0 ((1, 30) ∷ []) }
 
 -- the targets word and the amount of its record
 abbrev with_two : Part → Part
 with_two q = with_word (with_word q 1 1099511627777) 3 30
 
 -- it may be published by a new seat that has stored its words
-may_publish : (b : BookTerms) (v w : View) → IsBook b → v ≡ starting_seat b v.first → b.processes ≡ 2 → v.first < 2
-    → IsSoundOwn b v.first [] 0 ((1, 30) ∷ []) → Stores v w (with_two (own_part v)) → MayPublish b w (payment v.first)
-may_publish b v w book new processes known pays told =
+may_publish : (b : BookTerms) (v w : View) → IsBook b → v ≡ starting_seat b v.first → v.first < b.processes
+    → IsSoundOwn b v.first [] 0 ((1, 30) ∷ []) → Stores v w (with_two (own_part v)) → MayPublish b w (payment b.processes v.first)
+may_publish b v w book new known pays told =
+    let n = b.processes in
     let p = v.first in
     let first : w.first ≡ p = ap (λ (t : View). t.first) told.same in
     let seen : w.seen ≡ [] = ap (λ (t : View). t.seen) told.same ∙ ap (λ (t : View). t.seen) new in
-    let width : 7 + b.processes ≡ 9 = omega (arith, processes) in
-    let zeros : (own_part v).stored ≡ replicate 9 0 = ap (λ (t : View). (own_part t).stored) new ∙ ap (λ n. replicate n 0) width in
+    let zeros : (own_part v).stored ≡ 0 ∷ 0 ∷ 0 ∷ 0 ∷ 0 ∷ 0 ∷ 0 ∷ replicate n 0 =
+    ap (λ (t : View). (own_part t).stored) new ∙ sym (replicate-append-replicate 7 n 0) in
     record {
       process = sym first;
       stored = ap (λ (q : Part). q.stored) told.part ∙ ap (λ xs. (with_two (record (own_part v) { stored = xs })).stored) zeros;
-      view = subst (λ xs. HasView b xs (payment p)) (sym seen) (record {
-        process = omega (arith, known, processes);
-        front = subst (λ n. counts n [] ≡ 0 ∷ 0 ∷ []) (sym processes) (counts-nil 2);
-        own = get_or-zeros 2 p ∙ sym (ap length (publications_of-nil p));
+      view = subst (λ xs. HasView b xs (payment n p)) (sym seen) (record {
+        process = known;
+        front = ap (λ k. counts n (take k [])) (place-zeros n) ∙ counts-nil n;
+        own = get_or-zeros n p ∙ sym (ap length (publications_of-nil p));
       });
       entry = (
-        subst (λ k. IsSoundOwn b k (prefix_of (0 ∷ 0 ∷ []) w.seen) 0 ((1, 30) ∷ [])) (sym first)
-            (subst (λ xs. IsSoundOwn b p (prefix_of (0 ∷ 0 ∷ []) xs) 0 ((1, 30) ∷ [])) (sym seen) pays),
+        subst (λ k. IsSoundOwn b k (prefix_of (replicate n 0) w.seen) 0 ((1, 30) ∷ [])) (sym first)
+            (subst (λ k. IsSoundOwn b p (take k w.seen) 0 ((1, 30) ∷ [])) (sym (place-zeros n)) pays),
         omega (arith, ap (owns_of w.first) seen, book.begun.some_own_room),
       );
     }
@@ -59,19 +61,19 @@ stored g c =
     Stores-more v one c.store_record_word-2.new.seat.view (with_word (own_part v) 1 1099511627777) 3 30 part
     (Stores-more v v one (own_part v) 1 1099511627777 part (Stores-none v) c.store_record_word.ensures.stored) c.store_record_word-2.ensures.stored
 
-may : (g : given.Over) (c : After-store_record_word-2 g) → MayPublish c.args.board.now.book c.store_record_word-2.new.seat.view (payment c.args.seat.now.view.first)
+may : (g : given.Over) (c : After-store_record_word-2 g) → MayPublish c.args.board.now.book c.store_record_word-2.new.seat.view (payment c.args.board.now.book.processes c.args.seat.now.view.first)
 may g c =
     may_publish c.args.board.now.book c.args.seat.now.view c.store_record_word-2.new.seat.view (subst IsBook c.book.ensures c.accounts-accounts.ensures.checked)
-    c.requires.new c.requires.processes.0 c.requires.processes.1 c.requires.pays (stored g c)
+    c.requires.new (omega (arith, c.process-process.ensures.seat.known, ap (λ (t : View). t.book.processes) c.requires.new)) c.requires.pays (stored g c)
 
 pub publish-requires-clause-record : goal.publish-requires-clause-record
-publish-requires-clause-record g c = (payment c.args.seat.now.view.first, may g (goal.at.publish-requires-clause-record g c).After-store_record_word-2)
+publish-requires-clause-record g c = (payment c.args.board.now.book.processes c.args.seat.now.view.first, may g (goal.at.publish-requires-clause-record g c).After-store_record_word-2)
 
 pub returns-clause-idle : goal.returns-clause-idle
 returns-clause-idle g c =
     let before : After-store_record_word-2 g = (goal.at.returns-clause-idle g c).After-store_record_word-2 in
     let v : View = c.args.seat.now.view in
-    let x = payment v.first in
+    let x = payment c.args.board.now.book.processes v.first in
     IsIdle-published c.args.board.now c.args.seat.now c.store_record_word-2.new.seat c.publish.new.seat (with_two (own_part v)) x
     (record { id = c.requires.board; book = ap (λ (t : View). t.book) c.requires.new }) c.process-process.ensures.part.one_part (stored g before)
     (ap (λ (t : View). held_after x (own_part t).held) c.requires.new) (c.publish.ensures.published x (may g before))
@@ -80,11 +82,11 @@ returns-clause-idle g c =
 pub returns-clause-process : goal.returns-clause-process
 returns-clause-process g c =
     let before : After-store_record_word-2 g = (goal.at.returns-clause-process g c).After-store_record_word-2 in
-    ap (λ (t : View). t.first) (c.publish.ensures.published (payment c.args.seat.now.view.first) (may g before)).same ∙ ap (λ (t : View). t.first) (stored g before).same
+    ap (λ (t : View). t.first) (c.publish.ensures.published (payment c.args.board.now.book.processes c.args.seat.now.view.first) (may g before)).same ∙ ap (λ (t : View). t.first) (stored g before).same
 
 pub returns-clause-published : goal.returns-clause-published
 returns-clause-published g c =
     let before : After-store_record_word-2 g = (goal.at.returns-clause-published g c).After-store_record_word-2 in
     let w : View = c.publish.new.seat.view in
-    let told = c.publish.ensures.published (payment c.args.seat.now.view.first) (may g before) in
+    let told = c.publish.ensures.published (payment c.args.board.now.book.processes c.args.seat.now.view.first) (may g before) in
     omega (arith, told.own, ap (λ p. count_of p w.seen) (ap (λ (t : View). t.first) told.same))

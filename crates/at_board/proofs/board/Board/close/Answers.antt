@@ -3,7 +3,7 @@ use Rattle.std.specs.Mem.Slots.{slots_items}
 use Rattle.at_ledger.specs.Book.{BookTerms}
 use Rattle.at_board.proofs.EndLaws.{IsEnd-Final, IsLast}
 use Rattle.at_board.proofs.NoteLaws.{word_count-some}
-use Rattle.at_board.specs.Ends.{IsEnd}
+use Rattle.at_board.specs.Ends.{IsEnd, end_of}
 use Rattle.at_board.specs.SeatView.{BoardView}
 use Rattle.at_board.proofs.board.Board.close.Goals as goal
 
@@ -18,5 +18,5 @@ returns-clause-end c =
     let all = c.requires.count ∙ sym (ap (λ (t : BoardView). t.book.processes) c.self.view_is) in
     let last : IsLast b c.gather-last.result.id c.gather-last.result.me.0 words slots =
     subst (λ (k : BookTerms). IsLast k c.gather-last.result.id c.gather-last.result.me.0 words slots) c.self.invariant.0 c.close_with.ensures.values.2 in
-    subst (λ ws. IsEnd (record { book = b; words = ws }) c.args.seats.items) (sym c.words_of.ensures)
+    subst (λ ws. IsEnd (end_of b ws) c.args.seats.items) (sym c.words_of.ensures)
     (IsEnd-Final b words slots c.gather-last.result.id c.gather-last.result.me.0 c.args.seats.items c.self.invariant.2 c.gather-last.ensures.seats all last)

@@ -4,5 +4,5 @@ use Rattle.at_board.proofs.board.Board.new.Goals as goal
 
 pub of_words-requires : goal.of_words-requires
 of_words-requires c =
-    Ruled-new c.of.result.value c.args.book.now c.as_slice.result.now c.word_count.result c.of.ensures c.word_count.ensures
+    Ruled-new c.of.result.value c.args.book.now c.as_slice.result.now c.word_count.result c.of.ensures c.word_count.ensures.count
     (c.as_slice.ensures.value ∙ c.in_ok-words.ensures.items_if_clones_equal (λ y e. e))

@@ -1,47 +1,59 @@
-use Rattle.std.proofs.Common.{◌≡◌, ℕ, ◌<◌, length, get_or, sym, ap, subst, ◌∙◌, arith}
+use Rattle.std.proofs.Common.{◌≡◌, ℕ, ◌<◌, [], List, length, get_or, map, sym, ap, subst, ◌∙◌, arith}
+use Rattle.std.specs.List.{range_with_len}
 use Rattle.std.proofs.lemmas.List.{get_or_read}
+use Rattle.std.proofs.lemmas.List.FromFn.{get_or-map-range_with_len, length-map-range_with_len}
 use Rattle.at_ledger.specs.Book.{BookTerms}
+use Rattle.at_board.proofs.EndLaws.{records_of-end_of}
 use Rattle.at_board.proofs.PlaceLaws.{place_at-below}
-use Rattle.at_board.specs.Ends.{EndView, HasWords}
+use Rattle.at_board.specs.Ends.{EndView, HasWords, end_of, records_in, records_of}
 use Rattle.at_board.specs.Places.{IsPlace, length_of, record_width, record_word, word_at}
-use Rattle.at_board.specs.Publications.{count_of}
 use Rattle.at_board.proofs.board_end.BoardEnd.record_word.Goals as goal
 
+-- the record of a number, as it stands in the words
+abbrev record_in : BookTerms → List ℕ → ℕ → ℕ → List ℕ
+record_in b words p i = map (λ j. word_at b words (record_word p i j)) (range_with_len 0 (record_width b))
+
+record_below : (b : BookTerms) (words : List ℕ) (p i : ℕ) → i < length (records_in b words p) → i < word_at b words (length_of p)
+record_below b words p i below = omega (arith, below, length-map-range_with_len (record_in b words p) 0 (word_at b words (length_of p)))
+
 -- the board has the word
-is_place : (e f : EndView) (p i j : ℕ) → e ≡ f → HasWords e → p < f.book.processes → i < word_at f.book f.words (length_of p)
-    → j < record_width f.book → IsPlace e.book (record_word p i j)
-is_place e f p i j same has process record_in word_in =
-    let known : p < e.book.processes = subst (λ (t : EndView). p < t.book.processes) (sym same) process in
-    let within : i < word_at e.book e.words (length_of p) = subst (λ (t : EndView). i < word_at t.book t.words (length_of p)) (sym same) record_in in
-    (known, omega (arith, within, has.room p known), subst (λ (t : EndView). j < record_width t.book) (sym same) word_in)
+is_place : (b : BookTerms) (words : List ℕ) (e : EndView) (p i j : ℕ) → end_of b words ≡ e → HasWords b words
+    → p < e.book.processes → i < length (records_of e p) → j < record_width e.book → IsPlace b (record_word p i j)
+is_place b words e p i j same has process record_is word_is =
+    let known : p < b.processes = subst (λ (t : EndView). p < t.book.processes) (sym same) process in
+    let within : i < length (records_in b words p) =
+    subst (λ rs. i < length rs) (records_of-end_of b words p known) (subst (λ (t : EndView). i < length (records_of t p)) (sym same) record_is) in
+    (known, omega (arith, record_below b words p i within, has.room p known), subst (λ (t : EndView). j < record_width t.book) (sym same) word_is)
 
 pub record_index-requires-clause-place : goal.record_index-requires-clause-place
 record_index-requires-clause-place c =
-    let e : EndView = record { book = c.self.inside.book; words = c.self.inside.words.items } in
-    is_place e c.args.self.now c.args.p c.args.i c.args.j c.self.view_is c.self.invariant.0 c.requires.process c.requires.record c.requires.word
+    is_place c.self.inside.book c.self.inside.words.items c.args.self.now c.args.p c.args.i c.args.j c.self.view_is c.self.invariant.0
+    c.requires.process c.requires.record c.requires.word
 
 pub index-requires : goal.index-requires
 index-requires c =
     let b : BookTerms = c.self.inside.book in
-    let e : EndView = record { book = b; words = c.self.inside.words.items } in
-    let is = is_place e c.args.self.now c.args.p c.args.i c.args.j c.self.view_is c.self.invariant.0 c.requires.process c.requires.record c.requires.word in
+    let is = is_place b c.self.inside.words.items c.args.self.now c.args.p c.args.i c.args.j c.self.view_is c.self.invariant.0
+    c.requires.process c.requires.record c.requires.word in
     omega (arith, c.self.inside.words.ok, c.self.invariant.0.sized, c.record_index.ensures, place_at-below b (record_word c.args.p c.args.i c.args.j) is)
 
-pub returns-clause-word : goal.returns-clause-word
-returns-clause-word c =
+pub returns : goal.returns
+returns c =
     let b : BookTerms = c.self.inside.book in
-    let e : EndView = record { book = b; words = c.self.inside.words.items } in
-    let x = record_word c.args.p c.args.i c.args.j in
-    let is = is_place e c.args.self.now c.args.p c.args.i c.args.j c.self.view_is c.self.invariant.0 c.requires.process c.requires.record c.requires.word in
-    let inside : c.record_index.result < length e.words = omega (arith, c.self.invariant.0.sized, c.record_index.ensures, place_at-below b x is) in
-    let read : c.index.result.now ≡ word_at b e.words x =
-    get_or_read e.words c.record_index.result c.index.result.now inside c.index.ensures 0 ∙ ap (λ n. get_or e.words n 0) c.record_index.ensures in
-    subst (λ (t : EndView). c.index.result.now ≡ word_at t.book t.words x) c.self.view_is read
-
-pub returns-clause-record : goal.returns-clause-record
-returns-clause-record c = λ s shown.
-    let b : BookTerms = c.args.self.now.book in
+    let words = c.self.inside.words.items in
     let p = c.args.p in
-    let counted : c.args.i < count_of p s.published = omega (arith, c.requires.record, shown.records.lengths p c.requires.process) in
-    returns-clause-word c
-    ∙ shown.records.records p c.args.i c.args.j (c.requires.process, omega (arith, counted, shown.records.room p c.requires.process), c.requires.word) counted
+    let i = c.args.i in
+    let j = c.args.j in
+    let is = is_place b words c.args.self.now p i j c.self.view_is c.self.invariant.0 c.requires.process c.requires.record c.requires.word in
+    let inside : c.record_index.result < length words = omega (arith, c.self.invariant.0.sized, c.record_index.ensures, place_at-below b (record_word p i j) is) in
+    let read : c.index.result.now ≡ word_at b words (record_word p i j) =
+    get_or_read words c.record_index.result c.index.result.now inside c.index.ensures 0 ∙ ap (λ n. get_or words n 0) c.record_index.ensures in
+    let here : records_of (end_of b words) p ≡ records_in b words p = records_of-end_of b words p is.0 in
+    let within : i < length (records_in b words p) =
+    subst (λ rs. i < length rs) here (subst (λ (t : EndView). i < length (records_of t p)) (sym c.self.view_is) c.requires.record) in
+    let of_record : get_or (records_in b words p) i [] ≡ record_in b words p i =
+    get_or-map-range_with_len (record_in b words p) 0 (word_at b words (length_of p)) i i [] (record_below b words p i within) (omega arith) in
+    let of_word : get_or (record_in b words p i) j 0 ≡ word_at b words (record_word p i j) =
+    get_or-map-range_with_len (λ k. word_at b words (record_word p i k)) 0 (record_width b) j j 0 is.2 (omega arith) in
+    read ∙ (sym (ap (λ rs. get_or (get_or rs i []) j 0) here ∙ (ap (λ xs. get_or xs j 0) of_record ∙ of_word))
+    ∙ ap (λ (t : EndView). get_or (get_or (records_of t p) i []) j 0) c.self.view_is)
