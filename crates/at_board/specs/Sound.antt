@@ -58,8 +58,8 @@ IsSoundEntry b s process prefix (Own from targets) = IsSoundOwn b process prefix
 IsSoundEntry b s process prefix (Round account round decision targets) =
     IsSoundRound b process prefix account round × IsDecidedSo s account round decision targets
 
--- a decision of a round: at its place exactly the rounds before it stand, the request that it names was announced by
--- then, and it says whether the balance there covers that request
+-- a decision of a round: at its place exactly the rounds before it stand, the request that it names is announced with a
+-- `since` of at most that place, and it says whether the balance there covers that request
 pub record IsSoundDecision (b : BookTerms) (s : BoardState) (account round : ℕ) (d : Decision) : Type 0 where
   pub range : InRange d
   pub room : round < rounds_room b.request_room (account_of b account)

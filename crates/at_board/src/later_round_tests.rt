@@ -23,14 +23,19 @@ use std::process::Abort;
 use std::sync::ledger::{Blank, Ledger};
 use std::test::Fail;
 
-/// A book of two processes that share account 0, of which one has account 1.
-fn two_account_book(alloc: Global) -> Result<Book, Fail> {
+/// A book of two processes that share account 0, of which one has account 2 alone. Account 1 has no owner.
+fn mixed_book(alloc: Global) -> Result<Book, Fail> {
     let both = vec![in alloc; 0u64, 1]?;
+    let none = Vec::new(alloc);
     let alone = vec![in alloc; 1u64]?;
     let accounts = vec![in alloc;
         DraftAccount {
             opening: 100,
             owners: both
+        },
+        DraftAccount {
+            opening: 0,
+            owners: none
         },
         DraftAccount {
             opening: 0,
@@ -260,7 +265,7 @@ fn settles_twice<L: Ledger, X: Ledger, R: Abort>(
     requires some { (0 < one.parts) × (0 < other.parts) }
 {
     let (steps, exchanges) = (&mut Steps::<L>::new(one), &mut Steps::<X>::new(other));
-    let book = two_account_book(alloc)?;
+    let book = mixed_book(alloc)?;
     let (board, mut seats) = Board::new(alloc, &book)?;
     assert!(rt; has_two_owners(board.book()));
     let mut second = last_seat(&board, &mut seats).expect(rt, "a seat");

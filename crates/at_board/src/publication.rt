@@ -23,7 +23,7 @@ pub enum Entry {
     },
 }
 
-/// A published record. The view has how many records of each process stand before it for its process.
+/// A published record. Its view is the front that it was made at: how many records of each process it goes by.
 #[derive(Drop)]
 pub struct Publication {
     pub process: u32,

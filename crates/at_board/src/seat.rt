@@ -36,7 +36,7 @@ impl BoardSeat {
     ghost use Rattle.at_board.specs.Seen.{SeesInRange};
     ghost use Rattle.at_board.specs.Views.{own_part};
 
-    /// The process that the seat belongs to.
+    /// The process that the seat belongs to. A call of it tells a proof what the seat's type keeps.
     pub fn process(&self) -> u32
         ensures process { result ≡ self.now.view.first }
         ensures part { HasOwnPart self.now.view }
