@@ -3,23 +3,18 @@ use Rattle.at_ledger.specs.Book.{BookTerms}
 use Rattle.at_board.proofs.PlaceLaws.{place_at-below}
 use Rattle.at_board.proofs.RecordLaws.{IsPlace-MayLoadWord}
 use Rattle.at_board.proofs.RecordStep.{IsRecordWord-played, loads_word}
-use Rattle.at_board.specs.declared.view.View.{View}
 use Rattle.at_board.specs.Places.{record_word, word_count}
 use Rattle.at_board.proofs.board.Board.load_record_word.Given as given
 use Rattle.at_board.proofs.board.Board.load_record_word.Goals.{After-seat}
 use Rattle.at_board.proofs.board.Board.load_record_word.Goals as goal
 
--- the seat is the one that callers see
-mine : (g : given.Over) (c : After-seat g) → c.seat.inside.seat.me.0 ≡ c.args.seat.now.view
-mine g c = ap (λ s. s.view) c.seat.view_is
-
 book : (g : given.Over) (c : After-seat g) → c.seat.inside.seat.me.0.book ≡ c.args.self.now.book
-book g c = ap (λ (t : View). t.book) (mine g c) ∙ c.requires.board.book
+book g c = ap (λ s. s.view.book) c.seat.view_is ∙ c.requires.board.book
 
 pub record_place-place-requires : goal.record_place-place-requires
 record_place-place-requires g c =
     IsPlace-MayLoadWord c.args.self.now.book c.seat.inside.seat.me.0 c.args.seat.now.view c.seat.inside.process c.seat.inside.published c.args.p c.args.i c.args.j
-    (book g c) c.seat.invariant.1 (mine g c) c.requires.record
+    (book g c) c.seat.invariant.1 (ap (λ s. s.view) c.seat.view_is) c.requires.record
 
 pub load-requires : goal.load-requires
 load-requires g c =
@@ -42,5 +37,5 @@ pub returns-clause-word : goal.returns-clause-word
 returns-clause-word g c =
     let before : After-seat g = (goal.at.returns-clause-word g c).After-seat in
     IsRecordWord-played c.args.self.now.book c.self.inside.table.shared.table_id.slots c.seat.inside.seat.me c.load.new.seat.me c.args.p c.args.i c.args.j
-    c.record_place-place.result c.load.result c.args.seat.now.view c.seat.inside.process c.seat.inside.published (book g before) c.seat.invariant.1 (mine g before)
+    c.record_place-place.result c.load.result c.args.seat.now.view c.seat.inside.process c.seat.inside.published (book g before) c.seat.invariant.1 (ap (λ s. s.view) c.seat.view_is)
     c.requires.record c.record_place-place.ensures.place c.load.ensures.2
