@@ -1,4 +1,4 @@
-use Rattle.std.proofs.Common.{◌<◌, length, refl, ap, subst, ◌∙◌, arith}
+use Rattle.std.proofs.Common.{◌≡◌, ◌<◌, length, refl, ap, subst, ◌∙◌, arith}
 use Rattle.at_ledger.specs.Book.{BookTerms, IsBook}
 use Rattle.at_board.proofs.FrontLaws.{length-IsFront}
 use Rattle.at_board.specs.declared.view.View.{View}
@@ -11,7 +11,13 @@ use Rattle.at_log.proofs.FormFacts.{IsForm-MayAppend}
 use Rattle.at_log.proofs.LastLaws.{IsLast-Publishes}
 use Rattle.at_log.specs.declared.record.Record.{Record}
 use Rattle.at_log.specs.ClosingTerms.{published_by}
+use Rattle.at_log.proofs.log.append.Given as given
+use Rattle.at_log.proofs.log.append.Goals.{After-processes-width}
 use Rattle.at_log.proofs.log.append.Goals as goal
+
+-- the count of processes that the width was made of
+processes : (g : given.Over) (c : After-processes-width g) → c.processes-width.result ≡ c.args.board.now.book.processes
+processes g c = c.processes-width.ensures ∙ ap (λ (t : BookTerms). t.processes) c.book-2.ensures
 
 pub record_word-requires-clause-entry : goal.record_word-requires-clause-entry
 record_word-requires-clause-entry g c =
@@ -24,15 +30,12 @@ record_word-requires-clause-entry g c =
 
 pub record_word-requires-clause-word : goal.record_word-requires-clause-word
 record_word-requires-clause-word g c =
-    let b : BookTerms = c.args.board.now.book in
     let x : Record = c.args.rec.now in
-    let width = ap (λ (t : BookTerms). t.processes) c.book-2.ensures in
     omega (
       arith,
       c.loop-j-test.true,
-      c.processes-width.ensures,
-      width,
-      length-IsFront b.processes x.view c.args.seat.now.view.seen c.requires.record.view.front,
+      processes g (goal.at.record_word-requires-clause-word g c).After-processes-width,
+      length-IsFront c.args.board.now.book.processes x.view c.args.seat.now.view.seen c.requires.record.view.front,
     )
 
 pub store_record_word-requires-clause-word : goal.store_record_word-requires-clause-word
@@ -40,19 +43,17 @@ store_record_word-requires-clause-word g c =
     let b : BookTerms = c.args.board.now.book in
     let v : View = c.args.seat.now.view in
     let told = c.process-process.ensures in
-    let width = ap (λ (t : BookTerms). t.processes) c.book-2.ensures in
+    let count = processes g (goal.at.store_record_word-requires-clause-word g c).After-processes-width in
     let room = published-MayAppend b v c.args.rec.now c.process-process.result (own_part v).published c.requires.board.book told.seat told.in_range c.requires.record in
     MayStoreWord-IsStoring b v c.loop-j.seat.view (record_words (published_by v.first c.args.rec.now)) c.loop-j.j c.loop-j.j (omega (arith, told.part.one_part)) room
-    c.loop-j.invariant.storing (omega (arith, c.loop-j-test.true, c.processes-width.ensures, width))
+    c.loop-j.invariant.storing (omega (arith, c.loop-j-test.true, count))
 
 pub loop-j-preserved : goal.loop-j-preserved
 loop-j-preserved g c =
-    let b : BookTerms = c.args.board.now.book in
     let v : View = c.args.seat.now.view in
     let part = c.process-process.ensures.part in
-    let width = ap (λ (t : BookTerms). t.processes) c.book-2.ensures in
-    let inside : c.loop-j.j < length (own_part v).stored =
-    omega (arith, c.loop-j-test.true, c.processes-width.ensures, width, part.words, ap record_width c.requires.board.book) in
+    let count = processes g (goal.at.loop-j-preserved g c).After-processes-width in
+    let inside : c.loop-j.j < length (own_part v).stored = omega (arith, c.loop-j-test.true, count, part.words, ap record_width c.requires.board.book) in
     record {
       board = c.store_record_word.ensures.board ∙ c.loop-j.invariant.board;
       storing = IsStoring-more v c.loop-j.seat.view c.store_record_word.new.seat.view (record_words (published_by v.first c.args.rec.now)) c.loop-j.j
@@ -64,13 +65,11 @@ loop-j-preserved g c =
 
 pub publish-requires-clause-record : goal.publish-requires-clause-record
 publish-requires-clause-record g c =
-    let b : BookTerms = c.args.board.now.book in
     let v : View = c.args.seat.now.view in
-    let width = ap (λ (t : BookTerms). t.processes) c.book-2.ensures in (
+    let count = processes g (goal.at.publish-requires-clause-record g c).After-processes-width in (
       published_by v.first c.args.rec.now,
-      MayPublish-IsStoring b v c.loop-j.seat.view c.args.rec.now c.loop-j.j c.requires.board.book c.process-process.ensures.part
-          c.requires.record c.loop-j.invariant.storing
-          (omega (arith, c.loop-j-test.false, c.loop-j.auto.j-end, c.processes-width.ensures, width)),
+      MayPublish-IsStoring c.args.board.now.book v c.loop-j.seat.view c.args.rec.now c.loop-j.j c.requires.board.book c.process-process.ensures.part
+          c.requires.record c.loop-j.invariant.storing (omega (arith, c.loop-j-test.false, c.loop-j.auto.j-end, count)),
     )
 
 pub returns-clause-published : goal.returns-clause-published
@@ -79,21 +78,14 @@ returns-clause-published g c =
     let v : View = c.args.seat.now.view in
     let x : Record = c.args.rec.now in
     let part = c.process-process.ensures.part in
-    let width = ap (λ (t : BookTerms). t.processes) c.book-2.ensures in
+    let count = processes g (goal.at.returns-clause-published g c).After-processes-width in
     let may = MayPublish-IsStoring b v c.loop-j.seat.view x c.loop-j.j c.requires.board.book part c.requires.record c.loop-j.invariant.storing
-    (omega (arith, c.loop-j-test.false, c.loop-j.auto.j-end, c.processes-width.ensures, width)) in
+    (omega (arith, c.loop-j-test.false, c.loop-j.auto.j-end, count)) in
     Publishes-IsStoring b v c.loop-j.seat.view c.publish.new.seat.view (published_by v.first x) (record_words (published_by v.first x)) c.loop-j.j
     (omega (arith, part.one_part)) c.loop-j.invariant.storing (c.publish.ensures.published (published_by v.first x) may)
 
 pub returns-clause-last : goal.returns-clause-last
 returns-clause-last g c =
-    let b : BookTerms = c.args.board.now.book in
     let v : View = c.args.seat.now.view in
-    let x : Record = c.args.rec.now in
-    let part = c.process-process.ensures.part in
-    let width = ap (λ (t : BookTerms). t.processes) c.book-2.ensures in
-    let may = MayPublish-IsStoring b v c.loop-j.seat.view x c.loop-j.j c.requires.board.book part c.requires.record c.loop-j.invariant.storing
-    (omega (arith, c.loop-j-test.false, c.loop-j.auto.j-end, c.processes-width.ensures, width)) in
-    IsLast-Publishes b v c.publish.new.seat.view (published_by v.first x) (omega (arith, part.one_part)) refl
-    (Publishes-IsStoring b v c.loop-j.seat.view c.publish.new.seat.view (published_by v.first x) (record_words (published_by v.first x)) c.loop-j.j
-    (omega (arith, part.one_part)) c.loop-j.invariant.storing (c.publish.ensures.published (published_by v.first x) may))
+    IsLast-Publishes c.args.board.now.book v c.publish.new.seat.view (published_by v.first c.args.rec.now) (omega (arith, c.process-process.ensures.part.one_part)) refl
+    (returns-clause-published g c)

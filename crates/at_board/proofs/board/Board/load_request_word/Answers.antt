@@ -1,80 +1,78 @@
 use Rattle.std.proofs.Common.{◌≡◌, sym, ap, subst, ◌∙◌, arith}
-use Rattle.at_ledger.specs.Book.{BookTerms}
+use Rattle.at_ledger.specs.Book.{BookTerms, IsBegun}
 use Rattle.at_board.proofs.PlaceLaws.{place_at-below}
 use Rattle.at_board.proofs.RequestWordLaws.{place-MayLoadRequest}
 use Rattle.at_board.proofs.RequestWordStep.{HasCounts-request, IsSeat-request, LoadsRequestWord-played, SeesInRange-request, loads_request_word_at}
 use Rattle.at_board.proofs.StepLaws.{IsSeatOf-IsSeat}
 use Rattle.at_board.specs.declared.view.View.{View}
-use Rattle.at_board.specs.Places.{IsPlace, place_at, request_word}
+use Rattle.at_board.specs.Places.{IsPlace, request_word, word_count}
 use Rattle.at_board.specs.RequestConditions.{MayLoadRequest}
 use Rattle.at_board.specs.RequestSteps.{LoadsRequestWord}
+use Rattle.at_board.proofs.board.Board.load_request_word.Given as given
+use Rattle.at_board.proofs.board.Board.load_request_word.Goals.{After-load, After-process-process}
 use Rattle.at_board.proofs.board.Board.load_request_word.Goals as goal
+
+-- the seat is the one that callers see
+mine : (g : given.Over) (c : After-process-process g) → c.seat.inside.seat.me.0 ≡ c.args.seat.now.view
+mine g c = ap (λ s. s.view) c.seat.view_is
+
+book : (g : given.Over) (c : After-process-process g) → c.seat.inside.seat.me.0.book ≡ c.args.self.now.book
+book g c = ap (λ (t : View). t.book) (mine g c) ∙ c.requires.board.book
+
+may : (g : given.Over) (c : After-process-process g) → MayLoadRequest c.seat.inside.seat.me.0 c.args.account c.args.slot c.args.number c.args.j
+may g c = subst (λ (t : View). MayLoadRequest t c.args.account c.args.slot c.args.number c.args.j) (sym (mine g c)) c.requires.request
 
 pub request_place-place-requires : goal.request_place-place-requires
 request_place-place-requires g c =
-    let x = request_word c.args.account c.args.slot c.args.number c.args.j in
-    subst (λ (t : BookTerms). IsPlace t x) c.requires.board.book
+    subst (λ (t : BookTerms). IsPlace t (request_word c.args.account c.args.slot c.args.number c.args.j)) c.requires.board.book
     (place-MayLoadRequest c.args.seat.now.view c.args.account c.args.slot c.args.number c.args.j c.process-process.ensures.in_range c.requires.request)
+
+-- the step loads the word
+told : (g : given.Over) (c : After-load g) → LoadsRequestWord c.args.self.now.book c.seat.inside.seat.me.0 c.load.new.seat.me.0 c.args.account c.args.slot
+    c.args.number c.args.j c.load.result
+told g c =
+    let before : After-process-process g = (goal.at.After-load g c).After-process-process in
+    LoadsRequestWord-played c.args.self.now.book c.self.inside.table.shared.table_id.slots c.seat.inside.seat.me c.load.new.seat.me c.args.account c.args.slot
+    c.args.number c.args.j c.load.result c.request_place-place.result (book g before) c.request_place-place.ensures.place (request_place-place-requires g before)
+    (may g before) c.load.ensures.2
 
 pub load-requires : goal.load-requires
 load-requires g c =
-    let b : BookTerms = c.self.inside.book in
+    let before : After-process-process g = (goal.at.load-requires g c).After-process-process in
+    let b : BookTerms = c.args.self.now.book in
     let v : View = c.seat.inside.seat.me.0 in
-    let x = request_word c.args.account c.args.slot c.args.number c.args.j in
-    let mine : v ≡ c.args.seat.now.view = ap (λ s. s.view) c.seat.view_is in
-    let ours : b ≡ c.args.self.now.book = ap (λ t. t.book) c.self.view_is in
-    let book : v.book ≡ b = ap (λ (t : View). t.book) mine ∙ (c.requires.board.book ∙ sym ours) in
-    let may : MayLoadRequest v c.args.account c.args.slot c.args.number c.args.j =
-    subst (λ (t : View). MayLoadRequest t c.args.account c.args.slot c.args.number c.args.j) (sym mine) c.requires.request in
-    let is : IsPlace b x = subst (λ (t : BookTerms). IsPlace t x) book
-    (place-MayLoadRequest v c.args.account c.args.slot c.args.number c.args.j c.seat.invariant.3 may) in
-    let at : c.request_place-place.result ≡ place_at b x = subst (λ (t : BookTerms). c.request_place-place.result ≡ place_at t x) (sym ours) c.request_place-place.ensures.place in (
+    let ours : c.self.inside.book ≡ b = ap (λ t. t.book) c.self.view_is in
+    let is : IsPlace b (request_word c.args.account c.args.slot c.args.number c.args.j) = request_place-place-requires g before in (
       ap (λ s. s.board) c.seat.view_is ∙ (c.requires.board.id ∙ sym (ap (λ t. t.id) c.self.view_is)),
-      omega (arith, c.self.invariant.1, at, place_at-below b x is),
+      omega (
+        arith,
+        c.self.invariant.1,
+        ap word_count ours,
+        c.request_place-place.ensures.place,
+        place_at-below b (request_word c.args.account c.args.slot c.args.number c.args.j) is,
+      ),
       loads_request_word_at c.self.inside.table.shared.key.value b c.self.inside.table.shared.table_id.slots c.seat.inside.seat.id c.seat.inside.seat.me
-          c.args.account c.args.slot c.args.number c.args.j c.request_place-place.result c.self.invariant.0 at c.self.invariant.2.begun
-          (IsSeatOf-IsSeat b v c.seat.inside.process c.seat.inside.published book c.seat.invariant.1) is may,
+          c.args.account c.args.slot c.args.number c.args.j c.request_place-place.result (c.self.invariant.0 ∙ ours) c.request_place-place.ensures.place
+          (subst IsBegun ours c.self.invariant.2.begun) (IsSeatOf-IsSeat b v c.seat.inside.process c.seat.inside.published (book g before) c.seat.invariant.1) is (may g before),
     )
 
 pub invariant_of-seat : goal.invariant_of-seat
 invariant_of-seat g c =
-    let b : BookTerms = c.self.inside.book in
+    let before : After-process-process g = (goal.at.After-load g c).After-process-process in
+    let b : BookTerms = c.args.self.now.book in
     let v : View = c.seat.inside.seat.me.0 in
-    let x = request_word c.args.account c.args.slot c.args.number c.args.j in
-    let mine : v ≡ c.args.seat.now.view = ap (λ s. s.view) c.seat.view_is in
-    let ours : b ≡ c.args.self.now.book = ap (λ t. t.book) c.self.view_is in
-    let book : v.book ≡ b = ap (λ (t : View). t.book) mine ∙ (c.requires.board.book ∙ sym ours) in
-    let may : MayLoadRequest v c.args.account c.args.slot c.args.number c.args.j =
-    subst (λ (t : View). MayLoadRequest t c.args.account c.args.slot c.args.number c.args.j) (sym mine) c.requires.request in
-    let is : IsPlace b x = subst (λ (t : BookTerms). IsPlace t x) book
-    (place-MayLoadRequest v c.args.account c.args.slot c.args.number c.args.j c.seat.invariant.3 may) in
-    let at : c.request_place-place.result ≡ place_at b x = subst (λ (t : BookTerms). c.request_place-place.result ≡ place_at t x) (sym ours) c.request_place-place.ensures.place in
-    let w : View = c.load.new.seat.me.0 in
-    let told : LoadsRequestWord b v w c.args.account c.args.slot c.args.number c.args.j c.load.result =
-    LoadsRequestWord-played b c.self.inside.table.shared.table_id.slots c.seat.inside.seat.me c.load.new.seat.me c.args.account c.args.slot c.args.number c.args.j
-    c.load.result c.request_place-place.result book at is may c.load.ensures.2 in (
+    let w : View = c.load.new.seat.me.0 in (
       c.load.ensures.2.0 ∙ c.seat.invariant.0,
-      IsSeat-request b v w c.seat.inside.process c.seat.inside.published c.args.account c.args.slot c.args.number c.args.j c.load.result c.seat.invariant.1 told,
-      HasCounts-request b v w c.args.account c.args.slot c.args.number c.args.j c.load.result c.seat.inside.announced.items (omega (arith, c.seat.invariant.1.one_part)) told c.seat.invariant.2,
-      SeesInRange-request b v w c.args.account c.args.slot c.args.number c.args.j c.load.result book is told c.seat.invariant.3,
+      IsSeat-request b v w c.seat.inside.process c.seat.inside.published c.args.account c.args.slot c.args.number c.args.j c.load.result c.seat.invariant.1 (told g c),
+      HasCounts-request b v w c.args.account c.args.slot c.args.number c.args.j c.load.result c.seat.inside.announced.items (omega (arith, c.seat.invariant.1.one_part))
+          (told g c) c.seat.invariant.2,
+      SeesInRange-request b v w c.args.account c.args.slot c.args.number c.args.j c.load.result (book g before) (request_place-place-requires g before) (told g c)
+          c.seat.invariant.3,
     )
 
 pub returns-clause-told : goal.returns-clause-told
 returns-clause-told g c =
-    let b : BookTerms = c.self.inside.book in
-    let v : View = c.seat.inside.seat.me.0 in
-    let x = request_word c.args.account c.args.slot c.args.number c.args.j in
-    let mine : v ≡ c.args.seat.now.view = ap (λ s. s.view) c.seat.view_is in
-    let ours : b ≡ c.args.self.now.book = ap (λ t. t.book) c.self.view_is in
-    let book : v.book ≡ b = ap (λ (t : View). t.book) mine ∙ (c.requires.board.book ∙ sym ours) in
-    let may : MayLoadRequest v c.args.account c.args.slot c.args.number c.args.j =
-    subst (λ (t : View). MayLoadRequest t c.args.account c.args.slot c.args.number c.args.j) (sym mine) c.requires.request in
-    let is : IsPlace b x = subst (λ (t : BookTerms). IsPlace t x) book
-    (place-MayLoadRequest v c.args.account c.args.slot c.args.number c.args.j c.seat.invariant.3 may) in
-    let at : c.request_place-place.result ≡ place_at b x = subst (λ (t : BookTerms). c.request_place-place.result ≡ place_at t x) (sym ours) c.request_place-place.ensures.place in
-    let w : View = c.load.new.seat.me.0 in
-    let told : LoadsRequestWord b v w c.args.account c.args.slot c.args.number c.args.j c.load.result =
-    LoadsRequestWord-played b c.self.inside.table.shared.table_id.slots c.seat.inside.seat.me c.load.new.seat.me c.args.account c.args.slot c.args.number c.args.j
-    c.load.result c.request_place-place.result book at is may c.load.ensures.2 in
-    subst (λ (t : BookTerms). LoadsRequestWord t c.args.seat.now.view w c.args.account c.args.slot c.args.number c.args.j c.load.result) ours
-    (subst (λ (t : View). LoadsRequestWord b t w c.args.account c.args.slot c.args.number c.args.j c.load.result) mine told)
+    let after : After-load g = (goal.at.returns-clause-told g c).After-load in
+    let before : After-process-process g = (goal.at.After-load g after).After-process-process in
+    subst (λ (t : View). LoadsRequestWord c.args.self.now.book t c.load.new.seat.me.0 c.args.account c.args.slot c.args.number c.args.j c.load.result)
+    (mine g before) (told g after)
