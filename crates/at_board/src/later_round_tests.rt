@@ -266,7 +266,52 @@ fn tell_again<L: Ledger, X: Ledger>(
     board.learn(zero, note, steps, exchanges);
 }
 
-/// Process 0 publishes the first round, process 1 publishes it again, and process 0 the second. The closed board has their words.
+/// Process 0 publishes the first round, process 1 publishes it again, and process 0 the second. Answers whether they have.
+fn settle_both<L: Ledger, X: Ledger>(
+    board: &Board,
+    zero: &mut BoardSeat,
+    one: &mut BoardSeat,
+    steps: &mut Steps<L>,
+    exchanges: &mut Steps<X>,
+) -> bool
+    requires owners { HasTwoOwners board.now.book }
+    requires zero { (zero.old.board ≡ board.now.id) × (zero.old.view ≡ starting_seat board.now.book 0) }
+    requires one { (one.old.board ≡ board.now.id) × (one.old.view ≡ starting_seat board.now.book 1) }
+    ensures zero { IsTrue result → IsIdle board.now zero.new × (zero.new.view.first ≡ 0) }
+    ensures one { IsTrue result → IsIdle board.now one.new × (one.new.view.first ≡ 1) }
+{
+    if !begin(board, zero, steps, exchanges) {
+        return false;
+    }
+    tell_first(board, zero, one, steps, exchanges);
+    if !repeat(board, one, steps, exchanges) {
+        return false;
+    }
+    tell_again(board, one, zero, steps, exchanges);
+    go_on(board, zero, steps, exchanges)
+}
+
+/// The closed board has the two records of the first round, and that of the second with its view.
+fn has_three_records<R: Abort>(rt: &R, end: &BoardEnd)
+    requires two { end.now.book.processes ≡ 2 }
+{
+    assert!(rt; end.length(0) == 2 && end.length(1) == 1);
+    assert_eq!(rt;
+        (end.record_word(0, 1, 0), end.record_word(0, 1, 2)),
+        (8_589_934_593, 524_306)
+    );
+    assert_eq!(rt; end.record_word(0, 1, 3), 30);
+    assert_eq!(rt;
+        (end.record_word(0, 1, 7), end.record_word(0, 1, 8)),
+        (1, 1)
+    );
+    assert_eq!(rt;
+        (end.record_word(1, 0, 0), end.record_word(1, 0, 2)),
+        (1, 2)
+    );
+}
+
+/// Two rounds are settled on a board, and it is closed. The closed board has their words.
 fn settles_twice<L: Ledger, X: Ledger, R: Abort>(
     rt: &R,
     alloc: Global,
@@ -284,26 +329,9 @@ fn settles_twice<L: Ledger, X: Ledger, R: Abort>(
     let mut second = last_seat(&board, &mut seats).expect(rt, "a seat");
     let mut first = last_seat(&board, &mut seats).expect(rt, "a seat");
     assert!(rt; first.process() == 0 && second.process() == 1);
-    assert!(rt; begin(&board, &mut first, steps, exchanges));
-    tell_first(&board, &mut first, &mut second, steps, exchanges);
-    assert!(rt; repeat(&board, &mut second, steps, exchanges));
-    tell_again(&board, &mut second, &mut first, steps, exchanges);
-    assert!(rt; go_on(&board, &mut first, steps, exchanges));
+    assert!(rt; settle_both(&board, &mut first, &mut second, steps, exchanges));
     let end = close_two(board, alloc, first, second)?;
-    assert!(rt; end.length(0) == 2 && end.length(1) == 1);
-    assert_eq!(rt;
-        (end.record_word(0, 1, 0), end.record_word(0, 1, 2)),
-        (8_589_934_593, 524_306)
-    );
-    assert_eq!(rt; end.record_word(0, 1, 3), 30);
-    assert_eq!(rt;
-        (end.record_word(0, 1, 7), end.record_word(0, 1, 8)),
-        (1, 1)
-    );
-    assert_eq!(rt;
-        (end.record_word(1, 0, 0), end.record_word(1, 0, 2)),
-        (1, 2)
-    );
+    has_three_records(rt, &end);
     Ok(())
 }
 
