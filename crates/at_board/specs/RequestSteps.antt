@@ -41,6 +41,8 @@ with_row w slot n = record w { rows = w.rows ++ record { slot = slot; count = n 
 -- a load of an announced word: the seat has then seen these requests, and at least as many publications as the `since` of each
 pub record LoadsAnnounced (b : BookTerms) (before after : View) (a slot n : ℕ) : Type 0 where
   pub row : List Request
+  pub same : after ≡ with_asking (record before { seen = after.seen; requests = before.requests ++ all_of a slot row }) a
+      (with_row (asking_on (own_part before) a) slot n)
   pub counted : length row ≡ n
   pub room : n ≤ b.request_room
   pub since : All (λ r. r.since ≤ length after.seen) row
@@ -50,8 +52,6 @@ pub record LoadsAnnounced (b : BookTerms) (before after : View) (a slot n : ℕ)
   pub own : count_of before.first after.seen ≡ (own_part before).published
   pub history : IsHistory b after.seen
   pub agrees : AgreesWithSeen after
-  pub same : after ≡ with_asking (record before { seen = after.seen; requests = before.requests ++ all_of a slot row }) a
-      (with_row (asking_on (own_part before) a) slot n)
 
 -- a word of this request was loaded
 abbrev pub with_loaded : Asking → SeenRequest → Asking

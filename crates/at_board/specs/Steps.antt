@@ -72,13 +72,13 @@ pub record IsHistory (b : BookTerms) (list : List Publication) : Type 0 where
 -- a load of a length: the seat, which counts its loads of each length, has then seen a list that begins with the old one and
 -- has so many publications of the process
 pub record LoadsLength (b : BookTerms) (before after : View) (p n : ℕ) : Type 0 where
+  pub same : after ≡ with_part (record before { seen = after.seen }) (with_load (own_part before) p n)
   pub lengths : length (own_part before).loads ≡ b.processes
   pub more : IsPrefix before.seen after.seen
   pub counted : count_of p after.seen ≡ n
   pub own : count_of before.first after.seen ≡ (own_part before).published
   pub history : IsHistory b after.seen
   pub agrees : AgreesWithSeen after
-  pub same : after ≡ with_part (record before { seen = after.seen }) (with_load (own_part before) p n)
 
 -- a store of a word of the seat's next record
 abbrev pub StoresWord : View → View → ℕ → ℕ → Type 0

@@ -15,7 +15,7 @@ ghost use Rattle.at_board.specs.Views.{HasSlot, SeesRequest};
 use crate::request_tests::{last_seat, slot_on};
 use crate::round_tests::{close_two, has_record};
 use crate::stress_tests::look;
-use crate::{Board, BoardSeat, Steps};
+use crate::{Board, BoardEnd, BoardSeat, Steps};
 use at_ledger::{Book, Draft, DraftAccount};
 use std::alloc::Global;
 use std::marker::Brand;
@@ -253,7 +253,45 @@ fn tell_again<L: Ledger, X: Ledger>(
     board.learn(zero, note, steps, exchanges);
 }
 
-/// Process 0 publishes the first round, process 1 publishes it again, and process 0 the second. The closed board has their words.
+/// Process 0 publishes the first round, process 1 publishes it again, and process 0 the second. Answers whether they have.
+fn settle_both<L: Ledger, X: Ledger>(
+    board: &Board,
+    zero: &mut BoardSeat,
+    one: &mut BoardSeat,
+    steps: &mut Steps<L>,
+    exchanges: &mut Steps<X>,
+) -> bool
+    requires owners { HasTwoOwners board.now.book }
+    requires zero { (zero.old.board ≡ board.now.id) × (zero.old.view ≡ starting_seat board.now.book 0) }
+    requires one { (one.old.board ≡ board.now.id) × (one.old.view ≡ starting_seat board.now.book 1) }
+    ensures zero { IsTrue result → IsIdle board.now zero.new × (zero.new.view.first ≡ 0) }
+    ensures one { IsTrue result → IsIdle board.now one.new × (one.new.view.first ≡ 1) }
+{
+    if !begin(board, zero, steps, exchanges) {
+        return false;
+    }
+    tell_first(board, zero, one, steps, exchanges);
+    if !repeat(board, one, steps, exchanges) {
+        return false;
+    }
+    tell_again(board, one, zero, steps, exchanges);
+    go_on(board, zero, steps, exchanges)
+}
+
+/// Whether the closed board has the two records of the first round, that of the second with its view, and no others.
+fn has_three_records(end: &BoardEnd) -> bool
+    requires two { end.now.book.processes ≡ 2 }
+{
+    let first = [1, 1_099_511_627_777, 2, 60, 0, 0, 0, 0, 0];
+    let later = [8_589_934_593, 1_099_511_627_777, 524_306, 30, 0, 0, 0, 1, 1];
+    end.length(0) == 2
+        && end.length(1) == 1
+        && has_record(end, 0, 0, first.as_slice())
+        && has_record(end, 0, 1, later.as_slice())
+        && has_record(end, 1, 0, first.as_slice())
+}
+
+/// Two rounds are settled on a board, and it is closed. The closed board has their words.
 fn settles_twice<L: Ledger, X: Ledger, R: Abort>(
     rt: &R,
     alloc: Global,
@@ -271,18 +309,9 @@ fn settles_twice<L: Ledger, X: Ledger, R: Abort>(
     let mut second = last_seat(&board, &mut seats).expect(rt, "a seat");
     let mut first = last_seat(&board, &mut seats).expect(rt, "a seat");
     assert!(rt; first.process() == 0 && second.process() == 1);
-    assert!(rt; begin(&board, &mut first, steps, exchanges));
-    tell_first(&board, &mut first, &mut second, steps, exchanges);
-    assert!(rt; repeat(&board, &mut second, steps, exchanges));
-    tell_again(&board, &mut second, &mut first, steps, exchanges);
-    assert!(rt; go_on(&board, &mut first, steps, exchanges));
+    assert!(rt; settle_both(&board, &mut first, &mut second, steps, exchanges));
     let end = close_two(board, alloc, first, second)?;
-    assert_eq!(rt; (end.length(0), end.length(1)), (2, 1));
-    let first = [1, 1_099_511_627_777, 2, 60, 0, 0, 0, 0, 0];
-    let later = [8_589_934_593, 1_099_511_627_777, 524_306, 30, 0, 0, 0, 1, 1];
-    assert!(rt; has_record(&end, 0, 0, first.as_slice()));
-    assert!(rt; has_record(&end, 0, 1, later.as_slice()));
-    assert!(rt; has_record(&end, 1, 0, first.as_slice()));
+    assert!(rt; has_three_records(&end));
     Ok(())
 }
 

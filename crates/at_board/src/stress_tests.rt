@@ -400,6 +400,22 @@ fn rises(views: &Vec<Counts>) -> bool {
     true
 }
 
+/// The closed board has what all four threads were told: the same word of the round, which one of them has won, and their records.
+fn has_all_told<R: Abort>(rt: &R, end: &BoardEnd, told: &[Told; 4])
+    requires four { end.now.book.processes ≡ 4 }
+{
+    let mut winners = 0u32;
+    for p in 0..4u32 {
+        let mine = &told[p as usize];
+        assert_eq!(rt; mine.word, told[0].word);
+        assert_eq!(rt; end.length(p), RECORDS);
+        assert!(rt; rises(&mine.views));
+        assert!(rt; has_told(end, p, mine));
+        winners = winners.saturating_add(u32::from(mine.word == proposal_of(p)));
+    }
+    assert_eq!(rt; winners, 1);
+}
+
 /// Four threads play at once on a board, which is then closed.
 fn plays<R: Threads + Sync + Abort>(rt: &R, alloc: Global) -> Result<(), Fail> {
     let book = four_book(alloc)?;
@@ -411,16 +427,7 @@ fn plays<R: Threads + Sync + Abort>(rt: &R, alloc: Global) -> Result<(), Fail> {
     let mut zero = last_player(&board, &mut seats, 0).expect(rt, "process 0");
     let told = play_four(rt, &board, alloc, &mut zero, &mut one, &mut two, &mut three)?;
     let end = close_four(board, alloc, zero, one, two, three)?;
-    let mut winners = 0u32;
-    for p in 0..4u32 {
-        let mine = &told[p as usize];
-        assert_eq!(rt; mine.word, told[0].word);
-        assert_eq!(rt; end.length(p), RECORDS);
-        assert!(rt; rises(&mine.views));
-        assert!(rt; has_told(&end, p, mine));
-        winners = winners.saturating_add(u32::from(mine.word == proposal_of(p)));
-    }
-    assert_eq!(rt; winners, 1);
+    has_all_told(rt, &end, &told);
     Ok(())
 }
 

@@ -1,7 +1,11 @@
 //! Worked rows, and each public call once.
 
+ghost use Rattle.std.specs.Prelude.{◌≡◌, length};
+ghost use Rattle.at_ledger.specs.Call.{AreTargetsOn};
+
 use crate::*;
 use std::alloc::{AllocError, Global};
+use std::process::Abort;
 use std::test::Fail;
 
 /// A draft with these accounts, each with its opening and its owners.
@@ -43,6 +47,20 @@ fn fault_of(
     }
 }
 
+/// Pays from account 0 of three accounts, and gets this reply and these balances.
+fn pays_so<R: Abort>(rt: &R, state: &mut State, targets: &Targets, reply: Reply, balances: [u64; 3])
+    requires processes { state.old.book.processes ≡ 1 }
+    requires accounts { length state.old.book.accounts ≡ 3 }
+    requires targets { AreTargetsOn 3 targets.now }
+{
+    assert_eq!(rt; state.pay(0, 0, targets), reply);
+    assert_eq!(rt;
+        [state.balance(0), state.balance(1), state.balance(2)],
+        balances
+    );
+    assert_eq!(rt; state.total(), 100);
+}
+
 #[test]
 fn pays_out(rt: HostRuntime) -> Result<(), Fail> {
     let draft = draft_with(rt.alloc(), 1, (4, 4), &[(100, &[0]), (0, &[]), (0, &[])])?;
@@ -58,12 +76,7 @@ fn pays_out(rt: HostRuntime) -> Result<(), Fail> {
         targets.push(to, second);
         let mut state = State::new(rt.alloc(), &book)?;
         assert_eq!(rt; targets.sum(), sum);
-        assert_eq!(rt; state.pay(0, 0, &targets), reply);
-        assert_eq!(rt;
-            [state.balance(0), state.balance(1), state.balance(2)],
-            balances
-        );
-        assert_eq!(rt; state.total(), 100);
+        pays_so(&rt, &mut state, &targets, reply, balances);
     }
     Ok(())
 }
@@ -120,14 +133,12 @@ fn answers_of_a_book(rt: HostRuntime) -> Result<(), Fail> {
     Ok(())
 }
 
-#[test]
-fn does_each_call(rt: HostRuntime) -> Result<(), Fail> {
-    let accounts: [(u64, &[u64]); 3] = [(10, &[0]), (5, &[0, 1]), (0, &[])];
-    let draft = draft_with(rt.alloc(), 2, (1, 2), &accounts)?;
-    let book = Book::new(rt.alloc(), &draft)?;
-    assert!(rt; book.processes() == 2 && book.accounts() == 3);
-    let mut state = State::new(rt.alloc(), &book)?;
-    is_shared_by_threads(&state);
+/// Makes transfers from one account to another, of which some are refused.
+fn does_transfers<R: Abort>(rt: &R, state: &mut State)
+    requires processes { state.old.book.processes ≡ 2 }
+    requires accounts { length state.old.book.accounts ≡ 3 }
+    ensures book { state.new.book ≡ state.old.book }
+{
     for (process, from, to, amount, reply) in [
         (1, 0, 2, 0, Reply::NotOwner),
         (0, 0, 2, 1, Reply::Done),
@@ -142,6 +153,14 @@ fn does_each_call(rt: HostRuntime) -> Result<(), Fail> {
         let call = Call::Transfer { from, to, amount };
         assert_eq!(rt; state.step(process, &call.copy()), reply);
     }
+}
+
+/// Reads an account, and makes a payment of nothing to two accounts.
+fn reads_and_pays<R: Abort>(rt: &R, state: &mut State)
+    requires processes { state.old.book.processes ≡ 2 }
+    requires accounts { length state.old.book.accounts ≡ 3 }
+    ensures book { state.new.book ≡ state.old.book }
+{
     let read = Call::Read { account: 2 };
     assert_eq!(rt; state.step(1, &read), Reply::Balance(6));
     let mut targets = Targets::one(0, 0);
@@ -155,6 +174,18 @@ fn does_each_call(rt: HostRuntime) -> Result<(), Fail> {
         (targets.len(), targets.to(1), targets.amount(1)),
         (2, 1, 0)
     );
+}
+
+#[test]
+fn does_each_call(rt: HostRuntime) -> Result<(), Fail> {
+    let accounts: [(u64, &[u64]); 3] = [(10, &[0]), (5, &[0, 1]), (0, &[])];
+    let draft = draft_with(rt.alloc(), 2, (1, 2), &accounts)?;
+    let book = Book::new(rt.alloc(), &draft)?;
+    assert!(rt; book.processes() == 2 && book.accounts() == 3);
+    let mut state = State::new(rt.alloc(), &book)?;
+    is_shared_by_threads(&state);
+    does_transfers(&rt, &mut state);
+    reads_and_pays(&rt, &mut state);
     assert_eq!(rt; (state.sent(0), state.sent(1)), (1, 0));
     assert_eq!(rt;
         (state.asked(0, 1), state.asked(1, 1), state.asked(1, 2)),
