@@ -1,9 +1,9 @@
 -- The step on a cell that the rule allows.
-use Rattle.std.proofs.Common.{◌≡◌, ℕ, ◌+◌, ◌<◌, ◌==◌, List, [], ◌∷◌, length, get_or, set, Option, refl, sym, ap, subst, ◌∙◌, arith, inl, inr}
+use Rattle.std.proofs.Common.{◌≡◌, ℕ, ◌+◌, ◌<◌, ◌⊎◌, ◌==◌, List, [], ◌∷◌, length, get_or, set, Option, Some, None, refl, sym, ap, subst, ◌∙◌, arith, inl, inr}
 use mathlib.Core.Option.{none}
 use Rattle.at_board.proofs.OwnRequestLaws.{asking_on-part_asking, SeesOwnRequests-with_part, own_part-with_part}
 use prog.Atomic.{either}
-use Rattle.std.proofs.lemmas.Bool.{cases_eq}
+use Rattle.std.proofs.lemmas.Bool.{cases_eq, cases_lt}
 use Rattle.std.proofs.lemmas.List.{get_or-set_other, get_or-set_same, length-set}
 use Rattle.std.proofs.lemmas.List.Elements.{All-append, All-cons, All-nil}
 use Rattle.atomic_table.specs.Table.{Allows, Me, keeps, step}
@@ -144,3 +144,14 @@ SeesInRange-decided b v w a round d n book here told sees =
       decisions = All-append P v.decisions (seen ∷ []) sees.decisions (All-cons P seen [] new (All-nil P));
     } in
     subst SeesInRange (sym told.same) after
+
+-- the seat holds the cell where its proposal is decided, or none
+pub held-Decides : (b : BookTerms) (v w : View) (a round : ℕ) (d : Decision) (n : ℕ) → (told : Decides b v w a round d n)
+    → (told.held ≡ None) ⊎ (told.held ≡ Some (record { account = a; round = round })) × (told.decision ≡ d)
+held-Decides b v w a round d n told =
+    elim (cases_lt round (length (told.met.state.cells a))) as (λ _. (told.held ≡ None) ⊎ (told.held ≡ Some (record { account = a; round = round })) × (told.decision ≡ d)) [
+      | inl within ↦ inl (told.met.stood within).1
+      | inr past ↦
+          let won = told.met.undecided (omega (arith, past, told.met.within)) in
+          inr (won.1, won.0)
+    ]

@@ -1,5 +1,5 @@
 -- Two rounds of a shared account that the tests publish, of which the first has two records.
-use Rattle.std.proofs.Common.{◌≡◌, ℕ, ◌+◌, ◌*◌, ◌<◌, ◌≤◌, ◌||◌, true, List, [], ◌∷◌, ◌++◌, length, get_or, sum, replicate, set, take, drop, None, is_some, refl, sym, ap, subst, ◌∙◌, arith, set-set, length-append, length-set}
+use Rattle.std.proofs.Common.{◌≡◌, ℕ, ◌+◌, ◌*◌, ◌<◌, ◌≤◌, ◌||◌, true, List, [], ◌∷◌, ◌++◌, length, get_or, sum, replicate, set, take, drop, None, is_some, refl, sym, ap, subst, ◌∙◌, arith, inl, set-set, length-append, length-set}
 use Rattle.std.specs.List.{Contains, count_by, sum_by}
 use Rattle.std.proofs.lemmas.List.{take-append-drop}
 use Rattle.std.proofs.lemmas.List.Elements.{All-cons, All-nil, Contains-append_right}
@@ -250,8 +250,10 @@ may_record b v w round m n part early blank room request told word view sound =
       view = view;
       entry = (
         sound,
-        sees_decision b v w round n early told word,
-        (payment_in round m, subst (λ (t : View). SeesRequest t 0 0 round (payment_in round m)) (sym told.same) request, refl),
+        inl (
+          sees_decision b v w round n early told word,
+          (payment_in round m, subst (λ (t : View). SeesRequest t 0 0 round (payment_in round m)) (sym told.same) request, refl),
+        ),
       );
     }
 

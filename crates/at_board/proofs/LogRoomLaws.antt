@@ -4,10 +4,12 @@ use Rattle.std.specs.List.{sum_by}
 use Rattle.std.proofs.lemmas.Bool.{and_parts, cases_Bool, cases_eq, cases_lt, eq-eqb, eqb-true, le-ltb, lt-ltb, ltb-false, ltb-true, ne_eqb}
 use Rattle.std.proofs.lemmas.List.{take-take, take_all}
 use Rattle.std.proofs.lemmas.List.Filters.{length-filter_more}
-use Rattle.std.proofs.lemmas.List.Elements.{All-contains}
+use Rattle.std.proofs.lemmas.List.Elements.{All-contains, All-from_get_or}
 use Rattle.std.proofs.lemmas.List.Sums.{sum_by-le, sum_by_more}
+use Rattle.at_base.specs.declared.decision.Decision.{Decision}
 use Rattle.at_ledger.specs.Account.{no_account, rounds_room, rounds_room_of}
 use Rattle.at_ledger.specs.Book.{BookTerms, account_of, log_room_of}
+use Rattle.at_ledger.specs.Call.{TargetPair}
 use Rattle.at_board.proofs.CountLaws.{count_of-take_more_own, count_of-take_mono, position-below_from_count}
 use Rattle.at_board.proofs.FrontLaws.{get_or-IsFront}
 use Rattle.at_board.proofs.RoomLaws.{IsNextAtMost-IsHistory}
@@ -20,7 +22,7 @@ use Rattle.at_board.specs.declared.publication.Publication.{Publication}
 use Rattle.at_board.specs.declared.view.SeenDecision.{SeenDecision}
 use Rattle.at_board.specs.declared.view.View.{View}
 use Rattle.at_board.specs.BoardState.{publication_at}
-use Rattle.at_board.specs.Conditions.{MayEnter}
+use Rattle.at_board.specs.Conditions.{KnowsRound, MayEnter}
 use Rattle.at_board.specs.Entries.{is_own, is_round_on}
 use Rattle.at_board.specs.Fronts.{place, prefix_of}
 use Rattle.at_board.specs.Publications.{count_of, no_publication, publications_of}
@@ -249,17 +251,27 @@ count_of-round_room b xs x c r history view sound room =
     ] in
     omega (arith, history.own_room p, count_of-room b xs p c history each, ap one_if (lt-ltb c n sound.account_in))
 
+-- an account has room for a round that a seat knows
+round-KnowsRound : (b : BookTerms) (v : View) (a r : ℕ) (d : Decision) (targets : List TargetPair) → v.book ≡ b → IsHistory b v.seen → SeesInRange v
+    → KnowsRound v a r d targets → r < rounds_room b.request_room (account_of b a)
+round-KnowsRound b v a r d targets book history sees (inl (decided, named)) =
+    let decision : SeenDecision = record { account = a; round = r; decision = d } in
+    (subst (λ (t : BookTerms). DecisionInRange t decision) book (All-contains (DecisionInRange v.book) v.decisions decision sees.decisions decided)).room
+round-KnowsRound b v a r d targets book history sees (inr (x, seen, says)) =
+    let P : Publication → Type 0 = λ y. IsShownDecision b v.seen y.entry in
+    let law : IsShownDecision b v.seen (Round a r d targets) =
+    subst (IsShownDecision b v.seen) says (All-contains P v.seen x (All-from_get_or P v.seen no_publication history.decisions) seen) in
+    law.room
+
 -- and for each record that may come next
 count_of-MayEnter : (b : BookTerms) (v : View) (p : ℕ) (view : List ℕ) (e : Entry) → v.book ≡ b → IsHistory b v.seen → SeesInRange v → p ≡ v.first
     → HasView b v.seen (published p view e) → MayEnter b v (prefix_of view v.seen) e → count_of v.first v.seen < log_room_of b v.first
 count_of-MayEnter b v p view (Own from targets) book history sees process has law = count_of-own_room b v.seen v.first history law.1
 count_of-MayEnter b v p view (Round a r d targets) book history sees process has law =
     let x : Publication = published p view (Round a r d targets) in
-    let decision : SeenDecision = record { account = a; round = r; decision = d } in
     let sound : IsSoundRound b p (prefix_of view v.seen) a r = subst (λ t. IsSoundRound b t (prefix_of view v.seen) a r) (sym process) law.0 in
-    let room = (subst (λ (t : BookTerms). DecisionInRange t decision) book
-    (All-contains (DecisionInRange v.book) v.decisions decision sees.decisions law.1)).room in
-    subst (λ t. count_of t v.seen < log_room_of b t) process (count_of-round_room b v.seen x a r history has sound room)
+    subst (λ t. count_of t v.seen < log_room_of b t) process
+    (count_of-round_room b v.seen x a r history has sound (round-KnowsRound b v a r d targets book history sees law.1))
 
 -- so the log of a seat's process has room for what the seat may publish
 pub published-MayEnter : (b : BookTerms) (v : View) (x : Publication) (process published : ℕ) → v.book ≡ b → IsSeat v process published → SeesInRange v

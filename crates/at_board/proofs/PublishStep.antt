@@ -27,7 +27,7 @@ IsForm-MayPublish : (b : BookTerms) (words : List ℕ) (views : List View) (id :
     → get_elem? views id ≡ some v → MayPublish b v x → IsForm x.entry
 IsForm-MayPublish b words views id v x ruled begun found may =
     IsForm-Sound b ruled.state v.first (prefix_of x.view v.seen) x.entry begun ruled.sound
-    (IsSoundEntry-MayEnter b words ruled.state v (prefix_of x.view v.seen) x.entry (ruled.knows id v found) may.entry)
+    (IsSoundEntry-MayEnter b words ruled.state v (prefix_of x.view v.seen) x.entry ruled.sound (ruled.knows id v found) may.entry)
 
 -- the stored words are those of one record
 same_record : (b : BookTerms) (words : List ℕ) (views : List View) (id : ℕ) (v : View) (x y : Publication) → Ruled b words views → IsBegun b

@@ -3,13 +3,15 @@ use Rattle.std.proofs.Common.{◌≡◌, ◌↔◌, ℕ, ◌<◌, ◌≤◌, ◌
 use Rattle.std.specs.List.{All, Contains, list_any}
 use Rattle.std.proofs.lemmas.Bool.{and_from, and_parts, cases_Bool, cases_eq, cases_lt, eq-eqb, eqb-true, ne_eqb, or_left, or_right}
 use Rattle.std.proofs.lemmas.List.{get_or_append_left, get_or_push, length_push, take-append-le, take_at}
+use Rattle.std.proofs.lemmas.List.Elements.{All-contains}
 use Rattle.std.proofs.lemmas.List.Folds.{list_any-append}
 use Rattle.std.proofs.lemmas.List.Sums.{length-filter, sum_by-append, sum_by-le-sum_by, sum_by_push}
 use Rattle.at_base.specs.declared.decision.Decision.{Decision}
 use Rattle.at_ledger.specs.Book.{BookTerms}
-use Rattle.at_ledger.specs.Call.{amount_of}
+use Rattle.at_ledger.specs.Call.{TargetPair, amount_of}
 use Rattle.at_board.proofs.CountLaws.{count_of-append}
 use Rattle.at_board.proofs.FrontLaws.{ArePublishedBy-IsPrefix, IsFront-IsPrefix, place-IsFront-le, prefix_of-IsPrefix}
+use Rattle.at_board.proofs.RecordLaws.{each_record}
 use Rattle.at_board.proofs.RoundLaws.{one_if}
 use Rattle.at_board.proofs.RunRules.{HasRuns-Sound}
 use Rattle.at_board.proofs.SoundRounds.{ArePublishedBy-HasRuns, place-view-le}
@@ -23,12 +25,12 @@ use Rattle.at_board.specs.declared.view.SeenRequest.{SeenRequest}
 use Rattle.at_board.specs.declared.view.View.{View}
 use Rattle.at_board.specs.Balances.{IsCovered}
 use Rattle.at_board.specs.BoardState.{BoardState, decision_at, publication_at, request_at}
-use Rattle.at_board.specs.Conditions.{MayEnter, MayPublish}
+use Rattle.at_board.specs.Conditions.{KnowsRound, MayEnter, MayPublish}
 use Rattle.at_board.specs.Entries.{is_own, is_round}
 use Rattle.at_board.specs.Fronts.{place, prefix_of}
 use Rattle.at_board.specs.Publications.{IsPrefix, count_of, no_publication, publications_of}
 use Rattle.at_board.specs.Rounds.{is_settled, owns_of, rounds}
-use Rattle.at_board.specs.Sound.{HasView, IsHeld, IsPublished, IsSoundDecision, IsSoundEntry, IsSoundRequest, Sound}
+use Rattle.at_board.specs.Sound.{HasView, IsDecidedSo, IsHeld, IsPublished, IsSoundDecision, IsSoundEntry, IsSoundRequest, Sound}
 use Rattle.at_board.specs.Steps.{gives_up, held_after}
 use Rattle.at_board.specs.Views.{IsAnnounced, IsDecided, Knows}
 
@@ -61,21 +63,35 @@ seen_decision s ds x all (k, within, same) = subst (IsDecided s) same (all k x w
 pub seen_request : (s : BoardState) (rs : List SeenRequest) (x : SeenRequest) → All (IsAnnounced s) rs → Contains rs x → IsAnnounced s x
 seen_request s rs x all (k, within, same) = subst (IsAnnounced s) same (all k x within)
 
+-- so is each record in its list
+record-seen : (b : BookTerms) (s : BoardState) (xs : List Publication) (x : Publication) → Sound b s → IsPrefix xs s.published → Contains xs x
+    → IsSoundEntry b s x.process (prefix_of x.view s.published) x.entry
+record-seen b s xs x sound before sees =
+    let P : Publication → Type 0 = λ y. IsSoundEntry b s y.process (prefix_of y.view s.published) y.entry in
+    All-contains P xs x (each_record P xs s.published before sound.entries) sees
+
+-- what the seat knows of a round is what the board has decided
+IsDecidedSo-KnowsRound : (b : BookTerms) (words : List ℕ) (s : BoardState) (v : View) (a r : ℕ) (d : Decision) (targets : List TargetPair) → Sound b s
+    → Knows b words s v → KnowsRound v a r d targets → IsDecidedSo s a r d targets
+IsDecidedSo-KnowsRound b words s v a r d targets sound knows (inl (sees, named)) =
+    let decided = seen_decision s v.decisions (record { account = a; round = r; decision = d }) knows.decisions sees in
+    let announced = seen_request s v.requests (record { account = a; slot = d.slot; number = d.number; request = named.0 }) knows.requests named.1 in
+    record {
+      decided = decided.0;
+      decision = decided.1;
+      same_targets = ap (λ (r : Request). r.targets) announced.1 ∙ named.2;
+    }
+IsDecidedSo-KnowsRound b words s v a r d targets sound knows (inr (x, sees, says)) =
+    let law : IsSoundEntry b s x.process (prefix_of x.view s.published) (Round a r d targets) =
+    subst (IsSoundEntry b s x.process (prefix_of x.view s.published)) says (record-seen b s v.seen x sound knows.seen sees) in
+    law.1
+
 -- what the seat may enter keeps the laws of the board
-pub IsSoundEntry-MayEnter : (b : BookTerms) (words : List ℕ) (s : BoardState) (v : View) (prefix : List Publication) (e : Entry)
+pub IsSoundEntry-MayEnter : (b : BookTerms) (words : List ℕ) (s : BoardState) (v : View) (prefix : List Publication) (e : Entry) → Sound b s
     → Knows b words s v → MayEnter b v prefix e → IsSoundEntry b s v.first prefix e
-IsSoundEntry-MayEnter b words s v prefix (Own from targets) knows may = may.0
-IsSoundEntry-MayEnter b words s v prefix (Round a r d targets) knows may =
-    let decided = seen_decision s v.decisions (record { account = a; round = r; decision = d }) knows.decisions may.1 in
-    let named = may.2 in
-    let announced = seen_request s v.requests (record { account = a; slot = d.slot; number = d.number; request = named.0 }) knows.requests named.1 in (
-      may.0,
-      record {
-        decided = decided.0;
-        decision = decided.1;
-        same_targets = ap (λ (r : Request). r.targets) announced.1 ∙ named.2;
-      },
-    )
+IsSoundEntry-MayEnter b words s v prefix (Own from targets) sound knows may = may.0
+IsSoundEntry-MayEnter b words s v prefix (Round a r d targets) sound knows may =
+    (may.0, IsDecidedSo-KnowsRound b words s v a r d targets sound knows may.1)
 
 -- the laws of entries read the cells and rows alone
 IsSoundEntry-pushed : (b : BookTerms) (s : BoardState) (k : ℕ) (x : Publication) (p : ℕ) (prefix : List Publication) (e : Entry)
@@ -248,7 +264,7 @@ Sound-pushed b words s v x sound knows push may =
     let xs = s.published in
     let law : IsSoundEntry b s x.process (prefix_of x.view v.seen) x.entry =
     subst (λ p. IsSoundEntry b s p (prefix_of x.view v.seen) x.entry) (sym may.process)
-    (IsSoundEntry-MayEnter b words s v (prefix_of x.view v.seen) x.entry knows may.entry) in
+    (IsSoundEntry-MayEnter b words s v (prefix_of x.view v.seen) x.entry sound knows may.entry) in
     record {
       views = push_all (HasView b) xs x sound.views push.view;
       entries = push_entries (λ (y : Publication) (prefix : List Publication). IsSoundEntry b (pushed s v.first x) y.process prefix y.entry) xs x

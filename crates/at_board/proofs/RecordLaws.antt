@@ -1,10 +1,11 @@
 -- The records that a view has seen, and their words.
-use Rattle.std.proofs.Common.{◌≡◌, ℕ, ◌<◌, List, get_or, sym, ap, subst, ◌∙◌, arith}
+use Rattle.std.proofs.Common.{◌≡◌, ℕ, ◌<◌, List, length, get_or, sym, ap, subst, ◌∙◌, arith}
 use Rattle.std.specs.List.{All, Contains}
 use Rattle.std.proofs.lemmas.List.{get_or_append_left}
+use Rattle.std.proofs.lemmas.List.Elements.{All-from_get_or}
 use Rattle.at_ledger.specs.Book.{BookTerms}
 use Rattle.at_board.proofs.CountLaws.{position_of, publications_of-append}
-use Rattle.at_board.proofs.FrontLaws.{IsPrefix-count_of}
+use Rattle.at_board.proofs.FrontLaws.{IsPrefix-count_of, IsPrefix-length}
 use Rattle.at_board.specs.declared.publication.Publication.{Publication}
 use Rattle.at_board.specs.declared.view.View.{View}
 use Rattle.at_board.specs.BoardState.{BoardState, publication_at}
@@ -21,6 +22,15 @@ use Rattle.at_board.specs.Words.{record_words}
 -- what holds of all elements holds of one
 pub All-Contains : {X : Type 0} (P : X → Type 0) (xs : List X) (x : X) → All P xs → Contains xs x → P x
 All-Contains P xs x all (k, within, same) = subst P same (all k x within)
+
+-- each record of a prefix is the board's
+pub each_record : (P : Publication → Type 0) (xs all : List Publication) → IsPrefix xs all
+    → ((m : ℕ) → m < length all → P (publication_at all m)) → All P xs
+each_record P xs all before each =
+    All-from_get_or P xs no_publication (λ m within.
+    let here : publication_at all m ≡ publication_at xs m =
+    ap (λ t. publication_at t m) before.1 ∙ get_or_append_left xs before.0 no_publication m within in
+    subst P here (each m (omega (arith, within, IsPrefix-length xs all before))))
 
 -- the publications of a history are of processes of the book
 process-IsHistory : (b : BookTerms) (list : List Publication) (p i : ℕ) → IsHistory b list → i < count_of p list → p < b.processes

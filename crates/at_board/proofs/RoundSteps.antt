@@ -84,7 +84,14 @@ Decides-found b words views id v a round d r ruled begun found part here may wit
         place = law.place;
         next = law.next;
         known = λ f sees. sym (seen-decision s v b words a round f knows sees).1;
-        won = inl refl;
+        met = record {
+          state = s;
+          sound = ruled.sound;
+          published = refl;
+          within = omega (arith, within);
+          undecided = λ e. absurd (omega (arith, e, within));
+          stood = λ _. (refl, refl);
+        };
         more = knows.seen;
         own = sym own.published;
         history = IsHistory-Sound b words s ruled.shown ruled.sound begun;
@@ -139,7 +146,14 @@ Decides-proposed b words views id v a round d r ruled begun found part here may 
         place = proposed.law.place;
         next = proposed.law.next;
         known = λ f sees. absurd (omega (arith, past, (seen-decision s v b words a round f knows sees).0));
-        won = inr (refl, refl);
+        met = record {
+          state = s;
+          sound = ruled.sound;
+          published = refl;
+          within = proposed.within;
+          undecided = λ _. (refl, refl);
+          stood = λ e. absurd (omega (arith, e, past));
+        };
         more = knows.seen;
         own = sym own.published;
         history = IsHistory-Sound b after s' shown sound begun;

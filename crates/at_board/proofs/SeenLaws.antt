@@ -1,15 +1,13 @@
 -- What a view has seen agrees, since one sound board has it all.
-use Rattle.std.proofs.Common.{◌≡◌, ℕ, ◌<◌, ◌≤◌, List, length, set, sym, ap, subst, ◌∙◌, arith}
-use Rattle.std.specs.List.{All}
+use Rattle.std.proofs.Common.{◌≡◌, ℕ, ◌<◌, ◌≤◌, List, length, set, sym, ap, subst, ◌∙◌}
 use lib.ListN.{get_elem?}
 use mathlib.Core.Option.{some}
-use Rattle.std.proofs.lemmas.List.{get_or_append_left}
-use Rattle.std.proofs.lemmas.List.Elements.{All-contains, All-from_get_or}
+use Rattle.std.proofs.lemmas.List.Elements.{All-contains}
 use Rattle.at_base.specs.declared.decision.Decision.{Decision}
 use Rattle.atomic_table.proofs.Lists.{set_here}
 use Rattle.at_ledger.specs.Book.{BookTerms}
 use Rattle.at_board.proofs.DecisionLaws.{same_round}
-use Rattle.at_board.proofs.FrontLaws.{IsPrefix-length}
+use Rattle.at_board.proofs.RecordLaws.{each_record}
 use Rattle.at_board.proofs.SeatLaws.{within_found}
 use Rattle.at_board.specs.declared.publication.Entry.{Entry}
 use Rattle.at_board.specs.declared.publication.Entry.TheVariants.{Own, Round}
@@ -18,7 +16,6 @@ use Rattle.at_board.specs.declared.request.Request.{Request}
 use Rattle.at_board.specs.declared.view.View.{View}
 use Rattle.at_board.specs.BoardState.{BoardState, decision_at, publication_at, request_at}
 use Rattle.at_board.specs.Fronts.{prefix_of}
-use Rattle.at_board.specs.Publications.{IsPrefix, no_publication}
 use Rattle.at_board.specs.Seated.{Ruled}
 use Rattle.at_board.specs.Seen.{AgreesOnDecision, AgreesOnEntry, AgreesWithSeen}
 use Rattle.at_board.specs.Sound.{IsSoundDecision, IsSoundEntry, Sound}
@@ -57,15 +54,6 @@ AgreesOnEntry-Knows b words s v p prefix (Round a round d targets) sound knows l
   AgreesOnDecision-Knows b words s v a round d sound knows law.1.decided law.1.decision,
   λ r sees. sym (ap (λ (q : Request). q.targets) (request-seen b words s v a d.slot d.number r knows sees)) ∙ law.1.same_targets,
 )
-
--- each record of a prefix is the board's
-each_record : (P : Publication → Type 0) (xs all : List Publication) → IsPrefix xs all
-    → ((m : ℕ) → m < length all → P (publication_at all m)) → All P xs
-each_record P xs all before each =
-    All-from_get_or P xs no_publication (λ m within.
-    let here : publication_at all m ≡ publication_at xs m =
-    ap (λ t. publication_at t m) before.1 ∙ get_or_append_left xs before.0 no_publication m within in
-    subst P here (each m (omega (arith, within, IsPrefix-length xs all before))))
 
 pub AgreesWithSeen-Knows : (b : BookTerms) (words : List ℕ) (s : BoardState) (v : View) → Sound b s → Knows b words s v → AgreesWithSeen v
 AgreesWithSeen-Knows b words s v sound knows = record {

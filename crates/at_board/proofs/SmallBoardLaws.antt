@@ -230,7 +230,9 @@ may_publish_round b v w slot d known has won word told =
           owner = ap is_some has.owner;
           next = ap (λ k. rounds 0 (take k w.seen)) (place-zeros n) ∙ ap (count_by (λ y. is_round_on 0 y.entry)) firsts-nil;
         }),
-        subst (λ (t : View). SeesDecision t 0 0 (first_decision slot)) (sym told.same) won.decision,
-        (payment, subst (λ (t : View). SeesRequest t 0 slot 0 payment) (sym told.same) won.request, refl),
+        inl (
+          subst (λ (t : View). SeesDecision t 0 0 (first_decision slot)) (sym told.same) won.decision,
+          (payment, subst (λ (t : View). SeesRequest t 0 slot 0 payment) (sym told.same) won.request, refl),
+        ),
       );
     }

@@ -1,9 +1,9 @@
 -- What each kind of step asks of a seat, by what it has seen.
-use Rattle.std.specs.Prelude.{◌≡◌, ℕ, ◌+◌, ◌<◌, ◌≤◌, ◌↔◌, true, false, List, length, take, None}
+use Rattle.std.specs.Prelude.{◌≡◌, ℕ, ◌+◌, ◌<◌, ◌≤◌, ◌↔◌, ◌⊎◌, true, false, List, length, take, Contains, None}
 use Rattle.at_base.specs.Decision.{InRange}
 use Rattle.at_base.specs.declared.decision.Decision.{Decision}
 use Rattle.at_ledger.specs.Book.{BookTerms, log_room_of}
-use Rattle.at_ledger.specs.Call.{amount_of}
+use Rattle.at_ledger.specs.Call.{TargetPair, amount_of}
 use Rattle.at_board.specs.declared.publication.Entry.{Entry}
 use Rattle.at_board.specs.declared.publication.Entry.TheVariants.{Own, Round}
 use Rattle.at_board.specs.declared.publication.Publication.{Publication}
@@ -23,12 +23,19 @@ pub record MayStoreWord (b : BookTerms) (v : View) (j : ℕ) : Type 0 where
   pub room : (own_part v).published < log_room_of b v.first
   pub word : j < record_width b
 
--- the entry may come next: an own record has room and is covered, and a round's says what the seat has seen decided
+-- the seat knows what a round decided, and for which targets: it has seen the decision and the request that this names, or
+-- a record that says so
+abbrev pub KnowsRound : View → ℕ → ℕ → Decision → List TargetPair → Type 0
+KnowsRound v account round decision targets =
+    (SeesDecision v account round decision
+    × ((r : Request) × SeesRequest v account decision.slot decision.number r × (r.targets ≡ targets)))
+    ⊎ ((x : Publication) × Contains v.seen x × (x.entry ≡ Round account round decision targets))
+
+-- the entry may come next: an own record has room and is covered, and a round's says what the seat knows of the round
 abbrev pub MayEnter : BookTerms → View → List Publication → Entry → Type 0
 MayEnter b v prefix (Own from targets) = IsSoundOwn b v.first prefix from targets × (owns_of v.first v.seen < b.own_room)
 MayEnter b v prefix (Round account round decision targets) =
-    IsSoundRound b v.first prefix account round × SeesDecision v account round decision
-    × ((r : Request) × SeesRequest v account decision.slot decision.number r × (r.targets ≡ targets))
+    IsSoundRound b v.first prefix account round × KnowsRound v account round decision targets
 
 -- the seat may publish this record: its words are stored, and it keeps the laws after all that the seat has seen
 pub record MayPublish (b : BookTerms) (v : View) (x : Publication) : Type 0 where

@@ -20,6 +20,7 @@ use Rattle.at_board.specs.Conditions.{MayEnter}
 use Rattle.at_board.specs.Entries.{is_round_on, targets_of}
 use Rattle.at_board.specs.Forms.{IsForm}
 use Rattle.at_board.specs.Fronts.{place, places_max, prefix_of}
+use Rattle.at_board.specs.Publications.{no_publication}
 use Rattle.at_board.specs.Rounds.{firsts, repeats, rounds, with_first}
 use Rattle.at_board.specs.Seen.{DecisionInRange, RequestInRange, SeesInRange}
 use Rattle.at_board.specs.ShownRounds.{IsShownDecision}
@@ -59,27 +60,6 @@ rounds-le-length : (a : ℕ) (xs : List Publication) → rounds a xs ≤ length 
 unfolding firsts
 rounds-le-length a xs = omega (arith, count_by-le-length (λ (x : Publication). is_round_on a x.entry) (firsts xs), length-fold xs [])
 
--- an entry that may come next
-IsForm-MayEnter : (b : BookTerms) (v : View) (prefix : List Publication) (e : Entry) → IsBegun b → v.book ≡ b → length prefix ≤ places_max
-    → SeesInRange v → MayEnter b v prefix e → IsForm e
-IsForm-MayEnter b v prefix (Own from targets) begun book few sees law =
-    (omega (arith, law.0.source_in, begun.few_accounts), ArePacked-AreTargets b targets begun law.0.targets_in)
-IsForm-MayEnter b v prefix (Round a r d targets) begun book few sees law =
-    let decision : SeenDecision = record { account = a; round = r; decision = d } in
-    let request : SeenRequest = record { account = a; slot = d.slot; number = d.number; request = law.2.0 } in
-    let asked = (All-Contains (RequestInRange v.book) v.requests request sees.requests law.2.1).targets in (
-      omega (arith, law.0.account_in, begun.few_accounts),
-      omega (arith, law.0.next, rounds-le-length a prefix, few),
-      (All-Contains (DecisionInRange v.book) v.decisions decision sees.decisions law.1).range,
-      ArePacked-AreTargets b targets begun (subst (AreTargets b) law.2.2 (subst (λ (t : BookTerms). AreTargets t law.2.0.targets) book asked)),
-    )
-
-pub IsForm-MayAppend : (b : BookTerms) (v : View) (x : Record) → IsBegun b → v.book ≡ b → IsHistory b v.seen → SeesInRange v → MayAppend b v x
-    → IsForm x.entry
-IsForm-MayAppend b v x begun book history sees may =
-    IsForm-MayEnter b v (prefix_of x.view v.seen) x.entry begun book
-    (omega (arith, length-take (place x.view) v.seen, history.few)) sees may.entry
-
 -- an entry of a history
 IsForm-IsShownEntry : (b : BookTerms) (p : ℕ) (prefix list : List Publication) (e : Entry) → IsBegun b → IsShownEntry b p prefix e
     → IsShownDecision b list e → IsForm e
@@ -97,3 +77,27 @@ pub IsForm-IsHistory : (b : BookTerms) (list : List Publication) (m : ℕ) → I
 IsForm-IsHistory b list m begun history within =
     let x : Publication = publication_at list m in
     IsForm-IsShownEntry b x.process (prefix_of x.view list) list x.entry begun (history.entries m within) (history.decisions m within)
+
+-- an entry that may come next
+IsForm-MayEnter : (b : BookTerms) (v : View) (prefix : List Publication) (e : Entry) → IsBegun b → v.book ≡ b → IsHistory b v.seen
+    → length prefix ≤ places_max → SeesInRange v → MayEnter b v prefix e → IsForm e
+IsForm-MayEnter b v prefix (Own from targets) begun book history few sees law =
+    (omega (arith, law.0.source_in, begun.few_accounts), ArePacked-AreTargets b targets begun law.0.targets_in)
+IsForm-MayEnter b v prefix (Round a r d targets) begun book history few sees (sound, inl (decided, named)) =
+    let decision : SeenDecision = record { account = a; round = r; decision = d } in
+    let request : SeenRequest = record { account = a; slot = d.slot; number = d.number; request = named.0 } in
+    let asked = (All-Contains (RequestInRange v.book) v.requests request sees.requests named.1).targets in (
+      omega (arith, sound.account_in, begun.few_accounts),
+      omega (arith, sound.next, rounds-le-length a prefix, few),
+      (All-Contains (DecisionInRange v.book) v.decisions decision sees.decisions decided).range,
+      ArePacked-AreTargets b targets begun (subst (AreTargets b) named.2 (subst (λ (t : BookTerms). AreTargets t named.0.targets) book asked)),
+    )
+IsForm-MayEnter b v prefix (Round a r d targets) begun book history few sees (sound, inr (x, seen, says)) =
+    let P : Publication → Type 0 = λ y. IsForm y.entry in
+    subst IsForm says (All-Contains P v.seen x (All-from_get_or P v.seen no_publication (λ m within. IsForm-IsHistory b v.seen m begun history within)) seen)
+
+pub IsForm-MayAppend : (b : BookTerms) (v : View) (x : Record) → IsBegun b → v.book ≡ b → IsHistory b v.seen → SeesInRange v → MayAppend b v x
+    → IsForm x.entry
+IsForm-MayAppend b v x begun book history sees may =
+    IsForm-MayEnter b v (prefix_of x.view v.seen) x.entry begun book history
+    (omega (arith, length-take (place x.view) v.seen, history.few)) sees may.entry

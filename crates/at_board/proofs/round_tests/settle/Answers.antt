@@ -4,6 +4,7 @@ use Rattle.std.proofs.lemmas.List.Elements.{Contains-append_right}
 use Rattle.at_base.specs.Decision.{InRange, word_of}
 use Rattle.at_base.specs.declared.decision.Decision.{Decision}
 use Rattle.at_ledger.specs.Book.{BookTerms}
+use Rattle.at_board.proofs.DecideStep.{held-Decides}
 use Rattle.at_board.proofs.OwnRequestLaws.{own_part-with_part}
 use Rattle.at_board.specs.declared.view.Part.{Part}
 use Rattle.at_board.specs.declared.view.SeenDecision.{SeenDecision}
@@ -44,7 +45,7 @@ has_won b v u w slot word new asked one sees told same =
     record {
       request = subst (λ (t : View). SeesRequest t 0 slot 0 payment) (sym told.same) sees;
       decision = subst (SeesDecision w 0 0) same seen;
-      held = elim told.won as (λ _. HasWonHeld w) [
+      held = elim (held-Decides b u w 0 0 (first_decision slot) word told) as (λ _. HasWonHeld w) [
         | inl none ↦ inl (ap (λ (p : Part). p.held) part ∙ none)
         | inr (some, won) ↦ inr (ap (λ (p : Part). p.held) part ∙ some)
       ];
