@@ -1,36 +1,31 @@
-use Rattle.std.proofs.Common.{◌+◌, ◌-◌, ◌<◌, length, ap, ◌∙◌, arith}
-use Rattle.at_fold.specs.Sums.{AccountSums, TotalSums}
-use Rattle.at_fold.proofs.FrontLaws.{IsBalanced-front, row_read}
+use Rattle.std.proofs.Common.{◌<◌, List, length, ap, subst, sym, ◌∙◌, arith}
+use Rattle.at_ledger.specs.Book.{BookTerms}
+use Rattle.at_board.specs.declared.publication.Publication.{Publication}
+use Rattle.at_board.specs.Balances.{balance_after}
+use Rattle.at_board.specs.Fronts.{prefix_of}
+use Rattle.at_fold.specs.HasCounted.{CountsAccount, CountsFront}
+use Rattle.at_fold.specs.Sums.{TotalSums}
+use Rattle.at_fold.proofs.FrontLaws.{IsBalanced, IsBalanced-front, row_read}
+use Rattle.at_fold.proofs.totals.Totals.balance.Goals.{After-index}
 use Rattle.at_fold.proofs.totals.Totals.balance.Goals as goal
 
+-- the sums that were read give the balance
+balanced : (c : After-index) (b : BookTerms) (seen : List Publication) → CountsAccount c.args.self.now b seen c.args.account → CountsFront c.args.self.now b seen
+    → IsBalanced c.index.result.now (balance_after b (prefix_of c.args.self.now.upto seen) c.args.account)
+balanced c b seen account front =
+    let t : TotalSums = c.args.self.now in
+    let within : c.args.account < length t.accounts = omega (arith, account.counted.sums.sized, account.account_in) in
+    let row = row_read c.self.inside.accounts.items t.accounts c.args.account c.index.result.now c.index.ensures (ap (λ (t : TotalSums). t.accounts) c.self.view_is) within in
+    subst (λ r. IsBalanced r (balance_after b (prefix_of t.upto seen) c.args.account)) (sym row) (IsBalanced-front t b seen c.args.account account front)
+
 pub balance-requires-clause-room : goal.balance-requires-clause-room
-balance-requires-clause-room c =
-    let known = IsBalanced-front c.args.self.now c.requires.0 c.requires.1 c.args.account c.requires.2 c.requires.3 in
-    let within : c.args.account < length c.args.self.now.accounts = omega (arith, c.requires.2.counted.sums.sized, c.requires.2.account_in) in
-    let row = row_read c.self.inside.accounts.items c.args.self.now.accounts c.args.account c.index.result.now c.index.ensures
-    (ap (λ (t : TotalSums). t.accounts) c.self.view_is) within in
-    rw row known.room
+balance-requires-clause-room c = (balanced c c.requires.0 c.requires.1 c.requires.2 c.requires.3).room
 
 pub balance-requires-clause-covered : goal.balance-requires-clause-covered
-balance-requires-clause-covered c =
-    let known = IsBalanced-front c.args.self.now c.requires.0 c.requires.1 c.args.account c.requires.2 c.requires.3 in
-    let within : c.args.account < length c.args.self.now.accounts = omega (arith, c.requires.2.counted.sums.sized, c.requires.2.account_in) in
-    let row = row_read c.self.inside.accounts.items c.args.self.now.accounts c.args.account c.index.result.now c.index.ensures
-    (ap (λ (t : TotalSums). t.accounts) c.self.view_is) within in
-    rw row known.covered
+balance-requires-clause-covered c = (balanced c c.requires.0 c.requires.1 c.requires.2 c.requires.3).covered
 
 pub balance-requires-clause-fits : goal.balance-requires-clause-fits
-balance-requires-clause-fits c =
-    let known = IsBalanced-front c.args.self.now c.requires.0 c.requires.1 c.args.account c.requires.2 c.requires.3 in
-    let within : c.args.account < length c.args.self.now.accounts = omega (arith, c.requires.2.counted.sums.sized, c.requires.2.account_in) in
-    let row = row_read c.self.inside.accounts.items c.args.self.now.accounts c.args.account c.index.result.now c.index.ensures
-    (ap (λ (t : TotalSums). t.accounts) c.self.view_is) within in
-    rw row known.fits
+balance-requires-clause-fits c = (balanced c c.requires.0 c.requires.1 c.requires.2 c.requires.3).fits
 
 pub returns : goal.returns
-returns c = λ b seen account front.
-    let known = IsBalanced-front c.args.self.now b seen c.args.account account front in
-    let within : c.args.account < length c.args.self.now.accounts = omega (arith, account.counted.sums.sized, account.account_in) in
-    let row = row_read c.self.inside.accounts.items c.args.self.now.accounts c.args.account c.index.result.now c.index.ensures
-    (ap (λ (t : TotalSums). t.accounts) c.self.view_is) within in
-    c.balance.ensures ∙ (ap (λ (r : AccountSums). r.opening + r.credits - r.debits) row ∙ known.is)
+returns c = λ b seen account front. c.balance.ensures ∙ (balanced (goal.at.returns c).After-index b seen account front).is

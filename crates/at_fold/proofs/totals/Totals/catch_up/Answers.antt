@@ -67,7 +67,4 @@ returns-clause-upto g c =
     (λ p within. c.loop-p.invariant.done p (omega (arith, within, c.loop-p.invariant.sized, c.loop-p-test.false, c.len-p-end.ensures.length)))
 
 pub returns-clause-steps : goal.returns-clause-steps
-returns-clause-steps g c =
-    let upto = same_number_lists c.loop-p.self.upto c.args.counts.now c.loop-p.invariant.sized
-    (λ p within. c.loop-p.invariant.done p (omega (arith, within, c.loop-p.invariant.sized, c.loop-p-test.false, c.len-p-end.ensures.length))) in
-    omega (arith, c.loop-p.invariant.steps, ap (λ (l : List ℕ). sum l) upto)
+returns-clause-steps g c = omega (arith, c.loop-p.invariant.steps, ap (λ (l : List ℕ). sum l) (returns-clause-upto g c))
