@@ -31,7 +31,7 @@ cell_place-place-requires g c =
 told : (g : given.Over) (c : After-compare_exchange-found g) (d : Decision) (r : Request)
     → MayPropose c.args.self.now.book c.args.seat.now.view c.args.account c.args.round d r → c.args.proposal ≡ word_of d
     → Decides c.args.self.now.book c.args.seat.now.view c.compare_exchange-found.new.seat.me.0 c.args.account c.args.round d
-      (word_after c.compare_exchange-found.result c.args.proposal)
+    (word_after c.compare_exchange-found.result c.args.proposal)
 told g c d r may word =
     let before : After-process-process g = (goal.at.After-compare_exchange-found g c).After-process-process in
     Decides-played c.args.self.now.book c.self.inside.table.shared.table_id.slots c.seat.inside.seat.me c.compare_exchange-found.new.seat.me c.args.seat.now.view
