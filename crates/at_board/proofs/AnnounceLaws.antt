@@ -237,7 +237,7 @@ Announces-Ruled b words views id v a slot r ruled begun found part may =
       },
       record {
         more = knows.seen;
-        all = record { state = t; sound = sound; published = refl };
+        all = record { state = t; sound = sound; published = refl; requests = knows_own.requests; decisions = knows_own.decisions };
         row = announced_rows-here s.rows a slot r ∙ ap (λ l. l ++ r ∷ []) (sym asking.announced);
         own = sym own.published;
         history = IsHistory-Sound b after t shown sound begun;

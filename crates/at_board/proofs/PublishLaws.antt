@@ -249,7 +249,7 @@ Publishes-Ruled b words views id v x ruled begun found part room may =
       record {
         between = knows.seen.0;
         seen = ap (λ ys. ys ++ x ∷ []) knows.seen.1;
-        all = record { state = s'; sound = sound; published = refl };
+        all = record { state = s'; sound = sound; published = refl; requests = mine.requests; decisions = mine.decisions };
         own = omega (arith, own.published, subst (λ t. count_of t all ≡ count_of t s.published + 1) may.process (count_of-push_own s.published x));
         history = IsHistory-Sound b after s' shown sound begun;
         agrees = AgreesWithSeen-Knows b after s' w sound mine;

@@ -88,6 +88,8 @@ Decides-found b words views id v a round d r ruled begun found part here may wit
           state = s;
           sound = ruled.sound;
           published = refl;
+          requests = knows.requests;
+          decisions = knows.decisions;
           within = omega (arith, within);
           undecided = λ e. absurd (omega (arith, e, within));
           stood = λ _. (refl, refl);
@@ -150,6 +152,8 @@ Decides-proposed b words views id v a round d r ruled begun found part here may 
           state = s;
           sound = ruled.sound;
           published = refl;
+          requests = knows.requests;
+          decisions = knows.decisions;
           within = proposed.within;
           undecided = λ _. (refl, refl);
           stood = λ e. absurd (omega (arith, e, past));

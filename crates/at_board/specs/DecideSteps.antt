@@ -1,5 +1,5 @@
 -- What a step on the cell of a round changes in the view of its seat, and what it tells.
-use Rattle.std.specs.Prelude.{◌≡◌, ℕ, ◌+◌, ◌<◌, ◌≤◌, ◌==◌, ◌++◌, List, [], ◌∷◌, length, take, slice_set, Option, Some, None, if◌then◌else◌}
+use Rattle.std.specs.Prelude.{◌≡◌, ℕ, ◌+◌, ◌<◌, ◌≤◌, ◌==◌, ◌++◌, List, [], ◌∷◌, length, take, slice_set, All, Option, Some, None, if◌then◌else◌}
 use Rattle.atomic_table.specs.Table.{Me, Step}
 use Rattle.at_base.specs.Decision.{InRange, word_of}
 use Rattle.at_base.specs.declared.decision.Decision.{Decision}
@@ -17,7 +17,7 @@ use Rattle.at_board.specs.Rounds.{rounds}
 use Rattle.at_board.specs.Seen.{AgreesWithSeen}
 use Rattle.at_board.specs.Sound.{Sound}
 use Rattle.at_board.specs.Steps.{IsHistory, with_part}
-use Rattle.at_board.specs.Views.{SeesDecision, asking_on, own_part}
+use Rattle.at_board.specs.Views.{IsAnnounced, IsDecided, SeesDecision, asking_on, own_part}
 
 -- what a cell has after an exchange from 0 for a proposal, where it had this before
 abbrev pub word_after : ℕ → ℕ → ℕ
@@ -36,20 +36,22 @@ abbrev pub with_decision : View → List Publication → ℕ → ℕ → Decisio
 with_decision v list a round d =
     record v { seen = list; decisions = v.decisions ++ record { account = a; round = round; decision = d } ∷ [] }
 
--- the board that an exchange on the cell of a round has met: sound, with just the publications that the seat has then seen.
--- Where the round was undecided there, it is decided as proposed, and the seat holds the cell; a decision that stood there
--- stays, and the seat holds none
-pub record MeetsCell (b : BookTerms) (after : View) (a round : ℕ) (d decision : Decision) (held : Option Cell) : Type 0 where
+-- the board that an exchange on the cell of a round has met: sound, with just the publications that the seat has then seen, and
+-- all the requests and decisions that it had seen before. Where the round was undecided there, it is decided as proposed, and
+-- the seat holds the cell; a decision that stood there stays, and the seat holds none
+pub record MeetsCell (b : BookTerms) (before after : View) (a round : ℕ) (d decision : Decision) (held : Option Cell) : Type 0 where
   pub state : BoardState
   pub sound : Sound b state
   pub published : state.published ≡ after.seen
+  pub requests : All (IsAnnounced state) before.requests
+  pub decisions : All (IsDecided state) before.decisions
   pub within : round ≤ length (state.cells a)
   pub undecided : length (state.cells a) ≡ round → (decision ≡ d) × (held ≡ Some (record { account = a; round = round }))
   pub stood : round < length (state.cells a) → (decision ≡ decision_at (state.cells a) round) × (held ≡ None)
 
--- an exchange on the cell of a round, which then has this word. It is the word of a decision, which is the proposal just
--- where the round was undecided. The seat has seen at least as many publications as the decision's place, where exactly
--- the rounds before this one stand
+-- an exchange on the cell of a round, which then has this word. It is the word of a decision: of the proposal where the round
+-- was undecided, and else of the one that stood. The seat has seen at least as many publications as the decision's place,
+-- where exactly the rounds before this one stand
 pub record Decides (b : BookTerms) (before after : View) (a round : ℕ) (d : Decision) (w : ℕ) : Type 0 where
   pub decision : Decision
   pub held : Option Cell
@@ -60,7 +62,7 @@ pub record Decides (b : BookTerms) (before after : View) (a round : ℕ) (d : De
   pub place : decision.place ≤ length after.seen
   pub next : rounds a (take decision.place after.seen) ≡ round
   pub known : (e : Decision) → SeesDecision before a round e → e ≡ decision
-  pub met : MeetsCell b after a round d decision held
+  pub met : MeetsCell b before after a round d decision held
   pub more : IsPrefix before.seen after.seen
   pub own : count_of before.first after.seen ≡ (own_part before).published
   pub history : IsHistory b after.seen

@@ -55,9 +55,10 @@ pub record Gathers (seats : List SeatView) (v : View) : Type 0 where
   pub requests : All (λ seat. All (Contains v.requests) seat.view.requests) seats
   pub decisions : All (λ seat. All (Contains v.decisions) seat.view.decisions) seats
 
--- the last state of a board: the records are its publications, it is sound, and no process holds a cell. The list that each
--- seat had seen is a prefix of what was published, its requests were announced and its decisions made. Each process published
--- as many records as its seat's part says, and its row on each account that it shares has the requests that this part announced
+-- the last state of a board: the records are its publications, of which each prefix is a run, it is sound, and no process holds
+-- a cell. The list that each seat had seen is a prefix of what was published, its requests were announced and its decisions
+-- made. Each process published as many records as its seat's part says, and its row on each account that it shares has the
+-- requests that this part announced
 pub record IsEnd (e : EndView) (seats : List SeatView) : Type 0 where
   pub state : BoardState
   pub records : (p : ℕ) → p < e.book.processes → records_of e p ≡ map record_words (publications_of p state.published)

@@ -1,5 +1,5 @@
 -- What a step changes in the view of its seat.
-use Rattle.std.specs.Prelude.{◌≡◌, ℕ, ◌+◌, ◌<◌, ◌≤◌, ◌==◌, ◌&&◌, ◌++◌, Bool, false, List, [], ◌∷◌, length, take, replicate, slice_set, Option, Some, None, if◌then◌else◌}
+use Rattle.std.specs.Prelude.{◌≡◌, ℕ, ◌+◌, ◌<◌, ◌≤◌, ◌==◌, ◌&&◌, ◌++◌, Bool, false, List, [], ◌∷◌, length, take, All, replicate, slice_set, Option, Some, None, if◌then◌else◌}
 use Rattle.at_base.specs.Decision.{InRange}
 use Rattle.at_ledger.specs.Book.{BookTerms, account_of, log_room_of}
 use Rattle.at_board.specs.declared.publication.Entry.{Entry}
@@ -17,7 +17,7 @@ use Rattle.at_board.specs.Rounds.{owns_of}
 use Rattle.at_board.specs.Seen.{AgreesWithSeen}
 use Rattle.at_board.specs.ShownRounds.{AgreeOnRound, IsShownDecision}
 use Rattle.at_board.specs.Sound.{AreTargets, HasView, IsSoundOwn, IsSoundRound, Sound}
-use Rattle.at_board.specs.Views.{loads_of, own_part}
+use Rattle.at_board.specs.Views.{IsAnnounced, IsDecided, loads_of, own_part}
 
 -- the view with this part in place of the seat's own
 abbrev pub with_part : View → Part → View
@@ -84,11 +84,13 @@ pub record LoadsLength (b : BookTerms) (before after : View) (p n : ℕ) : Type 
 abbrev pub StoresWord : View → View → ℕ → ℕ → Type 0
 StoresWord before after j w = after ≡ with_part before (with_word (own_part before) j w)
 
--- a sound board has published just what the view has seen
+-- a sound board has published just what the view has seen, announced its requests and made its decisions
 pub record SeesAll (b : BookTerms) (v : View) : Type 0 where
   pub state : BoardState
   pub sound : Sound b state
   pub published : state.published ≡ v.seen
+  pub requests : All (IsAnnounced state) v.requests
+  pub decisions : All (IsDecided state) v.decisions
 
 -- a publishing step: the seat has then seen all publications, its own at their end
 pub record Publishes (b : BookTerms) (before after : View) (x : Publication) : Type 0 where

@@ -4,7 +4,7 @@ ghost use Rattle.std.specs.Prelude.{◌≡◌, ◌+◌, ◌<◌, ◌≤◌, IfOk
 ghost use Rattle.at_board.specs.declared.publication.Publication.{Publication};
 ghost use Rattle.at_board.specs.Conditions.{MayPublish, MayStoreWord};
 ghost use Rattle.at_board.specs.Cuts.{AreNew};
-ghost use Rattle.at_board.specs.Places.{IsPlace, place_at, record_word, word_count, words_max};
+ghost use Rattle.at_board.specs.Places.{IsPlace, place_at, record_word, words_max};
 ghost use Rattle.at_board.specs.SeatView.{IsOf};
 ghost use Rattle.at_board.specs.Steps.{LoadsLength, Publishes, StoresWord};
 
@@ -59,11 +59,11 @@ impl Model for Board {
 
 impl Board {
     /// A board for the book with all words 0, and one seat for each process, in order. Takes time in proportion to the words,
-    /// of which the largest board has 24.6 MB; until they are laid they stand in memory twice.
+    /// which are 24.6 MB at most; while it is made they stand in memory twice.
     pub fn new(alloc: Global, book: &Book) -> Result<(Board, Vec<BoardSeat>), NoMemory>
         ensures book { IfOk result (λ r. r.0.book ≡ book.now) }
         ensures seats { IfOk result (λ r. AreNew book.now r.0.id r.1.items) }
-        ensures few { word_count book.now ≤ words_max }
+        ensures few { IfOk result (λ r. r.0.id.words ≤ words_max) }
     {
         let _accounts = book.accounts();
         let words = vec![in alloc; 0u64; word_count(book)]?;

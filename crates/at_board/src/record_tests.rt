@@ -16,18 +16,21 @@ use std::process::Abort;
 use std::sync::ledger::{Blank, Ledger};
 use std::test::Fail;
 
-/// A book of some processes with an account each, beside an account without an owner.
-fn single_book(alloc: Global, processes: u64) -> Result<Book, Fail> {
+/// A book of the processes whose accounts these are, one account each, which opens with 100. An account without an owner opens with 0.
+fn single_book(alloc: Global, processes: u64, owners: &[Option<u64>]) -> Result<Book, Fail> {
     let mut accounts = Vec::new(alloc);
-    for owner in 0..processes {
-        let owners = vec![in alloc; owner]?;
-        accounts.push(DraftAccount {
-            opening: 100,
-            owners,
+    for owner in owners {
+        accounts.push(match *owner {
+            Some(owner) => DraftAccount {
+                opening: 100,
+                owners: vec![in alloc; owner]?,
+            },
+            None => DraftAccount {
+                opening: 0,
+                owners: Vec::new(alloc),
+            },
         })?;
     }
-    let owners = Vec::new(alloc);
-    accounts.push(DraftAccount { opening: 0, owners })?;
     let draft = Draft {
         processes,
         own_room: 4,
@@ -108,7 +111,7 @@ fn pays_and_tells<L: Ledger, X: Ledger, R: Abort>(
     requires some { (0 < one.parts) × (0 < another.parts) }
 {
     let (steps, exchanges) = (&mut Steps::<L>::new(one), &mut Steps::<X>::new(another));
-    let book = single_book(alloc, 2)?;
+    let book = single_book(alloc, 2, [Some(0), Some(1)].as_slice())?;
     let (board, mut seats) = Board::new(alloc, &book)?;
     let mut other = last_seat(&board, &mut seats).expect(rt, "a seat");
     let mut seat = last_seat(&board, &mut seats).expect(rt, "a seat");
@@ -120,12 +123,9 @@ fn pays_and_tells<L: Ledger, X: Ledger, R: Abort>(
     let told = told_words(&board, &mut seat, &mut other, steps, exchanges);
     assert_eq!(rt; told, (1_099_511_627_777, 30));
     let end = close_two(board, alloc, seat, other)?;
-    assert!(rt; end.length(0) == 1 && end.length(1) == 0);
-    assert_eq!(rt;
-        (end.record_word(0, 0, 0), end.record_word(0, 0, 2)),
-        (0, 0)
-    );
-    assert_eq!(rt; (end.record_word(0, 0, 1), end.record_word(0, 0, 3)), told);
+    assert_eq!(rt; (end.length(0), end.length(1)), (1, 0));
+    let words = [0, 1_099_511_627_777, 0, 30, 0, 0, 0, 0, 0];
+    assert!(rt; has_record(&end, 0, 0, words.as_slice()));
     Ok(())
 }
 
@@ -146,7 +146,7 @@ fn pays_alone<L: Ledger, X: Ledger, R: Abort>(
     requires some { (0 < one.parts) × (0 < another.parts) }
 {
     let (steps, exchanges) = (&mut Steps::<L>::new(one), &mut Steps::<X>::new(another));
-    let book = single_book(alloc, 1)?;
+    let book = single_book(alloc, 1, [Some(0), None].as_slice())?;
     let (board, mut seats) = Board::new(alloc, &book)?;
     assert!(rt; board.book().processes() == 1);
     let mut seat = last_seat(&board, &mut seats).expect(rt, "a seat");
