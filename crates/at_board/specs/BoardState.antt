@@ -7,7 +7,8 @@ use Rattle.at_board.specs.declared.view.Cell.{Cell}
 use Rattle.at_board.specs.Publications.{no_publication}
 
 -- all publications in the order of their publishing steps, the decisions of each account by round, the announced
--- requests of each account and slot by number, and the cell that each process's seat won and hasn't published
+-- requests of each account and slot by number, and the cell that each process's seat holds: it has won it, and has not yet
+-- published that round with the view that it proposed from
 pub record BoardState : Type 0 where
   pub published : List Publication
   pub cells : ℕ → List Decision

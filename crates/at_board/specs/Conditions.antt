@@ -18,7 +18,7 @@ use Rattle.at_board.specs.Sound.{AreTargets, HasView, IsSoundOwn, IsSoundRound}
 use Rattle.at_board.specs.Views.{HasSlot, SeesDecision, SeesRequest, asking_on, own_part}
 use Rattle.at_board.specs.Words.{record_words, request_words}
 
--- the log of the seat's process has room for one more record, which has this word
+-- the log of the seat's process has room for one more record, and a record has a word of this number
 pub record MayStoreWord (b : BookTerms) (v : View) (j : ℕ) : Type 0 where
   pub room : (own_part v).published < log_room_of b v.first
   pub word : j < record_width b
@@ -44,12 +44,12 @@ pub record MayPublish (b : BookTerms) (v : View) (x : Publication) : Type 0 wher
   pub view : HasView b v.seen x
   pub entry : MayEnter b v (prefix_of x.view v.seen) x.entry
 
--- the seat has seen this record, which has this word
+-- the seat has seen this record, and a record has a word of this number
 pub record MayLoadWord (b : BookTerms) (v : View) (p i j : ℕ) : Type 0 where
   pub seen : SeesRecord v p i
   pub word : j < record_width b
 
--- the seat's process may ask on the account: it has room there, and all that it asked is decided in what it has seen
+-- the seat's process may ask on the account: it has room there, and all that it asked is settled in what it has seen
 pub record MayAsk (b : BookTerms) (v : View) (a slot : ℕ) : Type 0 where
   pub slot_in : HasSlot b v.first a slot
   pub room : length (asking_on (own_part v) a).announced < b.request_room
@@ -65,7 +65,7 @@ pub record MayAnnounce (b : BookTerms) (v : View) (a slot : ℕ) (r : Request) :
       is_settled a slot before (take r.since v.seen) ≡ true
 
 -- the seat may propose that this round decide this request: at the proposal's place exactly the rounds before it stand,
--- the request was seen and is undecided there, the proposal says whether the balance there covers it, and the seat
+-- the request was seen and is not settled there, the proposal says whether the balance there covers it, and the seat
 -- holds no cell
 pub record MayPropose (b : BookTerms) (v : View) (a round : ℕ) (d : Decision) (r : Request) : Type 0 where
   pub owner : (slot : ℕ) × HasSlot b v.first a slot

@@ -3,8 +3,10 @@ use Rattle.std.specs.Prelude.{ℕ, ◌+◌, ◌*◌, ◌<◌, List, [], ◌∷�
 use Rattle.std.specs.List.{range_with_len}
 use Rattle.at_ledger.specs.Account.{AccountTerms, is_shared, rounds_room}
 use Rattle.at_ledger.specs.Book.{BookTerms, account_of, log_room_of}
+use Rattle.at_ledger.specs.declared.draft.TheConstants.{PROCESSES_MAX, ROUNDS_MAX}
 use Rattle.at_board.specs.declared.publication.TheConstants.{RECORD_WORDS}
 use Rattle.at_board.specs.declared.request.TheConstants.{REQUEST_WORDS}
+use Rattle.at_board.specs.Fronts.{places_max}
 
 -- each word by what it means
 pub data Place : Type 0 where
@@ -83,9 +85,10 @@ place_at b x =
 unfoldable pub word_count : BookTerms → ℕ
 word_count b = sum (map sum (groups b))
 
--- and the largest board
+-- the most words that a board has: the lengths, the records of all logs, and for each round at most an announced word, a
+-- request and a cell
 abbrev pub words_max : ℕ
-words_max = 3080208
+words_max = PROCESSES_MAX + places_max * (RECORD_WORDS + PROCESSES_MAX) + ROUNDS_MAX * (REQUEST_WORDS + 2)
 
 -- the word at a place
 abbrev pub word_at : BookTerms → List ℕ → Place → ℕ

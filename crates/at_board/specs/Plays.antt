@@ -1,4 +1,5 @@
--- What a step of the table tells its seat, of the step, the seat before, the number found or stored, and the seat after.
+-- What each step on the table tells its seat. The arguments are the step, the seat before it, the number loaded or stored, and
+-- the seat after it.
 use Rattle.std.specs.Prelude.{◌≡◌, ℕ, ◌<◌, length}
 use Rattle.atomic_table.specs.Table.{Me, Step}
 use Rattle.at_ledger.specs.Book.{log_room_of}

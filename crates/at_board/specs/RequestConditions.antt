@@ -12,7 +12,7 @@ KnowsOf v a slot number =
     ((r : Request) × SeesRequest v a slot number r)
     ⊎ ((round : ℕ) × (d : Decision) × SeesDecision v a round d × (d.slot ≡ slot) × (d.number ≡ number))
 
--- the seat knows that the request was announced, which has this word
+-- the seat knows that this request was announced, and a request has a word of this number
 pub record MayLoadRequest (v : View) (a slot number j : ℕ) : Type 0 where
   pub known : KnowsOf v a slot number
   pub word : j < REQUEST_WORDS

@@ -80,7 +80,8 @@ abbrev pub with_request : Asking → Request → ℕ → Asking
 with_request w r heard =
     record w { announced = w.announced ++ r ∷ []; stored = replicate REQUEST_WORDS 0; heard = heard; rows = []; requests = [] }
 
--- an announcing step: the seat has then seen all publications, and its request at the end of the row
+-- an announcing step: some sound board has published just what the seat has then seen, and its row of the seat's process has the
+-- request at the end
 pub record Announces (b : BookTerms) (before after : View) (a slot : ℕ) (r : Request) : Type 0 where
   pub more : IsPrefix before.seen after.seen
   pub all : SeesAll b after

@@ -24,7 +24,7 @@ rounds account list = count_by (λ x. is_round_on account x.entry) (firsts list)
 abbrev pub named : ℕ → ℕ → List Publication → ℕ
 named account slot list = count_by (λ x. names account slot x.entry) (firsts list)
 
--- whether a request is decided in a list
+-- whether a request is settled in a list: a record of the round that decided it stands there
 abbrev pub is_settled : ℕ → ℕ → ℕ → List Publication → Bool
 is_settled account slot number list = list_any (λ x. settles account slot number x.entry) list
 

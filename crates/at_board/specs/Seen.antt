@@ -15,7 +15,7 @@ use Rattle.at_board.specs.Places.{IsPlace, request_word}
 use Rattle.at_board.specs.Sound.{AreTargets}
 use Rattle.at_board.specs.Views.{SeesDecision, SeesRequest}
 
--- the board has words for a request, which pays accounts and was asked at a place
+-- the board has words for the request; each of its targets is an account, and its `since` is at most the longest list's length
 pub record RequestInRange (b : BookTerms) (x : SeenRequest) : Type 0 where
   pub words : IsPlace b (request_word x.account x.slot x.number 0)
   pub targets : AreTargets b x.request.targets

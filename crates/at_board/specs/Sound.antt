@@ -25,7 +25,7 @@ pub record AreTargets (b : BookTerms) (targets : List TargetPair) : Type 0 where
   pub few : length targets ≤ 4
   pub accounts : AreTargetsOn (length b.accounts) targets
 
--- a publication after those before it has a view that is a front of them and counts all of its process
+-- a publication after those before it: its view is a front of them, and counts all of them that its own process published
 pub record HasView (b : BookTerms) (before : List Publication) (x : Publication) : Type 0 where
   pub process : x.process < b.processes
   pub front : IsFront b.processes x.view before
@@ -70,7 +70,7 @@ pub record IsSoundDecision (b : BookTerms) (s : BoardState) (account round : ℕ
   pub since : (request_at (s.rows account d.slot) d.number).since ≤ d.place
   pub ok : (d.ok ≡ true) ↔ IsCovered b (take d.place s.published) account (amount_of (request_at (s.rows account d.slot) d.number).targets)
 
--- a request of a row: the one before it was decided when its owner looked, and no more rounds stood there than are decided
+-- a request of a row: at its `since` the one before it was settled, and no more rounds stood there than are decided
 pub record IsSoundRequest (b : BookTerms) (s : BoardState) (account slot number : ℕ) (r : Request) : Type 0 where
   pub slot_in : slot < slots_of (account_of b account)
   pub targets : AreTargets b r.targets

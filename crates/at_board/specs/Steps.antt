@@ -92,7 +92,7 @@ pub record SeesAll (b : BookTerms) (v : View) : Type 0 where
   pub requests : All (IsAnnounced state) v.requests
   pub decisions : All (IsDecided state) v.decisions
 
--- a publishing step: the seat has then seen all publications, its own at their end
+-- a publishing step: some sound board has published just what the seat has then seen, its own record at the end
 pub record Publishes (b : BookTerms) (before after : View) (x : Publication) : Type 0 where
   pub between : List Publication
   pub seen : after.seen ≡ (before.seen ++ between) ++ x ∷ []

@@ -111,7 +111,8 @@ impl Board {
         length as u32
     }
 
-    /// Stores a word of the seat's next record, in one step.
+    /// Stores a word of the seat's next record, in one step. Word 0 is its head, 1 its targets, 2 its decision, 3 to 6 its
+    /// amounts, and then comes its view, a count for each process. A word that isn't stored is 0.
     pub fn store_record_word<L: Ledger, X: Ledger>(
         &self,
         seat: &mut BoardSeat,
@@ -134,7 +135,7 @@ impl Board {
             .store::<StoreWord>(&mut seat.seat, place, w);
     }
 
-    /// Publishes the seat's next record by a plain store of its length, in one step.
+    /// Publishes the seat's next record, whose words are stored, by one atomic store of its process's length, in one step.
     pub fn publish<L: Ledger, X: Ledger>(
         &self,
         seat: &mut BoardSeat,

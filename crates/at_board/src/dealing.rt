@@ -48,7 +48,7 @@ pub(crate) fn deal(
     Ok(seats)
 }
 
-/// For each account that no request is announced on it.
+/// No request on any account: a zero for each.
 fn no_requests(alloc: Global, book: &Book) -> Result<Vec<u32>, AllocError>
     ensures { IfOk result (λ counts. counts.items ≡ replicate (length book.now.accounts) 0) }
 {

@@ -3,6 +3,16 @@
 //! Between any two steps of any threads the words stand for a sound state, and what each seat has seen is a prefix of the one list.
 //! A seat keeps between all its steps that every prefix of what it has seen is a run of the sequential ledger, in which each move
 //! is done and which ends with the balances of that prefix.
+//!
+//! The announced requests and the one cell of each round are the registers and the consensus objects that an account of several
+//! owners has in "The Consensus Number of a Cryptocurrency" (PODC 2019).
+//!
+//! The definitions read best in this order. What is published: `Publications`, `Entries`, `Rounds`, `Balances`, `Moves`. What the
+//! words stand for: `BoardState`, `Places`, `Words`, `Shown`. The laws: `Sound`. What a seat knows: `Views`, `Seen`, `SeatView`.
+//! The rule: `Seated`. Then what each call asks (`Conditions`, `RequestConditions`) and tells (`Steps`, `RequestSteps`,
+//! `DecideSteps`, `NoteSteps`, `LearnSteps`, `Ends`). `Plays`, `Cuts` and `Meetings` tie the steps to the table.
+//!
+//! A line such as `let _process = seat.process();` does nothing when the program runs. The proof learns from it what the type keeps.
 #![tactic(auto)]
 
 mod board;
@@ -40,7 +50,7 @@ mod tests;
 mod view;
 mod word_count;
 
-/// What a call answers that found no memory.
+/// The answer of a call that found no memory.
 pub type NoMemory = std::alloc::AllocError;
 
 pub use crate::board::Board;

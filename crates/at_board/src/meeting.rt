@@ -8,8 +8,8 @@ use std::marker::Brand;
 use std::sync::atomic::Ordering::SeqCst;
 use std::sync::atomic::raw;
 
-/// Tells what the table's rule says of two of its seats. A seat's step tells of that seat alone. This loads a word of its
-/// own and none of the table's, so it is no step on the table.
+/// Tells that the table had a state in which its rule held and two different seats had these views. A step of the table tells
+/// of its own seat alone. This loads a word of its own and none of the table's, so it is no step on the table.
 pub(crate) fn meet<S, V, K, P: TableRule<S, V, K>>(
     table: &Shared<S, V, K, P>,
     one: &mut Seat<S, V>,

@@ -14,7 +14,8 @@ use crate::steps::Steps;
 use std::sync::ledger::Ledger;
 
 impl Board {
-    /// A copy of what the seat has seen, in one step, which counts as an exchange.
+    /// A copy of what the seat has seen, for another seat, in one step. It counts as an exchange, since it hands over what no
+    /// word says.
     pub fn note<L: Ledger, X: Ledger>(
         &self,
         seat: &mut BoardSeat,

@@ -23,7 +23,8 @@ pub enum Entry {
     },
 }
 
-/// A published record. Its view is the front that it was made at: how many records of each process it goes by.
+/// A published record. Its view says of each process how many records stood in the prefix that this one was made at. All earlier
+/// ones of its own process are among them.
 #[derive(Drop)]
 pub struct Publication {
     pub process: u32,

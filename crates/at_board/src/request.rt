@@ -5,7 +5,8 @@ use at_ledger::Targets;
 /// The words of a request: its targets word, four amounts, and its `since`.
 pub const REQUEST_WORDS: u32 = 6;
 
-/// A pay-out that an owner of a shared account asks for. `since` is the place of the snapshot that the owner took just before.
+/// A pay-out that an owner of a shared account asks for. `since` is the place of the front that the owner looked at just before:
+/// how many publications it has.
 #[derive(Drop)]
 pub struct Request {
     pub targets: Targets,

@@ -27,7 +27,8 @@ impl Board {
         seat.announced[account as usize]
     }
 
-    /// Stores a word of the next request of the seat's process on an account, in one step.
+    /// Stores a word of the next request of the seat's process on an account, in one step. Word 0 is its targets, 1 to 4 its
+    /// amounts, 5 its `since`. A word that isn't stored is 0.
     pub fn store_request_word<L: Ledger, X: Ledger>(
         &self,
         seat: &mut BoardSeat,
@@ -54,7 +55,8 @@ impl Board {
             .store::<StoreRequestWord>(&mut seat.seat, place, w);
     }
 
-    /// Announces the next request of the seat's process on an account by a plain store of its announced word, in one step.
+    /// Announces the next request of the seat's process on an account, whose words are stored, by one atomic store of its
+    /// announced word, in one step.
     pub fn announce<L: Ledger, X: Ledger>(
         &self,
         seat: &mut BoardSeat,

@@ -17,8 +17,10 @@ use crate::steps::Steps;
 use std::sync::ledger::Ledger;
 
 impl Board {
-    /// Proposes a decision's word for a round of an account, in one step, which is an exchange. The answer is the word that
-    /// the round is decided by: the proposal, unless another stood there.
+    /// Proposes a decision, by its word, for a round of an account, by one compare-exchange in one step. The answer is the word
+    /// that the round is decided by: the proposal, unless another stood there. A seat that found none holds the cell. It gives
+    /// it up by publishing the round with the very view that it proposed from; until then it can't propose, and the board
+    /// can't be closed.
     pub fn decide<L: Ledger, X: Ledger>(
         &self,
         seat: &mut BoardSeat,

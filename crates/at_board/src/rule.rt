@@ -8,7 +8,7 @@ use at_ledger::Book;
 use atomic_table::TableRule;
 use std::snapshot::Snapshot;
 
-/// The words stand for a sound state of the board, of which each seat and note knows what it has seen.
+/// The words stand for a sound state of the board, and whatever a seat or a note has seen is in it.
 pub(crate) struct BoardRule {}
 
 impl TableRule<(), View, Snapshot<Book>> for BoardRule {

@@ -6,7 +6,8 @@ use crate::view::View;
 use atomic_table::Seat;
 use std::marker::Model;
 
-/// The right of one process to make steps on a board, with what it has seen. One thread uses it at a time.
+/// The right of one process to make steps on a board, with what it has seen. One thread uses it at a time. A board is closed
+/// with all its seats, so where one is dropped the board can't be closed.
 #[derive(Drop)]
 pub struct BoardSeat {
     pub(crate) seat: Seat<(), View>,
@@ -36,7 +37,7 @@ impl BoardSeat {
     ghost use Rattle.at_board.specs.Seen.{SeesInRange};
     ghost use Rattle.at_board.specs.Views.{own_part};
 
-    /// The process that the seat belongs to. A call of it tells a proof what the seat's type keeps.
+    /// The process that the seat belongs to. It makes no step. A call of it tells a proof what the seat's type keeps.
     pub fn process(&self) -> u32
         ensures process { result ≡ self.now.view.first }
         ensures part { HasOwnPart self.now.view }
@@ -46,7 +47,7 @@ impl BoardSeat {
         self.process
     }
 
-    /// How many records the process has published.
+    /// How many records the process has published. It makes no step.
     pub fn published(&self) -> u32
         ensures { result ≡ (own_part self.now.view).published }
     {

@@ -159,7 +159,7 @@ fn move_nothing<L: Ledger, X: Ledger>(
 }
 
 /// Waits until all four threads are there, or a while where not.
-fn meet(gate: &AtomicU64) {
+fn wait_for_all(gate: &AtomicU64) {
     gate.fetch_add(1, Ordering::SeqCst);
     for _wait in 0..WAITS {
         if 4 <= gate.load(Ordering::SeqCst) {
@@ -229,7 +229,7 @@ fn play_alone(
     ensures idle { IsIdle board.now seat.new }
     ensures process { seat.new.view.first ≡ seat.old.view.first }
 {
-    meet(gate);
+    wait_for_all(gate);
     play::<Brand, Brand>(board, alloc, seat, Blank::new(1), Blank::new(1))
 }
 

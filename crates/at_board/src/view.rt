@@ -9,6 +9,7 @@ use std::collections::LinkedList;
 /// What a seat or a note has seen, and the parts of the processes that it stands for.
 #[derive(Drop)]
 pub struct View {
+    /// The book of its board.
     pub book: Book,
     /// The publications seen.
     pub seen: LinkedList<Publication>,
@@ -18,6 +19,7 @@ pub struct View {
     pub decisions: LinkedList<SeenDecision>,
     /// The process of the first part. The others are of the processes after it.
     pub first: u32,
+    /// One part for each of these processes: one in a seat, none in a note.
     pub parts: LinkedList<Part>,
 }
 
@@ -45,7 +47,7 @@ pub struct Part {
     pub published: u32,
     /// The words of its next record, 0 where none was stored.
     pub stored: LinkedList<u64>,
-    /// The cell that it won, as long as it hasn't published that round.
+    /// The cell that it holds: it has won it, and hasn't published that round with the view that it proposed from.
     pub held: Option<Cell>,
     /// Its loads of each process's length.
     pub loads: LinkedList<Loads>,
@@ -53,7 +55,7 @@ pub struct Part {
     pub asking: LinkedList<Asking>,
 }
 
-/// A round of a shared account.
+/// The cell of a round, by its shared account and its round.
 #[derive(Drop)]
 pub struct Cell {
     pub account: u32,

@@ -2,7 +2,8 @@
 //!
 //! A collect loads each process's length once. Two equal collects in a row are the counts of what the seat had seen between them.
 //! Where they differ, some process published; one that published twice since the first collect took a snapshot of its own in
-//! that time, and the view of its last record serves.
+//! that time, and the view of its last record serves. The way is that of Afek, Attiya, Dolev, Gafni, Merritt and Shavit ("Atomic
+//! Snapshots of Shared Memory", Journal of the ACM, 1993).
 #![tactic(auto)]
 
 mod collects;
