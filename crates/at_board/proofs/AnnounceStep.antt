@@ -1,5 +1,5 @@
 -- The announcing step that the rule allows.
-use Rattle.std.proofs.Common.{◌≡◌, ℕ, ◌+◌, ◌<◌, ◌≤◌, List, [], ◌∷◌, ◌++◌, length, set, refl, sym, ap, subst, ◌∙◌, arith}
+use Rattle.std.proofs.Common.{◌≡◌, ℕ, ◌+◌, ◌<◌, ◌≤◌, List, [], ◌∷◌, ◌++◌, length, set, refl, sym, ap, subst, ◌∙◌, arith, All}
 use mathlib.Core.Option.{none}
 use Rattle.std.proofs.lemmas.List.{length_push}
 use Rattle.std.proofs.lemmas.List.Elements.{All-push}
@@ -11,7 +11,7 @@ use Rattle.at_board.proofs.OwnRequestLaws.{SeesOwnRequests-announce}
 use Rattle.at_board.proofs.PlaceLaws.{place_at-injective}
 use Rattle.at_board.proofs.RequestStoreLaws.{same_slot}
 use Rattle.at_board.proofs.RequestStoreStep.{next_number}
-use Rattle.at_board.proofs.SeatCountLaws.{HasCounts-counted, IsSeat-asking, SeesInRange-asking}
+use Rattle.at_board.proofs.SeatCountLaws.{HasCounts-counted, IsSeat-asking}
 use Rattle.at_board.proofs.StepLaws.{IsSeatOf}
 use Rattle.at_board.proofs.TableSteps.{store_at}
 use Rattle.at_board.specs.declared.request.Request.{Request}
@@ -87,35 +87,34 @@ module _ {S : Type 0} where
       (played.1 a slot r (subst (λ (t : BookTerms). MayAnnounce t me.0 a slot r) (sym book) may)
       (subst (λ (t : BookTerms). i ≡ place_at t (announced_of a slot)) (sym book) at))
 
--- what holds of a seat after the step
-pub IsSeat-announce : (b : BookTerms) (v w : View) (process k a slot : ℕ) (r : Request) → v.book ≡ b → HasSlot b v.first a slot → IsSeat v process k
-    → Announces b v w a slot r → IsSeat w process k
-IsSeat-announce b v w process k a slot r book mine seat told =
-    let after : Asking = with_request (asking_on (own_part v) a) r (rounds a w.seen) in
-    subst (λ t. IsSeat t process k) (sym told.same)
-    (IsSeat-asking v w.seen (v.requests ++ seen_as a slot (next_number v a) r ∷ []) process k a after seat
-    (subst (λ t. IsHistory t w.seen) (sym book) told.history) (told.own ∙ seat.published_is)
-    (SeesOwnRequests-announce v w.seen a slot after r (omega (arith, seat.one_part)) (subst (λ (t : BookTerms). HasSlot t v.first a slot) (sym book) mine) refl
-    seat.asked) (subst AgreesWithSeen told.same told.agrees))
-
-pub HasCounts-announce : (b : BookTerms) (v w : View) (a slot : ℕ) (r : Request) (n : ℕ) (counts : List ℕ) → 0 < length v.parts
-    → n ≡ next_number v a + 1 → Announces b v w a slot r → HasCounts v counts → HasCounts w (set counts a n)
-HasCounts-announce b v w a slot r n counts part counted told has =
-    let asking = asking_on (own_part v) a in
-    subst (λ t. HasCounts t (set counts a n)) (sym told.same)
-    (HasCounts-counted v w.seen (v.requests ++ seen_as a slot (next_number v a) r ∷ []) a n (with_request asking r (rounds a w.seen)) counts part
-    (counted ∙ sym (length_push asking.announced r)) has)
-
-pub SeesInRange-announce : (b : BookTerms) (v w : View) (a slot : ℕ) (r : Request) → v.book ≡ b → length v.seen ≤ places_max → MayAnnounce b v a slot r
-    → Announces b v w a slot r → SeesInRange v → SeesInRange w
-SeesInRange-announce b v w a slot r book few may told sees =
+-- the board has words for the request that is announced
+requests_in_range-announce : (b : BookTerms) (v : View) (a slot : ℕ) (r : Request) → v.book ≡ b → length v.seen ≤ places_max → MayAnnounce b v a slot r
+    → SeesInRange v → All (RequestInRange v.book) (v.requests ++ seen_as a slot (next_number v a) r ∷ [])
+requests_in_range-announce b v a slot r book few may sees =
     let x : SeenRequest = seen_as a slot (next_number v a) r in
     let mine = may.asks.slot_in in
     let within : IsPlace b (request_word a slot (next_number v a) 0) = (mine.account_in, mine.within, may.asks.room, omega arith) in
     let here : RequestInRange b x = record { words = within; targets = may.targets; since = omega (arith, may.since, few) } in
-    subst SeesInRange (sym told.same)
-    (SeesInRange-asking v w.seen (v.requests ++ x ∷ []) a (with_request (asking_on (own_part v) a) r (rounds a w.seen)) sees
-    (All-push (RequestInRange v.book) v.requests x sees.requests (subst (λ (t : BookTerms). RequestInRange t x) (sym book) here)))
+    All-push (RequestInRange v.book) v.requests x sees.requests (subst (λ (t : BookTerms). RequestInRange t x) (sym book) here)
+
+-- what holds of a seat after the step
+pub IsSeat-announce : (b : BookTerms) (v w : View) (process k a slot : ℕ) (r : Request) → v.book ≡ b → length v.seen ≤ places_max
+    → MayAnnounce b v a slot r → IsSeat v process k → Announces b v w a slot r → IsSeat w process k
+IsSeat-announce b v w process k a slot r book few may seat told =
+    let after : Asking = with_request (asking_on (own_part v) a) r (rounds a w.seen) in
+    subst (λ t. IsSeat t process k) (sym told.same)
+    (IsSeat-asking v w.seen (v.requests ++ seen_as a slot (next_number v a) r ∷ []) process k a after seat
+    (subst (λ t. IsHistory t w.seen) (sym book) told.history) (told.own ∙ seat.published_is)
+    (SeesOwnRequests-announce v w.seen a slot after r (omega (arith, seat.one_part)) (subst (λ (t : BookTerms). HasSlot t v.first a slot) (sym book) may.asks.slot_in) refl
+    seat.asked) (requests_in_range-announce b v a slot r book few may seat.in_range) (subst AgreesWithSeen told.same told.agrees))
+
+pub HasCounts-announce : (b : BookTerms) (v w : View) (a slot : ℕ) (r : Request) (n : ℕ) (counts : List ℕ) → 0 < length v.parts
+    → length (own_part v).asking ≡ length v.book.accounts → n ≡ next_number v a + 1 → Announces b v w a slot r → HasCounts v counts → HasCounts w (set counts a n)
+HasCounts-announce b v w a slot r n counts part sized counted told has =
+    let asking = asking_on (own_part v) a in
+    subst (λ t. HasCounts t (set counts a n)) (sym told.same)
+    (HasCounts-counted v w.seen (v.requests ++ seen_as a slot (next_number v a) r ∷ []) a n (with_request asking r (rounds a w.seen)) counts part sized
+    (counted ∙ sym (length_push asking.announced r)) has)
 
 -- the same at an equal book and view
 pub MayAnnounce-same : (b c : BookTerms) (v u : View) (a slot : ℕ) (r : Request) → c ≡ b → u ≡ v → MayAnnounce b v a slot r → MayAnnounce c u a slot r

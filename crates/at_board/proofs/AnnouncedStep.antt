@@ -9,7 +9,7 @@ use Rattle.at_ledger.specs.Book.{BookTerms, IsBegun}
 use Rattle.at_board.proofs.AnnouncedLaws.{All-all_of, LoadsAnnounced-Ruled}
 use Rattle.at_board.proofs.OwnRequestLaws.{SeesOwnRequests-asking}
 use Rattle.at_board.proofs.PlaceLaws.{place_at-injective}
-use Rattle.at_board.proofs.SeatCountLaws.{HasCounts-asking, IsSeat-asking, SeesInRange-asking}
+use Rattle.at_board.proofs.SeatCountLaws.{HasCounts-asking, IsSeat-asking}
 use Rattle.at_board.proofs.StepLaws.{IsSeatOf}
 use Rattle.at_board.proofs.TableSteps.{load_at}
 use Rattle.at_board.specs.declared.request.Request.{Request}
@@ -68,32 +68,32 @@ module _ {S : Type 0} where
       (played.1 a slot (subst (λ (t : BookTerms). IsPlace t (announced_of a slot)) (sym book) within)
       (subst (λ (t : BookTerms). i ≡ place_at t (announced_of a slot)) (sym book) at))
 
--- what holds of a seat after the load
-pub IsSeat-announced : (b : BookTerms) (v w : View) (process k a slot n : ℕ) → v.book ≡ b → IsSeat v process k → LoadsAnnounced b v w a slot n
-    → IsSeat w process k
-IsSeat-announced b v w process k a slot n book seat told =
-    subst (λ t. IsSeat t process k) (sym told.same)
-    (IsSeat-asking v w.seen (v.requests ++ all_of a slot told.row) process k a (with_row (asking_on (own_part v) a) slot n) seat
-    (subst (λ t. IsHistory t w.seen) (sym book) told.history) (told.own ∙ seat.published_is)
-    (SeesOwnRequests-asking v w.seen (v.requests ++ all_of a slot told.row) a (with_row (asking_on (own_part v) a) slot n) (omega (arith, seat.one_part)) refl
-    (λ x there. Contains-append_left v.requests (all_of a slot told.row) x there) seat.asked) (subst AgreesWithSeen told.same told.agrees))
-
-pub HasCounts-announced : (b : BookTerms) (v w : View) (a slot n : ℕ) (counts : List ℕ) → 0 < length v.parts → LoadsAnnounced b v w a slot n
-    → HasCounts v counts → HasCounts w counts
-HasCounts-announced b v w a slot n counts part told has =
-    subst (λ t. HasCounts t counts) (sym told.same)
-    (HasCounts-asking v w.seen (v.requests ++ all_of a slot told.row) a (with_row (asking_on (own_part v) a) slot n) counts part refl has)
-
-pub SeesInRange-announced : (b : BookTerms) (v w : View) (a slot n : ℕ) → v.book ≡ b → IsPlace b (announced_of a slot) → LoadsAnnounced b v w a slot n
-    → SeesInRange v → SeesInRange w
-SeesInRange-announced b v w a slot n book within told sees =
+-- the board has words for the requests that are loaded
+requests_in_range-announced : (b : BookTerms) (v w : View) (a slot n : ℕ) → v.book ≡ b → IsPlace b (announced_of a slot)
+    → (told : LoadsAnnounced b v w a slot n) → SeesInRange v → All (RequestInRange v.book) (v.requests ++ all_of a slot told.row)
+requests_in_range-announced b v w a slot n book within told sees =
     let none : Request = record { targets = []; since = 0 } in
     let here : (i : ℕ) → i < length told.row → RequestInRange b (seen_as a slot i (request_at told.row i)) = λ i inside. record {
       words = (within.0, within.1, omega (arith, inside, told.counted, told.room), omega arith);
       targets = told.targets i none inside;
       since = omega (arith, told.since i none inside, told.history.few);
     } in
-    subst SeesInRange (sym told.same)
-    (SeesInRange-asking v w.seen (v.requests ++ all_of a slot told.row) a (with_row (asking_on (own_part v) a) slot n) sees
-    (All-append (RequestInRange v.book) v.requests (all_of a slot told.row) sees.requests
-    (subst (λ (t : BookTerms). All (RequestInRange t) (all_of a slot told.row)) (sym book) (All-all_of (RequestInRange b) a slot told.row here))))
+    All-append (RequestInRange v.book) v.requests (all_of a slot told.row) sees.requests
+    (subst (λ (t : BookTerms). All (RequestInRange t) (all_of a slot told.row)) (sym book) (All-all_of (RequestInRange b) a slot told.row here))
+
+-- what holds of a seat after the load
+pub IsSeat-announced : (b : BookTerms) (v w : View) (process k a slot n : ℕ) → v.book ≡ b → IsPlace b (announced_of a slot)
+    → IsSeat v process k → LoadsAnnounced b v w a slot n → IsSeat w process k
+IsSeat-announced b v w process k a slot n book within seat told =
+    subst (λ t. IsSeat t process k) (sym told.same)
+    (IsSeat-asking v w.seen (v.requests ++ all_of a slot told.row) process k a (with_row (asking_on (own_part v) a) slot n) seat
+    (subst (λ t. IsHistory t w.seen) (sym book) told.history) (told.own ∙ seat.published_is)
+    (SeesOwnRequests-asking v w.seen (v.requests ++ all_of a slot told.row) a (with_row (asking_on (own_part v) a) slot n) (omega (arith, seat.one_part)) refl
+    (λ x there. Contains-append_left v.requests (all_of a slot told.row) x there) seat.asked)
+    (requests_in_range-announced b v w a slot n book within told seat.in_range) (subst AgreesWithSeen told.same told.agrees))
+
+pub HasCounts-announced : (b : BookTerms) (v w : View) (a slot n : ℕ) (counts : List ℕ) → 0 < length v.parts
+    → length (own_part v).asking ≡ length v.book.accounts → LoadsAnnounced b v w a slot n → HasCounts v counts → HasCounts w counts
+HasCounts-announced b v w a slot n counts part sized told has =
+    subst (λ t. HasCounts t counts) (sym told.same)
+    (HasCounts-asking v w.seen (v.requests ++ all_of a slot told.row) a (with_row (asking_on (own_part v) a) slot n) counts part sized refl has)

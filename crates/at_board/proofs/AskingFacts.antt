@@ -14,8 +14,16 @@ use Rattle.at_board.specs.BoardState.{request_at}
 use Rattle.at_board.specs.Conditions.{MayAsk}
 use Rattle.at_board.specs.RequestSteps.{LoadsAnnounced, StoresRequestWord, all_of, part_asking, seen_as, with_asking, with_request_word}
 use Rattle.at_board.specs.Rounds.{is_settled}
-use Rattle.at_board.specs.SeatCounts.{HasOwnPart}
+use Rattle.at_board.specs.SeatView.{IsSeat}
 use Rattle.at_board.specs.Views.{HasSlot, SeesRequest, asking_on, no_asking, own_part}
+
+-- the view has one part, which has something on each account
+pub record HasOwnPart (view : View) : Type 0 where
+  pub one_part : length view.parts ≡ 1
+  pub accounts : length (own_part view).asking ≡ length view.book.accounts
+
+pub HasOwnPart-IsSeat : {v : View} {process published : ℕ} → IsSeat v process published → HasOwnPart v
+HasOwnPart-IsSeat seat = record { one_part = seat.one_part; accounts = seat.accounts }
 
 -- what was set on an account is there
 pub asking_on-with_asking : (v : View) (a : ℕ) (w : Asking) → HasOwnPart v → a < length v.book.accounts
@@ -31,7 +39,6 @@ HasOwnPart-with_asking v a w has =
     record {
       one_part = length-set v.parts 0 (part_asking q a w) ∙ has.one_part;
       accounts = ap (λ (t : Part). length t.asking) (own_part-with_part v (part_asking q a w) (omega (arith, has.one_part))) ∙ (length-set q.asking a w ∙ has.accounts);
-      words = ap (λ (t : Part). length t.stored) (own_part-with_part v (part_asking q a w) (omega (arith, has.one_part))) ∙ has.words;
     }
 
 pub asking-StoresRequestWord : (v u : View) (a j n : ℕ) → HasOwnPart v → a < length v.book.accounts → StoresRequestWord v u a j n

@@ -1,9 +1,10 @@
 -- A seat that stands for several processes may be cut.
 use Rattle.std.proofs.Common.{◌≡◌, ◌≢◌, ℕ, ◌+◌, ◌-◌, ◌<◌, ◌≤◌, ◌==◌, ◌&&◌, zero, suc, Bool, cond, List, [], ◌∷◌, ◌++◌, length, get_or, replicate, set, refl, sym, ap, subst, ◌∙◌, arith, inl, inr, ◌⊎◌, ltb}
-use Rattle.std.proofs.lemmas.List.{drop-replicate, get_or-replicate, get_or_append_left, get_or_push, length_push, take-replicate, take_all}
+use Rattle.std.proofs.lemmas.List.{drop-replicate, get_or-replicate, get_or_append_left, get_or_push, length-replicate, length_push, take-replicate, take_all}
 use lib.ListN.{get_elem?}
 use mathlib.Core.Option.{some, some-injective, some-ne-none}
 use Rattle.std.proofs.lemmas.Bool.{cases_eq, cases_lt, eq-eqb, le-ltb, lt-ltb, ne_eqb}
+use Rattle.std.proofs.lemmas.List.Elements.{All-nil}
 use Rattle.std.proofs.lemmas.List.{get_or-drop, get_or-take, length-drop, length-set, length-take}
 use Rattle.atomic_table.proofs.Lists.{at_last, at_longer, at_set, set_else, set_here}
 use Rattle.at_ledger.specs.Book.{BookTerms, IsBegun, IsBook}
@@ -23,7 +24,8 @@ use Rattle.at_board.specs.BoardState.{BoardState}
 use Rattle.at_board.specs.Cuts.{first_part, other_parts, starting_seat}
 use Rattle.at_board.specs.Seated.{AreSeated, Holds, Ruled}
 use Rattle.at_board.specs.Views.{HasPart, Knows, no_asking, no_part, part_at, starting_asking, starting_part, starting_view}
-use Rattle.at_board.specs.Seen.{AgreesWithSeen}
+use Rattle.at_board.specs.Places.{record_width}
+use Rattle.at_board.specs.Seen.{AgreesWithSeen, DecisionInRange, RequestInRange}
 
 -- a view after the cut is the first one, the new one, or another that stayed
 record CutCases (views : List View) (id j : ℕ) (v left right u : View) : Type 0 where
@@ -215,6 +217,8 @@ AgreesWithSeen-starting b p = record {
 pub IsSeat-starting : (b : BookTerms) (p : ℕ) → IsBook b → p < b.processes → IsSeat (starting_seat b p) p 0
 IsSeat-starting b p book within = record {
   one_part = refl;
+  accounts = length-replicate (length b.accounts) starting_asking;
+  words = length-replicate (record_width b) 0;
   process_is = refl;
   published_is = refl;
   own = count_of-nil p;
@@ -224,8 +228,9 @@ IsSeat-starting b p book within = record {
     ap (λ (w : Asking). length w.announced) (get_or-replicate (length b.accounts) a starting_asking no_asking has.account_in),
   ));
   known = within;
-  begun = book;
+  book = book;
   history = IsHistory-nil b book.begun;
+  in_range = record { requests = All-nil (RequestInRange b); decisions = All-nil (DecisionInRange b) };
   agrees = AgreesWithSeen-starting b p;
 }
 

@@ -89,23 +89,41 @@ module _ {S : Type 0} where
       (played.1 a round d r (MayPropose-same b me.0.book u me.0 a round d r (sym book) (sym mine) may)
       (subst (λ (t : BookTerms). i ≡ place_at t (cell_of a round)) (sym book) at) word))
 
+-- the decision that the step has told is in range
+SeesInRange-decided : (b : BookTerms) (v w : View) (a round : ℕ) (d : Decision) (n : ℕ) → v.book ≡ b → IsPlace b (cell_of a round)
+    → Decides b v w a round d n → SeesInRange v → SeesInRange w
+SeesInRange-decided b v w a round d n book here told sees =
+    let seen : SeenDecision = record { account = a; round = round; decision = told.decision } in
+    let P : SeenDecision → Type 0 = DecisionInRange v.book in
+    let new : P seen = subst (λ (t : BookTerms). DecisionInRange t seen) (sym book)
+    (record { words = (here.0, told.slot_in, told.number_in, omega arith); range = told.range; room = here.1 }) in
+    let after : SeesInRange (with_part (with_decision v w.seen a round told.decision) (with_decide (own_part v) a told.held)) = record {
+      requests = sees.requests;
+      decisions = All-append P v.decisions (seen ∷ []) sees.decisions (All-cons P seen [] new (All-nil P));
+    } in
+    subst SeesInRange (sym told.same) after
+
 -- a seat stays one
-pub IsSeat-decided : (b : BookTerms) (v w : View) (process k a round : ℕ) (d : Decision) (n : ℕ) → v.book ≡ b → IsSeat v process k
-    → Decides b v w a round d n → IsSeat w process k
-IsSeat-decided b v w process k a round d n book seat told =
+pub IsSeat-decided : (b : BookTerms) (v w : View) (process k a round : ℕ) (d : Decision) (n : ℕ) → v.book ≡ b → IsPlace b (cell_of a round)
+    → IsSeat v process k → Decides b v w a round d n → IsSeat w process k
+IsSeat-decided b v w process k a round d n book here seat told =
     let u : View = with_decision v w.seen a round told.decision in
     let q : Part = with_decide (own_part v) a told.held in
     let counted : Asking = record (asking_on (own_part v) a) { decides = (asking_on (own_part v) a).decides + 1 } in
     let part : 0 < length v.parts = omega (arith, seat.one_part) in
+    let is = own_part-with_part u q part in
     subst (λ t. IsSeat t process k) (sym told.same) (record {
       one_part = length-set v.parts 0 q ∙ seat.one_part;
+      accounts = ap (λ (t : Part). length t.asking) is ∙ (length-set (own_part v).asking a counted ∙ seat.accounts);
+      words = ap (λ (t : Part). length t.stored) is ∙ seat.words;
       process_is = seat.process_is;
-      published_is = ap (λ (t : Part). t.published) (own_part-with_part u q part) ∙ seat.published_is;
+      published_is = ap (λ (t : Part). t.published) is ∙ seat.published_is;
       own = told.own ∙ seat.published_is;
       asked = SeesOwnRequests-with_part v w.seen v.requests q part (λ c. asking_on-part_asking (own_part v) a c counted refl) (λ x there. there) seat.asked;
       known = seat.known;
-      begun = seat.begun;
+      book = seat.book;
       history = subst (λ t. IsHistory t w.seen) (sym book) told.history;
+      in_range = subst SeesInRange told.same (SeesInRange-decided b v w a round d n book here told seat.in_range);
       agrees = subst AgreesWithSeen told.same told.agrees;
     })
 
@@ -123,27 +141,14 @@ announced-decide q a k held within =
     ]
 
 pub HasCounts-decided : (b : BookTerms) (v w : View) (a round : ℕ) (d : Decision) (n : ℕ) (counts : List ℕ) → 0 < length v.parts
-    → Decides b v w a round d n → HasCounts v counts → HasCounts w counts
-HasCounts-decided b v w a round d n counts part told has =
+    → length (own_part v).asking ≡ length v.book.accounts → Decides b v w a round d n → HasCounts v counts → HasCounts w counts
+HasCounts-decided b v w a round d n counts part sized told has =
     let q : Part = own_part v in
     let u : View = with_decision v w.seen a round told.decision in
-    let before : HasCounts u counts = record { accounts = has.accounts; words = has.words; sized = has.sized; counted = has.counted } in
+    let before : HasCounts u counts = record { sized = has.sized; counted = has.counted } in
     subst (λ t. HasCounts t counts) (sym told.same)
-    (HasCounts-with_part u (with_decide q a told.held) counts part (length-set q.asking a _) refl
-    (λ k within. announced-decide q a k told.held (omega (arith, within, has.accounts))) before)
-
-pub SeesInRange-decided : (b : BookTerms) (v w : View) (a round : ℕ) (d : Decision) (n : ℕ) → v.book ≡ b → IsPlace b (cell_of a round)
-    → Decides b v w a round d n → SeesInRange v → SeesInRange w
-SeesInRange-decided b v w a round d n book here told sees =
-    let seen : SeenDecision = record { account = a; round = round; decision = told.decision } in
-    let P : SeenDecision → Type 0 = DecisionInRange v.book in
-    let new : P seen = subst (λ (t : BookTerms). DecisionInRange t seen) (sym book)
-    (record { words = (here.0, told.slot_in, told.number_in, omega arith); range = told.range; room = here.1 }) in
-    let after : SeesInRange (with_part (with_decision v w.seen a round told.decision) (with_decide (own_part v) a told.held)) = record {
-      requests = sees.requests;
-      decisions = All-append P v.decisions (seen ∷ []) sees.decisions (All-cons P seen [] new (All-nil P));
-    } in
-    subst SeesInRange (sym told.same) after
+    (HasCounts-with_part u (with_decide q a told.held) counts part
+    (λ k within. announced-decide q a k told.held (omega (arith, within, sized))) before)
 
 -- the seat holds the cell where its proposal is decided, or none
 pub held-Decides : (b : BookTerms) (v w : View) (a round : ℕ) (d : Decision) (n : ℕ) → (told : Decides b v w a round d n)

@@ -8,7 +8,7 @@ use Rattle.at_base.specs.Decision.{InRange, word_of}
 use Rattle.at_base.specs.declared.decision.Decision.{Decision}
 use Rattle.at_ledger.specs.Book.{BookTerms, account_of}
 use Rattle.at_ledger.specs.Call.{TargetPair}
-use Rattle.at_board.proofs.AskingFacts.{asking_on-with_asking}
+use Rattle.at_board.proofs.AskingFacts.{HasOwnPart, asking_on-with_asking}
 use Rattle.at_board.proofs.CountLaws.{sum-counts}
 use Rattle.at_board.proofs.FormLaws.{same_decision}
 use Rattle.at_board.proofs.FrontLaws.{IsPrefix-length, IsPrefix-trans, take-IsPrefix}
@@ -31,7 +31,6 @@ use Rattle.at_board.specs.Fronts.{prefix_of}
 use Rattle.at_board.specs.Publications.{IsPrefix, count_of, counts, publications_of}
 use Rattle.at_board.specs.RequestSteps.{Announces, StoresRequestWord, part_asking, seen_as, with_asking, with_request, with_request_word}
 use Rattle.at_board.specs.Rounds.{firsts, is_settled, rounds}
-use Rattle.at_board.specs.SeatCounts.{HasOwnPart}
 use Rattle.at_board.specs.SmallBoard.{HasTwoOwners, MayAskIn, MayRecord, decision_in, first_twice, payment_in, record_in}
 use Rattle.at_board.specs.Sound.{HasView, IsSoundRound}
 use Rattle.at_board.specs.Steps.{IsHistory, Publishes, StoresWord, with_part, with_record, with_word}

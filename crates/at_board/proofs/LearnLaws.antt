@@ -120,31 +120,34 @@ Learns-learned b id other v w process published book note_book seat note met =
       same = refl;
     }
 
-pub IsSeat-learned : {S : Type 0} (b : BookTerms) (id other : ℕ) (v w : View) (process published : ℕ) → v.book ≡ b → w.book ≡ b → IsSeat v process published
-    → IsNote w → AreSeen {S = S} (λ s. Ruled b s.words s.views) id v other w → IsSeat (learned v w) process published
-IsSeat-learned b id other v w process published book note_book seat note met =
-    let told = Learns-learned b id other v w process published book note_book seat note met in
-    record {
-      one_part = seat.one_part;
-      process_is = seat.process_is;
-      published_is = seat.published_is;
-      own = told.own ∙ seat.own;
-      asked = λ a slot i has within.
-          Contains-append_left v.requests w.requests (seen_as a slot i (request_at (asking_on (own_part v) a).announced i)) (seat.asked a slot i has within);
-      known = seat.known;
-      begun = seat.begun;
-      history = subst (λ t. IsHistory t (learned v w).seen) (sym book) told.history;
-      agrees = told.agrees;
-    }
-
--- the seat's own part is the same
-pub HasCounts-learned : (v w : View) (announced : List ℕ) → HasCounts v announced → HasCounts (learned v w) announced
-HasCounts-learned v w announced has = record { accounts = has.accounts; words = has.words; sized = has.sized; counted = has.counted }
-
-pub SeesInRange-learned : (v w : View) → w.book ≡ v.book → SeesInRange v → SeesInRange w → SeesInRange (learned v w)
+SeesInRange-learned : (v w : View) → w.book ≡ v.book → SeesInRange v → SeesInRange w → SeesInRange (learned v w)
 SeesInRange-learned v w same mine theirs = record {
   requests = All-append (RequestInRange v.book) v.requests w.requests mine.requests
       (subst (λ t. All (RequestInRange t) w.requests) same theirs.requests);
   decisions = All-append (DecisionInRange v.book) v.decisions w.decisions mine.decisions
       (subst (λ t. All (DecisionInRange t) w.decisions) same theirs.decisions);
 }
+
+pub IsSeat-learned : {S : Type 0} (b : BookTerms) (id other : ℕ) (v w : View) (process published : ℕ) → v.book ≡ b → w.book ≡ b → IsSeat v process published
+    → IsNote w → AreSeen {S = S} (λ s. Ruled b s.words s.views) id v other w → IsSeat (learned v w) process published
+IsSeat-learned b id other v w process published book note_book seat note met =
+    let told = Learns-learned b id other v w process published book note_book seat note met in
+    record {
+      one_part = seat.one_part;
+      accounts = seat.accounts;
+      words = seat.words;
+      process_is = seat.process_is;
+      published_is = seat.published_is;
+      own = told.own ∙ seat.own;
+      asked = λ a slot i has within.
+          Contains-append_left v.requests w.requests (seen_as a slot i (request_at (asking_on (own_part v) a).announced i)) (seat.asked a slot i has within);
+      known = seat.known;
+      book = seat.book;
+      history = subst (λ t. IsHistory t (learned v w).seen) (sym book) told.history;
+      in_range = SeesInRange-learned v w (note_book ∙ sym book) seat.in_range note.in_range;
+      agrees = told.agrees;
+    }
+
+-- the seat's own part is the same
+pub HasCounts-learned : (v w : View) (announced : List ℕ) → HasCounts v announced → HasCounts (learned v w) announced
+HasCounts-learned v w announced has = record { sized = has.sized; counted = has.counted }

@@ -274,8 +274,8 @@ count_of-MayEnter b v p view (Round a r d targets) book history sees process has
     (count_of-round_room b v.seen x a r history has sound (round-KnowsRound b v a r d targets book history sees law.1))
 
 -- so the log of a seat's process has room for what the seat may publish
-pub published-MayEnter : (b : BookTerms) (v : View) (x : Publication) (process published : ℕ) → v.book ≡ b → IsSeat v process published → SeesInRange v
+pub published-MayEnter : (b : BookTerms) (v : View) (x : Publication) (process published : ℕ) → v.book ≡ b → IsSeat v process published
     → x.process ≡ v.first → HasView b v.seen x → MayEnter b v (prefix_of x.view v.seen) x.entry → (own_part v).published < log_room_of b v.first
-published-MayEnter b v x process published book seat sees is has law =
+published-MayEnter b v x process published book seat is has law =
     let history : IsHistory b v.seen = subst (λ (t : BookTerms). IsHistory t v.seen) book seat.history in
-    omega (arith, seat.own, seat.published_is, count_of-MayEnter b v x.process x.view x.entry book history sees is has law)
+    omega (arith, seat.own, seat.published_is, count_of-MayEnter b v x.process x.view x.entry book history seat.in_range is has law)

@@ -11,7 +11,6 @@ use Rattle.at_board.specs.BoardState.{BoardState}
 use Rattle.at_board.specs.NoteSteps.{IsNote, noted}
 use Rattle.at_board.specs.Places.{length_of, word_count}
 use Rattle.at_board.specs.Seated.{Holds, Ruled}
-use Rattle.at_board.specs.Seen.{SeesInRange}
 use Rattle.at_board.specs.SeatView.{IsSeat}
 use Rattle.at_board.specs.Views.{Knows}
 
@@ -61,10 +60,10 @@ pub word_count-some : (b : BookTerms) → IsBook b → 0 < word_count b
 word_count-some b book = omega (arith, place_at-below b (length_of 0) (omega (arith, book.begun.some_process)))
 
 -- a seat's note
-pub IsNote-noted : (v : View) (process published : ℕ) → IsSeat v process published → SeesInRange v → IsNote (noted v)
-IsNote-noted v process published seat sees = record {
+pub IsNote-noted : (v : View) (process published : ℕ) → IsSeat v process published → IsNote (noted v)
+IsNote-noted v process published seat = record {
   no_part = refl;
-  begun = seat.begun;
+  book = seat.book;
   history = seat.history;
-  in_range = record { requests = sees.requests; decisions = sees.decisions };
+  in_range = record { requests = seat.in_range.requests; decisions = seat.in_range.decisions };
 }

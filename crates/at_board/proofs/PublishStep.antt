@@ -1,6 +1,7 @@
 -- The publishing step that the rule allows.
 use Rattle.std.proofs.Common.{◌≡◌, ℕ, ◌+◌, ◌<◌, List, [], refl, sym, subst, ap, ◌∙◌, arith}
 use lib.ListN.{get_elem?}
+use Rattle.std.proofs.lemmas.List.{length-replicate}
 use mathlib.Core.Option.{none, some}
 use Rattle.atomic_table.specs.Table.{Allows, Me, keeps, step}
 use Rattle.at_ledger.specs.Book.{BookTerms, IsBegun, log_room_of}
@@ -14,7 +15,7 @@ use Rattle.at_board.specs.declared.publication.Publication.{Publication}
 use Rattle.at_board.specs.declared.view.View.{View}
 use Rattle.at_board.specs.Conditions.{MayPublish}
 use Rattle.at_board.specs.Fronts.{prefix_of}
-use Rattle.at_board.specs.Places.{length_of, place_at}
+use Rattle.at_board.specs.Places.{length_of, place_at, record_width}
 use Rattle.at_board.specs.Plays.{published_record}
 use Rattle.at_board.specs.Seated.{Ruled}
 use Rattle.at_board.specs.SeatView.{IsSeat}
@@ -77,7 +78,8 @@ pub IsSeat-publish : (b : BookTerms) (v w : View) (process k : ℕ) (x : Publica
     → IsSeat w process (k + 1)
 IsSeat-publish b v w process k x book seat told =
     subst (λ t. IsSeat t process (k + 1)) (sym told.same)
-    (IsSeat-with_part v w.seen (with_record b (own_part v) x) process k seat (k + 1) (ap (λ n. n + 1) seat.published_is)
+    (IsSeat-with_part v w.seen (with_record b (own_part v) x) process k seat refl
+    (length-replicate (record_width b) 0 ∙ sym (seat.words ∙ ap record_width book)) (k + 1) (ap (λ n. n + 1) seat.published_is)
     (subst (λ t. IsHistory t w.seen) (sym book) told.history) (told.own ∙ ap (λ n. n + 1) seat.published_is)
     (same_requests v w.seen (with_record b (own_part v) x) process k seat (λ a. refl)) (subst AgreesWithSeen told.same told.agrees))
 

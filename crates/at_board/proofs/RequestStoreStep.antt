@@ -6,7 +6,7 @@ use Rattle.at_ledger.specs.Book.{BookTerms}
 use Rattle.at_board.proofs.OwnRequestLaws.{SeesOwnRequests-asking}
 use Rattle.at_board.proofs.PlaceLaws.{place_at-injective}
 use Rattle.at_board.proofs.RequestStoreLaws.{StoresRequestWord-Ruled, same_slot}
-use Rattle.at_board.proofs.SeatCountLaws.{HasCounts-asking, IsSeat-asking, SeesInRange-asking}
+use Rattle.at_board.proofs.SeatCountLaws.{HasCounts-asking, IsSeat-asking}
 use Rattle.at_board.proofs.SeenLaws.{AgreesWithSeen-set}
 use Rattle.at_board.proofs.StepLaws.{IsSeatOf}
 use Rattle.at_board.proofs.TableSteps.{store_at}
@@ -17,7 +17,7 @@ use Rattle.at_board.specs.Plays.{stored_request_word}
 use Rattle.at_board.specs.RequestSteps.{StoresRequestWord, with_asking, with_request_word}
 use Rattle.at_board.specs.Seated.{Ruled}
 use Rattle.at_board.specs.SeatCounts.{HasCounts}
-use Rattle.at_board.specs.Seen.{SeesInRange, AgreesWithSeen}
+use Rattle.at_board.specs.Seen.{AgreesWithSeen}
 use Rattle.at_board.specs.SeatView.{IsSeat}
 use Rattle.at_board.specs.Views.{HasSlot, asking_on, own_part}
 
@@ -80,14 +80,10 @@ IsSeat-request_stored v w process k a j n seat told agrees =
     subst (λ t. IsSeat t process k) (sym told)
     (IsSeat-asking v v.seen v.requests process k a (with_request_word (asking_on (own_part v) a) j n) seat seat.history seat.own
     (SeesOwnRequests-asking v v.seen v.requests a (with_request_word (asking_on (own_part v) a) j n) (omega (arith, seat.one_part)) refl (λ x there. there) seat.asked)
-    (subst AgreesWithSeen told agrees))
+    seat.in_range.requests (subst AgreesWithSeen told agrees))
 
-pub HasCounts-request_stored : (v w : View) (a j n : ℕ) (counts : List ℕ) → 0 < length v.parts → StoresRequestWord v w a j n
-    → HasCounts v counts → HasCounts w counts
-HasCounts-request_stored v w a j n counts part told has =
+pub HasCounts-request_stored : (v w : View) (a j n : ℕ) (counts : List ℕ) → 0 < length v.parts
+    → length (own_part v).asking ≡ length v.book.accounts → StoresRequestWord v w a j n → HasCounts v counts → HasCounts w counts
+HasCounts-request_stored v w a j n counts part sized told has =
     subst (λ t. HasCounts t counts) (sym told)
-    (HasCounts-asking v v.seen v.requests a (with_request_word (asking_on (own_part v) a) j n) counts part refl has)
-
-pub SeesInRange-request_stored : (v w : View) (a j n : ℕ) → StoresRequestWord v w a j n → SeesInRange v → SeesInRange w
-SeesInRange-request_stored v w a j n told sees =
-    subst SeesInRange (sym told) (SeesInRange-asking v v.seen v.requests a (with_request_word (asking_on (own_part v) a) j n) sees sees.requests)
+    (HasCounts-asking v v.seen v.requests a (with_request_word (asking_on (own_part v) a) j n) counts part sized refl has)

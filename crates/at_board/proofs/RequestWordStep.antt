@@ -1,5 +1,5 @@
 -- The load of a word of a request that the rule allows.
-use Rattle.std.proofs.Common.{◌≡◌, ℕ, ◌<◌, List, [], ◌∷◌, ◌++◌, length, get_or, set, refl, sym, subst, arith}
+use Rattle.std.proofs.Common.{◌≡◌, ℕ, ◌<◌, List, [], ◌∷◌, ◌++◌, length, get_or, set, refl, sym, subst, arith, All}
 use mathlib.Core.Option.{none}
 use Rattle.std.proofs.lemmas.List.{set-get_or}
 use Rattle.std.proofs.lemmas.List.Elements.{All-push, Contains-append_left}
@@ -8,7 +8,7 @@ use Rattle.at_ledger.specs.Book.{BookTerms, IsBegun}
 use Rattle.at_board.proofs.OwnRequestLaws.{SeesOwnRequests-asking}
 use Rattle.at_board.proofs.PlaceLaws.{place_at-injective}
 use Rattle.at_board.proofs.RequestWordLaws.{LoadsRequestWord-Ruled}
-use Rattle.at_board.proofs.SeatCountLaws.{HasCounts-asking, IsSeat-asking, SeesInRange-asking}
+use Rattle.at_board.proofs.SeatCountLaws.{HasCounts-asking, IsSeat-asking}
 use Rattle.at_board.proofs.StepLaws.{IsSeatOf}
 use Rattle.at_board.proofs.TableSteps.{load_at}
 use Rattle.at_board.specs.declared.view.SeenRequest.{SeenRequest}
@@ -73,32 +73,32 @@ module _ {S : Type 0} where
       (played.1 a slot number j (subst (λ (t : BookTerms). IsPlace t (request_word a slot number j)) (sym book) within) may
       (subst (λ (t : BookTerms). i ≡ place_at t (request_word a slot number j)) (sym book) at))
 
--- what holds of a seat after the load
-pub IsSeat-request : (b : BookTerms) (v w : View) (process k a slot number j n : ℕ) → IsSeat v process k → LoadsRequestWord b v w a slot number j n
-    → IsSeat w process k
-IsSeat-request b v w process k a slot number j n seat told =
-    let x : SeenRequest = seen_as a slot number told.request in
-    subst (λ t. IsSeat t process k) (sym told.same)
-    (IsSeat-asking v v.seen (v.requests ++ x ∷ []) process k a (with_loaded (asking_on (own_part v) a) x) seat seat.history seat.own
-    (SeesOwnRequests-asking v v.seen (v.requests ++ x ∷ []) a (with_loaded (asking_on (own_part v) a) x) (omega (arith, seat.one_part)) refl
-    (λ y there. Contains-append_left v.requests (x ∷ []) y there) seat.asked) (subst AgreesWithSeen told.same told.agrees))
-
-pub HasCounts-request : (b : BookTerms) (v w : View) (a slot number j n : ℕ) (counts : List ℕ) → 0 < length v.parts
-    → LoadsRequestWord b v w a slot number j n → HasCounts v counts → HasCounts w counts
-HasCounts-request b v w a slot number j n counts part told has =
-    let x : SeenRequest = seen_as a slot number told.request in
-    subst (λ t. HasCounts t counts) (sym told.same)
-    (HasCounts-asking v v.seen (v.requests ++ x ∷ []) a (with_loaded (asking_on (own_part v) a) x) counts part refl has)
-
-pub SeesInRange-request : (b : BookTerms) (v w : View) (a slot number j n : ℕ) → v.book ≡ b → IsPlace b (request_word a slot number j)
-    → LoadsRequestWord b v w a slot number j n → SeesInRange v → SeesInRange w
-SeesInRange-request b v w a slot number j n book within told sees =
+-- the board has words for the request that is loaded
+requests_in_range-request : (b : BookTerms) (v w : View) (a slot number j n : ℕ) → v.book ≡ b → IsPlace b (request_word a slot number j)
+    → (told : LoadsRequestWord b v w a slot number j n) → SeesInRange v → All (RequestInRange v.book) (v.requests ++ seen_as a slot number told.request ∷ [])
+requests_in_range-request b v w a slot number j n book within told sees =
     let x : SeenRequest = seen_as a slot number told.request in
     let here : RequestInRange b x = record {
       words = (within.0, within.1, within.2, omega arith);
       targets = told.targets;
       since = told.since;
     } in
-    subst SeesInRange (sym told.same)
-    (SeesInRange-asking v v.seen (v.requests ++ x ∷ []) a (with_loaded (asking_on (own_part v) a) x) sees
-    (All-push (RequestInRange v.book) v.requests x sees.requests (subst (λ (t : BookTerms). RequestInRange t x) (sym book) here)))
+    All-push (RequestInRange v.book) v.requests x sees.requests (subst (λ (t : BookTerms). RequestInRange t x) (sym book) here)
+
+-- what holds of a seat after the load
+pub IsSeat-request : (b : BookTerms) (v w : View) (process k a slot number j n : ℕ) → v.book ≡ b → IsPlace b (request_word a slot number j)
+    → IsSeat v process k → LoadsRequestWord b v w a slot number j n → IsSeat w process k
+IsSeat-request b v w process k a slot number j n book within seat told =
+    let x : SeenRequest = seen_as a slot number told.request in
+    subst (λ t. IsSeat t process k) (sym told.same)
+    (IsSeat-asking v v.seen (v.requests ++ x ∷ []) process k a (with_loaded (asking_on (own_part v) a) x) seat seat.history seat.own
+    (SeesOwnRequests-asking v v.seen (v.requests ++ x ∷ []) a (with_loaded (asking_on (own_part v) a) x) (omega (arith, seat.one_part)) refl
+    (λ y there. Contains-append_left v.requests (x ∷ []) y there) seat.asked)
+    (requests_in_range-request b v w a slot number j n book within told seat.in_range) (subst AgreesWithSeen told.same told.agrees))
+
+pub HasCounts-request : (b : BookTerms) (v w : View) (a slot number j n : ℕ) (counts : List ℕ) → 0 < length v.parts
+    → length (own_part v).asking ≡ length v.book.accounts → LoadsRequestWord b v w a slot number j n → HasCounts v counts → HasCounts w counts
+HasCounts-request b v w a slot number j n counts part sized told has =
+    let x : SeenRequest = seen_as a slot number told.request in
+    subst (λ t. HasCounts t counts) (sym told.same)
+    (HasCounts-asking v v.seen (v.requests ++ x ∷ []) a (with_loaded (asking_on (own_part v) a) x) counts part sized refl has)

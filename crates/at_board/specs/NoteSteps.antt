@@ -12,6 +12,6 @@ noted v = record v { parts = [] }
 -- a note's view has no part, what it has seen is a history, and its requests and decisions are in range
 pub record IsNote (view : View) : Type 0 where
   pub no_part : length view.parts ≡ 0
-  pub begun : IsBook view.book
+  pub book : IsBook view.book
   pub history : IsHistory view.book view.seen
   pub in_range : SeesInRange view

@@ -21,27 +21,22 @@ impl Model for BoardSeat {
     ghost use Rattle.std.specs.Prelude.{◌≡◌, []};
     ghost use Rattle.at_board.specs.SeatCounts.{HasCounts};
     ghost use Rattle.at_board.specs.SeatView.{IsSeat, SeatView};
-    ghost use Rattle.at_board.specs.Seen.{SeesInRange};
 
     ghost Value = { SeatView };
 
     ghost view = { λ s. record { board = s.seat.table_id; view = s.seat.me.0 } };
 
     ghost invariant = { λ s. (s.seat.me.1 ≡ []) × IsSeat s.seat.me.0 s.process s.published
-        × HasCounts s.seat.me.0 s.announced.items × SeesInRange s.seat.me.0 };
+        × HasCounts s.seat.me.0 s.announced.items };
 }
 
 impl BoardSeat {
-    ghost use Rattle.at_board.specs.SeatCounts.{HasOwnPart};
     ghost use Rattle.at_board.specs.SeatView.{IsSeat};
-    ghost use Rattle.at_board.specs.Seen.{SeesInRange};
     ghost use Rattle.at_board.specs.Views.{own_part};
 
     /// The process that the seat belongs to. It makes no step. A call of it tells a proof what the seat's type keeps.
     pub fn process(&self) -> u32
         ensures process { result ≡ self.now.view.first }
-        ensures part { HasOwnPart self.now.view }
-        ensures in_range { SeesInRange self.now.view }
         ensures seat { IsSeat self.now.view result (own_part self.now.view).published }
     {
         self.process

@@ -11,9 +11,7 @@ use Rattle.at_board.specs.declared.view.Part.{Part}
 use Rattle.at_board.specs.declared.view.View.{View}
 use Rattle.at_board.specs.Conditions.{MayPublish, MayStoreWord}
 use Rattle.at_board.specs.Places.{record_width}
-use Rattle.at_board.specs.SeatCounts.{HasOwnPart}
 use Rattle.at_board.specs.SeatView.{IsSeat}
-use Rattle.at_board.specs.Seen.{SeesInRange}
 use Rattle.at_board.specs.Steps.{Publishes, StoresWord, with_part, with_record, with_word}
 use Rattle.at_board.specs.Views.{no_part, own_part}
 use Rattle.at_board.specs.Words.{record_words}
@@ -73,10 +71,10 @@ IsStoring-more v u w words j n some inside storing word told =
     }
 
 -- the log has room for the record
-pub published-MayAppend : (b : BookTerms) (v : View) (x : Record) (process published : ℕ) → v.book ≡ b → IsSeat v process published → SeesInRange v
+pub published-MayAppend : (b : BookTerms) (v : View) (x : Record) (process published : ℕ) → v.book ≡ b → IsSeat v process published
     → MayAppend b v x → (own_part v).published < log_room_of b v.first
-published-MayAppend b v x process published book seat sees may =
-    published-MayEnter b v (published_by v.first x) process published book seat sees refl may.view may.entry
+published-MayAppend b v x process published book seat may =
+    published-MayEnter b v (published_by v.first x) process published book seat refl may.view may.entry
 
 -- all that a store asks
 pub MayStoreWord-IsStoring : (b : BookTerms) (v u : View) (words : List ℕ) (j k : ℕ) → 0 < length v.parts
@@ -92,13 +90,13 @@ length-record_words : (b : BookTerms) (v : View) (x : Record) → MayAppend b v 
 length-record_words b v x may = omega (arith, length-IsFront b.processes x.view v.seen may.view.front)
 
 -- all words are stored
-pub MayPublish-IsStoring : (b : BookTerms) (v u : View) (x : Record) (j : ℕ) → v.book ≡ b → HasOwnPart v → MayAppend b v x
+pub MayPublish-IsStoring : (b : BookTerms) (v u : View) (x : Record) (j : ℕ) → v.book ≡ b → (process published : ℕ) → IsSeat v process published → MayAppend b v x
     → IsStoring v u (record_words (published_by v.first x)) j → j ≡ record_width b → MayPublish b u (published_by v.first x)
-MayPublish-IsStoring b v u x j book part may storing all =
-    let some : 0 < length v.parts = omega (arith, part.one_part) in
+MayPublish-IsStoring b v u x j book process published seat may storing all =
+    let some : 0 < length v.parts = omega (arith, seat.one_part) in
     let y : Publication = published_by v.first x in
     let own = own_part-with_part v (with_stored (own_part v) storing.stored) some in
-    let size : length storing.stored ≡ record_width b = storing.sized ∙ (part.words ∙ ap record_width book) in
+    let size : length storing.stored ≡ record_width b = storing.sized ∙ (seat.words ∙ ap record_width book) in
     let words : storing.stored ≡ record_words y = same_number_lists storing.stored (record_words y)
     (size ∙ sym (length-record_words b v x may)) (λ k within. storing.words_so_far k (omega (arith, within, size, all))) in
     subst (λ t. MayPublish b t y) (sym storing.same)

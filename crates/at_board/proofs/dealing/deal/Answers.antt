@@ -2,12 +2,11 @@ use Rattle.std.proofs.Common.{◌≡◌, ◌+◌, ◌-◌, ◌<◌, [], sym, ap,
 use Rattle.at_ledger.specs.Book.{BookTerms}
 use Rattle.at_board.proofs.CutLaws.{IsSeat-starting, Ruled-cut, first_part-rest_view, new_seats-more, other_parts-rest_view, rest_view, rest_view-last}
 use Rattle.at_board.proofs.PlaceLaws.{place_at-below}
-use Rattle.at_board.proofs.SeatCountLaws.{HasCounts-starting, SeesInRange-starting}
+use Rattle.at_board.proofs.SeatCountLaws.{HasCounts-starting}
 use Rattle.at_board.specs.declared.view.View.{View}
 use Rattle.at_board.specs.Cuts.{first_part, other_parts, starting_seat}
 use Rattle.at_board.specs.Places.{length_of}
 use Rattle.at_board.specs.SeatCounts.{HasCounts}
-use Rattle.at_board.specs.Seen.{SeesInRange}
 use Rattle.at_board.specs.SeatView.{IsSeat, SeatView}
 use Rattle.at_board.proofs.dealing.deal.Goals as goal
 
@@ -31,7 +30,6 @@ invariant_of-push c =
       ap (λ m. m.1) me ∙ ap (λ m. m.1) c.loop-process.invariant.3,
       subst (λ (v : View). IsSeat v p 0) (sym view) (IsSeat-starting b p c.accounts-accounts.ensures.checked within),
       subst (λ (v : View). HasCounts v c.in_ok-no_requests.field-0.items) (sym view) (HasCounts-starting b p c.in_ok-no_requests.field-0.items c.in_ok-no_requests.ensures),
-      subst SeesInRange (sym view) (SeesInRange-starting b p),
     )
 
 pub invariant_of-push-2 : goal.invariant_of-push-2
@@ -45,7 +43,6 @@ invariant_of-push-2 c =
       ap (λ m. m.1) c.loop-process.invariant.3,
       subst (λ (v : View). IsSeat v p 0) (sym view) (IsSeat-starting b p c.accounts-accounts.ensures.checked (omega arith)),
       subst (λ (v : View). HasCounts v c.in_ok-no_requests-2.field-0.items) (sym view) (HasCounts-starting b p c.in_ok-no_requests-2.field-0.items c.in_ok-no_requests-2.ensures),
-      subst SeesInRange (sym view) (SeesInRange-starting b p),
     )
 
 pub loop-process-preserved : goal.loop-process-preserved

@@ -1,12 +1,11 @@
 use Rattle.std.proofs.Common.{◌≡◌, ℕ, ◌*◌, ◌<◌, length, refl, ap, ◌∙◌, arith}
 use Rattle.at_ledger.specs.Book.{BookTerms}
-use Rattle.at_board.proofs.AskingFacts.{HasOwnPart-StoresRequestWord, MayAsk-StoresRequestWord}
+use Rattle.at_board.proofs.AskingFacts.{HasOwnPart, HasOwnPart-IsSeat, HasOwnPart-StoresRequestWord, MayAsk-StoresRequestWord}
 use Rattle.at_board.proofs.LaterRoundLaws.{Announces-stored, may_announce_in, may_ask_in, stored_more, with_payment}
 use Rattle.at_board.specs.declared.view.Asking.{Asking}
 use Rattle.at_board.specs.declared.view.View.{View}
 use Rattle.at_board.specs.Conditions.{MayAnnounce, MayAsk}
 use Rattle.at_board.specs.RequestSteps.{StoresRequestWord, with_asking, with_request_word}
-use Rattle.at_board.specs.SeatCounts.{HasOwnPart}
 use Rattle.at_board.specs.SmallBoard.{HasTwoOwners, MayAskIn, payment_in}
 use Rattle.at_board.specs.Views.{asking_on, own_part}
 use Rattle.at_board.proofs.later_round_tests.ask_in.Goals as goal
@@ -57,7 +56,7 @@ store_request_word-requires-clause-asks g c =
 pub store_request_word-requires-2-clause-asks : goal.store_request_word-requires-2-clause-asks
 store_request_word-requires-2-clause-asks g c = (
   0,
-  may_after_one c.args.board.now.book c.args.seat.now.view c.store_request_word.new.seat.view c.args.round c.requires.board.book c.process-process.ensures.part
+  may_after_one c.args.board.now.book c.args.seat.now.view c.store_request_word.new.seat.view c.args.round c.requires.board.book (HasOwnPart-IsSeat c.process-process.ensures.seat)
       c.requires.owners c.requires.process c.requires.asks c.store_request_word.ensures.stored,
 )
 
@@ -65,7 +64,7 @@ pub store_request_word-requires-3-clause-asks : goal.store_request_word-requires
 store_request_word-requires-3-clause-asks g c = (
   0,
   may_after_two c.args.board.now.book c.args.seat.now.view c.store_request_word.new.seat.view c.store_request_word-2.new.seat.view c.args.round c.args.amount
-      c.requires.board.book c.process-process.ensures.part c.requires.owners c.requires.process c.requires.asks c.store_request_word.ensures.stored
+      c.requires.board.book (HasOwnPart-IsSeat c.process-process.ensures.seat) c.requires.owners c.requires.process c.requires.asks c.store_request_word.ensures.stored
       c.store_request_word-2.ensures.stored,
 )
 
@@ -74,7 +73,7 @@ announce-requires-clause-request g c = (
   0,
   payment_in c.args.round c.args.amount,
   may_announce c.args.board.now.book c.args.seat.now.view c.store_request_word.new.seat.view c.store_request_word-2.new.seat.view
-      c.store_request_word-3.new.seat.view c.args.round c.args.amount (2 * c.from.result) c.requires.board.book c.process-process.ensures.part c.requires.owners
+      c.store_request_word-3.new.seat.view c.args.round c.args.amount (2 * c.from.result) c.requires.board.book (HasOwnPart-IsSeat c.process-process.ensures.seat) c.requires.owners
       c.requires.process c.requires.asks (ap (λ n. 2 * n) c.from.ensures) c.store_request_word.ensures.stored c.store_request_word-2.ensures.stored
       c.store_request_word-3.ensures.stored,
 )
@@ -88,7 +87,7 @@ returns-clause-announced g c =
     let three : View = c.store_request_word-3.new.seat.view in
     let m = c.args.amount in
     let s = 2 * c.from.result in
-    let has = c.process-process.ensures.part in
+    let has = HasOwnPart-IsSeat c.process-process.ensures.seat in
     let s1 = c.store_request_word.ensures.stored in
     let s2 = c.store_request_word-2.ensures.stored in
     let s3 = c.store_request_word-3.ensures.stored in

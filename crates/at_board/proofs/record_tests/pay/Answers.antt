@@ -57,7 +57,7 @@ stored : (g : given.Over) (c : After-store_record_word-2 g) → Stores c.args.se
 stored g c =
     let v : View = c.args.seat.now.view in
     let one : View = c.store_record_word.new.seat.view in
-    let part = c.process-process.ensures.part.one_part in
+    let part = c.process-process.ensures.seat.one_part in
     Stores-more v one c.store_record_word-2.new.seat.view (with_word (own_part v) 1 1099511627777) 3 30 part
     (Stores-more v v one (own_part v) 1 1099511627777 part (Stores-none v) c.store_record_word.ensures.stored) c.store_record_word-2.ensures.stored
 
@@ -75,7 +75,7 @@ returns-clause-idle g c =
     let v : View = c.args.seat.now.view in
     let x = payment c.args.board.now.book.processes v.first in
     IsIdle-published c.args.board.now c.args.seat.now c.store_record_word-2.new.seat c.publish.new.seat (with_two (own_part v)) x
-    (record { id = c.requires.board; book = ap (λ (t : View). t.book) c.requires.new }) c.process-process.ensures.part.one_part (stored g before)
+    (record { id = c.requires.board; book = ap (λ (t : View). t.book) c.requires.new }) c.process-process.ensures.seat.one_part (stored g before)
     (ap (λ (t : View). held_after x (own_part t).held) c.requires.new) (c.publish.ensures.published x (may g before))
     (c.publish.ensures.board ∙ (c.store_record_word-2.ensures.board ∙ c.store_record_word.ensures.board))
 

@@ -4,7 +4,7 @@ use Rattle.std.proofs.lemmas.List.{get_or-replicate}
 use Rattle.std.proofs.lemmas.List.Elements.{All-cons, All-nil, Contains-append_right}
 use Rattle.at_ledger.specs.Book.{BookTerms, IsBook}
 use Rattle.at_ledger.specs.Call.{TargetPair}
-use Rattle.at_board.proofs.AskingFacts.{HasOwnPart-StoresRequestWord, MayAsk-StoresRequestWord, asking-StoresRequestWord}
+use Rattle.at_board.proofs.AskingFacts.{HasOwnPart, HasOwnPart-IsSeat, HasOwnPart-StoresRequestWord, MayAsk-StoresRequestWord, asking-StoresRequestWord}
 use Rattle.at_board.proofs.OwnRequestLaws.{own_part-with_part}
 use Rattle.at_board.specs.declared.view.Asking.{Asking}
 use Rattle.at_board.specs.declared.view.Part.{Part}
@@ -13,7 +13,6 @@ use Rattle.at_board.specs.Conditions.{MayAnnounce, MayAsk}
 use Rattle.at_board.specs.Cuts.{starting_seat}
 use Rattle.at_board.specs.RequestSteps.{Announces, StoresRequestWord, part_asking, seen_as, with_asking, with_request, with_request_word}
 use Rattle.at_board.specs.Rounds.{rounds}
-use Rattle.at_board.specs.SeatCounts.{HasOwnPart}
 use Rattle.at_board.specs.SmallBoard.{payment}
 use Rattle.at_board.specs.Views.{HasSlot, SeesRequest, asking_on, no_asking, own_part, starting_asking}
 use Rattle.at_board.proofs.request_tests.ask.Given as given
@@ -90,7 +89,7 @@ part-after u v w first second = second ∙ ap (λ (p : Part). record p { asking 
 may : (g : given.Over) (c : After-store_request_word-2 g) → MayAnnounce c.args.board.now.book c.store_request_word-2.new.seat.view 0 c.requires.slot.0 payment
 may g c =
     asked c.args.board.now.book c.args.seat.now.view c.store_request_word.new.seat.view c.store_request_word-2.new.seat.view c.requires.slot.0
-    (subst IsBook c.book.ensures c.accounts-accounts.ensures.checked) c.requires.new c.process-process.ensures.part c.requires.slot.1
+    (subst IsBook c.book.ensures c.accounts-accounts.ensures.checked) c.requires.new (HasOwnPart-IsSeat c.process-process.ensures.seat) c.requires.slot.1
     c.store_request_word.ensures.stored c.store_request_word-2.ensures.stored
 
 pub announce-requires-clause-request : goal.announce-requires-clause-request
@@ -122,7 +121,7 @@ returns-clause-request g c = λ slot has.
     let book : IsBook b = subst IsBook c.book.ensures c.accounts-accounts.ensures.checked in
     let first = c.store_request_word.ensures.stored in
     let second = c.store_request_word-2.ensures.stored in
-    let part = c.process-process.ensures.part in
+    let part = HasOwnPart-IsSeat c.process-process.ensures.seat in
     sees_payment b two c.announce.new.seat.view slot (ap (λ (w : Asking). length w.announced) (stored_asking b v one two slot c.requires.new part has first second))
     (c.announce.ensures.announced slot payment (asked b v one two slot book c.requires.new part has first second))
 
@@ -135,7 +134,7 @@ returns-clause-part g c =
     let last : View = c.announce.new.seat.view in
     let first = c.store_request_word.ensures.stored in
     let second = c.store_request_word-2.ensures.stored in
-    let part = c.process-process.ensures.part in
+    let part = HasOwnPart-IsSeat c.process-process.ensures.seat in
     let slot = c.requires.slot.0 in
     let told = c.announce.ensures.announced slot payment (may g before) in
     let one_part = HasOwnPart-StoresRequestWord v one 0 0 (2 ^ 40) part first in

@@ -15,7 +15,7 @@ stored : (g : given.Over) (c : After-store_record_word-4 g)
     → Stores c.args.seat.now.view c.store_record_word-4.new.seat.view (with_four (own_part c.args.seat.now.view) (2 + 2 * c.from.result))
 stored g c =
     Stores-four c.args.seat.now.view c.store_record_word.new.seat.view c.store_record_word-2.new.seat.view c.store_record_word-3.new.seat.view
-    c.store_record_word-4.new.seat.view (2 + 2 * c.from.result) c.process-process.ensures.part.one_part c.store_record_word.ensures.stored
+    c.store_record_word-4.new.seat.view (2 + 2 * c.from.result) c.process-process.ensures.seat.one_part c.store_record_word.ensures.stored
     c.store_record_word-2.ensures.stored c.store_record_word-3.ensures.stored c.store_record_word-4.ensures.stored
 
 may : (g : given.Over) (c : After-store_record_word-4 g)
@@ -43,7 +43,7 @@ returns-clause-idle g c =
     let n = c.args.board.now.book.processes in
     let x = round_record n v.first c.args.slot in
     IsIdle-published c.args.board.now c.args.seat.now c.store_record_word-4.new.seat c.publish.new.seat (with_four (own_part v) (2 + 2 * c.from.result)) x
-    c.requires.board c.process-process.ensures.part.one_part (stored g before) (gives_up_cell c.args.board.now.book v n v.first c.args.slot c.requires.won)
+    c.requires.board c.process-process.ensures.seat.one_part (stored g before) (gives_up_cell c.args.board.now.book v n v.first c.args.slot c.requires.won)
     (c.publish.ensures.published x (may g before))
     (c.publish.ensures.board ∙ (c.store_record_word-4.ensures.board ∙ (c.store_record_word-3.ensures.board
     ∙ (c.store_record_word-2.ensures.board ∙ c.store_record_word.ensures.board))))

@@ -17,11 +17,11 @@ append-requires-clause-record g c =
 pub returns-clause-paid : goal.returns-clause-paid
 returns-clause-paid g c =
     let both = HasPaid-first c.args.board.now.book c.args.seat.now.view c.append.new.seat.view 0 _ c.requires.new
-    (omega (arith, c.process-process.ensures.part.one_part)) c.append.ensures.published in
+    (omega (arith, c.process-process.ensures.seat.one_part)) c.append.ensures.published in
     both.1
 
 pub returns-clause-process : goal.returns-clause-process
 returns-clause-process g c =
     let both = HasPaid-first c.args.board.now.book c.args.seat.now.view c.append.new.seat.view 0 _ c.requires.new
-    (omega (arith, c.process-process.ensures.part.one_part)) c.append.ensures.published in
+    (omega (arith, c.process-process.ensures.seat.one_part)) c.append.ensures.published in
     both.0

@@ -12,7 +12,7 @@ loop-p-preserved g c =
     let p = c.loop-p.p in
     let within : p < b.processes = omega (arith, c.processes-n.ensures, ap (λ (t : BookTerms). t.processes) c.book-2.ensures) in
     let told = c.load_length.ensures.told in
-    let more = IsCollecting-load b v c.loop-p.seat.view w c.loop-p.counts p c.load_length.result (omega (arith, c.process-process.ensures.part.one_part)) within c.loop-p.invariant.0 told in (
+    let more = IsCollecting-load b v c.loop-p.seat.view w c.loop-p.counts p c.load_length.result (omega (arith, c.process-process.ensures.seat.one_part)) within c.loop-p.invariant.0 told in (
       subst (λ xs. IsCollecting b v w xs (p + 1)) (sym c.set.ensures) more,
       record {
         id = c.load_length.ensures.board ∙ c.loop-p.invariant.1.id;

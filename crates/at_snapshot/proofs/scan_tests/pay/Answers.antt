@@ -78,5 +78,5 @@ returns-clause-paid g c =
     let b : BookTerms = c.args.board.now.book in
     let v : View = c.args.seat.now.view in
     let w : View = c.append.new.seat.view in
-    has_paid b v w c.zeros.result c.requires.new (omega (arith, c.process-process.ensures.part.one_part))
+    has_paid b v w c.zeros.result c.requires.new (omega (arith, c.process-process.ensures.seat.one_part))
     (subst (λ (r : Record). Publishes b v w (published_by v.first r)) c.paid-record.ensures c.append.ensures.published)

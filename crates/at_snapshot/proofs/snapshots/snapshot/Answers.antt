@@ -26,7 +26,7 @@ loop-counts-preserved g c =
     let scan : ScanView = c.loop-counts.scan in
     let before = c.args.steps.now in
     let turns = c.loop-counts.invariant.0.0 in
-    let more = IsSnapping-Again b begun scan c.loop-counts.seat.view w before c.loop-counts.steps turns (omega (arith, c.process-process.ensures.part.one_part))
+    let more = IsSnapping-Again b begun scan c.loop-counts.seat.view w before c.loop-counts.steps turns (omega (arith, c.process-process.ensures.seat.one_part))
     c.loop-counts.invariant.0.1 c.turn.ensures.collect c.in-Again.ensures.answer in
     let steps : c.turn.new.steps ≡ c.loop-counts.steps + b.processes = omega (arith, c.in-Again.ensures.steps) in (
       (
@@ -55,7 +55,7 @@ snapped g c =
     let begun : View = c.args.seat.now.view in
     let known : begun.first < b.processes = omega (arith, c.process-process.ensures.seat.known, ap (λ (t : BookTerms). t.processes) c.requires.book) in
     IsSnapped-IsSnapping b begun c.loop-counts.scan c.loop-counts.seat.view c.turn.new.seat.view c.args.steps.now c.loop-counts.steps
-    c.loop-counts.invariant.0.0 c.turn.result (omega (arith, c.process-process.ensures.part.one_part)) known c.loop-counts.invariant.0.1 c.turn.ensures.collect
+    c.loop-counts.invariant.0.0 c.turn.result (omega (arith, c.process-process.ensures.seat.one_part)) known c.loop-counts.invariant.0.1 c.turn.ensures.collect
 
 pub returns-in-Clean-clause-loads : goal.returns-in-Clean-clause-loads
 returns-in-Clean-clause-loads g c = (snapped g c).loads

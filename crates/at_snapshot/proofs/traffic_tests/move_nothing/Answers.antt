@@ -59,5 +59,5 @@ append-requires-clause-record g c =
     let known : v.first < b.processes =
     omega (arith, c.process-process.ensures.seat.known, ap (λ (t : BookTerms). t.processes) c.requires.publisher.of_board.book) in
     subst (λ ts. MayAppend b w (moving (c.process-process.result + 1) ts view)) (sym c.one.ensures)
-    (may_append b v w (c.process-process.result + 1) view source known c.process-process.ensures.part.one_part
+    (may_append b v w (c.process-process.result + 1) view source known c.process-process.ensures.seat.one_part
     c.requires.publisher.owner c.requires.room c.snapshot.ensures.loads c.snapshot.ensures.snapshot)

@@ -1,6 +1,6 @@
 use Rattle.std.proofs.Common.{◌≡◌, ◌+◌, ℕ, sym, ap, subst, ◌∙◌, arith}
 use Rattle.at_ledger.specs.Book.{BookTerms}
-use Rattle.at_board.proofs.AnnounceStep.{Announces-played, Announces-same, HasCounts-announce, IsSeat-announce, MayAnnounce-same, MayAnnounce-slot, SeesInRange-announce, announces_at, place-MayAnnounce}
+use Rattle.at_board.proofs.AnnounceStep.{Announces-played, Announces-same, HasCounts-announce, IsSeat-announce, MayAnnounce-same, MayAnnounce-slot, announces_at, place-MayAnnounce}
 use Rattle.at_board.proofs.PlaceLaws.{place_at-below}
 use Rattle.at_board.proofs.RequestStoreLaws.{same_slot}
 use Rattle.at_board.proofs.RequestStoreStep.{next_number}
@@ -79,10 +79,9 @@ invariant_of-seat g c =
     let asked = may g before c.requires.request.0 r c.requires.request.2 in
     let announced = told g after r asked in (
       c.store.ensures.2.0 ∙ c.seat.invariant.0,
-      IsSeat-announce b v w c.seat.inside.process c.seat.inside.published a slot r (book g before) asked.asks.slot_in c.seat.invariant.1 announced,
-      HasCounts-announce b v w a slot r (c.announced-count.result + 1) c.seat.inside.announced.items (omega (arith, c.seat.invariant.1.one_part))
+      IsSeat-announce b v w c.seat.inside.process c.seat.inside.published a slot r (book g before) c.seat.invariant.1.history.few asked c.seat.invariant.1 announced,
+      HasCounts-announce b v w a slot r (c.announced-count.result + 1) c.seat.inside.announced.items (omega (arith, c.seat.invariant.1.one_part)) c.seat.invariant.1.accounts
           (omega (arith, counted g before)) announced c.seat.invariant.2,
-      SeesInRange-announce b v w a slot r (book g before) c.seat.invariant.1.history.few asked announced c.seat.invariant.3,
     )
 
 pub returns-clause-announced : goal.returns-clause-announced

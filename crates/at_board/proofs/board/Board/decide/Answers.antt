@@ -2,7 +2,7 @@ use Rattle.std.proofs.Common.{◌≡◌, sym, ap, subst, ◌∙◌, arith}
 use Rattle.at_base.specs.Decision.{word_of}
 use Rattle.at_base.specs.declared.decision.Decision.{Decision}
 use Rattle.at_ledger.specs.Book.{BookTerms, IsBegun}
-use Rattle.at_board.proofs.DecideStep.{Decides-played, HasCounts-decided, IsSeat-decided, SeesInRange-decided, decides_at}
+use Rattle.at_board.proofs.DecideStep.{Decides-played, HasCounts-decided, IsSeat-decided, decides_at}
 use Rattle.at_board.proofs.PlaceLaws.{place_at-below}
 use Rattle.at_board.proofs.RoomLaws.{IsPlace-MayPropose}
 use Rattle.at_board.proofs.StepLaws.{IsSeatOf-IsSeat}
@@ -25,7 +25,7 @@ book g c = ap (λ (t : View). t.book) (mine g c) ∙ c.requires.board.book
 pub cell_place-place-requires : goal.cell_place-place-requires
 cell_place-place-requires g c =
     IsPlace-MayPropose c.args.self.now.book c.args.seat.now.view c.args.account c.args.round c.requires.proposal.0 c.requires.proposal.1
-    c.requires.board.book c.process-process.ensures.seat.history c.process-process.ensures.in_range c.requires.proposal.2
+    c.requires.board.book c.process-process.ensures.seat.history c.process-process.ensures.seat.in_range c.requires.proposal.2
 
 -- the step decides the round, or finds what decided it
 told : (g : given.Over) (c : After-compare_exchange-found g) (d : Decision) (r : Request)
@@ -57,7 +57,7 @@ compare_exchange-found-requires g c =
           c.args.account c.args.round c.requires.proposal.0 c.requires.proposal.1 c.cell_place-place.result c.args.proposal (c.self.invariant.0 ∙ ours) (mine g before)
           c.cell_place-place.ensures.place c.requires.proposal.3 (subst IsBegun ours c.self.invariant.2.begun)
           (IsSeatOf-IsSeat b v c.seat.inside.process c.seat.inside.published (book g before) kept) c.seat.invariant.0 kept.history
-          c.seat.invariant.3 c.requires.proposal.2,
+          kept.in_range c.requires.proposal.2,
     )
 
 pub invariant_of-seat : goal.invariant_of-seat
@@ -72,9 +72,8 @@ invariant_of-seat g c =
     let decided : Decides b v w c.args.account c.args.round d n = subst (λ (t : View). Decides b t w c.args.account c.args.round d n) (sym (mine g before))
     (told g after d c.requires.proposal.1 c.requires.proposal.2 c.requires.proposal.3) in (
       c.compare_exchange-found.ensures.2.0 ∙ c.seat.invariant.0,
-      IsSeat-decided b v w c.seat.inside.process c.seat.inside.published c.args.account c.args.round d n (book g before) c.seat.invariant.1 decided,
-      HasCounts-decided b v w c.args.account c.args.round d n c.seat.inside.announced.items (omega (arith, c.seat.invariant.1.one_part)) decided c.seat.invariant.2,
-      SeesInRange-decided b v w c.args.account c.args.round d n (book g before) (cell_place-place-requires g before) decided c.seat.invariant.3,
+      IsSeat-decided b v w c.seat.inside.process c.seat.inside.published c.args.account c.args.round d n (book g before) (cell_place-place-requires g before) c.seat.invariant.1 decided,
+      HasCounts-decided b v w c.args.account c.args.round d n c.seat.inside.announced.items (omega (arith, c.seat.invariant.1.one_part)) c.seat.invariant.1.accounts decided c.seat.invariant.2,
     )
 
 pub returns-clause-decided : goal.returns-clause-decided

@@ -1,13 +1,12 @@
 use Rattle.std.proofs.Common.{◌≡◌, ◌<◌, length, sym, ap, subst, ◌∙◌, arith}
 use Rattle.at_ledger.specs.Book.{BookTerms}
-use Rattle.at_board.proofs.LearnLaws.{HasCounts-learned, IsSeat-learned, Learns-learned, SeesInRange-learned, learns}
+use Rattle.at_board.proofs.LearnLaws.{HasCounts-learned, IsSeat-learned, Learns-learned, learns}
 use Rattle.at_board.proofs.NoteLaws.{word_count-some}
 use Rattle.at_board.specs.declared.view.View.{View}
 use Rattle.at_board.specs.LearnSteps.{Learns, learned}
 use Rattle.at_board.specs.Meetings.{AreSeen}
 use Rattle.at_board.specs.Seated.{Ruled}
 use Rattle.at_board.specs.SeatCounts.{HasCounts}
-use Rattle.at_board.specs.Seen.{SeesInRange}
 use Rattle.at_board.specs.SeatView.{IsSeat}
 use Rattle.at_board.proofs.board.Board.learn.Goals as goal
 
@@ -48,7 +47,6 @@ invariant_of-seat g c =
       subst (λ t. IsSeat t c.seat.inside.process c.seat.inside.published) after
           (IsSeat-learned b c.seat.inside.seat.id c.note.inside.seat.id v w c.seat.inside.process c.seat.inside.published book note_book c.seat.invariant.1 c.note.invariant.1 met),
       subst (λ t. HasCounts t c.seat.inside.announced.items) after (HasCounts-learned v w c.seat.inside.announced.items c.seat.invariant.2),
-      subst SeesInRange after (SeesInRange-learned v w (note_book ∙ sym book) c.seat.invariant.3 c.note.invariant.1.in_range),
     )
 
 pub returns-clause-learned : goal.returns-clause-learned

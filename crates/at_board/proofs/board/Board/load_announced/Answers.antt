@@ -1,6 +1,6 @@
 use Rattle.std.proofs.Common.{◌≡◌, sym, ap, subst, ◌∙◌, arith}
 use Rattle.at_ledger.specs.Book.{BookTerms, IsBegun}
-use Rattle.at_board.proofs.AnnouncedStep.{HasCounts-announced, IsSeat-announced, LoadsAnnounced-played, SeesInRange-announced, loads_announced_at}
+use Rattle.at_board.proofs.AnnouncedStep.{HasCounts-announced, IsSeat-announced, LoadsAnnounced-played, loads_announced_at}
 use Rattle.at_board.proofs.PlaceLaws.{place_at-below}
 use Rattle.at_board.proofs.StepLaws.{IsSeatOf-IsSeat}
 use Rattle.at_board.specs.declared.view.View.{View}
@@ -35,7 +35,6 @@ invariant_of-seat g c =
     LoadsAnnounced-played b c.self.inside.table.shared.table_id.slots c.seat.inside.seat.me c.load-count.new.seat.me c.args.account c.args.slot c.load-count.result
     c.announced_place-place.result book c.announced_place-place.ensures.place is c.load-count.ensures.2 in (
       c.load-count.ensures.2.0 ∙ c.seat.invariant.0,
-      IsSeat-announced b v w c.seat.inside.process c.seat.inside.published c.args.account c.args.slot c.load-count.result book c.seat.invariant.1 told,
-      HasCounts-announced b v w c.args.account c.args.slot c.load-count.result c.seat.inside.announced.items (omega (arith, c.seat.invariant.1.one_part)) told c.seat.invariant.2,
-      SeesInRange-announced b v w c.args.account c.args.slot c.load-count.result book is told c.seat.invariant.3,
+      IsSeat-announced b v w c.seat.inside.process c.seat.inside.published c.args.account c.args.slot c.load-count.result book is c.seat.invariant.1 told,
+      HasCounts-announced b v w c.args.account c.args.slot c.load-count.result c.seat.inside.announced.items (omega (arith, c.seat.invariant.1.one_part)) c.seat.invariant.1.accounts told c.seat.invariant.2,
     )

@@ -1,7 +1,7 @@
 use Rattle.std.proofs.Common.{◌≡◌, sym, ap, subst, ◌∙◌, arith}
 use Rattle.at_ledger.specs.Book.{BookTerms, IsBegun}
 use Rattle.at_board.proofs.PlaceLaws.{place_at-below}
-use Rattle.at_board.proofs.SeatCountLaws.{HasCounts-load, SeesInRange-load}
+use Rattle.at_board.proofs.SeatCountLaws.{HasCounts-load}
 use Rattle.at_board.proofs.SeatKept.{IsSeat-load, count_of-IsHistory}
 use Rattle.at_board.proofs.StepLaws.{IsSeatOf-IsSeat, LoadsLength-played, loads_length_at, place_at-length_of}
 use Rattle.at_board.specs.declared.view.View.{View}
@@ -50,7 +50,6 @@ invariant_of-seat g c =
       c.load-length.ensures.2.0 ∙ c.seat.invariant.0,
       IsSeat-load b v w c.seat.inside.process c.seat.inside.published c.args.p c.load-length.result (book g after) c.seat.invariant.1 loaded,
       HasCounts-load b v w c.args.p c.load-length.result c.seat.inside.announced.items (omega (arith, c.seat.invariant.1.one_part)) loaded c.seat.invariant.2,
-      SeesInRange-load b v w c.args.p c.load-length.result loaded c.seat.invariant.3,
     )
 
 pub returns-clause-told : goal.returns-clause-told

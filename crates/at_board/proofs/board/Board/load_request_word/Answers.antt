@@ -2,7 +2,7 @@ use Rattle.std.proofs.Common.{◌≡◌, sym, ap, subst, ◌∙◌, arith}
 use Rattle.at_ledger.specs.Book.{BookTerms, IsBegun}
 use Rattle.at_board.proofs.PlaceLaws.{place_at-below}
 use Rattle.at_board.proofs.RequestWordLaws.{place-MayLoadRequest}
-use Rattle.at_board.proofs.RequestWordStep.{HasCounts-request, IsSeat-request, LoadsRequestWord-played, SeesInRange-request, loads_request_word_at}
+use Rattle.at_board.proofs.RequestWordStep.{HasCounts-request, IsSeat-request, LoadsRequestWord-played, loads_request_word_at}
 use Rattle.at_board.proofs.StepLaws.{IsSeatOf-IsSeat}
 use Rattle.at_board.specs.declared.view.View.{View}
 use Rattle.at_board.specs.Places.{IsPlace, request_word, word_count}
@@ -25,7 +25,7 @@ may g c = subst (λ (t : View). MayLoadRequest t c.args.account c.args.slot c.ar
 pub request_place-place-requires : goal.request_place-place-requires
 request_place-place-requires g c =
     subst (λ (t : BookTerms). IsPlace t (request_word c.args.account c.args.slot c.args.number c.args.j)) c.requires.board.book
-    (place-MayLoadRequest c.args.seat.now.view c.args.account c.args.slot c.args.number c.args.j c.process-process.ensures.in_range c.requires.request)
+    (place-MayLoadRequest c.args.seat.now.view c.args.account c.args.slot c.args.number c.args.j c.process-process.ensures.seat.in_range c.requires.request)
 
 -- the step loads the word
 told : (g : given.Over) (c : After-load g) → LoadsRequestWord c.args.self.now.book c.seat.inside.seat.me.0 c.load.new.seat.me.0 c.args.account c.args.slot
@@ -63,11 +63,10 @@ invariant_of-seat g c =
     let v : View = c.seat.inside.seat.me.0 in
     let w : View = c.load.new.seat.me.0 in (
       c.load.ensures.2.0 ∙ c.seat.invariant.0,
-      IsSeat-request b v w c.seat.inside.process c.seat.inside.published c.args.account c.args.slot c.args.number c.args.j c.load.result c.seat.invariant.1 (told g c),
+      IsSeat-request b v w c.seat.inside.process c.seat.inside.published c.args.account c.args.slot c.args.number c.args.j c.load.result (book g before)
+          (request_place-place-requires g before) c.seat.invariant.1 (told g c),
       HasCounts-request b v w c.args.account c.args.slot c.args.number c.args.j c.load.result c.seat.inside.announced.items (omega (arith, c.seat.invariant.1.one_part))
-          (told g c) c.seat.invariant.2,
-      SeesInRange-request b v w c.args.account c.args.slot c.args.number c.args.j c.load.result (book g before) (request_place-place-requires g before) (told g c)
-          c.seat.invariant.3,
+          c.seat.invariant.1.accounts (told g c) c.seat.invariant.2,
     )
 
 pub returns-clause-told : goal.returns-clause-told

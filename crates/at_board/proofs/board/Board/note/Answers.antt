@@ -14,5 +14,5 @@ pub invariant_of-result : goal.invariant_of-result
 invariant_of-result g c = (
   ap (λ m. m.1) c.split_seat.ensures.4,
   subst IsNote (sym (ap (λ m. m.0) c.split_seat.ensures.4))
-      (IsNote-noted c.seat.inside.seat.me.0 c.seat.inside.process c.seat.inside.published c.seat.invariant.1 c.seat.invariant.3),
+      (IsNote-noted c.seat.inside.seat.me.0 c.seat.inside.process c.seat.inside.published c.seat.invariant.1),
 )

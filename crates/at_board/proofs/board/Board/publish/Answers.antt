@@ -3,7 +3,7 @@ use Rattle.at_ledger.specs.Book.{BookTerms, log_room_of}
 use Rattle.at_board.proofs.LogRoomLaws.{published-MayEnter}
 use Rattle.at_board.proofs.PlaceLaws.{place_at-below}
 use Rattle.at_board.proofs.PublishStep.{IsSeat-publish, MayPublish-same, Publishes-played, Publishes-same, publishes_at}
-use Rattle.at_board.proofs.SeatCountLaws.{HasCounts-publish, SeesInRange-publish}
+use Rattle.at_board.proofs.SeatCountLaws.{HasCounts-publish}
 use Rattle.at_board.proofs.SizeLaws.{log_room_of-le}
 use Rattle.at_board.proofs.StepLaws.{IsSeatOf, IsSeatOf-IsSeat, place_at-length_of}
 use Rattle.at_board.specs.declared.publication.Publication.{Publication}
@@ -38,7 +38,7 @@ room : (g : given.Over) (c : After-from g) → let v : View = c.seat.inside.seat
 room g c =
     let x : Publication = c.requires.record.0 in
     let asked = may g c x c.requires.record.1 in
-    published-MayEnter c.self.inside.book c.seat.inside.seat.me.0 x c.seat.inside.process c.seat.inside.published (book g c) c.seat.invariant.1 c.seat.invariant.3
+    published-MayEnter c.self.inside.book c.seat.inside.seat.me.0 x c.seat.inside.process c.seat.inside.published (book g c) c.seat.invariant.1
     asked.process asked.view asked.entry
 
 -- the step publishes the record
@@ -83,8 +83,7 @@ invariant_of-seat g c =
     let published = told g after x (may g before x c.requires.record.1) in (
       c.store.ensures.2.0 ∙ c.seat.invariant.0,
       IsSeat-publish b v w c.seat.inside.process c.seat.inside.published x (book g before) c.seat.invariant.1 published,
-      HasCounts-publish b v w x c.seat.inside.announced.items (book g before) (omega (arith, c.seat.invariant.1.one_part)) published c.seat.invariant.2,
-      SeesInRange-publish b v w x published c.seat.invariant.3,
+      HasCounts-publish b v w x c.seat.inside.announced.items (omega (arith, c.seat.invariant.1.one_part)) published c.seat.invariant.2,
     )
 
 pub returns-clause-published : goal.returns-clause-published

@@ -1,7 +1,7 @@
 use Rattle.std.proofs.Common.{◌≡◌, sym, ap, subst, ◌∙◌, arith}
 use Rattle.at_ledger.specs.Book.{BookTerms}
 use Rattle.at_board.proofs.PlaceLaws.{place_at-below}
-use Rattle.at_board.proofs.SeatCountLaws.{HasCounts-store, SeesInRange-store}
+use Rattle.at_board.proofs.SeatCountLaws.{HasCounts-store}
 use Rattle.at_board.proofs.SeatKept.{IsSeat-store, next_record}
 use Rattle.at_board.proofs.StepLaws.{IsSeatOf-IsSeat, StoresWord-played, stores_word_at}
 use Rattle.at_board.specs.declared.view.View.{View}
@@ -64,7 +64,6 @@ invariant_of-seat g c =
       c.store.ensures.2.0 ∙ c.seat.invariant.0,
       IsSeat-store v w c.seat.inside.process c.seat.inside.published c.args.j c.args.w c.seat.invariant.1 (told g c) c.store.ensures.2.1,
       HasCounts-store v w c.args.j c.args.w c.seat.inside.announced.items (omega (arith, c.seat.invariant.1.one_part)) (told g c) c.seat.invariant.2,
-      SeesInRange-store v w c.args.j c.args.w (told g c) c.seat.invariant.3,
     )
 
 pub returns-clause-stored : goal.returns-clause-stored

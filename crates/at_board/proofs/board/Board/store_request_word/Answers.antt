@@ -1,7 +1,7 @@
 use Rattle.std.proofs.Common.{◌≡◌, sym, ap, subst, ◌∙◌, arith}
 use Rattle.at_ledger.specs.Book.{BookTerms}
 use Rattle.at_board.proofs.PlaceLaws.{place_at-below}
-use Rattle.at_board.proofs.RequestStoreStep.{HasCounts-request_stored, IsSeat-request_stored, MayAsk-slot, SeesInRange-request_stored, StoresRequestWord-played, next_number, place-MayAsk, stores_request_word_at}
+use Rattle.at_board.proofs.RequestStoreStep.{HasCounts-request_stored, IsSeat-request_stored, MayAsk-slot, StoresRequestWord-played, next_number, place-MayAsk, stores_request_word_at}
 use Rattle.at_board.proofs.StepLaws.{IsSeatOf-IsSeat}
 use Rattle.at_board.specs.declared.view.View.{View}
 use Rattle.at_board.specs.Conditions.{MayAsk}
@@ -72,8 +72,7 @@ invariant_of-seat g c =
     let a = c.args.account in (
       c.store.ensures.2.0 ∙ c.seat.invariant.0,
       IsSeat-request_stored v w c.seat.inside.process c.seat.inside.published a c.args.j c.args.w c.seat.invariant.1 (told g c) c.store.ensures.2.1,
-      HasCounts-request_stored v w a c.args.j c.args.w c.seat.inside.announced.items (omega (arith, c.seat.invariant.1.one_part)) (told g c) c.seat.invariant.2,
-      SeesInRange-request_stored v w a c.args.j c.args.w (told g c) c.seat.invariant.3,
+      HasCounts-request_stored v w a c.args.j c.args.w c.seat.inside.announced.items (omega (arith, c.seat.invariant.1.one_part)) c.seat.invariant.1.accounts (told g c) c.seat.invariant.2,
     )
 
 pub returns-clause-stored : goal.returns-clause-stored

@@ -14,13 +14,13 @@ returns-in-None-clause-scan g c =
     let b : BookTerms = c.args.board.now.book in
     let w : View = c.collect-now.new.seat.view in
     subst (λ (s : ScanView). IsScanOf b s w) (sym c.keep.ensures.after)
-    (IsScanOf-after b c.args.self.now c.args.seat.now.view w (omega (arith, c.process-process.ensures.part.one_part)) c.requires.scan c.collect-now.ensures.collect)
+    (IsScanOf-after b c.args.self.now c.args.seat.now.view w (omega (arith, c.process-process.ensures.seat.one_part)) c.requires.scan c.collect-now.ensures.collect)
 
 pub returns-in-Some-clause-scan : goal.returns-in-Some-clause-scan
 returns-in-Some-clause-scan g c =
     let b : BookTerms = c.args.board.now.book in
     let w : View = c.collect-now.new.seat.view in
-    let after = IsScanOf-after b c.args.self.now c.args.seat.now.view w (omega (arith, c.process-process.ensures.part.one_part)) c.requires.scan c.collect-now.ensures.collect in
+    let after = IsScanOf-after b c.args.self.now c.args.seat.now.view w (omega (arith, c.process-process.ensures.seat.one_part)) c.requires.scan c.collect-now.ensures.collect in
     subst (λ (s : SeatView). IsScanOf b c.keep.new.self s.view) (sym c.compare.ensures.same)
     (subst (λ (s : ScanView). IsScanOf b s w) (sym c.keep.ensures.after) after)
 
