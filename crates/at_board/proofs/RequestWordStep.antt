@@ -79,8 +79,8 @@ pub IsSeat-request : (b : BookTerms) (v w : View) (process k a slot number j n :
 IsSeat-request b v w process k a slot number j n seat told =
     let x : SeenRequest = seen_as a slot number told.request in
     subst (λ t. IsSeat t process k) (sym told.same)
-    (IsSeat-asking v v.seen (v.requests ++ x ∷ []) process k a (with_loaded (asking_on (own_part v) a) x) seat seat.history seat.own
-    (SeesOwnRequests-asking v v.seen (v.requests ++ x ∷ []) a (with_loaded (asking_on (own_part v) a) x) (omega (arith, seat.one_part)) refl
+    (IsSeat-asking v v.seen (v.requests ++ x ∷ []) process k a (with_loaded (asking_on (own_part v) a) x j) seat seat.history seat.own
+    (SeesOwnRequests-asking v v.seen (v.requests ++ x ∷ []) a (with_loaded (asking_on (own_part v) a) x j) (omega (arith, seat.one_part)) refl
     (λ y there. Contains-append_left v.requests (x ∷ []) y there) seat.asked) (subst AgreesWithSeen told.same told.agrees))
 
 pub HasCounts-request : (b : BookTerms) (v w : View) (a slot number j n : ℕ) (counts : List ℕ) → 0 < length v.parts
@@ -88,7 +88,7 @@ pub HasCounts-request : (b : BookTerms) (v w : View) (a slot number j n : ℕ) (
 HasCounts-request b v w a slot number j n counts part told has =
     let x : SeenRequest = seen_as a slot number told.request in
     subst (λ t. HasCounts t counts) (sym told.same)
-    (HasCounts-asking v v.seen (v.requests ++ x ∷ []) a (with_loaded (asking_on (own_part v) a) x) counts part refl has)
+    (HasCounts-asking v v.seen (v.requests ++ x ∷ []) a (with_loaded (asking_on (own_part v) a) x j) counts part refl has)
 
 pub SeesInRange-request : (b : BookTerms) (v w : View) (a slot number j n : ℕ) → v.book ≡ b → IsPlace b (request_word a slot number j)
     → LoadsRequestWord b v w a slot number j n → SeesInRange v → SeesInRange w
@@ -100,5 +100,5 @@ SeesInRange-request b v w a slot number j n book within told sees =
       since = told.since;
     } in
     subst SeesInRange (sym told.same)
-    (SeesInRange-asking v v.seen (v.requests ++ x ∷ []) a (with_loaded (asking_on (own_part v) a) x) sees
+    (SeesInRange-asking v v.seen (v.requests ++ x ∷ []) a (with_loaded (asking_on (own_part v) a) x j) sees
     (All-push (RequestInRange v.book) v.requests x sees.requests (subst (λ (t : BookTerms). RequestInRange t x) (sym book) here)))
