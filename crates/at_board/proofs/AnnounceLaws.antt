@@ -20,6 +20,7 @@ use Rattle.at_board.proofs.StoreLaws.{SameRecordWords, other_process}
 use Rattle.at_board.proofs.SeenLaws.{AgreesWithSeen-Knows}
 use Rattle.at_board.specs.declared.request.Request.{Request}
 use Rattle.at_board.specs.declared.view.Asking.{Asking}
+use Rattle.at_board.specs.declared.view.LoadedWord.{LoadedWord}
 use Rattle.at_board.specs.declared.view.Part.{Part}
 use Rattle.at_board.specs.declared.view.SeenRequest.{SeenRequest}
 use Rattle.at_board.specs.declared.view.SeenRow.{SeenRow}
@@ -149,7 +150,7 @@ HasAsking-announced b words after s v u a slot w r shown all requests kept has =
           ∙ (shown.requests.blank a slot (length (row ++ r ∷ [])) j is (omega (arith, length_push row r, ap length has.announced)) ∙ sym (get_or-zeros 6 j));
       heard = omega (arith, ap (rounds a) all);
       rows = All-nil (λ (k : SeenRow). k.count ≤ length (t.rows a k.slot));
-      requests = All-nil (IsAnnounced t);
+      loaded = All-nil (λ (l : LoadedWord). IsAnnounced t l.request);
     }
 
 -- what may be announced keeps the laws of requests

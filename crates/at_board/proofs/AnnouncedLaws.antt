@@ -52,7 +52,7 @@ HasAsking-row b words s v a mine slot n w within has = record {
   stored = has.stored;
   heard = has.heard;
   rows = All-push (λ row. row.count ≤ length (s.rows a row.slot)) w.rows (record { slot = slot; count = n }) has.rows within;
-  requests = has.requests;
+  loaded = has.loaded;
 }
 
 Knows-announced : (b : BookTerms) (words : List ℕ) (s : BoardState) (v : View) (a slot n : ℕ) → 0 < length v.parts → n ≤ length (s.rows a slot)

@@ -12,6 +12,7 @@ use Rattle.at_board.proofs.SeatLaws.{rounds-IsPrefix}
 use Rattle.at_board.proofs.StoreLaws.{SameRecordWords}
 use Rattle.at_board.specs.declared.request.Request.{Request}
 use Rattle.at_board.specs.declared.view.Asking.{Asking}
+use Rattle.at_board.specs.declared.view.LoadedWord.{LoadedWord}
 use Rattle.at_board.specs.declared.view.Part.{Part}
 use Rattle.at_board.specs.declared.view.SeenRequest.{SeenRequest}
 use Rattle.at_board.specs.declared.view.View.{View}
@@ -52,6 +53,12 @@ IsAnnounced-Grows s rows x grows is =
 pub all_announced : (s : BoardState) (rows : Rows) (xs : List SeenRequest) → Grows s.rows rows → All (IsAnnounced s) xs → All (IsAnnounced (with_rows s rows)) xs
 all_announced s rows xs grows is = All-weaker (IsAnnounced s) (IsAnnounced (with_rows s rows)) (λ x. IsAnnounced-Grows s rows x grows) xs is
 
+pub loaded_announced : (s : BoardState) (rows : Rows) (ls : List LoadedWord) → Grows s.rows rows → All (λ l. IsAnnounced s l.request) ls
+    → All (λ l. IsAnnounced (with_rows s rows) l.request) ls
+loaded_announced s rows ls grows is =
+    All-weaker (λ (l : LoadedWord). IsAnnounced s l.request) (λ (l : LoadedWord). IsAnnounced (with_rows s rows) l.request)
+    (λ l. IsAnnounced-Grows s rows l.request grows) ls is
+
 -- all requests that were seen are seen after
 abbrev pub SeesMore : View → View → Type 0
 SeesMore v u = (x : SeenRequest) → Contains v.requests x → Contains u.requests x
@@ -75,7 +82,7 @@ HasAsking-kept b words after s rows v u a slot w grows longer more same has = re
   stored = λ j is. same.1 j is ∙ has.stored j is;
   heard = omega (arith, has.heard, rounds-IsPrefix a v.seen u.seen longer);
   rows = λ k d within. omega (arith, has.rows k d within, length-Grows s.rows rows a (get_or w.rows k d).slot grows);
-  requests = all_announced s rows w.requests grows has.requests;
+  loaded = loaded_announced s rows w.loaded grows has.loaded;
 }
 
 -- what a step leaves of a part

@@ -34,7 +34,7 @@ HasAsking-count b words s v a slot n w has = record {
   stored = has.stored;
   heard = has.heard;
   rows = has.rows;
-  requests = has.requests;
+  loaded = has.loaded;
 }
 
 HasPart-count : (b : BookTerms) (words : List ℕ) (s : BoardState) (v : View) (p : ℕ) (q : Part) (a : ℕ)
@@ -117,7 +117,7 @@ HasAsking-decided b words after s p a d v u k slot w longer requests same has = 
   stored = λ j is. same k slot (length w.announced) j is ∙ has.stored j is;
   heard = omega (arith, has.heard, rounds-IsPrefix k v.seen u.seen longer);
   rows = has.rows;
-  requests = has.requests;
+  loaded = has.loaded;
 }
 
 HasPart-decided : (b : BookTerms) (words after : List ℕ) (s : BoardState) (p a : ℕ) (d : Decision) (v u : View) (k : ℕ) (q : Part) (held : Option Cell)

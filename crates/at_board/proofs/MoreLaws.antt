@@ -25,7 +25,7 @@ HasAsking-more b words s v u a slot w longer more has = record {
   stored = has.stored;
   heard = omega (arith, has.heard, rounds-IsPrefix a v.seen u.seen longer);
   rows = has.rows;
-  requests = has.requests;
+  loaded = has.loaded;
 }
 
 pub HasPart-more : (b : BookTerms) (words : List ℕ) (s : BoardState) (v u : View) (p : ℕ) (q : Part)

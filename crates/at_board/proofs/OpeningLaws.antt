@@ -9,6 +9,7 @@ use Rattle.at_base.specs.Decision.{word_of}
 use Rattle.at_ledger.specs.Book.{BookTerms}
 use Rattle.at_board.proofs.CountLaws.{publications_of-nil}
 use Rattle.at_board.proofs.FrontLaws.{IsPrefix-refl}
+use Rattle.at_board.specs.declared.view.LoadedWord.{LoadedWord}
 use Rattle.at_board.specs.declared.view.View.{View}
 use Rattle.at_board.specs.BoardState.{BoardState, decision_at}
 use Rattle.at_board.specs.Places.{Place, announced_of, cell_of, length_of, place_at, record_width, record_word, request_word, word_at, word_count}
@@ -78,7 +79,7 @@ HasAsking-starting b a slot = record {
   stored = λ j is. word_at-starting b (request_word a slot 0 j) ∙ sym (get_or-zeros 6 j);
   heard = omega arith;
   rows = All-nil (λ row. row.count ≤ zero);
-  requests = All-nil (IsAnnounced starting_state);
+  loaded = All-nil (λ (l : LoadedWord). IsAnnounced starting_state l.request);
 }
 
 HasPart-starting : (b : BookTerms) (p : ℕ) → p < b.processes

@@ -150,7 +150,7 @@ HasAsking-pushed b words after s k x v u a slot w longer requests same has = rec
   stored = λ j is. same a slot (length w.announced) j is ∙ has.stored j is;
   heard = omega (arith, has.heard, rounds-IsPrefix a v.seen u.seen longer);
   rows = has.rows;
-  requests = has.requests;
+  loaded = has.loaded;
 }
 
 -- the part of another process

@@ -94,7 +94,7 @@ HasAsking-request_stored b words s v u a slot q j w sized here seen requests has
       ];
       heard = omega (arith, has.heard, ap (rounds a) seen);
       rows = has.rows;
-      requests = has.requests;
+      loaded = has.loaded;
     }
 
 -- a process has one slot on an account

@@ -14,6 +14,7 @@ use Rattle.at_board.proofs.SeatLaws.{AreSeated-set, knows_after}
 use Rattle.at_board.proofs.SeenLaws.{AgreesWithSeen-Knows}
 use Rattle.at_board.specs.declared.request.Request.{Request}
 use Rattle.at_board.specs.declared.view.Asking.{Asking}
+use Rattle.at_board.specs.declared.view.LoadedWord.{LoadedWord}
 use Rattle.at_board.specs.declared.view.Part.{Part}
 use Rattle.at_board.specs.declared.view.SeenDecision.{SeenDecision}
 use Rattle.at_board.specs.declared.view.SeenRequest.{SeenRequest}
@@ -55,25 +56,25 @@ place-MayLoadRequest v a slot number j sees may =
         (All-contains (DecisionInRange v.book) v.decisions x sees.decisions seen).words)
 
 -- the view after a load of a word of a request
-abbrev pub request_view : View → ℕ → SeenRequest → View
-request_view v a x = with_asking (record v { requests = v.requests ++ x ∷ [] }) a (with_loaded (asking_on (own_part v) a) x)
+abbrev pub request_view : View → ℕ → SeenRequest → ℕ → View
+request_view v a x j = with_asking (record v { requests = v.requests ++ x ∷ [] }) a (with_loaded (asking_on (own_part v) a) x j)
 
-HasAsking-loaded : (b : BookTerms) (words : List ℕ) (s : BoardState) (v : View) (a slot : ℕ) (w : Asking) (x : SeenRequest) → IsAnnounced s x
-    → HasAsking b words s v a slot w → HasAsking b words s v a slot (with_loaded w x)
-HasAsking-loaded b words s v a slot w x is has = record {
+HasAsking-loaded : (b : BookTerms) (words : List ℕ) (s : BoardState) (v : View) (a slot : ℕ) (w : Asking) (x : SeenRequest) (j : ℕ) → IsAnnounced s x
+    → HasAsking b words s v a slot w → HasAsking b words s v a slot (with_loaded w x j)
+HasAsking-loaded b words s v a slot w x j is has = record {
   announced = has.announced;
   seen = has.seen;
   sized = has.sized;
   stored = has.stored;
   heard = has.heard;
   rows = has.rows;
-  requests = All-push (IsAnnounced s) w.requests x has.requests is;
+  loaded = All-push (λ (l : LoadedWord). IsAnnounced s l.request) w.loaded (record { request = x; word = j }) has.loaded is;
 }
 
-Knows-request : (b : BookTerms) (words : List ℕ) (s : BoardState) (v : View) (a : ℕ) (x : SeenRequest) → 0 < length v.parts → IsAnnounced s x
-    → Knows b words s v → Knows b words s (request_view v a x)
-Knows-request b words s v a x part is knows =
-    let u : View = request_view v a x in
+Knows-request : (b : BookTerms) (words : List ℕ) (s : BoardState) (v : View) (a : ℕ) (x : SeenRequest) (j : ℕ) → 0 < length v.parts → IsAnnounced s x
+    → Knows b words s v → Knows b words s (request_view v a x j)
+Knows-request b words s v a x j part is knows =
+    let u : View = request_view v a x j in
     let q : Part = own_part v in
     let more : SeesMore v u = λ y sees. Contains-append_left v.requests (x ∷ []) y sees in
     let own = knows.parts 0 part in
@@ -82,10 +83,10 @@ Knows-request b words s v a x part is knows =
       seen = knows.seen;
       requests = All-push (IsAnnounced s) v.requests x knows.requests is;
       decisions = knows.decisions;
-      parts = parts_after (λ k t. HasPart b words s u (v.first + k) t) v.parts (part_asking q a (with_loaded (asking_on q a) x)) part
-          (HasPart-asking b words words s s.rows v u p q a (with_loaded (asking_on q a) x) (Grows-refl s.rows) (IsPrefix-refl v.seen) more own.seen
+      parts = parts_after (λ k t. HasPart b words s u (v.first + k) t) v.parts (part_asking q a (with_loaded (asking_on q a) x j)) part
+          (HasPart-asking b words words s s.rows v u p q a (with_loaded (asking_on q a) x j) (Grows-refl s.rows) (IsPrefix-refl v.seen) more own.seen
           (λ j at. refl) (λ c other apart has. (refl, λ j at. refl))
-          (λ slot has. HasAsking-loaded b words s u a slot (asking_on q a) x is
+          (λ slot has. HasAsking-loaded b words s u a slot (asking_on q a) x j is
           (HasAsking-kept b words words s s.rows v u a slot (asking_on q a) (Grows-refl s.rows) (IsPrefix-refl v.seen) more (refl, λ j at. refl) (own.asking a slot has))) own)
           (λ k apart inside.
           let has = knows.parts k inside in
@@ -102,8 +103,8 @@ LoadsRequestWord-Ruled b words views id v a slot number j ruled begun found part
     let below = announced-KnowsOf b words s v a slot number ruled.sound knows may.known in
     let r : Request = request_at (s.rows a slot) number in
     let x : SeenRequest = seen_as a slot number r in
-    let w : View = request_view v a x in
-    let mine = Knows-request b words s v a x part (below, refl) knows in (
+    let w : View = request_view v a x j in
+    let mine = Knows-request b words s v a x j part (below, refl) knows in (
       w,
       record {
         state = s;
@@ -111,7 +112,7 @@ LoadsRequestWord-Ruled b words views id v a slot number j ruled begun found part
         shown = ruled.shown;
         sound = ruled.sound;
         knows = knows_after b words s views id w mine (λ k u apart there. ruled.knows k u there);
-        seated = AreSeated-set b ruled.seat views id v w ruled.seated found refl (length-set v.parts 0 (part_asking (own_part v) a (with_loaded (asking_on (own_part v) a) x)));
+        seated = AreSeated-set b ruled.seat views id v w ruled.seated found refl (length-set v.parts 0 (part_asking (own_part v) a (with_loaded (asking_on (own_part v) a) x j)));
       },
       record {
         request = r;

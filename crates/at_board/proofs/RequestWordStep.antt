@@ -91,8 +91,8 @@ pub IsSeat-request : (b : BookTerms) (v w : View) (process k a slot number j n :
 IsSeat-request b v w process k a slot number j n book within seat told =
     let x : SeenRequest = seen_as a slot number told.request in
     subst (λ t. IsSeat t process k) (sym told.same)
-    (IsSeat-asking v v.seen (v.requests ++ x ∷ []) process k a (with_loaded (asking_on (own_part v) a) x) seat seat.history seat.own
-    (SeesOwnRequests-asking v v.seen (v.requests ++ x ∷ []) a (with_loaded (asking_on (own_part v) a) x) (omega (arith, seat.one_part)) refl
+    (IsSeat-asking v v.seen (v.requests ++ x ∷ []) process k a (with_loaded (asking_on (own_part v) a) x j) seat seat.history seat.own
+    (SeesOwnRequests-asking v v.seen (v.requests ++ x ∷ []) a (with_loaded (asking_on (own_part v) a) x j) (omega (arith, seat.one_part)) refl
     (λ y there. Contains-append_left v.requests (x ∷ []) y there) seat.asked)
     (requests_in_range-request b v w a slot number j n book within told seat.in_range) (subst AgreesWithSeen told.same told.agrees))
 
@@ -101,4 +101,4 @@ pub HasCounts-request : (b : BookTerms) (v w : View) (a slot number j n : ℕ) (
 HasCounts-request b v w a slot number j n counts part sized told has =
     let x : SeenRequest = seen_as a slot number told.request in
     subst (λ t. HasCounts t counts) (sym told.same)
-    (HasCounts-asking v v.seen (v.requests ++ x ∷ []) a (with_loaded (asking_on (own_part v) a) x) counts part sized refl has)
+    (HasCounts-asking v v.seen (v.requests ++ x ∷ []) a (with_loaded (asking_on (own_part v) a) x j) counts part sized refl has)

@@ -80,7 +80,7 @@ HasAsking-longer b words s v u a slot w longer same has = record {
   stored = has.stored;
   heard = omega (arith, has.heard, rounds-IsPrefix a v.seen u.seen longer);
   rows = has.rows;
-  requests = has.requests;
+  loaded = has.loaded;
 }
 
 -- a view that has seen all, and the same requests

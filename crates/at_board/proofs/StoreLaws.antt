@@ -42,7 +42,7 @@ HasAsking-words b words after s v u a slot w seen requests same has = record {
   stored = λ j is. same a slot (length w.announced) j is ∙ has.stored j is;
   heard = omega (arith, has.heard, ap (rounds a) seen);
   rows = has.rows;
-  requests = has.requests;
+  loaded = has.loaded;
 }
 
 -- the part of a process whose next record and whose requests have the same words

@@ -54,8 +54,8 @@ pub record LoadsAnnounced (b : BookTerms) (before after : View) (a slot n : ℕ)
   pub agrees : AgreesWithSeen after
 
 -- a word of this request was loaded
-abbrev pub with_loaded : Asking → SeenRequest → Asking
-with_loaded w x = record w { requests = w.requests ++ x ∷ [] }
+abbrev pub with_loaded : Asking → SeenRequest → ℕ → Asking
+with_loaded w x j = record w { loaded = w.loaded ++ record { request = x; word = j } ∷ [] }
 
 -- a load of a word of an announced request: the seat has then seen the request, and had seen no other in its place
 pub record LoadsRequestWord (b : BookTerms) (before after : View) (a slot number j w : ℕ) : Type 0 where
@@ -66,7 +66,7 @@ pub record LoadsRequestWord (b : BookTerms) (before after : View) (a slot number
   pub since : request.since ≤ places_max
   pub agrees : AgreesWithSeen after
   pub same : let x : SeenRequest = seen_as a slot number request in
-      after ≡ with_asking (record before { requests = before.requests ++ x ∷ [] }) a (with_loaded (asking_on (own_part before) a) x)
+      after ≡ with_asking (record before { requests = before.requests ++ x ∷ [] }) a (with_loaded (asking_on (own_part before) a) x j)
 
 -- a word of the next request on an account is stored
 abbrev pub with_request_word : Asking → ℕ → ℕ → Asking
@@ -78,7 +78,7 @@ StoresRequestWord before after a j n = after ≡ with_asking before a (with_requ
 -- one more request is announced, nothing of the next is stored, and nothing was loaded since then
 abbrev pub with_request : Asking → Request → ℕ → Asking
 with_request w r heard =
-    record w { announced = w.announced ++ r ∷ []; stored = replicate REQUEST_WORDS 0; heard = heard; rows = []; requests = [] }
+    record w { announced = w.announced ++ r ∷ []; stored = replicate REQUEST_WORDS 0; heard = heard; rows = []; loaded = [] }
 
 -- an announcing step: some sound board has published just what the seat has then seen, and its row of the seat's process has the
 -- request at the end

@@ -18,7 +18,7 @@ use Rattle.at_board.specs.Rounds.{rounds}
 
 -- nothing stored, announced or loaded
 abbrev pub no_asking : Asking
-no_asking = record { announced = []; stored = []; decides = 0; heard = 0; rows = []; requests = [] }
+no_asking = record { announced = []; stored = []; decides = 0; heard = 0; rows = []; loaded = [] }
 
 abbrev pub no_part : Part
 no_part = record { published = 0; stored = []; held = None; loads = []; asking = [] }
@@ -49,6 +49,10 @@ SeesRequest v a slot number r = Contains v.requests (record { account = a; slot 
 
 abbrev pub SeesDecision : View → ℕ → ℕ → Decision → Type 0
 SeesDecision v a round d = Contains v.decisions (record { account = a; round = round; decision = d })
+
+-- each word of the request was loaded since the own announcement
+abbrev pub HasLoaded : Asking → SeenRequest → Type 0
+HasLoaded w x = (j : ℕ) → j < REQUEST_WORDS → Contains w.loaded (record { request = x; word = j })
 
 -- the board has this request, and has decided this
 abbrev pub IsAnnounced : BoardState → SeenRequest → Type 0
@@ -82,7 +86,7 @@ pub record HasAsking (b : BookTerms) (words : List ℕ) (s : BoardState) (v : Vi
       word_at b words (request_word a slot (length w.announced) j) ≡ slice_index w.stored j
   pub heard : w.heard ≤ rounds a v.seen
   pub rows : All (λ row. row.count ≤ length (s.rows a row.slot)) w.rows
-  pub requests : All (IsAnnounced s) w.requests
+  pub loaded : All (λ l. IsAnnounced s l.request) w.loaded
 
 -- the part of a process: all that it published, which the view has seen, the words of its next record, and the cell that it holds
 pub record HasPart (b : BookTerms) (words : List ℕ) (s : BoardState) (v : View) (process : ℕ) (q : Part) : Type 0 where

@@ -62,4 +62,6 @@ pub use crate::request::{REQUEST_WORDS, Request};
 pub use crate::seat::BoardSeat;
 pub use crate::steps::Steps;
 pub use crate::targets_word::{pack_targets, unpack_targets};
-pub use crate::view::{Asking, Cell, Loads, Part, SeenDecision, SeenRequest, SeenRow, View};
+pub use crate::view::{
+    Asking, Cell, LoadedWord, Loads, Part, SeenDecision, SeenRequest, SeenRow, View,
+};

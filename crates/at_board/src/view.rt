@@ -82,8 +82,15 @@ pub struct Asking {
     pub heard: u32,
     /// The announced words that it has loaded since then, by slot.
     pub rows: LinkedList<SeenRow>,
-    /// The requests that it has loaded since then.
-    pub requests: LinkedList<SeenRequest>,
+    /// The words of requests that it has loaded since then.
+    pub loaded: LinkedList<LoadedWord>,
+}
+
+/// A word of an announced request that was loaded.
+#[derive(Drop)]
+pub struct LoadedWord {
+    pub request: SeenRequest,
+    pub word: u32,
 }
 
 /// How many requests of a slot were announced when its word was loaded.
