@@ -69,6 +69,15 @@ pub record Decides (b : BookTerms) (before after : View) (a round : ℕ) (d : De
   pub agrees : AgreesWithSeen after
   pub same : after ≡ with_part (with_decision before after.seen a round decision) (with_decide (own_part before) a held)
 
+-- the word is that of a decision that the seat may propose
+abbrev pub IsProposal : BookTerms → View → ℕ → ℕ → ℕ → Type 0
+IsProposal b v a round word = (d : Decision) × (r : Request) × MayPropose b v a round d r × (word ≡ word_of d)
+
+-- the round is decided, whichever decision the proposal is the word of
+abbrev pub DecidesBy : BookTerms → View → View → ℕ → ℕ → ℕ → ℕ → Type 0
+DecidesBy b before after a round proposal word =
+    (d : Decision) (r : Request) → MayPropose b before a round d r → proposal ≡ word_of d → Decides b before after a round d word
+
 -- what the exchange tells its seat
 module _ {S : Type 0} where
   abbrev pub decided_round : Step S → Me S View → ℕ → Me S View → Type 0

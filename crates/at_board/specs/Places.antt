@@ -1,5 +1,5 @@
 -- Where each word of the board stands.
-use Rattle.std.specs.Prelude.{ℕ, ◌+◌, ◌*◌, ◌<◌, List, [], ◌∷◌, length, map, sum, take, slice_index, slice_index_or, if◌then◌else◌}
+use Rattle.std.specs.Prelude.{◌≡◌, ℕ, ◌+◌, ◌*◌, ◌<◌, ◌≤◌, List, [], ◌∷◌, length, map, sum, sum_by, take, slice_index, slice_index_or, if◌then◌else◌}
 use Rattle.std.specs.List.{range_with_len}
 use Rattle.at_ledger.specs.Account.{AccountTerms, is_shared, rounds_room}
 use Rattle.at_ledger.specs.Book.{BookTerms, account_of, log_room_of}
@@ -93,3 +93,13 @@ words_max = PROCESSES_MAX + places_max * (RECORD_WORDS + PROCESSES_MAX) + ROUNDS
 -- the word at a place
 abbrev pub word_at : BookTerms → List ℕ → Place → ℕ
 word_at b words x = slice_index words (place_at b x)
+
+-- where the log of each process begins
+pub record AreLogStarts (b : BookTerms) (starts : List ℕ) : Type 0 where
+  pub count : length starts ≡ b.processes
+  pub each : (p : ℕ) → p < b.processes → slice_index starts p ≡ place_at b (record_word p 0 0)
+
+-- how many slots stand before those of each account, and at the end how many there are
+pub record AreSlotsBefore (b : BookTerms) (before : List ℕ) : Type 0 where
+  pub count : length before ≡ length b.accounts + 1
+  pub each : (a : ℕ) → a ≤ length b.accounts → slice_index before a ≡ sum_by slots_of (take a b.accounts)

@@ -39,9 +39,9 @@ pub struct Board {
 }
 
 impl Model for Board {
-    ghost use Rattle.std.specs.Prelude.{◌≡◌, ℕ, ◌+◌, ◌<◌, ◌≤◌, length, slice_index, sum_by, take};
+    ghost use Rattle.std.specs.Prelude.{◌≡◌};
     ghost use Rattle.at_ledger.specs.Book.{IsBook};
-    ghost use Rattle.at_board.specs.Places.{place_at, record_word, slots_of, word_count};
+    ghost use Rattle.at_board.specs.Places.{AreLogStarts, AreSlotsBefore, place_at, record_word, word_count};
     ghost use Rattle.at_board.specs.SeatView.{BoardView};
 
     ghost Value = { BoardView };
@@ -49,12 +49,8 @@ impl Model for Board {
     ghost view = { λ b. record { id = b.table.shared.table_id; book = b.book } };
 
     ghost invariant = { λ b. (b.table.shared.key.value ≡ b.book) × (b.table.shared.table_id.words ≡ word_count b.book) × IsBook b.book
-        × (length b.log_starts.items ≡ b.book.processes)
-        × ((p : ℕ) → p < b.book.processes → slice_index b.log_starts.items p ≡ place_at b.book (record_word p 0 0))
-        × (b.slots_start ≡ place_at b.book (record_word b.book.processes 0 0))
-        × (length b.slots_before.items ≡ length b.book.accounts + 1)
-        × ((a : ℕ) → a ≤ length b.book.accounts → slice_index b.slots_before.items a ≡ sum_by slots_of (take a b.book.accounts))
-        × (b.table.shared.table_id.slots ≡ 0) };
+        × AreLogStarts b.book b.log_starts.items × (b.slots_start ≡ place_at b.book (record_word b.book.processes 0 0))
+        × AreSlotsBefore b.book b.slots_before.items × (b.table.shared.table_id.slots ≡ 0) };
 }
 
 impl Board {

@@ -18,17 +18,14 @@ pub struct BoardEnd {
 }
 
 impl Model for BoardEnd {
-    ghost use Rattle.std.specs.Prelude.{◌≡◌, ℕ, ◌<◌, length, slice_index};
     ghost use Rattle.at_board.specs.Ends.{EndView, HasWords, end_of};
-    ghost use Rattle.at_board.specs.Places.{place_at, record_word};
+    ghost use Rattle.at_board.specs.Places.{AreLogStarts};
 
     ghost Value = { EndView };
 
     ghost view = { λ e. end_of e.book e.words.items };
 
-    ghost invariant = { λ e. HasWords e.book e.words.items
-        × (length e.log_starts.items ≡ e.book.processes)
-        × ((p : ℕ) → p < e.book.processes → slice_index e.log_starts.items p ≡ place_at e.book (record_word p 0 0)) };
+    ghost invariant = { λ e. HasWords e.book e.words.items × AreLogStarts e.book e.log_starts.items };
 }
 
 impl BoardEnd {

@@ -1,11 +1,7 @@
 //! Rounds of shared accounts: which request is decided next.
 
 ghost use Rattle.std.specs.Prelude.{◌≡◌, ◌+◌};
-ghost use Rattle.at_base.specs.Decision.{word_of};
-ghost use Rattle.at_base.specs.declared.decision.Decision.{Decision};
-ghost use Rattle.at_board.specs.declared.request.Request.{Request};
-ghost use Rattle.at_board.specs.Conditions.{MayPropose};
-ghost use Rattle.at_board.specs.DecideSteps.{Decides, word_after};
+ghost use Rattle.at_board.specs.DecideSteps.{DecidesBy, IsProposal, word_after};
 ghost use Rattle.at_board.specs.Places.{IsPlace, cell_of, place_at};
 ghost use Rattle.at_board.specs.SeatView.{IsOf};
 
@@ -31,8 +27,8 @@ impl Board {
         exchanges: &mut Steps<X>,
     ) -> u64
         requires board { IsOf seat.old self.now }
-        requires proposal { (d : Decision) × (r : Request) × MayPropose self.now.book seat.old.view account round d r × (proposal ≡ word_of d) }
-        ensures decided { (d : Decision) (r : Request) → MayPropose self.now.book seat.old.view account round d r → proposal ≡ word_of d → Decides self.now.book seat.old.view seat.new.view account round d result }
+        requires proposal { IsProposal self.now.book seat.old.view account round proposal }
+        ensures decided { DecidesBy self.now.book seat.old.view seat.new.view account round proposal result }
         ensures board { seat.new.board ≡ seat.old.board }
         ensures steps { steps.new ≡ steps.old + 1 }
         ensures exchanges { exchanges.new ≡ exchanges.old + 1 }

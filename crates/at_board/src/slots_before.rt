@@ -1,7 +1,7 @@
 //! How many slots stand before those of each account.
 
-ghost use Rattle.std.specs.Prelude.{◌≡◌, ℕ, ◌+◌, ◌≤◌, length, slice_index, sum_by, take, IfOk};
-ghost use Rattle.at_board.specs.Places.{slots_of};
+ghost use Rattle.std.specs.Prelude.{IfOk};
+ghost use Rattle.at_board.specs.Places.{AreSlotsBefore};
 
 use crate::NoMemory;
 use crate::word_count::slots_at;
@@ -10,8 +10,7 @@ use std::alloc::Global;
 
 /// For each account the slots of those before it, and at the end those of all.
 pub(crate) fn slots_before(alloc: Global, book: &Book) -> Result<Vec<u32>, NoMemory>
-    ensures count { IfOk result (λ before. length before.items ≡ length book.now.accounts + 1) }
-    ensures sums { IfOk result (λ before. (a : ℕ) → a ≤ length book.now.accounts → slice_index before.items a ≡ sum_by slots_of (take a book.now.accounts)) }
+    ensures { IfOk result (λ before. AreSlotsBefore book.now before.items) }
 {
     let mut before = Vec::new(alloc);
     let mut next = 0;

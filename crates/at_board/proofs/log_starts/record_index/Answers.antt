@@ -8,6 +8,6 @@ pub returns : goal.returns
 returns c =
     let b : BookTerms = c.args.book.now in
     let start : get_or c.deref.result.now c.args.p 0 ≡ place_at b (record_word c.args.p 0 0) =
-    ap (λ l. get_or l c.args.p 0) c.deref.ensures.0 ∙ c.requires.starts c.args.p c.requires.place.0 in
+    ap (λ l. get_or l c.args.p 0) c.deref.ensures.0 ∙ c.requires.starts.each c.args.p c.requires.place.0 in
     let width : c.args.i * (7 + c.processes.result) ≡ c.args.i * record_width b = ap (λ n. c.args.i * (7 + n)) c.processes.ensures in
     omega (arith, start, width, place_at-record_word b c.args.p c.args.i c.args.j)

@@ -15,7 +15,7 @@ ours c = ap (λ t. t.book) c.self.view_is
 at : (c : After-first_slot) → c.self.inside.slots_start + c.first_slot.result + c.args.slot ≡ place_at c.self.inside.book (announced_of c.args.account c.args.slot)
 at c =
     let first = c.first_slot.ensures ∙ ap (λ (t : BookTerms). sum_by slots_of (take c.args.account t.accounts)) (sym (ours c)) in
-    omega (arith, c.self.invariant.5, first, place_at-announced_of c.self.inside.book c.args.account c.args.slot)
+    omega (arith, c.self.invariant.4, first, place_at-announced_of c.self.inside.book c.args.account c.args.slot)
 
 small : (c : After-first_slot) → c.self.inside.slots_start + c.first_slot.result + c.args.slot < 2 ^ 32
 small c =

@@ -16,7 +16,7 @@ computed c first is =
     let all : c.first_slot-slots.result ≡ sum_by slots_of (take (length b.accounts) b.accounts) =
     c.first_slot-slots.ensures ∙ (λ t. sum_by slots_of (take (c.accounts.ensures.count t) (ours t).accounts)) in
     IsCellIndex-computed b c.args.account c.args.round c.self.inside.slots_start c.first_slot-slots.result c.request_room-room.result first c.self.invariant.2.begun
-    (subst (λ (t : BookTerms). IsPlace t (cell_of c.args.account c.args.round)) ours c.requires) c.self.invariant.5
+    (subst (λ (t : BookTerms). IsPlace t (cell_of c.args.account c.args.round)) ours c.requires) c.self.invariant.4
     (all ∙ ap (sum_by slots_of) (take_all (length b.accounts) b.accounts (omega arith))) c.request_room-room.ensures
     (is ∙ ap (λ (t : BookTerms). sum_by slots_of (take c.args.account t.accounts)) ours)
 

@@ -11,5 +11,5 @@ returns c =
     let book = ap (λ t. t.book) c.self.view_is in
     let a = c.args.account in
     let within : a ≤ length b.accounts = subst (λ (t : BookTerms). a ≤ length t.accounts) (sym book) c.requires in
-    let here = get_or_read c.self.inside.slots_before.items a c.index.result.now (omega (arith, within, c.self.invariant.6)) c.index.ensures 0 in
-    subst (λ (t : BookTerms). c.index.result.now ≡ sum_by slots_of (take a t.accounts)) book (here ∙ c.self.invariant.7 a within)
+    let here = get_or_read c.self.inside.slots_before.items a c.index.result.now (omega (arith, within, c.self.invariant.5.count)) c.index.ensures 0 in
+    subst (λ (t : BookTerms). c.index.result.now ≡ sum_by slots_of (take a t.accounts)) book (here ∙ c.self.invariant.5.each a within)

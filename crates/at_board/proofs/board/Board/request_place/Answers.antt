@@ -25,7 +25,7 @@ computed : (c : After-request_room) → IsRequestPlace c.self.inside.book c.args
 computed c =
     let first : After-first_slot = (goal.at.After-request_room c).After-first_slot in
     request_place-computed c.self.inside.book c.args.account c.args.slot c.args.number c.args.j c.self.inside.slots_start c.first_slot.result c.first_slot-2.result
-    c.request_room.result c.self.invariant.2.begun (is_place first) c.self.invariant.5 (all_slots first)
+    c.request_room.result c.self.invariant.2.begun (is_place first) c.self.invariant.4 (all_slots first)
     (c.first_slot-2.ensures ∙ ap (λ (t : BookTerms). sum_by slots_of (take c.args.account t.accounts)) (ours first)) c.request_room.ensures
 
 pub overflow_add-start : goal.overflow_add-start
@@ -34,7 +34,7 @@ overflow_add-start c =
     let first : After-first_slot = (goal.at.overflow_add-start c).After-first_slot in
     omega (
       arith,
-      c.self.invariant.5,
+      c.self.invariant.4,
       all_slots first,
       ap (sum_by slots_of) (take_all (length b.accounts) b.accounts (omega arith)),
       place_at-request_word b c.args.account c.args.slot c.args.number c.args.j,
