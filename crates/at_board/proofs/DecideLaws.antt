@@ -31,7 +31,7 @@ use Rattle.at_board.specs.Views.{IsAnnounced, Knows}
 pub record IsProposed (b : BookTerms) (s : BoardState) (a round : ℕ) (d : Decision) : Type 0 where
   pub law : IsSoundDecision b s a round d
   pub within : round ≤ length (s.cells a)
-  pub undecided : is_settled a d.slot d.number (take d.place s.published) ≡ false
+  pub unsettled : is_settled a d.slot d.number (take d.place s.published) ≡ false
 
 pub IsProposed-MayPropose : (b : BookTerms) (words : List ℕ) (s : BoardState) (v : View) (a round : ℕ) (d : Decision) (r : Request)
     → Sound b s → Knows b words s v → IsPlace b (cell_of a round) → MayPropose b v a round d r → IsProposed b s a round d
@@ -55,7 +55,7 @@ IsProposed-MayPropose b words s v a round d r sound knows here may =
             (subst (λ t. (d.ok ≡ true) ↔ IsCovered b t a (amount_of r.targets)) same may.ok);
       };
       within = omega (arith, next, (AreDecided-take b s d.place (HasRuns-Sound b s sound) place a).rounds_within);
-      undecided = subst (λ t. is_settled a d.slot d.number t ≡ false) same may.undecided;
+      unsettled = subst (λ t. is_settled a d.slot d.number t ≡ false) same may.unsettled;
     }
 
 -- the laws of entries with one more decision
@@ -138,7 +138,7 @@ Sound-decided b s p a round d sound proposed full known free =
           ap (count_by (λ (f : Decision). f.slot == (decision_at (s.cells k) r).slot)) ((KeptCells-decided s p a k d).first r (omega arith))
           ∙ sound.numbers k r within)
           (ap (count_by (λ (f : Decision). f.slot == d.slot)) ((KeptCells-decided s p a a d).first n (omega arith) ∙ take_all n (s.cells a) (omega arith))
-          ∙ number_is_next b s d.place a d.slot d.number sound law.place law.next law.announced proposed.undecided);
+          ∙ number_is_next b s d.place a d.slot d.number sound law.place law.next law.announced proposed.unsettled);
       row_room = sound.row_room;
       requests = λ k slot i within. IsSoundRequest-decided b s p a d k slot i (request_at (s.rows k slot) i) (sound.requests k slot i within);
       published = cells_all s p a d (λ k r e. IsPublished k r e.place s.published ⊎ IsHeld b s' (cell k r))

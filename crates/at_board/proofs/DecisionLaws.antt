@@ -186,11 +186,11 @@ same_round b s a k l sound one other slots numbers =
       ]
     ]
 
--- no request but the next of its slot is announced and undecided where all rounds stand: it isn't an earlier one
+-- no request but the next of its slot is announced and unsettled where all rounds stand: it isn't an earlier one
 not_earlier : (b : BookTerms) (s : BoardState) (m a slot number : ℕ) → Sound b s → m ≤ length s.published
     → rounds a (take m s.published) ≡ length (s.cells a) → is_settled a slot number (take m s.published) ≡ false
     → count_by (names_slot slot) (s.cells a) ≤ number
-not_earlier b s m a slot number sound within all undecided =
+not_earlier b s m a slot number sound within all unsettled =
     let xs = s.cells a in
     elim (cases_lt number (count_by (names_slot slot) xs)) as (λ _. count_by (names_slot slot) xs ≤ number) [
       | inl below ↦
@@ -203,7 +203,7 @@ not_earlier b s m a slot number sound within all undecided =
           let here : is_settled a slot number (take m s.published) ≡ true =
           subst (λ t. is_settled a t number (take m s.published) ≡ true) slot_is
           (subst (λ t. is_settled a (decision_at xs r).slot t (take m s.published) ≡ true) number_is settled) in
-          let false_true : true ≡ false = sym here ∙ undecided in
+          let false_true : true ≡ false = sym here ∙ unsettled in
           absurd (cc false_true)
       | inr above ↦ above
     ]
@@ -224,5 +224,5 @@ not_later b s a slot (suc before) sound announced =
 pub number_is_next : (b : BookTerms) (s : BoardState) (m a slot number : ℕ) → Sound b s → m ≤ length s.published
     → rounds a (take m s.published) ≡ length (s.cells a) → number < length (s.rows a slot) → is_settled a slot number (take m s.published) ≡ false
     → count_by (names_slot slot) (s.cells a) ≡ number
-number_is_next b s m a slot number sound within all announced undecided =
-    omega (arith, not_earlier b s m a slot number sound within all undecided, not_later b s a slot number sound announced)
+number_is_next b s m a slot number sound within all announced unsettled =
+    omega (arith, not_earlier b s m a slot number sound within all unsettled, not_later b s a slot number sound announced)

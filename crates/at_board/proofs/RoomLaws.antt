@@ -1,4 +1,4 @@
--- What a history shows of the rounds of an account: where one of its requests is undecided, there is room for one more.
+-- What a history shows of the rounds of an account: where one of its requests is unsettled, there is room for one more.
 use Rattle.std.proofs.Common.{◌≡◌, ℕ, ◌+◌, ◌*◌, ◌-◌, ◌<◌, ◌≤◌, ◌==◌, ◌&&◌, ◌||◌, zero, suc, ltb, Bool, true, false, List, [], ◌∷◌, ◌++◌, length, take, refl, sym, ap, subst, ◌∙◌, arith, inl, inr}
 use Rattle.std.specs.List.{list_any, sum_by}
 use Rattle.std.proofs.lemmas.Bool.{and_from, and_parts, cases_Bool, cases_eq, cases_lt, eq-eqb, eqb-true, le-ltb, lt-ltb, ltb-false, ne_eqb, or_left, or_right}
@@ -196,13 +196,13 @@ named-le b xs m a slot history within =
       | inr fits ↦ fits
     ]
 
--- and no more than the number of a request of the slot that is undecided
-named-undecided : (b : BookTerms) (xs : List Publication) (m a slot number : ℕ) → IsHistory b xs → m ≤ length xs
+-- and no more than the number of a request of the slot that is unsettled
+named-unsettled : (b : BookTerms) (xs : List Publication) (m a slot number : ℕ) → IsHistory b xs → m ≤ length xs
     → is_settled a slot number (take m xs) ≡ false → named a slot (take m xs) ≤ number
-named-undecided b xs m a slot number history within undecided =
+named-unsettled b xs m a slot number history within unsettled =
     elim (cases_lt number (named a slot (take m xs))) as (λ _. named a slot (take m xs) ≤ number) [
       | inl past ↦
-          let both : true ≡ false = sym (is_settled-named b xs m a slot number history within past) ∙ undecided in absurd (cc both)
+          let both : true ≡ false = sym (is_settled-named b xs m a slot number history within past) ∙ unsettled in absurd (cc both)
       | inr fits ↦ fits
     ]
 
@@ -254,11 +254,11 @@ sum_by-named_slots a (suc k) slot q ys each =
       | inr above ↦ omega (arith, ap one_if (le-ltb slot (suc k) above))
     ]
 
--- where a request is undecided, not all rounds of its account stand
-pub rounds-undecided : (b : BookTerms) (xs : List Publication) (m a slot number : ℕ) → IsHistory b xs → m ≤ length xs
+-- where a request is unsettled, not all rounds of its account stand
+pub rounds-unsettled : (b : BookTerms) (xs : List Publication) (m a slot number : ℕ) → IsHistory b xs → m ≤ length xs
     → slot < slots_of (account_of b a) → number < b.request_room → is_settled a slot number (take m xs) ≡ false
     → rounds a (take m xs) < rounds_room b.request_room (account_of b a)
-rounds-undecided b xs m a slot number history within slot_in number_in undecided =
+rounds-unsettled b xs m a slot number history within slot_in number_in unsettled =
     let k = slots_of (account_of b a) in
     let q = b.request_room in
     let f : Publication → ℕ = λ y. one_if (is_round_on a y.entry) in
@@ -269,7 +269,7 @@ rounds-undecided b xs m a slot number history within slot_in number_in undecided
     let each : (s : ℕ) → named a s (take m xs) + one_if (slot == s) ≤ q = λ s.
     elim (cases_eq slot s) as (λ _. named a s (take m xs) + one_if (slot == s) ≤ q) [
       | inl same ↦
-          let fewer = subst (λ t. named a t (take m xs) ≤ number) same (named-undecided b xs m a slot number history within undecided) in
+          let fewer = subst (λ t. named a t (take m xs) ≤ number) same (named-unsettled b xs m a slot number history within unsettled) in
           omega (arith, fewer, number_in, ap one_if (eq-eqb slot s same))
       | inr apart ↦ omega (arith, named-le b xs m a s history within, ap one_if (ne_eqb slot s apart))
     ] in
@@ -291,5 +291,5 @@ IsPlace-MayPropose b v a round d r book history sees may =
     let asked : SeenRequest = record { account = a; slot = d.slot; number = d.number; request = r } in
     let range : RequestInRange b asked = subst (λ (t : BookTerms). RequestInRange t asked) book
     (All-contains (RequestInRange v.book) v.requests asked sees.requests may.named) in
-    let room = rounds-undecided b v.seen d.place a d.slot d.number told may.place range.words.1 range.words.2 may.undecided in
+    let room = rounds-unsettled b v.seen d.place a d.slot d.number told may.place range.words.1 range.words.2 may.unsettled in
     (may.owner.1.account_in, omega (arith, room, may.next))

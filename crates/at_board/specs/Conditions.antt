@@ -73,7 +73,7 @@ pub record MayPropose (b : BookTerms) (v : View) (a round : ℕ) (d : Decision) 
   pub place : d.place ≤ length v.seen
   pub next : rounds a (take d.place v.seen) ≡ round
   pub named : SeesRequest v a d.slot d.number r
-  pub undecided : is_settled a d.slot d.number (take d.place v.seen) ≡ false
+  pub unsettled : is_settled a d.slot d.number (take d.place v.seen) ≡ false
   pub since : r.since ≤ d.place
   pub ok : (d.ok ≡ true) ↔ IsCovered b (take d.place v.seen) a (amount_of r.targets)
   pub free : (own_part v).held ≡ None

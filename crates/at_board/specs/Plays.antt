@@ -1,5 +1,5 @@
--- What each step on the table tells its seat. The arguments are the step, the seat before it, the number loaded or stored, and
--- the seat after it.
+-- What each load and store on the table tells its seat (the exchange stands in `DecideSteps`). The arguments are the step, the
+-- seat before it, the number loaded or stored, and the seat after it.
 use Rattle.std.specs.Prelude.{◌≡◌, ℕ, ◌<◌, length}
 use Rattle.atomic_table.specs.Table.{Me, Step}
 use Rattle.at_ledger.specs.Book.{log_room_of}

@@ -18,7 +18,7 @@ pub record AreSeated (b : BookTerms) (seat : ℕ → ℕ) (views : List View) : 
   pub only : (id p : ℕ) (v : View) → get_elem? views id ≡ some v → Holds v p → seat p ≡ id
   pub some_view : (p : ℕ) → p < b.processes → (v : View) × (get_elem? views (seat p) ≡ some v) × Holds v p
 
--- the words stand for a sound state, of which each view knows what it has seen
+-- the words stand for a sound state, and whatever a view has seen is in it
 pub record Ruled (b : BookTerms) (words : List ℕ) (views : List View) : Type 0 where
   pub state : BoardState
   pub seat : ℕ → ℕ

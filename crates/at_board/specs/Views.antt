@@ -50,9 +50,9 @@ SeesRequest v a slot number r = Contains v.requests (record { account = a; slot 
 abbrev pub SeesDecision : View → ℕ → ℕ → Decision → Type 0
 SeesDecision v a round d = Contains v.decisions (record { account = a; round = round; decision = d })
 
--- each word of the request was loaded since the own announcement
-abbrev pub HasLoaded : Asking → SeenRequest → Type 0
-HasLoaded w x = (j : ℕ) → j < REQUEST_WORDS → Contains w.loaded (record { request = x; word = j })
+-- each word of the request was loaded since the process's own last announcement on the account
+abbrev pub HasLoadedRequest : Asking → SeenRequest → Type 0
+HasLoadedRequest w x = (j : ℕ) → j < REQUEST_WORDS → Contains w.loaded (record { request = x; word = j })
 
 -- the board has this request, and has decided this
 abbrev pub IsAnnounced : BoardState → SeenRequest → Type 0

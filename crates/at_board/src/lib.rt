@@ -7,10 +7,12 @@
 //! The announced requests and the one cell of each round are the registers and the consensus objects that an account of several
 //! owners has in "The Consensus Number of a Cryptocurrency" (PODC 2019).
 //!
-//! The definitions read best in this order. What is published: `Publications`, `Entries`, `Rounds`, `Balances`, `Moves`. What the
-//! words stand for: `BoardState`, `Places`, `Words`, `Shown`. The laws: `Sound`. What a seat knows: `Views`, `Seen`, `SeatView`.
-//! The rule: `Seated`. Then what each call asks (`Conditions`, `RequestConditions`) and tells (`Steps`, `RequestSteps`,
-//! `DecideSteps`, `NoteSteps`, `LearnSteps`, `Ends`). `Plays`, `Cuts` and `Meetings` tie the steps to the table.
+//! The definitions read best in this order. What is published: `Publications`, `Fronts`, `Entries`, `Rounds`, `Balances`, `Moves`.
+//! What the words stand for: `BoardState`, `Places`, `TargetsWord`, `Words`, `Shown`. The laws: `Sound`. What a seat knows:
+//! `Views`, `RecordWords`, `Seen`. The rule: `Seated`. What each call asks: `Conditions`, `RequestConditions`. What it tells:
+//! `ShownRounds`, `Steps`, `RequestSteps`, `DecideSteps`, `NoteSteps`, `LearnSteps`. What a seat keeps between its steps:
+//! `SeatView`, `SeatCounts`. How a board begins and ends: `Cuts`, `Ends`. `Plays` and `Meetings` tie the steps to the table.
+//! `Fresh` and `Forms` are for the crates above, `SmallBoard` for the tests.
 //!
 //! A line such as `let _process = seat.process();` does nothing when the program runs. The proof learns from it what the type keeps.
 #![tactic(auto)]

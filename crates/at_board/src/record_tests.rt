@@ -16,7 +16,7 @@ use std::process::Abort;
 use std::sync::ledger::{Blank, Ledger};
 use std::test::Fail;
 
-/// A book of the processes whose accounts these are, one account each, which opens with 100. An account without an owner opens with 0.
+/// A book of so many processes, with an account for each of these owners. It opens with 100, or with 0 where it has no owner.
 fn single_book(alloc: Global, processes: u64, owners: &[Option<u64>]) -> Result<Book, Fail> {
     let mut accounts = Vec::new(alloc);
     for owner in owners {

@@ -6,7 +6,7 @@ use at_ledger::Targets;
 pub const REQUEST_WORDS: u32 = 6;
 
 /// A pay-out that an owner of a shared account asks for. `since` is the place of the front that the owner looked at just before:
-/// how many publications it has.
+/// how many publications the front counts.
 #[derive(Drop)]
 pub struct Request {
     pub targets: Targets,

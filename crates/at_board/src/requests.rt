@@ -55,8 +55,8 @@ impl Board {
             .store::<StoreRequestWord>(&mut seat.seat, place, w);
     }
 
-    /// Announces the next request of the seat's process on an account, whose words are stored, by one atomic store of its
-    /// announced word, in one step.
+    /// Announces the next request of the seat's process on an account, in one step: one atomic store of its announced word. The
+    /// words of the request are stored before.
     pub fn announce<L: Ledger, X: Ledger>(
         &self,
         seat: &mut BoardSeat,

@@ -125,7 +125,7 @@ pub(crate) fn has_record(end: &BoardEnd, p: u32, i: u32, words: &[u64]) -> bool
     true
 }
 
-/// One process settles a round of its account with another. The closed board has the words of its record.
+/// One process settles a round of the account that it shares with another. The closed board has the words of its record.
 fn settles<L: Ledger, X: Ledger, R: Abort>(
     rt: &R,
     alloc: Global,

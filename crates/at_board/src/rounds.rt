@@ -16,7 +16,8 @@ impl Board {
     /// Proposes a decision, by its word, for a round of an account, by one compare-exchange in one step. The answer is the word
     /// that the round is decided by: the proposal, unless another stood there. A seat that found none holds the cell. It gives
     /// it up by publishing the round with the very view that it proposed from; until then it can't propose, and the board
-    /// can't be closed.
+    /// can't be closed. Nothing asks that this view count all records of the seat's own process; where it doesn't, the cell is
+    /// never given up.
     pub fn decide<L: Ledger, X: Ledger>(
         &self,
         seat: &mut BoardSeat,

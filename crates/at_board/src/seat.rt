@@ -34,7 +34,7 @@ impl BoardSeat {
     ghost use Rattle.at_board.specs.SeatView.{IsSeat};
     ghost use Rattle.at_board.specs.Views.{own_part};
 
-    /// The process that the seat belongs to. It makes no step. A call of it tells a proof what the seat's type keeps.
+    /// The process that the seat belongs to. The call makes no step. It tells a proof what the seat's type keeps.
     pub fn process(&self) -> u32
         ensures process { result ≡ self.now.view.first }
         ensures seat { IsSeat self.now.view result (own_part self.now.view).published }
@@ -42,7 +42,7 @@ impl BoardSeat {
         self.process
     }
 
-    /// How many records the process has published. It makes no step.
+    /// How many records the process has published. The call makes no step.
     pub fn published(&self) -> u32
         ensures { result ≡ (own_part self.now.view).published }
     {

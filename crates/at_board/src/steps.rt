@@ -6,7 +6,7 @@ use std::marker::Model;
 use std::sync::ledger::{Blank, Book, Ledger, Share};
 
 /// How many steps were made. It takes no bytes, and only `tick` changes it. A step is one atomic load, store or
-/// compare-exchange of a board's word, or the making or taking in of a note. It stands on a count of the library
+/// compare-exchange of a board's word, or the making or taking in of a note. The counter stands on a count of the library
 /// (`std::sync::ledger`), which has nothing to do with accounts.
 #[derive(Drop)]
 pub struct Steps<L: Ledger> {

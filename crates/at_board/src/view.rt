@@ -86,7 +86,7 @@ pub struct Asking {
     pub loaded: LinkedList<LoadedWord>,
 }
 
-/// A word of an announced request that was loaded.
+/// A loaded word of an announced request, by its number there.
 #[derive(Drop)]
 pub struct LoadedWord {
     pub request: SeenRequest,
