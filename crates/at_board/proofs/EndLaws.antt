@@ -17,8 +17,7 @@ use Rattle.at_board.specs.declared.publication.Publication.{Publication}
 use Rattle.at_board.specs.declared.view.Part.{Part}
 use Rattle.at_board.specs.declared.view.View.{View}
 use Rattle.at_board.specs.BoardState.{BoardState, publication_at}
-use Rattle.at_board.specs.Cuts.{AreNew, starting_seat}
-use Rattle.at_board.specs.Ends.{AreAllFree, Gathers, IsEnd, IsFreeSeat, end_of, gathered, records_in, records_of}
+use Rattle.at_board.specs.Ends.{Gathers, IsEnd, IsFreeSeat, end_of, gathered, records_in, records_of}
 use Rattle.at_board.specs.Places.{length_of, record_width, record_word, word_at}
 use Rattle.at_board.specs.Publications.{IsPrefix, count_of, no_publication, publications_of}
 use Rattle.at_board.specs.Seated.{Ruled}
@@ -183,17 +182,3 @@ module _ {S : Type 0} where
             sym ((has p within).asking a slot slots).announced ∙ ap (λ q. (asking_on q a).announced) (own p d within);
         history = IsHistory-Sound b last.0.words s ruled.shown ruled.sound book.begun;
       }
-
--- all seats of a new board hold no cell
-pub AreAllFree-AreNew : (b : BookTerms) (board : BoardView) (seats : List SeatView) → board.book ≡ b → AreNew b board.id seats → AreAllFree board seats
-AreAllFree-AreNew b board seats same new = record {
-  count = new.count ∙ sym (ap (λ (t : BookTerms). t.processes) same);
-  each = λ p d within.
-      let inside : p < b.processes = subst (λ (t : BookTerms). p < t.processes) same within in
-      let first : IsFreeSeat board p (record { board = board.id; view = starting_seat b p }) = record {
-        of_board = record { id = refl; book = sym same };
-        process = refl;
-        free = refl;
-      } in
-      subst (IsFreeSeat board p) (sym (new.each p d inside)) first;
-}

@@ -311,19 +311,6 @@ covered_twice : (b : BookTerms) → 90 ≤ (account_of b 0).opening → IsCovere
 unfolding firsts
 covered_twice b opening = omega arith
 
-pub may_ask_second : (v : View) → length (asking_on (own_part v) 0).announced ≡ 1 → (asking_on (own_part v) 0).stored ≡ replicate 6 0
-    → IsPrefix first_twice v.seen → MayAskIn v 1
-may_ask_second v announced blank prefix = record {
-  announced = announced;
-  blank = blank;
-  early = omega arith;
-  since = IsPrefix-length first_twice v.seen prefix;
-  settled = λ i below.
-      let zero : i ≡ 0 = omega (arith, below) in
-      subst (λ k. is_settled 0 0 k (take 2 v.seen) ≡ true) (sym zero)
-      (subst (λ xs. is_settled 0 0 0 xs ≡ true) (sym (take-first_twice v.seen prefix)) refl);
-}
-
 pub may_propose_second : (b : BookTerms) (v : View) → HasTwoOwners b → v.first ≡ 0 → IsPrefix first_twice v.seen → SeesRequest v 0 0 1 (payment_in 1 30)
     → (own_part v).held ≡ None → MayPropose b v 0 1 (decision_in 1) (payment_in 1 30)
 may_propose_second b v owners first prefix request free =

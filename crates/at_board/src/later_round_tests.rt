@@ -12,44 +12,16 @@ ghost use Rattle.at_board.specs.SmallBoard.{HasBegun, HasTwoOwners, IsIdle, MayA
 ghost use Rattle.at_board.specs.Steps.{Publishes};
 ghost use Rattle.at_board.specs.Views.{HasSlot, SeesRequest};
 
-use crate::request_tests::{last_seat, slot_on};
+use crate::request_tests::{book_of, last_seat, slot_on};
 use crate::round_tests::{close_two, has_record};
 use crate::stress_tests::look;
 use crate::{Board, BoardEnd, BoardSeat, Steps};
-use at_ledger::{Book, Draft, DraftAccount};
+use at_ledger::Book;
 use std::alloc::Global;
 use std::marker::Brand;
 use std::process::Abort;
 use std::sync::ledger::{Blank, Ledger};
 use std::test::Fail;
-
-/// A book of two processes that share account 0, of which one has account 2 alone. Account 1 has no owner.
-fn mixed_book(alloc: Global) -> Result<Book, Fail> {
-    let both = vec![in alloc; 0u64, 1]?;
-    let none = Vec::new(alloc);
-    let alone = vec![in alloc; 1u64]?;
-    let accounts = vec![in alloc;
-        DraftAccount {
-            opening: 100,
-            owners: both
-        },
-        DraftAccount {
-            opening: 0,
-            owners: none
-        },
-        DraftAccount {
-            opening: 0,
-            owners: alone
-        },
-    ]?;
-    let draft = Draft {
-        processes: 2,
-        own_room: 4,
-        request_room: 4,
-        accounts,
-    };
-    Ok(Book::new(alloc, &draft)?)
-}
 
 /// Whether a process shares account 0 by its own number.
 fn has_own_slot(book: &Book, process: u32) -> bool
@@ -291,7 +263,7 @@ fn has_three_records(end: &BoardEnd) -> bool
         && has_record(end, 1, 0, first.as_slice())
 }
 
-/// Two rounds are settled on a board, and it is closed. The closed board has their words.
+/// Two rounds are settled on a board of two processes that share account 0, of which one has account 2 alone, and it is closed. The closed board has their words.
 fn settles_twice<L: Ledger, X: Ledger, R: Abort>(
     rt: &R,
     alloc: Global,
@@ -303,7 +275,8 @@ fn settles_twice<L: Ledger, X: Ledger, R: Abort>(
     requires some { (0 < one.parts) × (0 < other.parts) }
 {
     let (steps, exchanges) = (&mut Steps::<L>::new(one), &mut Steps::<X>::new(other));
-    let book = mixed_book(alloc)?;
+    let owners = [[0, 1].as_slice(), [].as_slice(), [1].as_slice()];
+    let book = book_of(alloc, 2, owners.as_slice())?;
     let (board, mut seats) = Board::new(alloc, &book)?;
     assert!(rt; has_two_owners(board.book()));
     let mut second = last_seat(&board, &mut seats).expect(rt, "a seat");

@@ -6,39 +6,15 @@ ghost use Rattle.at_board.specs.Publications.{count_of};
 ghost use Rattle.at_board.specs.SmallBoard.{IsIdle};
 ghost use Rattle.at_board.specs.Sound.{IsSoundOwn};
 
-use crate::request_tests::last_seat;
+use crate::request_tests::{book_of, last_seat};
 use crate::round_tests::{close_two, has_record};
 use crate::{Board, BoardSeat, Steps};
-use at_ledger::{Book, Draft, DraftAccount};
+use at_ledger::Book;
 use std::alloc::{AllocError, Global};
 use std::marker::Brand;
 use std::process::Abort;
 use std::sync::ledger::{Blank, Ledger};
 use std::test::Fail;
-
-/// A book of so many processes, with an account for each of these owners. It opens with 100, or with 0 where it has no owner.
-fn single_book(alloc: Global, processes: u64, owners: &[Option<u64>]) -> Result<Book, Fail> {
-    let mut accounts = Vec::new(alloc);
-    for owner in owners {
-        accounts.push(match *owner {
-            Some(owner) => DraftAccount {
-                opening: 100,
-                owners: vec![in alloc; owner]?,
-            },
-            None => DraftAccount {
-                opening: 0,
-                owners: Vec::new(alloc),
-            },
-        })?;
-    }
-    let draft = Draft {
-        processes,
-        own_room: 4,
-        request_room: 4,
-        accounts,
-    };
-    Ok(Book::new(alloc, &draft)?)
-}
 
 /// Whether a process may pay 30 from account 0 to account 1 when nothing is published.
 #[tactic(auto, unfolding(crate::specs::Rounds::firsts))]
@@ -111,7 +87,7 @@ fn pays_and_tells<L: Ledger, X: Ledger, R: Abort>(
     requires some { (0 < one.parts) × (0 < another.parts) }
 {
     let (steps, exchanges) = (&mut Steps::<L>::new(one), &mut Steps::<X>::new(another));
-    let book = single_book(alloc, 2, [Some(0), Some(1)].as_slice())?;
+    let book = book_of(alloc, 2, [[0].as_slice(), [1].as_slice()].as_slice())?;
     let (board, mut seats) = Board::new(alloc, &book)?;
     let mut other = last_seat(&board, &mut seats).expect(rt, "a seat");
     let mut seat = last_seat(&board, &mut seats).expect(rt, "a seat");
@@ -146,7 +122,7 @@ fn pays_alone<L: Ledger, X: Ledger, R: Abort>(
     requires some { (0 < one.parts) × (0 < another.parts) }
 {
     let (steps, exchanges) = (&mut Steps::<L>::new(one), &mut Steps::<X>::new(another));
-    let book = single_book(alloc, 1, [Some(0), None].as_slice())?;
+    let book = book_of(alloc, 1, [[0].as_slice(), [].as_slice()].as_slice())?;
     let (board, mut seats) = Board::new(alloc, &book)?;
     assert!(rt; board.book().processes() == 1);
     let mut seat = last_seat(&board, &mut seats).expect(rt, "a seat");

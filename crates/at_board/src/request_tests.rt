@@ -16,20 +16,20 @@ use std::process::Abort;
 use std::sync::ledger::{Blank, Ledger};
 use std::test::Fail;
 
-/// A book of two processes that share its only account.
-pub(crate) fn small_book(alloc: Global) -> Result<Book, Fail> {
-    let owners = vec![in alloc; 0u64, 1]?;
-    let accounts = vec![in alloc;
-        DraftAccount {
-            opening: 100,
-            owners
-        },
-    ]?;
+/// A book of so many processes, with an account for each list of owners. It opens with 100, or with 0 where it has no owner.
+pub(crate) fn book_of(alloc: Global, processes: u64, accounts: &[&[u64]]) -> Result<Book, Fail> {
+    let mut drafts = Vec::new(alloc);
+    for owners in accounts {
+        drafts.push(DraftAccount {
+            opening: if owners.is_empty() { 0 } else { 100 },
+            owners: owners.to_vec(alloc)?,
+        })?;
+    }
     let draft = Draft {
-        processes: 2,
-        own_room: 4,
+        processes,
+        own_room: 65,
         request_room: 4,
-        accounts,
+        accounts: drafts,
     };
     Ok(Book::new(alloc, &draft)?)
 }
@@ -125,7 +125,7 @@ fn asks_and_sees<L: Ledger, X: Ledger, R: Abort>(
     requires some { (0 < one.parts) × (0 < other.parts) }
 {
     let (steps, exchanges) = (&mut Steps::<L>::new(one), &mut Steps::<X>::new(other));
-    let book = small_book(alloc)?;
+    let book = book_of(alloc, 2, [[0, 1].as_slice()].as_slice())?;
     let (board, mut seats) = Board::new(alloc, &book)?;
     assert_eq!(rt; board.book().request_room(), 4);
     let mut seat = last_seat(&board, &mut seats).expect(rt, "a seat");

@@ -9,7 +9,7 @@ ghost use Rattle.at_board.specs.SeatView.{IsOf};
 ghost use Rattle.at_board.specs.SmallBoard.{HasWon, IsIdle, first_decision, payment};
 ghost use Rattle.at_board.specs.Views.{HasSlot, SeesRequest, own_part};
 
-use crate::request_tests::{ask, last_seat, slot_on, small_book};
+use crate::request_tests::{ask, book_of, last_seat, slot_on};
 use crate::{Board, BoardEnd, BoardSeat, Steps};
 use at_base::unpack_decision;
 use std::alloc::{AllocError, Global};
@@ -137,7 +137,7 @@ fn settles<L: Ledger, X: Ledger, R: Abort>(
     requires some { (0 < one.parts) × (0 < other.parts) }
 {
     let (steps, exchanges) = (&mut Steps::<L>::new(one), &mut Steps::<X>::new(other));
-    let book = small_book(alloc)?;
+    let book = book_of(alloc, 2, [[0, 1].as_slice()].as_slice())?;
     let (board, mut seats) = Board::new(alloc, &book)?;
     assert!(rt; board.book().processes() == 2);
     let mut second = last_seat(&board, &mut seats).expect(rt, "a seat");
@@ -156,48 +156,4 @@ fn settles<L: Ledger, X: Ledger, R: Abort>(
 #[test]
 fn a_round_is_settled(rt: HostRuntime) -> Result<(), Fail> {
     settles::<Brand, Brand, _>(&rt, rt.alloc(), Blank::new(1), Blank::new(1))
-}
-
-/// One seat hands a note to another.
-fn tells<L: Ledger, X: Ledger, R: Abort>(
-    rt: &R,
-    alloc: Global,
-    one: Blank,
-    other: Blank,
-) -> Result<(), Fail>
-    requires names { (one.name ≡ L.name) × (other.name ≡ X.name) }
-    requires parts { (one.parts ≡ L.parts) × (other.parts ≡ X.parts) }
-    requires some { (0 < one.parts) × (0 < other.parts) }
-{
-    let (steps, exchanges) = (&mut Steps::<L>::new(one), &mut Steps::<X>::new(other));
-    let book = small_book(alloc)?;
-    let (board, mut seats) = Board::new(alloc, &book)?;
-    let mut second = last_seat(&board, &mut seats).expect(rt, "a seat");
-    let mut first = last_seat(&board, &mut seats).expect(rt, "a seat");
-    let note = board.note(&mut first, steps, exchanges);
-    board.learn(&mut second, note, steps, exchanges);
-    assert_eq!(rt; (first.process(), second.process()), (0, 1));
-    Ok(())
-}
-
-#[test]
-fn a_note_is_learned(rt: HostRuntime) -> Result<(), Fail> {
-    tells::<Brand, Brand, _>(&rt, rt.alloc(), Blank::new(1), Blank::new(1))
-}
-
-/// A new board is closed.
-fn closes<R: Abort>(rt: &R, alloc: Global) -> Result<(), Fail> {
-    let book = small_book(alloc)?;
-    assert!(rt; 1 < book.processes());
-    let (board, seats) = Board::new(alloc, &book)?;
-    let Ok(end) = board.close(alloc, seats) else {
-        return Err(AllocError.into());
-    };
-    assert_eq!(rt; (end.length(0), end.length(1)), (0, 0));
-    Ok(())
-}
-
-#[test]
-fn a_board_is_closed(rt: HostRuntime) -> Result<(), Fail> {
-    closes(&rt, rt.alloc())
 }

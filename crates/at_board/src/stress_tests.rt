@@ -2,17 +2,16 @@
 
 ghost use Rattle.std.specs.Prelude.{◌≡◌, ℕ, ◌<◌, [], ◌∷◌, length, slice_index_or, IfOk, IfSome, IsTrue};
 ghost use Rattle.at_board.specs.Cuts.{starting_seat};
-ghost use Rattle.at_board.specs.Ends.{records_of};
 ghost use Rattle.at_board.specs.SeatView.{SeatView};
 ghost use Rattle.at_board.specs.SmallBoard.{HasOwnAccount, IsIdle, IsNewPlayer, IsOwnFront, MayPlay};
 ghost use Rattle.at_board.specs.Steps.{LoadsLength};
 ghost use Rattle.at_board.specs.Views.{own_part};
 
-use crate::request_tests::{last_seat, slot_on};
-use crate::round_tests::settle;
-use crate::{Board, BoardEnd, BoardSeat, RECORD_WORDS, Steps};
+use crate::request_tests::{book_of, last_seat, slot_on};
+use crate::round_tests::{has_record, settle};
+use crate::{Board, BoardEnd, BoardSeat, Steps};
 use at_base::Counts;
-use at_ledger::{Book, Draft, DraftAccount};
+use at_ledger::Book;
 use std::alloc::{AllocError, Global};
 use std::marker::Brand;
 use std::process::Abort;
@@ -32,31 +31,6 @@ const WAITS: u32 = 100_000;
 
 /// How many boards are played on, one after another.
 const BOARDS: u32 = 4;
-
-/// A book of four processes that share account 0 and have another account each.
-fn four_book(alloc: Global) -> Result<Book, Fail> {
-    let owners = vec![in alloc; 0u64, 1, 2, 3]?;
-    let mut accounts = vec![in alloc;
-        DraftAccount {
-            opening: 100,
-            owners
-        },
-    ]?;
-    for owner in 0u64..4 {
-        let owners = vec![in alloc; owner]?;
-        accounts.push(DraftAccount {
-            opening: 100,
-            owners,
-        })?;
-    }
-    let draft = Draft {
-        processes: 4,
-        own_room: u64::from(RECORDS) + 1,
-        request_room: 2,
-        accounts,
-    };
-    Ok(Book::new(alloc, &draft)?)
-}
 
 /// Whether a process shares account 0 by its own number, which covers 7, and owns the account after that of its number alone.
 fn may_play(book: &Book, process: u32) -> bool
@@ -322,48 +296,18 @@ fn close_four(
     }
 }
 
-/// A word of a record by which a process has moved 0 with this view.
-fn moving_word(p: u32, view: &Counts, j: u32) -> u64
-    requires process { p < 4 }
-    requires view { length view.now ≡ 4 }
-    requires word { j < 11 }
-{
-    match j {
-        0 => 2 * (u64::from(p) + 1),
-        1 => 1 << 40,
-        2..=6 => 0,
-        _ => u64::from(view.get(j - RECORD_WORDS)),
-    }
-}
-
-/// A word of the record of the first round of account 0, which has this decision.
-fn round_word(decision: u64, j: u32) -> u64 {
-    match j {
-        0 => 1,
-        1 => 1 << 40,
-        2 => decision,
-        3 => 7,
-        _ => 0,
-    }
-}
-
-/// Whether a record of a closed board has these words: those of the round, or else of a move with this view.
-fn has_words(end: &BoardEnd, p: u32, i: u32, round: Option<u64>, view: &Counts) -> bool
-    requires four { end.now.book.processes ≡ 4 }
-    requires process { p < 4 }
-    requires record { i < length (records_of end.now p) }
+/// The words of a record by which a process has moved 0 with this view.
+fn moving_words(p: u32, view: &Counts) -> [u64; 11]
     requires view { length view.now ≡ 4 }
 {
-    for j in 0..11 {
-        let word = match round {
-            Some(decision) => round_word(decision, j),
-            None => moving_word(p, view, j),
-        };
-        if end.record_word(p, i, j) != word {
-            return false;
-        }
-    }
-    true
+    let head = 2 * (u64::from(p) + 1);
+    let [a, b, c, d] = [view.get(0), view.get(1), view.get(2), view.get(3)].map(u64::from);
+    [head, 1 << 40, 0, 0, 0, 0, 0, a, b, c, d]
+}
+
+/// The words of the record of the first round of account 0, which has this decision.
+fn round_words(decision: u64) -> [u64; 11] {
+    [1, 1 << 40, decision, 7, 0, 0, 0, 0, 0, 0, 0]
 }
 
 /// Whether the closed board has what the thread of a process was told: its records and no others, the round's first where it
@@ -381,8 +325,12 @@ fn has_told(end: &BoardEnd, p: u32, told: &Told) -> bool
         if view.len() != 4 || view.get(p) != i || !lengths.covers(view) {
             return false;
         }
-        let won = i == 0 && told.word == proposal_of(p);
-        if !has_words(end, p, i, won.then_some(told.word), view) {
+        let words = if i == 0 && told.word == proposal_of(p) {
+            round_words(told.word)
+        } else {
+            moving_words(p, view)
+        };
+        if !has_record(end, p, i, words.as_slice()) {
             return false;
         }
     }
@@ -416,9 +364,17 @@ fn has_all_told<R: Abort>(rt: &R, end: &BoardEnd, told: &[Told; 4])
     assert_eq!(rt; winners, 1);
 }
 
-/// Four threads play at once on a board, which is then closed.
+/// Four threads play at once on a board of four processes that share account 0 and have another account each. It is then closed.
 fn plays<R: Threads + Sync + Abort>(rt: &R, alloc: Global) -> Result<(), Fail> {
-    let book = four_book(alloc)?;
+    let (all, own) = ([0, 1, 2, 3], [[0], [1], [2], [3]]);
+    let owners = [
+        all.as_slice(),
+        own[0].as_slice(),
+        own[1].as_slice(),
+        own[2].as_slice(),
+        own[3].as_slice(),
+    ];
+    let book = book_of(alloc, 4, owners.as_slice())?;
     let (board, mut seats) = Board::new(alloc, &book)?;
     assert!(rt; board.book().processes() == 4);
     let mut three = last_player(&board, &mut seats, 3).expect(rt, "process 3");
