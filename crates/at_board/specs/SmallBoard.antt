@@ -53,6 +53,12 @@ pub record IsNewPlayer (board : BoardView) (seat : SeatView) : Type 0 where
   pub new : seat.view ≡ starting_seat board.book seat.view.first
   pub player : MayPlay board.book seat.view.first
 
+-- the seats of a new board's two processes
+pub record AreNewPair (board : BoardView) (s t : SeatView) : Type 0 where
+  pub processes : board.book.processes ≡ 2
+  pub zero : s ≡ record { board = board.id; view = starting_seat board.book 0 }
+  pub one : t ≡ record { board = board.id; view = starting_seat board.book 1 }
+
 -- a seat of the board between two records: it holds no cell, and nothing of the next record is stored
 pub record IsIdle (board : BoardView) (seat : SeatView) : Type 0 where
   pub of_board : IsOf seat board

@@ -12,7 +12,7 @@ ghost use Rattle.at_board.specs.SmallBoard.{HasBegun, HasTwoOwners, IsIdle, MayA
 ghost use Rattle.at_board.specs.Steps.{Publishes};
 ghost use Rattle.at_board.specs.Views.{HasSlot, SeesRequest};
 
-use crate::request_tests::{book_of, last_seat, slot_on};
+use crate::request_tests::{new_pair, slot_on};
 use crate::round_tests::{close_two, has_record};
 use crate::stress_tests::look;
 use crate::{Board, BoardEnd, BoardSeat, Steps};
@@ -276,12 +276,8 @@ fn settles_twice<L: Ledger, X: Ledger, R: Abort>(
 {
     let (steps, exchanges) = (&mut Steps::<L>::new(one), &mut Steps::<X>::new(other));
     let owners = [[0, 1].as_slice(), [].as_slice(), [1].as_slice()];
-    let book = book_of(alloc, 2, owners.as_slice())?;
-    let (board, mut seats) = Board::new(alloc, &book)?;
+    let (board, mut first, mut second) = new_pair(rt, alloc, owners.as_slice())?;
     assert!(rt; has_two_owners(board.book()));
-    let mut second = last_seat(&board, &mut seats).expect(rt, "a seat");
-    let mut first = last_seat(&board, &mut seats).expect(rt, "a seat");
-    assert!(rt; first.process() == 0 && second.process() == 1);
     assert!(rt; settle_both(&board, &mut first, &mut second, steps, exchanges));
     let end = close_two(board, alloc, first, second)?;
     assert!(rt; has_three_records(&end));

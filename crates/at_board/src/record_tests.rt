@@ -6,7 +6,7 @@ ghost use Rattle.at_board.specs.Publications.{count_of};
 ghost use Rattle.at_board.specs.SmallBoard.{IsIdle};
 ghost use Rattle.at_board.specs.Sound.{IsSoundOwn};
 
-use crate::request_tests::{book_of, last_seat};
+use crate::request_tests::{book_of, last_seat, new_pair};
 use crate::round_tests::{close_two, has_record};
 use crate::{Board, BoardSeat, Steps};
 use at_ledger::Book;
@@ -87,12 +87,11 @@ fn pays_and_tells<L: Ledger, X: Ledger, R: Abort>(
     requires some { (0 < one.parts) × (0 < another.parts) }
 {
     let (steps, exchanges) = (&mut Steps::<L>::new(one), &mut Steps::<X>::new(another));
-    let book = book_of(alloc, 2, [[0].as_slice(), [1].as_slice()].as_slice())?;
-    let (board, mut seats) = Board::new(alloc, &book)?;
-    let mut other = last_seat(&board, &mut seats).expect(rt, "a seat");
-    let mut seat = last_seat(&board, &mut seats).expect(rt, "a seat");
-    assert!(rt; board.book().processes() == 2);
-    assert!(rt; seat.process() == 0 && other.process() == 1);
+    let (board, mut seat, mut other) = new_pair(
+        rt,
+        alloc,
+        [[0].as_slice(), [1].as_slice()].as_slice(),
+    )?;
     assert!(rt; may_pay(board.book(), seat.process()));
     pay(&board, &mut seat, steps, exchanges);
     assert_eq!(rt; seat.published(), 1);

@@ -1,11 +1,11 @@
 //! A request is asked on a small board, and another process sees it.
 
-ghost use Rattle.std.specs.Prelude.{◌≡◌, ℕ, ◌<◌, length, slice_index_or, IfSome};
+ghost use Rattle.std.specs.Prelude.{◌≡◌, ℕ, ◌<◌, length, slice_index_or, IfOk, IfSome};
 ghost use Rattle.at_ledger.specs.Book.{account_of};
 ghost use Rattle.at_board.specs.Cuts.{starting_seat};
 ghost use Rattle.at_board.specs.Places.{slots_of};
 ghost use Rattle.at_board.specs.SeatView.{IsOf, SeatView};
-ghost use Rattle.at_board.specs.SmallBoard.{IsIdle, payment};
+ghost use Rattle.at_board.specs.SmallBoard.{AreNewPair, IsIdle, payment};
 ghost use Rattle.at_board.specs.Views.{HasSlot, SeesRequest, own_part};
 
 use crate::{Board, BoardSeat, Steps};
@@ -53,6 +53,23 @@ pub(crate) fn last_seat(board: &Board, seats: &mut Vec<BoardSeat>) -> Option<Boa
     ensures rest { (p : ℕ) (d : SeatView) → p < length seats.new.items → slice_index_or seats.new.items p d ≡ record { board = board.now.id; view = starting_seat board.now.book p } }
 {
     seats.pop()
+}
+
+/// A new board of two processes, with an account for each list of owners, and its two seats.
+pub(crate) fn new_pair<R: Abort>(
+    rt: &R,
+    alloc: Global,
+    accounts: &[&[u64]],
+) -> Result<(Board, BoardSeat, BoardSeat), Fail>
+    ensures { IfOk result (λ r. AreNewPair r.0 r.1 r.2) }
+{
+    let book = book_of(alloc, 2, accounts)?;
+    let (board, mut seats) = Board::new(alloc, &book)?;
+    let one = last_seat(&board, &mut seats).expect(rt, "a seat");
+    let zero = last_seat(&board, &mut seats).expect(rt, "a seat");
+    assert!(rt; board.book().processes() == 2);
+    assert!(rt; zero.process() == 0 && one.process() == 1);
+    Ok((board, zero, one))
 }
 
 /// Asks for a payment of 7 to account 0, as the first request of the seat's process.
@@ -125,16 +142,12 @@ fn asks_and_sees<L: Ledger, X: Ledger, R: Abort>(
     requires some { (0 < one.parts) × (0 < other.parts) }
 {
     let (steps, exchanges) = (&mut Steps::<L>::new(one), &mut Steps::<X>::new(other));
-    let book = book_of(alloc, 2, [[0, 1].as_slice()].as_slice())?;
-    let (board, mut seats) = Board::new(alloc, &book)?;
+    let (board, mut second, mut seat) = new_pair(rt, alloc, [[0, 1].as_slice()].as_slice())?;
     assert_eq!(rt; board.book().request_room(), 4);
-    let mut seat = last_seat(&board, &mut seats).expect(rt, "a seat");
     let slot = slot_on(board.book(), 0, seat.process()).expect(rt, "an owner");
-    assert_eq!(rt; (seat.process(), seat.published(), slot), (1, 0, 1));
+    assert_eq!(rt; (seat.published(), slot), (0, 1));
     let counts = ask_first(&board, &mut seat, steps, exchanges);
     assert_eq!(rt; counts, (0, 1));
-    let mut second = last_seat(&board, &mut seats).expect(rt, "a seat");
-    assert!(rt; second.process() < board.book().processes());
     assert_eq!(rt; board.load_length(&mut second, 0, steps, exchanges), 0);
     let seen = first_amount(&board, &mut second, slot, steps, exchanges);
     assert_eq!(rt; seen, Some(7));

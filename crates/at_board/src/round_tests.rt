@@ -9,7 +9,7 @@ ghost use Rattle.at_board.specs.SeatView.{IsOf};
 ghost use Rattle.at_board.specs.SmallBoard.{HasWon, IsIdle, first_decision, payment};
 ghost use Rattle.at_board.specs.Views.{HasSlot, SeesRequest, own_part};
 
-use crate::request_tests::{ask, book_of, last_seat, slot_on};
+use crate::request_tests::{ask, new_pair, slot_on};
 use crate::{Board, BoardEnd, BoardSeat, Steps};
 use at_base::unpack_decision;
 use std::alloc::{AllocError, Global};
@@ -137,12 +137,7 @@ fn settles<L: Ledger, X: Ledger, R: Abort>(
     requires some { (0 < one.parts) × (0 < other.parts) }
 {
     let (steps, exchanges) = (&mut Steps::<L>::new(one), &mut Steps::<X>::new(other));
-    let book = book_of(alloc, 2, [[0, 1].as_slice()].as_slice())?;
-    let (board, mut seats) = Board::new(alloc, &book)?;
-    assert!(rt; board.book().processes() == 2);
-    let mut second = last_seat(&board, &mut seats).expect(rt, "a seat");
-    let first = last_seat(&board, &mut seats).expect(rt, "a seat");
-    assert!(rt; first.process() == 0 && second.process() == 1);
+    let (board, first, mut second) = new_pair(rt, alloc, [[0, 1].as_slice()].as_slice())?;
     let slot = slot_on(board.book(), 0, second.process()).expect(rt, "an owner");
     assert!(rt; slot < 8 && 7 <= board.book().opening(0));
     assert_eq!(rt; settle(&board, &mut second, slot, steps, exchanges), 4);
