@@ -114,22 +114,6 @@ fn first_amount<L: Ledger, X: Ledger>(
     Some(board.load_request_word(seat, 0, slot, 0, 1, steps, exchanges))
 }
 
-/// Asks, as the first request of the seat's process, and tells how many its process has announced before and after.
-fn ask_first<L: Ledger, X: Ledger>(
-    board: &Board,
-    seat: &mut BoardSeat,
-    steps: &mut Steps<L>,
-    exchanges: &mut Steps<X>,
-) -> (u32, u32)
-    requires board { seat.old.board ≡ board.now.id }
-    requires new { seat.old.view ≡ starting_seat board.now.book seat.old.view.first }
-    requires slot { (slot : ℕ) × HasSlot board.now.book seat.old.view.first 0 slot }
-{
-    let before = board.announced(seat, 0);
-    ask(board, seat, steps, exchanges);
-    (before, board.announced(seat, 0))
-}
-
 /// One process asks, and the other sees what.
 fn asks_and_sees<L: Ledger, X: Ledger, R: Abort>(
     rt: &R,
@@ -146,8 +130,9 @@ fn asks_and_sees<L: Ledger, X: Ledger, R: Abort>(
     assert_eq!(rt; board.book().request_room(), 4);
     let slot = slot_on(board.book(), 0, seat.process()).expect(rt, "an owner");
     assert_eq!(rt; (seat.published(), slot), (0, 1));
-    let counts = ask_first(&board, &mut seat, steps, exchanges);
-    assert_eq!(rt; counts, (0, 1));
+    assert_eq!(rt; board.announced(&seat, 0), 0);
+    ask(&board, &mut seat, steps, exchanges);
+    assert_eq!(rt; board.announced(&seat, 0), 1);
     assert_eq!(rt; board.load_length(&mut second, 0, steps, exchanges), 0);
     let seen = first_amount(&board, &mut second, slot, steps, exchanges);
     assert_eq!(rt; seen, Some(7));
