@@ -1,5 +1,5 @@
 use Rattle.std.proofs.Common.{◌≡◌, ◌∙◌, sym, true, false}
-use Rattle.at_base.specs.Numbers.{begins_canonical, is_canonical}
+use Rattle.at_base.specs.Numbers.{begins_canonical}
 use Rattle.at_base.proofs.NumberLaws.{number_of-begins, number_of-not_text, number_of-parsed}
 use Rattle.at_base.proofs.numbers.number_in.Goals as goal
 
