@@ -1,6 +1,6 @@
 //! Decisions, and the words that stand for them.
 
-ghost use Rattle.std.specs.Prelude.{◌≡◌, ℕ, ◌^◌, ◌<◌, ◌≢◌, ◌↔◌, Option, Some, None};
+ghost use Rattle.std.specs.Prelude.{◌≡◌, ◌^◌, ◌<◌, ◌≢◌, ◌↔◌, Option, Some, None};
 ghost use Rattle.at_base.specs.Decision.{InRange, IsNoDecision, word_of};
 ghost use Rattle.at_base.specs.declared.decision.Decision.{Decision};
 

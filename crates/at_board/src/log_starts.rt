@@ -5,7 +5,7 @@ ghost use Rattle.at_board.specs.Places.{AreLogStarts, IsPlace, place_at, record_
 
 use crate::publication::RECORD_WORDS;
 use arrayvec::ArrayVec;
-use at_ledger::{Book, PROCESSES_MAX};
+use at_ledger::Book;
 
 /// The index of the first word of each log.
 pub(crate) fn log_starts(book: &Book) -> ArrayVec<u32, 16>

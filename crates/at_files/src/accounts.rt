@@ -4,7 +4,7 @@ ghost use Rattle.std.specs.Prelude.{◌≡◌, ◌+◌, ◌<◌, length, Err, Ok
 ghost use Rattle.csv.specs.Records.{fields_of};
 ghost use Rattle.at_ledger.specs.Draft.{account_fault, terms_with, with_account};
 ghost use Rattle.at_files.specs.Names.{AreNamesOf};
-ghost use Rattle.at_files.specs.BookRecords.{book_begun, book_with_rooms, limits_of, named_terms, numbered_terms, with_named_row, with_plain_row, with_row, within_limits};
+ghost use Rattle.at_files.specs.BookRecords.{book_with_rooms, limits_of, named_terms, numbered_terms, with_named_row, with_plain_row, with_row, within_limits};
 ghost use Rattle.at_files.specs.BookFile.{at_line};
 
 use crate::book_fault::{BadBook, BookWhy, ReadBookFault};

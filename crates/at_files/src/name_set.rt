@@ -1,6 +1,6 @@
 //! Names that are told apart, each with its place.
 
-ghost use Rattle.std.specs.Prelude.{◌≡◌, ◌≤◌, ◌<◌, ◌++◌, [], ◌∷◌, true, false, bytes_eq, length, not, if◌then◌else◌, slice_index, slice_index_or, IfNone, IfOk, IfSome};
+ghost use Rattle.std.specs.Prelude.{◌≡◌, ◌≤◌, ◌<◌, ◌++◌, [], ◌∷◌, bytes_eq, length, not, if◌then◌else◌, slice_index, slice_index_or, IfNone, IfOk, IfSome};
 ghost use Rattle.std.specs.Char.{is_ascii_lowercase};
 ghost use Rattle.std.specs.List.{IsDistinct, list_all};
 ghost use Rattle.at_files.specs.Names.{has_name, is_name, is_name_byte, place_of};

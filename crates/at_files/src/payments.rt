@@ -1,6 +1,6 @@
 //! The payments of one process.
 
-ghost use Rattle.std.specs.Prelude.{◌≡◌, List, length, Ok, Err, IfErr, IfOk};
+ghost use Rattle.std.specs.Prelude.{◌≡◌, List, Ok, Err, IfErr, IfOk};
 ghost use Rattle.at_files.specs.Names.{AreNamesOf};
 ghost use Rattle.at_files.specs.Rows.{rows_of};
 ghost use Rattle.at_files.specs.Payments.{payments_of, Pays};

@@ -1,6 +1,6 @@
 //! The first three records of a book file.
 
-ghost use Rattle.std.specs.Prelude.{◌≡◌, ℕ, ◌≤◌, [], drop, length, Err, Ok, OnOk, IfOk};
+ghost use Rattle.std.specs.Prelude.{◌≡◌, ◌≤◌, [], drop, Err, Ok, OnOk, IfOk};
 ghost use Rattle.csv.specs.Records.{fields_of};
 ghost use Rattle.at_files.specs.BookRecords.{counted_processes, named_processes, process_count, processes_of, version_of, with_name, with_process, with_processes};
 ghost use Rattle.at_files.specs.BookFile.{at_line};

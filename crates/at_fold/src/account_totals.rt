@@ -1,6 +1,6 @@
 //! What is counted of one account.
 
-ghost use Rattle.std.specs.Prelude.{◌≡◌, ◌+◌, ◌-◌, ◌*◌, ◌<◌, ◌≤◌, ◌^◌, false, length, replicate, IfOk};
+ghost use Rattle.std.specs.Prelude.{◌≡◌, ◌+◌, ◌-◌, ◌*◌, ◌<◌, ◌≤◌, ◌^◌, false, length, IfOk};
 ghost use Rattle.at_ledger.specs.Book.{account_of};
 ghost use Rattle.at_board.specs.Places.{slots_of};
 ghost use Rattle.at_fold.specs.Sums.{answer_at, is_counted, slot_at, starting_row, with_credit, with_debit, with_round};

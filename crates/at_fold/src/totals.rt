@@ -10,7 +10,7 @@ ghost use Rattle.at_board.specs.Rounds.{named, rounds};
 ghost use Rattle.at_board.specs.Views.{own_part};
 ghost use Rattle.at_fold.specs.Counted.{IsAnswer, counted};
 ghost use Rattle.at_fold.specs.HasCounted.{CountsAccount, CountsFront, CountsSlot, HasCounted, IsNext, MayCount, StaysCounted};
-ghost use Rattle.at_fold.specs.Sums.{FitsMore, FitsRound, HasPlace, after_entry, is_new_to, row_at, with_amounts, with_credit, with_debit, with_decision};
+ghost use Rattle.at_fold.specs.Sums.{FitsMore, FitsRound, HasPlace, after_entry, is_new_to, row_at, with_amounts, with_credit, with_decision};
 
 use crate::NoMemory;
 use crate::account_totals::AccountTotals;

@@ -1,6 +1,6 @@
 //! The fronts that a closing holds.
 
-ghost use Rattle.std.specs.Prelude.{◌≡◌, ◌++◌, ◌^◌, ◌<◌, ◌≤◌, [], ◌∷◌, length, map, OnOk, IfOk};
+ghost use Rattle.std.specs.Prelude.{◌≡◌, ◌++◌, ◌^◌, ◌<◌, [], ◌∷◌, map, OnOk, IfOk};
 ghost use Rattle.std.specs.List.{cons_option, filter_map, flat_map};
 ghost use Rattle.at_board.specs.Fronts.{place};
 ghost use Rattle.at_log.specs.HeldFronts.{front_at};

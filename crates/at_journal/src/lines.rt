@@ -1,6 +1,6 @@
 //! The lines of a journal and their keys.
 
-ghost use Rattle.std.specs.Prelude.{◌≡◌, ℕ, ◌+◌, ◌*◌, ◌^◌, ◌<◌, ◌≤◌, [], length, map, slice_index, slice_index_or, All, OnOk, IfOk};
+ghost use Rattle.std.specs.Prelude.{◌≡◌, ℕ, ◌+◌, ◌*◌, ◌^◌, ◌<◌, ◌≤◌, [], length, map, slice_index, slice_index_or, All, IfOk};
 ghost use Rattle.std.specs.List.{range_with_len};
 ghost use Rattle.at_log.specs.ClosingTerms.{receipts_of};
 ghost use Rattle.at_log.specs.Coherent.{Coherent};
@@ -14,7 +14,7 @@ use crate::fronts::place_of;
 use crate::keyed::Keyed;
 use crate::places::own_positions;
 use at_ledger::{Book, Call, Line, Reply};
-use at_log::{At, Closing, Receipt};
+use at_log::{At, Closing};
 use std::alloc::Global;
 
 /// The account that a call names first.

@@ -1,6 +1,6 @@
 //! Where the records of a closing stand in the order of its publications.
 
-ghost use Rattle.std.specs.Prelude.{◌≡◌, ◌++◌, ◌<◌, ◌≤◌, [], length, map, sum, OnOk, IfOk};
+ghost use Rattle.std.specs.Prelude.{◌≡◌, ◌<◌, length, map, sum, OnOk, IfOk};
 ghost use Rattle.at_ledger.specs.Book.{IsBook};
 ghost use Rattle.at_log.specs.ClosingTerms.{log_lengths};
 ghost use Rattle.at_log.specs.Coherent.{Coherent};

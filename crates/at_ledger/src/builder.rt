@@ -1,6 +1,6 @@
 //! A book to which accounts are added one by one.
 
-ghost use Rattle.std.specs.Prelude.{◌≡◌, ℕ, ◌+◌, ◌<◌, ◌≤◌, ◌↔◌, [], None, Some, length, IsTrue, OnOk, OnErr, IfOk, IfErr};
+ghost use Rattle.std.specs.Prelude.{◌≡◌, ◌+◌, ◌<◌, ◌↔◌, [], None, Some, length, IsTrue, OnOk, OnErr, IfOk, IfErr};
 
 use crate::account::Account;
 use crate::book::Book;

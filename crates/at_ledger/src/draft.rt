@@ -1,7 +1,6 @@
 //! A book before it is checked, and why it may be refused.
 
-ghost use Rattle.std.specs.Prelude.{◌≡◌, ◌≤◌, ◌<◌, length, None, Some, All, OnOk, IfOk, IfErr};
-ghost use Rattle.at_ledger.specs.Account.{IsRisingFrom};
+ghost use Rattle.std.specs.Prelude.{◌≡◌, ◌<◌, None, Some, OnOk, IfOk, IfErr};
 ghost use Rattle.at_ledger.specs.Draft.{is_within, limits_fault, owner_fault, owners_fault};
 
 use arrayvec::ArrayVec;

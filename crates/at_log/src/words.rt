@@ -1,6 +1,6 @@
 //! The words of records.
 
-ghost use Rattle.std.specs.Prelude.{◌≡◌, ◌+◌, ◌^◌, ◌<◌, length, slice_index};
+ghost use Rattle.std.specs.Prelude.{◌≡◌, ◌+◌, ◌<◌, length, slice_index};
 ghost use Rattle.at_base.specs.Head.{HeadInRange, head_word};
 ghost use Rattle.at_board.specs.Entries.{targets_of};
 ghost use Rattle.at_board.specs.Forms.{IsForm};

@@ -5,7 +5,7 @@ ghost use Rattle.std.specs.List.{range_with_len};
 ghost use Rattle.at_ledger.specs.Book.{IsBook};
 ghost use Rattle.at_ledger.specs.Draft.{account_fault, terms_with, with_account};
 ghost use Rattle.at_program.specs.Loading.{IsFileOn, calls_of};
-ghost use Rattle.at_program.specs.Generator.{MayMake, account_drawn, book_begun, book_made, call_drawn, calls_drawn, drawn, files_made, kind_drawn, next_state, state_after_call, state_after_calls};
+ghost use Rattle.at_program.specs.Generator.{MayMake, book_begun, book_made, call_drawn, calls_drawn, drawn, files_made, next_state, state_after_call, state_after_calls};
 ghost use Rattle.at_program.specs.Made.{AllDone, AllSum, made};
 
 use at_ledger::{Book, BookBuilder, BookFault, Call};

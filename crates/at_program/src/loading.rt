@@ -3,7 +3,6 @@
 ghost use Rattle.std.specs.Prelude.{◌≡◌, ℕ, ◌+◌, ◌^◌, ◌<◌, ◌≤◌, true, length, All, IfOk, IfErr, OnOk, Ok, Err};
 ghost use Rattle.at_io.specs.Shelf.{SameFiles};
 ghost use Rattle.at_files.specs.Names.{AreNamesOf};
-ghost use Rattle.at_io.specs.declared.reading.TheConstants.{FILE_MAX};
 ghost use Rattle.at_program.specs.Words.{words_of, form_shown};
 ghost use Rattle.at_program.specs.Faults.{IsNumbered, MayRefuse};
 ghost use Rattle.at_program.specs.Loading.{EachSpells, Holds, IsFileOn, IsFileReached, MayReach, Spelled, SpellsBook, SpellsCalls, book_loaded, calls_loaded, calls_of, fetched, files_loaded, loaded, loaded_shown};

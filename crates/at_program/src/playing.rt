@@ -4,7 +4,6 @@ ghost use Rattle.std.specs.Prelude.{◌≡◌, ◌^◌, ◌<◌, ◌≤◌, ◌+
 ghost use Rattle.at_ledger.specs.Book.{total_of};
 ghost use Rattle.at_ledger.specs.Call.{IsLineOn};
 ghost use Rattle.at_ledger.specs.Run.{Legal, Whole, last_state};
-ghost use Rattle.at_ledger.specs.State.{opening_state};
 ghost use Rattle.at_program.specs.Loading.{IsFileOn, calls_of};
 ghost use Rattle.at_program.specs.Playing.{files_played, played, state_after, state_after_files};
 

@@ -1,6 +1,6 @@
 //! The words of the command line.
 
-ghost use Rattle.std.specs.Prelude.{◌≡◌, map, bytes_eq, codes, option_map, string_bytes, IfSome};
+ghost use Rattle.std.specs.Prelude.{◌≡◌, option_map, IfSome};
 ghost use Rattle.at_base.specs.Numbers.{number_of};
 ghost use Rattle.at_program.specs.Generator.{MayMake};
 ghost use Rattle.at_program.specs.Words.{command_named, form_of, form_shown, make_of, making_of, within, words_of};

@@ -1,6 +1,6 @@
 //! The one line of each refusal, which takes no memory.
 
-ghost use Rattle.std.specs.Prelude.{◌≡◌, ◌+◌, ◌≤◌, [], ◌++◌, length, codes, decimal};
+ghost use Rattle.std.specs.Prelude.{◌≡◌, ◌+◌, ◌≤◌, [], ◌++◌, length, decimal};
 ghost use Rattle.at_report.specs.FaultText.{fault_line, limit_text, book_cause, payments_cause, schedule_cause, order_cause, messages_cause, usage_text, offence_text, fault_words};
 
 use crate::status::{MessagesWhy, OrderWhy, ScheduleWhy, Status, UsageFault};

@@ -1,6 +1,6 @@
 //! Scans of a small board of three processes, while one of them publishes.
 
-ghost use Rattle.std.specs.Prelude.{◌≡◌, ℕ, ◌<◌, ◌≤◌, [], ◌∷◌, length, slice_index_or, IfSome, IsTrue};
+ghost use Rattle.std.specs.Prelude.{◌≡◌, ℕ, ◌<◌, [], ◌∷◌, length, slice_index_or, IfSome, IsTrue};
 ghost use Rattle.at_board.specs.Cuts.{starting_seat};
 ghost use Rattle.at_board.specs.SeatView.{IsOf, SeatView};
 ghost use Rattle.at_snapshot.specs.SmallScan.{HasPaid, MayPayTwice, payment};
