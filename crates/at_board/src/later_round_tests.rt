@@ -263,7 +263,8 @@ fn has_three_records(end: &BoardEnd) -> bool
         && has_record(end, 1, 0, first.as_slice())
 }
 
-/// Two rounds are settled on a board of two processes that share account 0, of which one has account 2 alone, and it is closed. The closed board has their words.
+/// Two rounds are settled on a board of two processes that share account 0, of which one has account 2 alone. The closed board has
+/// their words.
 fn settles_twice<L: Ledger, X: Ledger, R: Abort>(
     rt: &R,
     alloc: Global,

@@ -366,13 +366,12 @@ fn has_all_told<R: Abort>(rt: &R, end: &BoardEnd, told: &[Told; 4])
 
 /// Four threads play at once on a board of four processes that share account 0 and have another account each. It is then closed.
 fn plays<R: Threads + Sync + Abort>(rt: &R, alloc: Global) -> Result<(), Fail> {
-    let (all, own) = ([0, 1, 2, 3], [[0], [1], [2], [3]]);
     let owners = [
-        all.as_slice(),
-        own[0].as_slice(),
-        own[1].as_slice(),
-        own[2].as_slice(),
-        own[3].as_slice(),
+        [0, 1, 2, 3].as_slice(),
+        [0].as_slice(),
+        [1].as_slice(),
+        [2].as_slice(),
+        [3].as_slice(),
     ];
     let book = book_of(alloc, 4, owners.as_slice())?;
     let (board, mut seats) = Board::new(alloc, &book)?;
