@@ -15,6 +15,7 @@ pub mod OpeningLaws
 pub mod OwnRequestLaws
 pub mod SeatPairs
 pub mod SeatLaws
+pub mod RuledLaws
 pub mod HistoryLaws
 pub mod LoadLaws
 pub mod LogRoomLaws

@@ -64,9 +64,9 @@ pub record MayAnnounce (b : BookTerms) (v : View) (a slot : ℕ) (r : Request) :
   pub follows : (before : ℕ) → before + 1 ≡ length (asking_on (own_part v) a).announced →
       is_settled a slot before (take r.since v.seen) ≡ true
 
--- the seat may propose that this round decide this request: at the proposal's place exactly the rounds before it stand,
--- the request was seen and is not settled there, the proposal says whether the balance there covers it, and the seat
--- holds no cell
+-- the seat may propose that this round decide this request: its process owns the account, and the decision has a word. At the
+-- proposal's place exactly the rounds before this one stand. The request was seen and is not settled there, and its since is no
+-- later; the proposal says whether the balance there covers it, and the seat holds no cell
 pub record MayPropose (b : BookTerms) (v : View) (a round : ℕ) (d : Decision) (r : Request) : Type 0 where
   pub owner : (slot : ℕ) × HasSlot b v.first a slot
   pub range : InRange d

@@ -102,7 +102,7 @@ first_once = record_in 0 0 60 ∷ []
 abbrev pub first_twice : List Publication
 first_twice = record_in 0 0 60 ∷ record_in 1 0 60 ∷ []
 
--- the process asked for the payments of the rounds before this one, all of which are decided where it asks
+-- the process asked for the payments of the rounds before this one, all of which are settled where it asks
 pub record MayAskIn (v : View) (round : ℕ) : Type 0 where
   pub announced : length (asking_on (own_part v) 0).announced ≡ round
   pub blank : (asking_on (own_part v) 0).stored ≡ replicate REQUEST_WORDS 0
