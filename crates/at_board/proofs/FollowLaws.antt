@@ -7,7 +7,7 @@ use Rattle.std.proofs.lemmas.Nat.{mul-add-lt, same_from_place}
 use Rattle.at_ledger.specs.Account.{no_account}
 use Rattle.at_ledger.specs.Book.{BookTerms, account_of, total_of}
 use Rattle.at_ledger.specs.Call.{AreTargetsOn, TargetPair, amount_of}
-use Rattle.at_ledger.specs.State.{LedgerState, asked_place, credited}
+use Rattle.at_ledger.specs.State.{LedgerState, asked_position, credited}
 use Rattle.at_board.proofs.PayLaws.{get_or-credited, length-credited, sum-credited}
 use Rattle.at_board.proofs.RoundLaws.{one_if, sum_by-firsts-le, sum_by-firsts_new}
 use Rattle.at_board.specs.declared.publication.Publication.{Publication}
@@ -27,7 +27,7 @@ pub record Follows (b : BookTerms) (xs : List Publication) (balances sent asked 
   pub askers : length asked ≡ b.processes * length b.accounts
   pub balanced : (a : ℕ) → a < length b.accounts → get_or balances a 0 + debits a xs ≡ (account_of b a).opening + credits a xs
   pub sent_so : (p : ℕ) → p < b.processes → get_or sent p 0 ≡ owns_of p xs
-  pub asked_so : (p a slot : ℕ) → p < b.processes → HasSlot b p a slot → get_or asked (asked_place b p a) 0 ≤ named a slot xs
+  pub asked_so : (p a slot : ℕ) → p < b.processes → HasSlot b p a slot → get_or asked (asked_position b p a) 0 ≤ named a slot xs
   pub total : sum balances ≡ total_of b
 
 -- nothing has moved yet
@@ -43,7 +43,7 @@ Follows-nil b = record {
   asked_so = λ p a slot within has.
       omega (
         arith,
-        get_or-replicate {A = ℕ} (b.processes * length b.accounts) (asked_place b p a) 0 0
+        get_or-replicate {A = ℕ} (b.processes * length b.accounts) (asked_position b p a) 0 0
             (omega (arith, mul-add-lt p (length b.accounts) a b.processes within has.account_in)),
       );
   total = sum-map (λ t. t.opening) b.accounts;
@@ -178,10 +178,10 @@ pub Follows-round : (b : BookTerms) (xs : List Publication) (x : Publication) (b
     → Follows b xs balances sent asked → MovesNow xs x source targets → is_own x.entry ≡ false → q < b.processes
     → HasSlot b q source slot → names source slot x.entry ≡ true
     → AreTargetsOn (length b.accounts) targets → IsCovered b xs source (amount_of targets)
-    → Follows b (xs ++ x ∷ []) (balances_after balances source targets) sent (set asked (asked_place b q source) (get_or asked (asked_place b q source) 0 + 1))
+    → Follows b (xs ++ x ∷ []) (balances_after balances source targets) sent (set asked (asked_position b q source) (get_or asked (asked_position b q source) 0 + 1))
 Follows-round b xs x balances sent asked source targets q slot f now own process has named_here known covered =
     let after = BalancesFollow-push b xs x balances source targets (record { accounts = f.accounts; balanced = f.balanced; total = f.total }) now has.account_in known covered in
-    let place = asked_place b q source in
+    let place = asked_position b q source in
     let y = get_or asked place 0 + 1 in
     record {
       accounts = after.accounts;
@@ -192,7 +192,7 @@ Follows-round b xs x balances sent asked source targets q slot f now own process
       asked_so = λ p a other within has_other.
           let old = f.asked_so p a other within has_other in
           let more = sum_by-firsts_new (λ z. one_if (names a other z.entry)) xs x now.new in
-          elim (cases_eq (asked_place b p a) place) as (λ _. get_or (set asked place y) (asked_place b p a) 0 ≤ named a other (xs ++ x ∷ [])) [
+          elim (cases_eq (asked_position b p a) place) as (λ _. get_or (set asked place y) (asked_position b p a) 0 ≤ named a other (xs ++ x ∷ [])) [
             | inl same ↦
                 let parts = same_from_place p a q source (length b.accounts) has_other.account_in has.account_in same in
                 let slots : slot ≡ other = HasSlot-same b q source slot other has
@@ -200,11 +200,11 @@ Follows-round b xs x balances sent asked source targets q slot f now own process
                 let counted : one_if (names a other x.entry) ≡ one_if true =
                 ap one_if (subst (λ t. names a t x.entry ≡ true) slots (subst (λ t. names t slot x.entry ≡ true) (sym parts.1) named_here)) in
                 let stored = get_or-set_same asked place y 0 (omega (arith, f.askers, mul-add-lt q (length b.accounts) source b.processes process has.account_in)) in
-                let at : get_or (set asked place y) (asked_place b p a) 0 ≡ get_or (set asked place y) place 0 = ap (λ i. get_or (set asked place y) i 0) same in
-                let before : get_or asked (asked_place b p a) 0 ≡ get_or asked place 0 = ap (λ i. get_or asked i 0) same in
+                let at : get_or (set asked place y) (asked_position b p a) 0 ≡ get_or (set asked place y) place 0 = ap (λ i. get_or (set asked place y) i 0) same in
+                let before : get_or asked (asked_position b p a) 0 ≡ get_or asked place 0 = ap (λ i. get_or asked i 0) same in
                 omega (arith, old, more, counted, stored, at, before)
             | inr apart ↦
-                let kept = get_or-set_other asked place (asked_place b p a) y 0 apart in
+                let kept = get_or-set_other asked place (asked_position b p a) y 0 apart in
                 omega (arith, old, kept, sum_by-firsts-le (λ z. one_if (names a other z.entry)) xs x)
           ];
       total = after.total;

@@ -11,7 +11,7 @@ use Rattle.at_ledger.specs.Account.{is_shared, is_single, no_account}
 use Rattle.at_ledger.specs.Book.{BookTerms, IsAccount, IsBegun, account_of, is_owner}
 use Rattle.at_ledger.specs.Call.{AreTargetsOn, TargetPair, amount_of}
 use Rattle.at_ledger.specs.Run.{run, run_from}
-use Rattle.at_ledger.specs.State.{LedgerState, Step, asked_place, is_full, opening_state, pay, step}
+use Rattle.at_ledger.specs.State.{LedgerState, Step, asked_position, is_full, opening_state, pay, step}
 use Rattle.at_ledger.specs.declared.call.Call.{Call}
 use Rattle.at_ledger.specs.declared.call.Call.TheVariants.{Pay}
 use Rattle.at_ledger.specs.declared.call.Reply.TheVariants.{Done}
@@ -142,16 +142,16 @@ or_false s t one other = ap (λ u. u || t) one ∙ other
 not_full-single : (b : BookTerms) (balances sent asked : List ℕ) (p a : ℕ) → is_single (account_of b a) ≡ true
     → get_or sent p 0 < b.own_room → is_full (ledger b balances sent asked) p a ≡ false
 not_full-single b balances sent asked p a single room =
-    or_false (is_single (account_of b a) && (get_or sent p 0 == b.own_room)) (is_shared (account_of b a) && (get_or asked (asked_place b p a) 0 == b.request_room))
+    or_false (is_single (account_of b a) && (get_or sent p 0 == b.own_room)) (is_shared (account_of b a) && (get_or asked (asked_position b p a) 0 == b.request_room))
     (and_right (is_single (account_of b a)) (get_or sent p 0 == b.own_room) (ne_eqb (get_or sent p 0) b.own_room (λ e. omega arith)))
-    (and_left (is_shared (account_of b a)) (get_or asked (asked_place b p a) 0 == b.request_room) (is_shared-single b a single))
+    (and_left (is_shared (account_of b a)) (get_or asked (asked_position b p a) 0 == b.request_room) (is_shared-single b a single))
 
 not_full-shared : (b : BookTerms) (balances sent asked : List ℕ) (p a : ℕ) → is_shared (account_of b a) ≡ true
-    → get_or asked (asked_place b p a) 0 < b.request_room → is_full (ledger b balances sent asked) p a ≡ false
+    → get_or asked (asked_position b p a) 0 < b.request_room → is_full (ledger b balances sent asked) p a ≡ false
 not_full-shared b balances sent asked p a shared room =
-    or_false (is_single (account_of b a) && (get_or sent p 0 == b.own_room)) (is_shared (account_of b a) && (get_or asked (asked_place b p a) 0 == b.request_room))
+    or_false (is_single (account_of b a) && (get_or sent p 0 == b.own_room)) (is_shared (account_of b a) && (get_or asked (asked_position b p a) 0 == b.request_room))
     (and_left (is_single (account_of b a)) (get_or sent p 0 == b.own_room) (is_single-shared b a shared))
-    (and_right (is_shared (account_of b a)) (get_or asked (asked_place b p a) 0 == b.request_room) (ne_eqb (get_or asked (asked_place b p a) 0) b.request_room (λ e. omega arith)))
+    (and_right (is_shared (account_of b a)) (get_or asked (asked_position b p a) 0 == b.request_room) (ne_eqb (get_or asked (asked_position b p a) 0) b.request_room (λ e. omega arith)))
 
 -- the success of a process on its single account
 pub paid-single : (b : BookTerms) (balances sent asked : List ℕ) (p a : ℕ) (targets : List TargetPair) → is_single (account_of b a) ≡ true
@@ -159,7 +159,7 @@ pub paid-single : (b : BookTerms) (balances sent asked : List ℕ) (p a : ℕ) (
     → pay (ledger b balances sent asked) p a targets
     ≡ record { ledger = ledger b (balances_after balances a targets) (set sent p (get_or sent p 0 + 1)) asked; reply = Done }
 paid-single b balances sent asked p a targets single owner room covered =
-    let one : LedgerState = ledger b (balances_after balances a targets) sent (set asked (asked_place b p a) (get_or asked (asked_place b p a) 0 + 1)) in
+    let one : LedgerState = ledger b (balances_after balances a targets) sent (set asked (asked_position b p a) (get_or asked (asked_position b p a) 0 + 1)) in
     let two : LedgerState = ledger b (balances_after balances a targets) (set sent p (get_or sent p 0 + 1)) asked in
     let chosen : Bool → Step = λ t. record { ledger = cond t one two; reply = Done } in
     pay-done (ledger b balances sent asked) p a targets owner (not_full-single b balances sent asked p a single room) covered
@@ -167,11 +167,11 @@ paid-single b balances sent asked p a targets single owner room covered =
 
 -- the success of a process on an account that it shares
 pub paid-shared : (b : BookTerms) (balances sent asked : List ℕ) (p a : ℕ) (targets : List TargetPair) → is_shared (account_of b a) ≡ true
-    → is_owner b p a ≡ true → get_or asked (asked_place b p a) 0 < b.request_room → amount_of targets ≤ get_or balances a 0
+    → is_owner b p a ≡ true → get_or asked (asked_position b p a) 0 < b.request_room → amount_of targets ≤ get_or balances a 0
     → pay (ledger b balances sent asked) p a targets
-    ≡ record { ledger = ledger b (balances_after balances a targets) sent (set asked (asked_place b p a) (get_or asked (asked_place b p a) 0 + 1)); reply = Done }
+    ≡ record { ledger = ledger b (balances_after balances a targets) sent (set asked (asked_position b p a) (get_or asked (asked_position b p a) 0 + 1)); reply = Done }
 paid-shared b balances sent asked p a targets shared owner room covered =
-    let one : LedgerState = ledger b (balances_after balances a targets) sent (set asked (asked_place b p a) (get_or asked (asked_place b p a) 0 + 1)) in
+    let one : LedgerState = ledger b (balances_after balances a targets) sent (set asked (asked_position b p a) (get_or asked (asked_position b p a) 0 + 1)) in
     let two : LedgerState = ledger b (balances_after balances a targets) (set sent p (get_or sent p 0 + 1)) asked in
     let chosen : Bool → Step = λ t. record { ledger = cond t one two; reply = Done } in
     pay-done (ledger b balances sent asked) p a targets owner (not_full-shared b balances sent asked p a shared room) covered
@@ -266,7 +266,7 @@ RunsSo-round b s xs p v prefix a r d targets sound begun new ok law decided at c
     subst (λ (e : Decision). decided_for e.slot r (s.cells a) ≡ e.number) law.1.decision (sound.numbers a r law.1.decided) in
     let owner = owner-slot b a d.slot begun law.0.account_in law.0.shared decision.slot_in in
     let has = owner.1 in
-    let asked_room : get_or st.asked (asked_place b q a) 0 < b.request_room =
+    let asked_room : get_or st.asked (asked_position b q a) 0 < b.request_room =
     omega (
       arith,
       so.follows.asked_so q a d.slot owner.0 has,
@@ -288,7 +288,7 @@ RunsSo-round b s xs p v prefix a r d targets sound begun new ok law decided at c
     subst (AreTargetsOn (length b.accounts)) law.1.same_targets (sound.targets a d.slot d.number decision.announced).accounts in
     let named_here : names a d.slot x.entry ≡ true =
     ap (λ t. t && (d.slot == d.slot)) (eq-eqb a a refl) ∙ eq-eqb d.slot d.slot refl in
-    RunsSo-push b xs (xs ++ x ∷ []) q a targets st.sent (set st.asked (asked_place b q a) (get_or st.asked (asked_place b q a) 0 + 1)) so
+    RunsSo-push b xs (xs ++ x ∷ []) q a targets st.sent (set st.asked (asked_position b q a) (get_or st.asked (asked_position b q a) 0 + 1)) so
     (moves-some b xs x (q, Pay a targets) new some)
     (paid-shared b st.balances st.sent st.asked q a targets law.0.shared (ap is_some has.owner) asked_room enough)
     (Follows-round b xs x st.balances st.sent st.asked a targets q d.slot so.follows now refl owner.0 has named_here known covered)

@@ -6,7 +6,7 @@ use Rattle.std.proofs.lemmas.Grind.{flat_map-append}
 use Rattle.std.proofs.lemmas.List.{ext_get_or, length-map, take_all}
 use Rattle.at_ledger.specs.Book.{BookTerms, IsBegun}
 use Rattle.at_ledger.specs.Run.{Legal, last_state}
-use Rattle.at_ledger.specs.State.{asked_place, balance_of}
+use Rattle.at_ledger.specs.State.{asked_position, balance_of}
 use Rattle.at_ledger.specs.declared.call.Line.{Line}
 use Rattle.at_board.specs.Balances.{balance_after}
 use Rattle.at_board.specs.Publications.{counts}
@@ -72,7 +72,7 @@ Keeps-opening b c =
       senders = start.senders;
       askers = start.askers;
       sent_so = λ p known. get_or-zeros b.processes p;
-      asked_so = λ p a known inside. get_or-zeros (b.processes * length b.accounts) (asked_place b p a);
+      asked_so = λ p a known inside. get_or-zeros (b.processes * length b.accounts) (asked_position b p a);
     }
 
 reached-zero : (b : BookTerms) (c : ClosingTerms) (p : ℕ) → Coherent b c → p < b.processes → 0 ≡ reached c p 0

@@ -4,7 +4,7 @@ use Rattle.std.proofs.lemmas.Bool.{cases_eq, eq-eqb, ne_eqb}
 use Rattle.std.proofs.lemmas.List.Sums.{sum_by_more}
 use Rattle.at_ledger.specs.Account.{is_shared, is_single}
 use Rattle.at_ledger.specs.Book.{BookTerms, account_of}
-use Rattle.at_ledger.specs.State.{asked_place, is_full}
+use Rattle.at_ledger.specs.State.{asked_position, is_full}
 use Rattle.at_ledger.specs.declared.call.Call.TheVariants.{Read}
 use Rattle.at_ledger.specs.declared.call.Reply.TheVariants.{Full}
 use Rattle.at_board.proofs.FollowLaws.{BalancesFollow, ledger}
@@ -23,7 +23,7 @@ pub record Keeps (b : BookTerms) (c : ClosingTerms) (m : ℕ) (done : ℕ → �
   pub senders : length sent ≡ b.processes
   pub askers : length asked ≡ b.processes * length b.accounts
   pub sent_so : (p : ℕ) → p < b.processes → get_or sent p 0 ≡ owns_in (take (done p) (receipts_of c p))
-  pub asked_so : (p a : ℕ) → p < b.processes → a < length b.accounts → get_or asked (asked_place b p a) 0 ≡ asks_in a (take (done p) (receipts_of c p))
+  pub asked_so : (p a : ℕ) → p < b.processes → a < length b.accounts → get_or asked (asked_position b p a) 0 ≡ asks_in a (take (done p) (receipts_of c p))
 
 -- one process has made so many calls
 abbrev pub with_count : (ℕ → ℕ) → ℕ → ℕ → ℕ → ℕ
@@ -54,7 +54,7 @@ pub Keeps-next : (b : BookTerms) (c : ClosingTerms) (m next : ℕ) (done : ℕ �
     → Keeps b c m done balances sent asked → done p ≡ i → i < length (receipts_of c p)
     → BalancesFollow b (take next (journal_order c)) balances2 → length sent2 ≡ length sent → length asked2 ≡ length asked
     → ((q : ℕ) → q < b.processes → get_or sent2 q 0 ≡ get_or sent q 0 + one_if ((q == p) && is_at_own (receipt_at (receipts_of c p) i).at))
-    → ((q a : ℕ) → q < b.processes → a < length b.accounts → get_or asked2 (asked_place b q a) 0 ≡ get_or asked (asked_place b q a) 0
+    → ((q a : ℕ) → q < b.processes → a < length b.accounts → get_or asked2 (asked_position b q a) 0 ≡ get_or asked (asked_position b q a) 0
     + one_if ((q == p) && (is_at_round (receipt_at (receipts_of c p) i).at && is_payout_from a (receipt_at (receipts_of c p) i).call)))
     → Keeps b c next (with_count done p (i + 1)) balances2 sent2 asked2
 Keeps-next b c m next done balances sent asked balances2 sent2 asked2 p i keeps here within money senders askers sent_more asked_more = record {
@@ -80,7 +80,7 @@ Keeps-next b c m next done balances sent asked balances2 sent2 asked2 p i keeps 
   asked_so = λ q a known inside.
       let r = receipt_at (receipts_of c p) i in
       let asks = is_at_round r.at && is_payout_from a r.call in
-      elim (cases_eq q p) as (λ _. get_or asked2 (asked_place b q a) 0 ≡ asks_in a (take (with_count done p (i + 1) q) (receipts_of c q))) [
+      elim (cases_eq q p) as (λ _. get_or asked2 (asked_position b q a) 0 ≡ asks_in a (take (with_count done p (i + 1) q) (receipts_of c q))) [
         | inl same ↦
             let counted : asks_in a (take (with_count done p (i + 1) q) (receipts_of c q)) ≡ asks_in a (take (i + 1) (receipts_of c p)) =
             λ t. asks_in a (take (with_count-own done p (i + 1) q same t) (receipts_of c (same t))) in
@@ -102,6 +102,6 @@ pub is_full-Keeps : (b : BookTerms) (c : ClosingTerms) (m : ℕ) (done : ℕ →
     → is_full (ledger b balances sent asked) p a ≡ has_no_room b a (take i (receipts_of c p))
 is_full-Keeps b c m done balances sent asked p a i keeps here known inside =
     let sent_is : get_or sent p 0 ≡ owns_in (take i (receipts_of c p)) = keeps.sent_so p known ∙ ap (λ k. owns_in (take k (receipts_of c p))) here in
-    let asked_is : get_or asked (asked_place b p a) 0 ≡ asks_in a (take i (receipts_of c p)) =
+    let asked_is : get_or asked (asked_position b p a) 0 ≡ asks_in a (take i (receipts_of c p)) =
     keeps.asked_so p a known inside ∙ ap (λ k. asks_in a (take k (receipts_of c p))) here in
     λ t. (is_single (account_of b a) && (sent_is t == b.own_room)) || (is_shared (account_of b a) && (asked_is t == b.request_room))

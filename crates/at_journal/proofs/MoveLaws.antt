@@ -8,7 +8,7 @@ use Rattle.at_base.specs.declared.decision.Decision.{Decision}
 use Rattle.at_ledger.specs.Account.{is_shared, is_single}
 use Rattle.at_ledger.specs.Book.{BookTerms, account_of}
 use Rattle.at_ledger.specs.Call.{AreTargetsOn, TargetPair, amount_of}
-use Rattle.at_ledger.specs.State.{LedgerState, Step, asked_place}
+use Rattle.at_ledger.specs.State.{LedgerState, Step, asked_position}
 use Rattle.at_ledger.specs.declared.call.Reply.TheVariants.{Done, Short}
 use Rattle.at_board.proofs.CountLaws.{get_or-publications_of}
 use Rattle.at_board.proofs.CoverLaws.{CoversEntry, CoversEntry-HasRuns}
@@ -90,7 +90,7 @@ own-answered b c m count balances sent asked p i source targets coherent keeps k
     let enough : amount_of targets ≤ get_or balances source 0 = omega (arith, covered, keeps.money.balanced source law.source_in) in
     let free = is_full-Keeps b c m count balances sent asked p source i keeps here known law.source_in ∙ may.room in
     let sent2 = set sent p (get_or sent p 0 + 1) in
-    let one : LedgerState = ledger b (balances_after balances source targets) sent (set asked (asked_place b p source) (get_or asked (asked_place b p source) 0 + 1)) in
+    let one : LedgerState = ledger b (balances_after balances source targets) sent (set asked (asked_position b p source) (get_or asked (asked_position b p source) 0 + 1)) in
     let two : LedgerState = ledger b (balances_after balances source targets) sent2 asked in
     let chosen : Bool → Step = λ t. record { ledger = cond t one two; reply = Done } in
     record {
@@ -189,7 +189,7 @@ round-answered b c m count balances sent asked p i source targets coherent keeps
     let inside = law.0.account_in in
     let enough : amount_of targets ≤ get_or balances source 0 = omega (arith, covered, keeps.money.balanced source inside) in
     let free = is_full-Keeps b c m count balances sent asked p source i keeps here known inside ∙ may.room in
-    let at_place = asked_place b p source in
+    let at_place = asked_position b p source in
     let asked2 = set asked at_place (get_or asked at_place 0 + 1) in
     let one : LedgerState = ledger b (balances_after balances source targets) sent asked2 in
     let two : LedgerState = ledger b (balances_after balances source targets) (set sent p (get_or sent p 0 + 1)) asked in
@@ -213,5 +213,5 @@ round-answered b c m count balances sent asked p i source targets coherent keeps
           let asks : (is_at_round r.at && is_payout_from a r.call) ≡ (source == a) =
           (λ t. ap is_at_round so.at t && is_payout_from-payout a source targets r.call may.call t) in
           asked-set b asked p source q a keeps.askers known inside other there_in
-          ∙ ap (λ t. get_or asked (asked_place b q a) 0 + one_if ((q == p) && t)) (sym asks));
+          ∙ ap (λ t. get_or asked (asked_position b q a) 0 + one_if ((q == p) && t)) (sym asks));
     }

@@ -9,7 +9,7 @@ use Rattle.std.proofs.lemmas.Nat.{mul-add-lt, same_from_place}
 use Rattle.at_ledger.specs.Account.{AccountTerms, is_owner_in, no_account}
 use Rattle.at_ledger.specs.Book.{BookTerms, account_of, is_owner}
 use Rattle.at_ledger.specs.Call.{AreTargetsOn, TargetPair, amount_of}
-use Rattle.at_ledger.specs.State.{LedgerState, Step, asked_place, step}
+use Rattle.at_ledger.specs.State.{LedgerState, Step, asked_position, step}
 use Rattle.at_ledger.specs.declared.call.Reply.TheVariants.{Balance, Done, Short}
 use Rattle.at_board.proofs.FollowLaws.{ledger}
 use Rattle.at_board.proofs.PrefixRuns.{is_shared-single}
@@ -56,31 +56,31 @@ owner_within b p a owner =
 -- one more request on an account
 pub asked-set : (b : BookTerms) (asked : List ℕ) (p source q a : ℕ) → length asked ≡ b.processes * length b.accounts
     → p < b.processes → source < length b.accounts → q < b.processes → a < length b.accounts
-    → get_or (set asked (asked_place b p source) (get_or asked (asked_place b p source) 0 + 1)) (asked_place b q a) 0
-    ≡ get_or asked (asked_place b q a) 0 + one_if ((q == p) && (source == a))
+    → get_or (set asked (asked_position b p source) (get_or asked (asked_position b p source) 0 + 1)) (asked_position b q a) 0
+    ≡ get_or asked (asked_position b q a) 0 + one_if ((q == p) && (source == a))
 asked-set b asked p source q a sized known inside other there =
-    let at = asked_place b p source in
+    let at = asked_position b p source in
     let y = get_or asked at 0 + 1 in
     let within : at < length asked = omega (arith, sized, mul-add-lt p (length b.accounts) source b.processes known inside) in
-    elim (cases_eq (asked_place b q a) at) as (λ _. get_or (set asked at y) (asked_place b q a) 0 ≡ get_or asked (asked_place b q a) 0 + one_if ((q == p) && (source == a))) [
+    elim (cases_eq (asked_position b q a) at) as (λ _. get_or (set asked at y) (asked_position b q a) 0 ≡ get_or asked (asked_position b q a) 0 + one_if ((q == p) && (source == a))) [
       | inl same ↦
           let parts = same_from_place q a p source (length b.accounts) there inside same in
           let one : one_if ((q == p) && (source == a)) ≡ one_if true = λ t. one_if (eq-eqb q p parts.0 t && eq-eqb source a (sym parts.1) t) in
           let stored = get_or-set_same asked at y 0 within in
-          let here : get_or (set asked at y) (asked_place b q a) 0 ≡ get_or (set asked at y) at 0 = ap (λ i. get_or (set asked at y) i 0) same in
-          let old : get_or asked (asked_place b q a) 0 ≡ get_or asked at 0 = ap (λ i. get_or asked i 0) same in
+          let here : get_or (set asked at y) (asked_position b q a) 0 ≡ get_or (set asked at y) at 0 = ap (λ i. get_or (set asked at y) i 0) same in
+          let old : get_or asked (asked_position b q a) 0 ≡ get_or asked at 0 = ap (λ i. get_or asked i 0) same in
           omega (arith, one, stored, here, old)
       | inr apart ↦
           let none : ((q == p) && (source == a)) ≡ false =
           elim (cases_eq q p) as (λ _. ((q == p) && (source == a)) ≡ false) [
             | inl same ↦
                 elim (cases_eq source a) as (λ _. ((q == p) && (source == a)) ≡ false) [
-                  | inl both ↦ absurd (apart (λ t. asked_place b (same t) (sym both t)))
+                  | inl both ↦ absurd (apart (λ t. asked_position b (same t) (sym both t)))
                   | inr differs ↦ (λ t. eq-eqb q p same t && ne_eqb source a differs t)
                 ]
             | inr differs ↦ ap (λ t. t && (source == a)) (ne_eqb q p differs)
           ] in
-          omega (arith, get_or-set_other asked at (asked_place b q a) y 0 apart, ap one_if none)
+          omega (arith, get_or-set_other asked at (asked_position b q a) y 0 apart, ap one_if none)
     ]
 
 -- one line of a process is answered so
@@ -237,7 +237,7 @@ still-answered b c m count balances sent asked p i coherent keeps known here wit
           (subst (λ k. IsCovered b (take k order) source (amount_of targets)) (sym refused.1) covered) in
           absurd (cc (not_ok, law.ok.1 there))
     ] in
-    let at = asked_place b p source in
+    let at = asked_position b p source in
     let asked2 = set asked at (get_or asked at 0 + 1) in
     let used = after_short-shared l p source targets shared in
     record {
@@ -253,7 +253,7 @@ still-answered b c m count balances sent asked p i coherent keeps known here wit
           let asks : (is_at_round r.at && is_payout_from a r.call) ≡ (source == a) =
           (λ t. ap is_at_round so.at t && is_payout_from-payout a source targets r.call may.call t) in
           asked-set b asked p source q a keeps.askers known inside other there
-          ∙ ap (λ t. get_or asked (asked_place b q a) 0 + one_if ((q == p) && t)) (sym asks));
+          ∙ ap (λ t. get_or asked (asked_position b q a) 0 + one_if ((q == p) && t)) (sym asks));
     }
   where
     refused_decision : (ok : Bool) → is_success (cond ok Done Short) ≡ false → ok ≡ false

@@ -18,7 +18,11 @@ is_single t = length t.owners == 1
 abbrev pub is_shared : AccountTerms → Bool
 is_shared t = nat_le 2 (length t.owners)
 
--- the place of a process among the owners, from 0
+-- how many owners have slots: none where no two share the account
+abbrev pub slots_of : AccountTerms → ℕ
+slots_of t = if is_shared t then length t.owners else 0
+
+-- the position of a process among the owners, from 0
 abbrev pub slot_in : AccountTerms → ℕ → Option ℕ
 slot_in t process = position (λ owner. owner == process) t.owners
 

@@ -1,6 +1,6 @@
 -- A checked book: its processes, its accounts in order, and the room that each process has.
-use Rattle.std.specs.Prelude.{◌≡◌, ℕ, ◌+◌, ◌^◌, ◌<◌, ◌≤◌, Bool, List, length, All, sum_by, slice_index_or}
-use Rattle.at_ledger.specs.Account.{AccountTerms, no_account, is_owner_in, rounds_room, rounds_room_of, IsRisingFrom}
+use Rattle.std.specs.Prelude.{◌≡◌, ℕ, ◌+◌, ◌^◌, ◌<◌, ◌≤◌, Bool, List, length, All, sum_by, slice_index_or, Some}
+use Rattle.at_ledger.specs.Account.{AccountTerms, no_account, is_owner_in, rounds_room, rounds_room_of, slot_in, slots_of, IsRisingFrom}
 use Rattle.at_ledger.specs.declared.draft.TheConstants.{PROCESSES_MAX, ACCOUNTS_MAX, OWNERS_MAX, OWN_ROOM_MAX, REQUEST_ROOM_MAX, ROUNDS_MAX}
 
 -- own_room counts the successful transfers from single accounts that each process has,
@@ -11,13 +11,19 @@ pub record BookTerms : Type 0 where
   pub request_room : ℕ
   pub accounts : List AccountTerms
 
--- the account at a place of the book
+-- the account of a number
 abbrev pub account_of : BookTerms → ℕ → AccountTerms
 account_of b account = slice_index_or b.accounts account no_account
 
 -- whether the process may debit the account
 abbrev pub is_owner : BookTerms → ℕ → ℕ → Bool
 is_owner b process account = is_owner_in (account_of b account) process
+
+-- the process shares the account, and has this slot there
+pub record HasSlot (b : BookTerms) (process a slot : ℕ) : Type 0 where
+  pub account_in : a < length b.accounts
+  pub within : slot < slots_of (account_of b a)
+  pub owner : slot_in (account_of b a) process ≡ Some slot
 
 -- the sum of the openings
 abbrev pub total_of : BookTerms → ℕ

@@ -37,11 +37,11 @@ abbrev pub sent_of : LedgerState → ℕ → ℕ
 sent_of s process = slice_index s.sent process
 
 -- where `asked` has the number of a process and account
-abbrev pub asked_place : BookTerms → ℕ → ℕ → ℕ
-asked_place b process account = process * length b.accounts + account
+abbrev pub asked_position : BookTerms → ℕ → ℕ → ℕ
+asked_position b process account = process * length b.accounts + account
 
 abbrev pub asked_of : LedgerState → ℕ → ℕ → ℕ
-asked_of s process account = slice_index s.asked (asked_place s.book process account)
+asked_of s process account = slice_index s.asked (asked_position s.book process account)
 
 -- the process has used all its room at this source
 abbrev pub is_full : LedgerState → ℕ → ℕ → Bool
@@ -56,7 +56,7 @@ with_sent s process = record s { sent = slice_set s.sent process (sent_of s proc
 -- one more request on a shared account
 abbrev pub with_asked : LedgerState → ℕ → ℕ → LedgerState
 with_asked s process account =
-    record s { asked = slice_set s.asked (asked_place s.book process account) (asked_of s process account + 1) }
+    record s { asked = slice_set s.asked (asked_position s.book process account) (asked_of s process account + 1) }
 
 -- each amount is added to its target, in order
 unfoldable pub credited : List ℕ → List TargetPair → List ℕ

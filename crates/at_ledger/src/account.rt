@@ -22,7 +22,7 @@ impl Model for Account {
 }
 
 impl Account {
-    ghost use Rattle.at_ledger.specs.Account.{is_shared, is_single, rounds_room, rounds_room_of, slot_in};
+    ghost use Rattle.at_ledger.specs.Account.{is_shared, is_single, rounds_room, rounds_room_of, slot_in, slots_of};
 
     pub(crate) fn is_single(&self) -> bool
         ensures { result ≡ is_single self.now }
@@ -41,6 +41,17 @@ impl Account {
         ensures few { length self.now.owners ≤ OWNERS_MAX }
     {
         self.owners.len() as u32
+    }
+
+    pub(crate) fn slot_count(&self) -> u32
+        ensures count { result ≡ slots_of self.now }
+        ensures few { result ≤ OWNERS_MAX }
+    {
+        if self.is_shared() {
+            self.owner_count()
+        } else {
+            0
+        }
     }
 
     pub(crate) fn slot_in(&self, process: u32) -> Option<u32>

@@ -30,7 +30,7 @@ impl Model for Book {
 }
 
 impl Book {
-    ghost use Rattle.at_ledger.specs.Account.{is_shared, is_single, slot_in};
+    ghost use Rattle.at_ledger.specs.Account.{is_shared, is_single, slot_in, slots_of};
     ghost use Rattle.at_ledger.specs.Book.{IsBook, account_of, is_owner, log_room_of};
     ghost use Rattle.at_ledger.specs.Draft.{book_fault, book_of};
 
@@ -103,6 +103,15 @@ impl Book {
         ensures few { result ≤ OWNERS_MAX }
     {
         self.accounts[account as usize].owner_count()
+    }
+
+    /// How many owners of the account have slots: all where two processes or more share it, and else none.
+    pub fn slot_count(&self, account: u32) -> u32
+        requires { account < length self.now.accounts }
+        ensures count { result ≡ slots_of (account_of self.now account) }
+        ensures few { result ≤ OWNERS_MAX }
+    {
+        self.accounts[account as usize].slot_count()
     }
 
     /// The process that owns the account at this slot. Slots count from 0, the lowest process first.

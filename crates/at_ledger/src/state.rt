@@ -33,7 +33,7 @@ impl Model for State {
 impl State {
     ghost use Rattle.at_ledger.specs.Book.{is_owner, total_of};
     ghost use Rattle.at_ledger.specs.Call.{IsCallOn};
-    ghost use Rattle.at_ledger.specs.State.{IsLedger, after_short, asked_of, asked_place, balance_of, counted, is_full, moved, opening_state, pay, sent_of, step, with_asked, with_sent};
+    ghost use Rattle.at_ledger.specs.State.{IsLedger, after_short, asked_of, asked_position, balance_of, counted, is_full, moved, opening_state, pay, sent_of, step, with_asked, with_sent};
 
     /// The openings, with no room used. The state keeps a copy of the book.
     pub fn new(alloc: Global, book: &Book) -> Result<State, NoMemory>
@@ -113,7 +113,7 @@ impl State {
         requires account_in { account < length self.now.book.accounts }
         ensures { result ≡ asked_of self.now process account }
     {
-        self.asked[self.asked_place(process, account)]
+        self.asked[self.asked_position(process, account)]
     }
 
     /// The sum of the balances, which no call changes.
@@ -125,10 +125,10 @@ impl State {
         self.balances.iter().sum()
     }
 
-    fn asked_place(&self, process: u32, account: u32) -> usize
+    fn asked_position(&self, process: u32, account: u32) -> usize
         requires process_in { process < self.now.book.processes }
         requires account_in { account < length self.now.book.accounts }
-        ensures place { result ≡ asked_place self.now.book process account }
+        ensures place { result ≡ asked_position self.now.book process account }
         ensures within { result < length self.now.asked }
     {
         process as usize * self.book.accounts() as usize + account as usize
@@ -192,7 +192,7 @@ impl State {
         requires room { asked_of self.old process account < self.old.book.request_room }
         ensures { self.new ≡ with_asked self.old process account }
     {
-        let place = self.asked_place(process, account);
+        let place = self.asked_position(process, account);
         self.asked[place] += 1;
     }
 

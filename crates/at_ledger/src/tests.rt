@@ -123,6 +123,10 @@ fn answers_of_a_book(rt: HostRuntime) -> Result<(), Fail> {
         ],
         [1, 2, 0]
     );
+    assert_eq!(rt;
+        [book.slot_count(0), book.slot_count(1), book.slot_count(2)],
+        [0, 2, 0]
+    );
     assert_eq!(rt; (book.slot_of(1, 2), book.slot_of(1, 1)), (Some(1), None));
     assert!(rt; book.owner_count(1) == 2);
     assert_eq!(rt; book.owner(1, 1), 2);

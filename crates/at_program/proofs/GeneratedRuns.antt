@@ -11,7 +11,7 @@ use Rattle.at_ledger.proofs.Run.{book-run_from}
 use Rattle.at_ledger.proofs.Slots.{slot_in-owner}
 use Rattle.at_ledger.specs.Account.{AccountTerms, no_account}
 use Rattle.at_ledger.specs.Book.{BookTerms, IsBegun, account_of, is_owner}
-use Rattle.at_ledger.specs.State.{LedgerState, asked_place, balance_of, opening_state}
+use Rattle.at_ledger.specs.State.{LedgerState, asked_position, balance_of, opening_state}
 use Rattle.at_ledger.specs.Run.{Legal, Whole, asked_in, last_state}
 use Rattle.at_ledger.specs.declared.call.Call.{Call}
 use Rattle.at_ledger.specs.declared.call.Call.TheVariants.{Transfer, Read, Pay}
@@ -123,9 +123,9 @@ IsCovered-Whole first processes calls lines begun whole =
       debits = λ a within. debits_in-covered first processes calls a lines whole (eq-or-lt_of_le (omega (arith, count)));
       sent = λ p known. omega (arith, get_or-replicate {A = ℕ} processes p 0 0 known, lines_by-Whole first processes calls lines p whole known);
       asked = λ p a known within.
-          let place : asked_place b p a < length b.accounts * processes = mul-add-lt p (length b.accounts) a processes known within in
-          let below : asked_place b p a < processes * length b.accounts = omega (arith, place, mul_comm (length b.accounts) processes) in
-          omega (arith, get_or-replicate {A = ℕ} (processes * length b.accounts) (asked_place b p a) 0 0 below, lines_by-Whole first processes calls lines p whole known);
+          let place : asked_position b p a < length b.accounts * processes = mul-add-lt p (length b.accounts) a processes known within in
+          let below : asked_position b p a < processes * length b.accounts = omega (arith, place, mul_comm (length b.accounts) processes) in
+          omega (arith, get_or-replicate {A = ℕ} (processes * length b.accounts) (asked_position b p a) 0 0 below, lines_by-Whole first processes calls lines p whole known);
     }
 
 -- so each legal one settles

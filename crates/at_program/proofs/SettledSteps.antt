@@ -6,7 +6,7 @@ use Rattle.std.proofs.lemmas.Nat.{mul-add-lt, same_from_place}
 use Rattle.std.proofs.Math.Nat.{mul_comm}
 use Rattle.at_ledger.specs.Account.{is_shared}
 use Rattle.at_ledger.specs.Book.{BookTerms, account_of, is_owner}
-use Rattle.at_ledger.specs.State.{LedgerState, Step, after_done, asked_of, asked_place, balance_of, is_full, moved, pay, sent_of, step, with_asked, with_sent, credited}
+use Rattle.at_ledger.specs.State.{LedgerState, Step, after_done, asked_of, asked_position, balance_of, is_full, moved, pay, sent_of, step, with_asked, with_sent, credited}
 use Rattle.at_ledger.specs.declared.call.Call.{Call}
 use Rattle.at_ledger.specs.declared.call.Call.TheVariants.{Transfer, Read, Pay}
 use Rattle.at_ledger.specs.declared.call.Reply.TheVariants.{Done}
@@ -131,7 +131,7 @@ unfolding credited
 IsMoved-asked s process from to amount sized known source target covers =
     let ys = set s.balances from (balance_of s from - (0 + amount)) in
     let accounts = length s.book.accounts in
-    let place = asked_place s.book process from in
+    let place = asked_position s.book process from in
     let place_below : place < accounts * s.book.processes = mul-add-lt process accounts from s.book.processes known source in
     let within : place < length s.asked = omega (arith, sized.asked, mul_comm accounts s.book.processes) in
     record {
@@ -143,7 +143,7 @@ IsMoved-asked s process from to amount sized known source target covers =
       };
       balances = λ a below. get_or-moved s.balances from to amount a (omega (arith, sized.balances)) (omega (arith, sized.balances)) covers;
       sent = λ q. omega arith;
-      asked = λ q a below. get_or-count_more s.asked place (asked_place s.book q a) (process == q) within
+      asked = λ q a below. get_or-count_more s.asked place (asked_position s.book q a) (process == q) within
           (λ same. eq-eqb process q (same_from_place process from q a accounts source below same).0);
     }
 
