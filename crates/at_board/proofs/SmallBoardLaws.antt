@@ -1,43 +1,40 @@
 -- Seats of a small board between two records, for the tests.
-use Rattle.std.proofs.Common.{◌≡◌, ℕ, ◌+◌, ◌*◌, ◌^◌, ◌<◌, true, cond, List, [], ◌∷◌, length, get_or, sum, replicate, take, None, is_some, refl, sym, ap, subst, ◌∙◌, arith, inl, inr}
-use Rattle.std.specs.List.{count_by}
+use Rattle.std.proofs.Common.{◌≡◌, ℕ, ◌+◌, ◌*◌, ◌^◌, ◌<◌, true, cond, List, [], ◌∷◌, length, get_or, replicate, take, None, is_some, refl, sym, ap, subst, ◌∙◌, arith, inl, inr}
 use Rattle.std.proofs.lemmas.Bool.{cases_Bool}
-use Rattle.std.proofs.lemmas.Grind.{same_number_lists}
-use Rattle.std.proofs.lemmas.List.{length-replicate, length-set, replicate-append-replicate}
-use Rattle.std.proofs.lemmas.List.Elements.{All-cons, All-from_get_or, All-nil}
+use Rattle.std.proofs.lemmas.List.{length-set, replicate-append-replicate}
+use Rattle.std.proofs.lemmas.List.Elements.{All-cons, All-nil}
+use Rattle.std.specs.List.{count_by}
 use Rattle.at_base.specs.Decision.{word_of}
 use Rattle.at_ledger.specs.Account.{is_shared}
-use Rattle.at_ledger.specs.Book.{BookTerms, account_of}
+use Rattle.at_ledger.specs.Book.{BookTerms, account_of, HasSlot}
 use Rattle.at_ledger.specs.Call.{TargetPair}
-use Rattle.at_board.proofs.CountLaws.{get_or-counts, length-counts, publications_of-nil, sum-counts}
-use Rattle.at_board.proofs.FrontLaws.{place-IsFront-le}
-use Rattle.at_board.proofs.OpeningLaws.{get_or-zeros}
-use Rattle.at_board.proofs.PushLaws.{owns_of-le}
-use Rattle.at_board.proofs.RoundLaws.{firsts-nil}
-use Rattle.at_board.proofs.OwnRequestLaws.{own_part-with_part}
-use Rattle.at_board.specs.declared.publication.Entry.TheVariants.{Own, Round}
-use Rattle.at_board.specs.declared.publication.Publication.{Publication}
-use Rattle.at_board.specs.declared.view.Part.{Part}
-use Rattle.at_board.specs.declared.view.View.{View}
-use Rattle.at_board.specs.Conditions.{MayPublish}
-use Rattle.at_board.specs.Entries.{is_round_on}
-use Rattle.at_board.specs.Fronts.{place, prefix_of}
-use Rattle.at_board.specs.Publications.{ArePublishedBy, counts, no_publication}
-use Rattle.at_board.specs.Rounds.{owns_of, rounds}
-use Rattle.at_board.specs.SeatView.{BoardView, IsOf, SeatView}
+use Rattle.at_history.proofs.Laws.Counts.{counts-nil}
+use Rattle.at_history.proofs.Laws.Rounds.{owns_of-le}
+use Rattle.at_history.proofs.Laws.Fronts.{place-IsFront-le, place-zeros}
+use Rattle.at_history.proofs.Laws.Histories.{ArePublishedBy-IsHistory}
+use Rattle.at_history.proofs.Laws.Rounds.{firsts-nil}
+use Rattle.at_history.proofs.Laws.Sums.{get_or-zeros}
+use Rattle.at_history.specs.Entries.{is_round_on}
+use Rattle.at_history.specs.Fronts.{place, prefix_of}
+use Rattle.at_history.specs.HeldCells.{held_after}
+use Rattle.at_history.specs.Histories.{IsHistory}
+use Rattle.at_history.specs.Publications.{counts}
+use Rattle.at_history.specs.Rounds.{owns_of, rounds}
+use Rattle.at_history.specs.Sound.{HasView, IsSoundOwn, IsSoundRound}
+use Rattle.at_history.specs.declared.publication.Entry.TheVariants.{Own, Round}
+use Rattle.at_history.specs.declared.publication.Publication.{Publication}
+use Rattle.at_board.proofs.KnowledgeLaws.OwnRequests.{own_part-with_part}
+use Rattle.at_board.specs.Knowledge.Parts.{SeesDecision, SeesRequest, own_part}
+use Rattle.at_board.specs.Knowledge.Seats.{BoardTerms, IsOf, SeatTerms}
 use Rattle.at_board.specs.SmallBoard.{HasOwnAccount, HasWon, IsIdle, IsOwnFront, first_decision, payment}
-use Rattle.at_board.specs.Sound.{HasView, IsSoundOwn, IsSoundRound}
-use Rattle.at_board.specs.Steps.{IsHistory, Publishes, StoresWord, held_after, with_record, with_word}
-use Rattle.at_board.specs.Views.{HasSlot, SeesDecision, SeesRequest, own_part}
-use Rattle.at_board.specs.Words.{head_of, record_words}
-
--- each publication of a history is of a process of the book
-pub ArePublishedBy-IsHistory : (b : BookTerms) (list : List Publication) → IsHistory b list → ArePublishedBy b.processes list
-ArePublishedBy-IsHistory b list history =
-    All-from_get_or (λ x. x.process < b.processes) list no_publication (λ i within. (history.views i within).process)
+use Rattle.at_board.specs.Steps.Publish.{MayPublish, Publishes, with_record}
+use Rattle.at_board.specs.Steps.StoreRecordWord.{StoresWord, with_word}
+use Rattle.at_board.specs.Words.Packed.{head_of, record_words}
+use Rattle.at_board.specs.declared.knowledge.Part.{Part}
+use Rattle.at_board.specs.declared.knowledge.Knowledge.{Knowledge}
 
 -- the part of a seat that has stored a word
-pub own_part-StoresWord : (v w : View) (j n : ℕ) → 0 < length v.parts → StoresWord v w j n → own_part w ≡ with_word (own_part v) j n
+pub own_part-StoresWord : (v w : Knowledge) (j n : ℕ) → 0 < length v.parts → StoresWord v w j n → own_part w ≡ with_word (own_part v) j n
 own_part-StoresWord v w j n part told = ap own_part told ∙ own_part-with_part v (with_word (own_part v) j n) part
 
 -- a list of four is its elements
@@ -54,21 +51,21 @@ abbrev pub moving : ℕ → List ℕ → Publication
 moving p view = record { process = p; view = view; entry = Own (p + 1) ((0, 0) ∷ []) }
 
 -- words of the next record are stored, which the seat's part then has, and nothing else has changed
-pub record Stores (v w : View) (q : Part) : Type 0 where
+pub record Stores (v w : Knowledge) (q : Part) : Type 0 where
   pub part : own_part w ≡ q
   pub parts : length w.parts ≡ length v.parts
   pub same : w ≡ record v { parts = w.parts }
 
-pub Stores-none : (v : View) → Stores v v (own_part v)
+pub Stores-none : (v : Knowledge) → Stores v v (own_part v)
 Stores-none v = record { part = refl; parts = refl; same = refl }
 
-pub Stores-more : (v w u : View) (q : Part) (j n : ℕ) → length v.parts ≡ 1 → Stores v w q → StoresWord w u j n → Stores v u (with_word q j n)
+pub Stores-more : (v w u : Knowledge) (q : Part) (j n : ℕ) → length v.parts ≡ 1 → Stores v w q → StoresWord w u j n → Stores v u (with_word q j n)
 Stores-more v w u q j n one before told =
     let part : 0 < length w.parts = omega (arith, one, before.parts) in
     record {
       part = own_part-StoresWord w u j n part told ∙ ap (λ t. with_word t j n) before.part;
-      parts = ap (λ (t : View). length t.parts) told ∙ (length-set w.parts 0 (with_word (own_part w) j n) ∙ before.parts);
-      same = told ∙ (ap (λ ps. record w { parts = ps }) (sym (ap (λ (t : View). t.parts) told)) ∙ ap (λ (t : View). record t { parts = u.parts }) before.same);
+      parts = ap (λ (t : Knowledge). length t.parts) told ∙ (length-set w.parts 0 (with_word (own_part w) j n) ∙ before.parts);
+      same = told ∙ (ap (λ ps. record w { parts = ps }) (sym (ap (λ (t : Knowledge). t.parts) told)) ∙ ap (λ (t : Knowledge). record t { parts = u.parts }) before.same);
     }
 
 -- the head, the targets word and the view of an own record
@@ -76,7 +73,7 @@ abbrev pub with_six : Part → ℕ → ℕ → ℕ → ℕ → ℕ → Part
 with_six q h i j k l =
     with_word (with_word (with_word (with_word (with_word (with_word q 0 h) 1 (2 ^ 40)) 7 i) 8 j) 9 k) 10 l
 
-pub Stores-six : (v v1 v2 v3 v4 v5 w : View) (h i j k l : ℕ) → length v.parts ≡ 1 → StoresWord v v1 0 h → StoresWord v1 v2 1 (2 ^ 40)
+pub Stores-six : (v v1 v2 v3 v4 v5 w : Knowledge) (h i j k l : ℕ) → length v.parts ≡ 1 → StoresWord v v1 0 h → StoresWord v1 v2 1 (2 ^ 40)
     → StoresWord v2 v3 7 i → StoresWord v3 v4 8 j → StoresWord v4 v5 9 k → StoresWord v5 w 10 l → Stores v w (with_six (own_part v) h i j k l)
 Stores-six v v1 v2 v3 v4 v5 w h i j k l one s1 s2 s3 s4 s5 s6 =
     let q1 = with_word (own_part v) 0 h in
@@ -95,7 +92,7 @@ Stores-six v v1 v2 v3 v4 v5 w h i j k l one s1 s2 s3 s4 s5 s6 =
 abbrev pub with_four : Part → ℕ → Part
 with_four q d = with_word (with_word (with_word (with_word q 0 1) 1 (2 ^ 40)) 2 d) 3 7
 
-pub Stores-four : (v v1 v2 v3 w : View) (d : ℕ) → length v.parts ≡ 1 → StoresWord v v1 0 1 → StoresWord v1 v2 1 (2 ^ 40)
+pub Stores-four : (v v1 v2 v3 w : Knowledge) (d : ℕ) → length v.parts ≡ 1 → StoresWord v v1 0 1 → StoresWord v1 v2 1 (2 ^ 40)
     → StoresWord v2 v3 2 d → StoresWord v3 w 3 7 → Stores v w (with_four (own_part v) d)
 Stores-four v v1 v2 v3 w d one s1 s2 s3 s4 =
     let q1 = with_word (own_part v) 0 1 in
@@ -134,15 +131,15 @@ may_move b p seen view history owns within =
     }
 
 -- a seat between two records may publish such a record with its own front, once it has stored the words
-pub may_publish_moving : (b : BookTerms) (v w : View) (h i j k l : ℕ) → let view : List ℕ = i ∷ j ∷ k ∷ l ∷ [] in
+pub may_publish_moving : (b : BookTerms) (v w : Knowledge) (h i j k l : ℕ) → let view : List ℕ = i ∷ j ∷ k ∷ l ∷ [] in
     b.processes ≡ 4 → v.first < b.processes → IsHistory b v.seen → (own_part v).stored ≡ replicate (7 + b.processes) 0
     → (own_part v).published < b.own_room → HasOwnAccount b v.first → IsOwnFront b v view → h ≡ 2 * (v.first + 1)
     → Stores v w (with_six (own_part v) h i j k l) → MayPublish b w (moving v.first view)
 may_publish_moving b v w h i j k l four known history blank room owns front head told =
     let p = v.first in
     let view : List ℕ = i ∷ j ∷ k ∷ l ∷ [] in
-    let first : w.first ≡ p = ap (λ (t : View). t.first) told.same in
-    let seen : w.seen ≡ v.seen = ap (λ (t : View). t.seen) told.same in
+    let first : w.first ≡ p = ap (λ (t : Knowledge). t.first) told.same in
+    let seen : w.seen ≡ v.seen = ap (λ (t : Knowledge). t.seen) told.same in
     let all = ArePublishedBy-IsHistory b v.seen history in
     let within = place-IsFront-le b.processes view v.seen front.front all in
     record {
@@ -163,7 +160,7 @@ may_publish_moving b v w h i j k l four known history blank room owns front head
     }
 
 -- a published record leaves the seat between two records, where it gives up the cell that the seat held
-pub IsIdle-published : (board : BoardView) (v w u : SeatView) (q : Part) (x : Publication) → IsOf v board → length v.view.parts ≡ 1
+pub IsIdle-published : (board : BoardTerms) (v w u : SeatTerms) (q : Part) (x : Publication) → IsOf v board → length v.view.parts ≡ 1
     → Stores v.view w.view q → held_after x q.held ≡ None → Publishes board.book w.view u.view x → u.board ≡ v.board → IsIdle board u
 IsIdle-published board v w u q x of_board one_part stored free told id =
     let one : length w.view.parts ≡ 1 = stored.parts ∙ one_part in
@@ -173,9 +170,9 @@ IsIdle-published board v w u q x of_board one_part stored free told id =
     record {
       of_board = record {
         id = id ∙ of_board.id;
-        book = ap (λ (t : View). t.book) told.same ∙ (ap (λ (t : View). t.book) stored.same ∙ of_board.book);
+        book = ap (λ (t : Knowledge). t.book) told.same ∙ (ap (λ (t : Knowledge). t.book) stored.same ∙ of_board.book);
       };
-      one_part = ap (λ (t : View). length t.parts) told.same ∙ (length-set w.view.parts 0 part ∙ one);
+      one_part = ap (λ (t : Knowledge). length t.parts) told.same ∙ (length-set w.view.parts 0 part ∙ one);
       free = ap (λ (t : Part). t.held) own ∙ (ap (λ (t : Part). held_after x t.held) stored.part ∙ free);
       blank = ap (λ (t : Part). t.stored) own;
     }
@@ -183,15 +180,6 @@ IsIdle-published board v w u q x of_board one_part stored free told id =
 -- the record of the first round of account 0, in which a slot's payment is decided, before any of n processes has published
 abbrev pub round_record : ℕ → ℕ → ℕ → Publication
 round_record n p slot = record { process = p; view = replicate n 0; entry = Round 0 0 (first_decision slot) ((0, 7) ∷ []) }
-
--- nothing counts 0 of each process
-pub counts-nil : (n : ℕ) → counts n [] ≡ replicate n 0
-counts-nil n =
-    same_number_lists (counts n []) (replicate n 0) (length-counts n [] ∙ sym (length-replicate n 0))
-    (λ k below. get_or-counts n [] k 0 (omega (arith, below, length-counts n [])) ∙ (ap length (publications_of-nil k) ∙ sym (get_or-zeros n k)))
-
-pub place-zeros : (n : ℕ) → place (replicate n 0) ≡ 0
-place-zeros n = ap sum (sym (counts-nil n)) ∙ sum-counts n [] (All-nil (λ (x : Publication). x.process < n))
 
 -- only a shared account has slots
 pub shared-HasSlot : (b : BookTerms) (p a slot : ℕ) → HasSlot b p a slot → is_shared (account_of b a) ≡ true
@@ -202,15 +190,15 @@ shared-HasSlot b p a slot has =
     ]
 
 -- the seat that has won the round may publish it, once it has stored the words
-pub may_publish_round : (b : BookTerms) (v w : View) (slot d : ℕ) → v.first < b.processes → HasSlot b v.first 0 slot
+pub may_publish_round : (b : BookTerms) (v w : Knowledge) (slot d : ℕ) → v.first < b.processes → HasSlot b v.first 0 slot
     → HasWon b v slot → d ≡ 2 + 2 * slot → Stores v w (with_four (own_part v) d)
     → MayPublish b w (round_record b.processes v.first slot)
 may_publish_round b v w slot d known has won word told =
     let n = b.processes in
     let p = v.first in
     let x = round_record n p slot in
-    let first : w.first ≡ p = ap (λ (t : View). t.first) told.same in
-    let seen : w.seen ≡ v.seen = ap (λ (t : View). t.seen) told.same in
+    let first : w.first ≡ p = ap (λ (t : Knowledge). t.first) told.same in
+    let seen : w.seen ≡ v.seen = ap (λ (t : Knowledge). t.seen) told.same in
     let zeros : (own_part v).stored ≡ 0 ∷ 0 ∷ 0 ∷ 0 ∷ 0 ∷ 0 ∷ 0 ∷ replicate n 0 = won.blank ∙ sym (replicate-append-replicate 7 n 0) in
     let decided : d ≡ word_of (first_decision slot) = omega (arith, word) in
     record {
@@ -231,8 +219,8 @@ may_publish_round b v w slot d known has won word told =
           next = ap (λ k. rounds 0 (take k w.seen)) (place-zeros n) ∙ ap (count_by (λ y. is_round_on 0 y.entry)) firsts-nil;
         }),
         inl (
-          subst (λ (t : View). SeesDecision t 0 0 (first_decision slot)) (sym told.same) won.decision,
-          (payment, subst (λ (t : View). SeesRequest t 0 slot 0 payment) (sym told.same) won.request, refl),
+          subst (λ (t : Knowledge). SeesDecision t 0 0 (first_decision slot)) (sym told.same) won.decision,
+          (payment, subst (λ (t : Knowledge). SeesRequest t 0 slot 0 payment) (sym told.same) won.request, refl),
         ),
       );
     }

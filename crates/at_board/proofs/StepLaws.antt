@@ -1,129 +1,14 @@
--- The steps of the table that the rule allows.
-use Rattle.std.proofs.Common.{◌≡◌, ℕ, ◌+◌, ◌<◌, [], length, get_or, set, refl, sym, ap, subst, arith}
-use mathlib.Core.Option.{none}
-use Rattle.std.proofs.lemmas.List.{set-get_or}
-use Rattle.atomic_table.specs.Table.{Allows, Me, keeps, step}
-use Rattle.at_ledger.specs.Book.{BookTerms, IsBegun, log_room_of}
-use Rattle.at_board.proofs.LoadLaws.{LoadsLength-Ruled}
-use Rattle.at_board.proofs.PlaceLaws.{place_at-injective}
-use Rattle.at_board.proofs.SeenLaws.{AgreesWithSeen-set}
-use Rattle.at_board.proofs.StoreLaws.{StoresWord-Ruled}
-use Rattle.at_board.specs.declared.view.View.{View}
-use Rattle.at_board.specs.Conditions.{MayStoreWord}
-use Rattle.at_board.specs.Places.{IsPlace, length_of, place_at, record_width, record_word}
-use Rattle.at_board.specs.SeatView.{IsSeat}
-use Rattle.at_board.specs.Plays.{loaded_length, stored_word}
-use Rattle.at_board.specs.Seated.{Ruled}
-use Rattle.at_board.specs.Steps.{LoadsLength, StoresWord, with_part, with_word}
-use Rattle.at_board.specs.Views.{own_part}
-
--- what a seat of the board is: it stands for one process of the book
-pub record IsSeatOf (b : BookTerms) (v : View) : Type 0 where
-  pub book : v.book ≡ b
-  pub one_part : length v.parts ≡ 1
-  pub known : v.first < b.processes
-
--- one process has the length of an index
-same_length : (b : BookTerms) (p q : ℕ) → p < b.processes → q < b.processes → place_at b (length_of p) ≡ place_at b (length_of q) → p ≡ q
-same_length b p q one other same =
-    let e = place_at-injective b (length_of p) (length_of q) one other same in cc
-
-module _ {S : Type 0} where
-  pub loads_length : (b : BookTerms) (slots id : ℕ) (me : Me S View) (p : ℕ) → IsBegun b → IsSeatOf b me.0 → me.1 ≡ [] → p < b.processes
-      → Allows (λ s. Ruled b s.words s.views) slots id me (place_at b (length_of p)) (λ n. n)
-      (loaded_length (step slots (place_at b (length_of p)) 0 0 none) me)
-  loads_length b slots id me p begun seat empty within s holds homes found fits =
-      let i = place_at b (length_of p) in
-      let done = LoadsLength-Ruled b s.words s.views id me.0 p holds begun found (omega (arith, seat.one_part)) within in
-      let same : set s.words i (get_or s.words i 0) ≡ s.words = set-get_or s.words i 0 in
-      let book = seat.book in (
-        done.0,
-        keeps,
-        tt,
-        subst (λ ws. Ruled b ws (set s.views id done.0)) (sym same) done.1,
-        (
-          refl,
-          λ q known at.
-              let known_here : q < b.processes = subst (λ (t : BookTerms). q < t.processes) book known in
-              let at_here : i ≡ place_at b (length_of q) = subst (λ (t : BookTerms). i ≡ place_at t (length_of q)) book at in
-              let is : p ≡ q = same_length b p q within known_here at_here in
-              subst (λ (t : BookTerms). LoadsLength t me.0 done.0 q (get_or s.words i 0)) (sym book)
-              (subst (λ t. LoadsLength b me.0 done.0 t (get_or s.words i 0)) is done.2),
-        ),
-      )
-
-  pub stores_word : (b : BookTerms) (slots id : ℕ) (me : Me S View) (j w : ℕ) → IsSeatOf b me.0 → me.1 ≡ [] → MayStoreWord b me.0 j
-      → let i = place_at b (record_word me.0.first (own_part me.0).published j) in
-      Allows (λ s. Ruled b s.words s.views) slots id me i (λ _. w) (λ _. stored_word (step slots i w 0 none) me w)
-  stores_word b slots id me j w seat empty may s holds homes found fits =
-      let v : View = me.0 in
-      let c = (own_part v).published in
-      let i = place_at b (record_word v.first c j) in
-      let after : View = with_part v (with_word (own_part v) j w) in
-      let done = StoresWord-Ruled b s.words s.views id v j w holds found (omega (arith, seat.one_part)) may.room may.word in
-      let book = seat.book in (
-        after,
-        keeps,
-        tt,
-        done,
-        (
-          refl,
-          AgreesWithSeen-set b (set s.words i w) s.views id v after found done,
-          λ k inside room at.
-              let here : IsPlace b (record_word v.first c j) = (seat.known, may.room, may.word) in
-              let there : IsPlace b (record_word v.first c k) =
-              (seat.known, may.room, subst (λ (t : BookTerms). k < 7 + t.processes) book inside) in
-              let e = place_at-injective b (record_word v.first c j) (record_word v.first c k) here there
-              (subst (λ (t : BookTerms). i ≡ place_at t (record_word v.first c k)) book at) in
-              let is : j ≡ k = cc in
-              ap (λ t. with_part v (with_word (own_part v) t w)) is,
-        ),
-      )
-
-  -- the same at an index and a key that are these
-  pub loads_length_at : (key b : BookTerms) (slots id : ℕ) (me : Me S View) (p i : ℕ) → key ≡ b → i ≡ place_at b (length_of p)
-      → IsBegun b → IsSeatOf b me.0 → me.1 ≡ [] → p < b.processes
-      → Allows (λ s. Ruled key s.words s.views) slots id me i (λ n. n) (loaded_length (step slots i 0 0 none) me)
-  loads_length_at key b slots id me p i is at begun seat empty within =
-      subst (λ (k : BookTerms). Allows (λ s. Ruled k s.words s.views) slots id me i (λ n. n) (loaded_length (step slots i 0 0 none) me)) (sym is)
-      (subst (λ (k : ℕ). Allows (λ s. Ruled b s.words s.views) slots id me k (λ n. n) (loaded_length (step slots k 0 0 none) me)) (sym at)
-      (loads_length b slots id me p begun seat empty within))
-
--- the length of a process stands at its number
-pub place_at-length_of : (b : BookTerms) (p : ℕ) → place_at b (length_of p) ≡ p
-unfolding place_at
-place_at-length_of b p = omega arith
-
-module _ {S : Type 0} where
-  -- what the load of a length has told
-  pub LoadsLength-played : (b : BookTerms) (slots : ℕ) (me after : Me S View) (p n : ℕ) → me.0.book ≡ b → p < b.processes
-      → loaded_length (step slots p 0 0 none) me n after → LoadsLength b me.0 after.0 p n
-  LoadsLength-played b slots me after p n book known played =
-      subst (λ (t : BookTerms). LoadsLength t me.0 after.0 p n) book
-      (played.1 p (subst (λ (t : BookTerms). p < t.processes) (sym book) known) (sym (place_at-length_of me.0.book p)))
-
-module _ {S : Type 0} where
-  pub stores_word_at : (key b : BookTerms) (slots id : ℕ) (me : Me S View) (j w i : ℕ) → key ≡ b
-      → i ≡ place_at b (record_word me.0.first (own_part me.0).published j) → IsSeatOf b me.0 → me.1 ≡ [] → MayStoreWord b me.0 j
-      → Allows (λ s. Ruled key s.words s.views) slots id me i (λ _. w) (λ _. stored_word (step slots i w 0 none) me w)
-  stores_word_at key b slots id me j w i is at seat empty may =
-      subst (λ (k : BookTerms). Allows (λ s. Ruled k s.words s.views) slots id me i (λ _. w) (λ _. stored_word (step slots i w 0 none) me w)) (sym is)
-      (subst (λ (k : ℕ). Allows (λ s. Ruled b s.words s.views) slots id me k (λ _. w) (λ _. stored_word (step slots k w 0 none) me w)) (sym at)
-      (stores_word b slots id me j w seat empty may))
-
-  -- what the store of a word has told
-  pub StoresWord-played : (b : BookTerms) (slots : ℕ) (me after : Me S View) (j w i : ℕ) → me.0.book ≡ b
-      → i ≡ place_at b (record_word me.0.first (own_part me.0).published j) → MayStoreWord b me.0 j
-      → stored_word (step slots i w 0 none) me w after → StoresWord me.0 after.0 j w
-  StoresWord-played b slots me after j w i book at may played =
-      played.2 j (subst (λ (t : BookTerms). j < record_width t) (sym book) may.word)
-      (subst (λ (t : BookTerms). (own_part me.0).published < log_room_of t me.0.first) (sym book) may.room)
-      (subst (λ (t : BookTerms). i ≡ place_at t (record_word me.0.first (own_part me.0).published j)) (sym book) at)
-
--- the seat is of the board, where its view is and its book is the board's
-pub IsSeatOf-IsSeat : (b : BookTerms) (v : View) (process published : ℕ) → v.book ≡ b → IsSeat v process published → IsSeatOf b v
-IsSeatOf-IsSeat b v process published book seat = record {
-  book = book;
-  one_part = seat.one_part;
-  known = subst (λ (t : BookTerms). v.first < t.processes) book seat.known;
-}
+pub mod Decide
+pub mod Note
+pub mod LoadAnnounced
+pub mod Table
+pub mod StoreRequestWord
+pub mod Learn
+pub mod LoadLength
+pub mod Meetings
+pub mod StoreRecordWord
+pub mod Announce
+pub mod LogRoom
+pub mod Publish
+pub mod LoadRequestWord
+pub mod LoadRecordWord

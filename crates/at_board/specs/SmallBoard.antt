@@ -2,21 +2,21 @@
 use Rattle.std.specs.Prelude.{◌≡◌, ℕ, ◌+◌, ◌*◌, ◌<◌, ◌≤◌, ◌⊎◌, true, List, [], ◌∷◌, length, replicate, slice_index, take, Some, None}
 use Rattle.at_base.specs.declared.decision.Decision.{Decision}
 use Rattle.at_ledger.specs.Account.{is_single}
-use Rattle.at_ledger.specs.Book.{BookTerms, account_of, is_owner}
-use Rattle.at_board.specs.declared.publication.Entry.TheVariants.{Round}
-use Rattle.at_board.specs.declared.publication.Publication.{Publication}
-use Rattle.at_board.specs.declared.request.Request.{Request}
-use Rattle.at_board.specs.declared.request.TheConstants.{REQUEST_WORDS}
-use Rattle.at_board.specs.declared.view.View.{View}
-use Rattle.at_board.specs.Cuts.{starting_seat}
-use Rattle.at_board.specs.Conditions.{MayEnter}
-use Rattle.at_board.specs.Fronts.{IsFront, prefix_of}
-use Rattle.at_board.specs.Places.{record_width}
-use Rattle.at_board.specs.Publications.{IsPrefix, count_of}
-use Rattle.at_board.specs.Rounds.{is_settled}
-use Rattle.at_board.specs.SeatView.{BoardView, IsOf, SeatView}
-use Rattle.at_board.specs.Sound.{HasView}
-use Rattle.at_board.specs.Views.{HasSlot, SeesDecision, SeesRequest, asking_on, own_part}
+use Rattle.at_ledger.specs.Book.{BookTerms, account_of, is_owner, HasSlot}
+use Rattle.at_history.specs.Fronts.{IsFront, prefix_of}
+use Rattle.at_history.specs.Publications.{IsPrefix, count_of}
+use Rattle.at_history.specs.Rounds.{is_settled}
+use Rattle.at_history.specs.Sound.{HasView}
+use Rattle.at_history.specs.declared.publication.Entry.TheVariants.{Round}
+use Rattle.at_history.specs.declared.publication.Publication.{Publication}
+use Rattle.at_history.specs.declared.request.Request.{Request}
+use Rattle.at_board.specs.Ends.Opening.{starting_seat}
+use Rattle.at_board.specs.Knowledge.Parts.{SeesDecision, SeesRequest, asking_on, own_part}
+use Rattle.at_board.specs.Knowledge.Seats.{BoardTerms, IsOf, SeatTerms}
+use Rattle.at_board.specs.Steps.Publish.{MayEnter}
+use Rattle.at_board.specs.Words.Addresses.{record_width}
+use Rattle.at_board.specs.declared.knowledge.Knowledge.{Knowledge}
+use Rattle.at_board.specs.declared.words.TheConstants.{REQUEST_WORDS}
 
 -- a payment of 7 to account 0
 abbrev pub payment : Request
@@ -27,7 +27,7 @@ abbrev pub first_decision : ℕ → Decision
 first_decision slot = record { ok = true; slot = slot; number = 0; place = 0 }
 
 -- a seat that has published nothing has seen its payment decided in the first round of account 0
-pub record HasWon (b : BookTerms) (v : View) (slot : ℕ) : Type 0 where
+pub record HasWon (b : BookTerms) (v : Knowledge) (slot : ℕ) : Type 0 where
   pub request : SeesRequest v 0 slot 0 payment
   pub decision : SeesDecision v 0 0 (first_decision slot)
   pub held : ((own_part v).held ≡ None) ⊎ ((own_part v).held ≡ Some (record { account = 0; round = 0 }))
@@ -48,26 +48,26 @@ pub record MayPlay (b : BookTerms) (process : ℕ) : Type 0 where
   pub owner : HasOwnAccount b process
 
 -- the seat of a new board, of a process that may play
-pub record IsNewPlayer (board : BoardView) (seat : SeatView) : Type 0 where
+pub record IsNewPlayer (board : BoardTerms) (seat : SeatTerms) : Type 0 where
   pub id : seat.board ≡ board.id
-  pub new : seat.view ≡ starting_seat board.book seat.view.first
-  pub player : MayPlay board.book seat.view.first
+  pub new : seat.knows ≡ starting_seat board.book seat.knows.first
+  pub player : MayPlay board.book seat.knows.first
 
 -- the seats of a new board's two processes
-pub record AreNewPair (board : BoardView) (s t : SeatView) : Type 0 where
+pub record AreNewPair (board : BoardTerms) (s t : SeatTerms) : Type 0 where
   pub processes : board.book.processes ≡ 2
   pub zero : s ≡ record { board = board.id; view = starting_seat board.book 0 }
   pub one : t ≡ record { board = board.id; view = starting_seat board.book 1 }
 
 -- a seat of the board between two records: it holds no cell, and nothing of the next record is stored
-pub record IsIdle (board : BoardView) (seat : SeatView) : Type 0 where
+pub record IsIdle (board : BoardTerms) (seat : SeatTerms) : Type 0 where
   pub of_board : IsOf seat board
-  pub one_part : length seat.view.parts ≡ 1
-  pub free : (own_part seat.view).held ≡ None
-  pub blank : (own_part seat.view).stored ≡ replicate (record_width board.book) 0
+  pub one_part : length seat.knows.parts ≡ 1
+  pub free : (own_part seat.knows).held ≡ None
+  pub blank : (own_part seat.knows).stored ≡ replicate (record_width board.book) 0
 
 -- the counts are a front of what the seat has seen, with all records of its own
-pub record IsOwnFront (b : BookTerms) (v : View) (view : List ℕ) : Type 0 where
+pub record IsOwnFront (b : BookTerms) (v : Knowledge) (view : List ℕ) : Type 0 where
   pub front : IsFront b.processes view v.seen
   pub own : slice_index view v.first ≡ (own_part v).published
   pub counted : count_of v.first v.seen ≡ (own_part v).published
@@ -103,7 +103,7 @@ abbrev pub first_twice : List Publication
 first_twice = record_in 0 0 60 ∷ record_in 1 0 60 ∷ []
 
 -- the process asked for the payments of the rounds before this one, all of which are settled where it asks
-pub record MayAskIn (v : View) (round : ℕ) : Type 0 where
+pub record MayAskIn (v : Knowledge) (round : ℕ) : Type 0 where
   pub announced : length (asking_on (own_part v) 0).announced ≡ round
   pub blank : (asking_on (own_part v) 0).stored ≡ replicate REQUEST_WORDS 0
   pub early : round < 2
@@ -111,24 +111,24 @@ pub record MayAskIn (v : View) (round : ℕ) : Type 0 where
   pub settled : (i : ℕ) → i < round → is_settled 0 0 i (take (2 * round) v.seen) ≡ true
 
 -- the seat may publish this record once it has stored its words
-pub record MayRecord (b : BookTerms) (v : View) (x : Publication) : Type 0 where
+pub record MayRecord (b : BookTerms) (v : Knowledge) (x : Publication) : Type 0 where
   pub blank : (own_part v).stored ≡ replicate (record_width b) 0
   pub room : (own_part v).published < b.own_room
   pub view : HasView b v.seen x
   pub entry : MayEnter b v (prefix_of x.view v.seen) x.entry
 
 -- process 0 has published its payment's round, and nothing is stored of its next request
-pub record HasBegun (board : BoardView) (seat : SeatView) : Type 0 where
+pub record HasBegun (board : BoardTerms) (seat : SeatTerms) : Type 0 where
   pub idle : IsIdle board seat
-  pub process : seat.view.first ≡ 0
-  pub published : (own_part seat.view).published ≡ 1
-  pub announced : length (asking_on (own_part seat.view) 0).announced ≡ 1
-  pub blank : (asking_on (own_part seat.view) 0).stored ≡ replicate REQUEST_WORDS 0
+  pub process : seat.knows.first ≡ 0
+  pub published : (own_part seat.knows).published ≡ 1
+  pub announced : length (asking_on (own_part seat.knows) 0).announced ≡ 1
+  pub blank : (asking_on (own_part seat.knows) 0).stored ≡ replicate REQUEST_WORDS 0
 
 -- process 1 has published nothing, and has seen that round and its payment
-pub record MayRepeat (board : BoardView) (seat : SeatView) : Type 0 where
+pub record MayRepeat (board : BoardTerms) (seat : SeatTerms) : Type 0 where
   pub idle : IsIdle board seat
-  pub process : seat.view.first ≡ 1
-  pub published : (own_part seat.view).published ≡ 0
-  pub request : SeesRequest seat.view 0 0 0 (payment_in 0 60)
-  pub seen : IsPrefix first_once seat.view.seen
+  pub process : seat.knows.first ≡ 1
+  pub published : (own_part seat.knows).published ≡ 0
+  pub request : SeesRequest seat.knows 0 0 0 (payment_in 0 60)
+  pub seen : IsPrefix first_once seat.knows.seen

@@ -1,41 +1,4 @@
--- The words of records, requests and decisions.
-use Rattle.std.specs.Prelude.{ℕ, List, [], ◌∷◌, ◌++◌, length, nat_lt, if◌then◌else◌}
-use Rattle.at_base.specs.Decision.{word_of}
-use Rattle.at_base.specs.Head.{head_word}
-use Rattle.at_base.specs.declared.decision.Decision.{Decision}
-use Rattle.at_ledger.specs.Call.{TargetPair, target_at}
-use Rattle.at_board.specs.declared.publication.Entry.{Entry}
-use Rattle.at_board.specs.declared.publication.Entry.TheVariants.{Own, Round}
-use Rattle.at_board.specs.declared.publication.Publication.{Publication}
-use Rattle.at_board.specs.declared.request.Request.{Request}
-use Rattle.at_board.specs.BoardState.{decision_at}
-use Rattle.at_board.specs.Entries.{targets_of}
-use Rattle.at_board.specs.TargetsWord.{accounts_of, targets_word}
-
--- kind 0 is an own record, kind 1 a round's
-abbrev pub head_of : Entry → ℕ
-head_of (Own from targets) = head_word (record { kind = 0; from = from; to = 0; round = 0 })
-head_of (Round account round decision targets) = head_word (record { kind = 1; from = account; to = 0; round = round })
-
--- the decision's word, and 0 in an own record
-abbrev pub decision_word : Entry → ℕ
-decision_word (Own from targets) = 0
-decision_word (Round account round decision targets) = word_of decision
-
--- four amounts, 0 past the last target
-abbrev pub amount_words : List TargetPair → List ℕ
-amount_words targets =
-    (target_at targets 0).1 ∷ (target_at targets 1).1 ∷ (target_at targets 2).1 ∷ (target_at targets 3).1 ∷ []
-
-abbrev pub record_words : Publication → List ℕ
-record_words x =
-    head_of x.entry ∷ targets_word (accounts_of (targets_of x.entry)) ∷ decision_word x.entry
-    ∷ amount_words (targets_of x.entry) ++ x.view
-
-abbrev pub request_words : Request → List ℕ
-request_words r = targets_word (accounts_of r.targets) ∷ amount_words r.targets ++ r.since ∷ []
-
--- the word of a round's cell, where these rounds are decided
-abbrev pub cell_word : List Decision → ℕ → ℕ
-cell_word decisions round =
-    if nat_lt round (length decisions) then word_of (decision_at decisions round) else 0
+pub mod Packed
+pub mod Targets
+pub mod Addresses
+pub mod Shown

@@ -1,12 +1,15 @@
 //! The board that threads share.
 
 ghost use Rattle.std.specs.Prelude.{◌≡◌, ◌+◌, ◌<◌, ◌≤◌, IfOk};
-ghost use Rattle.at_board.specs.declared.publication.Publication.{Publication};
-ghost use Rattle.at_board.specs.Conditions.{MayPublish, MayStoreWord};
-ghost use Rattle.at_board.specs.Cuts.{AreNew};
-ghost use Rattle.at_board.specs.Places.{IsPlace, place_at, record_word, words_max};
-ghost use Rattle.at_board.specs.SeatView.{IsOf};
-ghost use Rattle.at_board.specs.Steps.{LoadsLength, Publishes, StoresWord};
+ghost use Rattle.at_history.specs.declared.publication.Publication.{Publication};
+ghost use Rattle.at_board.specs.Steps.Publish.{MayPublish};
+ghost use Rattle.at_board.specs.Steps.StoreRecordWord.{MayStoreWord};
+ghost use Rattle.at_board.specs.Ends.Opening.{AreNew};
+ghost use Rattle.at_board.specs.Words.Addresses.{IsAddress, index_of, record_word, words_max};
+ghost use Rattle.at_board.specs.Knowledge.Seats.{IsOf};
+ghost use Rattle.at_board.specs.Steps.LoadLength.{LoadsLength};
+ghost use Rattle.at_board.specs.Steps.Publish.{Publishes};
+ghost use Rattle.at_board.specs.Steps.StoreRecordWord.{StoresWord};
 
 use crate::NoMemory;
 use crate::dealing::deal;
@@ -15,8 +18,8 @@ use crate::plays::{LoadLength, Publish, StoreWord};
 use crate::rule::BoardRule;
 use crate::seat::BoardSeat;
 use crate::slots_before::slots_before;
-use crate::steps::Steps;
-use crate::view::View;
+use crate::counter::Steps;
+use crate::knowledge::Knowledge;
 use crate::word_count::{records_end, word_count};
 use arrayvec::ArrayVec;
 use at_ledger::Book;
@@ -29,7 +32,7 @@ use std::sync::ledger::Ledger;
 /// The words that processes share, under one rule. Threads share it by `&Board`.
 #[derive(Drop)]
 pub struct Board {
-    pub(crate) table: Table<(), View, Snapshot<Book>, BoardRule, Global>,
+    pub(crate) table: Table<(), Knowledge, Snapshot<Book>, BoardRule, Global>,
     pub(crate) book: Book,
     pub(crate) log_starts: ArrayVec<u32, 16>,
     /// Where the announced words begin.
@@ -41,15 +44,15 @@ pub struct Board {
 impl Model for Board {
     ghost use Rattle.std.specs.Prelude.{◌≡◌};
     ghost use Rattle.at_ledger.specs.Book.{IsBook};
-    ghost use Rattle.at_board.specs.Places.{AreLogStarts, AreSlotsBefore, place_at, record_word, word_count};
-    ghost use Rattle.at_board.specs.SeatView.{BoardView};
+    ghost use Rattle.at_board.specs.Words.Addresses.{AreLogStarts, AreSlotsBefore, index_of, record_word, word_count};
+    ghost use Rattle.at_board.specs.Knowledge.Seats.{BoardTerms};
 
-    ghost Value = { BoardView };
+    ghost Value = { BoardTerms };
 
     ghost view = { λ b. record { id = b.table.shared.table_id; book = b.book } };
 
     ghost invariant = { λ b. (b.table.shared.key.value ≡ b.book) × (b.table.shared.table_id.words ≡ word_count b.book) × IsBook b.book
-        × AreLogStarts b.book b.log_starts.items × (b.slots_start ≡ place_at b.book (record_word b.book.processes 0 0))
+        × AreLogStarts b.book b.log_starts.items × (b.slots_start ≡ index_of b.book (record_word b.book.processes 0 0))
         × AreSlotsBefore b.book b.slots_before.items × (b.table.shared.table_id.slots ≡ 0) };
 }
 
@@ -94,7 +97,7 @@ impl Board {
     ) -> u32
         requires board { IsOf seat.old self.now }
         requires process { p < self.now.book.processes }
-        ensures told { LoadsLength self.now.book seat.old.view seat.new.view p result }
+        ensures told { LoadsLength self.now.book seat.old.knows seat.new.knows p result }
         ensures board { seat.new.board ≡ seat.old.board }
         ensures steps { steps.new ≡ steps.old + 1 }
         ensures exchanges { exchanges.new ≡ exchanges.old }
@@ -118,14 +121,14 @@ impl Board {
         exchanges: &mut Steps<X>,
     )
         requires board { IsOf seat.old self.now }
-        requires word { MayStoreWord self.now.book seat.old.view j }
-        ensures stored { StoresWord seat.old.view seat.new.view j w }
+        requires word { MayStoreWord self.now.book seat.old.knows j }
+        ensures stored { StoresWord seat.old.knows seat.new.knows j w }
         ensures board { seat.new.board ≡ seat.old.board }
         ensures steps { steps.new ≡ steps.old + 1 }
         ensures exchanges { exchanges.new ≡ exchanges.old }
     {
         steps.tick();
-        let place = self.record_place(seat.process, seat.published, j);
+        let place = self.record_index_of(seat.process, seat.published, j);
         self.table
             .shared
             .store::<StoreWord>(&mut seat.seat, place, w);
@@ -139,8 +142,8 @@ impl Board {
         exchanges: &mut Steps<X>,
     )
         requires board { IsOf seat.old self.now }
-        requires record { (x : Publication) × MayPublish self.now.book seat.old.view x }
-        ensures published { (x : Publication) → MayPublish self.now.book seat.old.view x → Publishes self.now.book seat.old.view seat.new.view x }
+        requires record { (x : Publication) × MayPublish self.now.book seat.old.knows x }
+        ensures published { (x : Publication) → MayPublish self.now.book seat.old.knows x → Publishes self.now.book seat.old.knows seat.new.knows x }
         ensures board { seat.new.board ≡ seat.old.board }
         ensures steps { steps.new ≡ steps.old + 1 }
         ensures exchanges { exchanges.new ≡ exchanges.old }
@@ -155,9 +158,9 @@ impl Board {
     }
 
     /// Where a word of a record stands.
-    pub(crate) fn record_place(&self, p: u32, i: u32, j: u32) -> usize
-        requires { IsPlace self.now.book (record_word p i j) }
-        ensures place { result ≡ place_at self.now.book (record_word p i j) }
+    pub(crate) fn record_index_of(&self, p: u32, i: u32, j: u32) -> usize
+        requires { IsAddress self.now.book (record_word p i j) }
+        ensures place { result ≡ index_of self.now.book (record_word p i j) }
     {
         record_index(&self.book, &self.log_starts, p, i, j)
     }

@@ -1,8 +1,8 @@
 //! What a closed board leaves.
 
 ghost use Rattle.std.specs.Prelude.{◌≡◌, ◌<◌, [], length, slice_index, slice_index_or};
-ghost use Rattle.at_board.specs.Ends.{records_of};
-ghost use Rattle.at_board.specs.Places.{record_width};
+ghost use Rattle.at_board.specs.Ends.Closing.{records_of};
+ghost use Rattle.at_board.specs.Words.Addresses.{record_width};
 
 use crate::log_starts::record_index;
 use arrayvec::ArrayVec;
@@ -18,10 +18,10 @@ pub struct BoardEnd {
 }
 
 impl Model for BoardEnd {
-    ghost use Rattle.at_board.specs.Ends.{EndView, HasWords, end_of};
-    ghost use Rattle.at_board.specs.Places.{AreLogStarts};
+    ghost use Rattle.at_board.specs.Ends.Closing.{EndTerms, HasWords, end_of};
+    ghost use Rattle.at_board.specs.Words.Addresses.{AreLogStarts};
 
-    ghost Value = { EndView };
+    ghost Value = { EndTerms };
 
     ghost view = { λ e. end_of e.book e.words.items };
 

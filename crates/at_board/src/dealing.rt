@@ -1,14 +1,14 @@
 //! The first seat of a board, cut into one seat for each process.
 
 ghost use Rattle.std.specs.Prelude.{◌≡◌, ◌<◌, [], length, replicate, IfOk};
-ghost use Rattle.at_board.specs.Cuts.{AreNew};
-ghost use Rattle.at_board.specs.Places.{word_count};
-ghost use Rattle.at_board.specs.Views.{starting_view};
+ghost use Rattle.at_board.specs.Ends.Opening.{AreNew};
+ghost use Rattle.at_board.specs.Words.Addresses.{word_count};
+ghost use Rattle.at_board.specs.Knowledge.Parts.{starting_knowledge};
 
 use crate::plays::Cut;
 use crate::rule::BoardRule;
 use crate::seat::BoardSeat;
-use crate::view::View;
+use crate::knowledge::Knowledge;
 use at_ledger::Book;
 use atomic_table::{Seat, Shared};
 use std::alloc::{AllocError, Global};
@@ -17,12 +17,12 @@ use std::snapshot::Snapshot;
 /// One seat for each process, in order.
 pub(crate) fn deal(
     alloc: Global,
-    shared: &Shared<(), View, Snapshot<Book>, BoardRule>,
-    first: Seat<(), View>,
+    shared: &Shared<(), Knowledge, Snapshot<Book>, BoardRule>,
+    first: Seat<(), Knowledge>,
     book: &Book,
 ) -> Result<Vec<BoardSeat>, AllocError>
     requires table { (first.table_id ≡ shared.now.table_id) × (shared.now.key.value ≡ book.now) × (shared.now.table_id.words ≡ word_count book.now) }
-    requires first { first.me ≡ (starting_view book.now, []) }
+    requires first { first.me ≡ (starting_knowledge book.now, []) }
     ensures { IfOk result (λ seats. AreNew book.now shared.now.table_id seats.items) }
 {
     let _accounts = book.accounts();

@@ -3,7 +3,7 @@
 ghost use Rattle.std.specs.Prelude.{◌≡◌, ◌<◌, ◌≤◌, [], IfErr, IfOk};
 ghost use Rattle.std.specs.Mem.Slots.{IsFull, slots_items, slots_len};
 ghost use Rattle.std.specs.Vec.{vec_capacity, vec_len};
-ghost use Rattle.at_board.specs.Ends.{AreAllFree, Gathers, IsEnd};
+ghost use Rattle.at_board.specs.Ends.Closing.{AreAllFree, Gathers, IsEnd};
 
 use crate::board::Board;
 use crate::board_end::BoardEnd;
@@ -11,7 +11,7 @@ use crate::meeting::meet;
 use crate::plays::Gather;
 use crate::rule::BoardRule;
 use crate::seat::BoardSeat;
-use crate::view::View;
+use crate::knowledge::Knowledge;
 use at_ledger::Book;
 use atomic_table::{Closed, Seat, Shared};
 use std::alloc::Global;
@@ -55,10 +55,10 @@ impl Board {
 
 /// The seat of process 0, to which those of the others were joined.
 fn gather(
-    shared: &Shared<(), View, Snapshot<Book>, BoardRule>,
+    shared: &Shared<(), Knowledge, Snapshot<Book>, BoardRule>,
     book: &Book,
     seats: Vec<BoardSeat>,
-) -> Seat<(), View>
+) -> Seat<(), Knowledge>
     requires words { 0 < shared.now.table_id.words }
     requires some { 1 ≤ book.now.processes }
     requires seats { AreAllFree record { id = shared.now.table_id; book = book.now } seats.items }

@@ -1,16 +1,17 @@
 //! The second round of a shared account, after a first one that both of its owners have published.
 
 ghost use Rattle.std.specs.Prelude.{◌≡◌, ◌<◌, IsTrue};
-ghost use Rattle.at_board.specs.declared.request.Request.{Request};
-ghost use Rattle.at_board.specs.Conditions.{MayPropose};
-ghost use Rattle.at_board.specs.Cuts.{starting_seat};
-ghost use Rattle.at_board.specs.DecideSteps.{Decides};
-ghost use Rattle.at_board.specs.Publications.{IsPrefix};
-ghost use Rattle.at_board.specs.RequestSteps.{Announces};
-ghost use Rattle.at_board.specs.SeatView.{IsOf};
+ghost use Rattle.at_history.specs.declared.request.Request.{Request};
+ghost use Rattle.at_board.specs.Steps.Decide.{MayPropose};
+ghost use Rattle.at_board.specs.Ends.Opening.{starting_seat};
+ghost use Rattle.at_board.specs.Steps.Decide.{Decides};
+ghost use Rattle.at_history.specs.Publications.{IsPrefix};
+ghost use Rattle.at_board.specs.Steps.Announce.{Announces};
+ghost use Rattle.at_board.specs.Knowledge.Seats.{IsOf};
 ghost use Rattle.at_board.specs.SmallBoard.{HasBegun, HasTwoOwners, IsIdle, MayAskIn, MayRepeat, MayRecord, decision_in, first_once, first_twice, payment_in, record_in};
-ghost use Rattle.at_board.specs.Steps.{Publishes};
-ghost use Rattle.at_board.specs.Views.{HasSlot, SeesRequest};
+ghost use Rattle.at_board.specs.Steps.Publish.{Publishes};
+ghost use Rattle.at_ledger.specs.Book.{HasSlot};
+ghost use Rattle.at_board.specs.Knowledge.Parts.{SeesRequest};
 
 use crate::request_tests::{new_pair, slot_on};
 use crate::round_tests::{close_two, has_record};
@@ -57,10 +58,10 @@ fn ask_in<L: Ledger, X: Ledger>(
 )
     requires board { IsOf seat.old board.now }
     requires owners { HasTwoOwners board.now.book }
-    requires process { seat.old.view.first ≡ 0 }
-    requires asks { MayAskIn seat.old.view round }
+    requires process { seat.old.knows.first ≡ 0 }
+    requires asks { MayAskIn seat.old.knows round }
     ensures board { seat.new.board ≡ seat.old.board }
-    ensures announced { Announces board.now.book seat.old.view seat.new.view 0 0 (payment_in round amount) }
+    ensures announced { Announces board.now.book seat.old.knows seat.new.knows 0 0 (payment_in round amount) }
 {
     let _process = seat.process();
     board.store_request_word(seat, 0, 0, 1_099_511_627_777, steps, exchanges);
@@ -79,9 +80,9 @@ fn decide_in<L: Ledger, X: Ledger>(
 ) -> u64
     requires board { IsOf seat.old board.now }
     requires early { round < 2 }
-    requires proposal { (r : Request) × MayPropose board.now.book seat.old.view 0 round (decision_in round) r }
+    requires proposal { (r : Request) × MayPropose board.now.book seat.old.knows 0 round (decision_in round) r }
     ensures board { seat.new.board ≡ seat.old.board }
-    ensures decided { Decides board.now.book seat.old.view seat.new.view 0 round (decision_in round) result }
+    ensures decided { Decides board.now.book seat.old.knows seat.new.knows 0 round (decision_in round) result }
 {
     board.decide(
         seat,
@@ -105,9 +106,9 @@ fn publish_in<L: Ledger, X: Ledger>(
     requires board { IsOf seat.old board.now }
     requires owners { HasTwoOwners board.now.book }
     requires early { round < 2 }
-    requires may { MayRecord board.now.book seat.old.view (record_in seat.old.view.first round amount) }
+    requires may { MayRecord board.now.book seat.old.knows (record_in seat.old.knows.first round amount) }
     ensures board { seat.new.board ≡ seat.old.board }
-    ensures published { Publishes board.now.book seat.old.view seat.new.view (record_in seat.old.view.first round amount) }
+    ensures published { Publishes board.now.book seat.old.knows seat.new.knows (record_in seat.old.knows.first round amount) }
 {
     let _process = seat.process();
     let count = u64::from(round);
@@ -129,11 +130,11 @@ fn begin<L: Ledger, X: Ledger>(
     exchanges: &mut Steps<X>,
 ) -> bool
     requires board { seat.old.board ≡ board.now.id }
-    requires new { seat.old.view ≡ starting_seat board.now.book 0 }
+    requires new { seat.old.knows ≡ starting_seat board.now.book 0 }
     requires owners { HasTwoOwners board.now.book }
     ensures begun { IsTrue result → HasBegun board.now seat.new }
-    ensures request { IsTrue result → SeesRequest seat.new.view 0 0 0 (payment_in 0 60) }
-    ensures seen { IsTrue result → seat.new.view.seen ≡ first_once }
+    ensures request { IsTrue result → SeesRequest seat.new.knows 0 0 0 (payment_in 0 60) }
+    ensures seen { IsTrue result → seat.new.knows.seen ≡ first_once }
 {
     ask_in(board, seat, 0, 60, steps, exchanges);
     if decide_in(board, seat, 0, steps, exchanges) != 2 {
@@ -153,8 +154,8 @@ fn repeat<L: Ledger, X: Ledger>(
     requires owners { HasTwoOwners board.now.book }
     requires may { MayRepeat board.now seat.old }
     ensures idle { IsTrue result → IsIdle board.now seat.new }
-    ensures process { IsTrue result → seat.new.view.first ≡ 1 }
-    ensures seen { IsTrue result → seat.new.view.seen ≡ first_twice }
+    ensures process { IsTrue result → seat.new.knows.first ≡ 1 }
+    ensures seen { IsTrue result → seat.new.knows.seen ≡ first_twice }
 {
     if decide_in(board, seat, 0, steps, exchanges) != 2 {
         return false;
@@ -172,9 +173,9 @@ fn go_on<L: Ledger, X: Ledger>(
 ) -> bool
     requires owners { HasTwoOwners board.now.book }
     requires begun { HasBegun board.now seat.old }
-    requires seen { IsPrefix first_twice seat.old.view.seen }
+    requires seen { IsPrefix first_twice seat.old.knows.seen }
     ensures idle { IsTrue result → IsIdle board.now seat.new }
-    ensures process { IsTrue result → seat.new.view.first ≡ 0 }
+    ensures process { IsTrue result → seat.new.knows.first ≡ 0 }
 {
     ask_in(board, seat, 1, 30, steps, exchanges);
     if decide_in(board, seat, 1, steps, exchanges) != 524_306 {
@@ -193,10 +194,10 @@ fn tell_first<L: Ledger, X: Ledger>(
     exchanges: &mut Steps<X>,
 )
     requires begun { HasBegun board.now zero.old }
-    requires request { SeesRequest zero.old.view 0 0 0 (payment_in 0 60) }
-    requires seen { zero.old.view.seen ≡ first_once }
+    requires request { SeesRequest zero.old.knows 0 0 0 (payment_in 0 60) }
+    requires seen { zero.old.knows.seen ≡ first_once }
     requires board { one.old.board ≡ board.now.id }
-    requires new { one.old.view ≡ starting_seat board.now.book 1 }
+    requires new { one.old.knows ≡ starting_seat board.now.book 1 }
     ensures begun { HasBegun board.now zero.new }
     ensures may { MayRepeat board.now one.new }
 {
@@ -213,13 +214,13 @@ fn tell_again<L: Ledger, X: Ledger>(
     exchanges: &mut Steps<X>,
 )
     requires idle { IsIdle board.now one.old }
-    requires process { one.old.view.first ≡ 1 }
-    requires seen { one.old.view.seen ≡ first_twice }
+    requires process { one.old.knows.first ≡ 1 }
+    requires seen { one.old.knows.seen ≡ first_twice }
     requires begun { HasBegun board.now zero.old }
     ensures idle { IsIdle board.now one.new }
-    ensures process { one.new.view.first ≡ 1 }
+    ensures process { one.new.knows.first ≡ 1 }
     ensures begun { HasBegun board.now zero.new }
-    ensures told { IsPrefix first_twice zero.new.view.seen }
+    ensures told { IsPrefix first_twice zero.new.knows.seen }
 {
     let note = board.note(one, steps, exchanges);
     board.learn(zero, note, steps, exchanges);
@@ -234,10 +235,10 @@ fn settle_both<L: Ledger, X: Ledger>(
     exchanges: &mut Steps<X>,
 ) -> bool
     requires owners { HasTwoOwners board.now.book }
-    requires zero { (zero.old.board ≡ board.now.id) × (zero.old.view ≡ starting_seat board.now.book 0) }
-    requires one { (one.old.board ≡ board.now.id) × (one.old.view ≡ starting_seat board.now.book 1) }
-    ensures zero { IsTrue result → IsIdle board.now zero.new × (zero.new.view.first ≡ 0) }
-    ensures one { IsTrue result → IsIdle board.now one.new × (one.new.view.first ≡ 1) }
+    requires zero { (zero.old.board ≡ board.now.id) × (zero.old.knows ≡ starting_seat board.now.book 0) }
+    requires one { (one.old.board ≡ board.now.id) × (one.old.knows ≡ starting_seat board.now.book 1) }
+    ensures zero { IsTrue result → IsIdle board.now zero.new × (zero.new.knows.first ≡ 0) }
+    ensures one { IsTrue result → IsIdle board.now one.new × (one.new.knows.first ≡ 1) }
 {
     if !begin(board, zero, steps, exchanges) {
         return false;

@@ -11,7 +11,7 @@
 //! What the words stand for: `BoardState`, `Places`, `TargetsWord`, `Words`, `Shown`. The laws: `Sound`. What a seat knows:
 //! `Views`, `RecordWords`, `Seen`. The rule: `Seated`. What each call asks: `Conditions`, `RequestConditions`. What it tells:
 //! `ShownRounds`, `Steps`, `RequestSteps`, `DecideSteps`, `NoteSteps`, `LearnSteps`. What a seat keeps between its steps:
-//! `SeatView`, `SeatCounts`. How a board begins and ends: `Cuts`, `Ends`. `Plays` and `Meetings` tie the steps to the table.
+//! `SeatTerms`, `SeatCounts`. How a board begins and ends: `Cuts`, `Ends`. `Plays` and `Meetings` tie the steps to the table.
 //! `Fresh` and `Forms` are for the crates above, `SmallBoard` for the tests.
 //!
 //! A line such as `let _process = seat.process();` does nothing when the program runs. The proof learns from it what the type keeps.
@@ -29,11 +29,9 @@ mod meeting;
 mod note;
 mod notes;
 mod plays;
-mod publication;
 #[cfg(test)]
 mod record_tests;
 mod records;
-mod request;
 #[cfg(test)]
 mod request_tests;
 mod requests;
@@ -43,14 +41,14 @@ mod rounds;
 mod rule;
 mod seat;
 mod slots_before;
-mod steps;
+mod counter;
 #[cfg(test)]
 mod stress_tests;
-mod targets_word;
 #[cfg(test)]
 mod tests;
-mod view;
+mod knowledge;
 mod word_count;
+mod words;
 
 /// The answer of a call that found no memory.
 pub type NoMemory = std::alloc::AllocError;
@@ -59,11 +57,8 @@ pub use crate::board::Board;
 pub use crate::board_end::BoardEnd;
 pub use crate::ending::BoardRefused;
 pub use crate::note::BoardNote;
-pub use crate::publication::{Entry, Publication, RECORD_WORDS};
-pub use crate::request::{REQUEST_WORDS, Request};
 pub use crate::seat::BoardSeat;
-pub use crate::steps::Steps;
-pub use crate::targets_word::{pack_targets, unpack_targets};
-pub use crate::view::{
-    Asking, Cell, LoadedWord, Loads, Part, SeenDecision, SeenRequest, SeenRow, View,
-};
+pub use crate::counter::Steps;
+pub use crate::knowledge::{Asking, LoadedWord, Loads, Part, SeenDecision, SeenRequest, SeenRow, Knowledge};
+pub use crate::words::{RECORD_WORDS, REQUEST_WORDS, pack_targets, unpack_targets};
+pub use at_history::{Cell, Entry, Publication, Request};

@@ -1,9 +1,9 @@
 //! Where the log of each process begins among the words, and where its records stand.
 
 ghost use Rattle.std.specs.Prelude.{◌≡◌};
-ghost use Rattle.at_board.specs.Places.{AreLogStarts, IsPlace, place_at, record_word};
+ghost use Rattle.at_board.specs.Words.Addresses.{AreLogStarts, IsAddress, index_of, record_word};
 
-use crate::publication::RECORD_WORDS;
+use crate::words::RECORD_WORDS;
 use arrayvec::ArrayVec;
 use at_ledger::Book;
 
@@ -23,9 +23,9 @@ pub(crate) fn log_starts(book: &Book) -> ArrayVec<u32, 16>
 
 /// The index of a word of a record.
 pub(crate) fn record_index(book: &Book, starts: &ArrayVec<u32, 16>, p: u32, i: u32, j: u32) -> usize
-    requires place { IsPlace book.now (record_word p i j) }
+    requires place { IsAddress book.now (record_word p i j) }
     requires starts { AreLogStarts book.now starts.now.items }
-    ensures { result ≡ place_at book.now (record_word p i j) }
+    ensures { result ≡ index_of book.now (record_word p i j) }
 {
     let _accounts = book.accounts();
     let width = (RECORD_WORDS + book.processes()) as usize;

@@ -1,7 +1,7 @@
 //! What the rule of a table says of two seats at once.
 
 ghost use Rattle.std.specs.Prelude.{◌≡◌};
-ghost use Rattle.at_board.specs.Meetings.{AreSeen};
+ghost use Rattle.at_board.specs.Steps.Meetings.{AreSeen};
 
 use atomic_table::{Seat, Shared, TableRule};
 use std::marker::Brand;

@@ -1,16 +1,16 @@
 //! Notes: what one seat has seen, handed to another.
 
 ghost use Rattle.std.specs.Prelude.{◌≡◌, ◌+◌};
-ghost use Rattle.at_board.specs.LearnSteps.{Learns};
-ghost use Rattle.at_board.specs.NoteSteps.{noted};
-ghost use Rattle.at_board.specs.SeatView.{IsOf};
+ghost use Rattle.at_board.specs.Steps.Learn.{Learns};
+ghost use Rattle.at_board.specs.Steps.Note.{noted};
+ghost use Rattle.at_board.specs.Knowledge.Seats.{IsOf};
 
 use crate::board::Board;
 use crate::meeting::meet;
 use crate::note::BoardNote;
 use crate::plays::{Learn, Note};
 use crate::seat::BoardSeat;
-use crate::steps::Steps;
+use crate::counter::Steps;
 use std::sync::ledger::Ledger;
 
 impl Board {
@@ -25,7 +25,7 @@ impl Board {
         requires board { IsOf seat.old self.now }
         ensures same { seat.new ≡ seat.old }
         ensures board { result.board ≡ seat.old.board }
-        ensures noted { result.view ≡ noted seat.old.view }
+        ensures noted { result.view ≡ noted seat.old.knows }
         ensures steps { steps.new ≡ steps.old + 1 }
         ensures exchanges { exchanges.new ≡ exchanges.old + 1 }
     {
@@ -47,7 +47,7 @@ impl Board {
     )
         requires board { IsOf seat.old self.now }
         requires note { IsOf note self.now }
-        ensures learned { Learns self.now.book seat.old.view note.view seat.new.view }
+        ensures learned { Learns self.now.book seat.old.knows note.knows seat.new.knows }
         ensures board { seat.new.board ≡ seat.old.board }
         ensures steps { steps.new ≡ steps.old + 1 }
         ensures exchanges { exchanges.new ≡ exchanges.old + 1 }

@@ -1,69 +1,69 @@
 //! What each step of the table tells its seat.
 
-ghost use Rattle.at_board.specs.DecideSteps.{decided_round};
-ghost use Rattle.at_board.specs.Plays.{announced_request, loaded_announced, loaded_length, loaded_request_word, loaded_word, published_record, stored_request_word, stored_word};
+ghost use Rattle.at_board.specs.Steps.Decide.{decided_round};
+ghost use Rattle.at_board.specs.Steps.Plays.{announced_request, loaded_announced, loaded_length, loaded_request_word, loaded_word, published_record, stored_request_word, stored_word};
 
-use crate::view::View;
+use crate::knowledge::Knowledge;
 use atomic_table::{Join, Play, Split};
 
 pub(crate) struct LoadLength;
 
-impl Play<(), View> for LoadLength {
+impl Play<(), Knowledge> for LoadLength {
     ghost then = { loaded_length };
 }
 
 pub(crate) struct LoadWord;
 
-impl Play<(), View> for LoadWord {
+impl Play<(), Knowledge> for LoadWord {
     ghost then = { loaded_word };
 }
 
 pub(crate) struct StoreWord;
 
-impl Play<(), View> for StoreWord {
+impl Play<(), Knowledge> for StoreWord {
     ghost then = { stored_word };
 }
 
 pub(crate) struct Publish;
 
-impl Play<(), View> for Publish {
+impl Play<(), Knowledge> for Publish {
     ghost then = { published_record };
 }
 
 pub(crate) struct LoadAnnounced;
 
-impl Play<(), View> for LoadAnnounced {
+impl Play<(), Knowledge> for LoadAnnounced {
     ghost then = { loaded_announced };
 }
 
 pub(crate) struct LoadRequestWord;
 
-impl Play<(), View> for LoadRequestWord {
+impl Play<(), Knowledge> for LoadRequestWord {
     ghost then = { loaded_request_word };
 }
 
 pub(crate) struct StoreRequestWord;
 
-impl Play<(), View> for StoreRequestWord {
+impl Play<(), Knowledge> for StoreRequestWord {
     ghost then = { stored_request_word };
 }
 
 pub(crate) struct Announce;
 
-impl Play<(), View> for Announce {
+impl Play<(), Knowledge> for Announce {
     ghost then = { announced_request };
 }
 
 pub(crate) struct Decide;
 
-impl Play<(), View> for Decide {
+impl Play<(), Knowledge> for Decide {
     ghost then = { decided_round };
 }
 
 pub(crate) struct Cut;
 
-impl Split<View> for Cut {
-    ghost use Rattle.at_board.specs.Cuts.{first_part, other_parts};
+impl Split<Knowledge> for Cut {
+    ghost use Rattle.at_board.specs.Ends.Opening.{first_part, other_parts};
 
     ghost left = { first_part };
 
@@ -72,8 +72,8 @@ impl Split<View> for Cut {
 
 pub(crate) struct Note;
 
-impl Split<View> for Note {
-    ghost use Rattle.at_board.specs.NoteSteps.{noted};
+impl Split<Knowledge> for Note {
+    ghost use Rattle.at_board.specs.Steps.Note.{noted};
 
     ghost left = { λ v. v };
 
@@ -82,21 +82,21 @@ impl Split<View> for Note {
 
 pub(crate) struct Learn;
 
-impl Join<View> for Learn {
-    ghost use Rattle.at_board.specs.LearnSteps.{learned, spent_view};
+impl Join<Knowledge> for Learn {
+    ghost use Rattle.at_board.specs.Steps.Learn.{learned, spent_knowledge};
 
     ghost both = { learned };
 
-    ghost spent = { spent_view };
+    ghost spent = { spent_knowledge };
 }
 
 pub(crate) struct Gather;
 
-impl Join<View> for Gather {
-    ghost use Rattle.at_board.specs.Ends.{gathered};
-    ghost use Rattle.at_board.specs.LearnSteps.{spent_view};
+impl Join<Knowledge> for Gather {
+    ghost use Rattle.at_board.specs.Ends.Closing.{gathered};
+    ghost use Rattle.at_board.specs.Steps.Learn.{spent_knowledge};
 
     ghost both = { gathered };
 
-    ghost spent = { spent_view };
+    ghost spent = { spent_knowledge };
 }

@@ -1,10 +1,10 @@
 //! A record is published on a small board, and another process reads it.
 
 ghost use Rattle.std.specs.Prelude.{◌≡◌, ◌<◌, [], ◌∷◌, IsTrue};
-ghost use Rattle.at_board.specs.Cuts.{starting_seat};
-ghost use Rattle.at_board.specs.Publications.{count_of};
+ghost use Rattle.at_board.specs.Ends.Opening.{starting_seat};
+ghost use Rattle.at_history.specs.Publications.{count_of};
 ghost use Rattle.at_board.specs.SmallBoard.{IsIdle};
-ghost use Rattle.at_board.specs.Sound.{IsSoundOwn};
+ghost use Rattle.at_history.specs.Sound.{IsSoundOwn};
 
 use crate::request_tests::{book_of, last_seat, new_pair};
 use crate::round_tests::{close_two, has_record};
@@ -41,11 +41,11 @@ fn pay<L: Ledger, X: Ledger>(
     exchanges: &mut Steps<X>,
 )
     requires board { seat.old.board ≡ board.now.id }
-    requires new { seat.old.view ≡ starting_seat board.now.book seat.old.view.first }
-    requires pays { IsSoundOwn board.now.book seat.old.view.first [] 0 ((1, 30) ∷ []) }
+    requires new { seat.old.knows ≡ starting_seat board.now.book seat.old.knows.first }
+    requires pays { IsSoundOwn board.now.book seat.old.knows.first [] 0 ((1, 30) ∷ []) }
     ensures idle { IsIdle board.now seat.new }
-    ensures process { seat.new.view.first ≡ seat.old.view.first }
-    ensures published { 0 < count_of seat.new.view.first seat.new.view.seen }
+    ensures process { seat.new.knows.first ≡ seat.old.knows.first }
+    ensures published { 0 < count_of seat.new.knows.first seat.new.knows.seen }
 {
     let _accounts = board.book().accounts();
     let _process = seat.process();
@@ -64,9 +64,9 @@ fn told_words<L: Ledger, X: Ledger>(
 ) -> (u64, u64)
     requires seat { IsIdle board.now seat.old }
     requires other { IsIdle board.now other.old }
-    requires published { 0 < count_of seat.old.view.first seat.old.view.seen }
+    requires published { 0 < count_of seat.old.knows.first seat.old.knows.seen }
     ensures seat { seat.new ≡ seat.old }
-    ensures other { IsIdle board.now other.new × (other.new.view.first ≡ other.old.view.first) }
+    ensures other { IsIdle board.now other.new × (other.new.knows.first ≡ other.old.knows.first) }
 {
     let note = board.note(seat, steps, exchanges);
     board.learn(other, note, steps, exchanges);

@@ -1,14 +1,14 @@
 //! Loads of published records.
 
 ghost use Rattle.std.specs.Prelude.{◌≡◌, ◌+◌};
-ghost use Rattle.at_board.specs.Conditions.{MayLoadWord};
-ghost use Rattle.at_board.specs.RecordWords.{IsRecordWord};
-ghost use Rattle.at_board.specs.SeatView.{IsOf};
+ghost use Rattle.at_board.specs.Steps.LoadRecordWord.{MayLoadWord};
+ghost use Rattle.at_board.specs.Knowledge.Records.{IsRecordWord};
+ghost use Rattle.at_board.specs.Knowledge.Seats.{IsOf};
 
 use crate::board::Board;
 use crate::plays::LoadWord;
 use crate::seat::BoardSeat;
-use crate::steps::Steps;
+use crate::counter::Steps;
 use std::sync::ledger::Ledger;
 
 impl Board {
@@ -23,15 +23,15 @@ impl Board {
         exchanges: &mut Steps<X>,
     ) -> u64
         requires board { IsOf seat.old self.now }
-        requires record { MayLoadWord self.now.book seat.old.view p i j }
-        ensures word { IsRecordWord seat.old.view p i j result }
+        requires record { MayLoadWord self.now.book seat.old.knows p i j }
+        ensures word { IsRecordWord seat.old.knows p i j result }
         ensures same { seat.new ≡ seat.old }
         ensures steps { steps.new ≡ steps.old + 1 }
         ensures exchanges { exchanges.new ≡ exchanges.old }
     {
         steps.tick();
         let _process = seat.process;
-        let place = self.record_place(p, i, j);
+        let place = self.record_index_of(p, i, j);
         self.table.shared.load::<LoadWord>(&mut seat.seat, place)
     }
 }

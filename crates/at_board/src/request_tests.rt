@@ -2,11 +2,12 @@
 
 ghost use Rattle.std.specs.Prelude.{◌≡◌, ℕ, ◌<◌, length, slice_index_or, IfOk, IfSome};
 ghost use Rattle.at_ledger.specs.Book.{account_of};
-ghost use Rattle.at_board.specs.Cuts.{starting_seat};
-ghost use Rattle.at_board.specs.Places.{slots_of};
-ghost use Rattle.at_board.specs.SeatView.{IsOf, SeatView};
+ghost use Rattle.at_board.specs.Ends.Opening.{starting_seat};
+ghost use Rattle.at_ledger.specs.Account.{slots_of};
+ghost use Rattle.at_board.specs.Knowledge.Seats.{IsOf, SeatTerms};
 ghost use Rattle.at_board.specs.SmallBoard.{AreNewPair, IsIdle, payment};
-ghost use Rattle.at_board.specs.Views.{HasSlot, SeesRequest, own_part};
+ghost use Rattle.at_ledger.specs.Book.{HasSlot};
+ghost use Rattle.at_board.specs.Knowledge.Parts.{SeesRequest, own_part};
 
 use crate::{Board, BoardSeat, Steps};
 use at_ledger::{Book, Draft, DraftAccount};
@@ -47,10 +48,10 @@ pub(crate) fn slot_on(book: &Book, account: u32, process: u32) -> Option<u32>
 
 /// The last of the seats that are left of a new board's.
 pub(crate) fn last_seat(board: &Board, seats: &mut Vec<BoardSeat>) -> Option<BoardSeat>
-    requires { (p : ℕ) (d : SeatView) → p < length seats.old.items → slice_index_or seats.old.items p d ≡ record { board = board.now.id; view = starting_seat board.now.book p } }
-    ensures seat { IfSome result (λ seat. (seat.board ≡ board.now.id) × (seat.view ≡ starting_seat board.now.book seat.view.first)) }
+    requires { (p : ℕ) (d : SeatTerms) → p < length seats.old.items → slice_index_or seats.old.items p d ≡ record { board = board.now.id; view = starting_seat board.now.book p } }
+    ensures seat { IfSome result (λ seat. (seat.board ≡ board.now.id) × (seat.knows ≡ starting_seat board.now.book seat.knows.first)) }
     ensures idle { IfSome result (λ seat. IsIdle board.now seat) }
-    ensures rest { (p : ℕ) (d : SeatView) → p < length seats.new.items → slice_index_or seats.new.items p d ≡ record { board = board.now.id; view = starting_seat board.now.book p } }
+    ensures rest { (p : ℕ) (d : SeatTerms) → p < length seats.new.items → slice_index_or seats.new.items p d ≡ record { board = board.now.id; view = starting_seat board.now.book p } }
 {
     seats.pop()
 }
@@ -80,12 +81,12 @@ pub(crate) fn ask<L: Ledger, X: Ledger>(
     exchanges: &mut Steps<X>,
 )
     requires board { seat.old.board ≡ board.now.id }
-    requires new { seat.old.view ≡ starting_seat board.now.book seat.old.view.first }
-    requires slot { (slot : ℕ) × HasSlot board.now.book seat.old.view.first 0 slot }
+    requires new { seat.old.knows ≡ starting_seat board.now.book seat.old.knows.first }
+    requires slot { (slot : ℕ) × HasSlot board.now.book seat.old.knows.first 0 slot }
     ensures board { IsOf seat.new board.now }
-    ensures process { seat.new.view.first ≡ seat.old.view.first }
-    ensures request { (slot : ℕ) → HasSlot board.now.book seat.old.view.first 0 slot → SeesRequest seat.new.view 0 slot 0 payment }
-    ensures part { own_part seat.new.view ≡ record (own_part seat.old.view) { asking = (own_part seat.new.view).asking } }
+    ensures process { seat.new.knows.first ≡ seat.old.knows.first }
+    ensures request { (slot : ℕ) → HasSlot board.now.book seat.old.knows.first 0 slot → SeesRequest seat.new.knows 0 slot 0 payment }
+    ensures part { own_part seat.new.knows ≡ record (own_part seat.old.knows) { asking = (own_part seat.new.knows).asking } }
 {
     let _accounts = board.book().accounts();
     let _process = seat.process();

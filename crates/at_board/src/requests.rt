@@ -2,27 +2,33 @@
 
 ghost use Rattle.std.specs.Prelude.{◌≡◌, ℕ, ◌+◌, ◌<◌, ◌≤◌, length, sum_by, take};
 ghost use Rattle.at_ledger.specs.Book.{account_of};
-ghost use Rattle.at_board.specs.declared.request.Request.{Request};
-ghost use Rattle.at_board.specs.Conditions.{MayAnnounce, MayAsk};
-ghost use Rattle.at_board.specs.Places.{IsPlace, announced_of, place_at, request_word, slots_of};
-ghost use Rattle.at_board.specs.RequestConditions.{MayLoadRequest};
-ghost use Rattle.at_board.specs.RequestSteps.{Announces, LoadsAnnounced, LoadsRequestWord, StoresRequestWord};
-ghost use Rattle.at_board.specs.SeatView.{IsOf};
-ghost use Rattle.at_board.specs.Views.{HasSlot, asking_on, own_part};
+ghost use Rattle.at_history.specs.declared.request.Request.{Request};
+ghost use Rattle.at_board.specs.Steps.Announce.{MayAnnounce};
+ghost use Rattle.at_board.specs.Steps.StoreRequestWord.{MayAsk};
+ghost use Rattle.at_ledger.specs.Account.{slots_of};
+ghost use Rattle.at_board.specs.Words.Addresses.{IsAddress, announced_of, index_of, request_word};
+ghost use Rattle.at_board.specs.Steps.LoadRequestWord.{MayLoadRequest};
+ghost use Rattle.at_board.specs.Steps.Announce.{Announces};
+ghost use Rattle.at_board.specs.Steps.LoadAnnounced.{LoadsAnnounced};
+ghost use Rattle.at_board.specs.Steps.LoadRequestWord.{LoadsRequestWord};
+ghost use Rattle.at_board.specs.Steps.StoreRequestWord.{StoresRequestWord};
+ghost use Rattle.at_board.specs.Knowledge.Seats.{IsOf};
+ghost use Rattle.at_ledger.specs.Book.{HasSlot};
+ghost use Rattle.at_board.specs.Knowledge.Parts.{asking_on, own_part};
 
 use crate::board::Board;
 use crate::plays::{Announce, LoadAnnounced, LoadRequestWord, StoreRequestWord};
-use crate::request::REQUEST_WORDS;
+use crate::words::REQUEST_WORDS;
 use crate::seat::BoardSeat;
-use crate::steps::Steps;
+use crate::counter::Steps;
 use std::sync::ledger::Ledger;
 
 impl Board {
     /// How many requests the seat's process has announced on an account that it shares. It makes no step.
     pub fn announced(&self, seat: &BoardSeat, account: u32) -> u32
         requires board { IsOf seat.now self.now }
-        requires slot { (slot : ℕ) × HasSlot self.now.book seat.now.view.first account slot }
-        ensures { result ≡ length (asking_on (own_part seat.now.view) account).announced }
+        requires slot { (slot : ℕ) × HasSlot self.now.book seat.now.knows.first account slot }
+        ensures { result ≡ length (asking_on (own_part seat.now.knows) account).announced }
     {
         seat.announced[account as usize]
     }
@@ -39,9 +45,9 @@ impl Board {
         exchanges: &mut Steps<X>,
     )
         requires board { IsOf seat.old self.now }
-        requires asks { (slot : ℕ) × MayAsk self.now.book seat.old.view account slot }
+        requires asks { (slot : ℕ) × MayAsk self.now.book seat.old.knows account slot }
         requires word { j < REQUEST_WORDS }
-        ensures stored { StoresRequestWord seat.old.view seat.new.view account j w }
+        ensures stored { StoresRequestWord seat.old.knows seat.new.knows account j w }
         ensures board { seat.new.board ≡ seat.old.board }
         ensures steps { steps.new ≡ steps.old + 1 }
         ensures exchanges { exchanges.new ≡ exchanges.old }
@@ -49,7 +55,7 @@ impl Board {
         steps.tick();
         let slot = self.own_slot(account, seat.process());
         let next = self.announced(seat, account);
-        let place = self.request_place(account, slot, next, j);
+        let place = self.request_index(account, slot, next, j);
         self.table
             .shared
             .store::<StoreRequestWord>(&mut seat.seat, place, w);
@@ -65,8 +71,8 @@ impl Board {
         exchanges: &mut Steps<X>,
     )
         requires board { IsOf seat.old self.now }
-        requires request { (slot : ℕ) × (r : Request) × MayAnnounce self.now.book seat.old.view account slot r }
-        ensures announced { (slot : ℕ) (r : Request) → MayAnnounce self.now.book seat.old.view account slot r → Announces self.now.book seat.old.view seat.new.view account slot r }
+        requires request { (slot : ℕ) × (r : Request) × MayAnnounce self.now.book seat.old.knows account slot r }
+        ensures announced { (slot : ℕ) (r : Request) → MayAnnounce self.now.book seat.old.knows account slot r → Announces self.now.book seat.old.knows seat.new.knows account slot r }
         ensures board { seat.new.board ≡ seat.old.board }
         ensures steps { steps.new ≡ steps.old + 1 }
         ensures exchanges { exchanges.new ≡ exchanges.old }
@@ -74,7 +80,7 @@ impl Board {
         steps.tick();
         let own = self.own_slot(account, seat.process());
         let count = self.announced(seat, account) + 1;
-        let place = self.announced_place(account, own);
+        let place = self.announced_index(account, own);
         self.table
             .shared
             .store::<Announce>(&mut seat.seat, place, u64::from(count));
@@ -94,13 +100,13 @@ impl Board {
         requires board { IsOf seat.old self.now }
         requires account { account < length self.now.book.accounts }
         requires slot { slot < slots_of (account_of self.now.book account) }
-        ensures told { LoadsAnnounced self.now.book seat.old.view seat.new.view account slot result }
+        ensures told { LoadsAnnounced self.now.book seat.old.knows seat.new.knows account slot result }
         ensures board { seat.new.board ≡ seat.old.board }
         ensures steps { steps.new ≡ steps.old + 1 }
         ensures exchanges { exchanges.new ≡ exchanges.old }
     {
         steps.tick();
-        let place = self.announced_place(account, slot);
+        let place = self.announced_index(account, slot);
         let count = self
             .table
             .shared
@@ -120,15 +126,15 @@ impl Board {
         exchanges: &mut Steps<X>,
     ) -> u64
         requires board { IsOf seat.old self.now }
-        requires request { MayLoadRequest seat.old.view account slot number j }
-        ensures told { LoadsRequestWord self.now.book seat.old.view seat.new.view account slot number j result }
+        requires request { MayLoadRequest seat.old.knows account slot number j }
+        ensures told { LoadsRequestWord self.now.book seat.old.knows seat.new.knows account slot number j result }
         ensures board { seat.new.board ≡ seat.old.board }
         ensures steps { steps.new ≡ steps.old + 1 }
         ensures exchanges { exchanges.new ≡ exchanges.old }
     {
         steps.tick();
         let _process = seat.process();
-        let place = self.request_place(account, slot, number, j);
+        let place = self.request_index(account, slot, number, j);
         self.table
             .shared
             .load::<LoadRequestWord>(&mut seat.seat, place)
@@ -143,17 +149,17 @@ impl Board {
     }
 
     /// Where the announced word of a slot stands.
-    fn announced_place(&self, account: u32, slot: u32) -> usize
-        requires { IsPlace self.now.book (announced_of account slot) }
-        ensures place { result ≡ place_at self.now.book (announced_of account slot) }
+    fn announced_index(&self, account: u32, slot: u32) -> usize
+        requires { IsAddress self.now.book (announced_of account slot) }
+        ensures place { result ≡ index_of self.now.book (announced_of account slot) }
     {
         self.slots_start + self.first_slot(account) + slot as usize
     }
 
     /// Where a word of a request stands.
-    fn request_place(&self, account: u32, slot: u32, number: u32, j: u32) -> usize
-        requires { IsPlace self.now.book (request_word account slot number j) }
-        ensures place { result ≡ place_at self.now.book (request_word account slot number j) }
+    fn request_index(&self, account: u32, slot: u32, number: u32, j: u32) -> usize
+        requires { IsAddress self.now.book (request_word account slot number j) }
+        ensures place { result ≡ index_of self.now.book (request_word account slot number j) }
     {
         let start = self.slots_start + self.first_slot(self.book.accounts());
         let slots = self.first_slot(account) + slot as usize;

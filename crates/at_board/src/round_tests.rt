@@ -2,12 +2,13 @@
 
 ghost use Rattle.std.specs.Prelude.{◌≡◌, ℕ, ◌<◌, ◌≤◌, length, None, IfOk};
 ghost use Rattle.at_ledger.specs.Book.{account_of};
-ghost use Rattle.at_board.specs.Cuts.{starting_seat};
-ghost use Rattle.at_board.specs.DecideSteps.{Decides};
-ghost use Rattle.at_board.specs.Places.{record_width};
-ghost use Rattle.at_board.specs.SeatView.{IsOf};
+ghost use Rattle.at_board.specs.Ends.Opening.{starting_seat};
+ghost use Rattle.at_board.specs.Steps.Decide.{Decides};
+ghost use Rattle.at_board.specs.Words.Addresses.{record_width};
+ghost use Rattle.at_board.specs.Knowledge.Seats.{IsOf};
 ghost use Rattle.at_board.specs.SmallBoard.{HasWon, IsIdle, first_decision, payment};
-ghost use Rattle.at_board.specs.Views.{HasSlot, SeesRequest, own_part};
+ghost use Rattle.at_ledger.specs.Book.{HasSlot};
+ghost use Rattle.at_board.specs.Knowledge.Parts.{SeesRequest, own_part};
 
 use crate::request_tests::{ask, new_pair, slot_on};
 use crate::{Board, BoardEnd, BoardSeat, Steps};
@@ -27,13 +28,13 @@ fn decide_first<L: Ledger, X: Ledger>(
     exchanges: &mut Steps<X>,
 ) -> u64
     requires board { IsOf seat.old board.now }
-    requires owner { (own : ℕ) × HasSlot board.now.book seat.old.view.first 0 own }
+    requires owner { (own : ℕ) × HasSlot board.now.book seat.old.knows.first 0 own }
     requires slot { slot < 8 }
-    requires request { SeesRequest seat.old.view 0 slot 0 payment }
+    requires request { SeesRequest seat.old.knows 0 slot 0 payment }
     requires covered { 7 ≤ (account_of board.now.book 0).opening }
-    requires free { (own_part seat.old.view).held ≡ None }
+    requires free { (own_part seat.old.knows).held ≡ None }
     ensures board { seat.new.board ≡ seat.old.board }
-    ensures decided { Decides board.now.book seat.old.view seat.new.view 0 0 (first_decision slot) result }
+    ensures decided { Decides board.now.book seat.old.knows seat.new.knows 0 0 (first_decision slot) result }
 {
     let _accounts = board.book().accounts();
     board.decide(seat, 0, 0, 2 + 2 * u64::from(slot), steps, exchanges)
@@ -48,10 +49,10 @@ fn publish_round<L: Ledger, X: Ledger>(
     exchanges: &mut Steps<X>,
 )
     requires board { IsOf seat.old board.now }
-    requires slot { HasSlot board.now.book seat.old.view.first 0 slot }
-    requires won { HasWon board.now.book seat.old.view slot }
+    requires slot { HasSlot board.now.book seat.old.knows.first 0 slot }
+    requires won { HasWon board.now.book seat.old.knows slot }
     ensures idle { IsIdle board.now seat.new }
-    ensures process { seat.new.view.first ≡ seat.old.view.first }
+    ensures process { seat.new.knows.first ≡ seat.old.knows.first }
 {
     let _accounts = board.book().accounts();
     let _process = seat.process();
@@ -72,12 +73,12 @@ pub(crate) fn settle<L: Ledger, X: Ledger>(
     exchanges: &mut Steps<X>,
 ) -> u64
     requires board { seat.old.board ≡ board.now.id }
-    requires new { seat.old.view ≡ starting_seat board.now.book seat.old.view.first }
-    requires slot { HasSlot board.now.book seat.old.view.first 0 slot }
+    requires new { seat.old.knows ≡ starting_seat board.now.book seat.old.knows.first }
+    requires slot { HasSlot board.now.book seat.old.knows.first 0 slot }
     requires small { slot < 8 }
     requires covered { 7 ≤ (account_of board.now.book 0).opening }
     ensures idle { IsIdle board.now seat.new }
-    ensures process { seat.new.view.first ≡ seat.old.view.first }
+    ensures process { seat.new.knows.first ≡ seat.old.knows.first }
 {
     ask(board, seat, steps, exchanges);
     let _process = seat.process();
@@ -97,8 +98,8 @@ pub(crate) fn close_two(
     one: BoardSeat,
 ) -> Result<BoardEnd, AllocError>
     requires two { board.book.processes ≡ 2 }
-    requires zero { IsIdle board zero × (zero.view.first ≡ 0) }
-    requires one { IsIdle board one × (one.view.first ≡ 1) }
+    requires zero { IsIdle board zero × (zero.knows.first ≡ 0) }
+    requires one { IsIdle board one × (one.knows.first ≡ 1) }
     ensures { IfOk result (λ e. e.book ≡ board.book) }
 {
     let seats = vec![in alloc; zero, one]?;

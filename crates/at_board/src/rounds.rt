@@ -1,15 +1,15 @@
 //! Rounds of shared accounts: which request is decided next.
 
 ghost use Rattle.std.specs.Prelude.{◌≡◌, ◌+◌};
-ghost use Rattle.at_board.specs.DecideSteps.{DecidesBy, IsProposal, word_after};
-ghost use Rattle.at_board.specs.Places.{IsPlace, cell_of, place_at};
-ghost use Rattle.at_board.specs.SeatView.{IsOf};
+ghost use Rattle.at_board.specs.Steps.Decide.{DecidesBy, IsProposal, word_after};
+ghost use Rattle.at_board.specs.Words.Addresses.{IsAddress, cell_of, index_of};
+ghost use Rattle.at_board.specs.Knowledge.Seats.{IsOf};
 
 use crate::board::Board;
 use crate::plays::Decide;
-use crate::request::REQUEST_WORDS;
+use crate::words::REQUEST_WORDS;
 use crate::seat::BoardSeat;
-use crate::steps::Steps;
+use crate::counter::Steps;
 use std::sync::ledger::Ledger;
 
 impl Board {
@@ -28,8 +28,8 @@ impl Board {
         exchanges: &mut Steps<X>,
     ) -> u64
         requires board { IsOf seat.old self.now }
-        requires proposal { IsProposal self.now.book seat.old.view account round proposal }
-        ensures decided { DecidesBy self.now.book seat.old.view seat.new.view account round proposal result }
+        requires proposal { IsProposal self.now.book seat.old.knows account round proposal }
+        ensures decided { DecidesBy self.now.book seat.old.knows seat.new.knows account round proposal result }
         ensures board { seat.new.board ≡ seat.old.board }
         ensures steps { steps.new ≡ steps.old + 1 }
         ensures exchanges { exchanges.new ≡ exchanges.old + 1 }
@@ -37,7 +37,7 @@ impl Board {
         steps.tick();
         exchanges.tick();
         let _process = seat.process();
-        let place = self.cell_place(account, round);
+        let place = self.cell_index(account, round);
         let found = self
             .table
             .shared
@@ -46,9 +46,9 @@ impl Board {
     }
 
     /// Where the cell of a round stands.
-    fn cell_place(&self, account: u32, round: u32) -> usize
-        requires { IsPlace self.now.book (cell_of account round) }
-        ensures place { result ≡ place_at self.now.book (cell_of account round) }
+    fn cell_index(&self, account: u32, round: u32) -> usize
+        requires { IsAddress self.now.book (cell_of account round) }
+        ensures place { result ≡ index_of self.now.book (cell_of account round) }
     {
         let slots = self.first_slot(self.book.accounts());
         let room = self.book.request_room() as usize;

@@ -1,9 +1,9 @@
 //! The rule of the board's table.
 
-ghost use Rattle.at_board.specs.Seated.{Ruled};
-ghost use Rattle.at_board.specs.Views.{starting_view};
+ghost use Rattle.at_board.specs.Rule.{Ruled};
+ghost use Rattle.at_board.specs.Knowledge.Parts.{starting_knowledge};
 
-use crate::view::View;
+use crate::knowledge::Knowledge;
 use at_ledger::Book;
 use atomic_table::TableRule;
 use std::snapshot::Snapshot;
@@ -11,8 +11,8 @@ use std::snapshot::Snapshot;
 /// The words stand for a sound state of the board, and whatever a seat or a note has seen is in it.
 pub(crate) struct BoardRule {}
 
-impl TableRule<(), View, Snapshot<Book>> for BoardRule {
+impl TableRule<(), Knowledge, Snapshot<Book>> for BoardRule {
     ghost holds = { λ key s. Ruled key.value s.words s.views };
 
-    ghost first = { λ key. starting_view key.value };
+    ghost first = { λ key. starting_knowledge key.value };
 }

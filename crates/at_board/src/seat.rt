@@ -2,7 +2,7 @@
 
 ghost use Rattle.std.specs.Prelude.{◌≡◌, [], length};
 
-use crate::view::View;
+use crate::knowledge::Knowledge;
 use atomic_table::Seat;
 use std::marker::Model;
 
@@ -10,7 +10,7 @@ use std::marker::Model;
 /// with all its seats, so where one is dropped the board can't be closed.
 #[derive(Drop)]
 pub struct BoardSeat {
-    pub(crate) seat: Seat<(), View>,
+    pub(crate) seat: Seat<(), Knowledge>,
     pub(crate) process: u32,
     pub(crate) published: u32,
     /// How many requests the process has announced on each account.
@@ -19,20 +19,20 @@ pub struct BoardSeat {
 
 impl Model for BoardSeat {
     ghost use Rattle.std.specs.Prelude.{◌≡◌, []};
-    ghost use Rattle.at_board.specs.SeatCounts.{HasCounts};
-    ghost use Rattle.at_board.specs.SeatView.{IsSeat, SeatView};
+    ghost use Rattle.at_board.specs.Knowledge.Seats.{HasCounts};
+    ghost use Rattle.at_board.specs.Knowledge.Seats.{IsSeat, SeatTerms};
 
-    ghost Value = { SeatView };
+    ghost Value = { SeatTerms };
 
-    ghost view = { λ s. record { board = s.seat.table_id; view = s.seat.me.0 } };
+    ghost view = { λ s. record { board = s.seat.table_id; knows = s.seat.me.0 } };
 
     ghost invariant = { λ s. (s.seat.me.1 ≡ []) × IsSeat s.seat.me.0 s.process s.published
         × HasCounts s.seat.me.0 s.announced.items };
 }
 
 impl BoardSeat {
-    ghost use Rattle.at_board.specs.SeatView.{IsSeat};
-    ghost use Rattle.at_board.specs.Views.{own_part};
+    ghost use Rattle.at_board.specs.Knowledge.Seats.{IsSeat};
+    ghost use Rattle.at_board.specs.Knowledge.Parts.{own_part};
 
     /// The process that the seat belongs to. The call makes no step. It tells a proof what the seat's type keeps.
     pub fn process(&self) -> u32
@@ -50,7 +50,7 @@ impl BoardSeat {
     }
 
     /// The seat of the table.
-    pub(crate) fn into_seat(self) -> Seat<(), View>
+    pub(crate) fn into_seat(self) -> Seat<(), Knowledge>
         ensures table { result.table_id ≡ self.board }
         ensures empty { result.me.1 ≡ [] }
         ensures view { result.me.0 ≡ self.view }

@@ -1,10 +1,9 @@
 //! How many slots stand before those of each account.
 
 ghost use Rattle.std.specs.Prelude.{IfOk};
-ghost use Rattle.at_board.specs.Places.{AreSlotsBefore};
+ghost use Rattle.at_board.specs.Words.Addresses.{AreSlotsBefore};
 
 use crate::NoMemory;
-use crate::word_count::slots_at;
 use at_ledger::Book;
 use std::alloc::Global;
 
@@ -16,7 +15,7 @@ pub(crate) fn slots_before(alloc: Global, book: &Book) -> Result<Vec<u32>, NoMem
     let mut next = 0;
     for account in 0..book.accounts() {
         before.push(next)?;
-        next += slots_at(book, account);
+        next += book.slot_count(account);
     }
     before.push(next)?;
     Ok(before)

@@ -1,11 +1,11 @@
 //! Four threads publish, load and decide at once on one board, and the closed board has what they were told.
 
 ghost use Rattle.std.specs.Prelude.{◌≡◌, ℕ, ◌<◌, [], ◌∷◌, length, slice_index_or, IfOk, IfSome, IsTrue};
-ghost use Rattle.at_board.specs.Cuts.{starting_seat};
-ghost use Rattle.at_board.specs.SeatView.{SeatView};
+ghost use Rattle.at_board.specs.Ends.Opening.{starting_seat};
+ghost use Rattle.at_board.specs.Knowledge.Seats.{SeatTerms};
 ghost use Rattle.at_board.specs.SmallBoard.{HasOwnAccount, IsIdle, IsNewPlayer, IsOwnFront, MayPlay};
-ghost use Rattle.at_board.specs.Steps.{LoadsLength};
-ghost use Rattle.at_board.specs.Views.{own_part};
+ghost use Rattle.at_board.specs.Steps.LoadLength.{LoadsLength};
+ghost use Rattle.at_board.specs.Knowledge.Parts.{own_part};
 
 use crate::request_tests::{book_of, last_seat, slot_on};
 use crate::round_tests::{has_record, settle};
@@ -70,7 +70,7 @@ pub(crate) fn look<L: Ledger, X: Ledger>(
     requires idle { IsIdle board.now seat.old }
     requires process { p < board.now.book.processes }
     ensures idle { IsIdle board.now seat.new }
-    ensures told { LoadsLength board.now.book seat.old.view seat.new.view p result }
+    ensures told { LoadsLength board.now.book seat.old.knows seat.new.knows p result }
 {
     board.load_length(seat, p, steps, exchanges)
 }
@@ -85,8 +85,8 @@ fn front<L: Ledger, X: Ledger>(
     requires idle { IsIdle board.now seat.old }
     requires four { board.now.book.processes ≡ 4 }
     ensures idle { IsIdle board.now seat.new }
-    ensures process { seat.new.view.first ≡ seat.old.view.first }
-    ensures front { IfSome result (λ view. IsOwnFront board.now.book seat.new.view view) }
+    ensures process { seat.new.knows.first ≡ seat.old.knows.first }
+    ensures front { IfSome result (λ view. IsOwnFront board.now.book seat.new.knows view) }
 {
     let _process = seat.process();
     let a = look(board, seat, 0, steps, exchanges);
@@ -112,11 +112,11 @@ fn move_nothing<L: Ledger, X: Ledger>(
 )
     requires idle { IsIdle board.now seat.old }
     requires four { board.now.book.processes ≡ 4 }
-    requires owner { HasOwnAccount board.now.book seat.old.view.first }
-    requires room { (own_part seat.old.view).published < board.now.book.own_room }
-    requires view { IsOwnFront board.now.book seat.old.view view.now }
+    requires owner { HasOwnAccount board.now.book seat.old.knows.first }
+    requires room { (own_part seat.old.knows).published < board.now.book.own_room }
+    requires view { IsOwnFront board.now.book seat.old.knows view.now }
     ensures idle { IsIdle board.now seat.new }
-    ensures process { seat.new.view.first ≡ seat.old.view.first }
+    ensures process { seat.new.knows.first ≡ seat.old.knows.first }
 {
     let _accounts = board.book().accounts();
     let head = 2 * (u64::from(seat.process()) + 1);
@@ -166,7 +166,7 @@ fn play<L: Ledger, X: Ledger>(
     requires four { board.now.book.processes ≡ 4 }
     requires player { IsNewPlayer board.now seat.old }
     ensures idle { IsIdle board.now seat.new }
-    ensures process { seat.new.view.first ≡ seat.old.view.first }
+    ensures process { seat.new.knows.first ≡ seat.old.knows.first }
 {
     let (steps, exchanges) = (&mut Steps::<L>::new(steps), &mut Steps::<X>::new(exchanges));
     let process = seat.process();
@@ -198,7 +198,7 @@ fn play_alone(
     requires four { board.now.book.processes ≡ 4 }
     requires player { IsNewPlayer board.now seat.old }
     ensures idle { IsIdle board.now seat.new }
-    ensures process { seat.new.view.first ≡ seat.old.view.first }
+    ensures process { seat.new.knows.first ≡ seat.old.knows.first }
 {
     wait_for_all(gate);
     play::<Brand, Brand>(board, alloc, seat, Blank::new(1), Blank::new(1))
@@ -216,8 +216,8 @@ fn play_two<R: Threads>(
     requires four { board.now.book.processes ≡ 4 }
     requires one { IsNewPlayer board.now one.old }
     requires other { IsNewPlayer board.now other.old }
-    ensures one { IsIdle board.now one.new × (one.new.view.first ≡ one.old.view.first) }
-    ensures other { IsIdle board.now other.new × (other.new.view.first ≡ other.old.view.first) }
+    ensures one { IsIdle board.now one.new × (one.new.knows.first ≡ one.old.knows.first) }
+    ensures other { IsIdle board.now other.new × (other.new.knows.first ≡ other.old.knows.first) }
 {
     join_mut(
         rt,
@@ -241,10 +241,10 @@ fn play_four<R: Threads + Sync>(
     requires one { IsNewPlayer board.now one.old }
     requires two { IsNewPlayer board.now two.old }
     requires three { IsNewPlayer board.now three.old }
-    ensures zero { IsIdle board.now zero.new × (zero.new.view.first ≡ zero.old.view.first) }
-    ensures one { IsIdle board.now one.new × (one.new.view.first ≡ one.old.view.first) }
-    ensures two { IsIdle board.now two.new × (two.new.view.first ≡ two.old.view.first) }
-    ensures three { IsIdle board.now three.new × (three.new.view.first ≡ three.old.view.first) }
+    ensures zero { IsIdle board.now zero.new × (zero.new.knows.first ≡ zero.old.knows.first) }
+    ensures one { IsIdle board.now one.new × (one.new.knows.first ≡ one.old.knows.first) }
+    ensures two { IsIdle board.now two.new × (two.new.knows.first ≡ two.old.knows.first) }
+    ensures three { IsIdle board.now three.new × (three.new.knows.first ≡ three.old.knows.first) }
 {
     let gate = &AtomicU64::new(0);
     let ((a, b), (c, d)) = join_mut(
@@ -258,10 +258,10 @@ fn play_four<R: Threads + Sync>(
 /// The last of the seats that are left, if it is that of this process, which may play.
 fn last_player(board: &Board, seats: &mut Vec<BoardSeat>, process: u32) -> Option<BoardSeat>
     requires process { process < 4 }
-    requires new { (p : ℕ) (d : SeatView) → p < length seats.old.items → slice_index_or seats.old.items p d ≡ record { board = board.now.id; view = starting_seat board.now.book p } }
+    requires new { (p : ℕ) (d : SeatTerms) → p < length seats.old.items → slice_index_or seats.old.items p d ≡ record { board = board.now.id; view = starting_seat board.now.book p } }
     ensures player { IfSome result (λ seat. IsNewPlayer board.now seat) }
-    ensures process { IfSome result (λ seat. seat.view.first ≡ process) }
-    ensures rest { (p : ℕ) (d : SeatView) → p < length seats.new.items → slice_index_or seats.new.items p d ≡ record { board = board.now.id; view = starting_seat board.now.book p } }
+    ensures process { IfSome result (λ seat. seat.knows.first ≡ process) }
+    ensures rest { (p : ℕ) (d : SeatTerms) → p < length seats.new.items → slice_index_or seats.new.items p d ≡ record { board = board.now.id; view = starting_seat board.now.book p } }
 {
     let seat = last_seat(board, seats)?;
     if seat.process() != process || !may_play(board.book(), process) {
@@ -280,10 +280,10 @@ fn close_four(
     three: BoardSeat,
 ) -> Result<BoardEnd, AllocError>
     requires four { board.book.processes ≡ 4 }
-    requires zero { IsIdle board zero × (zero.view.first ≡ 0) }
-    requires one { IsIdle board one × (one.view.first ≡ 1) }
-    requires two { IsIdle board two × (two.view.first ≡ 2) }
-    requires three { IsIdle board three × (three.view.first ≡ 3) }
+    requires zero { IsIdle board zero × (zero.knows.first ≡ 0) }
+    requires one { IsIdle board one × (one.knows.first ≡ 1) }
+    requires two { IsIdle board two × (two.knows.first ≡ 2) }
+    requires three { IsIdle board three × (three.knows.first ≡ 3) }
     ensures { IfOk result (λ e. e.book ≡ board.book) }
 {
     let seats = vec![in alloc; zero, one, two, three]?;

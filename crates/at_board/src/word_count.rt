@@ -2,10 +2,11 @@
 
 ghost use Rattle.std.specs.Prelude.{◌≡◌, ◌^◌, ◌<◌, ◌≤◌, length, sum_by};
 ghost use Rattle.at_ledger.specs.Book.{account_of};
-ghost use Rattle.at_board.specs.Places.{place_at, record_word, slots_of, word_count, words_max};
+ghost use Rattle.at_ledger.specs.Account.{slots_of};
+ghost use Rattle.at_board.specs.Words.Addresses.{index_of, record_word, word_count, words_max};
 
-use crate::publication::RECORD_WORDS;
-use crate::request::REQUEST_WORDS;
+use crate::words::RECORD_WORDS;
+use crate::words::REQUEST_WORDS;
 use at_ledger::Book;
 
 /// The words of a board for the book. Beside the records each slot has an announced word, and for each of its requests the
@@ -22,7 +23,7 @@ pub(crate) fn word_count(book: &Book) -> usize
 
 /// Where the last log ends.
 pub(crate) fn records_end(book: &Book) -> usize
-    ensures end { result ≡ place_at book.now (record_word book.now.processes 0 0) }
+    ensures end { result ≡ index_of book.now (record_word book.now.processes 0 0) }
     ensures few { result < 2 ^ 32 }
 {
     let _accounts = book.accounts();
@@ -40,17 +41,7 @@ fn slot_count(book: &Book) -> u32
 {
     let mut slots = 0;
     for account in 0..book.accounts() {
-        slots += slots_at(book, account);
+        slots += book.slot_count(account);
     }
     slots
-}
-
-/// The slots of one account: none where no two processes share it.
-pub(crate) fn slots_at(book: &Book, account: u32) -> u32
-    requires { account < length book.now.accounts }
-    ensures count { result ≡ slots_of (account_of book.now account) }
-    ensures few { result ≤ 8 }
-{
-    let owners = book.owner_count(account);
-    if 2 <= owners { owners } else { 0 }
 }

@@ -3,7 +3,7 @@ use Rattle.std.proofs.Common.{◌≡◌, ℕ, ◌+◌, ◌<◌, ◌≤◌, ◌==
 use Rattle.std.proofs.lemmas.Bool.{cases_eq, eq-eqb, ne_eqb}
 use Rattle.std.proofs.lemmas.List.Sums.{sum_by-cons, sum_by_more}
 use Rattle.at_ledger.specs.Call.{TargetPair, amount_of, target_at}
-use Rattle.at_board.specs.Balances.{amount_for}
+use Rattle.at_history.specs.Balances.{amount_for}
 use Rattle.at_fold.specs.Sums.{AccountSums, no_row, row_at, with_credit}
 
 -- one more of two numbers

@@ -2,18 +2,18 @@
 use Rattle.std.proofs.Common.{◌≡◌, ℕ, ◌+◌, ◌<◌, ◌≤◌, List, length, get_or, set, sym, ap, ◌∙◌, arith}
 use Rattle.std.specs.List.{sum}
 use Rattle.std.proofs.lemmas.List.Sums.{sum_by-set}
-use Rattle.at_board.specs.declared.publication.Entry.{Entry}
-use Rattle.at_board.specs.declared.view.View.{View}
-use Rattle.at_board.specs.BoardState.{publication_at}
-use Rattle.at_board.specs.Publications.{count_of, publications_of}
-use Rattle.at_board.specs.Steps.{IsHistory}
+use Rattle.at_history.specs.declared.publication.Entry.{Entry}
+use Rattle.at_board.specs.declared.knowledge.Knowledge.{Knowledge}
+use Rattle.at_history.specs.BoardState.{publication_at}
+use Rattle.at_history.specs.Publications.{count_of, publications_of}
+use Rattle.at_history.specs.Histories.{IsHistory}
 use Rattle.at_ledger.specs.Book.{BookTerms}
 use Rattle.at_log.specs.Loading.{IsEntryOf}
 use Rattle.at_fold.specs.HasCounted.{HasCounted, MayCount}
 use Rattle.at_fold.specs.Sums.{TotalSums}
 
 -- a loaded record may be counted
-pub MayCount-loaded : (t : TotalSums) (b : BookTerms) (v : View) (p i : ℕ) (e : Entry) → HasCounted t b v.seen → IsHistory b v.seen
+pub MayCount-loaded : (t : TotalSums) (b : BookTerms) (v : Knowledge) (p i : ℕ) (e : Entry) → HasCounted t b v.seen → IsHistory b v.seen
     → p < b.processes → i < count_of p v.seen → get_or t.upto p 0 ≡ i → IsEntryOf v p i e → MayCount t b v.seen p e
 MayCount-loaded t b v p i e counts history process within next entry = record {
   history = history;

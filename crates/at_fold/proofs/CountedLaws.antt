@@ -8,14 +8,14 @@ use Rattle.std.proofs.lemmas.List.Elements.{All-append, All-contains_itself, All
 use Rattle.std.proofs.lemmas.List.Sums.{sum_by-cons}
 use Rattle.at_base.specs.Counts.{Covers}
 use Rattle.at_ledger.specs.Book.{BookTerms, IsBook, log_room_of}
-use Rattle.at_board.specs.declared.publication.Publication.{Publication}
-use Rattle.at_board.specs.BoardState.{publication_at}
-use Rattle.at_board.specs.Fronts.{IsFront, prefix_of, place}
-use Rattle.at_board.specs.Publications.{ArePublishedBy, IsPrefix, count_of, counts, no_publication, publications_of}
-use Rattle.at_board.specs.Steps.{IsHistory}
-use Rattle.at_board.proofs.CountLaws.{get_or-counts, length-counts, publications_of-append, publications_of-nil, publications_of-other, publications_of-own, publications_of-take}
-use Rattle.at_board.proofs.FrontLaws.{get_or-IsFront, length-IsFront}
-use Rattle.at_board.proofs.SizeLaws.{sum-log_room_of}
+use Rattle.at_history.specs.declared.publication.Publication.{Publication}
+use Rattle.at_history.specs.BoardState.{publication_at}
+use Rattle.at_history.specs.Fronts.{IsFront, prefix_of, place}
+use Rattle.at_history.specs.Publications.{ArePublishedBy, IsPrefix, count_of, counts, no_publication, publications_of}
+use Rattle.at_history.specs.Histories.{IsHistory}
+use Rattle.at_history.proofs.Laws.Counts.{get_or-counts, length-counts, publications_of-append, publications_of-nil, publications_of-other, publications_of-own, publications_of-take}
+use Rattle.at_history.proofs.Laws.Fronts.{get_or-IsFront, length-IsFront}
+use Rattle.at_history.proofs.Laws.Rooms.{sum-log_room_of}
 use Rattle.at_fold.proofs.Shuffles.{HasSameRecords}
 use Rattle.at_fold.specs.Counted.{counted}
 

@@ -8,21 +8,22 @@ use Rattle.std.proofs.lemmas.List.{length-replicate, nil_from_length}
 use Rattle.at_base.specs.Counts.{Covers}
 use Rattle.at_ledger.specs.Book.{BookTerms, IsBook}
 use Rattle.at_ledger.specs.Call.{TargetPair}
-use Rattle.at_board.proofs.CountLaws.{get_or-counts, length-counts, publications_of-append, publications_of-nil, publications_of-own}
-use Rattle.at_board.proofs.FrontLaws.{IsFront-counts}
-use Rattle.at_board.proofs.OpeningLaws.{get_or-zeros}
-use Rattle.at_board.proofs.OwnRequestLaws.{own_part-with_part}
-use Rattle.at_board.specs.declared.publication.Entry.{Entry}
-use Rattle.at_board.specs.declared.publication.Entry.TheVariants.{Own}
-use Rattle.at_board.specs.declared.publication.Publication.{Publication}
-use Rattle.at_board.specs.declared.view.Part.{Part}
-use Rattle.at_board.specs.declared.view.View.{View}
-use Rattle.at_board.specs.Cuts.{starting_seat}
-use Rattle.at_board.specs.Fronts.{IsFront, place, prefix_of}
-use Rattle.at_board.specs.Publications.{count_of, counts, longer, publications_of}
-use Rattle.at_board.specs.Sound.{IsSoundOwn}
-use Rattle.at_board.specs.Steps.{IsHistory, Publishes, with_record}
-use Rattle.at_board.specs.Views.{own_part}
+use Rattle.at_history.proofs.Laws.Counts.{get_or-counts, length-counts, publications_of-append, publications_of-nil, publications_of-own}
+use Rattle.at_history.proofs.Laws.Fronts.{IsFront-counts}
+use Rattle.at_history.proofs.Laws.Sums.{get_or-zeros}
+use Rattle.at_board.proofs.KnowledgeLaws.OwnRequests.{own_part-with_part}
+use Rattle.at_history.specs.declared.publication.Entry.{Entry}
+use Rattle.at_history.specs.declared.publication.Entry.TheVariants.{Own}
+use Rattle.at_history.specs.declared.publication.Publication.{Publication}
+use Rattle.at_board.specs.declared.knowledge.Part.{Part}
+use Rattle.at_board.specs.declared.knowledge.Knowledge.{Knowledge}
+use Rattle.at_board.specs.Ends.Opening.{starting_seat}
+use Rattle.at_history.specs.Fronts.{IsFront, place, prefix_of}
+use Rattle.at_history.specs.Publications.{count_of, counts, longer, publications_of}
+use Rattle.at_history.specs.Sound.{IsSoundOwn}
+use Rattle.at_history.specs.Histories.{IsHistory}
+use Rattle.at_board.specs.Steps.Publish.{Publishes, with_record}
+use Rattle.at_board.specs.Knowledge.Parts.{own_part}
 use Rattle.at_log.specs.declared.record.Record.{Record}
 use Rattle.at_log.specs.Appending.{MayAppend}
 use Rattle.at_log.specs.ClosingTerms.{published_by}
@@ -42,10 +43,10 @@ counts-nil n = same_number_lists (counts n []) (replicate n 0) (length-counts n 
     ∙ (ap length (publications_of-nil k) ∙ sym (get_or-zeros n k)))
 
 -- a pay-out may be appended by a new seat
-pub MayAppend-first : (b : BookTerms) (v : View) (p : ℕ) (view : List ℕ) (targets : List TargetPair) → IsBook b → v ≡ starting_seat b p → p < b.processes
+pub MayAppend-first : (b : BookTerms) (v : Knowledge) (p : ℕ) (view : List ℕ) (targets : List TargetPair) → IsBook b → v ≡ starting_seat b p → p < b.processes
     → view ≡ replicate b.processes 0 → IsSoundOwn b p [] 0 targets → MayAppend b v (record { entry = Own 0 targets; view = view })
 MayAppend-first b v p view targets book new known zeros pays =
-    let w : View = starting_seat b p in
+    let w : Knowledge = starting_seat b p in
     let none : prefix_of view [] ≡ [] = take-nil (place view) in
     let may : MayAppend b w (record { entry = Own 0 targets; view = view }) = record {
       view = record {
@@ -55,15 +56,15 @@ MayAppend-first b v p view targets book new known zeros pays =
       };
       entry = (subst (λ xs. IsSoundOwn b p xs 0 targets) (sym none) pays, omega (arith, book.begun.some_own_room));
     } in
-    subst (λ (t : View). MayAppend b t (record { entry = Own 0 targets; view = view })) (sym new) may
+    subst (λ (t : Knowledge). MayAppend b t (record { entry = Own 0 targets; view = view })) (sym new) may
 
 -- the seat's process has then published that record alone
-pub HasPaid-first : (b : BookTerms) (v w : View) (p : ℕ) (x : Record) → v ≡ starting_seat b p → 0 < length v.parts
+pub HasPaid-first : (b : BookTerms) (v w : Knowledge) (p : ℕ) (x : Record) → v ≡ starting_seat b p → 0 < length v.parts
     → Publishes b v w (published_by v.first x) → (w.first ≡ p) × HasPaid w x.entry
 HasPaid-first b v w p x new part told =
     let y : Publication = published_by v.first x in
-    let same : w.first ≡ v.first = ap (λ (t : View). t.first) told.same in
-    let none : (own_part v).published ≡ 0 = ap (λ (t : View). (own_part t).published) new in
+    let same : w.first ≡ v.first = ap (λ (t : Knowledge). t.first) told.same in
+    let none : (own_part v).published ≡ 0 = ap (λ (t : Knowledge). (own_part t).published) new in
     let own = ap own_part told.same ∙ own_part-with_part (record v { seen = w.seen }) (with_record b (own_part v) y) part in
     let earlier : List Publication = v.seen ++ told.between in
     let last : publications_of v.first (y ∷ []) ≡ y ∷ [] = publications_of-own y [] ∙ ap (λ ys. y ∷ ys) (publications_of-nil v.first) in
@@ -71,7 +72,7 @@ HasPaid-first b v w p x new part told =
     let nothing : publications_of v.first earlier ≡ [] =
     nil_from_length (publications_of v.first earlier)
     (omega (arith, told.own, none, ap length split, ap length last, length-append (publications_of v.first earlier) (publications_of v.first (y ∷ [])))) in (
-      same ∙ ap (λ (t : View). t.first) new,
+      same ∙ ap (λ (t : Knowledge). t.first) new,
       record {
         publication = y;
         only = ap (λ k. publications_of k w.seen) same ∙ (split ∙ (ap (λ ys. ys ++ publications_of v.first (y ∷ [])) nothing ∙ last));
@@ -81,7 +82,7 @@ HasPaid-first b v w p x new part told =
     )
 
 -- it is the only one where there is one process
-pub HasOnlyFirst-alone : (b : BookTerms) (w : View) (e : Entry) → w.first ≡ 0 → HasPaid w e → b.processes ≡ 1 → HasOnlyFirst b w.seen
+pub HasOnlyFirst-alone : (b : BookTerms) (w : Knowledge) (e : Entry) → w.first ≡ 0 → HasPaid w e → b.processes ≡ 1 → HasOnlyFirst b w.seen
 HasOnlyFirst-alone b w e first paid alone = record {
   first = ap (λ k. count_of k w.seen) (sym first) ∙ ap length paid.only;
   others = λ p above below. absurd (omega (arith, above, below, alone));

@@ -4,13 +4,13 @@ use Rattle.std.specs.List.{Contains}
 use Rattle.std.proofs.lemmas.List.{get_or_default}
 use Rattle.std.proofs.lemmas.List.Elements.{All-contains_itself, All-from_get_or, All-take}
 use Rattle.at_ledger.specs.Book.{BookTerms}
-use Rattle.at_board.specs.declared.publication.Publication.{Publication}
-use Rattle.at_board.specs.Balances.{balance_after}
-use Rattle.at_board.specs.Fronts.{prefix_of, place}
-use Rattle.at_board.specs.Moves.{IsRun}
-use Rattle.at_board.specs.Publications.{ArePublishedBy, no_publication}
-use Rattle.at_board.specs.Steps.{IsHistory}
-use Rattle.at_board.proofs.FrontLaws.{place-IsFront-le}
+use Rattle.at_history.specs.declared.publication.Publication.{Publication}
+use Rattle.at_history.specs.Balances.{balance_after}
+use Rattle.at_history.specs.Fronts.{prefix_of, place}
+use Rattle.at_history.specs.Moves.{IsRun}
+use Rattle.at_history.specs.Publications.{ArePublishedBy, no_publication}
+use Rattle.at_history.specs.Histories.{IsHistory}
+use Rattle.at_history.proofs.Laws.Fronts.{place-IsFront-le}
 use Rattle.at_fold.proofs.CountedLaws.{All-counted, HasSameRecords-prefix_of, length-counted-le}
 use Rattle.at_fold.proofs.SumsLaws.{AreSumsOf-same}
 use Rattle.at_fold.specs.Counted.{counted}

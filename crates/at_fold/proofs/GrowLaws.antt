@@ -1,9 +1,9 @@
 -- Totals stay so when more is published.
 use Rattle.std.proofs.Common.{◌<◌, List, sym, subst, arith}
 use Rattle.at_ledger.specs.Book.{BookTerms}
-use Rattle.at_board.proofs.CountLaws.{get_or-counts, length-counts}
-use Rattle.at_board.proofs.FrontLaws.{IsPrefix-count_of}
-use Rattle.at_board.specs.declared.publication.Publication.{Publication}
+use Rattle.at_history.proofs.Laws.Counts.{get_or-counts, length-counts}
+use Rattle.at_history.proofs.Laws.Prefixes.{IsPrefix-count_of}
+use Rattle.at_history.specs.declared.publication.Publication.{Publication}
 use Rattle.at_fold.proofs.CountedLaws.{counted-IsPrefix}
 use Rattle.at_fold.specs.HasCounted.{AreSumsOf, HasCounted, StaysCounted}
 use Rattle.at_fold.specs.Sums.{TotalSums}

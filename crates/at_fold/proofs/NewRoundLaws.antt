@@ -7,13 +7,13 @@ use Rattle.std.proofs.lemmas.List.Elements.{Contains-push}
 use Rattle.at_base.specs.declared.decision.Decision.{Decision}
 use Rattle.at_ledger.specs.Book.{BookTerms}
 use Rattle.at_ledger.specs.Call.{TargetPair}
-use Rattle.at_board.specs.declared.publication.Entry.{Entry}
-use Rattle.at_board.specs.declared.publication.Entry.TheVariants.{Own, Round}
-use Rattle.at_board.specs.declared.publication.Publication.{Publication}
-use Rattle.at_board.specs.Balances.{credit_of, debit_of}
-use Rattle.at_board.specs.Entries.{is_round, is_round_on, names, settles}
-use Rattle.at_board.specs.Rounds.{firsts, repeats}
-use Rattle.at_board.proofs.RoundLaws.{one_if, published, sum_by-firsts_new}
+use Rattle.at_history.specs.declared.publication.Entry.{Entry}
+use Rattle.at_history.specs.declared.publication.Entry.TheVariants.{Own, Round}
+use Rattle.at_history.specs.declared.publication.Publication.{Publication}
+use Rattle.at_history.specs.Balances.{credit_of, debit_of}
+use Rattle.at_history.specs.Entries.{is_round, is_round_on, names, settles}
+use Rattle.at_history.specs.Rounds.{firsts, repeats}
+use Rattle.at_history.proofs.Laws.Rounds.{one_if, published, sum_by-firsts_new}
 use Rattle.at_fold.proofs.PushLaws.{IsAccountOf-other, IsAnswer-push, IsSlotOf-other, list_any_fails, list_any_push, or_true}
 use Rattle.at_fold.specs.Counted.{IsAnswer, IsDecidedIn}
 use Rattle.at_fold.specs.HasCounted.{AreSumsOf, IsAccountOf, IsSlotOf}

@@ -7,13 +7,13 @@ use Rattle.std.proofs.lemmas.List.Elements.{All-contains, Contains-append_left}
 use Rattle.std.proofs.lemmas.List.Folds.{list_any-append}
 use Rattle.at_base.specs.declared.decision.Decision.{Decision}
 use Rattle.at_ledger.specs.Book.{BookTerms}
-use Rattle.at_board.specs.declared.publication.Entry.{Entry}
-use Rattle.at_board.specs.declared.publication.Publication.{Publication}
-use Rattle.at_board.specs.Balances.{credit_of, debit_of}
-use Rattle.at_board.specs.Entries.{is_round, is_round_on, is_same_round, names, settles}
-use Rattle.at_board.specs.Rounds.{firsts, repeats}
-use Rattle.at_board.specs.Steps.{IsHistory}
-use Rattle.at_board.proofs.RoundLaws.{one_if, sum_by-firsts_new, sum_by-firsts_repeat}
+use Rattle.at_history.specs.declared.publication.Entry.{Entry}
+use Rattle.at_history.specs.declared.publication.Publication.{Publication}
+use Rattle.at_history.specs.Balances.{credit_of, debit_of}
+use Rattle.at_history.specs.Entries.{is_round, is_round_on, is_same_round, names, settles}
+use Rattle.at_history.specs.Rounds.{firsts, repeats}
+use Rattle.at_history.specs.Histories.{IsHistory}
+use Rattle.at_history.proofs.Laws.Rounds.{one_if, sum_by-firsts_new, sum_by-firsts_repeat}
 use Rattle.at_fold.proofs.RoundSums.{repeats-firsts}
 use Rattle.at_fold.proofs.SumsLaws.{same_entry-IsHistory}
 use Rattle.at_fold.specs.Counted.{IsAnswer}

@@ -4,13 +4,13 @@ use Rattle.std.specs.List.{All, list_any, sum_by}
 use Rattle.std.proofs.lemmas.Bool.{cases_Bool, cases_eq, eq-eqb, eqb-true, ne_eqb}
 use Rattle.std.proofs.lemmas.List.{append-nil, take_all, take_more}
 use Rattle.std.proofs.lemmas.List.Elements.{All-get_or, All-take}
-use Rattle.at_board.specs.declared.publication.Entry.{Entry}
-use Rattle.at_board.specs.declared.publication.Entry.TheVariants.{Own, Round}
-use Rattle.at_board.specs.declared.publication.Publication.{Publication}
-use Rattle.at_board.specs.Entries.{is_round, is_same_round}
-use Rattle.at_board.specs.Publications.{no_publication}
-use Rattle.at_board.specs.Rounds.{firsts, repeats}
-use Rattle.at_board.proofs.RoundLaws.{firsts-new, firsts-nil, firsts-repeat, sum_by-firsts_new, sum_by-firsts_repeat}
+use Rattle.at_history.specs.declared.publication.Entry.{Entry}
+use Rattle.at_history.specs.declared.publication.Entry.TheVariants.{Own, Round}
+use Rattle.at_history.specs.declared.publication.Publication.{Publication}
+use Rattle.at_history.specs.Entries.{is_round, is_same_round}
+use Rattle.at_history.specs.Publications.{no_publication}
+use Rattle.at_history.specs.Rounds.{firsts, repeats}
+use Rattle.at_history.proofs.Laws.Rounds.{firsts-new, firsts-nil, firsts-repeat, sum_by-firsts_new, sum_by-firsts_repeat}
 use Rattle.at_fold.proofs.Shuffles.{All-before, All-middle, All-without, HasSameRecords, IsShuffle, IsShuffle-HasSameRecords, list_any-IsShuffle, list_any-middle}
 
 -- being of one round goes both ways

@@ -5,9 +5,9 @@ use Rattle.std.proofs.lemmas.Bool.{cases_eq}
 use Rattle.std.proofs.lemmas.List.{drop_more, length-append, take-append-drop, take_at}
 use Rattle.std.proofs.lemmas.List.Elements.{All-append, All-head, All-tail, All-take}
 use Rattle.std.proofs.lemmas.List.Folds.{list_any-append}
-use Rattle.at_board.specs.declared.publication.Publication.{Publication}
-use Rattle.at_board.specs.Publications.{no_publication, publications_of}
-use Rattle.at_board.proofs.CountLaws.{IsPosition, get_or-publications_of, position_of, publications_of-append, publications_of-nil, publications_of-other, publications_of-own}
+use Rattle.at_history.specs.declared.publication.Publication.{Publication}
+use Rattle.at_history.specs.Publications.{no_publication, publications_of}
+use Rattle.at_history.proofs.Laws.Counts.{IsPosition, get_or-publications_of, position_of, publications_of-append, publications_of-nil, publications_of-other, publications_of-own}
 
 -- the same records of each process, in the same order
 abbrev pub HasSameRecords : List Publication → List Publication → Type 0

@@ -6,13 +6,13 @@ use Rattle.std.proofs.lemmas.List.{get_or-replicate, length-replicate}
 use Rattle.std.proofs.lemmas.List.FromFn.{get_or-map-range_with_len, length-map-range_with_len}
 use Rattle.at_ledger.specs.Account.{rounds_room}
 use Rattle.at_ledger.specs.Book.{BookTerms, IsBook, account_of}
-use Rattle.at_board.specs.declared.publication.Publication.{Publication}
-use Rattle.at_board.specs.Balances.{credit_of, debit_of}
-use Rattle.at_board.specs.Entries.{is_round_on, names}
-use Rattle.at_board.specs.Places.{slots_of}
-use Rattle.at_board.specs.Publications.{publications_of}
-use Rattle.at_board.proofs.OpeningLaws.{get_or-zeros}
-use Rattle.at_board.proofs.RoundLaws.{firsts-nil, one_if}
+use Rattle.at_history.specs.declared.publication.Publication.{Publication}
+use Rattle.at_history.specs.Balances.{credit_of, debit_of}
+use Rattle.at_history.specs.Entries.{is_round_on, names}
+use Rattle.at_ledger.specs.Account.{slots_of}
+use Rattle.at_history.specs.Publications.{publications_of}
+use Rattle.at_history.proofs.Laws.Sums.{get_or-zeros}
+use Rattle.at_history.proofs.Laws.Rounds.{firsts-nil, one_if}
 use Rattle.at_fold.proofs.CountedLaws.{part}
 use Rattle.at_fold.specs.Counted.{IsAnswer, counted}
 use Rattle.at_fold.specs.HasCounted.{AreSumsOf, HasCounted, IsAccountOf, IsSlotOf}

@@ -6,19 +6,19 @@ use Rattle.std.proofs.lemmas.List.{get_or_default, take_all, take_more}
 use Rattle.std.proofs.lemmas.List.Elements.{All-append, All-contains_itself, All-filter, All-get_or}
 use Rattle.at_ledger.specs.Book.{BookTerms}
 use Rattle.at_ledger.specs.Call.{AreTargetsOn}
-use Rattle.at_board.specs.declared.publication.Entry.{Entry}
-use Rattle.at_board.specs.declared.publication.Entry.TheVariants.{Own, Round}
-use Rattle.at_board.specs.declared.publication.Publication.{Publication}
-use Rattle.at_board.specs.Balances.{credit_of, debit_of}
-use Rattle.at_board.specs.BoardState.{publication_at}
-use Rattle.at_board.specs.Entries.{is_round_on, names}
-use Rattle.at_board.specs.Fronts.{prefix_of}
-use Rattle.at_board.specs.Publications.{count_of, counts, no_publication, publications_of}
-use Rattle.at_board.specs.Rounds.{firsts, repeats}
-use Rattle.at_board.specs.ShownRounds.{IsShownDecision}
-use Rattle.at_board.specs.Steps.{IsHistory, IsShownEntry}
-use Rattle.at_board.proofs.CountLaws.{get_or-counts, length-counts}
-use Rattle.at_board.proofs.RoundLaws.{firsts-nil, one_if, published, repeats-own, sum_by-firsts_new, sum_by-firsts_repeat}
+use Rattle.at_history.specs.declared.publication.Entry.{Entry}
+use Rattle.at_history.specs.declared.publication.Entry.TheVariants.{Own, Round}
+use Rattle.at_history.specs.declared.publication.Publication.{Publication}
+use Rattle.at_history.specs.Balances.{credit_of, debit_of}
+use Rattle.at_history.specs.BoardState.{publication_at}
+use Rattle.at_history.specs.Entries.{is_round_on, names}
+use Rattle.at_history.specs.Fronts.{prefix_of}
+use Rattle.at_history.specs.Publications.{count_of, counts, no_publication, publications_of}
+use Rattle.at_history.specs.Rounds.{firsts, repeats}
+use Rattle.at_history.specs.Histories.{IsShownDecision}
+use Rattle.at_history.specs.Histories.{IsHistory, IsShownEntry}
+use Rattle.at_history.proofs.Laws.Counts.{get_or-counts, length-counts}
+use Rattle.at_history.proofs.Laws.Rounds.{firsts-nil, one_if, published, repeats-own, sum_by-firsts_new, sum_by-firsts_repeat}
 use Rattle.at_fold.proofs.CountedLaws.{All-counted, HasSameRecords-more, length-counted-le}
 use Rattle.at_fold.proofs.NewRoundLaws.{AreSumsOf-new}
 use Rattle.at_fold.proofs.PushLaws.{AreSumsOf-repeat}

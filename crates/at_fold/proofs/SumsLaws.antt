@@ -7,17 +7,17 @@ use Rattle.std.proofs.lemmas.List.{get_or_default}
 use Rattle.std.proofs.lemmas.List.Elements.{All-append, All-contains, All-weaker, Contains-append_cases, Contains-append_left, Contains-append_right}
 use Rattle.at_base.specs.declared.decision.Decision.{Decision}
 use Rattle.at_ledger.specs.Book.{BookTerms}
-use Rattle.at_board.specs.declared.publication.Entry.{Entry}
-use Rattle.at_board.specs.declared.publication.Entry.TheVariants.{Own, Round}
-use Rattle.at_board.specs.declared.publication.Publication.{Publication}
-use Rattle.at_board.specs.Balances.{credit_of, debit_of}
-use Rattle.at_board.specs.BoardState.{publication_at}
-use Rattle.at_board.specs.Entries.{is_round, is_round_on, is_same_round, names, settles}
-use Rattle.at_board.specs.Publications.{no_publication}
-use Rattle.at_board.specs.Rounds.{firsts}
-use Rattle.at_board.specs.ShownRounds.{AgreeOnRound}
-use Rattle.at_board.specs.Steps.{IsHistory}
-use Rattle.at_board.proofs.RoundLaws.{one_if}
+use Rattle.at_history.specs.declared.publication.Entry.{Entry}
+use Rattle.at_history.specs.declared.publication.Entry.TheVariants.{Own, Round}
+use Rattle.at_history.specs.declared.publication.Publication.{Publication}
+use Rattle.at_history.specs.Balances.{credit_of, debit_of}
+use Rattle.at_history.specs.BoardState.{publication_at}
+use Rattle.at_history.specs.Entries.{is_round, is_round_on, is_same_round, names, settles}
+use Rattle.at_history.specs.Publications.{no_publication}
+use Rattle.at_history.specs.Rounds.{firsts}
+use Rattle.at_history.specs.Histories.{AgreeOnRound}
+use Rattle.at_history.specs.Histories.{IsHistory}
+use Rattle.at_history.proofs.Laws.Rounds.{one_if}
 use Rattle.at_fold.proofs.RoundSums.{sum_by-firsts-same}
 use Rattle.at_fold.proofs.Shuffles.{HasSameRecords, IsShuffle, IsShuffle-HasSameRecords, length-IsShuffle, list_any-IsShuffle}
 use Rattle.at_fold.specs.Counted.{IsAnswer}

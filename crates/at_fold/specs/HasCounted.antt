@@ -3,16 +3,16 @@ use Rattle.std.specs.Prelude.{◌≡◌, ℕ, ◌*◌, ◌^◌, ◌<◌, ◌≤�
 use Rattle.at_base.specs.Counts.{Covers}
 use Rattle.at_ledger.specs.Account.{rounds_room}
 use Rattle.at_ledger.specs.Book.{BookTerms, IsBook, account_of}
-use Rattle.at_board.specs.declared.publication.Entry.{Entry}
-use Rattle.at_board.specs.declared.publication.Publication.{Publication}
-use Rattle.at_board.specs.Balances.{credits, debits}
-use Rattle.at_board.specs.BoardState.{publication_at}
-use Rattle.at_board.specs.Entries.{is_round}
-use Rattle.at_board.specs.Fronts.{IsFront}
-use Rattle.at_board.specs.Places.{slots_of}
-use Rattle.at_board.specs.Publications.{IsPrefix, count_of, counts, publications_of}
-use Rattle.at_board.specs.Rounds.{named, rounds}
-use Rattle.at_board.specs.Steps.{IsHistory}
+use Rattle.at_history.specs.declared.publication.Entry.{Entry}
+use Rattle.at_history.specs.declared.publication.Publication.{Publication}
+use Rattle.at_history.specs.Balances.{credits, debits}
+use Rattle.at_history.specs.BoardState.{publication_at}
+use Rattle.at_history.specs.Entries.{is_round}
+use Rattle.at_history.specs.Fronts.{IsFront}
+use Rattle.at_ledger.specs.Account.{slots_of}
+use Rattle.at_history.specs.Publications.{IsPrefix, count_of, counts, publications_of}
+use Rattle.at_history.specs.Rounds.{named, rounds}
+use Rattle.at_history.specs.Histories.{IsHistory}
 use Rattle.std.specs.List.{list_any}
 use Rattle.at_fold.specs.Counted.{IsAnswer, counted}
 use Rattle.at_fold.specs.Sums.{AccountSums, SlotSums, TotalSums, answer_at, is_counted, row_at, slot_at}

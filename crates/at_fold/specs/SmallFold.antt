@@ -1,16 +1,16 @@
 -- What the tests ask for on a small board.
 use Rattle.std.specs.Prelude.{◌≡◌, ℕ, ◌<◌, List, [], ◌∷◌}
 use Rattle.at_ledger.specs.Book.{BookTerms}
-use Rattle.at_board.specs.declared.publication.Entry.{Entry}
-use Rattle.at_board.specs.declared.publication.Publication.{Publication}
-use Rattle.at_board.specs.declared.view.View.{View}
-use Rattle.at_board.specs.Publications.{count_of, publications_of}
-use Rattle.at_board.specs.Views.{own_part}
+use Rattle.at_history.specs.declared.publication.Entry.{Entry}
+use Rattle.at_history.specs.declared.publication.Publication.{Publication}
+use Rattle.at_board.specs.declared.knowledge.Knowledge.{Knowledge}
+use Rattle.at_history.specs.Publications.{count_of, publications_of}
+use Rattle.at_board.specs.Knowledge.Parts.{own_part}
 use Rattle.at_fold.specs.HasCounted.{CountsFront, HasCounted}
 use Rattle.at_fold.specs.Sums.{TotalSums}
 
 -- the only record of the seat's process has this entry
-pub record HasPaid (v : View) (entry : Entry) : Type 0 where
+pub record HasPaid (v : Knowledge) (entry : Entry) : Type 0 where
   pub publication : Publication
   pub only : publications_of v.first v.seen ≡ publication ∷ []
   pub entry_is : publication.entry ≡ entry

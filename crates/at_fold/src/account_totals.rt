@@ -2,7 +2,7 @@
 
 ghost use Rattle.std.specs.Prelude.{◌≡◌, ◌+◌, ◌-◌, ◌*◌, ◌<◌, ◌≤◌, ◌^◌, false, length, IfOk};
 ghost use Rattle.at_ledger.specs.Book.{account_of};
-ghost use Rattle.at_board.specs.Places.{slots_of};
+ghost use Rattle.at_ledger.specs.Account.{slots_of};
 ghost use Rattle.at_fold.specs.Sums.{answer_at, is_counted, slot_at, starting_row, with_credit, with_debit, with_round};
 
 use crate::NoMemory;

@@ -2,8 +2,8 @@
 
 ghost use Rattle.std.specs.Prelude.{◌≡◌, ◌+◌, ◌-◌, ◌*◌, ◌<◌, ◌≤◌, slice_index, slice_set, sum};
 ghost use Rattle.at_base.specs.Counts.{Covers};
-ghost use Rattle.at_board.specs.Publications.{count_of};
-ghost use Rattle.at_board.specs.SeatView.{IsOf};
+ghost use Rattle.at_history.specs.Publications.{count_of};
+ghost use Rattle.at_board.specs.Knowledge.Seats.{IsOf};
 ghost use Rattle.at_fold.specs.HasCounted.{HasCounted, HasRecords, StaysCounted};
 
 use crate::totals::Totals;
@@ -23,11 +23,11 @@ impl Totals {
         exchanges: &mut Steps<X>,
     )
         requires board { IsOf seat.old board.now }
-        requires counted { HasCounted self.old board.now.book seat.old.view.seen }
+        requires counted { HasCounted self.old board.now.book seat.old.knows.seen }
         requires more { Covers counts.now self.old.upto }
-        requires seen { HasRecords board.now.book seat.old.view.seen counts.now }
-        ensures counted { HasCounted self.new board.now.book seat.new.view.seen }
-        ensures stays { StaysCounted self.new board.now.book seat.new.view.seen }
+        requires seen { HasRecords board.now.book seat.old.knows.seen counts.now }
+        ensures counted { HasCounted self.new board.now.book seat.new.knows.seen }
+        ensures stays { StaysCounted self.new board.now.book seat.new.knows.seen }
         ensures upto { self.new.upto ≡ counts.now }
         ensures same { seat.new ≡ seat.old }
         ensures steps { steps.new ≡ steps.old + 7 * (sum counts.now - sum self.old.upto) }
@@ -49,11 +49,11 @@ impl Totals {
         exchanges: &mut Steps<X>,
     )
         requires board { IsOf seat.old board.now }
-        requires counted { HasCounted self.old board.now.book seat.old.view.seen }
+        requires counted { HasCounted self.old board.now.book seat.old.knows.seen }
         requires process { p < board.now.book.processes }
         requires more { slice_index self.old.upto p ≤ end }
-        requires seen { end ≤ count_of p seat.old.view.seen }
-        ensures counted { HasCounted self.new board.now.book seat.new.view.seen }
+        requires seen { end ≤ count_of p seat.old.knows.seen }
+        ensures counted { HasCounted self.new board.now.book seat.new.knows.seen }
         ensures upto { self.new.upto ≡ slice_set self.old.upto p end }
         ensures same { seat.new ≡ seat.old }
         ensures steps { steps.new ≡ steps.old + 7 * (end - slice_index self.old.upto p) }

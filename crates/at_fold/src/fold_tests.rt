@@ -2,9 +2,9 @@
 
 ghost use Rattle.std.specs.Prelude.{◌≡◌, ℕ, ◌+◌, ◌<◌, ◌≤◌, [], IfSome, IsTrue, length, replicate, slice_index_or, slice_set};
 ghost use Rattle.at_ledger.specs.Call.{AreTargetsOn};
-ghost use Rattle.at_board.specs.Cuts.{starting_seat};
-ghost use Rattle.at_board.specs.SeatView.{IsOf, SeatView};
-ghost use Rattle.at_board.specs.Sound.{IsSoundOwn};
+ghost use Rattle.at_board.specs.Ends.Opening.{starting_seat};
+ghost use Rattle.at_board.specs.Knowledge.Seats.{IsOf, SeatTerms};
+ghost use Rattle.at_history.specs.Sound.{IsSoundOwn};
 ghost use Rattle.at_fold.specs.HasCounted.{HasCounted};
 ghost use Rattle.at_fold.specs.SmallFold.{CountsAll, HasOnlyFirst, HasPaid};
 ghost use Rattle.at_fold.specs.Sums.{starting_row};
@@ -83,9 +83,9 @@ fn shared_book(alloc: Global) -> Result<Book, Fail> {
 
 /// The last of the seats that are left of a new board's.
 fn last_seat(board: &Board, seats: &mut Vec<BoardSeat>) -> Option<BoardSeat>
-    requires { (p : ℕ) (d : SeatView) → p < length seats.old.items → slice_index_or seats.old.items p d ≡ record { board = board.now.id; view = starting_seat board.now.book p } }
-    ensures seat { IfSome result (λ seat. (seat.board ≡ board.now.id) × (seat.view ≡ starting_seat board.now.book seat.view.first)) }
-    ensures rest { (p : ℕ) (d : SeatView) → p < length seats.new.items → slice_index_or seats.new.items p d ≡ record { board = board.now.id; view = starting_seat board.now.book p } }
+    requires { (p : ℕ) (d : SeatTerms) → p < length seats.old.items → slice_index_or seats.old.items p d ≡ record { board = board.now.id; view = starting_seat board.now.book p } }
+    ensures seat { IfSome result (λ seat. (seat.board ≡ board.now.id) × (seat.knows ≡ starting_seat board.now.book seat.knows.first)) }
+    ensures rest { (p : ℕ) (d : SeatTerms) → p < length seats.new.items → slice_index_or seats.new.items p d ≡ record { board = board.now.id; view = starting_seat board.now.book p } }
 {
     seats.pop()
 }
@@ -119,11 +119,11 @@ fn pay<L: Ledger, X: Ledger>(
     exchanges: &mut Steps<X>,
 ) -> Entry
     requires board { seat.old.board ≡ board.now.id }
-    requires new { seat.old.view ≡ starting_seat board.now.book 0 }
+    requires new { seat.old.knows ≡ starting_seat board.now.book 0 }
     requires pays { IsSoundOwn board.now.book 0 [] 0 targets }
     ensures board { IsOf seat.new board.now }
-    ensures process { seat.new.view.first ≡ 0 }
-    ensures paid { HasPaid seat.new.view result }
+    ensures process { seat.new.knows.first ≡ 0 }
+    ensures paid { HasPaid seat.new.knows result }
     ensures steps { steps.new ≡ steps.old + (board.now.book.processes + 8) }
     ensures exchanges { exchanges.new ≡ exchanges.old }
 {
@@ -147,11 +147,11 @@ fn pays_alone<L: Ledger, X: Ledger>(
     exchanges: &mut Steps<X>,
 )
     requires board { seat.old.board ≡ board.now.id }
-    requires new { seat.old.view ≡ starting_seat board.now.book 0 }
+    requires new { seat.old.knows ≡ starting_seat board.now.book 0 }
     requires pays { IsSoundOwn board.now.book 0 [] 0 targets }
     requires alone { board.now.book.processes ≡ 1 }
     ensures board { IsOf seat.new board.now }
-    ensures one { HasOnlyFirst board.now.book seat.new.view.seen }
+    ensures one { HasOnlyFirst board.now.book seat.new.knows.seen }
     ensures steps { steps.new ≡ steps.old + 9 }
     ensures exchanges { exchanges.new ≡ exchanges.old }
 {
@@ -167,7 +167,7 @@ fn first_words<L: Ledger, X: Ledger>(
 ) -> [u64; 8]
     requires board { IsOf seat.old board.now }
     requires alone { board.now.book.processes ≡ 1 }
-    requires one { HasOnlyFirst board.now.book seat.old.view.seen }
+    requires one { HasOnlyFirst board.now.book seat.old.knows.seen }
     ensures same { seat.new ≡ seat.old }
 {
     let mut words = [0u64; 8];
@@ -186,10 +186,10 @@ fn catches_up<L: Ledger, X: Ledger>(
     exchanges: &mut Steps<X>,
 )
     requires board { IsOf seat.old board.now }
-    requires one { HasOnlyFirst board.now.book seat.old.view.seen }
-    requires counted { HasCounted totals.old board.now.book seat.old.view.seen }
+    requires one { HasOnlyFirst board.now.book seat.old.knows.seen }
+    requires counted { HasCounted totals.old board.now.book seat.old.knows.seen }
     requires new { totals.old.upto ≡ replicate board.now.book.processes 0 }
-    ensures all { CountsAll totals.new board.now.book seat.new.view.seen }
+    ensures all { CountsAll totals.new board.now.book seat.new.knows.seen }
     ensures same { seat.new ≡ seat.old }
     ensures steps { steps.new ≡ steps.old + 7 }
     ensures exchanges { exchanges.new ≡ exchanges.old }
@@ -203,7 +203,7 @@ fn catches_up<L: Ledger, X: Ledger>(
 
 /// The balance of an account after all that was seen.
 fn balance(totals: &Totals, board: &Board, seat: &BoardSeat, account: u32) -> u64
-    requires all { CountsAll totals.now board.now.book seat.now.view.seen }
+    requires all { CountsAll totals.now board.now.book seat.now.knows.seen }
     requires account { account < length board.now.book.accounts }
 {
     totals.balance(account)
@@ -254,12 +254,12 @@ fn pays_and_tells<L: Ledger, X: Ledger>(
     exchanges: &mut Steps<X>,
 ) -> bool
     requires board { (seat.old.board ≡ board.now.id) × (other.old.board ≡ board.now.id) }
-    requires new { seat.old.view ≡ starting_seat board.now.book 0 }
-    requires other { other.old.view ≡ starting_seat board.now.book 1 }
+    requires new { seat.old.knows ≡ starting_seat board.now.book 0 }
+    requires other { other.old.knows ≡ starting_seat board.now.book 1 }
     requires pays { IsSoundOwn board.now.book 0 [] 0 targets }
     requires two { board.now.book.processes ≡ 2 }
     ensures board { IsOf other.new board.now }
-    ensures told { IsTrue result → HasOnlyFirst board.now.book other.new.view.seen }
+    ensures told { IsTrue result → HasOnlyFirst board.now.book other.new.knows.seen }
 {
     let _entry = pay(board, seat, targets, steps, exchanges);
     let found = board.load_length(seat, 1, steps, exchanges);
@@ -305,11 +305,11 @@ fn a_told_record_is_counted(rt: HostRuntime) -> Result<(), Fail> {
 
 /// New totals count the first record of the seat's process.
 fn counts_first(totals: &mut Totals, seat: &BoardSeat, entry: &Entry)
-    requires counted { HasCounted totals.old seat.now.view.book seat.now.view.seen }
-    requires new { totals.old.upto ≡ replicate seat.now.view.book.processes 0 }
-    requires paid { HasPaid seat.now.view entry.now }
-    ensures counted { HasCounted totals.new seat.now.view.book seat.now.view.seen }
-    ensures upto { totals.new.upto ≡ slice_set totals.old.upto seat.now.view.first 1 }
+    requires counted { HasCounted totals.old seat.now.knows.book seat.now.knows.seen }
+    requires new { totals.old.upto ≡ replicate seat.now.knows.book.processes 0 }
+    requires paid { HasPaid seat.now.knows entry.now }
+    ensures counted { HasCounted totals.new seat.now.knows.book seat.now.knows.seen }
+    ensures upto { totals.new.upto ≡ slice_set totals.old.upto seat.now.knows.first 1 }
 {
     let _process = seat.process();
     totals.count_own(seat, entry);
@@ -321,7 +321,7 @@ fn said_of_shared(
     board: &Board,
     seat: &BoardSeat,
 ) -> Option<(u32, u32, Option<(u32, Decision)>)>
-    requires counted { HasCounted totals.now board.now.book seat.now.view.seen }
+    requires counted { HasCounted totals.now board.now.book seat.now.knows.seen }
 {
     let book = board.book();
     if book.accounts() < 2 || book.owner_count(1) < 2 || book.request_room() == 0 {

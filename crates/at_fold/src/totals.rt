@@ -3,11 +3,11 @@
 ghost use Rattle.std.specs.Prelude.{◌≡◌, ℕ, ◌+◌, ◌<◌, ◌≤◌, ◌==◌, ◌^◌, List, length, replicate, slice_index, slice_set, IfOk, if◌then◌else◌};
 ghost use Rattle.at_ledger.specs.Book.{BookTerms};
 ghost use Rattle.at_ledger.specs.Call.{AreTargetsOn, amount_of};
-ghost use Rattle.at_board.specs.declared.publication.Publication.{Publication};
-ghost use Rattle.at_board.specs.Balances.{amount_for, balance_after, credit_of, debit_of};
-ghost use Rattle.at_board.specs.Fronts.{prefix_of};
-ghost use Rattle.at_board.specs.Rounds.{named, rounds};
-ghost use Rattle.at_board.specs.Views.{own_part};
+ghost use Rattle.at_history.specs.declared.publication.Publication.{Publication};
+ghost use Rattle.at_history.specs.Balances.{amount_for, balance_after, credit_of, debit_of};
+ghost use Rattle.at_history.specs.Fronts.{prefix_of};
+ghost use Rattle.at_history.specs.Rounds.{named, rounds};
+ghost use Rattle.at_board.specs.Knowledge.Parts.{own_part};
 ghost use Rattle.at_fold.specs.Counted.{IsAnswer, counted};
 ghost use Rattle.at_fold.specs.HasCounted.{CountsAccount, CountsFront, CountsSlot, HasCounted, IsNext, MayCount, StaysCounted};
 ghost use Rattle.at_fold.specs.Sums.{FitsMore, FitsRound, HasPlace, after_entry, is_new_to, row_at, with_amounts, with_credit, with_decision};
@@ -96,12 +96,12 @@ impl Totals {
 
     /// Counts the record that the seat's process has just published, which is the one after those of it that are counted. Makes no step.
     pub fn count_own(&mut self, seat: &BoardSeat, entry: &Entry)
-        requires counted { HasCounted self.old seat.now.view.book seat.now.view.seen }
-        requires next { IsNext self.old seat.now.view.book seat.now.view.seen seat.now.view.first entry.now }
-        requires last { slice_index self.old.upto seat.now.view.first + 1 ≡ (own_part seat.now.view).published }
-        ensures counted { HasCounted self.new seat.now.view.book seat.now.view.seen }
-        ensures stays { StaysCounted self.new seat.now.view.book seat.now.view.seen }
-        ensures upto { self.new.upto ≡ slice_set self.old.upto seat.now.view.first (own_part seat.now.view).published }
+        requires counted { HasCounted self.old seat.now.knows.book seat.now.knows.seen }
+        requires next { IsNext self.old seat.now.knows.book seat.now.knows.seen seat.now.knows.first entry.now }
+        requires last { slice_index self.old.upto seat.now.knows.first + 1 ≡ (own_part seat.now.knows).published }
+        ensures counted { HasCounted self.new seat.now.knows.book seat.now.knows.seen }
+        ensures stays { StaysCounted self.new seat.now.knows.book seat.now.knows.seen }
+        ensures upto { self.new.upto ≡ slice_set self.old.upto seat.now.knows.first (own_part seat.now.knows).published }
     {
         self.count(seat.process(), seat.published(), entry);
     }

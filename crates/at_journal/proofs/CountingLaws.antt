@@ -4,7 +4,7 @@ use Rattle.std.specs.List.{count_by}
 use Rattle.std.proofs.lemmas.Bool.{cases_Bool, cases_eq, cases_lt}
 use Rattle.std.proofs.lemmas.List.{take-take}
 use Rattle.std.proofs.lemmas.List.Sums.{count_by_more_yes, sum_by-cons, sum_by-take-le}
-use Rattle.at_board.proofs.RoundLaws.{one_if}
+use Rattle.at_history.proofs.Laws.Rounds.{one_if}
 
 module _ {X : Type 0} where
   -- the element that passes after so many others

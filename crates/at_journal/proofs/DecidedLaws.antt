@@ -19,16 +19,16 @@ use Rattle.at_ledger.specs.declared.call.Call.{Call}
 use Rattle.at_ledger.specs.declared.call.Call.TheVariants.{Transfer, Read, Pay}
 use Rattle.at_ledger.specs.declared.call.Reply.{Reply}
 use Rattle.at_ledger.specs.declared.call.Reply.TheVariants.{Done, Short, NotOwner, Full, Balance}
-use Rattle.at_board.specs.declared.publication.Entry.{Entry}
-use Rattle.at_board.specs.declared.publication.Publication.{Publication}
-use Rattle.at_board.specs.Balances.{IsCovered, balance_after, credits, debits}
-use Rattle.at_board.specs.BoardState.{publication_at}
-use Rattle.at_board.specs.Entries.{is_own}
-use Rattle.at_board.specs.Fronts.{IsFront, place, prefix_of}
-use Rattle.at_board.specs.Places.{slots_of}
-use Rattle.at_board.specs.Publications.{count_of, counts, no_publication, publications_of}
-use Rattle.at_board.specs.Rounds.{firsts, named, owns_of, rounds}
-use Rattle.at_board.specs.Sound.{AreTargets, IsSoundOwn, IsSoundRound}
+use Rattle.at_history.specs.declared.publication.Entry.{Entry}
+use Rattle.at_history.specs.declared.publication.Publication.{Publication}
+use Rattle.at_history.specs.Balances.{IsCovered, balance_after, credits, debits}
+use Rattle.at_history.specs.BoardState.{publication_at}
+use Rattle.at_history.specs.Entries.{is_own}
+use Rattle.at_history.specs.Fronts.{IsFront, place, prefix_of}
+use Rattle.at_ledger.specs.Account.{slots_of}
+use Rattle.at_history.specs.Publications.{count_of, counts, no_publication, publications_of}
+use Rattle.at_history.specs.Rounds.{firsts, named, owns_of, rounds}
+use Rattle.at_history.specs.Sound.{AreTargets, IsSoundOwn, IsSoundRound}
 use Rattle.at_log.specs.ClosingTerms.{ClosingTerms, log_lengths, log_of, log_published, published_by, receipts_of}
 use Rattle.at_log.specs.Coherent.{AreChained, Coherent, IsAgreed, IsCoherentEntry, IsNumbered, IsProposed, is_earlier_for}
 use Rattle.at_log.specs.HeldFronts.{held_fronts}

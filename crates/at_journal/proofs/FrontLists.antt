@@ -7,7 +7,7 @@ use Rattle.std.proofs.lemmas.List.{take_more}
 use Rattle.std.proofs.lemmas.Grind.{flat_map-append}
 use Rattle.std.proofs.lemmas.List.Elements.{Contains-append_left, Contains-push_cases, filter_map-append}
 use Rattle.std.proofs.lemmas.List.Sorted.{All-permutation, Contains-permutation, IsPermutation-map, IsPermutation-sym}
-use Rattle.at_board.specs.Fronts.{place}
+use Rattle.at_history.specs.Fronts.{place}
 use Rattle.at_log.specs.ClosingTerms.{ClosingTerms, log_lengths}
 use Rattle.at_log.specs.HeldFronts.{front_at}
 use Rattle.at_journal.specs.Held.{AreHeld, ArePlaced, counts_in}

@@ -8,11 +8,11 @@ use Rattle.at_ledger.specs.Book.{BookTerms, IsBegun}
 use Rattle.at_ledger.specs.Run.{Legal, last_state}
 use Rattle.at_ledger.specs.State.{asked_position, balance_of}
 use Rattle.at_ledger.specs.declared.call.Line.{Line}
-use Rattle.at_board.specs.Balances.{balance_after}
-use Rattle.at_board.specs.Publications.{counts}
-use Rattle.at_board.proofs.CountLaws.{get_or-counts, length-counts, sum-counts}
-use Rattle.at_board.proofs.FollowLaws.{Follows-nil}
-use Rattle.at_board.proofs.OpeningLaws.{get_or-zeros}
+use Rattle.at_history.specs.Balances.{balance_after}
+use Rattle.at_history.specs.Publications.{counts}
+use Rattle.at_history.proofs.Laws.Counts.{get_or-counts, length-counts, sum-counts}
+use Rattle.at_history.proofs.Laws.Balances.{Follows-nil}
+use Rattle.at_history.proofs.Laws.Sums.{get_or-zeros}
 use Rattle.at_log.specs.ClosingTerms.{ClosingTerms, log_lengths, log_of, published_by, receipts_of}
 use Rattle.at_log.specs.Coherent.{Coherent}
 use Rattle.at_log.specs.JournalOrder.{journal_lines, journal_order, line_key, process_lines_at}

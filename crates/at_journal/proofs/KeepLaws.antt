@@ -7,8 +7,8 @@ use Rattle.at_ledger.specs.Book.{BookTerms, account_of}
 use Rattle.at_ledger.specs.State.{asked_position, is_full}
 use Rattle.at_ledger.specs.declared.call.Call.TheVariants.{Read}
 use Rattle.at_ledger.specs.declared.call.Reply.TheVariants.{Full}
-use Rattle.at_board.proofs.FollowLaws.{BalancesFollow, ledger}
-use Rattle.at_board.proofs.RoundLaws.{one_if}
+use Rattle.at_history.proofs.Laws.Balances.{BalancesFollow, ledger}
+use Rattle.at_history.proofs.Laws.Rounds.{one_if}
 use Rattle.at_log.specs.declared.receipt.At.{At}
 use Rattle.at_log.specs.declared.receipt.Receipt.{Receipt}
 use Rattle.at_log.specs.ClosingTerms.{ClosingTerms, receipts_of}

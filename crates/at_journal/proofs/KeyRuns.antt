@@ -4,16 +4,16 @@ use Rattle.std.specs.List.{flat_map, range_with_len}
 use Rattle.std.proofs.lemmas.Bool.{cases_Bool, cases_eq, cases_lt, ltb-false}
 use Rattle.at_ledger.specs.Book.{BookTerms, IsBegun}
 use Rattle.at_ledger.specs.Call.{amount_of}
-use Rattle.at_board.proofs.FollowLaws.{BalancesFollow, MovesSame}
-use Rattle.at_board.proofs.PrefixRuns.{MovesSame-refused, MovesSame-repeat}
-use Rattle.at_board.proofs.RoundLaws.{IsNextAtMost, repeats-round}
-use Rattle.at_board.proofs.SoundRounds.{take-publication_at}
-use Rattle.at_board.specs.declared.publication.Entry.{Entry}
-use Rattle.at_board.specs.declared.publication.Publication.{Publication}
-use Rattle.at_board.specs.Balances.{amount_for, credit_of, debit_of}
-use Rattle.at_board.specs.BoardState.{publication_at}
-use Rattle.at_board.specs.Entries.{is_own, is_same_round}
-use Rattle.at_board.specs.Rounds.{firsts, repeats, rounds}
+use Rattle.at_history.proofs.Laws.Balances.{BalancesFollow, MovesSame}
+use Rattle.at_history.proofs.Laws.Runs.{MovesSame-refused, MovesSame-repeat}
+use Rattle.at_history.proofs.Laws.Rounds.{IsNextAtMost, repeats-round}
+use Rattle.at_history.proofs.Laws.Prefixes.{take-publication_at}
+use Rattle.at_history.specs.declared.publication.Entry.{Entry}
+use Rattle.at_history.specs.declared.publication.Publication.{Publication}
+use Rattle.at_history.specs.Balances.{amount_for, credit_of, debit_of}
+use Rattle.at_history.specs.BoardState.{publication_at}
+use Rattle.at_history.specs.Entries.{is_own, is_same_round}
+use Rattle.at_history.specs.Rounds.{firsts, repeats, rounds}
 use Rattle.std.specs.List.{list_any}
 use Rattle.at_log.specs.ClosingTerms.{ClosingTerms, receipts_of}
 use Rattle.at_log.specs.Coherent.{Coherent}

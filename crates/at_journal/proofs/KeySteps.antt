@@ -6,8 +6,8 @@ use Rattle.std.proofs.lemmas.List.{get_or-append_right, get_or_append_left, get_
 use Rattle.std.proofs.lemmas.List.FromFn.{fill_by_all}
 use Rattle.std.proofs.lemmas.List.Sums.{sum_by-cons}
 use Rattle.at_base.specs.Counts.{Covers}
-use Rattle.at_board.specs.Fronts.{place}
-use Rattle.at_board.proofs.FrontLaws.{sum-Covers-le}
+use Rattle.at_history.specs.Fronts.{place}
+use Rattle.at_history.proofs.Laws.Fronts.{sum-Covers-le}
 use Rattle.at_log.specs.ClosingTerms.{ClosingTerms, log_lengths, log_of}
 use Rattle.at_log.specs.HeldFronts.{held_fronts}
 use Rattle.at_log.specs.JournalOrder.{publication_key}
@@ -36,9 +36,9 @@ held_at c fronts j d held within =
     held.held (get_or fronts j d).counts.now
     (j, omega (arith, within, length-map fronts (λ (f : HeldFront). f.counts.now)), get_or-map (λ (f : HeldFront). f.counts.now) fronts j d (get_or fronts j d).counts.now within)
 
-place_at : (c : ClosingTerms) (fronts : List HeldFront) (j : ℕ) (d : HeldFront) → AreHeld c fronts → j < length fronts
+index_of : (c : ClosingTerms) (fronts : List HeldFront) (j : ℕ) (d : HeldFront) → AreHeld c fronts → j < length fronts
     → (get_or fronts j d).place ≡ place (get_or fronts j d).counts.now
-place_at c fronts j d held within = held.placed j d within
+index_of c fronts j d held within = held.placed j d within
 
 -- the lengths of the logs are of at least the place of each held front
 place-le_all : (c : ClosingTerms) (view : List ℕ) → AreWithin c → Contains (held_fronts c) view → place view ≤ sum (log_lengths c)
@@ -65,7 +65,7 @@ key-at_least c fronts p k i key held below before after =
           sym (get_or-map (λ (f : HeldFront). f.counts.now) fronts j d view inside) ∙ front.2 in
           subst (λ v. key ≤ place v) is (elim (cases_lt j k) as (λ _. key ≤ place (get_or fronts j d).counts.now) [
             | inl early ↦ absurd (omega (arith, before j d early inside, counted, ap (λ v. get_or v p 0) is))
-            | inr late ↦ omega (arith, after j d late inside, place_at c fronts j d held inside)
+            | inr late ↦ omega (arith, after j d late inside, index_of c fronts j d held inside)
           ])
     ])
 
@@ -91,7 +91,7 @@ HasKeys-more c fronts p k keys front held all known within is so =
     let count = get_or front.counts.now p 0 in
     let n = count - length keys in
     let there : Contains (held_fronts c) front.counts.now = subst (λ (f : HeldFront). Contains (held_fronts c) f.counts.now) is (held_at c fronts k front held within) in
-    let placed : front.place ≡ place front.counts.now = subst (λ (f : HeldFront). f.place ≡ place f.counts.now) is (place_at c fronts k front held within) in
+    let placed : front.place ≡ place front.counts.now = subst (λ (f : HeldFront). f.place ≡ place f.counts.now) is (index_of c fronts k front held within) in
     let size = length-more keys n front.place in
     record {
       few = omega (arith, size, so.few, (all front.counts.now there).1 p (omega (arith, known, length-map c.logs length)), get_or-log_lengths c p known);
@@ -239,7 +239,7 @@ HaveKeys-same c fronts k lists held all ordered within repeated so = record {
                   let at : j ≡ k = omega (arith, late, before) in
                   let last : k - 1 < length fronts = omega (arith, within) in
                   let places : place (get_or fronts k d).counts.now ≡ place (get_or fronts (k - 1) d).counts.now =
-                  sym (place_at c fronts k d held within) ∙ (sym (repeated d).1 ∙ place_at c fronts (k - 1) d held last) in
+                  sym (index_of c fronts k d held within) ∙ (sym (repeated d).1 ∙ index_of c fronts (k - 1) d held last) in
                   let same = same_counts c (get_or fronts k d).counts.now (get_or fronts (k - 1) d).counts.now p all ordered
                   (held_at c fronts k d held within) (held_at c fronts (k - 1) d held last) places known in
                   omega (arith, ap (λ m. get_or (get_or fronts m d).counts.now p 0) at, same, has.counted (k - 1) d (omega (arith, (repeated d).0)) last)

@@ -18,11 +18,11 @@ pub mod KeyRuns
 pub mod JournalRuns
 pub mod KeyBounds
 pub mod WholeLaws
-pub mod RoundPlaces
 pub mod NamedLaws
-pub mod OwnPlaces
-pub mod LinePlaces
 pub mod LineOrder
 pub mod Decided
 pub mod DecidedLaws
 pub mod SmallClosingsLaws
+pub mod LinePositions
+pub mod OwnPositions
+pub mod RoundPositions

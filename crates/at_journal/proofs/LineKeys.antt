@@ -5,7 +5,7 @@ use Rattle.std.specs.List.{range_with_len}
 use Rattle.std.proofs.lemmas.List.FromFn.{get_or-range_with_len, length-range_with_len}
 use Rattle.at_log.proofs.BucketLaws.{filter-none}
 use Rattle.std.proofs.lemmas.Bool.{cases_lt, cases_eq, eq-eqb, lt-ltb, le-ltb, ne_eqb}
-use Rattle.at_board.specs.declared.publication.Publication.{Publication}
+use Rattle.at_history.specs.declared.publication.Publication.{Publication}
 use Rattle.at_log.specs.declared.receipt.Receipt.{Receipt}
 use Rattle.at_log.specs.Receipts.{receipt_at}
 use Rattle.at_log.specs.Told.{key_of, keys_from}

@@ -9,7 +9,7 @@ use Rattle.at_ledger.specs.declared.call.Call.{Call}
 use Rattle.at_ledger.specs.declared.call.Line.{Line}
 use Rattle.at_ledger.specs.declared.call.Reply.{Reply}
 use Rattle.at_ledger.proofs.Run.{last-append, replies-append, run_from-cons, run_from-nil}
-use Rattle.at_board.proofs.FollowLaws.{ledger}
+use Rattle.at_history.proofs.Laws.Balances.{ledger}
 use Rattle.at_log.specs.ClosingTerms.{ClosingTerms, receipts_of}
 use Rattle.at_log.specs.Coherent.{Coherent}
 use Rattle.at_log.specs.JournalOrder.{line_of}

@@ -1,9 +1,9 @@
 -- The views in a process's log.
 use Rattle.std.proofs.Common.{◌≡◌, ℕ, ◌<◌, List, length, get_or, sym, ap, ◌∙◌}
 use Rattle.std.proofs.lemmas.List.{get_or-map}
-use Rattle.at_board.specs.declared.publication.Publication.{Publication}
-use Rattle.at_board.specs.BoardState.{publication_at}
-use Rattle.at_board.specs.Publications.{no_publication}
+use Rattle.at_history.specs.declared.publication.Publication.{Publication}
+use Rattle.at_history.specs.BoardState.{publication_at}
+use Rattle.at_history.specs.Publications.{no_publication}
 use Rattle.at_log.specs.ClosingTerms.{ClosingTerms, log_of, log_published, published_by}
 use Rattle.at_log.specs.declared.record.Record.{Record}
 use Rattle.at_log.proofs.ViewLaws.{Contains-view}

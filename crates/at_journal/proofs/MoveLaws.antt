@@ -10,22 +10,22 @@ use Rattle.at_ledger.specs.Book.{BookTerms, account_of}
 use Rattle.at_ledger.specs.Call.{AreTargetsOn, TargetPair, amount_of}
 use Rattle.at_ledger.specs.State.{LedgerState, Step, asked_position}
 use Rattle.at_ledger.specs.declared.call.Reply.TheVariants.{Done, Short}
-use Rattle.at_board.proofs.CountLaws.{get_or-publications_of}
-use Rattle.at_board.proofs.CoverLaws.{CoversEntry, CoversEntry-HasRuns}
-use Rattle.at_board.proofs.FollowLaws.{BalancesFollow, BalancesFollow-push, MovesNow, balances_after, ledger}
-use Rattle.at_board.proofs.PayLaws.{pay-done}
-use Rattle.at_board.proofs.PrefixRuns.{is_shared-single}
-use Rattle.at_board.proofs.RoundLaws.{IsNextAtMost, one_if, repeats-own, repeats-round}
-use Rattle.at_board.proofs.SoundRounds.{take-publication_at}
-use Rattle.at_board.specs.declared.publication.Entry.{Entry}
-use Rattle.at_board.specs.declared.publication.Publication.{Publication}
-use Rattle.at_board.specs.Balances.{IsCovered, amount_for, credit_of, debit_of}
-use Rattle.at_board.specs.BoardState.{publication_at}
-use Rattle.at_board.specs.Entries.{is_round, is_same_round}
-use Rattle.at_board.specs.Fronts.{prefix_of}
-use Rattle.at_board.specs.Publications.{no_publication, publications_of}
-use Rattle.at_board.specs.Rounds.{firsts, repeats, rounds}
-use Rattle.at_board.specs.Sound.{IsSoundEntry}
+use Rattle.at_history.proofs.Laws.Counts.{get_or-publications_of}
+use Rattle.at_history.proofs.Laws.Covers.{CoversEntry, CoversEntry-HasRuns}
+use Rattle.at_history.proofs.Laws.Balances.{BalancesFollow, BalancesFollow-push, MovesNow, balances_after, ledger}
+use Rattle.at_history.proofs.Laws.Payments.{pay-done}
+use Rattle.at_history.proofs.Laws.Runs.{is_shared-single}
+use Rattle.at_history.proofs.Laws.Rounds.{IsNextAtMost, one_if, repeats-own, repeats-round}
+use Rattle.at_history.proofs.Laws.Prefixes.{take-publication_at}
+use Rattle.at_history.specs.declared.publication.Entry.{Entry}
+use Rattle.at_history.specs.declared.publication.Publication.{Publication}
+use Rattle.at_history.specs.Balances.{IsCovered, amount_for, credit_of, debit_of}
+use Rattle.at_history.specs.BoardState.{publication_at}
+use Rattle.at_history.specs.Entries.{is_round, is_same_round}
+use Rattle.at_history.specs.Fronts.{prefix_of}
+use Rattle.at_history.specs.Publications.{no_publication, publications_of}
+use Rattle.at_history.specs.Rounds.{firsts, repeats, rounds}
+use Rattle.at_history.specs.Sound.{IsSoundEntry}
 use Rattle.at_log.specs.ClosingTerms.{ClosingTerms, receipts_of}
 use Rattle.at_log.specs.Coherent.{Coherent}
 use Rattle.at_log.specs.JournalOrder.{journal_order}

@@ -9,17 +9,17 @@ use Rattle.at_base.specs.declared.decision.Decision.{Decision}
 use Rattle.at_ledger.specs.Book.{BookTerms, IsBegun, account_of}
 use Rattle.at_ledger.specs.Call.{TargetPair}
 use Rattle.at_ledger.specs.declared.call.Reply.TheVariants.{Done, Short}
-use Rattle.at_board.specs.declared.publication.Entry.{Entry}
-use Rattle.at_board.specs.declared.publication.Publication.{Publication}
-use Rattle.at_board.specs.BoardState.{publication_at}
-use Rattle.at_board.specs.Entries.{is_own, is_round, is_same_round}
+use Rattle.at_history.specs.declared.publication.Entry.{Entry}
+use Rattle.at_history.specs.declared.publication.Publication.{Publication}
+use Rattle.at_history.specs.BoardState.{publication_at}
+use Rattle.at_history.specs.Entries.{is_own, is_round, is_same_round}
 use Rattle.at_ledger.specs.Account.{slot_in}
-use Rattle.at_board.specs.Fronts.{prefix_of}
-use Rattle.at_board.specs.Publications.{count_of, no_publication, publications_of}
-use Rattle.at_board.specs.Rounds.{firsts, owns_of, repeats}
-use Rattle.at_board.proofs.CountLaws.{count_of-take_mono, count_of-take_more_own, count_of-take-le, get_or-publications_of}
-use Rattle.at_board.proofs.PrefixRuns.{owner-slot}
-use Rattle.at_board.specs.Entries.{names}
+use Rattle.at_history.specs.Fronts.{prefix_of}
+use Rattle.at_history.specs.Publications.{count_of, no_publication, publications_of}
+use Rattle.at_history.specs.Rounds.{firsts, owns_of, repeats}
+use Rattle.at_history.proofs.Laws.Counts.{count_of-take_mono, count_of-take_more_own, count_of-take-le, get_or-publications_of}
+use Rattle.at_history.proofs.Laws.Runs.{owner-slot}
+use Rattle.at_history.specs.Entries.{names}
 use Rattle.at_log.specs.declared.receipt.Receipt.{Receipt}
 use Rattle.at_log.specs.ClosingTerms.{ClosingTerms, receipts_of}
 use Rattle.at_log.specs.Coherent.{Coherent}

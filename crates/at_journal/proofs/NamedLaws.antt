@@ -2,9 +2,9 @@
 use Rattle.std.proofs.Common.{◌≡◌, ℕ, ◌+◌, ◌<◌, List, length, map, get_or, sum, sym, ap, ◌∙◌, arith}
 use Rattle.std.specs.List.{range_with_len}
 use Rattle.std.proofs.lemmas.List.{get_or-map, length-map}
-use Rattle.at_board.specs.declared.publication.Publication.{Publication}
-use Rattle.at_board.specs.BoardState.{publication_at}
-use Rattle.at_board.specs.Publications.{no_publication}
+use Rattle.at_history.specs.declared.publication.Publication.{Publication}
+use Rattle.at_history.specs.BoardState.{publication_at}
+use Rattle.at_history.specs.Publications.{no_publication}
 use Rattle.at_log.specs.ClosingTerms.{ClosingTerms, log_lengths, log_of, log_published, published_by}
 use Rattle.at_log.specs.JournalOrder.{journal_order, publication_key}
 use Rattle.at_log.specs.declared.record.Record.{Record}
@@ -12,7 +12,7 @@ use Rattle.at_log.proofs.KeyLaws.{publication_key-le_all}
 use Rattle.at_log.proofs.OrderLaws.{own_log}
 use Rattle.at_journal.specs.Keys.{log_keys}
 use Rattle.at_journal.specs.Ordered.{AreInOrder}
-use Rattle.at_journal.specs.Places.{AreRecords, no_keyed, published_in}
+use Rattle.at_journal.specs.Positions.{AreRecords, no_keyed, published_in}
 use Rattle.at_journal.specs.declared.keyed.Keyed.{Keyed}
 use Rattle.at_journal.proofs.OrderedLaws.{All-AreInOrder, map-AreInOrder}
 

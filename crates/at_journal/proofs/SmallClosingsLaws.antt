@@ -1,7 +1,7 @@
 -- The closings of the tests are coherent.
 use Rattle.std.proofs.Common.{refl}
-use Rattle.at_board.specs.Publications.{counts, publications_of}
-use Rattle.at_board.specs.Rounds.{firsts}
+use Rattle.at_history.specs.Publications.{counts, publications_of}
+use Rattle.at_history.specs.Rounds.{firsts}
 use Rattle.at_log.specs.Coherent.{Coherent}
 use Rattle.at_log.specs.JournalOrder.{journal_order}
 use Rattle.at_log.specs.Told.{keys_from, own_position, round_position}

@@ -11,18 +11,18 @@ use Rattle.at_ledger.specs.Book.{BookTerms, account_of, is_owner}
 use Rattle.at_ledger.specs.Call.{AreTargetsOn, TargetPair, amount_of}
 use Rattle.at_ledger.specs.State.{LedgerState, Step, asked_position, step}
 use Rattle.at_ledger.specs.declared.call.Reply.TheVariants.{Balance, Done, Short}
-use Rattle.at_board.proofs.FollowLaws.{ledger}
-use Rattle.at_board.proofs.PrefixRuns.{is_shared-single}
-use Rattle.at_board.proofs.RoundLaws.{one_if, sum_by-firsts-take_mono}
-use Rattle.at_board.specs.declared.publication.Entry.{Entry}
-use Rattle.at_board.specs.Publications.{no_publication}
-use Rattle.at_board.proofs.RunRules.{IsRunDecision}
-use Rattle.at_board.specs.declared.publication.Publication.{Publication}
-use Rattle.at_board.specs.declared.request.Request.{Request}
-use Rattle.at_board.specs.Balances.{IsCovered, amount_for, balance_after, credit_of, credits}
-use Rattle.at_board.specs.BoardState.{publication_at, request_at}
-use Rattle.at_board.specs.Fronts.{place, prefix_of}
-use Rattle.at_board.specs.Rounds.{firsts}
+use Rattle.at_history.proofs.Laws.Balances.{ledger}
+use Rattle.at_history.proofs.Laws.Runs.{is_shared-single}
+use Rattle.at_history.proofs.Laws.Rounds.{one_if, sum_by-firsts-take_mono}
+use Rattle.at_history.specs.declared.publication.Entry.{Entry}
+use Rattle.at_history.specs.Publications.{no_publication}
+use Rattle.at_history.proofs.Laws.HasRuns.{IsRunDecision}
+use Rattle.at_history.specs.declared.publication.Publication.{Publication}
+use Rattle.at_history.specs.declared.request.Request.{Request}
+use Rattle.at_history.specs.Balances.{IsCovered, amount_for, balance_after, credit_of, credits}
+use Rattle.at_history.specs.BoardState.{publication_at, request_at}
+use Rattle.at_history.specs.Fronts.{place, prefix_of}
+use Rattle.at_history.specs.Rounds.{firsts}
 use Rattle.at_log.specs.declared.receipt.At.{At}
 use Rattle.at_log.specs.declared.receipt.At.TheVariants.{Front, Own, Round, Previous}
 use Rattle.at_log.specs.ClosingTerms.{ClosingTerms, receipts_of}

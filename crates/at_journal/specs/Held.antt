@@ -1,7 +1,7 @@
 -- The fronts that a closing holds, in the order of their places.
 use Rattle.std.specs.Prelude.{◌≡◌, ℕ, ◌⊎◌, List, map, All, Contains}
 use Rattle.std.specs.List.Sorted.{IsNonDecreasingBy}
-use Rattle.at_board.specs.Fronts.{place}
+use Rattle.at_history.specs.Fronts.{place}
 use Rattle.at_log.specs.ClosingTerms.{ClosingTerms, log_lengths}
 use Rattle.at_log.specs.HeldFronts.{held_fronts}
 use Rattle.at_journal.specs.declared.fronts.HeldFront.{HeldFront}

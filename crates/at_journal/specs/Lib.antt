@@ -2,5 +2,5 @@ pub mod Held
 pub mod Calls
 pub mod Keys
 pub mod Ordered
-pub mod Places
 pub mod SmallClosings
+pub mod Positions

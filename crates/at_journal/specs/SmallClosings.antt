@@ -8,7 +8,7 @@ use Rattle.at_ledger.specs.declared.call.Call.{Call}
 use Rattle.at_ledger.specs.declared.call.Call.TheVariants.{Transfer, Read, Pay}
 use Rattle.at_ledger.specs.declared.call.Reply.{Reply}
 use Rattle.at_ledger.specs.declared.call.Reply.TheVariants.{Done, Short, NotOwner, Full, Balance}
-use Rattle.at_board.specs.declared.publication.Entry.{Entry}
+use Rattle.at_history.specs.declared.publication.Entry.{Entry}
 use Rattle.at_log.specs.ClosingTerms.{ClosingTerms}
 use Rattle.at_log.specs.declared.record.Record.{Record}
 use Rattle.at_log.specs.declared.receipt.At.{At}

@@ -2,7 +2,7 @@
 
 ghost use Rattle.std.specs.Prelude.{◌≡◌, ◌++◌, ◌^◌, ◌<◌, [], ◌∷◌, map, OnOk, IfOk};
 ghost use Rattle.std.specs.List.{cons_option, filter_map, flat_map};
-ghost use Rattle.at_board.specs.Fronts.{place};
+ghost use Rattle.at_history.specs.Fronts.{place};
 ghost use Rattle.at_log.specs.HeldFronts.{front_at};
 ghost use Rattle.at_journal.specs.Held.{AreHeld, ArePlaced, counts_in};
 

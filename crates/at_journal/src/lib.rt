@@ -19,7 +19,7 @@ mod tests;
 ghost use Rattle.std.specs.Prelude.{◌≡◌, ℕ, ◌^◌, ◌<◌, length, All, IfOk};
 ghost use Rattle.at_ledger.specs.Run.{Legal, Whole, last_state};
 ghost use Rattle.at_ledger.specs.State.{balance_of};
-ghost use Rattle.at_board.specs.Balances.{balance_after};
+ghost use Rattle.at_history.specs.Balances.{balance_after};
 ghost use Rattle.at_log.specs.Coherent.{Coherent};
 ghost use Rattle.at_log.specs.JournalOrder.{journal_lines, journal_order};
 ghost use Rattle.at_journal.specs.Calls.{calls_in};

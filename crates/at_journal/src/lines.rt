@@ -7,7 +7,7 @@ ghost use Rattle.at_log.specs.Coherent.{Coherent};
 ghost use Rattle.at_log.specs.JournalOrder.{journal_order, line_of};
 ghost use Rattle.at_log.specs.Receipts.{is_success, receipt_at};
 ghost use Rattle.at_log.specs.Told.{first_account, key_of, keys_of};
-ghost use Rattle.at_journal.specs.Places.{AreReceipts, AreRecords, HasPlaces, HasRoundPositions, published_in};
+ghost use Rattle.at_journal.specs.Positions.{AreReceipts, AreRecords, HasPlaces, HasRoundPositions, published_in};
 
 use crate::NoMemory;
 use crate::fronts::place_of;

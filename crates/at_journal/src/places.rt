@@ -7,7 +7,7 @@ ghost use Rattle.at_log.specs.Coherent.{Coherent};
 ghost use Rattle.at_log.specs.JournalOrder.{journal_order};
 ghost use Rattle.at_journal.specs.Held.{AreHeld};
 ghost use Rattle.at_journal.specs.Keys.{AreOrdered, AreWithin};
-ghost use Rattle.at_journal.specs.Places.{AreRecords, HasRoundPositions, IsOnAccount, positions_of, published_in, with_position};
+ghost use Rattle.at_journal.specs.Positions.{AreRecords, HasRoundPositions, IsOnAccount, positions_of, published_in, with_position};
 
 use crate::NoMemory;
 use crate::fronts::HeldFront;

@@ -3,18 +3,21 @@ use Rattle.std.proofs.Common.{◌≡◌, ℕ, ◌+◌, ◌<◌, List, [], ◌∷
 use Rattle.std.proofs.lemmas.Grind.{same_number_lists}
 use Rattle.std.proofs.lemmas.List.{get_or-set_other, get_or-set_same, length-set}
 use Rattle.at_ledger.specs.Book.{BookTerms, log_room_of}
-use Rattle.at_board.proofs.FrontLaws.{length-IsFront}
-use Rattle.at_board.proofs.LogRoomLaws.{published-MayEnter}
-use Rattle.at_board.proofs.OwnRequestLaws.{own_part-with_part}
-use Rattle.at_board.specs.declared.publication.Publication.{Publication}
-use Rattle.at_board.specs.declared.view.Part.{Part}
-use Rattle.at_board.specs.declared.view.View.{View}
-use Rattle.at_board.specs.Conditions.{MayPublish, MayStoreWord}
-use Rattle.at_board.specs.Places.{record_width}
-use Rattle.at_board.specs.SeatView.{IsSeat}
-use Rattle.at_board.specs.Steps.{Publishes, StoresWord, with_part, with_record, with_word}
-use Rattle.at_board.specs.Views.{no_part, own_part}
-use Rattle.at_board.specs.Words.{record_words}
+use Rattle.at_history.proofs.Laws.Fronts.{length-IsFront}
+use Rattle.at_board.proofs.StepLaws.LogRoom.{published-MayEnter}
+use Rattle.at_board.proofs.KnowledgeLaws.OwnRequests.{own_part-with_part}
+use Rattle.at_history.specs.declared.publication.Publication.{Publication}
+use Rattle.at_board.specs.declared.knowledge.Part.{Part}
+use Rattle.at_board.specs.declared.knowledge.Knowledge.{Knowledge}
+use Rattle.at_board.specs.Steps.Publish.{MayPublish}
+use Rattle.at_board.specs.Steps.StoreRecordWord.{MayStoreWord}
+use Rattle.at_board.specs.Words.Addresses.{record_width}
+use Rattle.at_board.specs.Knowledge.Seats.{IsSeat}
+use Rattle.at_board.specs.Knowledge.Parts.{with_part}
+use Rattle.at_board.specs.Steps.Publish.{Publishes, with_record}
+use Rattle.at_board.specs.Steps.StoreRecordWord.{StoresWord, with_word}
+use Rattle.at_board.specs.Knowledge.Parts.{no_part, own_part}
+use Rattle.at_board.specs.Words.Packed.{record_words}
 use Rattle.at_log.specs.declared.record.Record.{Record}
 use Rattle.at_log.specs.Appending.{MayAppend}
 use Rattle.at_log.specs.ClosingTerms.{published_by}
@@ -24,7 +27,7 @@ abbrev pub with_stored : Part → List ℕ → Part
 with_stored q stored = record q { stored = stored }
 
 -- the first j words are stored, and nothing else has changed
-pub record IsStoring (before after : View) (words : List ℕ) (j : ℕ) : Type 0 where
+pub record IsStoring (before after : Knowledge) (words : List ℕ) (j : ℕ) : Type 0 where
   pub stored : List ℕ
   pub sized : length stored ≡ length (own_part before).stored
   pub same : after ≡ with_part before (with_stored (own_part before) stored)
@@ -34,7 +37,7 @@ set_first-again : {X : Type 0} (xs : List X) (x y : X) → set (set xs 0 x) 0 y 
 set_first-again [] x y = refl
 set_first-again (z ∷ zs) x y = refl
 
-set_first-own : (v : View) → 0 < length v.parts → set v.parts 0 (own_part v) ≡ v.parts
+set_first-own : (v : Knowledge) → 0 < length v.parts → set v.parts 0 (own_part v) ≡ v.parts
 set_first-own v some = first v.parts some
   where
     first : (qs : List Part) → 0 < length qs → set qs 0 (get_or qs 0 no_part) ≡ qs
@@ -42,11 +45,11 @@ set_first-own v some = first v.parts some
     first (q ∷ qs) some = refl
 
 -- a part that was set twice
-pub with_part-again : (v : View) (q r : Part) → with_part (with_part v q) r ≡ with_part v r
+pub with_part-again : (v : Knowledge) (q r : Part) → with_part (with_part v q) r ≡ with_part v r
 with_part-again v q r = ap (λ parts. record v { parts = parts }) (set_first-again v.parts q r)
 
 -- nothing is stored yet
-pub IsStoring-none : (v : View) (words : List ℕ) → 0 < length v.parts → IsStoring v v words 0
+pub IsStoring-none : (v : Knowledge) (words : List ℕ) → 0 < length v.parts → IsStoring v v words 0
 IsStoring-none v words some = record {
   stored = (own_part v).stored;
   sized = refl;
@@ -55,7 +58,7 @@ IsStoring-none v words some = record {
 }
 
 -- one more word is stored
-pub IsStoring-more : (v u w : View) (words : List ℕ) (j n : ℕ) → 0 < length v.parts → j < length (own_part v).stored → IsStoring v u words j
+pub IsStoring-more : (v u w : Knowledge) (words : List ℕ) (j n : ℕ) → 0 < length v.parts → j < length (own_part v).stored → IsStoring v u words j
     → n ≡ get_or words j 0 → StoresWord u w j n → IsStoring v w words (j + 1)
 IsStoring-more v u w words j n some inside storing word told =
     let q : Part = own_part v in
@@ -71,13 +74,13 @@ IsStoring-more v u w words j n some inside storing word told =
     }
 
 -- the log has room for the record
-pub published-MayAppend : (b : BookTerms) (v : View) (x : Record) (process published : ℕ) → v.book ≡ b → IsSeat v process published
+pub published-MayAppend : (b : BookTerms) (v : Knowledge) (x : Record) (process published : ℕ) → v.book ≡ b → IsSeat v process published
     → MayAppend b v x → (own_part v).published < log_room_of b v.first
 published-MayAppend b v x process published book seat may =
     published-MayEnter b v (published_by v.first x) process published book seat refl may.view may.entry
 
 -- all that a store asks
-pub MayStoreWord-IsStoring : (b : BookTerms) (v u : View) (words : List ℕ) (j k : ℕ) → 0 < length v.parts
+pub MayStoreWord-IsStoring : (b : BookTerms) (v u : Knowledge) (words : List ℕ) (j k : ℕ) → 0 < length v.parts
     → (own_part v).published < log_room_of b v.first → IsStoring v u words k → j < record_width b → MayStoreWord b u j
 MayStoreWord-IsStoring b v u words j k some room storing inside =
     subst (λ t. MayStoreWord b t j) (sym storing.same)
@@ -86,11 +89,11 @@ MayStoreWord-IsStoring b v u words j k some room storing inside =
       word = inside;
     })
 
-length-record_words : (b : BookTerms) (v : View) (x : Record) → MayAppend b v x → length (record_words (published_by v.first x)) ≡ record_width b
+length-record_words : (b : BookTerms) (v : Knowledge) (x : Record) → MayAppend b v x → length (record_words (published_by v.first x)) ≡ record_width b
 length-record_words b v x may = omega (arith, length-IsFront b.processes x.view v.seen may.view.front)
 
 -- all words are stored
-pub MayPublish-IsStoring : (b : BookTerms) (v u : View) (x : Record) (j : ℕ) → v.book ≡ b → (process published : ℕ) → IsSeat v process published → MayAppend b v x
+pub MayPublish-IsStoring : (b : BookTerms) (v u : Knowledge) (x : Record) (j : ℕ) → v.book ≡ b → (process published : ℕ) → IsSeat v process published → MayAppend b v x
     → IsStoring v u (record_words (published_by v.first x)) j → j ≡ record_width b → MayPublish b u (published_by v.first x)
 MayPublish-IsStoring b v u x j book process published seat may storing all =
     let some : 0 < length v.parts = omega (arith, seat.one_part) in
@@ -108,7 +111,7 @@ MayPublish-IsStoring b v u x j book process published seat may storing all =
     })
 
 -- the record is published, as if in one step
-pub Publishes-IsStoring : (b : BookTerms) (v u w : View) (x : Publication) (words : List ℕ) (j : ℕ) → 0 < length v.parts → IsStoring v u words j
+pub Publishes-IsStoring : (b : BookTerms) (v u w : Knowledge) (x : Publication) (words : List ℕ) (j : ℕ) → 0 < length v.parts → IsStoring v u words j
     → Publishes b u w x → Publishes b v w x
 Publishes-IsStoring b v u w x words j some storing told =
     let q : Part = own_part v in

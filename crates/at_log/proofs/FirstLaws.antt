@@ -7,14 +7,14 @@ use Rattle.std.proofs.lemmas.List.Folds.{Any-from_list_any}
 use Rattle.std.proofs.Math.Seq.{get_or-append_seam, take-append_seam}
 use Rattle.at_base.specs.declared.decision.Decision.{Decision}
 use Rattle.at_ledger.specs.Call.{TargetPair}
-use Rattle.at_board.specs.declared.publication.Entry.{Entry}
-use Rattle.at_board.specs.declared.publication.Entry.TheVariants.{Own, Round}
-use Rattle.at_board.specs.declared.publication.Publication.{Publication}
-use Rattle.at_board.specs.BoardState.{publication_at}
-use Rattle.at_board.specs.Entries.{is_round, is_round_on, is_same_round}
-use Rattle.at_board.specs.Publications.{no_publication}
-use Rattle.at_board.specs.Rounds.{firsts, repeats, rounds}
-use Rattle.at_board.proofs.RoundLaws.{IsInitial, IsNextAtMost, firsts-new, firsts-repeat, published, repeats-round}
+use Rattle.at_history.specs.declared.publication.Entry.{Entry}
+use Rattle.at_history.specs.declared.publication.Entry.TheVariants.{Own, Round}
+use Rattle.at_history.specs.declared.publication.Publication.{Publication}
+use Rattle.at_history.specs.BoardState.{publication_at}
+use Rattle.at_history.specs.Entries.{is_round, is_round_on, is_same_round}
+use Rattle.at_history.specs.Publications.{no_publication}
+use Rattle.at_history.specs.Rounds.{firsts, repeats, rounds}
+use Rattle.at_history.proofs.Laws.Rounds.{IsInitial, IsNextAtMost, firsts-new, firsts-repeat, published, repeats-round}
 
 -- a record of a round is one
 pub is_round-true : (a r : ℕ) (e : Entry) → is_round a r e ≡ true → (d : Decision) × (targets : List TargetPair) × (e ≡ Round a r d targets)

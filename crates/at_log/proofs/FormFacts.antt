@@ -7,26 +7,26 @@ use Rattle.std.proofs.lemmas.List.Sums.{count_by-le-length, get_or-le-sum_by}
 use Rattle.at_ledger.specs.Account.{no_account, rounds_room}
 use Rattle.at_ledger.specs.Book.{BookTerms, IsBegun}
 use Rattle.at_ledger.specs.Call.{AreTargetsOn, TargetPair}
-use Rattle.at_board.proofs.FormLaws.{ArePacked-AreTargets}
-use Rattle.at_board.proofs.RecordLaws.{All-Contains}
-use Rattle.at_board.specs.declared.publication.Entry.{Entry}
-use Rattle.at_board.specs.declared.publication.Entry.TheVariants.{Own, Round}
-use Rattle.at_board.specs.declared.publication.Publication.{Publication}
-use Rattle.at_board.specs.declared.view.SeenDecision.{SeenDecision}
-use Rattle.at_board.specs.declared.view.SeenRequest.{SeenRequest}
-use Rattle.at_board.specs.declared.view.View.{View}
-use Rattle.at_board.specs.BoardState.{publication_at}
-use Rattle.at_board.specs.Conditions.{MayEnter}
-use Rattle.at_board.specs.Entries.{is_round_on, targets_of}
-use Rattle.at_board.specs.Forms.{IsForm}
-use Rattle.at_board.specs.Fronts.{place, places_max, prefix_of}
-use Rattle.at_board.specs.Publications.{no_publication}
-use Rattle.at_board.specs.Rounds.{firsts, repeats, rounds, with_first}
-use Rattle.at_board.specs.Seen.{DecisionInRange, RequestInRange, SeesInRange}
-use Rattle.at_board.specs.ShownRounds.{IsShownDecision}
-use Rattle.at_board.specs.Sound.{AreTargets}
-use Rattle.at_board.specs.Steps.{IsHistory, IsShownEntry}
-use Rattle.at_board.specs.TargetsWord.{ArePacked, accounts_of}
+use Rattle.at_board.proofs.WordLaws.Packed.{ArePacked-AreTargets}
+use Rattle.at_history.proofs.Laws.Sums.{All-Contains}
+use Rattle.at_history.specs.declared.publication.Entry.{Entry}
+use Rattle.at_history.specs.declared.publication.Entry.TheVariants.{Own, Round}
+use Rattle.at_history.specs.declared.publication.Publication.{Publication}
+use Rattle.at_board.specs.declared.knowledge.SeenDecision.{SeenDecision}
+use Rattle.at_board.specs.declared.knowledge.SeenRequest.{SeenRequest}
+use Rattle.at_board.specs.declared.knowledge.Knowledge.{Knowledge}
+use Rattle.at_history.specs.BoardState.{publication_at}
+use Rattle.at_board.specs.Steps.Publish.{MayEnter}
+use Rattle.at_history.specs.Entries.{is_round_on, targets_of}
+use Rattle.at_board.specs.Words.Packed.{IsForm}
+use Rattle.at_history.specs.Fronts.{place, places_max, prefix_of}
+use Rattle.at_history.specs.Publications.{no_publication}
+use Rattle.at_history.specs.Rounds.{firsts, repeats, rounds, with_first}
+use Rattle.at_board.specs.Knowledge.Agreement.{DecisionInRange, RequestInRange, SeesInRange}
+use Rattle.at_history.specs.Histories.{IsShownDecision}
+use Rattle.at_history.specs.Sound.{AreTargets}
+use Rattle.at_history.specs.Histories.{IsHistory, IsShownEntry}
+use Rattle.at_board.specs.Words.Targets.{ArePacked, accounts_of}
 use Rattle.at_log.specs.declared.record.Record.{Record}
 use Rattle.at_log.specs.Appending.{MayAppend}
 
@@ -79,7 +79,7 @@ IsForm-IsHistory b list m begun history within =
     IsForm-IsShownEntry b x.process (prefix_of x.view list) list x.entry begun (history.entries m within) (history.decisions m within)
 
 -- an entry that may come next
-IsForm-MayEnter : (b : BookTerms) (v : View) (prefix : List Publication) (e : Entry) → IsBegun b → v.book ≡ b → IsHistory b v.seen
+IsForm-MayEnter : (b : BookTerms) (v : Knowledge) (prefix : List Publication) (e : Entry) → IsBegun b → v.book ≡ b → IsHistory b v.seen
     → length prefix ≤ places_max → SeesInRange v → MayEnter b v prefix e → IsForm e
 IsForm-MayEnter b v prefix (Own from targets) begun book history few sees law =
     (omega (arith, law.0.source_in, begun.few_accounts), ArePacked-AreTargets b targets begun law.0.targets_in)
@@ -96,7 +96,7 @@ IsForm-MayEnter b v prefix (Round a r d targets) begun book history few sees (so
     let P : Publication → Type 0 = λ y. IsForm y.entry in
     subst IsForm says (All-Contains P v.seen x (All-from_get_or P v.seen no_publication (λ m within. IsForm-IsHistory b v.seen m begun history within)) seen)
 
-pub IsForm-MayAppend : (b : BookTerms) (v : View) (x : Record) → IsBegun b → v.book ≡ b → IsHistory b v.seen → SeesInRange v → MayAppend b v x
+pub IsForm-MayAppend : (b : BookTerms) (v : Knowledge) (x : Record) → IsBegun b → v.book ≡ b → IsHistory b v.seen → SeesInRange v → MayAppend b v x
     → IsForm x.entry
 IsForm-MayAppend b v x begun book history sees may =
     IsForm-MayEnter b v (prefix_of x.view v.seen) x.entry begun book history

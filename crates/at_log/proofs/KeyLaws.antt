@@ -7,8 +7,8 @@ use Rattle.std.proofs.lemmas.List.Elements.{All-contains, Contains-get_or}
 use Rattle.std.proofs.lemmas.List.Sums.{sum_by-cons}
 use Rattle.at_base.specs.Counts.{Covers}
 use Rattle.at_ledger.specs.Book.{BookTerms}
-use Rattle.at_board.specs.Fronts.{place}
-use Rattle.at_board.proofs.FrontLaws.{sum-Covers-le}
+use Rattle.at_history.specs.Fronts.{place}
+use Rattle.at_history.proofs.Laws.Fronts.{sum-Covers-le}
 use Rattle.at_log.specs.ClosingTerms.{ClosingTerms, log_lengths, log_of}
 use Rattle.at_log.specs.HeldFronts.{held_fronts}
 use Rattle.at_log.specs.JournalOrder.{publication_key}

@@ -2,21 +2,21 @@
 use Rattle.std.proofs.Common.{◌≡◌, ◌<◌, List, [], ◌∷◌, ◌++◌, length, sym, ap, subst, ◌∙◌, arith, length-append}
 use Rattle.std.proofs.lemmas.List.{get_or_at}
 use Rattle.at_ledger.specs.Book.{BookTerms}
-use Rattle.at_board.proofs.CountLaws.{publications_of-append, publications_of-nil, publications_of-own}
-use Rattle.at_board.proofs.OwnRequestLaws.{own_part-with_part}
-use Rattle.at_board.specs.declared.publication.Publication.{Publication}
-use Rattle.at_board.specs.declared.view.Part.{Part}
-use Rattle.at_board.specs.declared.view.View.{View}
-use Rattle.at_board.specs.BoardState.{publication_at}
-use Rattle.at_board.specs.Publications.{count_of, no_publication, publications_of}
-use Rattle.at_board.specs.Steps.{Publishes, with_record}
-use Rattle.at_board.specs.Views.{own_part}
+use Rattle.at_history.proofs.Laws.Counts.{publications_of-append, publications_of-nil, publications_of-own}
+use Rattle.at_board.proofs.KnowledgeLaws.OwnRequests.{own_part-with_part}
+use Rattle.at_history.specs.declared.publication.Publication.{Publication}
+use Rattle.at_board.specs.declared.knowledge.Part.{Part}
+use Rattle.at_board.specs.declared.knowledge.Knowledge.{Knowledge}
+use Rattle.at_history.specs.BoardState.{publication_at}
+use Rattle.at_history.specs.Publications.{count_of, no_publication, publications_of}
+use Rattle.at_board.specs.Steps.Publish.{Publishes, with_record}
+use Rattle.at_board.specs.Knowledge.Parts.{own_part}
 use Rattle.at_log.specs.LastRecord.{IsLast}
 
 -- what was published is the last of its process
-pub IsLast-Publishes : (b : BookTerms) (v w : View) (x : Publication) → 0 < length v.parts → x.process ≡ v.first → Publishes b v w x → IsLast v w x
+pub IsLast-Publishes : (b : BookTerms) (v w : Knowledge) (x : Publication) → 0 < length v.parts → x.process ≡ v.first → Publishes b v w x → IsLast v w x
 IsLast-Publishes b v w x part ours told =
-    let first : v.first ≡ w.first = sym (ap (λ (t : View). t.first) told.same) in
+    let first : v.first ≡ w.first = sym (ap (λ (t : Knowledge). t.first) told.same) in
     let own = ap own_part told.same ∙ own_part-with_part (record v { seen = w.seen }) (with_record b (own_part v) x) part in
     let earlier : List Publication = publications_of v.first (v.seen ++ told.between) in
     let one : publications_of v.first (x ∷ []) ≡ x ∷ [] =

@@ -8,22 +8,22 @@ use Rattle.std.proofs.lemmas.List.Sums.{sum_by-cons}
 use Rattle.at_base.specs.declared.decision.Decision.{Decision}
 use Rattle.at_ledger.specs.Book.{BookTerms, IsBegun}
 use Rattle.at_ledger.specs.Call.{TargetPair, amount_of}
-use Rattle.at_board.specs.declared.publication.Entry.{Entry}
-use Rattle.at_board.specs.declared.publication.Entry.TheVariants.{Own, Round}
-use Rattle.at_board.specs.declared.publication.Publication.{Publication}
-use Rattle.at_board.specs.declared.request.Request.{Request}
-use Rattle.at_board.specs.BoardState.{decision_at, publication_at, request_at}
-use Rattle.at_board.specs.Balances.{IsCovered}
-use Rattle.at_board.specs.Entries.{is_own}
-use Rattle.at_board.specs.Fronts.{place, prefix_of}
-use Rattle.at_board.specs.Moves.{AreRuns}
-use Rattle.at_board.specs.Publications.{no_publication, publications_of}
-use Rattle.at_board.specs.Rounds.{firsts, owns_of, rounds}
-use Rattle.at_board.specs.Sound.{IsSoundEntry}
-use Rattle.at_board.proofs.PrefixRuns.{AreRuns-HasRuns}
-use Rattle.at_board.proofs.RoundLaws.{one_if}
-use Rattle.at_board.specs.Entries.{names}
-use Rattle.at_board.proofs.RunRules.{HasRuns}
+use Rattle.at_history.specs.declared.publication.Entry.{Entry}
+use Rattle.at_history.specs.declared.publication.Entry.TheVariants.{Own, Round}
+use Rattle.at_history.specs.declared.publication.Publication.{Publication}
+use Rattle.at_history.specs.declared.request.Request.{Request}
+use Rattle.at_history.specs.BoardState.{decision_at, publication_at, request_at}
+use Rattle.at_history.specs.Balances.{IsCovered}
+use Rattle.at_history.specs.Entries.{is_own}
+use Rattle.at_history.specs.Fronts.{place, prefix_of}
+use Rattle.at_history.specs.Moves.{AreRuns}
+use Rattle.at_history.specs.Publications.{no_publication, publications_of}
+use Rattle.at_history.specs.Rounds.{firsts, owns_of, rounds}
+use Rattle.at_history.specs.Sound.{IsSoundEntry}
+use Rattle.at_history.proofs.Laws.Runs.{AreRuns-HasRuns}
+use Rattle.at_history.proofs.Laws.Rounds.{one_if}
+use Rattle.at_history.specs.Entries.{names}
+use Rattle.at_history.proofs.Laws.HasRuns.{HasRuns}
 use Rattle.at_log.specs.ClosingTerms.{ClosingTerms, log_published}
 use Rattle.at_log.specs.Coherent.{Coherent, IsCoherentEntry}
 use Rattle.at_log.specs.JournalOrder.{journal_order}

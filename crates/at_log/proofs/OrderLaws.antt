@@ -8,19 +8,20 @@ use Rattle.std.proofs.lemmas.List.{ext_get_or, get_or-map, get_or-take, length-m
 use Rattle.std.proofs.lemmas.List.Elements.{All-append, All-contains, All-filter}
 use Rattle.std.proofs.lemmas.List.FromFn.{get_or-range_with_len, length-range_with_len, length-map-range_with_len, get_or-map-range_with_len}
 use Rattle.at_ledger.specs.Book.{BookTerms}
-use Rattle.at_board.specs.declared.publication.Entry.{Entry}
-use Rattle.at_board.specs.declared.publication.Publication.{Publication}
-use Rattle.at_board.specs.BoardState.{publication_at}
-use Rattle.at_board.specs.Fronts.{IsFront, place, prefix_of}
-use Rattle.at_board.specs.Publications.{ArePublishedBy, IsPrefix, count_of, counts, no_publication, publications_of}
-use Rattle.at_board.proofs.CountLaws.{get_or-counts, length-counts, publications_of-append, publications_of-nil, publications_of-other, publications_of-own, sum-counts}
+use Rattle.at_history.specs.declared.publication.Entry.{Entry}
+use Rattle.at_history.specs.declared.publication.Publication.{Publication}
+use Rattle.at_history.specs.BoardState.{publication_at}
+use Rattle.at_history.specs.Fronts.{IsFront, place, prefix_of}
+use Rattle.at_history.specs.Publications.{ArePublishedBy, IsPrefix, count_of, counts, no_publication, publications_of}
+use Rattle.at_history.proofs.Laws.Counts.{get_or-counts, length-counts, publications_of-append, publications_of-nil, publications_of-other, publications_of-own, sum-counts}
 use Rattle.at_log.specs.ClosingTerms.{ClosingTerms, log_lengths, log_of, log_published, published_by}
 use Rattle.at_log.specs.declared.record.Record.{Record}
 use Rattle.at_log.specs.Coherent.{AreChained}
 use Rattle.at_log.specs.HeldFronts.{held_fronts}
 use Rattle.at_log.specs.JournalOrder.{journal_order, numbers_at, publication_key, published_at}
 use Rattle.at_log.proofs.BucketLaws.{filter-none, flat_map-buckets, range_with_len-more}
-use Rattle.at_board.proofs.FrontLaws.{sum-Covers-le, take-IsPrefix}
+use Rattle.at_history.proofs.Laws.Fronts.{sum-Covers-le}
+use Rattle.at_history.proofs.Laws.Prefixes.{take-IsPrefix}
 use Rattle.at_log.proofs.KeyLaws.{get_or-log_lengths, publication_key-above, publication_key-le, publication_key-le_all, publication_key-mono}
 
 -- a record that no log has

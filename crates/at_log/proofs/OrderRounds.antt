@@ -5,17 +5,19 @@ use Rattle.std.proofs.lemmas.List.{get_or_default, length-take-le, take_all}
 use Rattle.at_base.specs.declared.decision.Decision.{Decision}
 use Rattle.at_ledger.specs.Book.{BookTerms}
 use Rattle.at_ledger.specs.Call.{TargetPair}
-use Rattle.at_board.specs.declared.publication.Entry.{Entry}
-use Rattle.at_board.specs.declared.publication.Entry.TheVariants.{Own, Round}
-use Rattle.at_board.specs.declared.publication.Publication.{Publication}
-use Rattle.at_board.specs.BoardState.{publication_at}
-use Rattle.at_board.specs.Entries.{is_round_on}
-use Rattle.at_board.specs.Fronts.{place, prefix_of}
-use Rattle.at_board.specs.Publications.{ArePublishedBy, count_of, no_publication}
-use Rattle.at_board.specs.Rounds.{firsts, rounds}
-use Rattle.at_board.proofs.FrontLaws.{place-IsFront-le, ArePublishedBy-take}
-use Rattle.at_board.proofs.RoundLaws.{IsInitial, IsInitial-nil, IsInitial-push, IsNextAtMost, firsts-nil}
-use Rattle.at_board.proofs.SoundRounds.{rounds-take_mono, take-publication_at}
+use Rattle.at_history.specs.declared.publication.Entry.{Entry}
+use Rattle.at_history.specs.declared.publication.Entry.TheVariants.{Own, Round}
+use Rattle.at_history.specs.declared.publication.Publication.{Publication}
+use Rattle.at_history.specs.BoardState.{publication_at}
+use Rattle.at_history.specs.Entries.{is_round_on}
+use Rattle.at_history.specs.Fronts.{place, prefix_of}
+use Rattle.at_history.specs.Publications.{ArePublishedBy, count_of, no_publication}
+use Rattle.at_history.specs.Rounds.{firsts, rounds}
+use Rattle.at_history.proofs.Laws.Fronts.{place-IsFront-le}
+use Rattle.at_history.proofs.Laws.Prefixes.{ArePublishedBy-take}
+use Rattle.at_history.proofs.Laws.Rounds.{IsInitial, IsInitial-nil, IsInitial-push, IsNextAtMost, firsts-nil}
+use Rattle.at_history.proofs.Laws.Prefixes.{take-publication_at}
+use Rattle.at_history.proofs.Laws.Rounds.{rounds-take_mono}
 use Rattle.at_log.specs.ClosingTerms.{ClosingTerms}
 use Rattle.at_log.specs.Coherent.{Coherent, IsCoherentEntry}
 use Rattle.at_log.specs.JournalOrder.{journal_order}

@@ -9,16 +9,16 @@ use Rattle.std.proofs.lemmas.List.Sums.{count_by_more_yes, sum_by-take-le}
 use Rattle.at_base.specs.declared.decision.Decision.{Decision}
 use Rattle.at_ledger.specs.Book.{BookTerms}
 use Rattle.at_ledger.specs.Call.{TargetPair}
-use Rattle.at_board.specs.declared.publication.Entry.{Entry}
-use Rattle.at_board.specs.declared.publication.Entry.TheVariants.{Own, Round}
-use Rattle.at_board.specs.declared.publication.Publication.{Publication}
-use Rattle.at_board.specs.declared.request.Request.{Request}
-use Rattle.at_board.specs.BoardState.{BoardState, decision_at, publication_at, request_at}
-use Rattle.at_board.specs.Entries.{is_round_on}
-use Rattle.at_board.specs.Publications.{no_publication}
-use Rattle.at_board.specs.Rounds.{firsts}
-use Rattle.at_board.proofs.RoundLaws.{one_if}
-use Rattle.at_board.specs.Entries.{names}
+use Rattle.at_history.specs.declared.publication.Entry.{Entry}
+use Rattle.at_history.specs.declared.publication.Entry.TheVariants.{Own, Round}
+use Rattle.at_history.specs.declared.publication.Publication.{Publication}
+use Rattle.at_history.specs.declared.request.Request.{Request}
+use Rattle.at_history.specs.BoardState.{BoardState, decision_at, publication_at, request_at}
+use Rattle.at_history.specs.Entries.{is_round_on}
+use Rattle.at_history.specs.Publications.{no_publication}
+use Rattle.at_history.specs.Rounds.{firsts}
+use Rattle.at_history.proofs.Laws.Rounds.{one_if}
+use Rattle.at_history.specs.Entries.{names}
 use Rattle.at_log.specs.ClosingTerms.{ClosingTerms}
 use Rattle.at_log.specs.Coherent.{Coherent, IsNumbered, is_earlier_for}
 use Rattle.at_log.specs.JournalOrder.{journal_order}

@@ -5,7 +5,7 @@ use Rattle.std.specs.List.{cons_option, count_by, filter_map}
 use Rattle.std.specs.Option.{is_some}
 use Rattle.std.proofs.lemmas.Bool.{cases_Bool}
 use Rattle.std.proofs.lemmas.List.Sums.{sum_by-cons}
-use Rattle.at_board.proofs.RoundLaws.{one_if}
+use Rattle.at_history.proofs.Laws.Rounds.{one_if}
 
 cases_Option : {Y : Type 0} (o : Option Y) → (o ≡ None) ⊎ ((y : Y) × (o ≡ Some y))
 cases_Option None = inl refl

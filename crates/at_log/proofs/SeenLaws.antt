@@ -3,21 +3,21 @@ use Rattle.std.proofs.Common.{◌≡◌, ℕ, ◌+◌, ◌-◌, ◌^◌, ◌<◌
 use Rattle.std.proofs.lemmas.Grind.{same_number_lists}
 use Rattle.std.proofs.lemmas.List.{get_or-append_right, get_or-set_other, get_or-set_same}
 use Rattle.at_ledger.specs.Book.{BookTerms, IsBegun}
-use Rattle.at_board.proofs.CountLaws.{count_of-take-le, get_or-publications_of, position_of}
-use Rattle.at_board.proofs.FrontLaws.{get_or-IsFront, length-IsFront}
-use Rattle.at_board.proofs.SizeLaws.{log_room_of-le}
-use Rattle.at_board.specs.declared.publication.Publication.{Publication}
-use Rattle.at_board.specs.declared.view.View.{View}
-use Rattle.at_board.specs.BoardState.{publication_at}
-use Rattle.at_board.specs.Entries.{targets_of}
-use Rattle.at_board.specs.Forms.{IsForm}
-use Rattle.at_board.specs.Fronts.{place}
-use Rattle.at_board.specs.Publications.{count_of, no_publication, publications_of}
-use Rattle.at_board.specs.RecordWords.{IsRecordWord, SeesRecord}
-use Rattle.at_board.specs.Sound.{HasView}
-use Rattle.at_board.specs.Steps.{IsHistory}
-use Rattle.at_board.specs.TargetsWord.{accounts_of, targets_word}
-use Rattle.at_board.specs.Words.{amount_words, decision_word, head_of, record_words}
+use Rattle.at_history.proofs.Laws.Counts.{count_of-take-le, get_or-publications_of, position_of}
+use Rattle.at_history.proofs.Laws.Fronts.{get_or-IsFront, length-IsFront}
+use Rattle.at_history.proofs.Laws.Rooms.{log_room_of-le}
+use Rattle.at_history.specs.declared.publication.Publication.{Publication}
+use Rattle.at_board.specs.declared.knowledge.Knowledge.{Knowledge}
+use Rattle.at_history.specs.BoardState.{publication_at}
+use Rattle.at_history.specs.Entries.{targets_of}
+use Rattle.at_board.specs.Words.Packed.{IsForm}
+use Rattle.at_history.specs.Fronts.{place}
+use Rattle.at_history.specs.Publications.{count_of, no_publication, publications_of}
+use Rattle.at_board.specs.Knowledge.Records.{IsRecordWord, SeesRecord}
+use Rattle.at_history.specs.Sound.{HasView}
+use Rattle.at_history.specs.Histories.{IsHistory}
+use Rattle.at_board.specs.Words.Targets.{accounts_of, targets_word}
+use Rattle.at_board.specs.Words.Packed.{amount_words, decision_word, head_of, record_words}
 use Rattle.at_log.proofs.FormFacts.{IsForm-IsHistory}
 use Rattle.at_log.specs.Loading.{IsViewOf}
 
@@ -63,10 +63,10 @@ get_or-record_words x q =
     get_or-append_right xs x.view 7 (7 + q) 0 refl (omega arith) ∙ ap (λ k. get_or x.view k 0) e
 
 -- the first q counts of a view are those of record i of the process
-abbrev pub IsLoaded : View → ℕ → ℕ → List ℕ → ℕ → Type 0
+abbrev pub IsLoaded : Knowledge → ℕ → ℕ → List ℕ → ℕ → Type 0
 IsLoaded v p i view q = (k : ℕ) → k < q → get_or view k 0 ≡ get_or (publication_at (publications_of p v.seen) i).view k 0
 
-pub IsLoaded-more : (v : View) (p i : ℕ) (view : List ℕ) (q w : ℕ) → q < length view → IsLoaded v p i view q → IsRecordWord v p i (7 + q) w
+pub IsLoaded-more : (v : Knowledge) (p i : ℕ) (view : List ℕ) (q w : ℕ) → q < length view → IsLoaded v p i view q → IsRecordWord v p i (7 + q) w
     → IsLoaded v p i (set view q w) (q + 1)
 IsLoaded-more v p i view q w inside loaded word =
     let x : Publication = publication_at (publications_of p v.seen) i in
@@ -74,7 +74,7 @@ IsLoaded-more v p i view q w inside loaded word =
     (λ k below. get_or-set_other view q k w 0 (omega arith) ∙ loaded k below)
     (get_or-set_same view q w 0 inside ∙ (word ∙ get_or-record_words x q))
 
-pub IsViewOf-IsLoaded : (b : BookTerms) (v : View) (p i : ℕ) (view : List ℕ) (q : ℕ) → IsBegun b → IsHistory b v.seen → SeesRecord v p i
+pub IsViewOf-IsLoaded : (b : BookTerms) (v : Knowledge) (p i : ℕ) (view : List ℕ) (q : ℕ) → IsBegun b → IsHistory b v.seen → SeesRecord v p i
     → length view ≡ b.processes → q ≡ b.processes → IsLoaded v p i view q → IsViewOf v p i view
 IsViewOf-IsLoaded b v p i view q begun history sees sized all loaded =
     let x : Publication = publication_at (publications_of p v.seen) i in
@@ -82,7 +82,7 @@ IsViewOf-IsLoaded b v p i view q begun history sees sized all loaded =
     same_number_lists view x.view (sized ∙ sym shown.sized) (λ k inside. loaded k (omega (arith, inside, sized, all)))
 
 -- a count of a view is small
-pub small-IsRecordWord : (b : BookTerms) (v : View) (p i q w : ℕ) → IsBegun b → IsHistory b v.seen → SeesRecord v p i → q < b.processes
+pub small-IsRecordWord : (b : BookTerms) (v : Knowledge) (p i q w : ℕ) → IsBegun b → IsHistory b v.seen → SeesRecord v p i → q < b.processes
     → IsRecordWord v p i (7 + q) w → w < 2 ^ 32
 small-IsRecordWord b v p i q w begun history sees known word =
     let x : Publication = publication_at (publications_of p v.seen) i in

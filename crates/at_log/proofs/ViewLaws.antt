@@ -5,13 +5,13 @@ use Rattle.std.proofs.lemmas.Bool.{cases_lt}
 use Rattle.std.proofs.lemmas.List.{get_or-map, get_or_default, length-map}
 use Rattle.std.proofs.lemmas.List.Elements.{Contains-append_left, Contains-append_right}
 use Rattle.at_ledger.specs.Book.{BookTerms}
-use Rattle.at_board.specs.declared.publication.Publication.{Publication}
-use Rattle.at_board.specs.BoardState.{publication_at}
-use Rattle.at_board.specs.Fronts.{place}
-use Rattle.at_board.specs.Publications.{count_of, no_publication}
-use Rattle.at_board.specs.Sound.{HasView}
-use Rattle.at_board.proofs.CountLaws.{IsPosition, count_of-take_more_own, count_of-take-le, get_or-publications_of}
-use Rattle.at_board.proofs.FrontLaws.{IsFront-take, position-IsFront}
+use Rattle.at_history.specs.declared.publication.Publication.{Publication}
+use Rattle.at_history.specs.BoardState.{publication_at}
+use Rattle.at_history.specs.Fronts.{place}
+use Rattle.at_history.specs.Publications.{count_of, no_publication}
+use Rattle.at_history.specs.Sound.{HasView}
+use Rattle.at_history.proofs.Laws.Counts.{IsPosition, count_of-take_more_own, count_of-take-le, get_or-publications_of}
+use Rattle.at_history.proofs.Laws.Fronts.{IsFront-take, position-IsFront}
 use Rattle.at_log.specs.ClosingTerms.{ClosingTerms, log_of, log_published, published_by}
 use Rattle.at_log.specs.Coherent.{Coherent}
 use Rattle.at_log.specs.HeldFronts.{held_fronts}

@@ -4,14 +4,14 @@ use Rattle.at_base.specs.Counts.{Covers}
 use Rattle.at_base.specs.declared.decision.Decision.{Decision}
 use Rattle.at_ledger.specs.Book.{BookTerms, account_of}
 use Rattle.at_ledger.specs.Call.{TargetPair, amount_of}
-use Rattle.at_board.specs.declared.publication.Entry.{Entry}
-use Rattle.at_board.specs.declared.publication.Publication.{Publication}
-use Rattle.at_board.specs.Balances.{IsCovered}
-use Rattle.at_board.specs.BoardState.{publication_at}
-use Rattle.at_board.specs.Fronts.{place, prefix_of}
-use Rattle.at_board.specs.Places.{slots_of}
-use Rattle.at_board.specs.Rounds.{firsts, owns_of}
-use Rattle.at_board.specs.Sound.{AreTargets, IsSoundOwn, IsSoundRound}
+use Rattle.at_history.specs.declared.publication.Entry.{Entry}
+use Rattle.at_history.specs.declared.publication.Publication.{Publication}
+use Rattle.at_history.specs.Balances.{IsCovered}
+use Rattle.at_history.specs.BoardState.{publication_at}
+use Rattle.at_history.specs.Fronts.{place, prefix_of}
+use Rattle.at_ledger.specs.Account.{slots_of}
+use Rattle.at_history.specs.Rounds.{firsts, owns_of}
+use Rattle.at_history.specs.Sound.{AreTargets, IsSoundOwn, IsSoundRound}
 use Rattle.at_log.specs.ClosingTerms.{ClosingTerms, log_lengths, log_of, log_published, receipts_of}
 use Rattle.at_log.specs.HeldFronts.{held_fronts}
 use Rattle.at_log.specs.JournalOrder.{journal_order}

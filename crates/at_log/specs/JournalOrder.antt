@@ -2,9 +2,9 @@
 use Rattle.std.specs.Prelude.{ℕ, ◌+◌, ◌*◌, ◌==◌, List, length, map, filter, min, nat_lt, slice_index, sum}
 use Rattle.std.specs.List.{flat_map, fold, range_with_len}
 use Rattle.at_ledger.specs.declared.call.Line.{Line}
-use Rattle.at_board.specs.declared.publication.Publication.{Publication}
-use Rattle.at_board.specs.BoardState.{publication_at}
-use Rattle.at_board.specs.Fronts.{place}
+use Rattle.at_history.specs.declared.publication.Publication.{Publication}
+use Rattle.at_history.specs.BoardState.{publication_at}
+use Rattle.at_history.specs.Fronts.{place}
 use Rattle.at_log.specs.declared.receipt.Receipt.{Receipt}
 use Rattle.at_log.specs.ClosingTerms.{ClosingTerms, log_lengths, log_of, log_published, receipts_of}
 use Rattle.at_log.specs.HeldFronts.{held_fronts}

@@ -1,13 +1,13 @@
 -- Where an appended record stands.
 use Rattle.std.specs.Prelude.{◌≡◌, ◌+◌, ◌<◌}
-use Rattle.at_board.specs.declared.publication.Publication.{Publication}
-use Rattle.at_board.specs.declared.view.View.{View}
-use Rattle.at_board.specs.BoardState.{publication_at}
-use Rattle.at_board.specs.Publications.{count_of, publications_of}
-use Rattle.at_board.specs.Views.{own_part}
+use Rattle.at_history.specs.declared.publication.Publication.{Publication}
+use Rattle.at_board.specs.declared.knowledge.Knowledge.{Knowledge}
+use Rattle.at_history.specs.BoardState.{publication_at}
+use Rattle.at_history.specs.Publications.{count_of, publications_of}
+use Rattle.at_board.specs.Knowledge.Parts.{own_part}
 
 -- the record is the last of its process's log, where it stands by the number of those before it
-pub record IsLast (before after : View) (x : Publication) : Type 0 where
+pub record IsLast (before after : Knowledge) (x : Publication) : Type 0 where
   pub published : (own_part after).published ≡ (own_part before).published + 1
   pub within : (own_part before).published < count_of after.first after.seen
   pub last : publication_at (publications_of after.first after.seen) (own_part before).published ≡ x

@@ -1,14 +1,14 @@
 -- What a load of a record answers: a published record never changes.
 use Rattle.std.specs.Prelude.{◌≡◌, ℕ, List}
-use Rattle.at_board.specs.declared.publication.Entry.{Entry}
-use Rattle.at_board.specs.declared.view.View.{View}
-use Rattle.at_board.specs.BoardState.{publication_at}
-use Rattle.at_board.specs.Publications.{publications_of}
+use Rattle.at_history.specs.declared.publication.Entry.{Entry}
+use Rattle.at_board.specs.declared.knowledge.Knowledge.{Knowledge}
+use Rattle.at_history.specs.BoardState.{publication_at}
+use Rattle.at_history.specs.Publications.{publications_of}
 
 -- the entry of record i of the process
-abbrev pub IsEntryOf : View → ℕ → ℕ → Entry → Type 0
+abbrev pub IsEntryOf : Knowledge → ℕ → ℕ → Entry → Type 0
 IsEntryOf v p i entry = entry ≡ (publication_at (publications_of p v.seen) i).entry
 
 -- and the view of that record
-abbrev pub IsViewOf : View → ℕ → ℕ → List ℕ → Type 0
+abbrev pub IsViewOf : Knowledge → ℕ → ℕ → List ℕ → Type 0
 IsViewOf v p i view = view ≡ (publication_at (publications_of p v.seen) i).view

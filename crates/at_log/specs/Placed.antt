@@ -6,13 +6,13 @@ use Rattle.at_ledger.specs.Book.{BookTerms, account_of, is_owner}
 use Rattle.at_ledger.specs.Call.{TargetPair, amount_of}
 use Rattle.at_ledger.specs.declared.call.Call.TheVariants.{Read}
 use Rattle.at_ledger.specs.declared.call.Reply.TheVariants.{Done, Short, NotOwner, Full, Balance}
-use Rattle.at_board.specs.declared.publication.Entry.{Entry}
-use Rattle.at_board.specs.declared.publication.Publication.{Publication}
-use Rattle.at_board.specs.Balances.{balance_after}
-use Rattle.at_board.specs.BoardState.{publication_at}
-use Rattle.at_board.specs.Entries.{is_own}
-use Rattle.at_board.specs.Fronts.{IsFront, prefix_of}
-use Rattle.at_board.specs.Publications.{count_of, publications_of}
+use Rattle.at_history.specs.declared.publication.Entry.{Entry}
+use Rattle.at_history.specs.declared.publication.Publication.{Publication}
+use Rattle.at_history.specs.Balances.{balance_after}
+use Rattle.at_history.specs.BoardState.{publication_at}
+use Rattle.at_history.specs.Entries.{is_own}
+use Rattle.at_history.specs.Fronts.{IsFront, prefix_of}
+use Rattle.at_history.specs.Publications.{count_of, publications_of}
 use Rattle.at_log.specs.declared.receipt.At.{At}
 use Rattle.at_log.specs.declared.receipt.Receipt.{Receipt}
 use Rattle.at_log.specs.Receipts.{asks_in, owns_in, payout_of}

@@ -4,11 +4,11 @@ use Rattle.std.specs.List.Sorted.{IsNonDecreasing}
 use Rattle.at_ledger.specs.Book.{BookTerms}
 use Rattle.at_ledger.specs.declared.call.Call.{Call}
 use Rattle.at_ledger.specs.declared.call.Call.TheVariants.{Transfer, Read, Pay}
-use Rattle.at_board.specs.declared.publication.Publication.{Publication}
-use Rattle.at_board.specs.Entries.{is_round}
-use Rattle.at_board.specs.Fronts.{place}
-use Rattle.at_board.specs.Rounds.{named, owns_of}
-use Rattle.at_board.specs.Views.{HasSlot}
+use Rattle.at_history.specs.declared.publication.Publication.{Publication}
+use Rattle.at_history.specs.Entries.{is_round}
+use Rattle.at_history.specs.Fronts.{place}
+use Rattle.at_history.specs.Rounds.{named, owns_of}
+use Rattle.at_ledger.specs.Book.{HasSlot}
 use Rattle.at_log.specs.declared.receipt.At.{At}
 use Rattle.at_log.specs.declared.receipt.At.TheVariants.{Front, Own, Round, Previous}
 use Rattle.at_log.specs.declared.receipt.Receipt.{Receipt}

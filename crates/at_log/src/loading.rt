@@ -1,13 +1,13 @@
 //! Loads of records that were seen.
 
 ghost use Rattle.std.specs.Prelude.{◌≡◌, ◌+◌, List};
-ghost use Rattle.at_board.specs.Entries.{targets_of};
-ghost use Rattle.at_board.specs.Forms.{IsForm};
-ghost use Rattle.at_board.specs.RecordWords.{SeesRecord};
-ghost use Rattle.at_board.specs.SeatView.{IsOf};
-ghost use Rattle.at_board.specs.TargetsWord.{ArePacked, accounts_of, targets_word};
-ghost use Rattle.at_board.specs.Words.{amount_words, decision_word, head_of};
-ghost use Rattle.at_board.specs.declared.publication.Entry.{Entry};
+ghost use Rattle.at_history.specs.Entries.{targets_of};
+ghost use Rattle.at_board.specs.Words.Packed.{IsForm};
+ghost use Rattle.at_board.specs.Knowledge.Records.{SeesRecord};
+ghost use Rattle.at_board.specs.Knowledge.Seats.{IsOf};
+ghost use Rattle.at_board.specs.Words.Targets.{ArePacked, accounts_of, targets_word};
+ghost use Rattle.at_board.specs.Words.Packed.{amount_words, decision_word, head_of};
+ghost use Rattle.at_history.specs.declared.publication.Entry.{Entry};
 ghost use Rattle.at_ledger.specs.Call.{TargetPair};
 ghost use Rattle.at_log.specs.Loading.{IsEntryOf, IsViewOf};
 
@@ -26,8 +26,8 @@ pub fn load_entry<L: Ledger, X: Ledger>(
     exchanges: &mut Steps<X>,
 ) -> Entry
     requires board { IsOf seat.old board.now }
-    requires record { SeesRecord seat.old.view p i }
-    ensures entry { IsEntryOf seat.old.view p i result }
+    requires record { SeesRecord seat.old.knows p i }
+    ensures entry { IsEntryOf seat.old.knows p i result }
     ensures same { seat.new ≡ seat.old }
     ensures steps { steps.new ≡ steps.old + 7 }
     ensures exchanges { exchanges.new ≡ exchanges.old }
@@ -52,8 +52,8 @@ pub fn load_view<L: Ledger, X: Ledger>(
     exchanges: &mut Steps<X>,
 ) -> Counts
     requires board { IsOf seat.old board.now }
-    requires record { SeesRecord seat.old.view p i }
-    ensures view { IsViewOf seat.old.view p i result }
+    requires record { SeesRecord seat.old.knows p i }
+    ensures view { IsViewOf seat.old.knows p i result }
     ensures same { seat.new ≡ seat.old }
     ensures steps { steps.new ≡ steps.old + board.now.book.processes }
     ensures exchanges { exchanges.new ≡ exchanges.old }

@@ -1,9 +1,9 @@
 //! Logs: records are appended to the board one after another.
 
 ghost use Rattle.std.specs.Prelude.{◌≡◌, ◌+◌, ◌-◌};
-ghost use Rattle.at_board.specs.SeatView.{IsOf};
-ghost use Rattle.at_board.specs.Steps.{Publishes};
-ghost use Rattle.at_board.specs.Views.{own_part};
+ghost use Rattle.at_board.specs.Knowledge.Seats.{IsOf};
+ghost use Rattle.at_board.specs.Steps.Publish.{Publishes};
+ghost use Rattle.at_board.specs.Knowledge.Parts.{own_part};
 ghost use Rattle.at_ledger.specs.Book.{log_room_of};
 ghost use Rattle.at_log.specs.Appending.{MayAppend};
 ghost use Rattle.at_log.specs.ClosingTerms.{published_by};
@@ -16,7 +16,7 @@ use std::sync::ledger::Ledger;
 
 /// How many records the log of the seat's process still takes. It makes no step.
 pub fn room(board: &Board, seat: &BoardSeat) -> u32
-    ensures { result ≡ log_room_of board.now.book seat.now.view.first - (own_part seat.now.view).published }
+    ensures { result ≡ log_room_of board.now.book seat.now.knows.first - (own_part seat.now.knows).published }
 {
     board
         .book()
@@ -33,9 +33,9 @@ pub fn append<L: Ledger, X: Ledger>(
     exchanges: &mut Steps<X>,
 )
     requires board { IsOf seat.old board.now }
-    requires record { MayAppend board.now.book seat.old.view rec.now }
-    ensures published { Publishes board.now.book seat.old.view seat.new.view (published_by seat.old.view.first rec.now) }
-    ensures last { IsLast seat.old.view seat.new.view (published_by seat.old.view.first rec.now) }
+    requires record { MayAppend board.now.book seat.old.knows rec.now }
+    ensures published { Publishes board.now.book seat.old.knows seat.new.knows (published_by seat.old.knows.first rec.now) }
+    ensures last { IsLast seat.old.knows seat.new.knows (published_by seat.old.knows.first rec.now) }
     ensures board { seat.new.board ≡ seat.old.board }
     ensures steps { steps.new ≡ steps.old + (board.now.book.processes + 8) }
     ensures exchanges { exchanges.new ≡ exchanges.old }

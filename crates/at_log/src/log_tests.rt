@@ -1,10 +1,10 @@
 //! A record is appended on a small board, and another process loads it through a note.
 
 ghost use Rattle.std.specs.Prelude.{◌≡◌, ◌+◌, ◌<◌, [], IfSome, IsTrue, length, slice_index_or, ℕ};
-ghost use Rattle.at_board.specs.Cuts.{starting_seat};
-ghost use Rattle.at_board.specs.Publications.{count_of};
-ghost use Rattle.at_board.specs.SeatView.{IsOf, SeatView};
-ghost use Rattle.at_board.specs.Sound.{IsSoundOwn};
+ghost use Rattle.at_board.specs.Ends.Opening.{starting_seat};
+ghost use Rattle.at_history.specs.Publications.{count_of};
+ghost use Rattle.at_board.specs.Knowledge.Seats.{IsOf, SeatTerms};
+ghost use Rattle.at_history.specs.Sound.{IsSoundOwn};
 ghost use Rattle.at_ledger.specs.Call.{AreTargetsOn};
 
 use crate::{Entry, Record, append, load_entry, load_view, room};
@@ -38,9 +38,9 @@ fn small_book(alloc: Global, processes: u64, accounts: &[(u64, u64)]) -> Result<
 
 /// The last of the seats that are left of a new board's.
 fn last_seat(board: &Board, seats: &mut Vec<BoardSeat>) -> Option<BoardSeat>
-    requires { (p : ℕ) (d : SeatView) → p < length seats.old.items → slice_index_or seats.old.items p d ≡ record { board = board.now.id; view = starting_seat board.now.book p } }
-    ensures seat { IfSome result (λ seat. (seat.board ≡ board.now.id) × (seat.view ≡ starting_seat board.now.book seat.view.first)) }
-    ensures rest { (p : ℕ) (d : SeatView) → p < length seats.new.items → slice_index_or seats.new.items p d ≡ record { board = board.now.id; view = starting_seat board.now.book p } }
+    requires { (p : ℕ) (d : SeatTerms) → p < length seats.old.items → slice_index_or seats.old.items p d ≡ record { board = board.now.id; view = starting_seat board.now.book p } }
+    ensures seat { IfSome result (λ seat. (seat.board ≡ board.now.id) × (seat.knows ≡ starting_seat board.now.book seat.knows.first)) }
+    ensures rest { (p : ℕ) (d : SeatTerms) → p < length seats.new.items → slice_index_or seats.new.items p d ≡ record { board = board.now.id; view = starting_seat board.now.book p } }
 {
     seats.pop()
 }
@@ -73,10 +73,10 @@ fn pay<L: Ledger, X: Ledger>(
     exchanges: &mut Steps<X>,
 )
     requires board { seat.old.board ≡ board.now.id }
-    requires new { seat.old.view ≡ starting_seat board.now.book seat.old.view.first }
-    requires pays { IsSoundOwn board.now.book seat.old.view.first [] 0 targets }
+    requires new { seat.old.knows ≡ starting_seat board.now.book seat.old.knows.first }
+    requires pays { IsSoundOwn board.now.book seat.old.knows.first [] 0 targets }
     ensures board { IsOf seat.new board.now }
-    ensures published { 0 < count_of seat.new.view.first seat.new.view.seen }
+    ensures published { 0 < count_of seat.new.knows.first seat.new.knows.seen }
     ensures steps { steps.new ≡ steps.old + (board.now.book.processes + 8) }
     ensures exchanges { exchanges.new ≡ exchanges.old }
 {
@@ -98,8 +98,8 @@ fn pays_alone<L: Ledger, X: Ledger>(
     exchanges: &mut Steps<X>,
 )
     requires board { seat.old.board ≡ board.now.id }
-    requires new { seat.old.view ≡ starting_seat board.now.book seat.old.view.first }
-    requires pays { IsSoundOwn board.now.book seat.old.view.first [] 0 targets }
+    requires new { seat.old.knows ≡ starting_seat board.now.book seat.old.knows.first }
+    requires pays { IsSoundOwn board.now.book seat.old.knows.first [] 0 targets }
     requires alone { board.now.book.processes ≡ 1 }
     ensures board { IsOf seat.new board.now }
     ensures steps { steps.new ≡ steps.old + 9 }
@@ -118,7 +118,7 @@ fn told_record<L: Ledger, X: Ledger>(
 ) -> Record
     requires seat { IsOf seat.old board.now }
     requires other { IsOf other.old board.now }
-    requires published { 0 < count_of seat.old.view.first seat.old.view.seen }
+    requires published { 0 < count_of seat.old.knows.first seat.old.knows.seen }
     requires two { board.now.book.processes ≡ 2 }
     ensures steps { steps.new ≡ steps.old + 11 }
     ensures exchanges { exchanges.new ≡ exchanges.old + 2 }

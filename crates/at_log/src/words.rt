@@ -2,10 +2,10 @@
 
 ghost use Rattle.std.specs.Prelude.{◌≡◌, ◌+◌, ◌<◌, length, slice_index};
 ghost use Rattle.at_base.specs.Head.{HeadInRange, head_word};
-ghost use Rattle.at_board.specs.Entries.{targets_of};
-ghost use Rattle.at_board.specs.Forms.{IsForm};
-ghost use Rattle.at_board.specs.Words.{decision_word, head_of, record_words};
-ghost use Rattle.at_board.specs.declared.publication.TheConstants.{RECORD_WORDS};
+ghost use Rattle.at_history.specs.Entries.{targets_of};
+ghost use Rattle.at_board.specs.Words.Packed.{IsForm};
+ghost use Rattle.at_board.specs.Words.Packed.{decision_word, head_of, record_words};
+ghost use Rattle.at_board.specs.declared.words.TheConstants.{RECORD_WORDS};
 ghost use Rattle.at_ledger.specs.Call.{target_at};
 ghost use Rattle.at_log.specs.ClosingTerms.{published_by};
 

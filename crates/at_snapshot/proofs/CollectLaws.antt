@@ -3,17 +3,17 @@ use Rattle.std.proofs.Common.{◌≡◌, ◌≢◌, ℕ, ◌+◌, ◌<◌, ◌�
 use Rattle.std.proofs.lemmas.Bool.{cases_eq, cases_lt}
 use Rattle.std.proofs.lemmas.List.{ext_get_or, get_or-set_other, get_or-set_same, length-set, length-map, get_or-map}
 use Rattle.at_ledger.specs.Book.{BookTerms}
-use Rattle.at_board.proofs.FrontLaws.{IsPrefix-count_of}
-use Rattle.at_board.specs.declared.view.Loads.{Loads}
-use Rattle.at_board.specs.declared.view.View.{View}
-use Rattle.at_board.specs.Publications.{count_of}
-use Rattle.at_board.specs.Steps.{LoadsLength}
-use Rattle.at_board.specs.Views.{loads_of, own_part}
+use Rattle.at_history.proofs.Laws.Prefixes.{IsPrefix-count_of}
+use Rattle.at_board.specs.declared.knowledge.Loads.{Loads}
+use Rattle.at_board.specs.declared.knowledge.Knowledge.{Knowledge}
+use Rattle.at_history.specs.Publications.{count_of}
+use Rattle.at_board.specs.Steps.LoadLength.{LoadsLength}
+use Rattle.at_board.specs.Knowledge.Parts.{loads_of, own_part}
 use Rattle.at_snapshot.proofs.LoadedLaws.{HasLoaded-LoadsLength, HasLoaded-trans, loads_of-other, loads_of-same, parts-HasLoaded}
 use Rattle.at_snapshot.specs.Collected.{HasLoaded, IsCollect, collect_of}
 
 -- a collect as far as the process
-pub record IsCollecting (b : BookTerms) (v w : View) (counts : List ℕ) (p : ℕ) : Type 0 where
+pub record IsCollecting (b : BookTerms) (v w : Knowledge) (counts : List ℕ) (p : ℕ) : Type 0 where
   pub sized : length counts ≡ b.processes
   pub start : p ≡ 0 → w ≡ v
   pub loaded : 0 < p → HasLoaded b v w
@@ -23,7 +23,7 @@ pub record IsCollecting (b : BookTerms) (v w : View) (counts : List ℕ) (p : �
   pub least : (q : ℕ) → q < p → count_of q v.seen ≤ get_or counts q 0
   pub most : (q : ℕ) → q < p → get_or counts q 0 ≤ count_of q w.seen
 
-pub IsCollecting-start : (b : BookTerms) (v : View) (counts : List ℕ) → length counts ≡ b.processes → IsCollecting b v v counts 0
+pub IsCollecting-start : (b : BookTerms) (v : Knowledge) (counts : List ℕ) → length counts ≡ b.processes → IsCollecting b v v counts 0
 IsCollecting-start b v counts sized = record {
   sized = sized;
   start = λ e. refl;
@@ -36,11 +36,11 @@ IsCollecting-start b v counts sized = record {
 }
 
 -- what stands before a load: as it was, or after loads
-pub record IsBefore (b : BookTerms) (v u : View) : Type 0 where
+pub record IsBefore (b : BookTerms) (v u : Knowledge) : Type 0 where
   pub part : 0 < length u.parts
-  pub after : (w : View) (p n : ℕ) → LoadsLength b u w p n → HasLoaded b v w
+  pub after : (w : Knowledge) (p n : ℕ) → LoadsLength b u w p n → HasLoaded b v w
 
-pub IsBefore-IsCollecting : (b : BookTerms) (v u : View) (counts : List ℕ) (p : ℕ) → 0 < length v.parts → IsCollecting b v u counts p → IsBefore b v u
+pub IsBefore-IsCollecting : (b : BookTerms) (v u : Knowledge) (counts : List ℕ) (p : ℕ) → 0 < length v.parts → IsCollecting b v u counts p → IsBefore b v u
 IsBefore-IsCollecting b v u counts p part so_far =
     elim (cases_lt 0 p) as (λ _. IsBefore b v u) [
       | inl begun ↦
@@ -53,12 +53,12 @@ IsBefore-IsCollecting b v u counts p part so_far =
       | inr none ↦
           let same : u ≡ v = so_far.start (omega arith) in
           record {
-            part = omega (arith, part, ap (λ (t : View). length t.parts) same);
-            after = λ w q n told. HasLoaded-LoadsLength b v w q n part (subst (λ (t : View). LoadsLength b t w q n) same told);
+            part = omega (arith, part, ap (λ (t : Knowledge). length t.parts) same);
+            after = λ w q n told. HasLoaded-LoadsLength b v w q n part (subst (λ (t : Knowledge). LoadsLength b t w q n) same told);
           }
     ]
 
-pub IsCollecting-load : (b : BookTerms) (v u w : View) (counts : List ℕ) (p n : ℕ) → 0 < length v.parts → p < b.processes
+pub IsCollecting-load : (b : BookTerms) (v u w : Knowledge) (counts : List ℕ) (p n : ℕ) → 0 < length v.parts → p < b.processes
     → IsCollecting b v u counts p → LoadsLength b u w p n → IsCollecting b v w (set counts p n) (p + 1)
 IsCollecting-load b v u w counts p n part within so_far told =
     let before = IsBefore-IsCollecting b v u counts p part so_far in
@@ -100,7 +100,7 @@ IsCollecting-load b v u w counts p n part within so_far told =
     }
 
 -- a collect's counts are the numbers last loaded
-pub collect_of-IsCollecting : (b : BookTerms) (v w : View) (counts : List ℕ) → 0 < b.processes → IsCollecting b v w counts b.processes
+pub collect_of-IsCollecting : (b : BookTerms) (v w : Knowledge) (counts : List ℕ) → 0 < b.processes → IsCollecting b v w counts b.processes
     → counts ≡ collect_of w
 collect_of-IsCollecting b v w counts some whole =
     let loads = (own_part w).loads in
@@ -110,7 +110,7 @@ collect_of-IsCollecting b v w counts some whole =
     let below : q < b.processes = omega (arith, within, whole.sized) in
     sym (get_or-map (λ (l : Loads). l.last) loads q (record { times = 0; last = 0 }) 0 (omega (arith, below, lengths)) ∙ whole.last q below))
 
-pub IsCollect-IsCollecting : (b : BookTerms) (v w : View) (counts : List ℕ) → 0 < b.processes → IsCollecting b v w counts b.processes → IsCollect b v w
+pub IsCollect-IsCollecting : (b : BookTerms) (v w : Knowledge) (counts : List ℕ) → 0 < b.processes → IsCollecting b v w counts b.processes → IsCollect b v w
 IsCollect-IsCollecting b v w counts some whole =
     let same = collect_of-IsCollecting b v w counts some whole in
     let at : (q : ℕ) → get_or counts q 0 ≡ get_or (collect_of w) q 0 = λ q. ap (λ xs. get_or xs q 0) same in

@@ -2,41 +2,42 @@
 use Rattle.std.proofs.Common.{◌≡◌, ◌≢◌, ℕ, ◌+◌, ◌<◌, List, length, sym, ap, ◌∙◌, arith}
 use Rattle.std.proofs.lemmas.List.{get_or-set_other, get_or-set_same, length-set, set-set}
 use Rattle.at_ledger.specs.Book.{BookTerms}
-use Rattle.at_board.proofs.FrontLaws.{IsPrefix-trans}
-use Rattle.at_board.proofs.OwnRequestLaws.{own_part-with_part}
-use Rattle.at_board.specs.declared.view.Loads.{Loads}
-use Rattle.at_board.specs.declared.view.Part.{Part}
-use Rattle.at_board.specs.declared.view.View.{View}
-use Rattle.at_board.specs.Publications.{count_of}
-use Rattle.at_board.specs.Steps.{LoadsLength, with_load, with_part}
-use Rattle.at_board.specs.Views.{loads_of, own_part}
+use Rattle.at_history.proofs.Laws.Prefixes.{IsPrefix-trans}
+use Rattle.at_board.proofs.KnowledgeLaws.OwnRequests.{own_part-with_part}
+use Rattle.at_board.specs.declared.knowledge.Loads.{Loads}
+use Rattle.at_board.specs.declared.knowledge.Part.{Part}
+use Rattle.at_board.specs.declared.knowledge.Knowledge.{Knowledge}
+use Rattle.at_history.specs.Publications.{count_of}
+use Rattle.at_board.specs.Knowledge.Parts.{with_part}
+use Rattle.at_board.specs.Steps.LoadLength.{LoadsLength, with_load}
+use Rattle.at_board.specs.Knowledge.Parts.{loads_of, own_part}
 use Rattle.at_snapshot.specs.Collected.{HasLoaded}
 
 -- a part with other loads
 abbrev pub with_loads : Part → List Loads → Part
 with_loads q loads = record q { loads = loads }
 
-pub own_part-HasLoaded : (b : BookTerms) (v w : View) → 0 < length v.parts → HasLoaded b v w → own_part w ≡ with_loads (own_part v) (own_part w).loads
+pub own_part-HasLoaded : (b : BookTerms) (v w : Knowledge) → 0 < length v.parts → HasLoaded b v w → own_part w ≡ with_loads (own_part v) (own_part w).loads
 own_part-HasLoaded b v w part told =
     ap own_part told.same ∙ own_part-with_part (record v { seen = w.seen }) (with_loads (own_part v) (own_part w).loads) part
 
-pub parts-HasLoaded : (b : BookTerms) (v w : View) → HasLoaded b v w → length w.parts ≡ length v.parts
-parts-HasLoaded b v w told = ap (λ (t : View). length t.parts) told.same ∙ length-set v.parts 0 (with_loads (own_part v) (own_part w).loads)
+pub parts-HasLoaded : (b : BookTerms) (v w : Knowledge) → HasLoaded b v w → length w.parts ≡ length v.parts
+parts-HasLoaded b v w told = ap (λ (t : Knowledge). length t.parts) told.same ∙ length-set v.parts 0 (with_loads (own_part v) (own_part w).loads)
 
-pub published-HasLoaded : (b : BookTerms) (v w : View) → 0 < length v.parts → HasLoaded b v w → (own_part w).published ≡ (own_part v).published
+pub published-HasLoaded : (b : BookTerms) (v w : Knowledge) → 0 < length v.parts → HasLoaded b v w → (own_part w).published ≡ (own_part v).published
 published-HasLoaded b v w part told = ap (λ (q : Part). q.published) (own_part-HasLoaded b v w part told)
 
-pub first-HasLoaded : (b : BookTerms) (v w : View) → HasLoaded b v w → w.first ≡ v.first
-first-HasLoaded b v w told = ap (λ (t : View). t.first) told.same
+pub first-HasLoaded : (b : BookTerms) (v w : Knowledge) → HasLoaded b v w → w.first ≡ v.first
+first-HasLoaded b v w told = ap (λ (t : Knowledge). t.first) told.same
 
-pub book-HasLoaded : (b : BookTerms) (v w : View) → HasLoaded b v w → w.book ≡ v.book
-book-HasLoaded b v w told = ap (λ (t : View). t.book) told.same
+pub book-HasLoaded : (b : BookTerms) (v w : Knowledge) → HasLoaded b v w → w.book ≡ v.book
+book-HasLoaded b v w told = ap (λ (t : Knowledge). t.book) told.same
 
 -- the own part after a load of a length
-pub own_part-LoadsLength : (b : BookTerms) (v w : View) (p n : ℕ) → 0 < length v.parts → LoadsLength b v w p n → own_part w ≡ with_load (own_part v) p n
+pub own_part-LoadsLength : (b : BookTerms) (v w : Knowledge) (p n : ℕ) → 0 < length v.parts → LoadsLength b v w p n → own_part w ≡ with_load (own_part v) p n
 own_part-LoadsLength b v w p n part told = ap own_part told.same ∙ own_part-with_part (record v { seen = w.seen }) (with_load (own_part v) p n) part
 
-pub HasLoaded-LoadsLength : (b : BookTerms) (v w : View) (p n : ℕ) → 0 < length v.parts → LoadsLength b v w p n → HasLoaded b v w
+pub HasLoaded-LoadsLength : (b : BookTerms) (v w : Knowledge) (p n : ℕ) → 0 < length v.parts → LoadsLength b v w p n → HasLoaded b v w
 HasLoaded-LoadsLength b v w p n part told =
     let own = own_part-LoadsLength b v w p n part told in
     let loads = ap (λ (q : Part). q.loads) own in
@@ -48,7 +49,7 @@ HasLoaded-LoadsLength b v w p n part told =
       same = told.same ∙ ap (λ (xs : List Loads). with_part (record v { seen = w.seen }) (with_loads (own_part v) xs)) (sym loads);
     }
 
-pub HasLoaded-trans : (b : BookTerms) (v u w : View) → 0 < length v.parts → HasLoaded b v u → HasLoaded b u w → HasLoaded b v w
+pub HasLoaded-trans : (b : BookTerms) (v u w : Knowledge) → 0 < length v.parts → HasLoaded b v u → HasLoaded b u w → HasLoaded b v w
 HasLoaded-trans b v u w part first second =
     let q : Part = with_loads (own_part v) (own_part u).loads in
     let own : own_part u ≡ q = own_part-HasLoaded b v u part first in
@@ -60,18 +61,18 @@ HasLoaded-trans b v u w part first second =
       lengths = second.lengths;
       same = second.same
           ∙ (ap (λ (r : Part). with_part (record u { seen = w.seen }) (with_loads r (own_part w).loads)) own
-          ∙ (ap (λ (t : View). with_part (record t { seen = w.seen }) last) first.same
+          ∙ (ap (λ (t : Knowledge). with_part (record t { seen = w.seen }) last) first.same
           ∙ ap (λ (ps : List Part). record v { seen = w.seen; parts = ps }) (set-set v.parts 0 q last)));
     }
 
 -- how often each length was loaded, and its last number, after a load
-pub loads_of-same : (b : BookTerms) (v w : View) (p n : ℕ) → 0 < length v.parts → p < b.processes → LoadsLength b v w p n
+pub loads_of-same : (b : BookTerms) (v w : Knowledge) (p n : ℕ) → 0 < length v.parts → p < b.processes → LoadsLength b v w p n
     → loads_of (own_part w) p ≡ record { times = (loads_of (own_part v) p).times + 1; last = n }
 loads_of-same b v w p n part within told =
     ap (λ q. loads_of q p) (own_part-LoadsLength b v w p n part told)
     ∙ get_or-set_same (own_part v).loads p _ _ (omega (arith, told.lengths, within))
 
-pub loads_of-other : (b : BookTerms) (v w : View) (p n q : ℕ) → 0 < length v.parts → q ≢ p → LoadsLength b v w p n
+pub loads_of-other : (b : BookTerms) (v w : Knowledge) (p n q : ℕ) → 0 < length v.parts → q ≢ p → LoadsLength b v w p n
     → loads_of (own_part w) q ≡ loads_of (own_part v) q
 loads_of-other b v w p n q part apart told =
     ap (λ t. loads_of t q) (own_part-LoadsLength b v w p n part told)

@@ -3,30 +3,30 @@ use Rattle.std.proofs.Common.{◌≡◌, ℕ, ◌<◌, ◌≤◌, length, get_or
 use Rattle.std.specs.Option.{IfSome}
 use Rattle.std.proofs.lemmas.List.{length-map}
 use Rattle.at_ledger.specs.Book.{BookTerms}
-use Rattle.at_board.proofs.FrontLaws.{IsPrefix-count_of, IsPrefix-refl, IsPrefix-trans}
-use Rattle.at_board.specs.declared.view.Loads.{Loads}
-use Rattle.at_board.specs.declared.view.View.{View}
-use Rattle.at_board.specs.Publications.{count_of}
-use Rattle.at_board.specs.Views.{own_part}
+use Rattle.at_history.proofs.Laws.Prefixes.{IsPrefix-count_of, IsPrefix-refl, IsPrefix-trans}
+use Rattle.at_board.specs.declared.knowledge.Loads.{Loads}
+use Rattle.at_board.specs.declared.knowledge.Knowledge.{Knowledge}
+use Rattle.at_history.specs.Publications.{count_of}
+use Rattle.at_board.specs.Knowledge.Parts.{own_part}
 use Rattle.at_snapshot.specs.declared.collects.Collects.{Collects}
 use Rattle.at_snapshot.proofs.LoadedLaws.{first-HasLoaded, published-HasLoaded}
 use Rattle.at_snapshot.specs.Collected.{HasLoaded, IsCollect, collect_of}
-use Rattle.at_snapshot.specs.Scans.{AreCollects, IsScanOf, ScanView, collects_after, scan_after}
+use Rattle.at_snapshot.specs.Scans.{AreCollects, IsScanOf, ScanTerms, collects_after, scan_after}
 
-pub length-collect_of : (b : BookTerms) (v w : View) → HasLoaded b v w → length (collect_of w) ≡ b.processes
+pub length-collect_of : (b : BookTerms) (v w : Knowledge) → HasLoaded b v w → length (collect_of w) ≡ b.processes
 length-collect_of b v w told = length-map (own_part w).loads (λ (l : Loads). l.last) ∙ told.lengths
 
 -- a collect counts no less of a process than was seen at the start
-pub counts-IsScanOf : (b : BookTerms) (scan : ScanView) (v w : View) (p : ℕ) → IsScanOf b scan v → IsCollect b v w → p < b.processes
+pub counts-IsScanOf : (b : BookTerms) (scan : ScanTerms) (v w : Knowledge) (p : ℕ) → IsScanOf b scan v → IsCollect b v w → p < b.processes
     → count_of p scan.start.seen ≤ get_or (collect_of w) p 0
 counts-IsScanOf b scan v w p so told known = omega (arith, IsPrefix-count_of p scan.start.seen v.seen so.started, told.least p known)
 
 -- a scan that has collected
-pub AreCollects-IsScanOf : (b : BookTerms) (scan : ScanView) (c : Collects) (v : View) → IsScanOf b scan v → scan.collects ≡ Some c → AreCollects b scan c
+pub AreCollects-IsScanOf : (b : BookTerms) (scan : ScanTerms) (c : Collects) (v : Knowledge) → IsScanOf b scan v → scan.collects ≡ Some c → AreCollects b scan c
 AreCollects-IsScanOf b scan c v so is = subst (λ collects. IfSome collects (AreCollects b scan)) is so.collects
 
 -- what was counted last is counted again
-pub last_le : (b : BookTerms) (scan : ScanView) (c : Collects) (v w : View) (p : ℕ) → IsScanOf b scan v → AreCollects b scan c → IsCollect b v w
+pub last_le : (b : BookTerms) (scan : ScanTerms) (c : Collects) (v w : Knowledge) (p : ℕ) → IsScanOf b scan v → AreCollects b scan c → IsCollect b v w
     → p < b.processes → get_or c.last p 0 ≤ get_or (collect_of w) p 0
 last_le b scan c v w p so are told known =
     omega (
@@ -36,11 +36,11 @@ last_le b scan c v w p so are told known =
       told.least p known,
     )
 
-AreCollects-after : (b : BookTerms) (start mark : View) (cs : Option Collects) (v w : View)
+AreCollects-after : (b : BookTerms) (start mark : Knowledge) (cs : Option Collects) (v w : Knowledge)
     → IsScanOf b (record { start = start; mark = mark; collects = cs }) v → IsCollect b v w
     → AreCollects b (scan_after (record { start = start; mark = mark; collects = cs }) w) (collects_after cs (collect_of w))
 AreCollects-after b start mark None v w so told =
-    let scan : ScanView = record { start = start; mark = mark; collects = None } in
+    let scan : ScanTerms = record { start = start; mark = mark; collects = None } in
     record {
       first_length = length-collect_of b v w told.loaded;
       last_length = length-collect_of b v w told.loaded;
@@ -50,7 +50,7 @@ AreCollects-after b start mark None v w so told =
       rising = λ p within. omega arith;
     }
 AreCollects-after b start mark (Some c) v w so told =
-    let scan : ScanView = record { start = start; mark = mark; collects = Some c } in
+    let scan : ScanTerms = record { start = start; mark = mark; collects = Some c } in
     let are : AreCollects b scan c = so.collects in
     record {
       first_length = are.first_length;
@@ -63,7 +63,7 @@ AreCollects-after b start mark (Some c) v w so told =
           omega (arith, are.rising p (omega (arith, known, are.last_length)), last_le b scan c v w p so are told known);
     }
 
-pub IsScanOf-after : (b : BookTerms) (scan : ScanView) (v w : View) → 0 < length v.parts → IsScanOf b scan v → IsCollect b v w
+pub IsScanOf-after : (b : BookTerms) (scan : ScanTerms) (v w : Knowledge) → 0 < length v.parts → IsScanOf b scan v → IsCollect b v w
     → IsScanOf b (scan_after scan w) w
 IsScanOf-after b scan v w part so told = record {
   process = first-HasLoaded b v w told.loaded ∙ so.process;

@@ -4,37 +4,38 @@ use Rattle.std.specs.List.{sum}
 use Rattle.std.proofs.lemmas.Bool.{cases_lt}
 use Rattle.std.proofs.lemmas.List.{ext_get_or}
 use Rattle.at_ledger.specs.Book.{BookTerms}
-use Rattle.at_board.proofs.CountLaws.{IsPosition, count_of-take-le, count_of-take_mono, get_or-counts, get_or-publications_of, length-counts, position_of, sum-counts}
-use Rattle.at_board.proofs.FrontLaws.{ArePublishedBy-IsPrefix, ArePublishedBy-take, IsFront-IsPrefix, IsFront-counts, IsPrefix-count_of, IsPrefix-length, IsPrefix-prefix_of, IsPrefix-prefix_of_from_le, IsPrefix-take, IsPrefix-trans, get_or-IsFront, take-IsPrefix}
-use Rattle.at_board.proofs.SmallBoardLaws.{ArePublishedBy-IsHistory}
-use Rattle.at_board.specs.declared.publication.Publication.{Publication}
-use Rattle.at_board.specs.declared.view.View.{View}
-use Rattle.at_board.specs.BoardState.{publication_at}
-use Rattle.at_board.specs.Fronts.{IsFront, place, prefix_of}
-use Rattle.at_board.specs.Publications.{IsPrefix, count_of, counts, no_publication, publications_of}
-use Rattle.at_board.specs.Sound.{HasView}
-use Rattle.at_board.specs.Views.{loads_of, own_part}
+use Rattle.at_history.proofs.Laws.Counts.{IsPosition, count_of-take-le, count_of-take_mono, get_or-counts, get_or-publications_of, length-counts, position_of, sum-counts}
+use Rattle.at_history.proofs.Laws.Fronts.{IsFront-IsPrefix, IsFront-counts, IsPrefix-prefix_of, IsPrefix-prefix_of_from_le, get_or-IsFront}
+use Rattle.at_history.proofs.Laws.Prefixes.{ArePublishedBy-IsPrefix, ArePublishedBy-take, IsPrefix-count_of, IsPrefix-length, IsPrefix-take, IsPrefix-trans, take-IsPrefix}
+use Rattle.at_history.proofs.Laws.Histories.{ArePublishedBy-IsHistory}
+use Rattle.at_history.specs.declared.publication.Publication.{Publication}
+use Rattle.at_board.specs.declared.knowledge.Knowledge.{Knowledge}
+use Rattle.at_history.specs.BoardState.{publication_at}
+use Rattle.at_history.specs.Fronts.{IsFront, place, prefix_of}
+use Rattle.at_history.specs.Publications.{IsPrefix, count_of, counts, no_publication, publications_of}
+use Rattle.at_history.specs.Sound.{HasView}
+use Rattle.at_board.specs.Knowledge.Parts.{loads_of, own_part}
 use Rattle.at_snapshot.specs.declared.collects.Collects.{Collects}
 use Rattle.at_snapshot.specs.declared.scan.Turn.{Turn}
 use Rattle.at_snapshot.specs.declared.scan.Turn.TheVariants.{Clean, Borrowed, Again}
 use Rattle.at_snapshot.proofs.ScanLaws.{AreCollects-IsScanOf, length-collect_of}
 use Rattle.at_snapshot.specs.Collected.{IsCollect, collect_of}
-use Rattle.at_snapshot.specs.Scans.{AreCollects, IsScanOf, ScanView, SeesOwnRecords, loads_at_least}
+use Rattle.at_snapshot.specs.Scans.{AreCollects, IsScanOf, ScanTerms, SeesOwnRecords, loads_at_least}
 use Rattle.at_snapshot.specs.Snapshots.{IsSnapshot, OnCounts}
 use Rattle.at_snapshot.specs.Turns.{HasRisen, IsLent, IsVerdict}
 
 -- each length was loaded once since the start, and after one more collect twice
-loaded_once : (b : BookTerms) (scan : ScanView) (c : Collects) (v : View) → IsScanOf b scan v → scan.collects ≡ Some c
+loaded_once : (b : BookTerms) (scan : ScanTerms) (c : Collects) (v : Knowledge) → IsScanOf b scan v → scan.collects ≡ Some c
     → (p : ℕ) → p < b.processes → (loads_of (own_part scan.start) p).times + 1 ≤ (loads_of (own_part v) p).times
 loaded_once b scan c v so is p known = omega (arith, so.loads p known, ap loads_at_least is)
 
-loaded_twice : (b : BookTerms) (scan : ScanView) (v w : View) (p : ℕ) → IsCollect b v w → p < b.processes
+loaded_twice : (b : BookTerms) (scan : ScanTerms) (v w : Knowledge) (p : ℕ) → IsCollect b v w → p < b.processes
     → (loads_of (own_part scan.start) p).times + 1 ≤ (loads_of (own_part v) p).times
     → (loads_of (own_part scan.start) p).times + 2 ≤ (loads_of (own_part w) p).times
 loaded_twice b scan v w p told known once = omega (arith, told.times p known)
 
 -- two equal collects in a row are the counts of what was seen between them
-counts-equal : (b : BookTerms) (scan : ScanView) (c : Collects) (v w : View) → IsScanOf b scan v → AreCollects b scan c → IsCollect b v w
+counts-equal : (b : BookTerms) (scan : ScanTerms) (c : Collects) (v w : Knowledge) → IsScanOf b scan v → AreCollects b scan c → IsCollect b v w
     → c.last ≡ collect_of w → counts b.processes scan.mark.seen ≡ collect_of w
 counts-equal b scan c v w so are told same =
     let n = b.processes in
@@ -52,7 +53,7 @@ counts-equal b scan c v w so are told same =
     ))
 
 -- a front that begins with all that was seen at the start counts all of the scan's process
-own_counted : (b : BookTerms) (scan : ScanView) (v w : View) (view : List ℕ) → SeesOwnRecords scan.start → IsScanOf b scan v
+own_counted : (b : BookTerms) (scan : ScanTerms) (v w : Knowledge) (view : List ℕ) → SeesOwnRecords scan.start → IsScanOf b scan v
     → v.first < b.processes → IsCollect b v w → IsFront b.processes view w.seen
     → IsPrefix scan.start.seen (prefix_of view w.seen) → get_or view scan.start.first 0 ≡ (own_part scan.start).published
 own_counted b scan v w view own so known told front begins =
@@ -68,7 +69,7 @@ own_counted b scan v w view own so known told front begins =
       so.published,
     )
 
-pub IsSnapshot-equal : (b : BookTerms) (scan : ScanView) (c : Collects) (v w : View) → SeesOwnRecords scan.start → IsScanOf b scan v → v.first < b.processes
+pub IsSnapshot-equal : (b : BookTerms) (scan : ScanTerms) (c : Collects) (v w : Knowledge) → SeesOwnRecords scan.start → IsScanOf b scan v → v.first < b.processes
     → AreCollects b scan c → IsCollect b v w
     → ((p : ℕ) → p < b.processes → (loads_of (own_part scan.start) p).times + 1 ≤ (loads_of (own_part v) p).times)
     → c.last ≡ collect_of w → IsSnapshot b scan.start w (collect_of w)
@@ -93,14 +94,14 @@ IsSnapshot-equal b scan c v w own so process are told once same =
     }
 
 -- the record whose view is lent: it was not seen at the start, and its view counts more of its process than was seen then
-record IsNew (b : BookTerms) (scan : ScanView) (w : View) (q i m : ℕ) : Type 0 where
+record IsNew (b : BookTerms) (scan : ScanTerms) (w : Knowledge) (q i m : ℕ) : Type 0 where
   pub at : IsPosition q i w.seen m
   pub view : HasView b (take m w.seen) (publication_at w.seen m)
   pub own : get_or (publication_at w.seen m).view q 0 ≡ i
   pub above : count_of q scan.start.seen < i
   pub later : length scan.start.seen ≤ m
 
-is_new : (b : BookTerms) (scan : ScanView) (c : Collects) (v w : View) (q : ℕ) → IsScanOf b scan v → AreCollects b scan c → IsCollect b v w
+is_new : (b : BookTerms) (scan : ScanTerms) (c : Collects) (v w : Knowledge) (q : ℕ) → IsScanOf b scan v → AreCollects b scan c → IsCollect b v w
     → HasRisen w.first c.first (collect_of w) q → (m : ℕ) × IsNew b scan w q (get_or (collect_of w) q 0 - 1) m
 is_new b scan c v w q so are told risen =
     let i = get_or (collect_of w) q 0 - 1 in
@@ -133,7 +134,7 @@ is_new b scan c v w q so are told risen =
       },
     )
 
-pub IsSnapshot-lent : (b : BookTerms) (scan : ScanView) (c : Collects) (v w : View) (lent : List ℕ) → SeesOwnRecords scan.start
+pub IsSnapshot-lent : (b : BookTerms) (scan : ScanTerms) (c : Collects) (v w : Knowledge) (lent : List ℕ) → SeesOwnRecords scan.start
     → IsScanOf b scan v → v.first < b.processes → AreCollects b scan c → IsCollect b v w
     → ((p : ℕ) → p < b.processes → (loads_of (own_part scan.start) p).times + 1 ≤ (loads_of (own_part v) p).times)
     → IsLent c w (collect_of w) lent → IsSnapshot b scan.start w lent
@@ -176,7 +177,7 @@ IsSnapshot-lent b scan c v w lent own so process are told once is =
     })
 
 -- what a later turn answers
-pub OnCounts-IsVerdict : (b : BookTerms) (scan : ScanView) (c : Collects) (v w : View) (turn : Turn) → SeesOwnRecords scan.start
+pub OnCounts-IsVerdict : (b : BookTerms) (scan : ScanTerms) (c : Collects) (v w : Knowledge) (turn : Turn) → SeesOwnRecords scan.start
     → IsScanOf b scan v → v.first < b.processes → scan.collects ≡ Some c → IsCollect b v w → IsVerdict c w (collect_of w) turn → OnCounts turn (IsSnapshot b scan.start w)
 OnCounts-IsVerdict b scan c v w (Clean counts) own so process is told verdict =
     subst (IsSnapshot b scan.start w) (sym verdict.counts_are)

@@ -3,10 +3,10 @@ use Rattle.std.proofs.Common.{◌≡◌, ℕ, ◌+◌, ◌*◌, ◌<◌, ◌≤�
 use Rattle.std.proofs.lemmas.Bool.{cases_eq, cases_lt}
 use Rattle.std.proofs.lemmas.Nat.{mul-le}
 use Rattle.at_ledger.specs.Book.{BookTerms}
-use Rattle.at_board.proofs.FrontLaws.{IsPrefix-count_of}
-use Rattle.at_board.specs.declared.view.View.{View}
-use Rattle.at_board.specs.Publications.{count_of}
-use Rattle.at_board.specs.Views.{loads_of, own_part}
+use Rattle.at_history.proofs.Laws.Prefixes.{IsPrefix-count_of}
+use Rattle.at_board.specs.declared.knowledge.Knowledge.{Knowledge}
+use Rattle.at_history.specs.Publications.{count_of}
+use Rattle.at_board.specs.Knowledge.Parts.{loads_of, own_part}
 use Rattle.at_snapshot.specs.declared.collects.Collects.{Collects}
 use Rattle.at_snapshot.specs.declared.scan.Turn.{Turn}
 use Rattle.at_snapshot.specs.declared.scan.Turn.TheVariants.{Clean, Borrowed, Again}
@@ -14,7 +14,7 @@ use Rattle.at_snapshot.proofs.LoadedLaws.{HasLoaded-trans, first-HasLoaded, part
 use Rattle.at_snapshot.proofs.ScanLaws.{IsScanOf-after, last_le, length-collect_of}
 use Rattle.at_snapshot.proofs.UnmovedLaws.{unmoved, unmoved-falls, unmoved-same, unmoved-some}
 use Rattle.at_snapshot.specs.Collected.{HasLoaded, IsCollect, collect_of}
-use Rattle.at_snapshot.specs.Scans.{AreCollects, IsScanOf, ScanView, SeesOwnRecords, collects_after, scan_after, starting_scan}
+use Rattle.at_snapshot.specs.Scans.{AreCollects, IsScanOf, ScanTerms, SeesOwnRecords, collects_after, scan_after, starting_scan}
 use Rattle.at_snapshot.specs.Snapshots.{HasCollected, snapshot_steps}
 use Rattle.at_snapshot.specs.Turns.{IsAnswer, IsUndecided, view_steps}
 
@@ -24,7 +24,7 @@ turns_left n None = n + 1
 turns_left n (Some c) = unmoved c.first c.last
 
 -- no count is two above the first
-close_to_first : (b : BookTerms) (scan : ScanView) (c : Collects) (v w : View) (p : ℕ) → SeesOwnRecords scan.start
+close_to_first : (b : BookTerms) (scan : ScanTerms) (c : Collects) (v w : Knowledge) (p : ℕ) → SeesOwnRecords scan.start
     → IsScanOf b scan v → AreCollects b scan c → IsCollect b v w → IsUndecided c w (collect_of w) → p < b.processes → get_or (collect_of w) p 0 ≤ get_or c.first p 0 + 1
 close_to_first b scan c v w p own so are told undecided known =
     elim (cases_eq p w.first) as (λ _. get_or (collect_of w) p 0 ≤ get_or c.first p 0 + 1) [
@@ -48,7 +48,7 @@ close_to_first b scan c v w p own so are told undecided known =
     ]
 
 -- a turn that answers Again leaves fewer
-turns_left-undecided : (b : BookTerms) (scan : ScanView) (c : Collects) (v w : View) → SeesOwnRecords scan.start
+turns_left-undecided : (b : BookTerms) (scan : ScanTerms) (c : Collects) (v w : Knowledge) → SeesOwnRecords scan.start
     → IsScanOf b scan v → AreCollects b scan c → IsCollect b v w → IsUndecided c w (collect_of w) → unmoved c.first (collect_of w) < unmoved c.first c.last
 turns_left-undecided b scan c v w own so are told undecided =
     let known : (p : ℕ) → p < length c.first → p < b.processes = λ p within. omega (arith, within, are.first_length) in
@@ -58,7 +58,7 @@ turns_left-undecided b scan c v w own so are told undecided =
     (λ p within. close_to_first b scan c v w p own so are told undecided (known p within))
     undecided.differs
 
-pub turns_left-Again : (b : BookTerms) (start mark : View) (cs : Option Collects) (v w : View) → SeesOwnRecords start
+pub turns_left-Again : (b : BookTerms) (start mark : Knowledge) (cs : Option Collects) (v w : Knowledge) → SeesOwnRecords start
     → IsScanOf b (record { start = start; mark = mark; collects = cs }) v → IsCollect b v w
     → IsAnswer (record { start = start; mark = mark; collects = cs }) w Again
     → turns_left b.processes (Some (collects_after cs (collect_of w))) < turns_left b.processes cs
@@ -67,7 +67,7 @@ turns_left-Again b start mark (Some c) v w own so told answer =
     turns_left-undecided b (record { start = start; mark = mark; collects = Some c }) c v w own so so.collects told answer
 
 -- the scan's own count never moves
-pub turns_left-some : (b : BookTerms) (start mark : View) (cs : Option Collects) (v : View) → start.first < b.processes → SeesOwnRecords start
+pub turns_left-some : (b : BookTerms) (start mark : Knowledge) (cs : Option Collects) (v : Knowledge) → start.first < b.processes → SeesOwnRecords start
     → IsScanOf b (record { start = start; mark = mark; collects = cs }) v → ((c : Collects) → cs ≡ Some c → HasLoaded b start v)
     → 1 ≤ turns_left b.processes cs
 turns_left-some b start mark None v known own so loaded = omega arith
@@ -87,7 +87,7 @@ turns_left-some b start mark (Some c) v known own so loaded =
     unmoved-some c.first c.last p (are.last_length ∙ sym are.first_length) (omega (arith, known, are.first_length)) same
 
 -- a snapshot after so many turns, from a view and a number of steps
-pub record IsSnapping (b : BookTerms) (begun : View) (scan : ScanView) (v : View) (before steps turns : ℕ) : Type 0 where
+pub record IsSnapping (b : BookTerms) (begun : Knowledge) (scan : ScanTerms) (v : Knowledge) (before steps turns : ℕ) : Type 0 where
   pub scan_of : IsScanOf b scan v
   pub start : scan.start ≡ begun
   pub own : SeesOwnRecords scan.start
@@ -98,17 +98,17 @@ pub record IsSnapping (b : BookTerms) (begun : View) (scan : ScanView) (v : View
   pub few : turns + turns_left b.processes scan.collects ≤ b.processes + 1
 
 -- after one more collect all loads are loads of lengths
-pub HasLoaded-more : (b : BookTerms) (begun v w : View) (cs : Option Collects) → 0 < length begun.parts → (cs ≡ None → v ≡ begun)
+pub HasLoaded-more : (b : BookTerms) (begun v w : Knowledge) (cs : Option Collects) → 0 < length begun.parts → (cs ≡ None → v ≡ begun)
     → ((c : Collects) → cs ≡ Some c → HasLoaded b begun v) → HasLoaded b v w → HasLoaded b begun w
-HasLoaded-more b begun v w None part new loaded told = subst (λ (t : View). HasLoaded b t w) (new refl) told
+HasLoaded-more b begun v w None part new loaded told = subst (λ (t : Knowledge). HasLoaded b t w) (new refl) told
 HasLoaded-more b begun v w (Some c) part new loaded told = HasLoaded-trans b begun v w part (loaded c refl) told
 
-parts-more : (b : BookTerms) (begun v : View) (cs : Option Collects) → (cs ≡ None → v ≡ begun)
+parts-more : (b : BookTerms) (begun v : Knowledge) (cs : Option Collects) → (cs ≡ None → v ≡ begun)
     → ((c : Collects) → cs ≡ Some c → HasLoaded b begun v) → length v.parts ≡ length begun.parts
-parts-more b begun v None new loaded = ap (λ (t : View). length t.parts) (new refl)
+parts-more b begun v None new loaded = ap (λ (t : Knowledge). length t.parts) (new refl)
 parts-more b begun v (Some c) new loaded = parts-HasLoaded b begun v (loaded c refl)
 
-pub IsSnapping-start : (b : BookTerms) (begun : View) (before : ℕ) → SeesOwnRecords begun → IsScanOf b (starting_scan begun) begun
+pub IsSnapping-start : (b : BookTerms) (begun : Knowledge) (before : ℕ) → SeesOwnRecords begun → IsScanOf b (starting_scan begun) begun
     → IsSnapping b begun (starting_scan begun) begun before before 0
 IsSnapping-start b begun before own so = record {
   scan_of = so;
@@ -121,7 +121,7 @@ IsSnapping-start b begun before own so = record {
   few = omega arith;
 }
 
-pub IsSnapping-Again : (b : BookTerms) (begun : View) (scan : ScanView) (v w : View) (before steps turns : ℕ) → 0 < length begun.parts
+pub IsSnapping-Again : (b : BookTerms) (begun : Knowledge) (scan : ScanTerms) (v w : Knowledge) (before steps turns : ℕ) → 0 < length begun.parts
     → IsSnapping b begun scan v before steps turns → IsCollect b v w → IsAnswer scan w Again
     → IsSnapping b begun (scan_after scan w) w before (steps + b.processes) (turns + 1)
 IsSnapping-Again b begun scan v w before steps turns part so_far told answer =
@@ -139,15 +139,15 @@ IsSnapping-Again b begun scan v w before steps turns part so_far told answer =
     }
 
 -- at most one turn for each process may stand before the last one
-few_turns : (b : BookTerms) (begun : View) (scan : ScanView) (v : View) (before steps turns : ℕ) → begun.first < b.processes
+few_turns : (b : BookTerms) (begun : Knowledge) (scan : ScanTerms) (v : Knowledge) (before steps turns : ℕ) → begun.first < b.processes
     → IsSnapping b begun scan v before steps turns → turns ≤ b.processes
 few_turns b begun scan v before steps turns known so_far =
-    let known' : scan.start.first < b.processes = omega (arith, known, ap (λ (t : View). t.first) so_far.start) in
+    let known' : scan.start.first < b.processes = omega (arith, known, ap (λ (t : Knowledge). t.first) so_far.start) in
     omega (
       arith,
       so_far.few,
       turns_left-some b scan.start scan.mark scan.collects v known' so_far.own so_far.scan_of
-          (λ c is. subst (λ (t : View). HasLoaded b t v) (sym so_far.start) (so_far.loaded c is)),
+          (λ c is. subst (λ (t : Knowledge). HasLoaded b t v) (sym so_far.start) (so_far.loaded c is)),
     )
 
 view_steps-le : (n : ℕ) (turn : Turn) → view_steps n turn ≤ n
@@ -156,12 +156,12 @@ view_steps-le n (Borrowed counts) = omega arith
 view_steps-le n Again = omega arith
 
 -- what holds after the last turn
-pub record IsSnapped (b : BookTerms) (begun after : View) (before steps : ℕ) : Type 0 where
+pub record IsSnapped (b : BookTerms) (begun after : Knowledge) (before steps : ℕ) : Type 0 where
   pub loads : HasLoaded b begun after
   pub collects : HasCollected b begun after (b.processes + 1)
   pub few : steps ≤ before + snapshot_steps b.processes
 
-pub IsSnapped-IsSnapping : (b : BookTerms) (begun : View) (scan : ScanView) (v w : View) (before steps turns : ℕ) (turn : Turn) → 0 < length begun.parts
+pub IsSnapped-IsSnapping : (b : BookTerms) (begun : Knowledge) (scan : ScanTerms) (v w : Knowledge) (before steps turns : ℕ) (turn : Turn) → 0 < length begun.parts
     → begun.first < b.processes → IsSnapping b begun scan v before steps turns → IsCollect b v w
     → IsSnapped b begun w before (steps + b.processes + view_steps b.processes turn)
 IsSnapped-IsSnapping b begun scan v w before steps turns turn part known so_far told =

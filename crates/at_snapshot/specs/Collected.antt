@@ -1,17 +1,18 @@
 -- What loads of lengths tell a seat.
 use Rattle.std.specs.Prelude.{◌≡◌, ℕ, ◌+◌, ◌<◌, ◌≤◌, List, length, map, slice_index}
 use Rattle.at_ledger.specs.Book.{BookTerms}
-use Rattle.at_board.specs.declared.view.View.{View}
-use Rattle.at_board.specs.Publications.{IsPrefix, count_of}
-use Rattle.at_board.specs.Steps.{IsHistory, with_part}
-use Rattle.at_board.specs.Views.{loads_of, own_part}
+use Rattle.at_board.specs.declared.knowledge.Knowledge.{Knowledge}
+use Rattle.at_history.specs.Publications.{IsPrefix, count_of}
+use Rattle.at_history.specs.Histories.{IsHistory}
+use Rattle.at_board.specs.Knowledge.Parts.{with_part}
+use Rattle.at_board.specs.Knowledge.Parts.{loads_of, own_part}
 
 -- the numbers that a seat last loaded
-abbrev pub collect_of : View → List ℕ
+abbrev pub collect_of : Knowledge → List ℕ
 collect_of view = map (λ l. l.last) (own_part view).loads
 
 -- loads of lengths alone have changed the view: its list begins with the old one
-pub record HasLoaded (b : BookTerms) (before after : View) : Type 0 where
+pub record HasLoaded (b : BookTerms) (before after : Knowledge) : Type 0 where
   pub more : IsPrefix before.seen after.seen
   pub own : count_of before.first after.seen ≡ (own_part before).published
   pub history : IsHistory b after.seen
@@ -20,7 +21,7 @@ pub record HasLoaded (b : BookTerms) (before after : View) : Type 0 where
 
 -- a collect loads each length once. The number of each process counts at least its publications that were seen before, and
 -- at most those that are seen now
-pub record IsCollect (b : BookTerms) (before after : View) : Type 0 where
+pub record IsCollect (b : BookTerms) (before after : Knowledge) : Type 0 where
   pub loaded : HasLoaded b before after
   pub times : (p : ℕ) → p < b.processes → (loads_of (own_part after) p).times ≡ (loads_of (own_part before) p).times + 1
   pub least : (p : ℕ) → p < b.processes → count_of p before.seen ≤ slice_index (collect_of after) p

@@ -2,23 +2,23 @@
 use Rattle.std.specs.Prelude.{◌≡◌, ℕ, ◌+◌, ◌<◌, ◌≤◌, List, length, slice_index, Option, Some, None, IfSome}
 use Rattle.at_base.specs.Counts.{Covers}
 use Rattle.at_ledger.specs.Book.{BookTerms}
-use Rattle.at_board.specs.declared.view.View.{View}
-use Rattle.at_board.specs.Publications.{IsPrefix, count_of}
-use Rattle.at_board.specs.Views.{loads_of, own_part}
+use Rattle.at_board.specs.declared.knowledge.Knowledge.{Knowledge}
+use Rattle.at_history.specs.Publications.{IsPrefix, count_of}
+use Rattle.at_board.specs.Knowledge.Parts.{loads_of, own_part}
 use Rattle.at_snapshot.specs.declared.collects.Collects.{Collects}
 use Rattle.at_snapshot.specs.Collected.{collect_of}
 
 -- the view has seen all records of its own process
-abbrev pub SeesOwnRecords : View → Type 0
+abbrev pub SeesOwnRecords : Knowledge → Type 0
 SeesOwnRecords view = count_of view.first view.seen ≡ (own_part view).published
 
 -- a scan by what its seat had seen at the start and at the end of the last collect, and by its first collect and its last
-pub record ScanView : Type 0 where
-  pub start : View
-  pub mark : View
+pub record ScanTerms : Type 0 where
+  pub start : Knowledge
+  pub mark : Knowledge
   pub collects : Option Collects
 
-abbrev pub starting_scan : View → ScanView
+abbrev pub starting_scan : Knowledge → ScanTerms
 starting_scan view = record { start = view; mark = view; collects = None }
 
 -- the collects after one more, which is the first where there was none
@@ -27,7 +27,7 @@ collects_after None collect = record { first = collect; last = collect }
 collects_after (Some c) collect = record { first = c.first; last = collect }
 
 -- the scan after a collect
-abbrev pub scan_after : ScanView → View → ScanView
+abbrev pub scan_after : ScanTerms → Knowledge → ScanTerms
 scan_after scan view = record { start = scan.start; mark = view; collects = Some (collects_after scan.collects (collect_of view)) }
 
 -- how often a scan has loaded each length at least
@@ -37,7 +37,7 @@ loads_at_least (Some c) = 1
 
 -- the collects of a scan: the first counts all that was seen at the start, the last no more than what was seen at its end, and
 -- no count has fallen
-pub record AreCollects (b : BookTerms) (scan : ScanView) (c : Collects) : Type 0 where
+pub record AreCollects (b : BookTerms) (scan : ScanTerms) (c : Collects) : Type 0 where
   pub first_length : length c.first ≡ b.processes
   pub last_length : length c.last ≡ b.processes
   pub seen : IsPrefix scan.start.seen scan.mark.seen
@@ -46,7 +46,7 @@ pub record AreCollects (b : BookTerms) (scan : ScanView) (c : Collects) : Type 0
   pub rising : Covers c.last c.first
 
 -- the view is that of a scan's seat, which has published nothing since the start
-pub record IsScanOf (b : BookTerms) (scan : ScanView) (view : View) : Type 0 where
+pub record IsScanOf (b : BookTerms) (scan : ScanTerms) (view : Knowledge) : Type 0 where
   pub process : view.first ≡ scan.start.first
   pub published : (own_part view).published ≡ (own_part scan.start).published
   pub started : IsPrefix scan.start.seen view.seen

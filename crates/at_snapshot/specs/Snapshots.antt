@@ -1,17 +1,17 @@
 -- Snapshots: fronts of what a seat has seen that begin with all that it had seen.
 use Rattle.std.specs.Prelude.{◌≡◌, ℕ, ◌+◌, ◌*◌, ◌<◌, ◌≤◌, List, slice_index}
 use Rattle.at_ledger.specs.Book.{BookTerms}
-use Rattle.at_board.specs.declared.view.View.{View}
-use Rattle.at_board.specs.Fresh.{IsFresh}
-use Rattle.at_board.specs.Fronts.{IsFront, prefix_of}
-use Rattle.at_board.specs.Publications.{IsPrefix}
-use Rattle.at_board.specs.Views.{loads_of, own_part}
+use Rattle.at_board.specs.declared.knowledge.Knowledge.{Knowledge}
+use Rattle.at_board.specs.Knowledge.Fresh.{IsFresh}
+use Rattle.at_history.specs.Fronts.{IsFront, prefix_of}
+use Rattle.at_history.specs.Publications.{IsPrefix}
+use Rattle.at_board.specs.Knowledge.Parts.{loads_of, own_part}
 use Rattle.at_snapshot.specs.declared.scan.Turn.{Turn}
 use Rattle.at_snapshot.specs.declared.scan.Turn.TheVariants.{Clean, Borrowed, Again}
 
 -- the counts are a front of what the seat has seen now, whose prefix begins with all that it had seen before, and are fresh.
 -- They count all that the seat's process has published
-pub record IsSnapshot (b : BookTerms) (before after : View) (counts : List ℕ) : Type 0 where
+pub record IsSnapshot (b : BookTerms) (before after : Knowledge) (counts : List ℕ) : Type 0 where
   pub front : IsFront b.processes counts after.seen
   pub begins : IsPrefix before.seen (prefix_of counts after.seen)
   pub fresh : IsFresh b before after counts
@@ -24,7 +24,7 @@ OnCounts (Borrowed counts) holds = holds counts
 OnCounts Again holds = Unit {0}
 
 -- each length was loaded at most so many times more
-abbrev pub HasCollected : BookTerms → View → View → ℕ → Type 0
+abbrev pub HasCollected : BookTerms → Knowledge → Knowledge → ℕ → Type 0
 HasCollected b before after collects = (p : ℕ) → p < b.processes → (loads_of (own_part after) p).times ≤ (loads_of (own_part before) p).times + collects
 
 -- the most steps of a snapshot of n processes

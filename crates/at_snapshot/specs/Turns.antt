@@ -1,13 +1,13 @@
 -- The answers of a scan's turns.
 use Rattle.std.specs.Prelude.{◌≡◌, ◌≢◌, ℕ, ◌+◌, ◌-◌, ◌<◌, ◌≤◌, List, length, slice_index, MatchOption}
-use Rattle.at_board.specs.declared.view.View.{View}
-use Rattle.at_board.specs.BoardState.{publication_at}
-use Rattle.at_board.specs.Publications.{publications_of}
+use Rattle.at_board.specs.declared.knowledge.Knowledge.{Knowledge}
+use Rattle.at_history.specs.BoardState.{publication_at}
+use Rattle.at_history.specs.Publications.{publications_of}
 use Rattle.at_snapshot.specs.declared.collects.Collects.{Collects}
 use Rattle.at_snapshot.specs.declared.scan.Turn.{Turn}
 use Rattle.at_snapshot.specs.declared.scan.Turn.TheVariants.{Clean, Borrowed, Again}
 use Rattle.at_snapshot.specs.Collected.{collect_of}
-use Rattle.at_snapshot.specs.Scans.{ScanView}
+use Rattle.at_snapshot.specs.Scans.{ScanTerms}
 
 -- another process's count is at least two above the first
 pub record HasRisen (process : ℕ) (first now : List ℕ) (p : ℕ) : Type 0 where
@@ -21,7 +21,7 @@ pub record IsLeastRisen (process : ℕ) (first now : List ℕ) (p : ℕ) : Type 
   pub least : (q : ℕ) → q < p → ¬ HasRisen process first now q
 
 -- the collect differs from the one before, and no other process has risen by two
-pub record IsUndecided (c : Collects) (view : View) (now : List ℕ) : Type 0 where
+pub record IsUndecided (c : Collects) (view : Knowledge) (now : List ℕ) : Type 0 where
   pub differs : c.last ≢ now
   pub none : (p : ℕ) → ¬ HasRisen view.first c.first now p
 
@@ -32,20 +32,20 @@ pub record IsRepeated (c : Collects) (now counts : List ℕ) : Type 0 where
 
 -- the collect differs from the one before, another process has risen by two, and the counts are the view of the last record
 -- counted of the least such process
-pub record IsLent (c : Collects) (view : View) (now counts : List ℕ) : Type 0 where
+pub record IsLent (c : Collects) (view : Knowledge) (now counts : List ℕ) : Type 0 where
   pub differs : c.last ≢ now
   pub process : ℕ
   pub least : IsLeastRisen view.first c.first now process
   pub counts_are : counts ≡ (publication_at (publications_of process view.seen) (slice_index now process - 1)).view
 
 -- what a later collect answers, by the collects before it
-abbrev pub IsVerdict : Collects → View → List ℕ → Turn → Type 0
+abbrev pub IsVerdict : Collects → Knowledge → List ℕ → Turn → Type 0
 IsVerdict c view now (Clean counts) = IsRepeated c now counts
 IsVerdict c view now (Borrowed counts) = IsLent c view now counts
 IsVerdict c view now Again = IsUndecided c view now
 
 -- what a turn answers: Again at the first collect, and later by the collects before it
-abbrev pub IsAnswer : ScanView → View → Turn → Type 0
+abbrev pub IsAnswer : ScanTerms → Knowledge → Turn → Type 0
 IsAnswer scan view turn = MatchOption scan.collects (turn ≡ Again) (λ c. IsVerdict c view (collect_of view) turn)
 
 -- the steps of a turn beside its collect

@@ -1,8 +1,8 @@
 //! Collects, and how a scan's collect compares with those before it.
 
 ghost use Rattle.std.specs.Prelude.{◌≡◌, ℕ, ◌+◌, ◌<◌, ◌≤◌, ◌↔◌, length, slice_index, IsTrue, MatchOption};
-ghost use Rattle.at_board.specs.Publications.{count_of};
-ghost use Rattle.at_board.specs.SeatView.{IsOf};
+ghost use Rattle.at_history.specs.Publications.{count_of};
+ghost use Rattle.at_board.specs.Knowledge.Seats.{IsOf};
 ghost use Rattle.at_snapshot.specs.Collected.{IsCollect, collect_of};
 ghost use Rattle.at_snapshot.specs.Turns.{HasRisen, IsLeastRisen, IsVerdict, view_steps};
 
@@ -27,8 +27,8 @@ pub(crate) fn collect<L: Ledger, X: Ledger>(
     exchanges: &mut Steps<X>,
 ) -> Counts
     requires { IsOf seat.old board.now }
-    ensures collect { IsCollect board.now.book seat.old.view seat.new.view }
-    ensures counts { result ≡ collect_of seat.new.view }
+    ensures collect { IsCollect board.now.book seat.old.knows seat.new.knows }
+    ensures counts { result ≡ collect_of seat.new.knows }
     ensures board { IsOf seat.new board.now }
     ensures steps { steps.new ≡ steps.old + board.now.book.processes }
     ensures exchanges { exchanges.new ≡ exchanges.old }
@@ -76,8 +76,8 @@ impl Collects {
     ) -> Turn
         requires board { IsOf seat.old board.now }
         requires lengths { (length self.now.first ≡ length now.now) × (length self.now.last ≡ length now.now) }
-        requires seen { (p : ℕ) → p < length now.now → slice_index now.now p ≤ count_of p seat.old.view.seen }
-        ensures answer { IsVerdict self.now seat.old.view now.now result }
+        requires seen { (p : ℕ) → p < length now.now → slice_index now.now p ≤ count_of p seat.old.knows.seen }
+        ensures answer { IsVerdict self.now seat.old.knows now.now result }
         ensures same { seat.new ≡ seat.old }
         ensures steps { steps.new ≡ steps.old + view_steps board.now.book.processes result }
         ensures exchanges { exchanges.new ≡ exchanges.old }

@@ -2,7 +2,7 @@
 
 ghost use Rattle.std.specs.Prelude.{◌≡◌, ◌+◌};
 ghost use Rattle.at_ledger.specs.Book.{BookTerms};
-ghost use Rattle.at_board.specs.SeatView.{IsOf};
+ghost use Rattle.at_board.specs.Knowledge.Seats.{IsOf};
 ghost use Rattle.at_snapshot.specs.Collected.{IsCollect, collect_of};
 ghost use Rattle.at_snapshot.specs.Scans.{IsScanOf, SeesOwnRecords, scan_after, starting_scan};
 ghost use Rattle.at_snapshot.specs.Snapshots.{IsSnapshot, OnCounts};
@@ -37,20 +37,20 @@ pub struct Scan {
 }
 
 impl Model for Scan {
-    ghost use Rattle.at_snapshot.specs.Scans.{ScanView, SeesOwnRecords};
+    ghost use Rattle.at_snapshot.specs.Scans.{ScanTerms, SeesOwnRecords};
 
-    ghost Value = { ScanView };
+    ghost Value = { ScanTerms };
 
-    ghost view = { λ s. record { start = s.start.value.view; mark = s.mark.value.view; collects = s.collects } };
+    ghost view = { λ s. record { start = s.start.value.knows; mark = s.mark.value.knows; collects = s.collects } };
 
-    ghost invariant = { λ s. SeesOwnRecords s.start.value.view };
+    ghost invariant = { λ s. SeesOwnRecords s.start.value.knows };
 }
 
 impl Scan {
     /// Starts a scan of a seat, in no step.
     pub fn start(seat: &BoardSeat) -> Scan
-        ensures start { result ≡ starting_scan seat.now.view }
-        ensures scan { (b : BookTerms) → IsScanOf b result seat.now.view }
+        ensures start { result ≡ starting_scan seat.now.knows }
+        ensures scan { (b : BookTerms) → IsScanOf b result seat.now.knows }
     {
         let _process = seat.process();
         Scan {
@@ -69,13 +69,13 @@ impl Scan {
         exchanges: &mut Steps<X>,
     ) -> Turn
         requires board { IsOf seat.old board.now }
-        requires scan { IsScanOf board.now.book self.old seat.old.view }
-        ensures collect { IsCollect board.now.book seat.old.view seat.new.view }
+        requires scan { IsScanOf board.now.book self.old seat.old.knows }
+        ensures collect { IsCollect board.now.book seat.old.knows seat.new.knows }
         ensures start { SeesOwnRecords self.old.start }
-        ensures after { self.new ≡ scan_after self.old seat.new.view }
-        ensures scan { IsScanOf board.now.book self.new seat.new.view }
-        ensures answer { IsAnswer self.old seat.new.view result }
-        ensures snapshot { OnCounts result (IsSnapshot board.now.book self.old.start seat.new.view) }
+        ensures after { self.new ≡ scan_after self.old seat.new.knows }
+        ensures scan { IsScanOf board.now.book self.new seat.new.knows }
+        ensures answer { IsAnswer self.old seat.new.knows result }
+        ensures snapshot { OnCounts result (IsSnapshot board.now.book self.old.start seat.new.knows) }
         ensures board { IsOf seat.new board.now }
         ensures steps { steps.new ≡ steps.old + board.now.book.processes + view_steps board.now.book.processes result }
         ensures exchanges { exchanges.new ≡ exchanges.old }
@@ -90,9 +90,9 @@ impl Scan {
 
     /// Takes a collect of the seat for the last one, and gives the collects before it.
     fn keep(&mut self, now: &Counts, seat: &BoardSeat) -> Option<Collects>
-        requires { now.now ≡ collect_of seat.now.view }
+        requires { now.now ≡ collect_of seat.now.knows }
         ensures start { SeesOwnRecords self.old.start }
-        ensures after { self.new ≡ scan_after self.old seat.now.view }
+        ensures after { self.new ≡ scan_after self.old seat.now.knows }
         ensures before { result ≡ self.old.collects }
     {
         let before = self.collects.take();

@@ -1,8 +1,8 @@
 //! Scans of a small board of three processes, while one of them publishes.
 
 ghost use Rattle.std.specs.Prelude.{◌≡◌, ℕ, ◌<◌, [], ◌∷◌, length, slice_index_or, IfSome, IsTrue};
-ghost use Rattle.at_board.specs.Cuts.{starting_seat};
-ghost use Rattle.at_board.specs.SeatView.{IsOf, SeatView};
+ghost use Rattle.at_board.specs.Ends.Opening.{starting_seat};
+ghost use Rattle.at_board.specs.Knowledge.Seats.{IsOf, SeatTerms};
 ghost use Rattle.at_snapshot.specs.SmallScan.{HasPaid, MayPayTwice, payment};
 
 use crate::{Scan, Turn, snapshot};
@@ -37,9 +37,9 @@ fn three_book(alloc: Global) -> Result<Book, Fail> {
 
 /// The last of the seats that are left of a new board's.
 pub(crate) fn last_seat(board: &Board, seats: &mut Vec<BoardSeat>) -> Option<BoardSeat>
-    requires { (p : ℕ) (d : SeatView) → p < length seats.old.items → slice_index_or seats.old.items p d ≡ record { board = board.now.id; view = starting_seat board.now.book p } }
-    ensures seat { IfSome result (λ seat. (seat.board ≡ board.now.id) × (seat.view ≡ starting_seat board.now.book seat.view.first)) }
-    ensures rest { (p : ℕ) (d : SeatView) → p < length seats.new.items → slice_index_or seats.new.items p d ≡ record { board = board.now.id; view = starting_seat board.now.book p } }
+    requires { (p : ℕ) (d : SeatTerms) → p < length seats.old.items → slice_index_or seats.old.items p d ≡ record { board = board.now.id; view = starting_seat board.now.book p } }
+    ensures seat { IfSome result (λ seat. (seat.board ≡ board.now.id) × (seat.knows ≡ starting_seat board.now.book seat.knows.first)) }
+    ensures rest { (p : ℕ) (d : SeatTerms) → p < length seats.new.items → slice_index_or seats.new.items p d ≡ record { board = board.now.id; view = starting_seat board.now.book p } }
 {
     seats.pop()
 }
@@ -115,11 +115,11 @@ fn pay<L: Ledger, X: Ledger>(
     exchanges: &mut Steps<X>,
 )
     requires board { seat.old.board ≡ board.now.id }
-    requires new { seat.old.view ≡ starting_seat board.now.book seat.old.view.first }
-    requires pays { MayPayTwice board.now.book seat.old.view.first }
+    requires new { seat.old.knows ≡ starting_seat board.now.book seat.old.knows.first }
+    requires pays { MayPayTwice board.now.book seat.old.knows.first }
     ensures board { IsOf seat.new board.now }
-    ensures process { seat.new.view.first ≡ seat.old.view.first }
-    ensures paid { HasPaid seat.new.view }
+    ensures process { seat.new.knows.first ≡ seat.old.knows.first }
+    ensures paid { HasPaid seat.new.knows }
 {
     let _accounts = board.book().accounts();
     let _process = seat.process();
@@ -135,8 +135,8 @@ fn pay_again<L: Ledger, X: Ledger>(
     exchanges: &mut Steps<X>,
 ) -> bool
     requires board { IsOf seat.old board.now }
-    requires process { seat.old.view.first ≡ 1 }
-    requires paid { HasPaid seat.old.view }
+    requires process { seat.old.knows.first ≡ 1 }
+    requires paid { HasPaid seat.old.knows }
     requires pays { MayPayTwice board.now.book 1 }
 {
     let _process = seat.process();

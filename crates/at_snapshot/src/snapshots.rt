@@ -1,7 +1,7 @@
 //! Whole snapshots.
 
 ghost use Rattle.std.specs.Prelude.{◌≡◌, ◌+◌, ◌≤◌};
-ghost use Rattle.at_board.specs.SeatView.{IsOf};
+ghost use Rattle.at_board.specs.Knowledge.Seats.{IsOf};
 ghost use Rattle.at_snapshot.specs.Collected.{HasLoaded};
 ghost use Rattle.at_snapshot.specs.Snapshots.{HasCollected, IsSnapshot, snapshot_steps};
 
@@ -19,9 +19,9 @@ pub fn snapshot<L: Ledger, X: Ledger>(
     exchanges: &mut Steps<X>,
 ) -> Counts
     requires { IsOf seat.old board.now }
-    ensures snapshot { IsSnapshot board.now.book seat.old.view seat.new.view result }
-    ensures loads { HasLoaded board.now.book seat.old.view seat.new.view }
-    ensures collects { HasCollected board.now.book seat.old.view seat.new.view (board.now.book.processes + 1) }
+    ensures snapshot { IsSnapshot board.now.book seat.old.knows seat.new.knows result }
+    ensures loads { HasLoaded board.now.book seat.old.knows seat.new.knows }
+    ensures collects { HasCollected board.now.book seat.old.knows seat.new.knows (board.now.book.processes + 1) }
     ensures board { IsOf seat.new board.now }
     ensures steps { steps.new ≤ steps.old + snapshot_steps board.now.book.processes }
     ensures exchanges { exchanges.new ≡ exchanges.old }

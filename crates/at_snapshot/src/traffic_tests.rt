@@ -1,10 +1,10 @@
 //! Scans under traffic: three threads publish, and one scans again and again.
 
 ghost use Rattle.std.specs.Prelude.{◌≡◌, ℕ, ◌<◌, length, slice_index_or, IfSome, IsTrue};
-ghost use Rattle.at_board.specs.Cuts.{starting_seat};
-ghost use Rattle.at_board.specs.SeatView.{IsOf, SeatView};
+ghost use Rattle.at_board.specs.Ends.Opening.{starting_seat};
+ghost use Rattle.at_board.specs.Knowledge.Seats.{IsOf, SeatTerms};
 ghost use Rattle.at_board.specs.SmallBoard.{HasOwnAccount};
-ghost use Rattle.at_board.specs.Views.{own_part};
+ghost use Rattle.at_board.specs.Knowledge.Parts.{own_part};
 ghost use Rattle.at_snapshot.specs.SmallScan.{HasSeen, IsPublisher};
 
 use crate::scan_tests::last_seat;
@@ -64,9 +64,9 @@ fn has_own_account(book: &Book, process: u32) -> bool
 /// The last of the seats that are left, if it is that of this process, which has an account.
 fn last_publisher(board: &Board, seats: &mut Vec<BoardSeat>, process: u32) -> Option<BoardSeat>
     requires process { process < 16 }
-    requires new { (p : ℕ) (d : SeatView) → p < length seats.old.items → slice_index_or seats.old.items p d ≡ record { board = board.now.id; view = starting_seat board.now.book p } }
+    requires new { (p : ℕ) (d : SeatTerms) → p < length seats.old.items → slice_index_or seats.old.items p d ≡ record { board = board.now.id; view = starting_seat board.now.book p } }
     ensures publisher { IfSome result (λ seat. IsPublisher board.now seat) }
-    ensures rest { (p : ℕ) (d : SeatView) → p < length seats.new.items → slice_index_or seats.new.items p d ≡ record { board = board.now.id; view = starting_seat board.now.book p } }
+    ensures rest { (p : ℕ) (d : SeatTerms) → p < length seats.new.items → slice_index_or seats.new.items p d ≡ record { board = board.now.id; view = starting_seat board.now.book p } }
 {
     let seat = last_seat(board, seats)?;
     if seat.process() != process || !has_own_account(board.book(), process) {
@@ -94,7 +94,7 @@ fn move_nothing<L: Ledger, X: Ledger>(
     exchanges: &mut Steps<X>,
 ) -> Counts
     requires publisher { IsPublisher board.now seat.old }
-    requires room { (own_part seat.old.view).published < board.now.book.own_room }
+    requires room { (own_part seat.old.knows).published < board.now.book.own_room }
     ensures publisher { IsPublisher board.now seat.new }
 {
     let process = seat.process();

@@ -2,7 +2,7 @@ use Rattle.std.proofs.Common.{◌≡◌, ◌<◌, ℕ, ap, arith, length, map, s
 use Rattle.std.proofs.lemmas.Result.{IfOk-weaker}
 use Rattle.at_ledger.specs.Run.{Legal, Whole, last_state}
 use Rattle.at_ledger.specs.State.{balance_of}
-use Rattle.at_board.specs.Balances.{balance_after}
+use Rattle.at_history.specs.Balances.{balance_after}
 use Rattle.at_log.specs.ClosingTerms.{receipts_of}
 use Rattle.at_log.specs.JournalOrder.{journal_lines, journal_order, line_of}
 use Rattle.at_log.specs.Receipts.{receipt_at}

@@ -1,6 +1,6 @@
 use denote.Param.Send.{sendable}
 use Rattle.std.proofs.Crossing.{Vec-sync}
-use Rattle.at_board.proofs.CrossLaws.{board_seat_sync}
+use Rattle.at_board.proofs.Sharing.{board_seat_sync}
 use Rattle.at_board.proofs.crossing.all_cross.Goals as goal
 
 pub is_sync-requires-2-sync-T : goal.is_sync-requires-2-sync-T

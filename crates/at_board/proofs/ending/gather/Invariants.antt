@@ -1,6 +1,6 @@
 use Rattle.std.proofs.Common.{◌≡◌, List, ◌++◌}
-use Rattle.at_board.specs.Ends.{Gathers}
-use Rattle.at_board.specs.SeatView.{SeatView}
+use Rattle.at_board.specs.Ends.Closing.{Gathers}
+use Rattle.at_board.specs.Knowledge.Seats.{SeatTerms}
 use Rattle.at_board.proofs.ending.gather.Given as goal
 
 abbrev pub invariant-loop-other : goal.invariant-loop-other
@@ -8,4 +8,4 @@ invariant-loop-other l =
     (goal.iterator-loop-other).can_next l.other-iterator ×
     (goal.iterator-loop-other).is_finite l.other-iterator
     × (l.all.table_id ≡ l.fn.shared.table_id)
-    × ((done : List SeatView) × (l.fn.seats.items ≡ done ++ l.other-iterator.rest.items) × Gathers done l.all.me.0)
+    × ((done : List SeatTerms) × (l.fn.seats.items ≡ done ++ l.other-iterator.rest.items) × Gathers done l.all.me.0)

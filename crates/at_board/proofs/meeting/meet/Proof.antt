@@ -12,8 +12,8 @@ use Rattle.atomic_table.specs.Seated.{TableId, age, mine}
 use Rattle.atomic_table.specs.Table.{Me}
 use Rattle.atomic_table.specs.contracts.shared.Seat as seat
 use Rattle.atomic_table.specs.contracts.shared.Shared as table
-use Rattle.at_board.proofs.SeatPairs.{after, meets}
-use Rattle.at_board.specs.Meetings.{AreSeen}
+use Rattle.at_board.proofs.StepLaws.Meetings.{after, meets}
+use Rattle.at_board.specs.Steps.Meetings.{AreSeen}
 use Rattle.at_board.specs.contracts.meeting.meet.{ended, clauses}
 use Rattle.at_board.specs.contracts.meeting.meet.Key.{name as #self}
 use Rattle.at_board.proofs.meeting.meet.Statement.{statement}

@@ -1,6 +1,6 @@
 use Rattle.std.proofs.Common.{inl, arith}
-use Rattle.at_board.proofs.AskingFacts.{SeesRequest-LoadsAnnounced}
-use Rattle.at_board.specs.BoardState.{request_at}
+use Rattle.at_board.proofs.KnowledgeLaws.Announced.{SeesRequest-LoadsAnnounced}
+use Rattle.at_history.specs.BoardState.{request_at}
 use Rattle.at_board.proofs.request_tests.first_amount.Goals as goal
 
 pub load_request_word-requires-clause-request : goal.load_request_word-requires-clause-request
@@ -9,7 +9,7 @@ load_request_word-requires-clause-request g c =
     record {
       known = inl (
         request_at told.row 0,
-        SeesRequest-LoadsAnnounced c.args.board.now.book c.args.seat.now.view c.load_announced-count.new.seat.view 0 c.args.slot c.load_announced-count.result 0 told (omega arith),
+        SeesRequest-LoadsAnnounced c.args.board.now.book c.args.seat.now.knows c.load_announced-count.new.seat.knows 0 c.args.slot c.load_announced-count.result 0 told (omega arith),
       );
       word = omega arith;
     }

@@ -1,16 +1,17 @@
 use Rattle.std.proofs.Common.{◌≡◌, ℕ, ◌<◌, ◌≤◌, [], refl, ap, subst, None, arith}
 use Rattle.std.specs.List.{count_by, sum_by}
 use Rattle.at_ledger.specs.Book.{BookTerms, IsBook, account_of}
-use Rattle.at_board.proofs.RoundLaws.{firsts-nil}
-use Rattle.at_board.specs.declared.view.View.{View}
-use Rattle.at_board.specs.Balances.{IsCovered, credit_of, debit_of}
-use Rattle.at_board.specs.Conditions.{MayPropose}
-use Rattle.at_board.specs.Entries.{is_round_on}
+use Rattle.at_history.proofs.Laws.Rounds.{firsts-nil}
+use Rattle.at_board.specs.declared.knowledge.Knowledge.{Knowledge}
+use Rattle.at_history.specs.Balances.{IsCovered, credit_of, debit_of}
+use Rattle.at_board.specs.Steps.Decide.{MayPropose}
+use Rattle.at_history.specs.Entries.{is_round_on}
 use Rattle.at_board.specs.SmallBoard.{first_decision, payment}
-use Rattle.at_board.specs.Views.{HasSlot, SeesRequest, own_part}
+use Rattle.at_ledger.specs.Book.{HasSlot}
+use Rattle.at_board.specs.Knowledge.Parts.{SeesRequest, own_part}
 use Rattle.at_board.proofs.round_tests.decide_first.Goals as goal
 
-may_propose : (b : BookTerms) (v : View) (own slot : ℕ) → IsBook b → HasSlot b v.first 0 own → slot < 8 → SeesRequest v 0 slot 0 payment
+may_propose : (b : BookTerms) (v : Knowledge) (own slot : ℕ) → IsBook b → HasSlot b v.first 0 own → slot < 8 → SeesRequest v 0 slot 0 payment
     → 7 ≤ (account_of b 0).opening → (own_part v).held ≡ None → MayPropose b v 0 0 (first_decision slot) payment
 may_propose b v own slot book has small sees covered free =
     let debits = ap (sum_by (λ x. debit_of 0 x.entry)) firsts-nil in
@@ -34,7 +35,7 @@ decide-requires-clause-proposal g c =
     let book : IsBook b = subst IsBook c.book.ensures c.accounts-accounts.ensures.checked in (
       first_decision c.args.slot,
       payment,
-      may_propose b c.args.seat.now.view c.requires.owner.0 c.args.slot book c.requires.owner.1 c.requires.slot c.requires.request c.requires.covered c.requires.free,
+      may_propose b c.args.seat.now.knows c.requires.owner.0 c.args.slot book c.requires.owner.1 c.requires.slot c.requires.request c.requires.covered c.requires.free,
       omega arith,
     )
 
@@ -43,5 +44,5 @@ returns-clause-decided g c =
     let b : BookTerms = c.args.board.now.book in
     let book : IsBook b = subst IsBook c.book.ensures c.accounts-accounts.ensures.checked in
     c.decide.ensures.decided (first_decision c.args.slot) payment
-    (may_propose b c.args.seat.now.view c.requires.owner.0 c.args.slot book c.requires.owner.1 c.requires.slot c.requires.request c.requires.covered c.requires.free)
+    (may_propose b c.args.seat.now.knows c.requires.owner.0 c.args.slot book c.requires.owner.1 c.requires.slot c.requires.request c.requires.covered c.requires.free)
     (omega arith)

@@ -1,17 +1,18 @@
 use Rattle.std.proofs.Common.{◌≡◌, ℕ, ◌<◌, List, [], ◌∷◌, length, get_or, refl, sym, ap, subst, ◌∙◌, arith}
 use Rattle.at_ledger.specs.Book.{BookTerms}
-use Rattle.at_board.proofs.CountLaws.{get_or-counts}
-use Rattle.at_board.proofs.FrontLaws.{IsFront-IsPrefix, IsFront-counts, IsPrefix-count_of, IsPrefix-trans}
-use Rattle.at_board.proofs.OwnRequestLaws.{own_part-with_part}
-use Rattle.at_board.proofs.SmallBoardLaws.{ArePublishedBy-IsHistory}
-use Rattle.at_board.specs.declared.publication.Publication.{Publication}
-use Rattle.at_board.specs.declared.view.Part.{Part}
-use Rattle.at_board.specs.declared.view.View.{View}
-use Rattle.at_board.specs.Fronts.{IsFront}
-use Rattle.at_board.specs.Publications.{IsPrefix, count_of, counts}
+use Rattle.at_history.proofs.Laws.Counts.{get_or-counts}
+use Rattle.at_history.proofs.Laws.Fronts.{IsFront-IsPrefix, IsFront-counts}
+use Rattle.at_history.proofs.Laws.Prefixes.{IsPrefix-count_of, IsPrefix-trans}
+use Rattle.at_board.proofs.KnowledgeLaws.OwnRequests.{own_part-with_part}
+use Rattle.at_history.proofs.Laws.Histories.{ArePublishedBy-IsHistory}
+use Rattle.at_history.specs.declared.publication.Publication.{Publication}
+use Rattle.at_board.specs.declared.knowledge.Part.{Part}
+use Rattle.at_board.specs.declared.knowledge.Knowledge.{Knowledge}
+use Rattle.at_history.specs.Fronts.{IsFront}
+use Rattle.at_history.specs.Publications.{IsPrefix, count_of, counts}
 use Rattle.at_board.specs.SmallBoard.{IsOwnFront}
-use Rattle.at_board.specs.Steps.{LoadsLength, with_load}
-use Rattle.at_board.specs.Views.{own_part}
+use Rattle.at_board.specs.Steps.LoadLength.{LoadsLength, with_load}
+use Rattle.at_board.specs.Knowledge.Parts.{own_part}
 use Rattle.at_board.proofs.stress_tests.front.Goals as goal
 
 counts-four : (xs : List Publication) → counts 4 xs ≡ count_of 0 xs ∷ count_of 1 xs ∷ count_of 2 xs ∷ count_of 3 xs ∷ []
@@ -19,13 +20,13 @@ unfolding counts
 counts-four xs = refl
 
 -- a load changes neither the process nor how many records it has published
-published-load : (b : BookTerms) (v w : View) (p n : ℕ) → length v.parts ≡ 1 → LoadsLength b v w p n → (own_part w).published ≡ (own_part v).published
+published-load : (b : BookTerms) (v w : Knowledge) (p n : ℕ) → length v.parts ≡ 1 → LoadsLength b v w p n → (own_part w).published ≡ (own_part v).published
 published-load b v w p n one told =
-    ap (λ (t : View). (own_part t).published) told.same
+    ap (λ (t : Knowledge). (own_part t).published) told.same
     ∙ ap (λ (q : Part). q.published) (own_part-with_part (record v { seen = w.seen }) (with_load (own_part v) p n) (omega (arith, one)))
 
-first-load : (b : BookTerms) (v w : View) (p n : ℕ) → LoadsLength b v w p n → w.first ≡ v.first
-first-load b v w p n told = ap (λ (t : View). t.first) told.same
+first-load : (b : BookTerms) (v w : Knowledge) (p n : ℕ) → LoadsLength b v w p n → w.first ≡ v.first
+first-load b v w p n told = ap (λ (t : Knowledge). t.first) told.same
 
 -- a count that two loads told is that of each list between them
 between_loads : (p n : ℕ) (one mid two : List Publication) → IsPrefix one mid → IsPrefix mid two → count_of p one ≡ n → count_of p two ≡ n → count_of p mid ≡ n
@@ -33,7 +34,7 @@ between_loads p n one mid two before after first second =
     omega (arith, IsPrefix-count_of p one mid before, IsPrefix-count_of p mid two after, first, second)
 
 -- the numbers of four loads, of which the first three were told again, are a front
-is_own_front : (b : BookTerms) (v v1 v2 v3 v4 v5 v6 v7 : View) (i j k l : ℕ) → b.processes ≡ 4 → v3.first < b.processes
+is_own_front : (b : BookTerms) (v v1 v2 v3 v4 v5 v6 v7 : Knowledge) (i j k l : ℕ) → b.processes ≡ 4 → v3.first < b.processes
     → length v3.parts ≡ 1 → length v4.parts ≡ 1 → length v5.parts ≡ 1 → length v6.parts ≡ 1
     → LoadsLength b v v1 0 i → LoadsLength b v1 v2 1 j → LoadsLength b v2 v3 2 k → LoadsLength b v3 v4 3 l
     → LoadsLength b v4 v5 0 i → LoadsLength b v5 v6 1 j → LoadsLength b v6 v7 2 k → IsOwnFront b v7 (i ∷ j ∷ k ∷ l ∷ [])
@@ -73,20 +74,20 @@ returns-clause-front g c =
     let i = c.look-a.result in
     let j = c.look-b.result in
     let k = c.look-c.result in
-    let v3 : View = c.look-c.new.seat.view in
-    let v4 : View = c.look-d.new.seat.view in
-    let v5 : View = c.look-a_again.new.seat.view in
-    let v6 : View = c.look-b_again.new.seat.view in
-    let v7 : View = c.look-c_again.new.seat.view in
+    let v3 : Knowledge = c.look-c.new.seat.knows in
+    let v4 : Knowledge = c.look-d.new.seat.knows in
+    let v5 : Knowledge = c.look-a_again.new.seat.knows in
+    let v6 : Knowledge = c.look-b_again.new.seat.knows in
+    let v7 : Knowledge = c.look-c_again.new.seat.knows in
     let a_same : c.look-a_again.result ≡ i = omega (arith, c.if-a-a_again.false) in
     let b_same : c.look-b_again.result ≡ j = omega (arith, c.if-b-b_again.false) in
     let c_same : c.look-c_again.result ≡ k = omega (arith, c.if-c-c_again.false) in
-    let first3 : v3.first ≡ c.args.seat.now.view.first = ap (λ (t : View). t.first) c.look-c.ensures.told.same
-    ∙ (ap (λ (t : View). t.first) c.look-b.ensures.told.same ∙ ap (λ (t : View). t.first) c.look-a.ensures.told.same) in
+    let first3 : v3.first ≡ c.args.seat.now.knows.first = ap (λ (t : Knowledge). t.first) c.look-c.ensures.told.same
+    ∙ (ap (λ (t : Knowledge). t.first) c.look-b.ensures.told.same ∙ ap (λ (t : Knowledge). t.first) c.look-a.ensures.told.same) in
     let known : v3.first < b.processes =
     omega (arith, first3, c.process-process.ensures.seat.known, ap (λ (t : BookTerms). t.processes) c.requires.idle.of_board.book) in
     subst (IsOwnFront b v7) (sym c.counts_of.ensures)
-    (is_own_front b c.args.seat.now.view c.look-a.new.seat.view c.look-b.new.seat.view v3 v4 v5 v6 v7 i j k c.look-d.result c.requires.four known
+    (is_own_front b c.args.seat.now.knows c.look-a.new.seat.knows c.look-b.new.seat.knows v3 v4 v5 v6 v7 i j k c.look-d.result c.requires.four known
     c.look-c.ensures.idle.one_part c.look-d.ensures.idle.one_part c.look-a_again.ensures.idle.one_part c.look-b_again.ensures.idle.one_part
     c.look-a.ensures.told c.look-b.ensures.told c.look-c.ensures.told c.look-d.ensures.told
     (subst (LoadsLength b v4 v5 0) a_same c.look-a_again.ensures.told)

@@ -3,4 +3,4 @@ use Rattle.at_board.specs.SmallBoard.{IsIdle}
 use Rattle.at_board.proofs.stress_tests.play.Given as goal
 
 abbrev pub invariant-loop-look : goal.invariant-loop-look
-invariant-loop-look g l = IsIdle l.board l.seat × (l.seat.view.first ≡ l.fn.seat.view.first)
+invariant-loop-look g l = IsIdle l.board l.seat × (l.seat.knows.first ≡ l.fn.seat.knows.first)

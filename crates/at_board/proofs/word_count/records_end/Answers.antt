@@ -1,10 +1,10 @@
 use Rattle.std.proofs.Common.{sym, ◌∙◌, arith}
-use Rattle.at_board.proofs.PlaceLaws.{place_at-record_word_first}
-use Rattle.at_board.proofs.SizeLaws.{log_start-next}
+use Rattle.at_board.proofs.WordLaws.Addresses.{index_of-record_word_first}
+use Rattle.at_board.proofs.WordLaws.Sizes.{log_start-next}
 use Rattle.at_board.proofs.word_count.records_end.Goals as goal
 
 pub loop-p-init : goal.loop-p-init
-loop-p-init c = (c.processes-end.ensures ∙ sym (place_at-record_word_first c.args.book.now), c.processes-end.type_inv)
+loop-p-init c = (c.processes-end.ensures ∙ sym (index_of-record_word_first c.args.book.now), c.processes-end.type_inv)
 
 pub loop-p-preserved : goal.loop-p-preserved
 loop-p-preserved c =

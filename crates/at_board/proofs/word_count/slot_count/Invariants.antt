@@ -1,6 +1,6 @@
 use Rattle.std.proofs.Common.{◌≡◌, ◌*◌, ◌≤◌, take}
 use Rattle.std.specs.List.{sum_by}
-use Rattle.at_board.specs.Places.{slots_of}
+use Rattle.at_ledger.specs.Account.{slots_of}
 use Rattle.at_board.proofs.word_count.slot_count.Given as goal
 
 abbrev pub invariant-loop-account : goal.invariant-loop-account

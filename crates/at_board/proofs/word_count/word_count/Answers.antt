@@ -1,5 +1,5 @@
 use Rattle.std.proofs.Common.{arith}
-use Rattle.at_board.proofs.SizeLaws.{word_count-computed, word_count-le}
+use Rattle.at_board.proofs.WordLaws.Sizes.{word_count-computed, word_count-le}
 use Rattle.at_board.proofs.word_count.word_count.Goals as goal
 
 pub returns-clause-count : goal.returns-clause-count

@@ -1,11 +1,11 @@
 use Rattle.std.proofs.Common.{◌≡◌, ℕ, List, get_or, replicate, set, sym, ap, subst, ◌∙◌, arith}
 use Rattle.std.specs.List.{sum}
 use Rattle.at_ledger.specs.Book.{BookTerms, IsBook}
-use Rattle.at_board.proofs.OpeningLaws.{get_or-zeros}
-use Rattle.at_board.specs.declared.publication.Publication.{Publication}
-use Rattle.at_board.specs.Publications.{counts}
-use Rattle.at_board.specs.SeatView.{SeatView}
-use Rattle.at_board.specs.Steps.{IsHistory}
+use Rattle.at_history.proofs.Laws.Sums.{get_or-zeros}
+use Rattle.at_history.specs.declared.publication.Publication.{Publication}
+use Rattle.at_history.specs.Publications.{counts}
+use Rattle.at_board.specs.Knowledge.Seats.{SeatTerms}
+use Rattle.at_history.specs.Histories.{IsHistory}
 use Rattle.at_fold.proofs.FirstRecord.{CountsAll-counts, HasRecords-counts, counts-HasOnlyFirst, sum-first}
 use Rattle.at_fold.specs.HasCounted.{HasCounted}
 use Rattle.at_fold.specs.SmallFold.{CountsAll, HasOnlyFirst}
@@ -31,14 +31,14 @@ pub catch_up-requires-clause-seen : goal.catch_up-requires-clause-seen
 catch_up-requires-clause-seen g c =
     let b : BookTerms = c.args.board.now.book in
     let known = c.processes.ensures ∙ ap (λ (t : BookTerms). t.processes) c.book-2.ensures in
-    HasRecords-counts b c.args.seat.now.view.seen c.set.new.self
-    (all_seen b c.args.seat.now.view.seen c.set.new.self c.requires.counted.book c.requires.one
+    HasRecords-counts b c.args.seat.now.knows.seen c.set.new.self
+    (all_seen b c.args.seat.now.knows.seen c.set.new.self c.requires.counted.book c.requires.one
     (handed_in b c.zeros-counts.result c.set.new.self c.processes.result c.set.ensures c.zeros-counts.ensures known))
 
 pub returns-clause-all : goal.returns-clause-all
 returns-clause-all g c =
     let b : BookTerms = c.args.board.now.book in
-    let old : SeatView = c.args.seat.now in
+    let old : SeatTerms = c.args.seat.now in
     let t : TotalSums = c.catch_up.new.self in
     let same = c.catch_up.ensures.same in
     let known = c.processes.ensures ∙ ap (λ (t : BookTerms). t.processes) c.book-2.ensures in
@@ -46,8 +46,8 @@ returns-clause-all g c =
     (handed_in b c.zeros-counts.result c.set.new.self c.processes.result c.set.ensures c.zeros-counts.ensures known) in
     let history : IsHistory b old.view.seen =
     subst (λ (t : BookTerms). IsHistory t old.view.seen) c.requires.board.book c.process-process.ensures.seat.history in
-    let counted : HasCounted t b old.view.seen = subst (λ (s : SeatView). HasCounted t b s.view.seen) same c.catch_up.ensures.counted in
-    subst (λ (s : SeatView). CountsAll t b s.view.seen) (sym same) (CountsAll-counts t b old.view.seen history counted (c.catch_up.ensures.upto ∙ upto))
+    let counted : HasCounted t b old.view.seen = subst (λ (s : SeatTerms). HasCounted t b s.view.seen) same c.catch_up.ensures.counted in
+    subst (λ (s : SeatTerms). CountsAll t b s.view.seen) (sym same) (CountsAll-counts t b old.view.seen history counted (c.catch_up.ensures.upto ∙ upto))
 
 pub returns-clause-steps : goal.returns-clause-steps
 returns-clause-steps g c =

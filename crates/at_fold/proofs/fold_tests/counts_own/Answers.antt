@@ -5,5 +5,5 @@ use Rattle.at_fold.proofs.fold_tests.counts_own.Goals as goal
 
 pub counts_first-requires-clause-counted : goal.counts_first-requires-clause-counted
 counts_first-requires-clause-counted g c =
-    subst (λ (b : BookTerms). HasCounted c.in_ok-totals.totals b c.pay-entry.new.seat.view.seen) (c.book-3.ensures ∙ sym c.pay-entry.ensures.board.book)
-    (c.in_ok-totals.ensures.counted c.pay-entry.new.seat.view.seen)
+    subst (λ (b : BookTerms). HasCounted c.in_ok-totals.totals b c.pay-entry.new.seat.knows.seen) (c.book-3.ensures ∙ sym c.pay-entry.ensures.board.book)
+    (c.in_ok-totals.ensures.counted c.pay-entry.new.seat.knows.seen)

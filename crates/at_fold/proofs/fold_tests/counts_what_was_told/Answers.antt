@@ -5,5 +5,5 @@ use Rattle.at_fold.proofs.fold_tests.counts_what_was_told.Goals as goal
 
 pub catches_up-requires-clause-counted : goal.catches_up-requires-clause-counted
 catches_up-requires-clause-counted g c =
-    subst (λ (b : BookTerms). HasCounted c.in_ok-totals.totals b c.pays_and_tells.new.other.view.seen) c.book-4.ensures
-    (c.in_ok-totals.ensures.counted c.pays_and_tells.new.other.view.seen)
+    subst (λ (b : BookTerms). HasCounted c.in_ok-totals.totals b c.pays_and_tells.new.other.knows.seen) c.book-4.ensures
+    (c.in_ok-totals.ensures.counted c.pays_and_tells.new.other.knows.seen)

@@ -4,9 +4,9 @@ use Rattle.std.proofs.lemmas.List.FromFn.{map-range_with_len_more}
 use Rattle.at_log.specs.ClosingTerms.{receipts_of}
 use Rattle.at_log.specs.JournalOrder.{journal_order}
 use Rattle.at_log.specs.Told.{keys_of}
-use Rattle.at_journal.specs.Places.{HasOwnPositions}
-use Rattle.at_journal.proofs.LinePlaces.{HasPlaces-receipt}
-use Rattle.at_journal.proofs.OwnPlaces.{HasOwnPositions-positions_of}
+use Rattle.at_journal.specs.Positions.{HasOwnPositions}
+use Rattle.at_journal.proofs.LinePositions.{HasPlaces-receipt}
+use Rattle.at_journal.proofs.OwnPositions.{HasOwnPositions-positions_of}
 use Rattle.at_journal.proofs.lines.line_keys.Goals as goal
 
 pub process_keys-requires-clause-places : goal.process_keys-requires-clause-places

@@ -4,7 +4,7 @@ use Rattle.at_log.specs.ClosingTerms.{receipts_of}
 use Rattle.at_log.specs.JournalOrder.{journal_order}
 use Rattle.at_log.specs.Receipts.{receipt_at}
 use Rattle.at_log.specs.Told.{key_of, keys_from}
-use Rattle.at_journal.proofs.LinePlaces.{keys_from-all, keys_from-more}
+use Rattle.at_journal.proofs.LinePositions.{keys_from-all, keys_from-more}
 use Rattle.at_journal.proofs.lines.process_keys.Goals as goal
 
 pub loop-i-preserved : goal.loop-i-preserved

@@ -1,8 +1,8 @@
 use Rattle.std.proofs.Common.{◌≡◌, ◌<◌, subst, ◌++◌, [], ◌∷◌, ap, arith, length, map, get_or, sym, ◌∙◌}
 use Rattle.std.proofs.Math.ListN.{set}
 use Rattle.std.proofs.lemmas.List.{get_or-map, map-set}
-use Rattle.at_journal.specs.Places.{IsOnAccount, with_position}
-use Rattle.at_journal.proofs.RoundPlaces.{with_position-next}
+use Rattle.at_journal.specs.Positions.{IsOnAccount, with_position}
+use Rattle.at_journal.proofs.RoundPositions.{with_position-next}
 use Rattle.at_journal.proofs.places.note_position.Goals as goal
 
 pub returns-in_ok-push-in-Round : goal.returns-in_ok-push-in-Round

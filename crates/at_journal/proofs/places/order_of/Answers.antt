@@ -4,7 +4,7 @@ use Rattle.std.proofs.lemmas.Result.{IfOk-weaker}
 use Rattle.at_log.specs.JournalOrder.{journal_order}
 use Rattle.at_journal.specs.Keys.{log_keys}
 use Rattle.at_journal.specs.Ordered.{AreInOrder}
-use Rattle.at_journal.specs.Places.{AreRecords, published_in}
+use Rattle.at_journal.specs.Positions.{AreRecords, published_in}
 use Rattle.at_journal.proofs.NamedLaws.{AreRecords-order, published_in-journal_order}
 use Rattle.at_journal.proofs.places.order_of.Goals as goal
 

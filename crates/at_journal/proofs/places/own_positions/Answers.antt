@@ -1,5 +1,5 @@
 use Rattle.std.proofs.Common.{◌++◌, [], ◌∷◌, ap, rules, sym, ◌∙◌}
-use Rattle.at_journal.proofs.OwnPlaces.{positions-other, positions-own}
+use Rattle.at_journal.proofs.OwnPositions.{positions-other, positions-own}
 use Rattle.at_journal.proofs.places.own_positions.Goals as goal
 use Rattle.at_journal.proofs.places.own_positions.Goals.{then-one-process+in_ok-push, else-one-process}
 

@@ -1,10 +1,10 @@
 use Rattle.std.proofs.Common.{◌≡◌, ◌+◌, ◌<◌, [], ap, arith, length, map, replicate, sym, subst, take, ◌∙◌}
 use Rattle.std.proofs.lemmas.List.{length-map}
-use Rattle.at_board.specs.BoardState.{publication_at}
+use Rattle.at_history.specs.BoardState.{publication_at}
 use Rattle.at_log.specs.JournalOrder.{journal_order}
-use Rattle.at_journal.specs.Places.{HasRoundPositions, IsOnAccount, with_position}
+use Rattle.at_journal.specs.Positions.{HasRoundPositions, IsOnAccount, with_position}
 use Rattle.at_journal.proofs.NamedLaws.{entry-published_in, length-published_in}
-use Rattle.at_journal.proofs.RoundPlaces.{HasRoundPositions-more, HasRoundPositions-none, IsOnAccount-journal_order}
+use Rattle.at_journal.proofs.RoundPositions.{HasRoundPositions-more, HasRoundPositions-none, IsOnAccount-journal_order}
 use Rattle.at_journal.proofs.places.round_positions.Goals as goal
 
 pub loop-position-init : goal.loop-position-init

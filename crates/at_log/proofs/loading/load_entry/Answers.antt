@@ -1,25 +1,25 @@
 use Rattle.std.proofs.Common.{ℕ, ◌<◌, [], ◌∷◌, get_or, set, sym, subst, ◌∙◌, arith, below_more}
 use Rattle.std.proofs.lemmas.List.{get_or-set_other, get_or-set_same, length-set}
 use Rattle.at_ledger.specs.Book.{BookTerms, IsBook}
-use Rattle.at_board.specs.declared.publication.Publication.{Publication}
-use Rattle.at_board.specs.declared.view.View.{View}
-use Rattle.at_board.specs.BoardState.{publication_at}
-use Rattle.at_board.specs.Publications.{publications_of}
-use Rattle.at_board.specs.RecordWords.{IsRecordWord}
-use Rattle.at_board.specs.SeatView.{SeatView}
-use Rattle.at_board.specs.Steps.{IsHistory}
+use Rattle.at_history.specs.declared.publication.Publication.{Publication}
+use Rattle.at_board.specs.declared.knowledge.Knowledge.{Knowledge}
+use Rattle.at_history.specs.BoardState.{publication_at}
+use Rattle.at_history.specs.Publications.{publications_of}
+use Rattle.at_board.specs.Knowledge.Records.{IsRecordWord}
+use Rattle.at_board.specs.Knowledge.Seats.{SeatTerms}
+use Rattle.at_history.specs.Histories.{IsHistory}
 use Rattle.at_log.proofs.SeenLaws.{IsShownRecord-IsHistory}
 use Rattle.at_log.proofs.loading.load_entry.Goals as goal
 
 pub loop-j-preserved : goal.loop-j-preserved
 loop-j-preserved g c =
-    let v : View = c.args.seat.now.view in
+    let v : Knowledge = c.args.seat.now.knows in
     let p = c.args.p in
     let i = c.args.i in
     let j = c.loop-j.j in
     let w = c.load_record_word.result in
     let word : IsRecordWord v p i j w =
-    subst (λ (s : SeatView). IsRecordWord s.view p i j w) c.loop-j.invariant.same c.load_record_word.ensures.word in
+    subst (λ (s : SeatTerms). IsRecordWord s.view p i j w) c.loop-j.invariant.same c.load_record_word.ensures.word in
     record {
       same = c.load_record_word.ensures.same ∙ c.loop-j.invariant.same;
       sized = length-set c.loop-j.words j w ∙ c.loop-j.invariant.sized;
@@ -33,7 +33,7 @@ loop-j-preserved g c =
 pub returns-clause-entry : goal.returns-clause-entry
 returns-clause-entry g c =
     let b : BookTerms = c.args.board.now.book in
-    let v : View = c.args.seat.now.view in
+    let v : Knowledge = c.args.seat.now.knows in
     let x : Publication = publication_at (publications_of c.args.p v.seen) c.args.i in
     let book : IsBook b = subst IsBook c.book.ensures c.accounts-accounts.ensures.checked in
     let history : IsHistory b v.seen = subst (λ t. IsHistory t v.seen) c.requires.board.book c.process-process.ensures.seat.history in

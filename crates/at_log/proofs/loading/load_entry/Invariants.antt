@@ -1,5 +1,5 @@
 use Rattle.std.proofs.Common.{◌≡◌, ℕ, ◌+◌, ◌<◌, get_or, length}
-use Rattle.at_board.specs.RecordWords.{IsRecordWord}
+use Rattle.at_board.specs.Knowledge.Records.{IsRecordWord}
 use Rattle.at_log.proofs.loading.load_entry.Given as goal
 
 -- so many words are loaded, a step for each
@@ -7,7 +7,7 @@ abbrev pub invariant-loop-j : goal.invariant-loop-j
 invariant-loop-j g l = record {
   same : l.seat ≡ l.fn.seat;
   sized : length l.words ≡ 7;
-  loaded : (k : ℕ) → k < l.j → IsRecordWord l.fn.seat.view l.p l.i k (get_or l.words k 0);
+  loaded : (k : ℕ) → k < l.j → IsRecordWord l.fn.seat.knows l.p l.i k (get_or l.words k 0);
   steps : l.steps ≡ l.fn.steps + l.j;
   exchanges : l.exchanges ≡ l.fn.exchanges;
 }

@@ -7,7 +7,7 @@ abbrev pub invariant-loop-q : goal.invariant-loop-q
 invariant-loop-q g l = record {
   same : l.seat ≡ l.fn.seat;
   sized : length l.view ≡ l.board.book.processes;
-  loaded : IsLoaded l.fn.seat.view l.p l.i l.view l.q;
+  loaded : IsLoaded l.fn.seat.knows l.p l.i l.view l.q;
   steps : l.steps ≡ l.fn.steps + l.q;
   exchanges : l.exchanges ≡ l.fn.exchanges;
 }

@@ -1,7 +1,7 @@
 use Rattle.std.proofs.Common.{◌≡◌, length, get_or, sym, ap, ◌∙◌, arith}
 use Rattle.std.proofs.lemmas.List.{length-map}
 use Rattle.at_ledger.specs.Call.{TargetPair}
-use Rattle.at_board.specs.TargetsWord.{accounts_of}
+use Rattle.at_board.specs.Words.Targets.{accounts_of}
 use Rattle.at_log.proofs.EntryLaws.{same_targets-get_or}
 use Rattle.at_log.proofs.loading.targets_from.Goals as goal
 

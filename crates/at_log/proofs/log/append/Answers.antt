@@ -1,11 +1,11 @@
 use Rattle.std.proofs.Common.{◌≡◌, ◌<◌, length, refl, ap, subst, ◌∙◌, arith}
 use Rattle.at_ledger.specs.Book.{BookTerms, IsBook}
-use Rattle.at_board.proofs.FrontLaws.{length-IsFront}
-use Rattle.at_board.specs.declared.view.View.{View}
-use Rattle.at_board.specs.Places.{record_width}
-use Rattle.at_board.specs.Steps.{IsHistory}
-use Rattle.at_board.specs.Views.{own_part}
-use Rattle.at_board.specs.Words.{record_words}
+use Rattle.at_history.proofs.Laws.Fronts.{length-IsFront}
+use Rattle.at_board.specs.declared.knowledge.Knowledge.{Knowledge}
+use Rattle.at_board.specs.Words.Addresses.{record_width}
+use Rattle.at_history.specs.Histories.{IsHistory}
+use Rattle.at_board.specs.Knowledge.Parts.{own_part}
+use Rattle.at_board.specs.Words.Packed.{record_words}
 use Rattle.at_log.proofs.AppendLaws.{IsStoring-more, MayPublish-IsStoring, MayStoreWord-IsStoring, Publishes-IsStoring, published-MayAppend}
 use Rattle.at_log.proofs.FormFacts.{IsForm-MayAppend}
 use Rattle.at_log.proofs.LastLaws.{IsLast-Publishes}
@@ -22,7 +22,7 @@ processes g c = c.processes-width.ensures ∙ ap (λ (t : BookTerms). t.processe
 pub record_word-requires-clause-entry : goal.record_word-requires-clause-entry
 record_word-requires-clause-entry g c =
     let b : BookTerms = c.args.board.now.book in
-    let v : View = c.args.seat.now.view in
+    let v : Knowledge = c.args.seat.now.knows in
     let book : IsBook b = subst IsBook c.book.ensures c.accounts-accounts.ensures.checked in
     IsForm-MayAppend b v c.args.rec.now book.begun c.requires.board.book
     (subst (λ t. IsHistory t v.seen) c.requires.board.book c.process-process.ensures.seat.history) c.process-process.ensures.seat.in_range
@@ -35,28 +35,28 @@ record_word-requires-clause-word g c =
       arith,
       c.loop-j-test.true,
       processes g (goal.at.record_word-requires-clause-word g c).After-processes-width,
-      length-IsFront c.args.board.now.book.processes x.view c.args.seat.now.view.seen c.requires.record.view.front,
+      length-IsFront c.args.board.now.book.processes x.view c.args.seat.now.knows.seen c.requires.record.view.front,
     )
 
 pub store_record_word-requires-clause-word : goal.store_record_word-requires-clause-word
 store_record_word-requires-clause-word g c =
     let b : BookTerms = c.args.board.now.book in
-    let v : View = c.args.seat.now.view in
+    let v : Knowledge = c.args.seat.now.knows in
     let told = c.process-process.ensures in
     let count = processes g (goal.at.store_record_word-requires-clause-word g c).After-processes-width in
     let room = published-MayAppend b v c.args.rec.now c.process-process.result (own_part v).published c.requires.board.book told.seat c.requires.record in
-    MayStoreWord-IsStoring b v c.loop-j.seat.view (record_words (published_by v.first c.args.rec.now)) c.loop-j.j c.loop-j.j (omega (arith, told.seat.one_part)) room
+    MayStoreWord-IsStoring b v c.loop-j.seat.knows (record_words (published_by v.first c.args.rec.now)) c.loop-j.j c.loop-j.j (omega (arith, told.seat.one_part)) room
     c.loop-j.invariant.storing (omega (arith, c.loop-j-test.true, count))
 
 pub loop-j-preserved : goal.loop-j-preserved
 loop-j-preserved g c =
-    let v : View = c.args.seat.now.view in
+    let v : Knowledge = c.args.seat.now.knows in
     let seat = c.process-process.ensures.seat in
     let count = processes g (goal.at.loop-j-preserved g c).After-processes-width in
     let inside : c.loop-j.j < length (own_part v).stored = omega (arith, c.loop-j-test.true, count, seat.words, ap record_width c.requires.board.book) in
     record {
       board = c.store_record_word.ensures.board ∙ c.loop-j.invariant.board;
-      storing = IsStoring-more v c.loop-j.seat.view c.store_record_word.new.seat.view (record_words (published_by v.first c.args.rec.now)) c.loop-j.j
+      storing = IsStoring-more v c.loop-j.seat.knows c.store_record_word.new.seat.knows (record_words (published_by v.first c.args.rec.now)) c.loop-j.j
           c.record_word.result (omega (arith, seat.one_part)) inside c.loop-j.invariant.storing c.record_word.ensures
           c.store_record_word.ensures.stored;
       steps = omega (arith, c.store_record_word.ensures.steps, c.loop-j.invariant.steps);
@@ -65,27 +65,27 @@ loop-j-preserved g c =
 
 pub publish-requires-clause-record : goal.publish-requires-clause-record
 publish-requires-clause-record g c =
-    let v : View = c.args.seat.now.view in
+    let v : Knowledge = c.args.seat.now.knows in
     let count = processes g (goal.at.publish-requires-clause-record g c).After-processes-width in (
       published_by v.first c.args.rec.now,
-      MayPublish-IsStoring c.args.board.now.book v c.loop-j.seat.view c.args.rec.now c.loop-j.j c.requires.board.book c.process-process.result
+      MayPublish-IsStoring c.args.board.now.book v c.loop-j.seat.knows c.args.rec.now c.loop-j.j c.requires.board.book c.process-process.result
           (own_part v).published c.process-process.ensures.seat c.requires.record c.loop-j.invariant.storing (omega (arith, c.loop-j-test.false, c.loop-j.auto.j-end, count)),
     )
 
 pub returns-clause-published : goal.returns-clause-published
 returns-clause-published g c =
     let b : BookTerms = c.args.board.now.book in
-    let v : View = c.args.seat.now.view in
+    let v : Knowledge = c.args.seat.now.knows in
     let x : Record = c.args.rec.now in
     let seat = c.process-process.ensures.seat in
     let count = processes g (goal.at.returns-clause-published g c).After-processes-width in
-    let may = MayPublish-IsStoring b v c.loop-j.seat.view x c.loop-j.j c.requires.board.book c.process-process.result (own_part v).published seat c.requires.record c.loop-j.invariant.storing
+    let may = MayPublish-IsStoring b v c.loop-j.seat.knows x c.loop-j.j c.requires.board.book c.process-process.result (own_part v).published seat c.requires.record c.loop-j.invariant.storing
     (omega (arith, c.loop-j-test.false, c.loop-j.auto.j-end, count)) in
-    Publishes-IsStoring b v c.loop-j.seat.view c.publish.new.seat.view (published_by v.first x) (record_words (published_by v.first x)) c.loop-j.j
+    Publishes-IsStoring b v c.loop-j.seat.knows c.publish.new.seat.knows (published_by v.first x) (record_words (published_by v.first x)) c.loop-j.j
     (omega (arith, seat.one_part)) c.loop-j.invariant.storing (c.publish.ensures.published (published_by v.first x) may)
 
 pub returns-clause-last : goal.returns-clause-last
 returns-clause-last g c =
-    let v : View = c.args.seat.now.view in
-    IsLast-Publishes c.args.board.now.book v c.publish.new.seat.view (published_by v.first c.args.rec.now) (omega (arith, c.process-process.ensures.seat.one_part)) refl
+    let v : Knowledge = c.args.seat.now.knows in
+    IsLast-Publishes c.args.board.now.book v c.publish.new.seat.knows (published_by v.first c.args.rec.now) (omega (arith, c.process-process.ensures.seat.one_part)) refl
     (returns-clause-published g c)

@@ -1,5 +1,5 @@
 use Rattle.std.proofs.Common.{◌≡◌, ◌+◌}
-use Rattle.at_board.specs.Words.{record_words}
+use Rattle.at_board.specs.Words.Packed.{record_words}
 use Rattle.at_log.proofs.AppendLaws.{IsStoring}
 use Rattle.at_log.specs.ClosingTerms.{published_by}
 use Rattle.at_log.proofs.log.append.Given as goal
@@ -8,7 +8,7 @@ use Rattle.at_log.proofs.log.append.Given as goal
 abbrev pub invariant-loop-j : goal.invariant-loop-j
 invariant-loop-j g l = record {
   board : l.seat.board ≡ l.fn.seat.board;
-  storing : IsStoring l.fn.seat.view l.seat.view (record_words (published_by l.fn.seat.view.first l.rec)) l.j;
+  storing : IsStoring l.fn.seat.knows l.seat.knows (record_words (published_by l.fn.seat.knows.first l.rec)) l.j;
   steps : l.steps ≡ l.fn.steps + l.j;
   exchanges : l.exchanges ≡ l.fn.exchanges;
 }

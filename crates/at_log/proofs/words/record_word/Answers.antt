@@ -1,7 +1,7 @@
 use Rattle.std.proofs.Common.{sym, subst}
 use Rattle.at_ledger.specs.Call.{AreTargetsOn}
 use Rattle.at_log.proofs.FormFacts.{ArePacked-IsForm, AreTargetsOn-ArePacked}
-use Rattle.at_board.specs.Entries.{targets_of}
+use Rattle.at_history.specs.Entries.{targets_of}
 use Rattle.at_log.proofs.words.record_word.Goals as goal
 
 pub pack_targets-requires : goal.pack_targets-requires

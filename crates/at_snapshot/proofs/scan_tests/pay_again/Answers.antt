@@ -2,13 +2,13 @@ use Rattle.std.proofs.Common.{◌≡◌, ℕ, true, ◌<◌, ◌≤◌, List, []
 use Rattle.std.proofs.lemmas.List.{length-take}
 use Rattle.at_ledger.specs.Book.{BookTerms, account_of, is_owner}
 use Rattle.at_board.proofs.LaterRoundLaws.{only_one}
-use Rattle.at_board.proofs.PushLaws.{owns_of-le}
-use Rattle.at_board.specs.declared.publication.Publication.{Publication}
-use Rattle.at_board.specs.declared.view.View.{View}
-use Rattle.at_board.specs.Balances.{IsCovered}
-use Rattle.at_board.specs.Fronts.{place, prefix_of}
-use Rattle.at_board.specs.Publications.{IsPrefix, count_of}
-use Rattle.at_board.specs.Rounds.{firsts}
+use Rattle.at_history.proofs.Laws.Rounds.{owns_of-le}
+use Rattle.at_history.specs.declared.publication.Publication.{Publication}
+use Rattle.at_board.specs.declared.knowledge.Knowledge.{Knowledge}
+use Rattle.at_history.specs.Balances.{IsCovered}
+use Rattle.at_history.specs.Fronts.{place, prefix_of}
+use Rattle.at_history.specs.Publications.{IsPrefix, count_of}
+use Rattle.at_history.specs.Rounds.{firsts}
 use Rattle.at_log.specs.Appending.{MayAppend}
 use Rattle.at_snapshot.proofs.LoadedLaws.{first-HasLoaded}
 use Rattle.at_snapshot.specs.Collected.{HasLoaded}
@@ -22,7 +22,7 @@ covered : (b : BookTerms) (p : ℕ) (view : List ℕ) → 2 ≤ (account_of b 1)
 unfolding firsts
 covered b p view opening = omega arith
 
-may_append : (b : BookTerms) (v w : View) (view : List ℕ) → 0 < length v.parts → HasPaid v → MayPayTwice b 1 → v.first ≡ 1 → 1 < b.processes
+may_append : (b : BookTerms) (v w : Knowledge) (view : List ℕ) → 0 < length v.parts → HasPaid v → MayPayTwice b 1 → v.first ≡ 1 → 1 < b.processes
     → HasLoaded b v w → IsSnapshot b v w view → view ≡ 0 ∷ 1 ∷ 0 ∷ [] → MayAppend b w (record { entry = payment; view = view })
 may_append b v w view part paid pays one known told snapshot is =
     let first : w.first ≡ v.first = first-HasLoaded b v w told in
@@ -53,9 +53,9 @@ may_append b v w view part paid pays one known told snapshot is =
 pub append-requires-clause-record : goal.append-requires-clause-record
 append-requires-clause-record g c =
     let b : BookTerms = c.args.board.now.book in
-    let v : View = c.args.seat.now.view in
+    let v : Knowledge = c.args.seat.now.knows in
     let known : 1 < b.processes =
     omega (arith, c.process-process.ensures.seat.known, c.requires.process, ap (λ (t : BookTerms). t.processes) c.requires.board.book) in
-    subst (MayAppend b c.snapshot-view.new.seat.view) (sym c.paid.ensures)
-    (may_append b v c.snapshot-view.new.seat.view c.snapshot-view.result (omega (arith, c.process-process.ensures.seat.one_part)) c.requires.paid c.requires.pays
+    subst (MayAppend b c.snapshot-view.new.seat.knows) (sym c.paid.ensures)
+    (may_append b v c.snapshot-view.new.seat.knows c.snapshot-view.result (omega (arith, c.process-process.ensures.seat.one_part)) c.requires.paid c.requires.pays
     c.requires.process known c.snapshot-view.ensures.loads c.snapshot-view.ensures.snapshot (c.counts_the_first.ensures c.if-not-counts_the_first.false))

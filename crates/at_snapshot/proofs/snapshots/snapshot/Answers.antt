@@ -1,8 +1,8 @@
 use Rattle.std.proofs.Common.{◌≡◌, ◌+◌, ◌<◌, ◌≤◌, refl, subst, sym, ap, ◌∙◌, arith}
 use Rattle.at_ledger.specs.Book.{BookTerms}
-use Rattle.at_board.specs.declared.view.View.{View}
+use Rattle.at_board.specs.declared.knowledge.Knowledge.{Knowledge}
 use Rattle.at_snapshot.proofs.TurnLaws.{IsSnapped, IsSnapped-IsSnapping, IsSnapping, IsSnapping-Again, IsSnapping-start, turns_left, turns_left-Again}
-use Rattle.at_snapshot.specs.Scans.{IsScanOf, ScanView, scan_after}
+use Rattle.at_snapshot.specs.Scans.{IsScanOf, ScanTerms, scan_after}
 use Rattle.at_snapshot.specs.Snapshots.{snapshot_steps}
 use Rattle.at_snapshot.specs.Turns.{view_steps}
 use Rattle.at_snapshot.proofs.snapshots.snapshot.Given.{Over}
@@ -11,9 +11,9 @@ use Rattle.at_snapshot.proofs.snapshots.snapshot.Goals as goal
 pub loop-counts-init : goal.loop-counts-init
 loop-counts-init g c =
     let b : BookTerms = c.args.board.now.book in
-    let v : View = c.args.seat.now.view in
-    let so = subst (λ (s : ScanView). IsScanOf b s v) c.start-scan.ensures.start (c.start-scan.ensures.scan b) in (
-      (0, subst (λ (s : ScanView). IsSnapping b v s v c.args.steps.now c.args.steps.now 0) (sym c.start-scan.ensures.start) (IsSnapping-start b v c.args.steps.now c.process-process.ensures.seat.own so)),
+    let v : Knowledge = c.args.seat.now.knows in
+    let so = subst (λ (s : ScanTerms). IsScanOf b s v) c.start-scan.ensures.start (c.start-scan.ensures.scan b) in (
+      (0, subst (λ (s : ScanTerms). IsSnapping b v s v c.args.steps.now c.args.steps.now 0) (sym c.start-scan.ensures.start) (IsSnapping-start b v c.args.steps.now c.process-process.ensures.seat.own so)),
       c.requires,
       refl,
     )
@@ -21,17 +21,17 @@ loop-counts-init g c =
 pub loop-counts-preserved : goal.loop-counts-preserved
 loop-counts-preserved g c =
     let b : BookTerms = c.args.board.now.book in
-    let begun : View = c.args.seat.now.view in
-    let w : View = c.turn.new.seat.view in
-    let scan : ScanView = c.loop-counts.scan in
+    let begun : Knowledge = c.args.seat.now.knows in
+    let w : Knowledge = c.turn.new.seat.knows in
+    let scan : ScanTerms = c.loop-counts.scan in
     let before = c.args.steps.now in
     let turns = c.loop-counts.invariant.0.0 in
-    let more = IsSnapping-Again b begun scan c.loop-counts.seat.view w before c.loop-counts.steps turns (omega (arith, c.process-process.ensures.seat.one_part))
+    let more = IsSnapping-Again b begun scan c.loop-counts.seat.knows w before c.loop-counts.steps turns (omega (arith, c.process-process.ensures.seat.one_part))
     c.loop-counts.invariant.0.1 c.turn.ensures.collect c.in-Again.ensures.answer in
     let steps : c.turn.new.steps ≡ c.loop-counts.steps + b.processes = omega (arith, c.in-Again.ensures.steps) in (
       (
         turns + 1,
-        subst (λ (s : ScanView). IsSnapping b begun s w before c.turn.new.steps (turns + 1)) (sym c.turn.ensures.after)
+        subst (λ (s : ScanTerms). IsSnapping b begun s w before c.turn.new.steps (turns + 1)) (sym c.turn.ensures.after)
             (subst (λ k. IsSnapping b begun (scan_after scan w) w before k (turns + 1)) (sym steps) more),
       ),
       c.turn.ensures.board,
@@ -41,20 +41,20 @@ loop-counts-preserved g c =
 pub loop-counts-smaller : goal.loop-counts-smaller
 loop-counts-smaller g c =
     let b : BookTerms = c.args.board.now.book in
-    let scan : ScanView = c.loop-counts.scan in
-    subst (λ (s : ScanView). turns_left b.processes s.collects < turns_left b.processes scan.collects) (sym c.turn.ensures.after)
-    (turns_left-Again b scan.start scan.mark scan.collects c.loop-counts.seat.view c.turn.new.seat.view c.loop-counts.invariant.0.1.own c.loop-counts.invariant.0.1.scan_of c.turn.ensures.collect
+    let scan : ScanTerms = c.loop-counts.scan in
+    subst (λ (s : ScanTerms). turns_left b.processes s.collects < turns_left b.processes scan.collects) (sym c.turn.ensures.after)
+    (turns_left-Again b scan.start scan.mark scan.collects c.loop-counts.seat.knows c.turn.new.seat.knows c.loop-counts.invariant.0.1.own c.loop-counts.invariant.0.1.scan_of c.turn.ensures.collect
     c.in-Again.ensures.answer)
 
 -- what holds after the last turn
 snapped : (g : Over) (c : goal.After-drop-scan-inside-in-Clean g)
-    → IsSnapped c.args.board.now.book c.args.seat.now.view c.turn.new.seat.view c.args.steps.now
+    → IsSnapped c.args.board.now.book c.args.seat.now.knows c.turn.new.seat.knows c.args.steps.now
     (c.loop-counts.steps + c.args.board.now.book.processes + view_steps c.args.board.now.book.processes c.turn.result)
 snapped g c =
     let b : BookTerms = c.args.board.now.book in
-    let begun : View = c.args.seat.now.view in
+    let begun : Knowledge = c.args.seat.now.knows in
     let known : begun.first < b.processes = omega (arith, c.process-process.ensures.seat.known, ap (λ (t : BookTerms). t.processes) c.requires.book) in
-    IsSnapped-IsSnapping b begun c.loop-counts.scan c.loop-counts.seat.view c.turn.new.seat.view c.args.steps.now c.loop-counts.steps
+    IsSnapped-IsSnapping b begun c.loop-counts.scan c.loop-counts.seat.knows c.turn.new.seat.knows c.args.steps.now c.loop-counts.steps
     c.loop-counts.invariant.0.0 c.turn.result (omega (arith, c.process-process.ensures.seat.one_part)) known c.loop-counts.invariant.0.1 c.turn.ensures.collect
 
 pub returns-in-Clean-clause-loads : goal.returns-in-Clean-clause-loads

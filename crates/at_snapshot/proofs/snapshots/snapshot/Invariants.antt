@@ -1,12 +1,12 @@
 use Rattle.std.proofs.Common.{◌≡◌, ℕ}
-use Rattle.at_board.specs.SeatView.{IsOf}
+use Rattle.at_board.specs.Knowledge.Seats.{IsOf}
 use Rattle.at_snapshot.proofs.TurnLaws.{IsSnapping, turns_left}
 use Rattle.at_snapshot.proofs.snapshots.snapshot.Given as goal
 
 -- so many turns answered Again
 abbrev pub invariant-loop-counts : goal.invariant-loop-counts
 invariant-loop-counts g l =
-    ((turns : ℕ) × IsSnapping l.board.book l.fn.seat.view l.scan l.seat.view l.initial.steps l.steps turns)
+    ((turns : ℕ) × IsSnapping l.board.book l.fn.seat.knows l.scan l.seat.knows l.initial.steps l.steps turns)
     × IsOf l.seat l.board
     × (l.exchanges ≡ l.initial.exchanges)
 

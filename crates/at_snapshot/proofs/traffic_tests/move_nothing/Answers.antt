@@ -1,16 +1,17 @@
 use Rattle.std.proofs.Common.{◌≡◌, ℕ, ◌+◌, ◌<◌, List, [], ◌∷◌, length, get_or, sym, ap, subst, ◌∙◌, arith}
 use Rattle.at_ledger.specs.Book.{BookTerms}
 use Rattle.at_ledger.specs.Call.{TargetPair}
-use Rattle.at_board.proofs.FrontLaws.{place-IsFront-le}
-use Rattle.at_board.proofs.PushLaws.{owns_of-le}
-use Rattle.at_board.proofs.SmallBoardLaws.{ArePublishedBy-IsHistory, may_move}
-use Rattle.at_board.specs.declared.publication.Entry.TheVariants.{Own}
-use Rattle.at_board.specs.declared.view.View.{View}
-use Rattle.at_board.specs.Fronts.{prefix_of}
-use Rattle.at_board.specs.Publications.{count_of}
+use Rattle.at_history.proofs.Laws.Fronts.{place-IsFront-le}
+use Rattle.at_history.proofs.Laws.Rounds.{owns_of-le}
+use Rattle.at_history.proofs.Laws.Histories.{ArePublishedBy-IsHistory}
+use Rattle.at_board.proofs.SmallBoardLaws.{may_move}
+use Rattle.at_history.specs.declared.publication.Entry.TheVariants.{Own}
+use Rattle.at_board.specs.declared.knowledge.Knowledge.{Knowledge}
+use Rattle.at_history.specs.Fronts.{prefix_of}
+use Rattle.at_history.specs.Publications.{count_of}
 use Rattle.at_board.specs.SmallBoard.{HasOwnAccount}
-use Rattle.at_board.specs.Sound.{IsSoundOwn}
-use Rattle.at_board.specs.Views.{own_part}
+use Rattle.at_history.specs.Sound.{IsSoundOwn}
+use Rattle.at_board.specs.Knowledge.Parts.{own_part}
 use Rattle.at_log.specs.declared.record.Record.{Record}
 use Rattle.at_log.specs.Appending.{MayAppend}
 use Rattle.at_snapshot.proofs.LoadedLaws.{first-HasLoaded}
@@ -23,11 +24,11 @@ abbrev moving : ℕ → List TargetPair → List ℕ → Record
 moving from targets view = record { entry = Own from targets; view = view }
 
 -- the view of a snapshot counts all records of its process
-counts_own : (b : BookTerms) (v w : View) (view : List ℕ) → HasLoaded b v w → IsSnapshot b v w view → get_or view v.first 0 ≡ count_of v.first w.seen
+counts_own : (b : BookTerms) (v w : Knowledge) (view : List ℕ) → HasLoaded b v w → IsSnapshot b v w view → get_or view v.first 0 ≡ count_of v.first w.seen
 counts_own b v w view told snapshot = snapshot.own ∙ sym told.own
 
 -- the seat may append the record with its snapshot
-may_append : (b : BookTerms) (v w : View) (from : ℕ) (view : List ℕ) → from ≡ v.first + 1 → v.first < b.processes → length v.parts ≡ 1
+may_append : (b : BookTerms) (v w : Knowledge) (from : ℕ) (view : List ℕ) → from ≡ v.first + 1 → v.first < b.processes → length v.parts ≡ 1
     → HasOwnAccount b v.first → (own_part v).published < b.own_room → HasLoaded b v w
     → IsSnapshot b v w view → MayAppend b w (moving from ((0, 0) ∷ []) view)
 may_append b v w from view source known one owner room told snapshot =
@@ -52,8 +53,8 @@ may_append b v w from view source known one owner room told snapshot =
 pub append-requires-clause-record : goal.append-requires-clause-record
 append-requires-clause-record g c =
     let b : BookTerms = c.args.board.now.book in
-    let v : View = c.args.seat.now.view in
-    let w : View = c.snapshot.new.seat.view in
+    let v : Knowledge = c.args.seat.now.knows in
+    let w : Knowledge = c.snapshot.new.seat.knows in
     let view = c.snapshot.result in
     let source : c.process-process.result + 1 ≡ v.first + 1 = omega (arith, c.process-process.ensures.process) in
     let known : v.first < b.processes =

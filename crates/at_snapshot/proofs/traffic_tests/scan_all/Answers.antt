@@ -1,17 +1,17 @@
 use Rattle.std.proofs.Common.{ℕ, List, arith}
 use Rattle.at_ledger.specs.Book.{BookTerms}
-use Rattle.at_board.proofs.CountLaws.{count_of-take-le}
-use Rattle.at_board.proofs.FrontLaws.{get_or-IsFront, length-IsFront}
-use Rattle.at_board.specs.Fronts.{IsFront, place}
-use Rattle.at_board.specs.SeatView.{SeatView}
+use Rattle.at_history.proofs.Laws.Counts.{count_of-take-le}
+use Rattle.at_history.proofs.Laws.Fronts.{get_or-IsFront, length-IsFront}
+use Rattle.at_history.specs.Fronts.{IsFront, place}
+use Rattle.at_board.specs.Knowledge.Seats.{SeatTerms}
 use Rattle.at_snapshot.specs.SmallScan.{HasSeen}
 use Rattle.at_snapshot.proofs.traffic_tests.scan_all.Goals as goal
 
 -- what a front counts was seen
-HasSeen-IsFront : (b : BookTerms) (seat : SeatView) (counts : List ℕ) → IsFront b.processes counts seat.view.seen → HasSeen seat counts
+HasSeen-IsFront : (b : BookTerms) (seat : SeatTerms) (counts : List ℕ) → IsFront b.processes counts seat.knows.seen → HasSeen seat counts
 HasSeen-IsFront b seat counts front = λ p within.
     let n = b.processes in
-    let xs = seat.view.seen in
+    let xs = seat.knows.seen in
     omega (arith, get_or-IsFront n counts xs p front (omega (arith, within, length-IsFront n counts xs front)), count_of-take-le p (place counts) xs)
 
 pub counts_last_views-requires-clause-seen : goal.counts_last_views-requires-clause-seen

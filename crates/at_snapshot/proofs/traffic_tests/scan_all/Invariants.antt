@@ -1,4 +1,4 @@
-use Rattle.at_board.specs.SeatView.{IsOf}
+use Rattle.at_board.specs.Knowledge.Seats.{IsOf}
 use Rattle.at_snapshot.proofs.traffic_tests.scan_all.Given as goal
 
 abbrev pub invariant-loop-scan : goal.invariant-loop-scan

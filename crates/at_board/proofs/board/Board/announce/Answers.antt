@@ -1,43 +1,43 @@
 use Rattle.std.proofs.Common.{◌≡◌, ◌+◌, ℕ, sym, ap, subst, ◌∙◌, arith}
 use Rattle.at_ledger.specs.Book.{BookTerms}
-use Rattle.at_board.proofs.AnnounceStep.{Announces-played, Announces-same, HasCounts-announce, IsSeat-announce, MayAnnounce-same, MayAnnounce-slot, announces_at, place-MayAnnounce}
-use Rattle.at_board.proofs.PlaceLaws.{place_at-below}
-use Rattle.at_board.proofs.RequestStoreLaws.{same_slot}
-use Rattle.at_board.proofs.RequestStoreStep.{next_number}
-use Rattle.at_board.proofs.StepLaws.{IsSeatOf-IsSeat}
-use Rattle.at_board.specs.declared.request.Request.{Request}
-use Rattle.at_board.specs.declared.view.View.{View}
-use Rattle.at_board.specs.Conditions.{MayAnnounce}
-use Rattle.at_board.specs.Places.{announced_of, place_at}
-use Rattle.at_board.specs.RequestSteps.{Announces}
-use Rattle.at_board.specs.Views.{HasSlot}
+use Rattle.at_board.proofs.StepLaws.Announce.{Announces-played, Announces-same, HasCounts-announce, IsSeat-announce, MayAnnounce-same, MayAnnounce-slot, announces_at, place-MayAnnounce}
+use Rattle.at_board.proofs.WordLaws.Addresses.{index_of-below}
+use Rattle.at_board.proofs.KnowledgeLaws.Asking.{same_slot}
+use Rattle.at_board.proofs.StepLaws.StoreRequestWord.{next_number}
+use Rattle.at_board.proofs.StepLaws.Table.{IsSeatOf-IsSeat}
+use Rattle.at_history.specs.declared.request.Request.{Request}
+use Rattle.at_board.specs.declared.knowledge.Knowledge.{Knowledge}
+use Rattle.at_board.specs.Steps.Announce.{MayAnnounce}
+use Rattle.at_board.specs.Words.Addresses.{announced_of, index_of}
+use Rattle.at_board.specs.Steps.Announce.{Announces}
+use Rattle.at_ledger.specs.Book.{HasSlot}
 use Rattle.at_board.proofs.board.Board.announce.Given as given
 use Rattle.at_board.proofs.board.Board.announce.Goals.{After-from, After-store}
 use Rattle.at_board.proofs.board.Board.announce.Goals as goal
 
 -- the seat and the board are those that callers see
-mine : (g : given.Over) (c : After-from g) → c.seat.inside.seat.me.0 ≡ c.args.seat.now.view
+mine : (g : given.Over) (c : After-from g) → c.seat.inside.seat.me.0 ≡ c.args.seat.now.knows
 mine g c = ap (λ s. s.view) c.seat.view_is
 
 ours : (g : given.Over) (c : After-from g) → c.self.inside.book ≡ c.args.self.now.book
 ours g c = ap (λ t. t.book) c.self.view_is
 
 book : (g : given.Over) (c : After-from g) → c.seat.inside.seat.me.0.book ≡ c.self.inside.book
-book g c = ap (λ (t : View). t.book) (mine g c) ∙ (c.requires.board.book ∙ sym (ours g c))
+book g c = ap (λ (t : Knowledge). t.book) (mine g c) ∙ (c.requires.board.book ∙ sym (ours g c))
 
-has : (g : given.Over) (c : After-from g) → HasSlot c.args.self.now.book c.args.seat.now.view.first c.args.account c.own_slot-own.result
+has : (g : given.Over) (c : After-from g) → HasSlot c.args.self.now.book c.args.seat.now.knows.first c.args.account c.own_slot-own.result
 has g c = subst (λ p. HasSlot c.args.self.now.book p c.args.account c.own_slot-own.result) c.process.ensures.process c.own_slot-own.ensures.slot
 
-at : (g : given.Over) (c : After-from g) → c.announced_place-place.result ≡ place_at c.self.inside.book (announced_of c.args.account c.own_slot-own.result)
+at : (g : given.Over) (c : After-from g) → c.announced_index-place.result ≡ index_of c.self.inside.book (announced_of c.args.account c.own_slot-own.result)
 at g c =
-    subst (λ (t : BookTerms). c.announced_place-place.result ≡ place_at t (announced_of c.args.account c.own_slot-own.result)) (sym (ours g c))
-    c.announced_place-place.ensures.place
+    subst (λ (t : BookTerms). c.announced_index-place.result ≡ index_of t (announced_of c.args.account c.own_slot-own.result)) (sym (ours g c))
+    c.announced_index-place.ensures.place
 
-may : (g : given.Over) (c : After-from g) (k : ℕ) (q : Request) → MayAnnounce c.args.self.now.book c.args.seat.now.view c.args.account k q
+may : (g : given.Over) (c : After-from g) (k : ℕ) (q : Request) → MayAnnounce c.args.self.now.book c.args.seat.now.knows c.args.account k q
     → MayAnnounce c.self.inside.book c.seat.inside.seat.me.0 c.args.account c.own_slot-own.result q
 may g c k q asked =
-    MayAnnounce-same c.args.self.now.book c.self.inside.book c.args.seat.now.view c.seat.inside.seat.me.0 c.args.account c.own_slot-own.result q (ours g c) (mine g c)
-    (MayAnnounce-slot c.args.self.now.book c.args.seat.now.view c.args.account k c.own_slot-own.result q asked (has g c))
+    MayAnnounce-same c.args.self.now.book c.self.inside.book c.args.seat.now.knows c.seat.inside.seat.me.0 c.args.account c.own_slot-own.result q (ours g c) (mine g c)
+    (MayAnnounce-slot c.args.self.now.book c.args.seat.now.knows c.args.account k c.own_slot-own.result q asked (has g c))
 
 counted : (g : given.Over) (c : After-from g) → c.announced-count.result ≡ next_number c.seat.inside.seat.me.0 c.args.account
 counted g c = c.announced-count.ensures ∙ ap (λ u. next_number u c.args.account) (sym (mine g c))
@@ -48,21 +48,21 @@ told : (g : given.Over) (c : After-store g) (q : Request) → MayAnnounce c.self
 told g c q asks =
     let before : After-from g = (goal.at.After-store g c).After-from in
     Announces-played c.self.inside.book c.self.inside.table.shared.table_id.slots c.seat.inside.seat.me c.store.new.seat.me c.args.account
-    c.own_slot-own.result q c.announced_place-place.result c.from.result (book g before) (at g before) asks c.store.ensures.2
+    c.own_slot-own.result q c.announced_index-place.result c.from.result (book g before) (at g before) asks c.store.ensures.2
 
 pub store-requires : goal.store-requires
 store-requires g c =
     let before : After-from g = (goal.at.store-requires g c).After-from in
     let b : BookTerms = c.self.inside.book in
-    let v : View = c.seat.inside.seat.me.0 in
+    let v : Knowledge = c.seat.inside.seat.me.0 in
     let a = c.args.account in
     let slot = c.own_slot-own.result in
     let r : Request = c.requires.request.1 in
     let asked = may g before c.requires.request.0 r c.requires.request.2 in (
       ap (λ s. s.board) c.seat.view_is ∙ (c.requires.board.id ∙ sym (ap (λ t. t.id) c.self.view_is)),
-      omega (arith, c.self.invariant.1, at g before, place_at-below b (announced_of a slot) (place-MayAnnounce b v a slot r asked)),
+      omega (arith, c.self.invariant.1, at g before, index_of-below b (announced_of a slot) (place-MayAnnounce b v a slot r asked)),
       announces_at c.self.inside.table.shared.key.value b c.self.inside.table.shared.table_id.slots c.seat.inside.seat.id c.seat.inside.seat.me
-          a slot r c.announced_place-place.result c.from.result c.self.invariant.0 (at g before) (omega (arith, c.from.ensures, counted g before)) c.self.invariant.2.begun
+          a slot r c.announced_index-place.result c.from.result c.self.invariant.0 (at g before) (omega (arith, c.from.ensures, counted g before)) c.self.invariant.2.begun
           (IsSeatOf-IsSeat b v c.seat.inside.process c.seat.inside.published (book g before) c.seat.invariant.1) asked,
     )
 
@@ -71,8 +71,8 @@ invariant_of-seat g c =
     let after : After-store g = (goal.at.invariant_of-seat g c).After-store in
     let before : After-from g = (goal.at.After-store g after).After-from in
     let b : BookTerms = c.self.inside.book in
-    let v : View = c.seat.inside.seat.me.0 in
-    let w : View = c.store.new.seat.me.0 in
+    let v : Knowledge = c.seat.inside.seat.me.0 in
+    let w : Knowledge = c.store.new.seat.me.0 in
     let a = c.args.account in
     let slot = c.own_slot-own.result in
     let r : Request = c.requires.request.1 in
@@ -88,8 +88,8 @@ pub returns-clause-announced : goal.returns-clause-announced
 returns-clause-announced g c = λ k q asks.
     let after : After-store g = (goal.at.returns-clause-announced g c).After-store in
     let before : After-from g = (goal.at.After-store g after).After-from in
-    let v : View = c.args.seat.now.view in
-    let w : View = c.store.new.seat.me.0 in
+    let v : Knowledge = c.args.seat.now.knows in
+    let w : Knowledge = c.store.new.seat.me.0 in
     let a = c.args.account in
     let here = Announces-same c.args.self.now.book c.self.inside.book v c.seat.inside.seat.me.0 w a c.own_slot-own.result q (ours g before) (mine g before)
     (told g after q (may g before k q asks)) in

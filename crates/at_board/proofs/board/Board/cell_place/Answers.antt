@@ -2,10 +2,11 @@ use Rattle.std.proofs.Common.{◌≡◌, ℕ, ◌+◌, ◌*◌, length, take, re
 use Rattle.std.specs.List.{sum_by}
 use Rattle.std.proofs.lemmas.List.{take_all}
 use Rattle.at_ledger.specs.Book.{BookTerms}
-use Rattle.at_board.proofs.CellPlaces.{IsCellIndex, IsCellIndex-computed}
-use Rattle.at_board.specs.Places.{IsPlace, cell_of, place_at, slots_of}
-use Rattle.at_board.proofs.board.Board.cell_place.Goals.{After-first_slot, After-request_room-room}
-use Rattle.at_board.proofs.board.Board.cell_place.Goals as goal
+use Rattle.at_board.proofs.WordLaws.Cells.{IsCellIndex, IsCellIndex-computed}
+use Rattle.at_ledger.specs.Account.{slots_of}
+use Rattle.at_board.specs.Words.Addresses.{IsAddress, cell_of, index_of}
+use Rattle.at_board.proofs.board.Board.cell_index.Goals.{After-first_slot, After-request_room-room}
+use Rattle.at_board.proofs.board.Board.cell_index.Goals as goal
 
 -- the index and its parts, as they are computed from the slots of the accounts before this one
 computed : (c : After-request_room-room) (first : ℕ) → first ≡ sum_by slots_of (take c.args.account c.args.self.now.book.accounts)
@@ -16,7 +17,7 @@ computed c first is =
     let all : c.first_slot-slots.result ≡ sum_by slots_of (take (length b.accounts) b.accounts) =
     c.first_slot-slots.ensures ∙ (λ t. sum_by slots_of (take (c.accounts.ensures.count t) (ours t).accounts)) in
     IsCellIndex-computed b c.args.account c.args.round c.self.inside.slots_start c.first_slot-slots.result c.request_room-room.result first c.self.invariant.2.begun
-    (subst (λ (t : BookTerms). IsPlace t (cell_of c.args.account c.args.round)) ours c.requires) c.self.invariant.4
+    (subst (λ (t : BookTerms). IsAddress t (cell_of c.args.account c.args.round)) ours c.requires) c.self.invariant.4
     (all ∙ ap (sum_by slots_of) (take_all (length b.accounts) b.accounts (omega arith))) c.request_room-room.ensures
     (is ∙ ap (λ (t : BookTerms). sum_by slots_of (take c.args.account t.accounts)) ours)
 
@@ -51,4 +52,4 @@ returns c =
     let slots = c.first_slot-slots.result in
     let room = c.request_room-room.result in
     let n = c.self.inside.slots_start + slots + 6 * (slots * room) + c.first_slot.result * room + c.args.round in
-    record { place = subst (λ (t : BookTerms). n ≡ place_at t (cell_of c.args.account c.args.round)) (ap (λ t. t.book) c.self.view_is) (index all).index }
+    record { place = subst (λ (t : BookTerms). n ≡ index_of t (cell_of c.args.account c.args.round)) (ap (λ t. t.book) c.self.view_is) (index all).index }

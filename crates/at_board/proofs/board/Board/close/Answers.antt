@@ -1,10 +1,10 @@
 use Rattle.std.proofs.Common.{sym, ap, subst, ◌∙◌, arith}
 use Rattle.std.specs.Mem.Slots.{slots_items}
 use Rattle.at_ledger.specs.Book.{BookTerms}
-use Rattle.at_board.proofs.EndLaws.{IsEnd-Final, IsLast}
-use Rattle.at_board.proofs.NoteLaws.{word_count-some}
-use Rattle.at_board.specs.Ends.{IsEnd, end_of}
-use Rattle.at_board.specs.SeatView.{BoardView}
+use Rattle.at_board.proofs.EndLaws.Closed.{IsEnd-Final, IsLast}
+use Rattle.at_board.proofs.StepLaws.Note.{word_count-some}
+use Rattle.at_board.specs.Ends.Closing.{IsEnd, end_of}
+use Rattle.at_board.specs.Knowledge.Seats.{BoardTerms}
 use Rattle.at_board.proofs.board.Board.close.Goals as goal
 
 pub gather-last-requires-clause-words : goal.gather-last-requires-clause-words
@@ -15,7 +15,7 @@ returns-clause-end c =
     let b : BookTerms = c.self.inside.book in
     let words = slots_items c.close_with.result.words in
     let slots = slots_items c.close_with.result.slots in
-    let all = c.requires.count ∙ sym (ap (λ (t : BoardView). t.book.processes) c.self.view_is) in
+    let all = c.requires.count ∙ sym (ap (λ (t : BoardTerms). t.book.processes) c.self.view_is) in
     let last : IsLast b c.gather-last.result.id c.gather-last.result.me.0 words slots =
     subst (λ (k : BookTerms). IsLast k c.gather-last.result.id c.gather-last.result.me.0 words slots) c.self.invariant.0 c.close_with.ensures.values.2 in
     subst (λ ws. IsEnd (end_of b ws) c.args.seats.items) (sym c.words_of.ensures)

@@ -2,7 +2,7 @@ use Rattle.std.proofs.Common.{◌≡◌, ◌≤◌, length, sym, ap, subst, ◌�
 use Rattle.std.specs.List.{sum_by}
 use Rattle.std.proofs.lemmas.List.{get_or_read}
 use Rattle.at_ledger.specs.Book.{BookTerms}
-use Rattle.at_board.specs.Places.{slots_of}
+use Rattle.at_ledger.specs.Account.{slots_of}
 use Rattle.at_board.proofs.board.Board.first_slot.Goals as goal
 
 pub returns : goal.returns

@@ -1,12 +1,12 @@
 use Rattle.std.proofs.Common.{◌≡◌, sym, ap, subst, ◌∙◌, arith}
 use Rattle.at_ledger.specs.Book.{BookTerms, IsBegun}
-use Rattle.at_board.proofs.PlaceLaws.{place_at-below}
-use Rattle.at_board.proofs.SeatCountLaws.{HasCounts-load}
-use Rattle.at_board.proofs.SeatKept.{IsSeat-load, count_of-IsHistory}
-use Rattle.at_board.proofs.StepLaws.{IsSeatOf-IsSeat, LoadsLength-played, loads_length_at, place_at-length_of}
-use Rattle.at_board.specs.declared.view.View.{View}
-use Rattle.at_board.specs.Places.{length_of, word_count}
-use Rattle.at_board.specs.Steps.{LoadsLength}
+use Rattle.at_board.proofs.WordLaws.Addresses.{index_of-below}
+use Rattle.at_board.proofs.KnowledgeLaws.Counts.{HasCounts-load}
+use Rattle.at_board.proofs.KnowledgeLaws.Kept.{IsSeat-load, count_of-IsHistory}
+use Rattle.at_board.proofs.StepLaws.Table.{IsSeatOf-IsSeat, LoadsLength-played, loads_length_at, index_of-length_of}
+use Rattle.at_board.specs.declared.knowledge.Knowledge.{Knowledge}
+use Rattle.at_board.specs.Words.Addresses.{length_of, word_count}
+use Rattle.at_board.specs.Steps.LoadLength.{LoadsLength}
 use Rattle.at_board.proofs.board.Board.load_length.Given as given
 use Rattle.at_board.proofs.board.Board.load_length.Goals.{After-load-length}
 use Rattle.at_board.proofs.board.Board.load_length.Goals as goal
@@ -14,13 +14,13 @@ use Rattle.at_board.proofs.board.Board.load_length.Goals as goal
 pub load-length-requires : goal.load-length-requires
 load-length-requires g c =
     let b : BookTerms = c.args.self.now.book in
-    let v : View = c.seat.inside.seat.me.0 in
+    let v : Knowledge = c.seat.inside.seat.me.0 in
     let ours : c.self.inside.book ≡ b = ap (λ t. t.book) c.self.view_is in
     let book : v.book ≡ b = ap (λ s. s.view.book) c.seat.view_is ∙ c.requires.board.book in (
       ap (λ s. s.board) c.seat.view_is ∙ (c.requires.board.id ∙ sym (ap (λ t. t.id) c.self.view_is)),
-      omega (arith, c.self.invariant.1, ap word_count ours, place_at-below b (length_of c.args.p) c.requires.process, place_at-length_of b c.args.p),
+      omega (arith, c.self.invariant.1, ap word_count ours, index_of-below b (length_of c.args.p) c.requires.process, index_of-length_of b c.args.p),
       loads_length_at c.self.inside.table.shared.key.value b _ _ c.seat.inside.seat.me c.args.p c.args.p (c.self.invariant.0 ∙ ours)
-          (sym (place_at-length_of b c.args.p)) (subst IsBegun ours c.self.invariant.2.begun)
+          (sym (index_of-length_of b c.args.p)) (subst IsBegun ours c.self.invariant.2.begun)
           (IsSeatOf-IsSeat b v c.seat.inside.process c.seat.inside.published book c.seat.invariant.1) c.seat.invariant.0 c.requires.process,
     )
 
@@ -44,8 +44,8 @@ pub invariant_of-seat : goal.invariant_of-seat
 invariant_of-seat g c =
     let after : After-load-length g = (goal.at.invariant_of-seat g c).After-load-length in
     let b : BookTerms = c.args.self.now.book in
-    let v : View = c.seat.inside.seat.me.0 in
-    let w : View = c.load-length.new.seat.me.0 in
+    let v : Knowledge = c.seat.inside.seat.me.0 in
+    let w : Knowledge = c.load-length.new.seat.me.0 in
     let loaded = told g after in (
       c.load-length.ensures.2.0 ∙ c.seat.invariant.0,
       IsSeat-load b v w c.seat.inside.process c.seat.inside.published c.args.p c.load-length.result (book g after) c.seat.invariant.1 loaded,
@@ -54,5 +54,5 @@ invariant_of-seat g c =
 
 pub returns-clause-told : goal.returns-clause-told
 returns-clause-told g c =
-    subst (λ (t : View). LoadsLength c.args.self.now.book t c.load-length.new.seat.me.0 c.args.p c.load-length.result) (ap (λ s. s.view) c.seat.view_is)
+    subst (λ (t : Knowledge). LoadsLength c.args.self.now.book t c.load-length.new.seat.me.0 c.args.p c.load-length.result) (ap (λ s. s.view) c.seat.view_is)
     (told g (goal.at.returns-clause-told g c).After-load-length)

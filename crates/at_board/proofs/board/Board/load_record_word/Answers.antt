@@ -1,9 +1,9 @@
 use Rattle.std.proofs.Common.{◌≡◌, sym, ap, ◌∙◌, arith}
 use Rattle.at_ledger.specs.Book.{BookTerms}
-use Rattle.at_board.proofs.PlaceLaws.{place_at-below}
-use Rattle.at_board.proofs.RecordLaws.{IsPlace-MayLoadWord}
-use Rattle.at_board.proofs.RecordStep.{IsRecordWord-played, loads_word}
-use Rattle.at_board.specs.Places.{record_word, word_count}
+use Rattle.at_board.proofs.WordLaws.Addresses.{index_of-below}
+use Rattle.at_board.proofs.KnowledgeLaws.Records.{IsAddress-MayLoadWord}
+use Rattle.at_board.proofs.StepLaws.LoadRecordWord.{IsRecordWord-played, loads_word}
+use Rattle.at_board.specs.Words.Addresses.{record_word, word_count}
 use Rattle.at_board.proofs.board.Board.load_record_word.Given as given
 use Rattle.at_board.proofs.board.Board.load_record_word.Goals.{After-seat}
 use Rattle.at_board.proofs.board.Board.load_record_word.Goals as goal
@@ -11,9 +11,9 @@ use Rattle.at_board.proofs.board.Board.load_record_word.Goals as goal
 book : (g : given.Over) (c : After-seat g) → c.seat.inside.seat.me.0.book ≡ c.args.self.now.book
 book g c = ap (λ s. s.view.book) c.seat.view_is ∙ c.requires.board.book
 
-pub record_place-place-requires : goal.record_place-place-requires
-record_place-place-requires g c =
-    IsPlace-MayLoadWord c.args.self.now.book c.seat.inside.seat.me.0 c.args.seat.now.view c.seat.inside.process c.seat.inside.published c.args.p c.args.i c.args.j
+pub record_index_of-place-requires : goal.record_index_of-place-requires
+record_index_of-place-requires g c =
+    IsAddress-MayLoadWord c.args.self.now.book c.seat.inside.seat.me.0 c.args.seat.now.knows c.seat.inside.process c.seat.inside.published c.args.p c.args.i c.args.j
     (book g c) c.seat.invariant.1 (ap (λ s. s.view) c.seat.view_is) c.requires.record
 
 pub load-requires : goal.load-requires
@@ -26,16 +26,16 @@ load-requires g c =
         arith,
         c.self.invariant.1,
         ap word_count ours,
-        c.record_place-place.ensures.place,
-        place_at-below b (record_word c.args.p c.args.i c.args.j) (record_place-place-requires g before),
+        c.record_index_of-place.ensures.place,
+        index_of-below b (record_word c.args.p c.args.i c.args.j) (record_index_of-place-requires g before),
       ),
       loads_word c.self.inside.table.shared.key.value b c.self.inside.table.shared.table_id.slots c.seat.inside.seat.id c.seat.inside.seat.me
-          c.record_place-place.result (c.self.invariant.0 ∙ ours) (book g before),
+          c.record_index_of-place.result (c.self.invariant.0 ∙ ours) (book g before),
     )
 
 pub returns-clause-word : goal.returns-clause-word
 returns-clause-word g c =
     let before : After-seat g = (goal.at.returns-clause-word g c).After-seat in
     IsRecordWord-played c.args.self.now.book c.self.inside.table.shared.table_id.slots c.seat.inside.seat.me c.load.new.seat.me c.args.p c.args.i c.args.j
-    c.record_place-place.result c.load.result c.args.seat.now.view c.seat.inside.process c.seat.inside.published (book g before) c.seat.invariant.1 (ap (λ s. s.view) c.seat.view_is)
-    c.requires.record c.record_place-place.ensures.place c.load.ensures.2
+    c.record_index_of-place.result c.load.result c.args.seat.now.knows c.seat.inside.process c.seat.inside.published (book g before) c.seat.invariant.1 (ap (λ s. s.view) c.seat.view_is)
+    c.requires.record c.record_index_of-place.ensures.place c.load.ensures.2

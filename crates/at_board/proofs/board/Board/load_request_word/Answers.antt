@@ -1,31 +1,31 @@
 use Rattle.std.proofs.Common.{◌≡◌, sym, ap, subst, ◌∙◌, arith}
 use Rattle.at_ledger.specs.Book.{BookTerms, IsBegun}
-use Rattle.at_board.proofs.PlaceLaws.{place_at-below}
-use Rattle.at_board.proofs.RequestWordLaws.{place-MayLoadRequest}
-use Rattle.at_board.proofs.RequestWordStep.{HasCounts-request, IsSeat-request, LoadsRequestWord-played, loads_request_word_at}
-use Rattle.at_board.proofs.StepLaws.{IsSeatOf-IsSeat}
-use Rattle.at_board.specs.declared.view.View.{View}
-use Rattle.at_board.specs.Places.{IsPlace, request_word, word_count}
-use Rattle.at_board.specs.RequestConditions.{MayLoadRequest}
-use Rattle.at_board.specs.RequestSteps.{LoadsRequestWord}
+use Rattle.at_board.proofs.WordLaws.Addresses.{index_of-below}
+use Rattle.at_board.proofs.StepLaws.LoadRequestWord.{place-MayLoadRequest}
+use Rattle.at_board.proofs.StepLaws.LoadRequestWord.{HasCounts-request, IsSeat-request, LoadsRequestWord-played, loads_request_word_at}
+use Rattle.at_board.proofs.StepLaws.Table.{IsSeatOf-IsSeat}
+use Rattle.at_board.specs.declared.knowledge.Knowledge.{Knowledge}
+use Rattle.at_board.specs.Words.Addresses.{IsAddress, request_word, word_count}
+use Rattle.at_board.specs.Steps.LoadRequestWord.{MayLoadRequest}
+use Rattle.at_board.specs.Steps.LoadRequestWord.{LoadsRequestWord}
 use Rattle.at_board.proofs.board.Board.load_request_word.Given as given
 use Rattle.at_board.proofs.board.Board.load_request_word.Goals.{After-load, After-process-process}
 use Rattle.at_board.proofs.board.Board.load_request_word.Goals as goal
 
 -- the seat is the one that callers see
-mine : (g : given.Over) (c : After-process-process g) → c.seat.inside.seat.me.0 ≡ c.args.seat.now.view
+mine : (g : given.Over) (c : After-process-process g) → c.seat.inside.seat.me.0 ≡ c.args.seat.now.knows
 mine g c = ap (λ s. s.view) c.seat.view_is
 
 book : (g : given.Over) (c : After-process-process g) → c.seat.inside.seat.me.0.book ≡ c.args.self.now.book
-book g c = ap (λ (t : View). t.book) (mine g c) ∙ c.requires.board.book
+book g c = ap (λ (t : Knowledge). t.book) (mine g c) ∙ c.requires.board.book
 
 may : (g : given.Over) (c : After-process-process g) → MayLoadRequest c.seat.inside.seat.me.0 c.args.account c.args.slot c.args.number c.args.j
-may g c = subst (λ (t : View). MayLoadRequest t c.args.account c.args.slot c.args.number c.args.j) (sym (mine g c)) c.requires.request
+may g c = subst (λ (t : Knowledge). MayLoadRequest t c.args.account c.args.slot c.args.number c.args.j) (sym (mine g c)) c.requires.request
 
-pub request_place-place-requires : goal.request_place-place-requires
-request_place-place-requires g c =
-    subst (λ (t : BookTerms). IsPlace t (request_word c.args.account c.args.slot c.args.number c.args.j)) c.requires.board.book
-    (place-MayLoadRequest c.args.seat.now.view c.args.account c.args.slot c.args.number c.args.j c.process-process.ensures.seat.in_range c.requires.request)
+pub request_index-place-requires : goal.request_index-place-requires
+request_index-place-requires g c =
+    subst (λ (t : BookTerms). IsAddress t (request_word c.args.account c.args.slot c.args.number c.args.j)) c.requires.board.book
+    (place-MayLoadRequest c.args.seat.now.knows c.args.account c.args.slot c.args.number c.args.j c.process-process.ensures.seat.in_range c.requires.request)
 
 -- the step loads the word
 told : (g : given.Over) (c : After-load g) → LoadsRequestWord c.args.self.now.book c.seat.inside.seat.me.0 c.load.new.seat.me.0 c.args.account c.args.slot
@@ -33,26 +33,26 @@ told : (g : given.Over) (c : After-load g) → LoadsRequestWord c.args.self.now.
 told g c =
     let before : After-process-process g = (goal.at.After-load g c).After-process-process in
     LoadsRequestWord-played c.args.self.now.book c.self.inside.table.shared.table_id.slots c.seat.inside.seat.me c.load.new.seat.me c.args.account c.args.slot
-    c.args.number c.args.j c.load.result c.request_place-place.result (book g before) c.request_place-place.ensures.place (request_place-place-requires g before)
+    c.args.number c.args.j c.load.result c.request_index-place.result (book g before) c.request_index-place.ensures.place (request_index-place-requires g before)
     (may g before) c.load.ensures.2
 
 pub load-requires : goal.load-requires
 load-requires g c =
     let before : After-process-process g = (goal.at.load-requires g c).After-process-process in
     let b : BookTerms = c.args.self.now.book in
-    let v : View = c.seat.inside.seat.me.0 in
+    let v : Knowledge = c.seat.inside.seat.me.0 in
     let ours : c.self.inside.book ≡ b = ap (λ t. t.book) c.self.view_is in
-    let is : IsPlace b (request_word c.args.account c.args.slot c.args.number c.args.j) = request_place-place-requires g before in (
+    let is : IsAddress b (request_word c.args.account c.args.slot c.args.number c.args.j) = request_index-place-requires g before in (
       ap (λ s. s.board) c.seat.view_is ∙ (c.requires.board.id ∙ sym (ap (λ t. t.id) c.self.view_is)),
       omega (
         arith,
         c.self.invariant.1,
         ap word_count ours,
-        c.request_place-place.ensures.place,
-        place_at-below b (request_word c.args.account c.args.slot c.args.number c.args.j) is,
+        c.request_index-place.ensures.place,
+        index_of-below b (request_word c.args.account c.args.slot c.args.number c.args.j) is,
       ),
       loads_request_word_at c.self.inside.table.shared.key.value b c.self.inside.table.shared.table_id.slots c.seat.inside.seat.id c.seat.inside.seat.me
-          c.args.account c.args.slot c.args.number c.args.j c.request_place-place.result (c.self.invariant.0 ∙ ours) c.request_place-place.ensures.place
+          c.args.account c.args.slot c.args.number c.args.j c.request_index-place.result (c.self.invariant.0 ∙ ours) c.request_index-place.ensures.place
           (subst IsBegun ours c.self.invariant.2.begun) (IsSeatOf-IsSeat b v c.seat.inside.process c.seat.inside.published (book g before) c.seat.invariant.1) is (may g before),
     )
 
@@ -60,11 +60,11 @@ pub invariant_of-seat : goal.invariant_of-seat
 invariant_of-seat g c =
     let before : After-process-process g = (goal.at.After-load g c).After-process-process in
     let b : BookTerms = c.args.self.now.book in
-    let v : View = c.seat.inside.seat.me.0 in
-    let w : View = c.load.new.seat.me.0 in (
+    let v : Knowledge = c.seat.inside.seat.me.0 in
+    let w : Knowledge = c.load.new.seat.me.0 in (
       c.load.ensures.2.0 ∙ c.seat.invariant.0,
       IsSeat-request b v w c.seat.inside.process c.seat.inside.published c.args.account c.args.slot c.args.number c.args.j c.load.result (book g before)
-          (request_place-place-requires g before) c.seat.invariant.1 (told g c),
+          (request_index-place-requires g before) c.seat.invariant.1 (told g c),
       HasCounts-request b v w c.args.account c.args.slot c.args.number c.args.j c.load.result c.seat.inside.announced.items (omega (arith, c.seat.invariant.1.one_part))
           c.seat.invariant.1.accounts (told g c) c.seat.invariant.2,
     )
@@ -73,5 +73,5 @@ pub returns-clause-told : goal.returns-clause-told
 returns-clause-told g c =
     let after : After-load g = (goal.at.returns-clause-told g c).After-load in
     let before : After-process-process g = (goal.at.After-load g after).After-process-process in
-    subst (λ (t : View). LoadsRequestWord c.args.self.now.book t c.load.new.seat.me.0 c.args.account c.args.slot c.args.number c.args.j c.load.result)
+    subst (λ (t : Knowledge). LoadsRequestWord c.args.self.now.book t c.load.new.seat.me.0 c.args.account c.args.slot c.args.number c.args.j c.load.result)
     (mine g before) (told g after)

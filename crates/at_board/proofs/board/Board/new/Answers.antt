@@ -1,5 +1,5 @@
 use Rattle.std.proofs.Common.{◌∙◌}
-use Rattle.at_board.proofs.OpeningLaws.{Ruled-new}
+use Rattle.at_board.proofs.EndLaws.Opening.{Ruled-new}
 use Rattle.at_board.proofs.board.Board.new.Goals as goal
 
 pub of_words-requires : goal.of_words-requires

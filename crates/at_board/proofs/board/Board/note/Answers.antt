@@ -1,6 +1,6 @@
 use Rattle.std.proofs.Common.{sym, ap, subst, ◌∙◌, arith}
-use Rattle.at_board.proofs.NoteLaws.{IsNote-noted, notes, word_count-some}
-use Rattle.at_board.specs.NoteSteps.{IsNote}
+use Rattle.at_board.proofs.StepLaws.Note.{IsNote-noted, notes, word_count-some}
+use Rattle.at_board.specs.Steps.Note.{IsNote}
 use Rattle.at_board.proofs.board.Board.note.Goals as goal
 
 pub split_seat-requires : goal.split_seat-requires

@@ -1,40 +1,40 @@
 use Rattle.std.proofs.Common.{◌≡◌, ◌+◌, ◌<◌, sym, ap, ◌∙◌, arith}
 use Rattle.at_ledger.specs.Book.{BookTerms, log_room_of}
-use Rattle.at_board.proofs.LogRoomLaws.{published-MayEnter}
-use Rattle.at_board.proofs.PlaceLaws.{place_at-below}
-use Rattle.at_board.proofs.PublishStep.{IsSeat-publish, MayPublish-same, Publishes-played, Publishes-same, publishes_at}
-use Rattle.at_board.proofs.SeatCountLaws.{HasCounts-publish}
-use Rattle.at_board.proofs.SizeLaws.{log_room_of-le}
-use Rattle.at_board.proofs.StepLaws.{IsSeatOf, IsSeatOf-IsSeat, place_at-length_of}
-use Rattle.at_board.specs.declared.publication.Publication.{Publication}
-use Rattle.at_board.specs.declared.view.View.{View}
-use Rattle.at_board.specs.Conditions.{MayPublish}
-use Rattle.at_board.specs.Places.{length_of}
-use Rattle.at_board.specs.Steps.{Publishes}
-use Rattle.at_board.specs.Views.{own_part}
+use Rattle.at_board.proofs.StepLaws.LogRoom.{published-MayEnter}
+use Rattle.at_board.proofs.WordLaws.Addresses.{index_of-below}
+use Rattle.at_board.proofs.StepLaws.Publish.{IsSeat-publish, MayPublish-same, Publishes-played, Publishes-same, publishes_at}
+use Rattle.at_board.proofs.KnowledgeLaws.Counts.{HasCounts-publish}
+use Rattle.at_history.proofs.Laws.Rooms.{log_room_of-le}
+use Rattle.at_board.proofs.StepLaws.Table.{IsSeatOf, IsSeatOf-IsSeat, index_of-length_of}
+use Rattle.at_history.specs.declared.publication.Publication.{Publication}
+use Rattle.at_board.specs.declared.knowledge.Knowledge.{Knowledge}
+use Rattle.at_board.specs.Steps.Publish.{MayPublish}
+use Rattle.at_board.specs.Words.Addresses.{length_of}
+use Rattle.at_board.specs.Steps.Publish.{Publishes}
+use Rattle.at_board.specs.Knowledge.Parts.{own_part}
 use Rattle.at_board.proofs.board.Board.publish.Given as given
 use Rattle.at_board.proofs.board.Board.publish.Goals.{After-from, After-store}
 use Rattle.at_board.proofs.board.Board.publish.Goals as goal
 
 -- the seat and the board are those that callers see
-mine : (g : given.Over) (c : After-from g) → c.seat.inside.seat.me.0 ≡ c.args.seat.now.view
+mine : (g : given.Over) (c : After-from g) → c.seat.inside.seat.me.0 ≡ c.args.seat.now.knows
 mine g c = ap (λ s. s.view) c.seat.view_is
 
 ours : (g : given.Over) (c : After-from g) → c.self.inside.book ≡ c.args.self.now.book
 ours g c = ap (λ t. t.book) c.self.view_is
 
 book : (g : given.Over) (c : After-from g) → c.seat.inside.seat.me.0.book ≡ c.self.inside.book
-book g c = ap (λ (t : View). t.book) (mine g c) ∙ (c.requires.board.book ∙ sym (ours g c))
+book g c = ap (λ (t : Knowledge). t.book) (mine g c) ∙ (c.requires.board.book ∙ sym (ours g c))
 
-may : (g : given.Over) (c : After-from g) (x : Publication) → MayPublish c.args.self.now.book c.args.seat.now.view x
+may : (g : given.Over) (c : After-from g) (x : Publication) → MayPublish c.args.self.now.book c.args.seat.now.knows x
     → MayPublish c.self.inside.book c.seat.inside.seat.me.0 x
-may g c x = MayPublish-same c.args.self.now.book c.self.inside.book c.args.seat.now.view c.seat.inside.seat.me.0 x (ours g c) (mine g c)
+may g c x = MayPublish-same c.args.self.now.book c.self.inside.book c.args.seat.now.knows c.seat.inside.seat.me.0 x (ours g c) (mine g c)
 
 seat : (g : given.Over) (c : After-from g) → IsSeatOf c.self.inside.book c.seat.inside.seat.me.0
 seat g c = IsSeatOf-IsSeat c.self.inside.book c.seat.inside.seat.me.0 c.seat.inside.process c.seat.inside.published (book g c) c.seat.invariant.1
 
 -- the log has room for the record
-room : (g : given.Over) (c : After-from g) → let v : View = c.seat.inside.seat.me.0 in (own_part v).published < log_room_of c.self.inside.book v.first
+room : (g : given.Over) (c : After-from g) → let v : Knowledge = c.seat.inside.seat.me.0 in (own_part v).published < log_room_of c.self.inside.book v.first
 room g c =
     let x : Publication = c.requires.record.0 in
     let asked = may g c x c.requires.record.1 in
@@ -52,11 +52,11 @@ pub store-requires : goal.store-requires
 store-requires g c =
     let before : After-from g = (goal.at.store-requires g c).After-from in
     let b : BookTerms = c.self.inside.book in
-    let v : View = c.seat.inside.seat.me.0 in
+    let v : Knowledge = c.seat.inside.seat.me.0 in
     let kept = c.seat.invariant.1 in
     let own = seat g before in (
       ap (λ s. s.board) c.seat.view_is ∙ (c.requires.board.id ∙ sym (ap (λ t. t.id) c.self.view_is)),
-      omega (arith, c.self.invariant.1, kept.process_is, place_at-length_of b v.first, place_at-below b (length_of v.first) own.known),
+      omega (arith, c.self.invariant.1, kept.process_is, index_of-length_of b v.first, index_of-below b (length_of v.first) own.known),
       publishes_at c.self.inside.table.shared.key.value b c.self.inside.table.shared.table_id.slots c.seat.inside.seat.id c.seat.inside.seat.me c.requires.record.0
           c.seat.inside.process (c.from.result + 1) c.self.invariant.0 (sym kept.process_is) (omega (arith, c.from.ensures, kept.published_is))
           c.self.invariant.2.begun own c.seat.invariant.0 (room g before) (may g before c.requires.record.0 c.requires.record.1),
@@ -77,8 +77,8 @@ invariant_of-seat g c =
     let after : After-store g = (goal.at.invariant_of-seat g c).After-store in
     let before : After-from g = (goal.at.After-store g after).After-from in
     let b : BookTerms = c.self.inside.book in
-    let v : View = c.seat.inside.seat.me.0 in
-    let w : View = c.store.new.seat.me.0 in
+    let v : Knowledge = c.seat.inside.seat.me.0 in
+    let w : Knowledge = c.store.new.seat.me.0 in
     let x : Publication = c.requires.record.0 in
     let published = told g after x (may g before x c.requires.record.1) in (
       c.store.ensures.2.0 ∙ c.seat.invariant.0,
@@ -90,5 +90,5 @@ pub returns-clause-published : goal.returns-clause-published
 returns-clause-published g c = λ x asked.
     let after : After-store g = (goal.at.returns-clause-published g c).After-store in
     let before : After-from g = (goal.at.After-store g after).After-from in
-    Publishes-same c.args.self.now.book c.self.inside.book c.args.seat.now.view c.seat.inside.seat.me.0 c.store.new.seat.me.0 x (ours g before) (mine g before)
+    Publishes-same c.args.self.now.book c.self.inside.book c.args.seat.now.knows c.seat.inside.seat.me.0 c.store.new.seat.me.0 x (ours g before) (mine g before)
     (told g after x (may g before x asked))

@@ -2,29 +2,30 @@ use Rattle.std.proofs.Common.{◌≡◌, ◌+◌, ◌*◌, length, take, sym, ap
 use Rattle.std.specs.List.{sum_by}
 use Rattle.std.proofs.lemmas.List.{take_all}
 use Rattle.at_ledger.specs.Book.{BookTerms}
-use Rattle.at_board.proofs.PlaceLaws.{place_at-below}
-use Rattle.at_board.proofs.SizeLaws.{word_count-le}
-use Rattle.at_board.proofs.SlotPlaces.{IsRequestPlace, place_at-request_word, request_place-computed}
-use Rattle.at_board.specs.Places.{IsPlace, place_at, request_word, slots_of}
-use Rattle.at_board.proofs.board.Board.request_place.Goals.{After-first_slot, After-request_room}
-use Rattle.at_board.proofs.board.Board.request_place.Goals as goal
+use Rattle.at_board.proofs.WordLaws.Addresses.{index_of-below}
+use Rattle.at_board.proofs.WordLaws.Sizes.{word_count-le}
+use Rattle.at_board.proofs.WordLaws.Slots.{IsRequestAddress, index_of-request_word, request_index-computed}
+use Rattle.at_ledger.specs.Account.{slots_of}
+use Rattle.at_board.specs.Words.Addresses.{IsAddress, index_of, request_word}
+use Rattle.at_board.proofs.board.Board.request_index.Goals.{After-first_slot, After-request_room}
+use Rattle.at_board.proofs.board.Board.request_index.Goals as goal
 
 -- the board's book is the one that callers see
 ours : (c : After-first_slot) → c.args.self.now.book ≡ c.self.inside.book
 ours c = sym (ap (λ t. t.book) c.self.view_is)
 
-is_place : (c : After-first_slot) → IsPlace c.self.inside.book (request_word c.args.account c.args.slot c.args.number c.args.j)
-is_place c = subst (λ (t : BookTerms). IsPlace t (request_word c.args.account c.args.slot c.args.number c.args.j)) (ours c) c.requires
+is_place : (c : After-first_slot) → IsAddress c.self.inside.book (request_word c.args.account c.args.slot c.args.number c.args.j)
+is_place c = subst (λ (t : BookTerms). IsAddress t (request_word c.args.account c.args.slot c.args.number c.args.j)) (ours c) c.requires
 
 all_slots : (c : After-first_slot) → let b : BookTerms = c.self.inside.book in c.first_slot.result ≡ sum_by slots_of (take (length b.accounts) b.accounts)
 all_slots c = c.first_slot.ensures ∙ (λ t. sum_by slots_of (take (c.accounts.ensures.count t) (ours c t).accounts))
 
 -- the place, as it is computed
-computed : (c : After-request_room) → IsRequestPlace c.self.inside.book c.args.account c.args.slot c.args.number c.args.j
+computed : (c : After-request_room) → IsRequestAddress c.self.inside.book c.args.account c.args.slot c.args.number c.args.j
     (c.self.inside.slots_start + c.first_slot.result) ((c.first_slot-2.result + c.args.slot) * c.request_room.result + c.args.number)
 computed c =
     let first : After-first_slot = (goal.at.After-request_room c).After-first_slot in
-    request_place-computed c.self.inside.book c.args.account c.args.slot c.args.number c.args.j c.self.inside.slots_start c.first_slot.result c.first_slot-2.result
+    request_index-computed c.self.inside.book c.args.account c.args.slot c.args.number c.args.j c.self.inside.slots_start c.first_slot.result c.first_slot-2.result
     c.request_room.result c.self.invariant.2.begun (is_place first) c.self.invariant.4 (all_slots first)
     (c.first_slot-2.ensures ∙ ap (λ (t : BookTerms). sum_by slots_of (take c.args.account t.accounts)) (ours first)) c.request_room.ensures
 
@@ -37,8 +38,8 @@ overflow_add-start c =
       c.self.invariant.4,
       all_slots first,
       ap (sum_by slots_of) (take_all (length b.accounts) b.accounts (omega arith)),
-      place_at-request_word b c.args.account c.args.slot c.args.number c.args.j,
-      place_at-below b (request_word c.args.account c.args.slot c.args.number c.args.j) (is_place first),
+      index_of-request_word b c.args.account c.args.slot c.args.number c.args.j,
+      index_of-below b (request_word c.args.account c.args.slot c.args.number c.args.j) (is_place first),
       word_count-le b c.self.invariant.2.begun,
     )
 
@@ -64,5 +65,5 @@ returns c =
     let start = c.self.inside.slots_start + c.first_slot.result in
     let requests = (c.first_slot-2.result + c.args.slot) * c.request_room.result + c.args.number in
     record {
-      place = subst (λ (t : BookTerms). start + requests * 6 + c.args.j ≡ place_at t x) (ap (λ t. t.book) c.self.view_is) (computed all).here;
+      place = subst (λ (t : BookTerms). start + requests * 6 + c.args.j ≡ index_of t x) (ap (λ t. t.book) c.self.view_is) (computed all).here;
     }

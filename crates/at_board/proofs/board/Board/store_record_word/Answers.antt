@@ -1,49 +1,49 @@
 use Rattle.std.proofs.Common.{◌≡◌, sym, ap, subst, ◌∙◌, arith}
 use Rattle.at_ledger.specs.Book.{BookTerms}
-use Rattle.at_board.proofs.PlaceLaws.{place_at-below}
-use Rattle.at_board.proofs.SeatCountLaws.{HasCounts-store}
-use Rattle.at_board.proofs.SeatKept.{IsSeat-store, next_record}
-use Rattle.at_board.proofs.StepLaws.{IsSeatOf-IsSeat, StoresWord-played, stores_word_at}
-use Rattle.at_board.specs.declared.view.View.{View}
-use Rattle.at_board.specs.Conditions.{MayStoreWord}
-use Rattle.at_board.specs.Places.{place_at, record_word, word_count}
-use Rattle.at_board.specs.Steps.{StoresWord}
-use Rattle.at_board.specs.Views.{own_part}
+use Rattle.at_board.proofs.WordLaws.Addresses.{index_of-below}
+use Rattle.at_board.proofs.KnowledgeLaws.Counts.{HasCounts-store}
+use Rattle.at_board.proofs.KnowledgeLaws.Kept.{IsSeat-store, next_record}
+use Rattle.at_board.proofs.StepLaws.Table.{IsSeatOf-IsSeat, StoresWord-played, stores_word_at}
+use Rattle.at_board.specs.declared.knowledge.Knowledge.{Knowledge}
+use Rattle.at_board.specs.Steps.StoreRecordWord.{MayStoreWord}
+use Rattle.at_board.specs.Words.Addresses.{index_of, record_word, word_count}
+use Rattle.at_board.specs.Steps.StoreRecordWord.{StoresWord}
+use Rattle.at_board.specs.Knowledge.Parts.{own_part}
 use Rattle.at_board.proofs.board.Board.store_record_word.Given as given
 use Rattle.at_board.proofs.board.Board.store_record_word.Goals.{After-seat, After-store}
 use Rattle.at_board.proofs.board.Board.store_record_word.Goals as goal
 
 -- the seat is the one that callers see
-mine : (g : given.Over) (c : After-seat g) → c.seat.inside.seat.me.0 ≡ c.args.seat.now.view
+mine : (g : given.Over) (c : After-seat g) → c.seat.inside.seat.me.0 ≡ c.args.seat.now.knows
 mine g c = ap (λ s. s.view) c.seat.view_is
 
 book : (g : given.Over) (c : After-seat g) → c.seat.inside.seat.me.0.book ≡ c.args.self.now.book
-book g c = ap (λ (t : View). t.book) (mine g c) ∙ c.requires.board.book
+book g c = ap (λ (t : Knowledge). t.book) (mine g c) ∙ c.requires.board.book
 
 may : (g : given.Over) (c : After-seat g) → MayStoreWord c.args.self.now.book c.seat.inside.seat.me.0 c.args.j
-may g c = subst (λ (t : View). MayStoreWord c.args.self.now.book t c.args.j) (sym (mine g c)) c.requires.word
+may g c = subst (λ (t : Knowledge). MayStoreWord c.args.self.now.book t c.args.j) (sym (mine g c)) c.requires.word
 
 -- the word's place, by what the seat's view has
-at : (g : given.Over) (c : After-seat g) → place_at c.args.self.now.book (record_word c.seat.inside.process c.seat.inside.published c.args.j)
-    ≡ place_at c.args.self.now.book (record_word c.seat.inside.seat.me.0.first (own_part c.seat.inside.seat.me.0).published c.args.j)
+at : (g : given.Over) (c : After-seat g) → index_of c.args.self.now.book (record_word c.seat.inside.process c.seat.inside.published c.args.j)
+    ≡ index_of c.args.self.now.book (record_word c.seat.inside.seat.me.0.first (own_part c.seat.inside.seat.me.0).published c.args.j)
 at g c =
-    ap (place_at c.args.self.now.book) (next_record c.seat.inside.seat.me.0 c.seat.inside.process c.seat.inside.published c.args.j c.seat.invariant.1)
+    ap (index_of c.args.self.now.book) (next_record c.seat.inside.seat.me.0 c.seat.inside.process c.seat.inside.published c.args.j c.seat.invariant.1)
 
 -- the step stores the word
 told : (g : given.Over) (c : After-store g) → StoresWord c.seat.inside.seat.me.0 c.store.new.seat.me.0 c.args.j c.args.w
 told g c =
     let before : After-seat g = (goal.at.After-store g c).After-seat in
     StoresWord-played c.args.self.now.book c.self.inside.table.shared.table_id.slots c.seat.inside.seat.me c.store.new.seat.me c.args.j c.args.w
-    c.record_place-place.result (book g before) (c.record_place-place.ensures.place ∙ at g before) (may g before) c.store.ensures.2
+    c.record_index_of-place.result (book g before) (c.record_index_of-place.ensures.place ∙ at g before) (may g before) c.store.ensures.2
 
 pub store-requires : goal.store-requires
 store-requires g c =
     let before : After-seat g = (goal.at.store-requires g c).After-seat in
     let b : BookTerms = c.args.self.now.book in
-    let v : View = c.seat.inside.seat.me.0 in
+    let v : Knowledge = c.seat.inside.seat.me.0 in
     let ours : c.self.inside.book ≡ b = ap (λ t. t.book) c.self.view_is in
     let seat = IsSeatOf-IsSeat b v c.seat.inside.process c.seat.inside.published (book g before) c.seat.invariant.1 in
-    let place = c.record_place-place.ensures.place ∙ at g before in
+    let place = c.record_index_of-place.ensures.place ∙ at g before in
     let asked = may g before in (
       ap (λ s. s.board) c.seat.view_is ∙ (c.requires.board.id ∙ sym (ap (λ t. t.id) c.self.view_is)),
       omega (
@@ -51,16 +51,16 @@ store-requires g c =
         c.self.invariant.1,
         ap word_count ours,
         place,
-        place_at-below b (record_word v.first (own_part v).published c.args.j) (seat.known, asked.room, asked.word),
+        index_of-below b (record_word v.first (own_part v).published c.args.j) (seat.known, asked.room, asked.word),
       ),
       stores_word_at c.self.inside.table.shared.key.value b c.self.inside.table.shared.table_id.slots c.seat.inside.seat.id c.seat.inside.seat.me c.args.j c.args.w
-          c.record_place-place.result (c.self.invariant.0 ∙ ours) place seat c.seat.invariant.0 asked,
+          c.record_index_of-place.result (c.self.invariant.0 ∙ ours) place seat c.seat.invariant.0 asked,
     )
 
 pub invariant_of-seat : goal.invariant_of-seat
 invariant_of-seat g c =
-    let v : View = c.seat.inside.seat.me.0 in
-    let w : View = c.store.new.seat.me.0 in (
+    let v : Knowledge = c.seat.inside.seat.me.0 in
+    let w : Knowledge = c.store.new.seat.me.0 in (
       c.store.ensures.2.0 ∙ c.seat.invariant.0,
       IsSeat-store v w c.seat.inside.process c.seat.inside.published c.args.j c.args.w c.seat.invariant.1 (told g c) c.store.ensures.2.1,
       HasCounts-store v w c.args.j c.args.w c.seat.inside.announced.items (omega (arith, c.seat.invariant.1.one_part)) (told g c) c.seat.invariant.2,
@@ -70,4 +70,4 @@ pub returns-clause-stored : goal.returns-clause-stored
 returns-clause-stored g c =
     let after : After-store g = (goal.at.returns-clause-stored g c).After-store in
     let before : After-seat g = (goal.at.After-store g after).After-seat in
-    subst (λ (t : View). StoresWord t c.store.new.seat.me.0 c.args.j c.args.w) (mine g before) (told g after)
+    subst (λ (t : Knowledge). StoresWord t c.store.new.seat.me.0 c.args.j c.args.w) (mine g before) (told g after)

@@ -1,38 +1,38 @@
 use Rattle.std.proofs.Common.{◌≡◌, sym, ap, subst, ◌∙◌, arith}
 use Rattle.at_ledger.specs.Book.{BookTerms}
-use Rattle.at_board.proofs.PlaceLaws.{place_at-below}
-use Rattle.at_board.proofs.RequestStoreStep.{HasCounts-request_stored, IsSeat-request_stored, MayAsk-slot, StoresRequestWord-played, next_number, place-MayAsk, stores_request_word_at}
-use Rattle.at_board.proofs.StepLaws.{IsSeatOf-IsSeat}
-use Rattle.at_board.specs.declared.view.View.{View}
-use Rattle.at_board.specs.Conditions.{MayAsk}
-use Rattle.at_board.specs.Places.{place_at, request_word, word_count}
-use Rattle.at_board.specs.RequestSteps.{StoresRequestWord}
-use Rattle.at_board.specs.Views.{HasSlot}
+use Rattle.at_board.proofs.WordLaws.Addresses.{index_of-below}
+use Rattle.at_board.proofs.StepLaws.StoreRequestWord.{HasCounts-request_stored, IsSeat-request_stored, MayAsk-slot, StoresRequestWord-played, next_number, place-MayAsk, stores_request_word_at}
+use Rattle.at_board.proofs.StepLaws.Table.{IsSeatOf-IsSeat}
+use Rattle.at_board.specs.declared.knowledge.Knowledge.{Knowledge}
+use Rattle.at_board.specs.Steps.StoreRequestWord.{MayAsk}
+use Rattle.at_board.specs.Words.Addresses.{index_of, request_word, word_count}
+use Rattle.at_board.specs.Steps.StoreRequestWord.{StoresRequestWord}
+use Rattle.at_ledger.specs.Book.{HasSlot}
 use Rattle.at_board.proofs.board.Board.store_request_word.Given as given
 use Rattle.at_board.proofs.board.Board.store_request_word.Goals.{After-announced-next, After-store}
 use Rattle.at_board.proofs.board.Board.store_request_word.Goals as goal
 
 -- the seat is the one that callers see
-mine : (g : given.Over) (c : After-announced-next g) → c.seat.inside.seat.me.0 ≡ c.args.seat.now.view
+mine : (g : given.Over) (c : After-announced-next g) → c.seat.inside.seat.me.0 ≡ c.args.seat.now.knows
 mine g c = ap (λ s. s.view) c.seat.view_is
 
 book : (g : given.Over) (c : After-announced-next g) → c.seat.inside.seat.me.0.book ≡ c.args.self.now.book
-book g c = ap (λ (t : View). t.book) (mine g c) ∙ c.requires.board.book
+book g c = ap (λ (t : Knowledge). t.book) (mine g c) ∙ c.requires.board.book
 
 may : (g : given.Over) (c : After-announced-next g) → MayAsk c.args.self.now.book c.seat.inside.seat.me.0 c.args.account c.own_slot-slot.result
 may g c =
     let b : BookTerms = c.args.self.now.book in
     let a = c.args.account in
     let slot = c.own_slot-slot.result in
-    subst (λ (t : View). MayAsk b t a slot) (sym (mine g c))
-    (MayAsk-slot b c.args.seat.now.view a c.requires.asks.0 slot c.requires.asks.1
+    subst (λ (t : Knowledge). MayAsk b t a slot) (sym (mine g c))
+    (MayAsk-slot b c.args.seat.now.knows a c.requires.asks.0 slot c.requires.asks.1
     (subst (λ p. HasSlot b p a slot) c.process.ensures.process c.own_slot-slot.ensures.slot))
 
 -- the word's place, by the number that the seat's view has
-at : (g : given.Over) (c : After-announced-next g) → place_at c.args.self.now.book (request_word c.args.account c.own_slot-slot.result c.announced-next.result c.args.j)
-    ≡ place_at c.args.self.now.book (request_word c.args.account c.own_slot-slot.result (next_number c.seat.inside.seat.me.0 c.args.account) c.args.j)
+at : (g : given.Over) (c : After-announced-next g) → index_of c.args.self.now.book (request_word c.args.account c.own_slot-slot.result c.announced-next.result c.args.j)
+    ≡ index_of c.args.self.now.book (request_word c.args.account c.own_slot-slot.result (next_number c.seat.inside.seat.me.0 c.args.account) c.args.j)
 at g c =
-    ap (λ n. place_at c.args.self.now.book (request_word c.args.account c.own_slot-slot.result n c.args.j))
+    ap (λ n. index_of c.args.self.now.book (request_word c.args.account c.own_slot-slot.result n c.args.j))
     (c.announced-next.ensures ∙ ap (λ u. next_number u c.args.account) (sym (mine g c)))
 
 -- the step stores the word
@@ -40,35 +40,35 @@ told : (g : given.Over) (c : After-store g) → StoresRequestWord c.seat.inside.
 told g c =
     let before : After-announced-next g = (goal.at.After-store g c).After-announced-next in
     StoresRequestWord-played c.args.self.now.book c.self.inside.table.shared.table_id.slots c.seat.inside.seat.me c.store.new.seat.me c.args.account
-    c.own_slot-slot.result c.args.j c.args.w c.request_place-place.result (book g before) (c.request_place-place.ensures.place ∙ at g before) (may g before)
+    c.own_slot-slot.result c.args.j c.args.w c.request_index-place.result (book g before) (c.request_index-place.ensures.place ∙ at g before) (may g before)
     c.requires.word c.store.ensures.2
 
 pub store-requires : goal.store-requires
 store-requires g c =
     let before : After-announced-next g = (goal.at.store-requires g c).After-announced-next in
     let b : BookTerms = c.args.self.now.book in
-    let v : View = c.seat.inside.seat.me.0 in
+    let v : Knowledge = c.seat.inside.seat.me.0 in
     let a = c.args.account in
     let slot = c.own_slot-slot.result in
     let ours : c.self.inside.book ≡ b = ap (λ t. t.book) c.self.view_is in
-    let place = c.request_place-place.ensures.place ∙ at g before in (
+    let place = c.request_index-place.ensures.place ∙ at g before in (
       ap (λ s. s.board) c.seat.view_is ∙ (c.requires.board.id ∙ sym (ap (λ t. t.id) c.self.view_is)),
       omega (
         arith,
         c.self.invariant.1,
         ap word_count ours,
         place,
-        place_at-below b (request_word a slot (next_number v a) c.args.j) (place-MayAsk b v a slot c.args.j (may g before) c.requires.word),
+        index_of-below b (request_word a slot (next_number v a) c.args.j) (place-MayAsk b v a slot c.args.j (may g before) c.requires.word),
       ),
       stores_request_word_at c.self.inside.table.shared.key.value b c.self.inside.table.shared.table_id.slots c.seat.inside.seat.id c.seat.inside.seat.me
-          a slot c.args.j c.args.w c.request_place-place.result (c.self.invariant.0 ∙ ours) place
+          a slot c.args.j c.args.w c.request_index-place.result (c.self.invariant.0 ∙ ours) place
           (IsSeatOf-IsSeat b v c.seat.inside.process c.seat.inside.published (book g before) c.seat.invariant.1) (may g before) c.requires.word,
     )
 
 pub invariant_of-seat : goal.invariant_of-seat
 invariant_of-seat g c =
-    let v : View = c.seat.inside.seat.me.0 in
-    let w : View = c.store.new.seat.me.0 in
+    let v : Knowledge = c.seat.inside.seat.me.0 in
+    let w : Knowledge = c.store.new.seat.me.0 in
     let a = c.args.account in (
       c.store.ensures.2.0 ∙ c.seat.invariant.0,
       IsSeat-request_stored v w c.seat.inside.process c.seat.inside.published a c.args.j c.args.w c.seat.invariant.1 (told g c) c.store.ensures.2.1,
@@ -79,4 +79,4 @@ pub returns-clause-stored : goal.returns-clause-stored
 returns-clause-stored g c =
     let after : After-store g = (goal.at.returns-clause-stored g c).After-store in
     let before : After-announced-next g = (goal.at.After-store g after).After-announced-next in
-    subst (λ (t : View). StoresRequestWord t c.store.new.seat.me.0 c.args.account c.args.j c.args.w) (mine g before) (told g after)
+    subst (λ (t : Knowledge). StoresRequestWord t c.store.new.seat.me.0 c.args.account c.args.j c.args.w) (mine g before) (told g after)

@@ -3,10 +3,10 @@ use Rattle.std.specs.List.{range_with_len}
 use Rattle.std.proofs.lemmas.List.{get_or_read}
 use Rattle.std.proofs.lemmas.List.FromFn.{get_or-map-range_with_len, length-map-range_with_len}
 use Rattle.at_ledger.specs.Book.{BookTerms}
-use Rattle.at_board.proofs.EndLaws.{records_of-end_of}
-use Rattle.at_board.proofs.PlaceLaws.{place_at-below}
-use Rattle.at_board.specs.Ends.{EndView, HasWords, end_of, records_in, records_of}
-use Rattle.at_board.specs.Places.{IsPlace, length_of, record_width, record_word, word_at}
+use Rattle.at_board.proofs.EndLaws.Closed.{records_of-end_of}
+use Rattle.at_board.proofs.WordLaws.Addresses.{index_of-below}
+use Rattle.at_board.specs.Ends.Closing.{EndTerms, HasWords, end_of, records_in, records_of}
+use Rattle.at_board.specs.Words.Addresses.{IsAddress, length_of, record_width, record_word, word_at}
 use Rattle.at_board.proofs.board_end.BoardEnd.record_word.Goals as goal
 
 -- the record of a number, as it stands in the words
@@ -17,13 +17,13 @@ record_below : (b : BookTerms) (words : List ℕ) (p i : ℕ) → i < length (re
 record_below b words p i below = omega (arith, below, length-map-range_with_len (record_in b words p) 0 (word_at b words (length_of p)))
 
 -- the board has the word
-is_place : (b : BookTerms) (words : List ℕ) (e : EndView) (p i j : ℕ) → end_of b words ≡ e → HasWords b words
-    → p < e.book.processes → i < length (records_of e p) → j < record_width e.book → IsPlace b (record_word p i j)
+is_place : (b : BookTerms) (words : List ℕ) (e : EndTerms) (p i j : ℕ) → end_of b words ≡ e → HasWords b words
+    → p < e.book.processes → i < length (records_of e p) → j < record_width e.book → IsAddress b (record_word p i j)
 is_place b words e p i j same has process record_is word_is =
-    let known : p < b.processes = subst (λ (t : EndView). p < t.book.processes) (sym same) process in
+    let known : p < b.processes = subst (λ (t : EndTerms). p < t.book.processes) (sym same) process in
     let within : i < length (records_in b words p) =
-    subst (λ rs. i < length rs) (records_of-end_of b words p known) (subst (λ (t : EndView). i < length (records_of t p)) (sym same) record_is) in
-    (known, omega (arith, record_below b words p i within, has.room p known), subst (λ (t : EndView). j < record_width t.book) (sym same) word_is)
+    subst (λ rs. i < length rs) (records_of-end_of b words p known) (subst (λ (t : EndTerms). i < length (records_of t p)) (sym same) record_is) in
+    (known, omega (arith, record_below b words p i within, has.room p known), subst (λ (t : EndTerms). j < record_width t.book) (sym same) word_is)
 
 pub record_index-requires-clause-place : goal.record_index-requires-clause-place
 record_index-requires-clause-place c =
@@ -35,7 +35,7 @@ index-requires c =
     let b : BookTerms = c.self.inside.book in
     let is = is_place b c.self.inside.words.items c.args.self.now c.args.p c.args.i c.args.j c.self.view_is c.self.invariant.0
     c.requires.process c.requires.record c.requires.word in
-    omega (arith, c.self.inside.words.ok, c.self.invariant.0.sized, c.record_index.ensures, place_at-below b (record_word c.args.p c.args.i c.args.j) is)
+    omega (arith, c.self.inside.words.ok, c.self.invariant.0.sized, c.record_index.ensures, index_of-below b (record_word c.args.p c.args.i c.args.j) is)
 
 pub returns : goal.returns
 returns c =
@@ -45,15 +45,15 @@ returns c =
     let i = c.args.i in
     let j = c.args.j in
     let is = is_place b words c.args.self.now p i j c.self.view_is c.self.invariant.0 c.requires.process c.requires.record c.requires.word in
-    let inside : c.record_index.result < length words = omega (arith, c.self.invariant.0.sized, c.record_index.ensures, place_at-below b (record_word p i j) is) in
+    let inside : c.record_index.result < length words = omega (arith, c.self.invariant.0.sized, c.record_index.ensures, index_of-below b (record_word p i j) is) in
     let read : c.index.result.now ≡ word_at b words (record_word p i j) =
     get_or_read words c.record_index.result c.index.result.now inside c.index.ensures 0 ∙ ap (λ n. get_or words n 0) c.record_index.ensures in
     let here : records_of (end_of b words) p ≡ records_in b words p = records_of-end_of b words p is.0 in
     let within : i < length (records_in b words p) =
-    subst (λ rs. i < length rs) here (subst (λ (t : EndView). i < length (records_of t p)) (sym c.self.view_is) c.requires.record) in
+    subst (λ rs. i < length rs) here (subst (λ (t : EndTerms). i < length (records_of t p)) (sym c.self.view_is) c.requires.record) in
     let of_record : get_or (records_in b words p) i [] ≡ record_in b words p i =
     get_or-map-range_with_len (record_in b words p) 0 (word_at b words (length_of p)) i i [] (record_below b words p i within) (omega arith) in
     let of_word : get_or (record_in b words p i) j 0 ≡ word_at b words (record_word p i j) =
     get_or-map-range_with_len (λ k. word_at b words (record_word p i k)) 0 (record_width b) j j 0 is.2 (omega arith) in
     read ∙ (sym (ap (λ rs. get_or (get_or rs i []) j 0) here ∙ (ap (λ xs. get_or xs j 0) of_record ∙ of_word))
-    ∙ ap (λ (t : EndView). get_or (get_or (records_of t p) i []) j 0) c.self.view_is)
+    ∙ ap (λ (t : EndTerms). get_or (get_or (records_of t p) i []) j 0) c.self.view_is)

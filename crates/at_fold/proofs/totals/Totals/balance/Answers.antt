@@ -1,8 +1,8 @@
 use Rattle.std.proofs.Common.{◌<◌, List, length, ap, subst, sym, ◌∙◌, arith}
 use Rattle.at_ledger.specs.Book.{BookTerms}
-use Rattle.at_board.specs.declared.publication.Publication.{Publication}
-use Rattle.at_board.specs.Balances.{balance_after}
-use Rattle.at_board.specs.Fronts.{prefix_of}
+use Rattle.at_history.specs.declared.publication.Publication.{Publication}
+use Rattle.at_history.specs.Balances.{balance_after}
+use Rattle.at_history.specs.Fronts.{prefix_of}
 use Rattle.at_fold.specs.HasCounted.{CountsAccount, CountsFront}
 use Rattle.at_fold.specs.Sums.{TotalSums}
 use Rattle.at_fold.proofs.FrontLaws.{IsBalanced, IsBalanced-front, row_read}

@@ -2,9 +2,9 @@ use Rattle.std.proofs.Common.{◌≡◌, ℕ, ◌<◌, ◌≤◌, List, length, 
 use Rattle.std.specs.List.{sum}
 use Rattle.std.proofs.lemmas.Bool.{cases_eq}
 use Rattle.std.proofs.lemmas.Grind.{same_number_lists}
-use Rattle.at_board.specs.Publications.{count_of}
-use Rattle.at_board.specs.SeatView.{SeatView}
-use Rattle.at_board.proofs.CountLaws.{get_or-counts, length-counts}
+use Rattle.at_history.specs.Publications.{count_of}
+use Rattle.at_board.specs.Knowledge.Seats.{SeatTerms}
+use Rattle.at_history.proofs.Laws.Counts.{get_or-counts, length-counts}
 use Rattle.at_fold.specs.Sums.{TotalSums}
 use Rattle.at_fold.proofs.CatchLaws.{sum-caught}
 use Rattle.at_fold.proofs.GrowLaws.{StaysCounted-HasCounted}
@@ -46,7 +46,7 @@ loop-p-preserved g c =
 pub catch_up_with-requires-clause-seen : goal.catch_up_with-requires-clause-seen
 catch_up_with-requires-clause-seen g c =
     let b = c.args.board.now.book in
-    let old : SeatView = c.args.seat.now in
+    let old : SeatTerms = c.args.seat.now in
     let known : c.loop-p.p < b.processes = omega (arith, c.loop-p-test.true, c.len-p-end.ensures.length, c.requires.seen.sized) in
     let within = c.requires.seen.within c.loop-p.p (omega (arith, known, length-counts b.processes old.view.seen)) in
     omega (
@@ -54,12 +54,12 @@ catch_up_with-requires-clause-seen g c =
       c.get.ensures,
       within,
       get_or-counts b.processes old.view.seen c.loop-p.p 0 known,
-      ap (λ (s : SeatView). count_of c.loop-p.p s.view.seen) c.loop-p.invariant.same,
+      ap (λ (s : SeatTerms). count_of c.loop-p.p s.view.seen) c.loop-p.invariant.same,
     )
 
 pub returns-clause-stays : goal.returns-clause-stays
 returns-clause-stays g c =
-    StaysCounted-HasCounted c.loop-p.self c.args.board.now.book c.loop-p.seat.view.seen c.loop-p.invariant.counted
+    StaysCounted-HasCounted c.loop-p.self c.args.board.now.book c.loop-p.seat.knows.seen c.loop-p.invariant.counted
 
 pub returns-clause-upto : goal.returns-clause-upto
 returns-clause-upto g c =

@@ -5,7 +5,7 @@ use Rattle.at_fold.proofs.totals.Totals.catch_up.Given as goal
 
 abbrev pub invariant-loop-p : goal.invariant-loop-p
 invariant-loop-p g l = record {
-  counted : HasCounted l.self l.board.book l.seat.view.seen;
+  counted : HasCounted l.self l.board.book l.seat.knows.seen;
   same : l.seat ≡ l.initial.seat;
   sized : length l.self.upto ≡ length l.counts;
   done : (q : ℕ) → q < l.p → get_or l.self.upto q 0 ≡ get_or l.counts q 0;

@@ -1,9 +1,9 @@
 use Rattle.std.proofs.Common.{◌≡◌, ℕ, ◌+◌, ◌<◌, List, length, get_or, set, sym, ap, subst, ◌∙◌, arith, get_or-set_same}
 use Rattle.std.proofs.lemmas.List.{set-set}
 use Rattle.at_ledger.specs.Book.{BookTerms}
-use Rattle.at_board.specs.Publications.{count_of}
-use Rattle.at_board.specs.SeatView.{SeatView}
-use Rattle.at_board.specs.Steps.{IsHistory}
+use Rattle.at_history.specs.Publications.{count_of}
+use Rattle.at_board.specs.Knowledge.Seats.{SeatTerms}
+use Rattle.at_history.specs.Histories.{IsHistory}
 use Rattle.at_fold.specs.HasCounted.{HasCounted, MayCount}
 use Rattle.at_fold.proofs.CatchLaws.{MayCount-loaded}
 use Rattle.at_fold.proofs.totals.Totals.catch_up_with.Goals as goal
@@ -11,15 +11,15 @@ use Rattle.at_fold.proofs.totals.Totals.catch_up_with.Goals as goal
 pub loop-i-preserved : goal.loop-i-preserved
 loop-i-preserved g c =
     let b : BookTerms = c.args.board.now.book in
-    let old : SeatView = c.args.seat.now in
-    let now : SeatView = c.loop-i.seat in
+    let old : SeatTerms = c.args.seat.now in
+    let now : SeatTerms = c.loop-i.seat in
     let same = c.loop-i.invariant.same in
     let seat = c.load_entry-entry.ensures.same ∙ same in
     let history : IsHistory b now.view.seen =
-    subst (λ (s : SeatView). IsHistory b s.view.seen) (sym same)
+    subst (λ (s : SeatTerms). IsHistory b s.view.seen) (sym same)
     (subst (λ (t : BookTerms). IsHistory t old.view.seen) c.requires.board.book c.process-process.ensures.seat.history) in
     let within : c.loop-i.i < count_of c.args.p now.view.seen =
-    omega (arith, c.loop-i-test.true, c.requires.seen, ap (λ (s : SeatView). count_of c.args.p s.view.seen) same) in
+    omega (arith, c.loop-i-test.true, c.requires.seen, ap (λ (s : SeatTerms). count_of c.args.p s.view.seen) same) in
     let inside : c.args.p < length c.args.self.now.upto = omega (arith, c.requires.process, c.requires.counted.processes) in
     let next : get_or c.loop-i.self.upto c.args.p 0 ≡ c.loop-i.i =
     ap (λ (l : List ℕ). get_or l c.args.p 0) c.loop-i.invariant.upto ∙ get_or-set_same c.args.self.now.upto c.args.p c.loop-i.i 0 inside in
@@ -28,7 +28,7 @@ loop-i-preserved g c =
     c.load_entry-entry.ensures.entry in
     let counted : HasCounted c.count.new.self b now.view.seen = c.count.ensures.counted b now.view.seen may in
     record {
-      counted = subst (λ (s : SeatView). HasCounted c.count.new.self b s.view.seen) (sym c.load_entry-entry.ensures.same) counted;
+      counted = subst (λ (s : SeatTerms). HasCounted c.count.new.self b s.view.seen) (sym c.load_entry-entry.ensures.same) counted;
       upto = c.count.ensures.upto ∙ (ap (λ (l : List ℕ). set l c.args.p (c.loop-i.i + 1)) c.loop-i.invariant.upto
           ∙ set-set c.args.self.now.upto c.args.p c.loop-i.i (c.loop-i.i + 1));
       same = seat;

@@ -4,7 +4,7 @@ use Rattle.at_fold.proofs.totals.Totals.catch_up_with.Given as goal
 
 abbrev pub invariant-loop-i : goal.invariant-loop-i
 invariant-loop-i g l = record {
-  counted : HasCounted l.self l.board.book l.seat.view.seen;
+  counted : HasCounted l.self l.board.book l.seat.knows.seen;
   upto : l.self.upto ≡ set l.initial.self.upto l.p l.i;
   same : l.seat ≡ l.initial.seat;
   steps : l.steps ≡ l.initial.steps + 7 * (l.i - l.start);

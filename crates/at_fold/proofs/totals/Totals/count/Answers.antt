@@ -1,6 +1,6 @@
 use Rattle.std.proofs.Common.{◌≡◌, ℕ, ◌+◌, List, get_or, set, sym, ap, subst, ◌∙◌}
 use Rattle.at_ledger.specs.Book.{BookTerms}
-use Rattle.at_board.specs.declared.publication.Publication.{Publication}
+use Rattle.at_history.specs.declared.publication.Publication.{Publication}
 use Rattle.at_fold.specs.HasCounted.{HasCounted}
 use Rattle.at_fold.specs.Sums.{AccountSums, TotalSums}
 use Rattle.at_fold.proofs.StepLaws.{FitsMore-MayCount, FitsRound-MayCount, HasCounted-new, HasCounted-repeat, HasPlace-MayCount}

@@ -1,12 +1,12 @@
 use Rattle.std.proofs.Common.{ℕ, sym, subst}
-use Rattle.at_board.specs.declared.view.View.{View}
+use Rattle.at_board.specs.declared.knowledge.Knowledge.{Knowledge}
 use Rattle.at_fold.proofs.GrowLaws.{StaysCounted-HasCounted}
 use Rattle.at_fold.specs.HasCounted.{MayCount}
 use Rattle.at_fold.proofs.totals.Totals.count_own.Goals as goal
 
 pub returns-clause-stays : goal.returns-clause-stays
 returns-clause-stays c =
-    let v : View = c.args.seat.now.view in
+    let v : Knowledge = c.args.seat.now.knows in
     let may : MayCount c.args.self.now v.book v.seen v.first c.args.entry.now =
     record { history = c.process.ensures.seat.history; counts = c.requires.counted; next = c.requires.next } in
     StaysCounted-HasCounted c.count.new.self v.book v.seen

@@ -1,5 +1,5 @@
 use Rattle.std.proofs.Common.{◌≡◌, ℕ, ◌*◌, ◌^◌, ◌≤◌, length, take}
-use Rattle.at_board.specs.Balances.{amount_for}
+use Rattle.at_history.specs.Balances.{amount_for}
 use Rattle.at_fold.proofs.AmountLaws.{AreCredited}
 use Rattle.at_fold.proofs.totals.Totals.credit.Given as goal
 

@@ -1,5 +1,5 @@
 use Rattle.std.proofs.Common.{◌<◌, length, sym, ap, subst, ◌∙◌, arith}
-use Rattle.at_board.specs.Fronts.{prefix_of}
+use Rattle.at_history.specs.Fronts.{prefix_of}
 use Rattle.at_fold.specs.Counted.{IsAnswer}
 use Rattle.at_fold.specs.Sums.{AccountSums, TotalSums, answer_at, slot_at}
 use Rattle.at_fold.proofs.FrontLaws.{AreSumsOf-front, row_read}

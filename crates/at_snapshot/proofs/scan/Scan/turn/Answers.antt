@@ -1,10 +1,10 @@
 use Rattle.std.proofs.Common.{◌≡◌, ◌<◌, Some, ap, subst, sym, ◌∙◌, arith}
 use Rattle.at_ledger.specs.Book.{BookTerms}
-use Rattle.at_board.specs.SeatView.{SeatView}
-use Rattle.at_board.specs.declared.view.View.{View}
+use Rattle.at_board.specs.Knowledge.Seats.{SeatTerms}
+use Rattle.at_board.specs.declared.knowledge.Knowledge.{Knowledge}
 use Rattle.at_snapshot.proofs.ScanLaws.{IsScanOf-after}
 use Rattle.at_snapshot.proofs.SnapshotLaws.{OnCounts-IsVerdict}
-use Rattle.at_snapshot.specs.Scans.{IsScanOf, ScanView}
+use Rattle.at_snapshot.specs.Scans.{IsScanOf, ScanTerms}
 use Rattle.at_snapshot.specs.Snapshots.{IsSnapshot, OnCounts}
 use Rattle.at_snapshot.specs.Turns.{IsVerdict}
 use Rattle.at_snapshot.proofs.scan.Scan.turn.Goals as goal
@@ -12,26 +12,26 @@ use Rattle.at_snapshot.proofs.scan.Scan.turn.Goals as goal
 pub returns-in-None-clause-scan : goal.returns-in-None-clause-scan
 returns-in-None-clause-scan g c =
     let b : BookTerms = c.args.board.now.book in
-    let w : View = c.collect-now.new.seat.view in
-    subst (λ (s : ScanView). IsScanOf b s w) (sym c.keep.ensures.after)
-    (IsScanOf-after b c.args.self.now c.args.seat.now.view w (omega (arith, c.process-process.ensures.seat.one_part)) c.requires.scan c.collect-now.ensures.collect)
+    let w : Knowledge = c.collect-now.new.seat.knows in
+    subst (λ (s : ScanTerms). IsScanOf b s w) (sym c.keep.ensures.after)
+    (IsScanOf-after b c.args.self.now c.args.seat.now.knows w (omega (arith, c.process-process.ensures.seat.one_part)) c.requires.scan c.collect-now.ensures.collect)
 
 pub returns-in-Some-clause-scan : goal.returns-in-Some-clause-scan
 returns-in-Some-clause-scan g c =
     let b : BookTerms = c.args.board.now.book in
-    let w : View = c.collect-now.new.seat.view in
-    let after = IsScanOf-after b c.args.self.now c.args.seat.now.view w (omega (arith, c.process-process.ensures.seat.one_part)) c.requires.scan c.collect-now.ensures.collect in
-    subst (λ (s : SeatView). IsScanOf b c.keep.new.self s.view) (sym c.compare.ensures.same)
-    (subst (λ (s : ScanView). IsScanOf b s w) (sym c.keep.ensures.after) after)
+    let w : Knowledge = c.collect-now.new.seat.knows in
+    let after = IsScanOf-after b c.args.self.now c.args.seat.now.knows w (omega (arith, c.process-process.ensures.seat.one_part)) c.requires.scan c.collect-now.ensures.collect in
+    subst (λ (s : SeatTerms). IsScanOf b c.keep.new.self s.view) (sym c.compare.ensures.same)
+    (subst (λ (s : ScanTerms). IsScanOf b s w) (sym c.keep.ensures.after) after)
 
 pub returns-in-Some-clause-snapshot : goal.returns-in-Some-clause-snapshot
 returns-in-Some-clause-snapshot g c =
     let b : BookTerms = c.args.board.now.book in
-    let scan : ScanView = c.args.self.now in
-    let w : View = c.collect-now.new.seat.view in
+    let scan : ScanTerms = c.args.self.now in
+    let w : Knowledge = c.collect-now.new.seat.knows in
     let is : scan.collects ≡ Some c.in-Some.before = sym c.keep.ensures.before ∙ c.in-Some.is in
-    let known : c.args.seat.now.view.first < b.processes =
+    let known : c.args.seat.now.knows.first < b.processes =
     omega (arith, c.process-process.ensures.seat.known, ap (λ (t : BookTerms). t.processes) c.requires.board.book) in
     let verdict = subst (λ now. IsVerdict c.in-Some.before w now c.compare.result) c.collect-now.ensures.counts c.compare.ensures.answer in
-    subst (λ (s : SeatView). OnCounts c.compare.result (IsSnapshot b scan.start s.view)) (sym c.compare.ensures.same)
-    (OnCounts-IsVerdict b scan c.in-Some.before c.args.seat.now.view w c.compare.result c.keep.ensures.start c.requires.scan known is c.collect-now.ensures.collect verdict)
+    subst (λ (s : SeatTerms). OnCounts c.compare.result (IsSnapshot b scan.start s.view)) (sym c.compare.ensures.same)
+    (OnCounts-IsVerdict b scan c.in-Some.before c.args.seat.now.knows w c.compare.result c.keep.ensures.start c.requires.scan known is c.collect-now.ensures.collect verdict)

@@ -1,0 +1,8 @@
+pub mod Announced
+pub mod OwnRequests
+pub mod Kept
+pub mod Asking
+pub mod Seats
+pub mod Agreement
+pub mod Records
+pub mod Counts

@@ -1,0 +1,355 @@
+-- Announcing keeps the rule.
+use Rattle.std.proofs.Common.{◌≡◌, ◌≢◌, ℕ, ◌+◌, ◌<◌, ◌≤◌, zero, List, [], ◌∷◌, ◌++◌, length, get_or, set, true, refl, sym, ap, subst, ◌∙◌, arith, inl, inr, All}
+use lib.ListN.{get_elem?}
+use mathlib.Core.Option.{some, none}
+use Rattle.std.proofs.lemmas.Bool.{cases_lt}
+use Rattle.std.proofs.lemmas.List.{get_or_append_left, get_or_push, length-replicate, length-set, length_push}
+use Rattle.std.proofs.lemmas.List.Elements.{All-nil, All-push, Contains-append_left, Contains-push}
+use Rattle.std.specs.List.{Contains}
+use Rattle.atomic_table.specs.Table.{Allows, Me, keeps, step}
+use Rattle.at_ledger.specs.Book.{BookTerms, IsBegun, HasSlot}
+use Rattle.at_history.proofs.Laws.Prefixes.{IsPrefix-length, IsPrefix-refl, take-IsPrefix-le}
+use Rattle.at_history.proofs.Laws.Histories.{IsHistory-Sound}
+use Rattle.at_history.proofs.Laws.Slots.{other_slot}
+use Rattle.at_history.proofs.Laws.Sums.{get_or-zeros}
+use Rattle.at_history.proofs.Steps.Announce.{Grows-announced, IsNext, Sound-announced, announced_rows, announced_rows-here, announced_rows-other, slot_cases, length-Grows, with_rows}
+use Rattle.at_history.specs.BoardState.{BoardState, request_at}
+use Rattle.at_history.specs.Fronts.{places_max}
+use Rattle.at_history.specs.Histories.{IsHistory}
+use Rattle.at_history.specs.Rounds.{is_settled, rounds}
+use Rattle.at_history.specs.declared.request.Request.{Request}
+use Rattle.at_board.proofs.KnowledgeLaws.Agreement.{AgreesWithSeen-Knows}
+use Rattle.at_board.proofs.KnowledgeLaws.Asking.{HasPart-asking, HasPart-kept, IsLeft, Knows-kept, SameRequest, SeesMore, all_announced}
+use Rattle.at_board.proofs.KnowledgeLaws.Counts.{HasCounts-counted, IsSeat-asking}
+use Rattle.at_board.proofs.KnowledgeLaws.OwnRequests.{SeesOwnRequests-announce}
+use Rattle.at_board.proofs.KnowledgeLaws.Seats.{AreSeated-set, knows_after}
+use Rattle.at_board.proofs.StepLaws.LoadLength.{parts_after}
+use Rattle.at_board.proofs.StepLaws.StoreRecordWord.{other_process}
+use Rattle.at_board.proofs.WordLaws.Same.{SameRecordWords}
+use Rattle.at_board.proofs.KnowledgeLaws.Asking.{same_slot}
+use Rattle.at_board.proofs.StepLaws.StoreRequestWord.{next_number}
+use Rattle.at_board.proofs.StepLaws.Table.{IsSeatOf, store_at}
+use Rattle.at_board.proofs.WordLaws.Addresses.{word_at-set_other, word_at-set_same, index_of-injective}
+use Rattle.at_board.proofs.WordLaws.Packed.{ArePacked-AreTargets, request_words-injective}
+use Rattle.at_board.specs.Knowledge.Agreement.{RequestInRange, SeesInRange, AgreesWithSeen}
+use Rattle.at_board.specs.Knowledge.Knows.{HasAsking, HasPart, IsAnnounced, Knows}
+use Rattle.at_board.specs.Knowledge.Parts.{part_asking, seen_as, with_asking, asking_on, own_part, part_at}
+use Rattle.at_board.specs.Knowledge.Seats.{HasCounts, IsSeat}
+use Rattle.at_board.specs.Rule.{Ruled}
+use Rattle.at_board.specs.Steps.Announce.{MayAnnounce, Announces, with_request}
+use Rattle.at_board.specs.Steps.Plays.{announced_request}
+use Rattle.at_board.specs.Words.Addresses.{IsAddress, Address, announced_of, cell_of, length_of, index_of, record_word, request_word, word_at}
+use Rattle.at_board.specs.Words.Packed.{request_words}
+use Rattle.at_board.specs.Words.Shown.{Shown}
+use Rattle.at_board.specs.declared.knowledge.Asking.{Asking}
+use Rattle.at_board.specs.declared.knowledge.LoadedWord.{LoadedWord}
+use Rattle.at_board.specs.declared.knowledge.Part.{Part}
+use Rattle.at_board.specs.declared.knowledge.SeenRequest.{SeenRequest}
+use Rattle.at_board.specs.declared.knowledge.SeenRow.{SeenRow}
+use Rattle.at_board.specs.declared.knowledge.Knowledge.{Knowledge}
+
+-- the words after an announcing step
+abbrev pub announced_words : BookTerms → List ℕ → ℕ → ℕ → ℕ → List ℕ
+announced_words b words a slot n = set words (index_of b (announced_of a slot)) n
+
+-- nothing but the announced word has changed
+kept-announced : (b : BookTerms) (words : List ℕ) (a slot n : ℕ) → IsAddress b (announced_of a slot) → (y : Address) → IsAddress b y
+    → y ≢ announced_of a slot → word_at b (announced_words b words a slot n) y ≡ word_at b words y
+kept-announced b words a slot n here y is apart = word_at-set_other b words (announced_of a slot) y n here is apart
+
+-- the words of a request of a row, or of the new one
+announced-request : (b : BookTerms) (words : List ℕ) (row : List Request) (r : Request) (a slot i j : ℕ)
+    → (i < length row → word_at b words (request_word a slot i j) ≡ get_or (request_words (request_at row i)) j 0)
+    → (i ≡ length row → word_at b words (request_word a slot i j) ≡ get_or (request_words r) j 0)
+    → i < length (row ++ r ∷ []) → word_at b words (request_word a slot i j) ≡ get_or (request_words (request_at (row ++ r ∷ []) i)) j 0
+announced-request b words row r a slot i j old new within =
+    let none : Request = record { targets = []; since = 0 } in
+    elim (cases_lt i (length row)) as (λ _. word_at b words (request_word a slot i j) ≡ get_or (request_words (request_at (row ++ r ∷ []) i)) j 0) [
+      | inl below ↦ old below ∙ sym (ap (λ (t : Request). get_or (request_words t) j 0) (get_or_append_left row (r ∷ []) none i below))
+      | inr above ↦
+          let at : i ≡ length row = omega (arith, within, length_push row r) in
+          new at ∙ sym (ap (λ (t : Request). get_or (request_words t) j 0) (get_or_push row r none i (sym at)))
+    ]
+
+-- the words of the next request are those of the one that is announced
+abbrev pub IsStored : BookTerms → List ℕ → ℕ → ℕ → ℕ → Request → Type 0
+IsStored b words a slot n r = (j : ℕ) → IsAddress b (request_word a slot n j) → word_at b words (request_word a slot n j) ≡ get_or (request_words r) j 0
+
+Shown-announced : (b : BookTerms) (words : List ℕ) (s : BoardState) (a slot : ℕ) (r : Request) → Shown b words s → IsAddress b (announced_of a slot)
+    → IsStored b words a slot (length (s.rows a slot)) r
+    → Shown b (announced_words b words a slot (length (s.rows a slot) + 1)) (with_rows s (announced_rows s.rows a slot r))
+Shown-announced b words s a slot r shown here stored =
+    let n = length (s.rows a slot) + 1 in
+    let after = announced_words b words a slot n in
+    let rows = announced_rows s.rows a slot r in
+    let kept = kept-announced b words a slot n here in
+    let grown : length (rows a slot) ≡ n = ap length (announced_rows-here s.rows a slot r) ∙ length_push (s.rows a slot) r in
+    record {
+      sized = length-set words (index_of b (announced_of a slot)) n ∙ shown.sized;
+      records = record {
+        lengths = λ p within. kept (length_of p) within (λ e. cc) ∙ shown.records.lengths p within;
+        room = shown.records.room;
+        records = λ p i k is below. kept (record_word p i k) is (λ e. cc) ∙ shown.records.records p i k is below;
+        blank = λ p i k is above. kept (record_word p i k) is (λ e. cc) ∙ shown.records.blank p i k is above;
+      };
+      requests = record {
+        lengths = λ c other is. elim (slot_cases a slot c other) as (λ _. word_at b after (announced_of c other) ≡ length (rows c other)) [
+          | inl same ↦
+              subst (λ t. word_at b after (announced_of t other) ≡ length (rows t other)) (sym same.0)
+              (subst (λ t. word_at b after (announced_of a t) ≡ length (rows a t)) (sym same.1)
+              (word_at-set_same b words (announced_of a slot) n shown.sized here ∙ sym grown))
+          | inr apart ↦
+              kept (announced_of c other) is (λ e. let account : c ≡ a = cc in let slot_is : other ≡ slot = cc in apart (account, slot_is))
+              ∙ (shown.requests.lengths c other is ∙ sym (ap length (announced_rows-other s.rows a slot c other r apart)))
+        ];
+        requests = λ c other i j is below. kept (request_word c other i j) is (λ e. cc)
+            ∙ elim (slot_cases a slot c other) as (λ _. word_at b words (request_word c other i j) ≡ get_or (request_words (request_at (rows c other) i)) j 0) [
+              | inl same ↦ row_words c other i j is below same
+              | inr apart ↦
+                  let e = announced_rows-other s.rows a slot c other r apart in
+                  subst (λ row. word_at b words (request_word c other i j) ≡ get_or (request_words (request_at row i)) j 0) (sym e)
+                  (shown.requests.requests c other i j is (subst (λ row. i < length row) e below))
+            ];
+        blank = λ c other i j is above. kept (request_word c other i j) is (λ e. cc)
+            ∙ shown.requests.blank c other i j is (omega (arith, above, longer c other));
+      };
+      cells = λ c k is. kept (cell_of c k) is (λ e. cc) ∙ shown.cells c k is;
+    }
+  where
+    longer : (c other : ℕ) → length (s.rows c other) ≤ length (announced_rows s.rows a slot r c other)
+    longer c other = length-Grows s.rows (announced_rows s.rows a slot r) c other (Grows-announced s.rows a slot r)
+
+    row_words : (c other i j : ℕ) → IsAddress b (request_word c other i j) → i < length (announced_rows s.rows a slot r c other)
+        → (c ≡ a) × (other ≡ slot)
+        → word_at b words (request_word c other i j) ≡ get_or (request_words (request_at (announced_rows s.rows a slot r c other) i)) j 0
+    row_words c other i j is below same =
+        let rows = announced_rows s.rows a slot r in
+        let e = announced_rows-here s.rows a slot r in
+        let is_here : IsAddress b (request_word a slot i j) = subst (λ t. IsAddress b (request_word a t i j)) same.1 (subst (λ t. IsAddress b (request_word t other i j)) same.0 is) in
+        let inside : i < length (rows a slot) = subst (λ t. i < length (rows a t)) same.1 (subst (λ t. i < length (rows t other)) same.0 below) in
+        let there = announced-request b words (s.rows a slot) r a slot i j (λ early. shown.requests.requests a slot i j is_here early)
+        (λ last. subst (λ k. word_at b words (request_word a slot k j) ≡ get_or (request_words r) j 0) (sym last)
+        (stored j (subst (λ k. IsAddress b (request_word a slot k j)) last is_here))) (subst (λ row. i < length row) e inside) in
+        subst (λ t. word_at b words (request_word t other i j) ≡ get_or (request_words (request_at (rows t other) i)) j 0) (sym same.0)
+        (subst (λ t. word_at b words (request_word a t i j) ≡ get_or (request_words (request_at (rows a t) i)) j 0) (sym same.1)
+        (subst (λ row. word_at b words (request_word a slot i j) ≡ get_or (request_words (request_at row i)) j 0) (sym e) there))
+
+-- what the announcing process has on the account
+HasAsking-announced : (b : BookTerms) (words after : List ℕ) (s : BoardState) (v u : Knowledge) (a slot : ℕ) (w : Asking) (r : Request)
+    → Shown b words s → u.seen ≡ s.published → u.requests ≡ v.requests ++ seen_as a slot (length w.announced) r ∷ []
+    → ((i j : ℕ) → IsAddress b (request_word a slot i j) → word_at b after (request_word a slot i j) ≡ word_at b words (request_word a slot i j))
+    → HasAsking b words s v a slot w
+    → HasAsking b after (with_rows s (announced_rows s.rows a slot r)) u a slot (with_request w r (rounds a s.published))
+HasAsking-announced b words after s v u a slot w r shown all requests kept has =
+    let row = w.announced in
+    let n = length row in
+    let t : BoardState = with_rows s (announced_rows s.rows a slot r) in
+    let x : SeenRequest = seen_as a slot n r in
+    let none : Request = record { targets = []; since = 0 } in
+    record {
+      announced = ap (λ l. l ++ r ∷ []) has.announced ∙ sym (announced_rows-here s.rows a slot r);
+      seen = λ i within. subst (λ (rs : List SeenRequest). Contains rs (seen_as a slot i (request_at (row ++ r ∷ []) i))) (sym requests)
+          (elim (cases_lt i n) as (λ _. Contains (v.requests ++ x ∷ []) (seen_as a slot i (request_at (row ++ r ∷ []) i))) [
+            | inl below ↦
+                subst (λ q. Contains (v.requests ++ x ∷ []) (seen_as a slot i q)) (sym (get_or_append_left row (r ∷ []) none i below))
+                (Contains-append_left v.requests (x ∷ []) (seen_as a slot i (request_at row i)) (has.seen i below))
+            | inr above ↦
+                let at : n ≡ i = omega (arith, within, length_push row r) in
+                subst (λ q. Contains (v.requests ++ x ∷ []) (seen_as a slot i q)) (sym (get_or_push row r none i at))
+                (subst (λ k. Contains (v.requests ++ x ∷ []) (seen_as a slot k r)) at (Contains-push v.requests x))
+          ]);
+      sized = length-replicate 6 zero;
+      stored = λ j is. kept (length (row ++ r ∷ [])) j is
+          ∙ (shown.requests.blank a slot (length (row ++ r ∷ [])) j is (omega (arith, length_push row r, ap length has.announced)) ∙ sym (get_or-zeros 6 j));
+      heard = omega (arith, ap (rounds a) all);
+      rows = All-nil (λ (k : SeenRow). k.count ≤ length (t.rows a k.slot));
+      loaded = All-nil (λ (l : LoadedWord). IsAnnounced t l.request);
+    }
+
+-- what may be announced keeps the laws of requests
+IsNext-MayAnnounce : (b : BookTerms) (words : List ℕ) (s : BoardState) (v : Knowledge) (a slot : ℕ) (r : Request) → Knows b words s v
+    → (asking_on (own_part v) a).announced ≡ s.rows a slot → MayAnnounce b v a slot r → IsNext b s a slot r
+IsNext-MayAnnounce b words s v a slot r knows row may = record {
+  slot_in = may.asks.slot_in.within;
+  room = omega (arith, may.asks.room, ap length row);
+  targets = may.targets;
+  since = omega (arith, may.since, IsPrefix-length v.seen s.published knows.seen);
+  follows = λ before last. subst (λ xs. is_settled a slot before xs ≡ true) (sym (take-IsPrefix-le r.since v.seen s.published may.since knows.seen))
+      (may.follows before (last ∙ sym (ap length row)));
+}
+
+pub Announces-Ruled : (b : BookTerms) (words : List ℕ) (views : List Knowledge) (id : ℕ) (v : Knowledge) (a slot : ℕ) (r : Request) → Ruled b words views → IsBegun b
+    → get_elem? views id ≡ some v → 0 < length v.parts → MayAnnounce b v a slot r
+    → (w : Knowledge) × Ruled b (announced_words b words a slot (length (asking_on (own_part v) a).announced + 1)) (set views id w) × Announces b v w a slot r
+Announces-Ruled b words views id v a slot r ruled begun found part may =
+    let s : BoardState = ruled.state in
+    let q : Part = own_part v in
+    let w : Asking = asking_on q a in
+    let mine = may.asks.slot_in in
+    let here : IsAddress b (announced_of a slot) = (mine.account_in, mine.within) in
+    let knows = ruled.knows id v found in
+    let first : v.first + 0 ≡ v.first = omega arith in
+    let own : HasPart b words s v v.first q = subst (λ t. HasPart b words s v t q) first (knows.parts 0 part) in
+    let asking = own.asking a slot mine in
+    let row = ap length asking.announced in
+    let rows = announced_rows s.rows a slot r in
+    let grows = Grows-announced s.rows a slot r in
+    let t : BoardState = with_rows s rows in
+    let after = announced_words b words a slot (length w.announced + 1) in
+    let kept = kept-announced b words a slot (length w.announced + 1) here in
+    let x : SeenRequest = seen_as a slot (length w.announced) r in
+    let new : Asking = with_request w r (rounds a s.published) in
+    let u : Knowledge = with_asking (record v { seen = s.published; requests = v.requests ++ x ∷ [] }) a new in
+    let more : SeesMore v u = λ y sees. Contains-append_left v.requests (x ∷ []) y sees in
+    let same_requests : (c other i : ℕ) → SameRequest b words after c other i = λ c other i j is. kept (request_word c other i j) is (λ e. cc) in
+    let same_records : (p i : ℕ) → SameRecordWords b words after p i = λ p i j is. kept (record_word p i j) is (λ e. cc) in
+    let stored : IsStored b words a slot (length (s.rows a slot)) r = λ j is.
+    subst (λ n. word_at b words (request_word a slot n j) ≡ get_or (request_words r) j 0) row
+    (asking.stored j (subst (λ n. IsAddress b (request_word a slot n j)) (sym row) is) ∙ ap (λ ws. get_or ws j 0) may.stored) in
+    let shown : Shown b after t = subst (λ n. Shown b (announced_words b words a slot (n + 1)) t) (sym row) (Shown-announced b words s a slot r ruled.shown here stored) in
+    let sound = Sound-announced b s a slot r ruled.sound (IsNext-MayAnnounce b words s v a slot r knows asking.announced may) in
+    let left : (p : ℕ) (k : Part) → p ≢ v.first → IsLeft b words after s.rows rows p k = λ p k apart. record {
+      record_words = same_records p k.published;
+      asking = λ c other has. (
+        announced_rows-other s.rows a slot c other r (other_slot b v.first p a c slot other mine has apart),
+        same_requests c other (length (asking_on k c).announced),
+      );
+    } in
+    let announced : (other : ℕ) → HasSlot b v.first a other → HasAsking b after t u a other new = λ other has.
+    subst (λ k. HasAsking b after t u a k new) (same_slot b v.first a slot other mine has)
+    (HasAsking-announced b words after s v u a slot w r ruled.shown refl refl (λ i j is. same_requests a slot i j is) asking) in
+    let own_after : HasPart b after t u v.first (part_asking q a new) =
+    HasPart-asking b words after s rows v u v.first q a new grows knows.seen more (sym own.published) (same_records v.first q.published)
+    (λ c other apart has. (announced_rows-other s.rows a slot c other r (λ same. apart same.0), same_requests c other (length (asking_on q c).announced)))
+    announced own in
+    let new_is : IsAnnounced t x = (
+      omega (arith, ap length (announced_rows-here s.rows a slot r), length_push (s.rows a slot) r, row),
+      ap (λ l. request_at l (length w.announced)) (announced_rows-here s.rows a slot r)
+          ∙ get_or_push (s.rows a slot) r (record { targets = []; since = 0 }) (length w.announced) (sym row),
+    ) in
+    let knows_own : Knows b after t u = record {
+      seen = IsPrefix-refl s.published;
+      requests = All-push (IsAnnounced t) v.requests x (all_announced s rows v.requests grows knows.requests) new_is;
+      decisions = knows.decisions;
+      parts = parts_after (λ k p. HasPart b after t u (v.first + k) p) v.parts (part_asking q a new) part
+          (subst (λ p. HasPart b after t u p (part_asking q a new)) (sym first) own_after)
+          (λ k apart within.
+          let has = knows.parts k within in
+          HasPart-kept b words after s rows v u (v.first + k) (part_at v k) grows knows.seen more (sym has.published)
+          (left (v.first + k) (part_at v k) (λ e. apart (omega arith))) has);
+    } in (
+      u,
+      record {
+        state = t;
+        seat = ruled.seat;
+        shown = shown;
+        sound = sound;
+        knows = knows_after b after t views id u knows_own (λ k p apart there. Knows-kept b words after s rows p grows
+            (λ m within. left (p.first + m) (part_at p m) (other_process b ruled.seat views id k m v p ruled.seated found part there within apart))
+            (ruled.knows k p there));
+        seated = AreSeated-set b ruled.seat views id v u ruled.seated found refl (length-set v.parts 0 (part_asking q a new));
+      },
+      record {
+        more = knows.seen;
+        all = record { state = t; sound = sound; published = refl; requests = knows_own.requests; decisions = knows_own.decisions };
+        row = announced_rows-here s.rows a slot r ∙ ap (λ l. l ++ r ∷ []) (sym asking.announced);
+        own = sym own.published;
+        history = IsHistory-Sound b t shown.records.room sound begun;
+        agrees = AgreesWithSeen-Knows b after t u sound knows_own;
+        same = refl;
+      },
+    )
+
+-- the stored words are those of one request
+same_request : (b : BookTerms) (v : Knowledge) (a slot c other : ℕ) (r q : Request) → IsBegun b → a ≡ c → MayAnnounce b v a slot r → MayAnnounce b v c other q → r ≡ q
+same_request b v a slot c other r q begun account one two =
+    request_words-injective r q (ArePacked-AreTargets b r.targets begun one.targets) (ArePacked-AreTargets b q.targets begun two.targets)
+    (sym one.stored ∙ (ap (λ k. (asking_on (own_part v) k).stored) account ∙ two.stored))
+
+pub place-MayAnnounce : (b : BookTerms) (v : Knowledge) (a slot : ℕ) (r : Request) → MayAnnounce b v a slot r → IsAddress b (announced_of a slot)
+place-MayAnnounce b v a slot r may = (may.asks.slot_in.account_in, may.asks.slot_in.within)
+
+-- the seat's process may announce by the slot that it has
+pub MayAnnounce-slot : (b : BookTerms) (v : Knowledge) (a slot other : ℕ) (r : Request) → MayAnnounce b v a slot r → HasSlot b v.first a other → MayAnnounce b v a other r
+MayAnnounce-slot b v a slot other r may has = subst (λ k. MayAnnounce b v a k r) (same_slot b v.first a slot other may.asks.slot_in has) may
+
+module _ {S : Type 0} where
+  announces : (b : BookTerms) (slots id : ℕ) (me : Me S Knowledge) (a slot : ℕ) (r : Request) → IsBegun b → IsSeatOf b me.0 → MayAnnounce b me.0 a slot r
+      → let i = index_of b (announced_of a slot) in let n = next_number me.0 a + 1 in
+      Allows (λ s. Ruled b s.words s.views) slots id me i (λ _. n) (λ _. announced_request (step slots i n 0 none) me n)
+  announces b slots id me a slot r begun seat may s holds homes found fits =
+      let done = Announces-Ruled b s.words s.views id me.0 a slot r holds begun found (omega (arith, seat.one_part)) may in
+      let book = seat.book in (
+        done.0,
+        keeps,
+        tt,
+        done.1,
+        (
+          refl,
+          λ c other q other_may at.
+              let there : MayAnnounce b me.0 c other q = subst (λ (t : BookTerms). MayAnnounce t me.0 c other q) book other_may in
+              let at_here = subst (λ (t : BookTerms). index_of b (announced_of a slot) ≡ index_of t (announced_of c other)) book at in
+              let e = index_of-injective b (announced_of a slot) (announced_of c other) (place-MayAnnounce b me.0 a slot r may) (place-MayAnnounce b me.0 c other q there) at_here in
+              let account : a ≡ c = cc in
+              let slot_is : slot ≡ other = cc in
+              let request : r ≡ q = same_request b me.0 a slot c other r q begun account may there in
+              subst (λ (t : BookTerms). Announces t me.0 done.0 c other q) (sym book)
+              (subst (λ t. Announces b me.0 done.0 t other q) account
+              (subst (λ t. Announces b me.0 done.0 a t q) slot_is (subst (Announces b me.0 done.0 a slot) request done.2))),
+        ),
+      )
+
+  pub announces_at : (key b : BookTerms) (slots id : ℕ) (me : Me S Knowledge) (a slot : ℕ) (r : Request) (i n : ℕ) → key ≡ b
+      → i ≡ index_of b (announced_of a slot) → n ≡ next_number me.0 a + 1 → IsBegun b → IsSeatOf b me.0 → MayAnnounce b me.0 a slot r
+      → Allows (λ s. Ruled key s.words s.views) slots id me i (λ _. n) (λ _. announced_request (step slots i n 0 none) me n)
+  announces_at key b slots id me a slot r i n is at counted begun seat may =
+      store_at key b slots id me i (index_of b (announced_of a slot)) n (λ k. announced_request (step slots k n 0 none) me n) is at
+      (subst (λ (k : ℕ). Allows (λ s. Ruled b s.words s.views) slots id me (index_of b (announced_of a slot)) (λ _. k) (λ _. announced_request (step slots (index_of b (announced_of a slot)) k 0 none) me k)) (sym counted)
+      (announces b slots id me a slot r begun seat may))
+
+  -- what the announcing step has told
+  pub Announces-played : (b : BookTerms) (slots : ℕ) (me after : Me S Knowledge) (a slot : ℕ) (r : Request) (i n : ℕ) → me.0.book ≡ b
+      → i ≡ index_of b (announced_of a slot) → MayAnnounce b me.0 a slot r → announced_request (step slots i n 0 none) me n after
+      → Announces b me.0 after.0 a slot r
+  Announces-played b slots me after a slot r i n book at may played =
+      subst (λ (t : BookTerms). Announces t me.0 after.0 a slot r) book
+      (played.1 a slot r (subst (λ (t : BookTerms). MayAnnounce t me.0 a slot r) (sym book) may)
+      (subst (λ (t : BookTerms). i ≡ index_of t (announced_of a slot)) (sym book) at))
+
+-- the board has words for the request that is announced
+requests_in_range-announce : (b : BookTerms) (v : Knowledge) (a slot : ℕ) (r : Request) → v.book ≡ b → length v.seen ≤ places_max → MayAnnounce b v a slot r
+    → SeesInRange v → All (RequestInRange v.book) (v.requests ++ seen_as a slot (next_number v a) r ∷ [])
+requests_in_range-announce b v a slot r book few may sees =
+    let x : SeenRequest = seen_as a slot (next_number v a) r in
+    let mine = may.asks.slot_in in
+    let within : IsAddress b (request_word a slot (next_number v a) 0) = (mine.account_in, mine.within, may.asks.room, omega arith) in
+    let here : RequestInRange b x = record { words = within; targets = may.targets; since = omega (arith, may.since, few) } in
+    All-push (RequestInRange v.book) v.requests x sees.requests (subst (λ (t : BookTerms). RequestInRange t x) (sym book) here)
+
+-- what holds of a seat after the step
+pub IsSeat-announce : (b : BookTerms) (v w : Knowledge) (process k a slot : ℕ) (r : Request) → v.book ≡ b → length v.seen ≤ places_max
+    → MayAnnounce b v a slot r → IsSeat v process k → Announces b v w a slot r → IsSeat w process k
+IsSeat-announce b v w process k a slot r book few may seat told =
+    let after : Asking = with_request (asking_on (own_part v) a) r (rounds a w.seen) in
+    subst (λ t. IsSeat t process k) (sym told.same)
+    (IsSeat-asking v w.seen (v.requests ++ seen_as a slot (next_number v a) r ∷ []) process k a after seat
+    (subst (λ t. IsHistory t w.seen) (sym book) told.history) (told.own ∙ seat.published_is)
+    (SeesOwnRequests-announce v w.seen a slot after r (omega (arith, seat.one_part)) (subst (λ (t : BookTerms). HasSlot t v.first a slot) (sym book) may.asks.slot_in) refl
+    seat.asked) (requests_in_range-announce b v a slot r book few may seat.in_range) (subst AgreesWithSeen told.same told.agrees))
+
+pub HasCounts-announce : (b : BookTerms) (v w : Knowledge) (a slot : ℕ) (r : Request) (n : ℕ) (counts : List ℕ) → 0 < length v.parts
+    → length (own_part v).asking ≡ length v.book.accounts → n ≡ next_number v a + 1 → Announces b v w a slot r → HasCounts v counts → HasCounts w (set counts a n)
+HasCounts-announce b v w a slot r n counts part sized counted told has =
+    let asking = asking_on (own_part v) a in
+    subst (λ t. HasCounts t (set counts a n)) (sym told.same)
+    (HasCounts-counted v w.seen (v.requests ++ seen_as a slot (next_number v a) r ∷ []) a n (with_request asking r (rounds a w.seen)) counts part sized
+    (counted ∙ sym (length_push asking.announced r)) has)
+
+-- the same at an equal book and view
+pub MayAnnounce-same : (b c : BookTerms) (v u : Knowledge) (a slot : ℕ) (r : Request) → c ≡ b → u ≡ v → MayAnnounce b v a slot r → MayAnnounce c u a slot r
+MayAnnounce-same b c v u a slot r book view may =
+    subst (λ (t : BookTerms). MayAnnounce t u a slot r) (sym book) (subst (λ (t : Knowledge). MayAnnounce b t a slot r) (sym view) may)
+
+pub Announces-same : (b c : BookTerms) (v u w : Knowledge) (a slot : ℕ) (r : Request) → c ≡ b → u ≡ v → Announces c u w a slot r → Announces b v w a slot r
+Announces-same b c v u w a slot r book view told =
+    subst (λ (t : BookTerms). Announces t v w a slot r) book (subst (λ (t : Knowledge). Announces c t w a slot r) view told)

@@ -1,0 +1,178 @@
+-- Learning a note keeps the rule, and tells the longer of two lists.
+use Rattle.std.proofs.Common.{◌≡◌, ℕ, ◌+◌, ◌<◌, length, subst, arith, ◌≢◌, List, set, refl, sym, ap, ◌∙◌, inl, inr}
+use lib.ListN.{get_elem?}
+use mathlib.Core.Option.{some, some-injective}
+use Rattle.std.proofs.lemmas.Bool.{cases_eq}
+use Rattle.std.proofs.lemmas.List.Elements.{All-append, All-nil, Contains-append_left}
+use Rattle.std.specs.List.{All}
+use Rattle.atomic_table.proofs.Lists.{at_set, set_else, set_here}
+use Rattle.atomic_table.specs.Table.{Joins}
+use Rattle.at_ledger.specs.Book.{BookTerms}
+use Rattle.at_history.proofs.Laws.Prefixes.{IsPrefix-count_of, IsLonger, IsLonger-longer, longer-either}
+use Rattle.at_history.specs.BoardState.{BoardState, request_at}
+use Rattle.at_history.specs.Histories.{IsHistory}
+use Rattle.at_history.specs.Publications.{count_of, longer}
+use Rattle.at_board.proofs.KnowledgeLaws.Agreement.{AgreesWithSeen-Ruled}
+use Rattle.at_board.proofs.KnowledgeLaws.Asking.{HasPart-more, HasRequests}
+use Rattle.at_board.proofs.KnowledgeLaws.Seats.{AreSeated-set, knows_after, within_found}
+use Rattle.at_board.specs.Knowledge.Agreement.{AgreesWithSeen, DecisionInRange, RequestInRange, SeesInRange}
+use Rattle.at_board.specs.Knowledge.Knows.{HasPart, IsAnnounced, IsDecided, Knows}
+use Rattle.at_board.specs.Knowledge.Parts.{part_at, seen_as, asking_on, own_part}
+use Rattle.at_board.specs.Knowledge.Seats.{HasCounts, IsSeat}
+use Rattle.at_board.specs.Rule.{Ruled, AreSeated, Holds}
+use Rattle.at_board.specs.Steps.Learn.{Learns, learned, spent_knowledge}
+use Rattle.at_board.specs.Steps.Meetings.{AreSeen}
+use Rattle.at_board.specs.Steps.Note.{IsNote}
+use Rattle.at_board.specs.declared.knowledge.Knowledge.{Knowledge}
+
+module _ {S : Type 0} where
+  -- both lists of two seats that the rule has at once
+  pub IsLonger-seen : (b : BookTerms) (id other : ℕ) (v w : Knowledge) (met : AreSeen {S = S} (λ s. Ruled b s.words s.views) id v other w)
+      → IsLonger v.seen w.seen met.1.state.published
+  IsLonger-seen b id other v w met =
+      let ruled = met.1 in
+      IsLonger-longer v.seen w.seen ruled.state.published (ruled.knows id v met.3).seen (ruled.knows other w met.4).seen
+
+  -- the first seat has seen all of its own process, so there is no more of it in the longer list
+  pub count_of-longer : (b : BookTerms) (id other : ℕ) (v w : Knowledge) → 0 < length v.parts → AreSeen {S = S} (λ s. Ruled b s.words s.views) id v other w
+      → count_of v.first (longer v.seen w.seen) ≡ count_of v.first v.seen
+  count_of-longer b id other v w part met =
+      let s : BoardState = met.1.state in
+      let long = IsLonger-seen b id other v w met in
+      let first : v.first + 0 ≡ v.first = omega arith in
+      let own : HasPart b met.0.words s v v.first (part_at v 0) =
+      subst (λ p. HasPart b met.0.words s v p (part_at v 0)) first ((met.1.knows id v met.3).parts 0 part) in
+      omega (
+        arith,
+        own.seen,
+        own.published,
+        IsPrefix-count_of v.first v.seen (longer v.seen w.seen) long.first,
+        IsPrefix-count_of v.first (longer v.seen w.seen) s.published long.before,
+      )
+
+Knows-learned : (b : BookTerms) (words : List ℕ) (s : BoardState) (v w : Knowledge) → 0 < length v.parts → Knows b words s v → Knows b words s w
+    → Knows b words s (learned v w)
+Knows-learned b words s v w part mine theirs =
+    let u : Knowledge = learned v w in
+    let long = IsLonger-longer v.seen w.seen s.published mine.seen theirs.seen in
+    let more : HasRequests u.requests v.requests = λ x there. Contains-append_left v.requests w.requests x there in
+    record {
+      seen = long.before;
+      requests = All-append (IsAnnounced s) v.requests w.requests mine.requests theirs.requests;
+      decisions = All-append (IsDecided s) v.decisions w.decisions mine.decisions theirs.decisions;
+      parts = λ k within. HasPart-more b words s v u (v.first + k) (part_at v k) long.first long.before more (mine.parts k within);
+    }
+
+pub Knows-spent_knowledge : (b : BookTerms) (words : List ℕ) (s : BoardState) → Knows b words s spent_knowledge
+Knows-spent_knowledge b words s = record {
+  seen = (s.published, refl);
+  requests = All-nil (IsAnnounced s);
+  decisions = All-nil (IsDecided s);
+  parts = λ k within. absurd (omega arith);
+}
+
+-- a view with no part stands for no process
+Holds-nothing : (v : Knowledge) (p : ℕ) → length v.parts ≡ 0 → Holds v p → ⊥
+Holds-nothing v p none holds = omega (arith, holds.0, holds.1)
+
+-- a note is spent
+AreSeated-spent : (b : BookTerms) (seat : ℕ → ℕ) (views : List Knowledge) (id : ℕ) (w : Knowledge) → AreSeated b seat views
+    → get_elem? views id ≡ some w → length w.parts ≡ 0 → AreSeated b seat (set views id spent_knowledge)
+AreSeated-spent b seat views id w seated found none = record {
+  only = λ j p u there holds. elim (at_set views id j spent_knowledge u there) as (λ _. seat p ≡ j) [
+    | inl here ↦ absurd (Holds-nothing spent_knowledge p refl (subst (λ t. Holds t p) (sym here.1) holds))
+    | inr other ↦ seated.only j p u other.1 holds
+  ];
+  some_seat = λ p within.
+      let before = seated.some_seat p within in
+      elim (cases_eq (seat p) id) as (λ _. (u : Knowledge) × (get_elem? (set views id spent_knowledge) (seat p) ≡ some u) × Holds u p) [
+        | inl mine ↦
+            let same : before.0 ≡ w = some-injective before.0 w (sym before.1 ∙ (ap (get_elem? views) mine ∙ found)) in
+            absurd (Holds-nothing w p none (subst (λ t. Holds t p) same before.2))
+        | inr other ↦ (before.0, set_else views id (seat p) spent_knowledge other ∙ before.1, before.2)
+      ];
+}
+
+Ruled-learned : (b : BookTerms) (words : List ℕ) (views : List Knowledge) (id other : ℕ) (v w : Knowledge) → Ruled b words views
+    → get_elem? views id ≡ some v → other ≢ id → get_elem? views other ≡ some w → 0 < length v.parts
+    → length w.parts ≡ 0 → Ruled b words (set (set views id (learned v w)) other spent_knowledge)
+Ruled-learned b words views id other v w ruled found apart there part none =
+    let s : BoardState = ruled.state in
+    let u : Knowledge = learned v w in
+    let joined = set views id u in
+    let knows = knows_after b words s views id u (Knows-learned b words s v w part (ruled.knows id v found) (ruled.knows other w there))
+    (λ j t off at. ruled.knows j t at) in
+    record {
+      state = s;
+      seat = ruled.seat;
+      shown = ruled.shown;
+      sound = ruled.sound;
+      knows = knows_after b words s joined other spent_knowledge (Knows-spent_knowledge b words s) (λ j t off at. knows j t at);
+      seated = AreSeated-spent b ruled.seat joined other w (AreSeated-set b ruled.seat views id v u ruled.seated found refl refl)
+          (set_else views id other u apart ∙ there) none;
+    }
+
+module _ {S : Type 0} where
+  -- a note may be joined to a seat
+  pub learns : (key : BookTerms) (id other : ℕ) (v w : Knowledge) → 0 < length v.parts → length w.parts ≡ 0
+      → Joins {S = S} (λ s. Ruled key s.words s.views) id v other w (learned v w) spent_knowledge
+  learns key id other v w part none s holds found apart there =
+      Ruled-learned key s.words s.views id other v w holds found apart
+      (sym (set_else s.views id other (learned v w) apart) ∙ there) part none
+
+module _ {S : Type 0} where
+  -- where the rule holds of a seat and a note, all that the seat has seen with the note agrees
+  learned_agrees : (b : BookTerms) (id other : ℕ) (v w : Knowledge) → 0 < length v.parts → length w.parts ≡ 0
+      → AreSeen {S = S} (λ s. Ruled b s.words s.views) id v other w → AgreesWithSeen (learned v w)
+  learned_agrees b id other v w part none met =
+      let views = set (set met.0.views id (learned v w)) other spent_knowledge in
+      let after = Ruled-learned b met.0.words met.0.views id other v w met.1 met.3 met.2 met.4 part none in
+      let here = set_else (set met.0.views id (learned v w)) other id spent_knowledge (λ e. met.2 (sym e))
+      ∙ set_here met.0.views id (learned v w) (within_found met.0.views id v met.3) in
+      AgreesWithSeen-Ruled b met.0.words views id (learned v w) after here
+
+-- what the seat has then seen
+pub Learns-learned : {S : Type 0} (b : BookTerms) (id other : ℕ) (v w : Knowledge) (process published : ℕ) → v.book ≡ b → w.book ≡ b → IsSeat v process published → IsNote w
+    → AreSeen {S = S} (λ s. Ruled b s.words s.views) id v other w → Learns b v w (learned v w)
+Learns-learned b id other v w process published book note_book seat note met =
+    let long = IsLonger-seen b id other v w met in
+    record {
+      more = long.first;
+      own = count_of-longer b id other v w (omega (arith, seat.one_part)) met;
+      told = long.second;
+      history = longer-either (IsHistory b) v.seen w.seen (subst (λ t. IsHistory t v.seen) book seat.history) (subst (λ t. IsHistory t w.seen) note_book note.history);
+      agrees = learned_agrees b id other v w (omega (arith, seat.one_part)) note.no_part met;
+      same = refl;
+    }
+
+SeesInRange-learned : (v w : Knowledge) → w.book ≡ v.book → SeesInRange v → SeesInRange w → SeesInRange (learned v w)
+SeesInRange-learned v w same mine theirs = record {
+  requests = All-append (RequestInRange v.book) v.requests w.requests mine.requests
+      (subst (λ t. All (RequestInRange t) w.requests) same theirs.requests);
+  decisions = All-append (DecisionInRange v.book) v.decisions w.decisions mine.decisions
+      (subst (λ t. All (DecisionInRange t) w.decisions) same theirs.decisions);
+}
+
+pub IsSeat-learned : {S : Type 0} (b : BookTerms) (id other : ℕ) (v w : Knowledge) (process published : ℕ) → v.book ≡ b → w.book ≡ b → IsSeat v process published
+    → IsNote w → AreSeen {S = S} (λ s. Ruled b s.words s.views) id v other w → IsSeat (learned v w) process published
+IsSeat-learned b id other v w process published book note_book seat note met =
+    let told = Learns-learned b id other v w process published book note_book seat note met in
+    record {
+      one_part = seat.one_part;
+      accounts = seat.accounts;
+      words = seat.words;
+      process_is = seat.process_is;
+      published_is = seat.published_is;
+      own = told.own ∙ seat.own;
+      asked = λ a slot i has within.
+          Contains-append_left v.requests w.requests (seen_as a slot i (request_at (asking_on (own_part v) a).announced i)) (seat.asked a slot i has within);
+      known = seat.known;
+      book = seat.book;
+      history = subst (λ t. IsHistory t (learned v w).seen) (sym book) told.history;
+      in_range = SeesInRange-learned v w (note_book ∙ sym book) seat.in_range note.in_range;
+      agrees = told.agrees;
+    }
+
+-- the seat's own part is the same
+pub HasCounts-learned : (v w : Knowledge) (announced : List ℕ) → HasCounts v announced → HasCounts (learned v w) announced
+HasCounts-learned v w announced has = record { sized = has.sized; counted = has.counted }

@@ -1,0 +1,214 @@
+-- A load of a request's word keeps the rule.
+use Rattle.std.proofs.Common.{◌≡◌, ℕ, ◌+◌, ◌<◌, List, [], ◌∷◌, ◌++◌, length, set, refl, sym, ap, subst, arith, inl, inr, get_or, All}
+use lib.ListN.{get_elem?}
+use mathlib.Core.Option.{some, none}
+use Rattle.std.proofs.lemmas.List.{length-set, set-get_or}
+use Rattle.std.proofs.lemmas.List.Elements.{All-contains, All-push, Contains-append_left}
+use Rattle.at_base.specs.declared.decision.Decision.{Decision}
+use Rattle.atomic_table.specs.Table.{Allows, Me, keeps, step}
+use Rattle.at_ledger.specs.Book.{BookTerms, IsBegun}
+use Rattle.at_history.proofs.Laws.Prefixes.{IsPrefix-refl}
+use Rattle.at_history.proofs.Laws.Histories.{IsHistory-Sound}
+use Rattle.at_history.proofs.Steps.Announce.{Grows-refl}
+use Rattle.at_history.specs.BoardState.{BoardState, request_at}
+use Rattle.at_history.specs.Sound.{Sound}
+use Rattle.at_history.specs.declared.request.Request.{Request}
+use Rattle.at_board.proofs.KnowledgeLaws.Agreement.{AgreesWithSeen-Knows}
+use Rattle.at_board.proofs.KnowledgeLaws.Asking.{HasAsking-kept, HasPart-asking, HasPart-kept, IsLeft-refl, SeesMore}
+use Rattle.at_board.proofs.KnowledgeLaws.Counts.{HasCounts-asking, IsSeat-asking}
+use Rattle.at_board.proofs.KnowledgeLaws.OwnRequests.{SeesOwnRequests-asking}
+use Rattle.at_board.proofs.KnowledgeLaws.Seats.{AreSeated-set, knows_after}
+use Rattle.at_board.proofs.StepLaws.LoadLength.{parts_after}
+use Rattle.at_board.proofs.StepLaws.Table.{IsSeatOf, load_at}
+use Rattle.at_board.proofs.WordLaws.Addresses.{index_of-injective}
+use Rattle.at_board.specs.Knowledge.Agreement.{DecisionInRange, RequestInRange, SeesInRange, AgreesWithSeen}
+use Rattle.at_board.specs.Knowledge.Knows.{HasAsking, HasPart, IsAnnounced, IsDecided, Knows}
+use Rattle.at_board.specs.Knowledge.Parts.{part_asking, seen_as, with_asking, asking_on, own_part, part_at}
+use Rattle.at_board.specs.Knowledge.Seats.{HasCounts, IsSeat}
+use Rattle.at_board.specs.Rule.{Ruled}
+use Rattle.at_board.specs.Steps.LoadRequestWord.{KnowsOf, MayLoadRequest, LoadsRequestWord, with_loaded}
+use Rattle.at_board.specs.Steps.Plays.{loaded_request_word}
+use Rattle.at_board.specs.Words.Addresses.{IsAddress, request_word, word_at, index_of}
+use Rattle.at_board.specs.declared.knowledge.Asking.{Asking}
+use Rattle.at_board.specs.declared.knowledge.LoadedWord.{LoadedWord}
+use Rattle.at_board.specs.declared.knowledge.Part.{Part}
+use Rattle.at_board.specs.declared.knowledge.SeenDecision.{SeenDecision}
+use Rattle.at_board.specs.declared.knowledge.SeenRequest.{SeenRequest}
+use Rattle.at_board.specs.declared.knowledge.Knowledge.{Knowledge}
+
+-- a request that the view knows of is announced
+pub announced-KnowsOf : (b : BookTerms) (words : List ℕ) (s : BoardState) (v : Knowledge) (a slot number : ℕ) → Sound b s → Knows b words s v
+    → KnowsOf v a slot number → number < length (s.rows a slot)
+announced-KnowsOf b words s v a slot number sound knows (inl (r, sees)) =
+    (All-contains (IsAnnounced s) v.requests (seen_as a slot number r) knows.requests sees).0
+announced-KnowsOf b words s v a slot number sound knows (inr (round, d, sees, slot_is, number_is)) =
+    let x : SeenDecision = record { account = a; round = round; decision = d } in
+    let is = All-contains (IsDecided s) v.decisions x knows.decisions sees in
+    let named : d.number < length (s.rows a d.slot) =
+    subst (λ (e : Decision). e.number < length (s.rows a e.slot)) is.1 (sound.decisions a round is.0).announced in
+    omega (arith, named, slot_is, number_is, ap (λ k. length (s.rows a k)) slot_is)
+
+-- the board has words for it
+pub place-MayLoadRequest : (v : Knowledge) (a slot number j : ℕ) → SeesInRange v → MayLoadRequest v a slot number j
+    → IsAddress v.book (request_word a slot number j)
+place-MayLoadRequest v a slot number j sees may =
+    let first = place_of v a slot number sees may.known in (first.0, first.1, first.2, may.word)
+  where
+    place_of : (v : Knowledge) (a slot number : ℕ) → SeesInRange v → KnowsOf v a slot number → IsAddress v.book (request_word a slot number 0)
+    place_of v a slot number sees (inl (r, seen)) =
+        (All-contains (RequestInRange v.book) v.requests (seen_as a slot number r) sees.requests seen).words
+    place_of v a slot number sees (inr (round, d, seen, slot_is, number_is)) =
+        let x : SeenDecision = record { account = a; round = round; decision = d } in
+        subst (λ k. IsAddress v.book (request_word a slot k 0)) number_is
+        (subst (λ k. IsAddress v.book (request_word a k d.number 0)) slot_is
+        (All-contains (DecisionInRange v.book) v.decisions x sees.decisions seen).words)
+
+-- the view after a load of a word of a request
+abbrev pub request_view : Knowledge → ℕ → SeenRequest → ℕ → Knowledge
+request_view v a x j = with_asking (record v { requests = v.requests ++ x ∷ [] }) a (with_loaded (asking_on (own_part v) a) x j)
+
+HasAsking-loaded : (b : BookTerms) (words : List ℕ) (s : BoardState) (v : Knowledge) (a slot : ℕ) (w : Asking) (x : SeenRequest) (j : ℕ) → IsAnnounced s x
+    → HasAsking b words s v a slot w → HasAsking b words s v a slot (with_loaded w x j)
+HasAsking-loaded b words s v a slot w x j is has = record {
+  announced = has.announced;
+  seen = has.seen;
+  sized = has.sized;
+  stored = has.stored;
+  heard = has.heard;
+  rows = has.rows;
+  loaded = All-push (λ (l : LoadedWord). IsAnnounced s l.request) w.loaded (record { request = x; word = j }) has.loaded is;
+}
+
+Knows-request : (b : BookTerms) (words : List ℕ) (s : BoardState) (v : Knowledge) (a : ℕ) (x : SeenRequest) (j : ℕ) → 0 < length v.parts → IsAnnounced s x
+    → Knows b words s v → Knows b words s (request_view v a x j)
+Knows-request b words s v a x j part is knows =
+    let u : Knowledge = request_view v a x j in
+    let q : Part = own_part v in
+    let more : SeesMore v u = λ y sees. Contains-append_left v.requests (x ∷ []) y sees in
+    let own = knows.parts 0 part in
+    let p = v.first + 0 in
+    record {
+      seen = knows.seen;
+      requests = All-push (IsAnnounced s) v.requests x knows.requests is;
+      decisions = knows.decisions;
+      parts = parts_after (λ k t. HasPart b words s u (v.first + k) t) v.parts (part_asking q a (with_loaded (asking_on q a) x j)) part
+          (HasPart-asking b words words s s.rows v u p q a (with_loaded (asking_on q a) x j) (Grows-refl s.rows) (IsPrefix-refl v.seen) more own.seen
+          (λ j at. refl) (λ c other apart has. (refl, λ j at. refl))
+          (λ slot has. HasAsking-loaded b words s u a slot (asking_on q a) x j is
+          (HasAsking-kept b words words s s.rows v u a slot (asking_on q a) (Grows-refl s.rows) (IsPrefix-refl v.seen) more (refl, λ j at. refl) (own.asking a slot has))) own)
+          (λ k apart inside.
+          let has = knows.parts k inside in
+          HasPart-kept b words words s s.rows v u (v.first + k) (part_at v k) (Grows-refl s.rows) (IsPrefix-refl v.seen) more has.seen
+          (IsLeft-refl b words s.rows (v.first + k) (part_at v k)) has);
+    }
+
+pub LoadsRequestWord-Ruled : (b : BookTerms) (words : List ℕ) (views : List Knowledge) (id : ℕ) (v : Knowledge) (a slot number j : ℕ) → Ruled b words views → IsBegun b
+    → get_elem? views id ≡ some v → 0 < length v.parts → IsAddress b (request_word a slot number j) → MayLoadRequest v a slot number j
+    → (w : Knowledge) × Ruled b words (set views id w) × LoadsRequestWord b v w a slot number j (word_at b words (request_word a slot number j))
+LoadsRequestWord-Ruled b words views id v a slot number j ruled begun found part within may =
+    let s : BoardState = ruled.state in
+    let knows = ruled.knows id v found in
+    let below = announced-KnowsOf b words s v a slot number ruled.sound knows may.known in
+    let r : Request = request_at (s.rows a slot) number in
+    let x : SeenRequest = seen_as a slot number r in
+    let w : Knowledge = request_view v a x j in
+    let mine = Knows-request b words s v a x j part (below, refl) knows in (
+      w,
+      record {
+        state = s;
+        seat = ruled.seat;
+        shown = ruled.shown;
+        sound = ruled.sound;
+        knows = knows_after b words s views id w mine (λ k u apart there. ruled.knows k u there);
+        seated = AreSeated-set b ruled.seat views id v w ruled.seated found refl (length-set v.parts 0 (part_asking (own_part v) a (with_loaded (asking_on (own_part v) a) x j)));
+      },
+      record {
+        request = r;
+        word = ruled.shown.requests.requests a slot number j within below;
+        known = λ other sees. sym (All-contains (IsAnnounced s) v.requests (seen_as a slot number other) knows.requests sees).1;
+        targets = (ruled.sound.requests a slot number below).targets;
+        since = omega (arith, (ruled.sound.requests a slot number below).since, (IsHistory-Sound b s ruled.shown.records.room ruled.sound begun).few);
+        agrees = AgreesWithSeen-Knows b words s w ruled.sound mine;
+        same = refl;
+      },
+    )
+
+module _ {S : Type 0} where
+  loads_request_word : (b : BookTerms) (slots id : ℕ) (me : Me S Knowledge) (a slot number j : ℕ) → IsBegun b → IsSeatOf b me.0
+      → IsAddress b (request_word a slot number j) → MayLoadRequest me.0 a slot number j
+      → let i = index_of b (request_word a slot number j) in
+      Allows (λ s. Ruled b s.words s.views) slots id me i (λ n. n) (loaded_request_word (step slots i 0 0 none) me)
+  loads_request_word b slots id me a slot number j begun seat within may s holds homes found fits =
+      let x = request_word a slot number j in
+      let i = index_of b x in
+      let done = LoadsRequestWord-Ruled b s.words s.views id me.0 a slot number j holds begun found (omega (arith, seat.one_part)) within may in
+      let same : set s.words i (get_or s.words i 0) ≡ s.words = set-get_or s.words i 0 in
+      let book = seat.book in (
+        done.0,
+        keeps,
+        tt,
+        subst (λ ws. Ruled b ws (set s.views id done.0)) (sym same) done.1,
+        (
+          refl,
+          λ c other m k known other_may at.
+              let y = request_word c other m k in
+              let known_here : IsAddress b y = subst (λ (t : BookTerms). IsAddress t y) book known in
+              let e = index_of-injective b x y within known_here (subst (λ (t : BookTerms). i ≡ index_of t y) book at) in
+              let account : a ≡ c = cc in
+              let slot_is : slot ≡ other = cc in
+              let number_is : number ≡ m = cc in
+              let word : j ≡ k = cc in
+              let n = get_or s.words i 0 in
+              subst (λ (t : BookTerms). LoadsRequestWord t me.0 done.0 c other m k n) (sym book)
+              (subst (λ t. LoadsRequestWord b me.0 done.0 t other m k n) account
+              (subst (λ t. LoadsRequestWord b me.0 done.0 a t m k n) slot_is
+              (subst (λ t. LoadsRequestWord b me.0 done.0 a slot t k n) number_is
+              (subst (λ t. LoadsRequestWord b me.0 done.0 a slot number t n) word done.2)))),
+        ),
+      )
+
+  pub loads_request_word_at : (key b : BookTerms) (slots id : ℕ) (me : Me S Knowledge) (a slot number j i : ℕ) → key ≡ b
+      → i ≡ index_of b (request_word a slot number j) → IsBegun b → IsSeatOf b me.0 → IsAddress b (request_word a slot number j) → MayLoadRequest me.0 a slot number j
+      → Allows (λ s. Ruled key s.words s.views) slots id me i (λ n. n) (loaded_request_word (step slots i 0 0 none) me)
+  loads_request_word_at key b slots id me a slot number j i is at begun seat within may =
+      load_at key b slots id me i (index_of b (request_word a slot number j)) (λ k. loaded_request_word (step slots k 0 0 none) me) is at
+      (loads_request_word b slots id me a slot number j begun seat within may)
+
+  -- what the load has told
+  pub LoadsRequestWord-played : (b : BookTerms) (slots : ℕ) (me after : Me S Knowledge) (a slot number j n i : ℕ) → me.0.book ≡ b
+      → i ≡ index_of b (request_word a slot number j) → IsAddress b (request_word a slot number j) → MayLoadRequest me.0 a slot number j
+      → loaded_request_word (step slots i 0 0 none) me n after → LoadsRequestWord b me.0 after.0 a slot number j n
+  LoadsRequestWord-played b slots me after a slot number j n i book at within may played =
+      subst (λ (t : BookTerms). LoadsRequestWord t me.0 after.0 a slot number j n) book
+      (played.1 a slot number j (subst (λ (t : BookTerms). IsAddress t (request_word a slot number j)) (sym book) within) may
+      (subst (λ (t : BookTerms). i ≡ index_of t (request_word a slot number j)) (sym book) at))
+
+-- the board has words for the request that is loaded
+requests_in_range-request : (b : BookTerms) (v w : Knowledge) (a slot number j n : ℕ) → v.book ≡ b → IsAddress b (request_word a slot number j)
+    → (told : LoadsRequestWord b v w a slot number j n) → SeesInRange v → All (RequestInRange v.book) (v.requests ++ seen_as a slot number told.request ∷ [])
+requests_in_range-request b v w a slot number j n book within told sees =
+    let x : SeenRequest = seen_as a slot number told.request in
+    let here : RequestInRange b x = record {
+      words = (within.0, within.1, within.2, omega arith);
+      targets = told.targets;
+      since = told.since;
+    } in
+    All-push (RequestInRange v.book) v.requests x sees.requests (subst (λ (t : BookTerms). RequestInRange t x) (sym book) here)
+
+-- what holds of a seat after the load
+pub IsSeat-request : (b : BookTerms) (v w : Knowledge) (process k a slot number j n : ℕ) → v.book ≡ b → IsAddress b (request_word a slot number j)
+    → IsSeat v process k → LoadsRequestWord b v w a slot number j n → IsSeat w process k
+IsSeat-request b v w process k a slot number j n book within seat told =
+    let x : SeenRequest = seen_as a slot number told.request in
+    subst (λ t. IsSeat t process k) (sym told.same)
+    (IsSeat-asking v v.seen (v.requests ++ x ∷ []) process k a (with_loaded (asking_on (own_part v) a) x j) seat seat.history seat.own
+    (SeesOwnRequests-asking v v.seen (v.requests ++ x ∷ []) a (with_loaded (asking_on (own_part v) a) x j) (omega (arith, seat.one_part)) refl
+    (λ y there. Contains-append_left v.requests (x ∷ []) y there) seat.asked)
+    (requests_in_range-request b v w a slot number j n book within told seat.in_range) (subst AgreesWithSeen told.same told.agrees))
+
+pub HasCounts-request : (b : BookTerms) (v w : Knowledge) (a slot number j n : ℕ) (counts : List ℕ) → 0 < length v.parts
+    → length (own_part v).asking ≡ length v.book.accounts → LoadsRequestWord b v w a slot number j n → HasCounts v counts → HasCounts w counts
+HasCounts-request b v w a slot number j n counts part sized told has =
+    let x : SeenRequest = seen_as a slot number told.request in
+    subst (λ t. HasCounts t counts) (sym told.same)
+    (HasCounts-asking v v.seen (v.requests ++ x ∷ []) a (with_loaded (asking_on (own_part v) a) x j) counts part sized refl has)

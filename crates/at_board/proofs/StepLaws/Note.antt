@@ -1,0 +1,69 @@
+-- Making a note keeps the rule.
+use Rattle.std.proofs.Common.{◌≡◌, ℕ, ◌<◌, List, [], ◌∷◌, ◌++◌, refl, sym, subst, arith, inl, inr}
+use lib.ListN.{get_elem?}
+use mathlib.Core.Option.{some}
+use Rattle.atomic_table.proofs.Lists.{at_longer, at_snoc, set_again}
+use Rattle.atomic_table.specs.Table.{Splits}
+use Rattle.at_ledger.specs.Book.{BookTerms, IsBook}
+use Rattle.at_history.specs.BoardState.{BoardState}
+use Rattle.at_board.proofs.WordLaws.Addresses.{index_of-below}
+use Rattle.at_board.specs.Knowledge.Knows.{Knows}
+use Rattle.at_board.specs.Knowledge.Seats.{IsSeat}
+use Rattle.at_board.specs.Rule.{Holds, Ruled}
+use Rattle.at_board.specs.Steps.Note.{IsNote, noted}
+use Rattle.at_board.specs.Words.Addresses.{length_of, word_count}
+use Rattle.at_board.specs.declared.knowledge.Knowledge.{Knowledge}
+
+Knows-noted : (b : BookTerms) (words : List ℕ) (s : BoardState) (v : Knowledge) → Knows b words s v → Knows b words s (noted v)
+Knows-noted b words s v knows = record {
+  seen = knows.seen;
+  requests = knows.requests;
+  decisions = knows.decisions;
+  parts = λ k within. absurd (omega arith);
+}
+
+-- a note stands for no process
+Holds-noted : (v : Knowledge) (p : ℕ) → Holds (noted v) p → ⊥
+Holds-noted v p holds = omega (arith, holds.0, holds.1)
+
+-- one more view, that of a note
+Ruled-noted : (b : BookTerms) (words : List ℕ) (views : List Knowledge) (id : ℕ) (v : Knowledge) → Ruled b words views → get_elem? views id ≡ some v
+    → Ruled b words (views ++ noted v ∷ [])
+Ruled-noted b words views id v ruled found = record {
+  state = ruled.state;
+  seat = ruled.seat;
+  shown = ruled.shown;
+  sound = ruled.sound;
+  knows = λ j u there. elim (at_snoc views (noted v) u j there) as (λ _. Knows b words ruled.state u) [
+    | inl old ↦ ruled.knows j u old
+    | inr new ↦ subst (Knows b words ruled.state) new (Knows-noted b words ruled.state v (ruled.knows id v found))
+  ];
+  seated = record {
+    only = λ j p u there holds. elim (at_snoc views (noted v) u j there) as (λ _. ruled.seat p ≡ j) [
+      | inl old ↦ ruled.seated.only j p u old holds
+      | inr new ↦ absurd (Holds-noted v p (subst (λ t. Holds t p) (sym new) holds))
+    ];
+    some_seat = λ p within.
+        let before = ruled.seated.some_seat p within in
+        (before.0, at_longer views (noted v ∷ []) (ruled.seat p) before.0 before.1, before.2);
+  };
+}
+
+module _ {S : Type 0} where
+  -- a seat may be cut into itself and a note
+  pub notes : (key : BookTerms) (id : ℕ) (v : Knowledge) → Splits {S = S} (λ s. Ruled key s.words s.views) id v v (noted v)
+  notes key id v s holds found =
+      subst (λ t. Ruled key s.words (t ++ noted v ∷ [])) (sym (set_again s.views id v found)) (Ruled-noted key s.words s.views id v holds found)
+
+-- a board has words
+pub word_count-some : (b : BookTerms) → IsBook b → 0 < word_count b
+word_count-some b book = omega (arith, index_of-below b (length_of 0) (omega (arith, book.begun.some_process)))
+
+-- a seat's note
+pub IsNote-noted : (v : Knowledge) (process published : ℕ) → IsSeat v process published → IsNote (noted v)
+IsNote-noted v process published seat = record {
+  no_part = refl;
+  book = seat.book;
+  history = seat.history;
+  in_range = record { requests = seat.in_range.requests; decisions = seat.in_range.decisions };
+}

@@ -1,0 +1,6 @@
+pub mod Agreement
+pub mod Seats
+pub mod Fresh
+pub mod Parts
+pub mod Records
+pub mod Knows

@@ -1,0 +1,53 @@
+-- What holds of all the requests, decisions and records that a seat has seen.
+use Rattle.std.specs.Prelude.{◌≡◌, ℕ, ◌<◌, ◌≤◌, All}
+use Rattle.at_base.specs.Decision.{InRange}
+use Rattle.at_base.specs.declared.decision.Decision.{Decision}
+use Rattle.at_ledger.specs.Account.{rounds_room}
+use Rattle.at_ledger.specs.Book.{BookTerms, account_of}
+use Rattle.at_history.specs.Fronts.{places_max}
+use Rattle.at_history.specs.Sound.{AreTargets}
+use Rattle.at_history.specs.declared.publication.Entry.{Entry}
+use Rattle.at_history.specs.declared.publication.Entry.TheVariants.{Own, Round}
+use Rattle.at_history.specs.declared.request.Request.{Request}
+use Rattle.at_board.specs.Knowledge.Parts.{SeesDecision, SeesRequest}
+use Rattle.at_board.specs.Words.Addresses.{IsAddress, request_word}
+use Rattle.at_board.specs.declared.knowledge.SeenDecision.{SeenDecision}
+use Rattle.at_board.specs.declared.knowledge.SeenRequest.{SeenRequest}
+use Rattle.at_board.specs.declared.knowledge.Knowledge.{Knowledge}
+
+-- the board has words for the request; each of its targets is an account, and its `since` is at most the longest list's length
+pub record RequestInRange (b : BookTerms) (x : SeenRequest) : Type 0 where
+  pub words : IsAddress b (request_word x.account x.slot x.number 0)
+  pub targets : AreTargets b x.request.targets
+  pub since : x.request.since ≤ places_max
+
+-- the numbers of a decision fit its word, and the board has words for the request that it names and for the round
+pub record DecisionInRange (b : BookTerms) (x : SeenDecision) : Type 0 where
+  pub words : IsAddress b (request_word x.account x.decision.slot x.decision.number 0)
+  pub range : InRange x.decision
+  pub room : x.round < rounds_room b.request_room (account_of b x.account)
+
+-- each request and each decision that the view has seen is in range
+pub record SeesInRange (view : Knowledge) : Type 0 where
+  pub requests : All (RequestInRange view.book) view.requests
+  pub decisions : All (DecisionInRange view.book) view.decisions
+
+-- the view has seen no other decision of the round, no other round that decides the request, and no later `since` of the request
+pub record AgreesOnDecision (view : Knowledge) (account round : ℕ) (d : Decision) : Type 0 where
+  pub same : (e : Decision) → SeesDecision view account round e → e ≡ d
+  pub once : (other : ℕ) (e : Decision) → SeesDecision view account other e → e.slot ≡ d.slot → e.number ≡ d.number → other ≡ round
+  pub since : (r : Request) → SeesRequest view account d.slot d.number r → r.since ≤ d.place
+
+-- a round's record says what the view has seen of the round: its decision, and the targets of the request that this names
+abbrev pub AgreesOnEntry : Knowledge → Entry → Type 0
+AgreesOnEntry view (Own from targets) = Unit {0}
+AgreesOnEntry view (Round account round decision targets) =
+    AgreesOnDecision view account round decision
+    × ((r : Request) → SeesRequest view account decision.slot decision.number r → r.targets ≡ targets)
+
+-- what the view has seen agrees: its requests, its decisions and its records say the same
+pub record AgreesWithSeen (view : Knowledge) : Type 0 where
+  pub requests : (account slot number : ℕ) (r q : Request) → SeesRequest view account slot number r →
+      SeesRequest view account slot number q → r ≡ q
+  pub decisions : (account round : ℕ) (d : Decision) → SeesDecision view account round d → AgreesOnDecision view account round d
+  pub records : All (λ x. AgreesOnEntry view x.entry) view.seen

@@ -1,0 +1,28 @@
+-- The rule of the board's table.
+use Rattle.std.specs.Prelude.{◌≡◌, ℕ, ◌+◌, ◌<◌, ◌≤◌, List, length}
+use lib.ListN.{get_elem?}
+use mathlib.Core.Option.{some}
+use Rattle.at_ledger.specs.Book.{BookTerms}
+use Rattle.at_history.specs.BoardState.{BoardState}
+use Rattle.at_history.specs.Sound.{Sound}
+use Rattle.at_board.specs.Knowledge.Knows.{Knows}
+use Rattle.at_board.specs.Words.Shown.{Shown}
+use Rattle.at_board.specs.declared.knowledge.Knowledge.{Knowledge}
+
+-- the view has the part of the process
+abbrev pub Holds : Knowledge → ℕ → Type 0
+Holds v p = (v.first ≤ p) × (p < v.first + length v.parts)
+
+-- the part of each process stands in the view of its seat and in no other. A view that is spent has no part
+pub record AreSeated (b : BookTerms) (seat : ℕ → ℕ) (views : List Knowledge) : Type 0 where
+  pub only : (id p : ℕ) (v : Knowledge) → get_elem? views id ≡ some v → Holds v p → seat p ≡ id
+  pub some_seat : (p : ℕ) → p < b.processes → (v : Knowledge) × (get_elem? views (seat p) ≡ some v) × Holds v p
+
+-- the words stand for a sound state, and whatever a view has seen is in it
+pub record Ruled (b : BookTerms) (words : List ℕ) (views : List Knowledge) : Type 0 where
+  pub state : BoardState
+  pub seat : ℕ → ℕ
+  pub shown : Shown b words state
+  pub sound : Sound b state
+  pub knows : (id : ℕ) (v : Knowledge) → get_elem? views id ≡ some v → Knows b words state v
+  pub seated : AreSeated b seat views

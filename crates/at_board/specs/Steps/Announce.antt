@@ -1,0 +1,43 @@
+-- Announcing the seat's next request on an account.
+use Rattle.std.specs.Prelude.{◌≡◌, ℕ, ◌++◌, [], ◌∷◌, length, replicate, ◌+◌, ◌≤◌, true, take}
+use Rattle.at_ledger.specs.Book.{BookTerms}
+use Rattle.at_history.specs.Histories.{IsHistory}
+use Rattle.at_history.specs.Publications.{IsPrefix, count_of}
+use Rattle.at_history.specs.Rounds.{rounds, is_settled}
+use Rattle.at_history.specs.Sound.{AreTargets}
+use Rattle.at_history.specs.declared.request.Request.{Request}
+use Rattle.at_board.specs.Knowledge.Agreement.{AgreesWithSeen}
+use Rattle.at_board.specs.Knowledge.Knows.{SeesAll}
+use Rattle.at_board.specs.Knowledge.Parts.{asking_on, own_part, with_asking, seen_as}
+use Rattle.at_board.specs.Steps.StoreRequestWord.{MayAsk}
+use Rattle.at_board.specs.Words.Packed.{request_words}
+use Rattle.at_board.specs.declared.knowledge.Asking.{Asking}
+use Rattle.at_board.specs.declared.knowledge.Knowledge.{Knowledge}
+use Rattle.at_board.specs.declared.words.TheConstants.{REQUEST_WORDS}
+
+-- one more request is announced, nothing of the next is stored, and nothing was loaded since then
+abbrev pub with_request : Asking → Request → ℕ → Asking
+with_request w r heard =
+    record w { announced = w.announced ++ r ∷ []; stored = replicate REQUEST_WORDS 0; heard = heard; rows = []; loaded = [] }
+
+-- an announcing step: some sound board has published just what the seat has then seen, and its row of the seat's process has the
+-- request at the end
+pub record Announces (b : BookTerms) (before after : Knowledge) (a slot : ℕ) (r : Request) : Type 0 where
+  pub more : IsPrefix before.seen after.seen
+  pub all : SeesAll b after
+  pub row : all.state.rows a slot ≡ (asking_on (own_part before) a).announced ++ r ∷ []
+  pub own : count_of before.first after.seen ≡ (own_part before).published
+  pub history : IsHistory b after.seen
+  pub agrees : AgreesWithSeen after
+  pub same : let w : Asking = asking_on (own_part before) a in
+      after ≡ with_asking (record before { seen = after.seen; requests = before.requests ++ seen_as a slot (length w.announced) r ∷ [] }) a
+      (with_request w r (rounds a after.seen))
+
+-- the seat may announce this request: its words are stored, and it keeps the laws of requests at the front of its `since`
+pub record MayAnnounce (b : BookTerms) (v : Knowledge) (a slot : ℕ) (r : Request) : Type 0 where
+  pub asks : MayAsk b v a slot
+  pub stored : (asking_on (own_part v) a).stored ≡ request_words r
+  pub targets : AreTargets b r.targets
+  pub since : r.since ≤ length v.seen
+  pub follows : (before : ℕ) → before + 1 ≡ length (asking_on (own_part v) a).announced →
+      is_settled a slot before (take r.since v.seen) ≡ true

@@ -1,0 +1,102 @@
+-- An exchange on the cell of a round.
+use Rattle.std.specs.Prelude.{◌≡◌, ℕ, ◌+◌, ◌<◌, ◌≤◌, ◌==◌, ◌++◌, List, [], ◌∷◌, length, take, slice_set, All, Option, Some, None, if◌then◌else◌, ◌↔◌, true, false}
+use Rattle.at_base.specs.Decision.{InRange, word_of}
+use Rattle.at_base.specs.declared.decision.Decision.{Decision}
+use Rattle.atomic_table.specs.Table.{Me, Step}
+use Rattle.at_ledger.specs.Account.{slots_of}
+use Rattle.at_ledger.specs.Book.{BookTerms, account_of, HasSlot}
+use Rattle.at_ledger.specs.Call.{amount_of}
+use Rattle.at_history.specs.Balances.{IsCovered}
+use Rattle.at_history.specs.BoardState.{BoardState, decision_at}
+use Rattle.at_history.specs.Histories.{IsHistory}
+use Rattle.at_history.specs.Publications.{IsPrefix, count_of}
+use Rattle.at_history.specs.Rounds.{rounds, is_settled}
+use Rattle.at_history.specs.Sound.{Sound}
+use Rattle.at_history.specs.declared.cell.Cell.{Cell}
+use Rattle.at_history.specs.declared.publication.Publication.{Publication}
+use Rattle.at_history.specs.declared.request.Request.{Request}
+use Rattle.at_board.specs.Knowledge.Agreement.{AgreesWithSeen}
+use Rattle.at_board.specs.Knowledge.Knows.{IsAnnounced, IsDecided}
+use Rattle.at_board.specs.Knowledge.Parts.{with_part, SeesDecision, asking_on, own_part, SeesRequest}
+use Rattle.at_board.specs.Words.Addresses.{cell_of, index_of}
+use Rattle.at_board.specs.declared.knowledge.Part.{Part}
+use Rattle.at_board.specs.declared.knowledge.Knowledge.{Knowledge}
+
+-- what a cell has after an exchange from 0 for a proposal, where it had this before
+abbrev pub word_after : ℕ → ℕ → ℕ
+word_after found proposal = if found == 0 then proposal else found
+
+-- one more step on a cell of the account is counted
+abbrev pub with_count : Part → ℕ → Part
+with_count q a = record q { asking = slice_set q.asking a (record (asking_on q a) { decides = (asking_on q a).decides + 1 }) }
+
+-- and this cell is held, or none
+abbrev pub with_decide : Part → ℕ → Option Cell → Part
+with_decide q a held = with_count (record q { held = held }) a
+
+-- the decision of a round is seen, with all of a list
+abbrev pub with_decision : Knowledge → List Publication → ℕ → ℕ → Decision → Knowledge
+with_decision v list a round d =
+    record v { seen = list; decisions = v.decisions ++ record { account = a; round = round; decision = d } ∷ [] }
+
+-- the board that an exchange on the cell of a round has met: sound, with just the publications that the seat has then seen, and
+-- all the requests and decisions that it had seen before. Where the round was undecided there, it is decided as proposed, and
+-- the seat holds the cell; a decision that stood there stays, and the seat holds none
+pub record MeetsCell (b : BookTerms) (before after : Knowledge) (a round : ℕ) (d decision : Decision) (held : Option Cell) : Type 0 where
+  pub state : BoardState
+  pub sound : Sound b state
+  pub published : state.published ≡ after.seen
+  pub requests : All (IsAnnounced state) before.requests
+  pub decisions : All (IsDecided state) before.decisions
+  pub within : round ≤ length (state.cells a)
+  pub undecided : length (state.cells a) ≡ round → (decision ≡ d) × (held ≡ Some (record { account = a; round = round }))
+  pub stood : round < length (state.cells a) → (decision ≡ decision_at (state.cells a) round) × (held ≡ None)
+
+-- an exchange on the cell of a round, which then has this word. It is the word of a decision: of the proposal where the round
+-- was undecided, and else of the one that stood. The seat has seen at least as many publications as the decision's place,
+-- where exactly the rounds before this one stand
+pub record Decides (b : BookTerms) (before after : Knowledge) (a round : ℕ) (d : Decision) (w : ℕ) : Type 0 where
+  pub decision : Decision
+  pub held : Option Cell
+  pub word : w ≡ word_of decision
+  pub range : InRange decision
+  pub slot_in : decision.slot < slots_of (account_of b a)
+  pub number_in : decision.number < b.request_room
+  pub place : decision.place ≤ length after.seen
+  pub next : rounds a (take decision.place after.seen) ≡ round
+  pub known : (e : Decision) → SeesDecision before a round e → e ≡ decision
+  pub met : MeetsCell b before after a round d decision held
+  pub more : IsPrefix before.seen after.seen
+  pub own : count_of before.first after.seen ≡ (own_part before).published
+  pub history : IsHistory b after.seen
+  pub agrees : AgreesWithSeen after
+  pub same : after ≡ with_part (with_decision before after.seen a round decision) (with_decide (own_part before) a held)
+
+-- the seat may propose that this round decide this request: its process owns the account, and the decision has a word. At the
+-- proposal's place exactly the rounds before this one stand. The request was seen and is not settled there, and its since is no
+-- later; the proposal says whether the balance there covers it, and the seat holds no cell
+pub record MayPropose (b : BookTerms) (v : Knowledge) (a round : ℕ) (d : Decision) (r : Request) : Type 0 where
+  pub owner : (slot : ℕ) × HasSlot b v.first a slot
+  pub range : InRange d
+  pub place : d.place ≤ length v.seen
+  pub next : rounds a (take d.place v.seen) ≡ round
+  pub named : SeesRequest v a d.slot d.number r
+  pub unsettled : is_settled a d.slot d.number (take d.place v.seen) ≡ false
+  pub since : r.since ≤ d.place
+  pub ok : (d.ok ≡ true) ↔ IsCovered b (take d.place v.seen) a (amount_of r.targets)
+  pub free : (own_part v).held ≡ None
+
+-- the word is that of a decision that the seat may propose
+abbrev pub IsProposal : BookTerms → Knowledge → ℕ → ℕ → ℕ → Type 0
+IsProposal b v a round word = (d : Decision) × (r : Request) × MayPropose b v a round d r × (word ≡ word_of d)
+
+-- the round is decided, whichever decision the proposal is the word of
+abbrev pub DecidesBy : BookTerms → Knowledge → Knowledge → ℕ → ℕ → ℕ → ℕ → Type 0
+DecidesBy b before after a round proposal word =
+    (d : Decision) (r : Request) → MayPropose b before a round d r → proposal ≡ word_of d → Decides b before after a round d word
+
+-- what the exchange tells its seat
+module _ {S : Type 0} where
+  abbrev pub decided_round : Step S → Me S Knowledge → ℕ → Me S Knowledge → Type 0
+  decided_round st m n m' = (m'.1 ≡ m.1) × ((a round : ℕ) (d : Decision) (r : Request) → MayPropose m.0.book m.0 a round d r →
+      st.word ≡ index_of m.0.book (cell_of a round) → st.second ≡ word_of d → Decides m.0.book m.0 m'.0 a round d (word_after n st.second))

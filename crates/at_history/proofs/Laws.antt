@@ -1,0 +1,16 @@
+pub mod Prefixes
+pub mod Rooms
+pub mod Counts
+pub mod Sums
+pub mod Slots
+pub mod Histories
+pub mod Payments
+pub mod Fronts
+pub mod Rounds
+pub mod Covers
+pub mod Runs
+pub mod RoundsDecided
+pub mod DecisionNumbers
+pub mod Balances
+pub mod Lengths
+pub mod HasRuns

@@ -1,0 +1,4 @@
+pub mod Decide
+pub mod Announce
+pub mod Start
+pub mod Publish

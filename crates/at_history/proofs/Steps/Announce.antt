@@ -1,0 +1,196 @@
+-- Announcing a request keeps a state sound: the state with one more request in a row.
+use Rattle.std.proofs.Common.{◌≡◌, ℕ, ◌+◌, ◌<◌, ◌≤◌, List, [], ◌++◌, length, sym, ap, ◌∙◌, arith, ◌↔◌, ◌==◌, ◌&&◌, true, cond, ◌∷◌, take, refl, subst, inl, inr, ◌⊎◌}
+use Rattle.std.proofs.lemmas.Bool.{cases_eq, cases_lt, eq-eqb, ne_eqb}
+use Rattle.std.proofs.lemmas.List.{append-nil, get_or_append_left, length-append, get_or_push, length_push}
+use Rattle.at_base.specs.declared.decision.Decision.{Decision}
+use Rattle.at_ledger.specs.Account.{slots_of}
+use Rattle.at_ledger.specs.Book.{BookTerms, account_of}
+use Rattle.at_ledger.specs.Call.{amount_of}
+use Rattle.at_history.proofs.Laws.RoundsDecided.{AreDecided-take}
+use Rattle.at_history.proofs.Laws.HasRuns.{HasRuns-Sound}
+use Rattle.at_history.specs.Balances.{IsCovered}
+use Rattle.at_history.specs.BoardState.{BoardState, request_at, decision_at, publication_at}
+use Rattle.at_history.specs.Fronts.{prefix_of}
+use Rattle.at_history.specs.Rounds.{is_settled}
+use Rattle.at_history.specs.Sound.{AreTargets, IsSoundDecision, IsSoundEntry, IsSoundRequest, Sound}
+use Rattle.at_history.specs.declared.publication.Entry.{Entry}
+use Rattle.at_history.specs.declared.publication.Entry.TheVariants.{Own, Round}
+use Rattle.at_history.specs.declared.publication.Publication.{Publication}
+use Rattle.at_history.specs.declared.request.Request.{Request}
+
+-- the rows of a board
+abbrev pub Rows : Type 0
+Rows = ℕ → ℕ → List Request
+
+-- the state with other rows
+abbrev pub with_rows : BoardState → Rows → BoardState
+with_rows s rows = record s { rows = rows }
+
+-- rows that have only gained requests
+abbrev pub Grows : Rows → Rows → Type 0
+Grows rows longer = (a slot : ℕ) → (more : List Request) × (longer a slot ≡ rows a slot ++ more)
+
+pub Grows-refl : (rows : Rows) → Grows rows rows
+Grows-refl rows a slot = ([], sym (append-nil (rows a slot)))
+
+pub length-Grows : (rows longer : Rows) (a slot : ℕ) → Grows rows longer → length (rows a slot) ≤ length (longer a slot)
+length-Grows rows longer a slot grows = omega (arith, ap length (grows a slot).1, length-append (rows a slot) (grows a slot).0)
+
+pub request_at-Grows : (rows longer : Rows) (a slot i : ℕ) → Grows rows longer → i < length (rows a slot)
+    → request_at (longer a slot) i ≡ request_at (rows a slot) i
+request_at-Grows rows longer a slot i grows within =
+    ap (λ row. request_at row i) (grows a slot).1
+    ∙ get_or_append_left (rows a slot) (grows a slot).0 (record { targets = []; since = 0 }) i within
+
+-- the rows with one more request of a slot
+abbrev pub announced_rows : Rows → ℕ → ℕ → Request → Rows
+announced_rows rows a slot r = λ c other. cond ((c == a) && (other == slot)) (rows a slot ++ r ∷ []) (rows c other)
+
+-- the slot is this one or another
+pub slot_cases : (a slot c other : ℕ) → ((c ≡ a) × (other ≡ slot)) ⊎ ((c ≡ a) × (other ≡ slot) → ⊥)
+slot_cases a slot c other =
+    elim (cases_eq c a) as (λ _. ((c ≡ a) × (other ≡ slot)) ⊎ ((c ≡ a) × (other ≡ slot) → ⊥)) [
+      | inl account ↦
+          elim (cases_eq other slot) as (λ _. ((c ≡ a) × (other ≡ slot)) ⊎ ((c ≡ a) × (other ≡ slot) → ⊥)) [
+            | inl same ↦ inl (account, same)
+            | inr apart ↦ inr (λ both. apart both.1)
+          ]
+      | inr apart ↦ inr (λ both. apart both.0)
+    ]
+
+pub announced_rows-here : (rows : Rows) (a slot : ℕ) (r : Request) → announced_rows rows a slot r a slot ≡ rows a slot ++ r ∷ []
+announced_rows-here rows a slot r = rw (eq-eqb a a refl) (rw (eq-eqb slot slot refl) refl)
+
+pub announced_rows-other : (rows : Rows) (a slot c other : ℕ) (r : Request) → ((c ≡ a) × (other ≡ slot) → ⊥)
+    → announced_rows rows a slot r c other ≡ rows c other
+announced_rows-other rows a slot c other r apart =
+    elim (cases_eq c a) as (λ _. announced_rows rows a slot r c other ≡ rows c other) [
+      | inl account ↦
+          let off = ne_eqb other slot (λ e. apart (account, e)) in
+          rw (eq-eqb c a account) (rw off refl)
+      | inr off ↦ rw (ne_eqb c a off) refl
+    ]
+
+pub Grows-announced : (rows : Rows) (a slot : ℕ) (r : Request) → Grows rows (announced_rows rows a slot r)
+Grows-announced rows a slot r = λ c other.
+    elim (slot_cases a slot c other) as (λ _. (more : List Request) × (announced_rows rows a slot r c other ≡ rows c other ++ more)) [
+      | inl same ↦
+          let here : announced_rows rows a slot r c other ≡ rows c other ++ r ∷ [] =
+          subst (λ t. announced_rows rows a slot r t other ≡ rows t other ++ r ∷ []) (sym same.0)
+          (subst (λ t. announced_rows rows a slot r a t ≡ rows a t ++ r ∷ []) (sym same.1) (announced_rows-here rows a slot r)) in
+          (r ∷ [], here)
+      | inr apart ↦ ([], announced_rows-other rows a slot c other r apart ∙ sym (append-nil (rows c other)))
+    ]
+
+IsSoundEntry-Grows : (b : BookTerms) (s : BoardState) (rows : Rows) (p : ℕ) (prefix : List Publication) (e : Entry) → Sound b s → Grows s.rows rows
+    → IsSoundEntry b s p prefix e → IsSoundEntry b (with_rows s rows) p prefix e
+IsSoundEntry-Grows b s rows p prefix (Own from targets) sound grows law = law
+IsSoundEntry-Grows b s rows p prefix (Round a r d targets) sound grows law =
+    let decision : IsSoundDecision b s a r d = subst (IsSoundDecision b s a r) law.1.decision (sound.decisions a r law.1.decided) in (
+      law.0,
+      record {
+        decided = law.1.decided;
+        decision = law.1.decision;
+        same_targets = ap (λ (t : Request). t.targets) (request_at-Grows s.rows rows a d.slot d.number grows decision.announced) ∙ law.1.same_targets;
+      },
+    )
+
+IsSoundDecision-Grows : (b : BookTerms) (s : BoardState) (rows : Rows) (a r : ℕ) (d : Decision) → Grows s.rows rows
+    → IsSoundDecision b s a r d → IsSoundDecision b (with_rows s rows) a r d
+IsSoundDecision-Grows b s rows a r d grows law =
+    let same = sym (request_at-Grows s.rows rows a d.slot d.number grows law.announced) in
+    record {
+      range = law.range;
+      room = law.room;
+      slot_in = law.slot_in;
+      place = law.place;
+      next = law.next;
+      announced = omega (arith, law.announced, length-Grows s.rows rows a d.slot grows);
+      since = subst (λ (t : Request). t.since ≤ d.place) same law.since;
+      ok = subst (λ (t : Request). (d.ok ≡ true) ↔ IsCovered b (take d.place s.published) a (amount_of t.targets)) same law.ok;
+    }
+
+-- the laws of a request read no rows
+IsSoundRequest-Grows : (b : BookTerms) (s : BoardState) (rows : Rows) (a slot number : ℕ) (r : Request)
+    → IsSoundRequest b s a slot number r → IsSoundRequest b (with_rows s rows) a slot number r
+IsSoundRequest-Grows b s rows a slot number r law = record {
+  slot_in = law.slot_in;
+  targets = law.targets;
+  since = law.since;
+  follows = law.follows;
+  rounds = law.rounds;
+}
+
+-- what is asked of a request that is announced next
+pub record IsNext (b : BookTerms) (s : BoardState) (a slot : ℕ) (r : Request) : Type 0 where
+  pub slot_in : slot < slots_of (account_of b a)
+  pub room : length (s.rows a slot) < b.request_room
+  pub targets : AreTargets b r.targets
+  pub since : r.since ≤ length s.published
+  pub follows : (before : ℕ) → before + 1 ≡ length (s.rows a slot) → is_settled a slot before (take r.since s.published) ≡ true
+
+IsSoundRequest-next : (b : BookTerms) (s : BoardState) (rows : Rows) (a slot : ℕ) (r : Request) → Sound b s → IsNext b s a slot r
+    → IsSoundRequest b (with_rows s rows) a slot (length (s.rows a slot)) r
+IsSoundRequest-next b s rows a slot r sound next = record {
+  slot_in = next.slot_in;
+  targets = next.targets;
+  since = next.since;
+  follows = next.follows;
+  rounds = (AreDecided-take b s r.since (HasRuns-Sound b s sound) next.since a).rounds_within;
+}
+
+-- a law of each request of the rows, for one more
+each_announced : (F : ℕ → ℕ → ℕ → Request → Type 0) (rows : Rows) (a slot : ℕ) (r : Request)
+    → ((c other i : ℕ) → i < length (rows c other) → F c other i (request_at (rows c other) i)) → F a slot (length (rows a slot)) r
+    → (c other i : ℕ) → i < length (announced_rows rows a slot r c other) → F c other i (request_at (announced_rows rows a slot r c other) i)
+each_announced F rows a slot r old new c other i within =
+    elim (slot_cases a slot c other) as (λ _. F c other i (request_at (announced_rows rows a slot r c other) i)) [
+      | inl same ↦
+          let inside : i < length (announced_rows rows a slot r a slot) =
+          subst (λ t. i < length (announced_rows rows a slot r a t)) same.1 (subst (λ t. i < length (announced_rows rows a slot r t other)) same.0 within) in
+          subst (λ t. F t other i (request_at (announced_rows rows a slot r t other) i)) (sym same.0)
+          (subst (λ t. F a t i (request_at (announced_rows rows a slot r a t) i)) (sym same.1) (here inside))
+      | inr apart ↦
+          let e = announced_rows-other rows a slot c other r apart in
+          subst (λ row. F c other i (request_at row i)) (sym e) (old c other i (subst (λ row. i < length row) e within))
+    ]
+  where
+    here : i < length (announced_rows rows a slot r a slot) → F a slot i (request_at (announced_rows rows a slot r a slot) i)
+    here inside =
+        let e = announced_rows-here rows a slot r in
+        let row = rows a slot in
+        let none : Request = record { targets = []; since = 0 } in
+        subst (λ t. F a slot i (request_at t i)) (sym e)
+        (elim (cases_lt i (length row)) as (λ _. F a slot i (request_at (row ++ r ∷ []) i)) [
+          | inl below ↦ subst (F a slot i) (sym (get_or_append_left row (r ∷ []) none i below)) (old a slot i below)
+          | inr above ↦
+              let at : length row ≡ i = omega (arith, inside, ap length e, length_push row r) in
+              subst (F a slot i) (sym (get_or_push row r none i at)) (subst (λ k. F a slot k r) at new)
+        ])
+
+pub Sound-announced : (b : BookTerms) (s : BoardState) (a slot : ℕ) (r : Request) → Sound b s → IsNext b s a slot r
+    → Sound b (with_rows s (announced_rows s.rows a slot r))
+Sound-announced b s a slot r sound next =
+    let rows = announced_rows s.rows a slot r in
+    let grows = Grows-announced s.rows a slot r in
+    record {
+      views = sound.views;
+      entries = λ m within.
+          let x : Publication = publication_at s.published m in
+          IsSoundEntry-Grows b s rows x.process (prefix_of x.view s.published) x.entry sound grows (sound.entries m within);
+      own_room = sound.own_room;
+      decisions = λ c k within. IsSoundDecision-Grows b s rows c k (decision_at (s.cells c) k) grows (sound.decisions c k within);
+      numbers = sound.numbers;
+      row_room = λ c other. elim (slot_cases a slot c other) as (λ _. length (rows c other) ≤ b.request_room) [
+        | inl same ↦
+            let here : length (rows a slot) ≤ b.request_room = omega (arith, ap length (announced_rows-here s.rows a slot r), length_push (s.rows a slot) r, next.room) in
+            subst (λ t. length (rows t other) ≤ b.request_room) (sym same.0) (subst (λ t. length (rows a t) ≤ b.request_room) (sym same.1) here)
+        | inr apart ↦ omega (arith, ap length (announced_rows-other s.rows a slot c other r apart), sound.row_room c other)
+      ];
+      requests = each_announced (IsSoundRequest b (with_rows s rows)) s.rows a slot r
+          (λ c other i within. IsSoundRequest-Grows b s rows c other i (request_at (s.rows c other) i) (sound.requests c other i within))
+          (IsSoundRequest-next b s rows a slot r sound next);
+      published = sound.published;
+      one_holder = sound.one_holder;
+      held_decided = sound.held_decided;
+    }

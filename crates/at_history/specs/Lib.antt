@@ -1,0 +1,10 @@
+pub mod Moves
+pub mod Histories
+pub mod Sound
+pub mod Rounds
+pub mod Entries
+pub mod BoardState
+pub mod Publications
+pub mod HeldCells
+pub mod Balances
+pub mod Fronts

@@ -1,0 +1,11 @@
+//! What owners of shared accounts ask for.
+
+use at_ledger::Targets;
+
+/// A pay-out that an owner of a shared account asks for. `since` is the place of the front that the owner looked at just before:
+/// how many publications the front counts.
+#[derive(Drop)]
+pub struct Request {
+    pub targets: Targets,
+    pub since: u32,
+}

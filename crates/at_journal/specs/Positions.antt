@@ -1,0 +1,70 @@
+-- Where the records of a closing stand in the order of its publications.
+use Rattle.std.specs.Prelude.{◌≡◌, ℕ, ◌<◌, ◌==◌, ◌++◌, List, [], ◌∷◌, length, map, filter, slice_index, slice_index_or, slice_set, All, ⊤, if◌then◌else◌, true}
+use Rattle.std.specs.List.{range_with_len}
+use Rattle.at_history.specs.BoardState.{publication_at}
+use Rattle.at_history.specs.Publications.{count_of}
+use Rattle.at_history.specs.Rounds.{rounds}
+use Rattle.at_history.specs.declared.publication.Entry.{Entry}
+use Rattle.at_history.specs.declared.publication.Entry.TheVariants.{Own, Round}
+use Rattle.at_history.specs.declared.publication.Publication.{Publication}
+use Rattle.at_log.specs.ClosingTerms.{ClosingTerms, log_of, log_published, receipts_of}
+use Rattle.at_log.specs.Receipts.{is_success}
+use Rattle.at_log.specs.Told.{first_account, own_position, round_position}
+use Rattle.at_log.specs.declared.receipt.At.{At}
+use Rattle.at_log.specs.declared.receipt.Receipt.{Receipt}
+use Rattle.at_journal.specs.declared.keyed.Keyed.{Keyed}
+
+-- a number with its key that no list holds
+abbrev pub no_keyed : Keyed
+no_keyed = record { key = 0; process = 0; number = 0 }
+
+-- the publications that these numbers name
+abbrev pub published_in : ClosingTerms → List Keyed → List Publication
+published_in c all = map (λ x. publication_at (log_published c x.process) x.number) all
+
+-- each is the number of a record
+abbrev pub AreRecords : ClosingTerms → List Keyed → Type 0
+AreRecords c all = All (λ x. x.process < length c.logs × x.number < length (log_of c x.process)) all
+
+-- each is the number of a receipt
+abbrev pub AreReceipts : ClosingTerms → List Keyed → Type 0
+AreReceipts c all = All (λ x. x.process < length c.receipts × x.number < length (receipts_of c x.process)) all
+
+-- where those of a process stand
+abbrev pub positions_of : ℕ → List Keyed → List ℕ
+positions_of process all = filter (λ m. (slice_index_or all m no_keyed).process == process) (range_with_len 0 (length all))
+
+-- a round's record is of one of so many accounts
+abbrev pub IsOnAccount : ℕ → Entry → Type 0
+IsOnAccount accounts (Own from targets) = ⊤
+IsOnAccount accounts (Round account round decision targets) = account < accounts
+
+-- the positions of the first records of rounds, account by account, with a record more
+abbrev pub with_position : ℕ → Entry → List (List ℕ) → List (List ℕ)
+with_position position (Own from targets) places = places
+with_position position (Round account round decision targets) places =
+    if length (slice_index_or places account []) == round
+    then slice_set places account (slice_index_or places account [] ++ position ∷ [])
+    else places
+
+-- for each account the positions in a list of the first records of those rounds that its prefix has
+pub record HasRoundPositions (accounts : ℕ) (prefix list : List Publication) (places : List (List ℕ)) : Type 0 where
+  pub sized : length places ≡ accounts
+  pub counted : (a : ℕ) → a < accounts → length (slice_index_or places a []) ≡ rounds a prefix
+  pub first : (a r : ℕ) → a < accounts → r < length (slice_index_or places a []) → slice_index (slice_index_or places a []) r ≡ round_position a r list
+
+-- the positions of the records of a process
+pub record HasOwnPositions (process : ℕ) (list : List Publication) (positions : List ℕ) : Type 0 where
+  pub counted : length positions ≡ count_of process list
+  pub own : (i : ℕ) → i < length positions → slice_index positions i ≡ own_position process i list
+
+-- what a receipt names is found in these positions
+pub record HasPlaces (process : ℕ) (list : List Publication) (own : List ℕ) (places : List (List ℕ)) (r : Receipt) : Type 0 where
+  pub own_at : (number : ℕ) → r.at ≡ At.Own number → number < length own × slice_index own number ≡ own_position process number list
+  pub own_within : (number : ℕ) → r.at ≡ At.Own number → own_position process number list < length list
+  pub account_in : (round place : ℕ) → r.at ≡ At.Round round place → is_success r.reply ≡ true → first_account r.call < length places
+  pub round_at : (round place : ℕ) → r.at ≡ At.Round round place → is_success r.reply ≡ true
+      → round < length (slice_index_or places (first_account r.call) [])
+      × slice_index (slice_index_or places (first_account r.call) []) round ≡ round_position (first_account r.call) round list
+  pub round_within : (round place : ℕ) → r.at ≡ At.Round round place → is_success r.reply ≡ true
+      → round_position (first_account r.call) round list < length list
