@@ -160,19 +160,19 @@ may_publish_moving b v w h i j k l four known history blank room owns front head
     }
 
 -- a published record leaves the seat between two records, where it gives up the cell that the seat held
-pub IsIdle-published : (board : BoardTerms) (v w u : SeatTerms) (q : Part) (x : Publication) → IsOf v board → length v.view.parts ≡ 1
-    → Stores v.view w.view q → held_after x q.held ≡ None → Publishes board.book w.view u.view x → u.board ≡ v.board → IsIdle board u
+pub IsIdle-published : (board : BoardTerms) (v w u : SeatTerms) (q : Part) (x : Publication) → IsOf v board → length v.knows.parts ≡ 1
+    → Stores v.knows w.knows q → held_after x q.held ≡ None → Publishes board.book w.knows u.knows x → u.board ≡ v.board → IsIdle board u
 IsIdle-published board v w u q x of_board one_part stored free told id =
-    let one : length w.view.parts ≡ 1 = stored.parts ∙ one_part in
-    let part : Part = with_record board.book (own_part w.view) x in
-    let own : own_part u.view ≡ part =
-    ap own_part told.same ∙ own_part-with_part (record w.view { seen = u.view.seen }) part (omega (arith, one)) in
+    let one : length w.knows.parts ≡ 1 = stored.parts ∙ one_part in
+    let part : Part = with_record board.book (own_part w.knows) x in
+    let own : own_part u.knows ≡ part =
+    ap own_part told.same ∙ own_part-with_part (record w.knows { seen = u.knows.seen }) part (omega (arith, one)) in
     record {
       of_board = record {
         id = id ∙ of_board.id;
         book = ap (λ (t : Knowledge). t.book) told.same ∙ (ap (λ (t : Knowledge). t.book) stored.same ∙ of_board.book);
       };
-      one_part = ap (λ (t : Knowledge). length t.parts) told.same ∙ (length-set w.view.parts 0 part ∙ one);
+      one_part = ap (λ (t : Knowledge). length t.parts) told.same ∙ (length-set w.knows.parts 0 part ∙ one);
       free = ap (λ (t : Part). t.held) own ∙ (ap (λ (t : Part). held_after x t.held) stored.part ∙ free);
       blank = ap (λ (t : Part). t.stored) own;
     }

@@ -56,8 +56,8 @@ pub record IsNewPlayer (board : BoardTerms) (seat : SeatTerms) : Type 0 where
 -- the seats of a new board's two processes
 pub record AreNewPair (board : BoardTerms) (s t : SeatTerms) : Type 0 where
   pub processes : board.book.processes ≡ 2
-  pub zero : s ≡ record { board = board.id; view = starting_seat board.book 0 }
-  pub one : t ≡ record { board = board.id; view = starting_seat board.book 1 }
+  pub zero : s ≡ record { board = board.id; knows = starting_seat board.book 0 }
+  pub one : t ≡ record { board = board.id; knows = starting_seat board.book 1 }
 
 -- a seat of the board between two records: it holds no cell, and nothing of the next record is stored
 pub record IsIdle (board : BoardTerms) (seat : SeatTerms) : Type 0 where

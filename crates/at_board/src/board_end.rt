@@ -1,10 +1,10 @@
 //! What a closed board leaves.
 
-ghost use Rattle.std.specs.Prelude.{◌≡◌, ◌<◌, [], length, slice_index, slice_index_or};
+ghost use Rattle.std.specs.Prelude.{◌≡◌, ◌<◌, length, [], slice_index, slice_index_or};
+ghost use Rattle.at_board.specs.Words.Addresses.{record_word, record_width, AreLogStarts};
 ghost use Rattle.at_board.specs.Ends.Closing.{records_of};
-ghost use Rattle.at_board.specs.Words.Addresses.{record_width};
 
-use crate::log_starts::record_index;
+use crate::addresses::{log_starts, record_index};
 use arrayvec::ArrayVec;
 use at_ledger::Book;
 use std::marker::Model;

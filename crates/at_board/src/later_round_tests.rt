@@ -63,7 +63,7 @@ fn ask_in<L: Ledger, X: Ledger>(
     ensures board { seat.new.board ≡ seat.old.board }
     ensures announced { Announces board.now.book seat.old.knows seat.new.knows 0 0 (payment_in round amount) }
 {
-    let _process = seat.process();
+    seat.known();
     board.store_request_word(seat, 0, 0, 1_099_511_627_777, steps, exchanges);
     board.store_request_word(seat, 0, 1, amount, steps, exchanges);
     board.store_request_word(seat, 0, 5, 2 * u64::from(round), steps, exchanges);
@@ -110,7 +110,7 @@ fn publish_in<L: Ledger, X: Ledger>(
     ensures board { seat.new.board ≡ seat.old.board }
     ensures published { Publishes board.now.book seat.old.knows seat.new.knows (record_in seat.old.knows.first round amount) }
 {
-    let _process = seat.process();
+    seat.known();
     let count = u64::from(round);
     let decision = 2 + 524_304 * count;
     board.store_record_word(seat, 0, 1 + 8_589_934_592 * count, steps, exchanges);

@@ -14,40 +14,42 @@
 //! `SeatTerms`, `SeatCounts`. How a board begins and ends: `Cuts`, `Ends`. `Plays` and `Meetings` tie the steps to the table.
 //! `Fresh` and `Forms` are for the crates above, `SmallBoard` for the tests.
 //!
-//! A line such as `let _process = seat.process();` does nothing when the program runs. The proof learns from it what the type keeps.
 #![tactic(auto)]
 
+mod addresses;
+mod announce;
 mod board;
 mod board_end;
+mod close;
+mod counter;
 mod crossing;
-mod dealing;
-mod ending;
+mod deal;
+mod decide;
+mod knowledge;
 #[cfg(test)]
 mod later_round_tests;
-mod log_starts;
-mod meeting;
+mod load_announced;
+mod load_length;
+mod load_record_word;
+mod load_request_word;
+mod meet;
 mod note;
-mod notes;
 mod plays;
+mod publish;
 #[cfg(test)]
 mod record_tests;
-mod records;
 #[cfg(test)]
 mod request_tests;
-mod requests;
 #[cfg(test)]
 mod round_tests;
-mod rounds;
 mod rule;
 mod seat;
-mod slots_before;
-mod counter;
+mod store_record_word;
+mod store_request_word;
 #[cfg(test)]
 mod stress_tests;
 #[cfg(test)]
 mod tests;
-mod knowledge;
-mod word_count;
 mod words;
 
 /// The answer of a call that found no memory.
@@ -55,10 +57,12 @@ pub type NoMemory = std::alloc::AllocError;
 
 pub use crate::board::Board;
 pub use crate::board_end::BoardEnd;
-pub use crate::ending::BoardRefused;
+pub use crate::close::BoardRefused;
+pub use crate::counter::Steps;
+pub use crate::knowledge::{
+    Asking, Knowledge, LoadedWord, Loads, Part, SeenDecision, SeenRequest, SeenRow,
+};
 pub use crate::note::BoardNote;
 pub use crate::seat::BoardSeat;
-pub use crate::counter::Steps;
-pub use crate::knowledge::{Asking, LoadedWord, Loads, Part, SeenDecision, SeenRequest, SeenRow, Knowledge};
 pub use crate::words::{RECORD_WORDS, REQUEST_WORDS, pack_targets, unpack_targets};
 pub use at_history::{Cell, Entry, Publication, Request};

@@ -47,8 +47,8 @@ fn pay<L: Ledger, X: Ledger>(
     ensures process { seat.new.knows.first ≡ seat.old.knows.first }
     ensures published { 0 < count_of seat.new.knows.first seat.new.knows.seen }
 {
-    let _accounts = board.book().accounts();
-    let _process = seat.process();
+    board.book().known();
+    seat.known();
     board.store_record_word(seat, 1, 1_099_511_627_777, steps, exchanges);
     board.store_record_word(seat, 3, 30, steps, exchanges);
     board.publish(seat, steps, exchanges);

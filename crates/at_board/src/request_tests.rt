@@ -88,8 +88,8 @@ pub(crate) fn ask<L: Ledger, X: Ledger>(
     ensures request { (slot : ℕ) → HasSlot board.now.book seat.old.knows.first 0 slot → SeesRequest seat.new.knows 0 slot 0 payment }
     ensures part { own_part seat.new.knows ≡ record (own_part seat.old.knows) { asking = (own_part seat.new.knows).asking } }
 {
-    let _accounts = board.book().accounts();
-    let _process = seat.process();
+    board.book().known();
+    seat.known();
     board.store_request_word(seat, 0, 0, 1 << 40, steps, exchanges);
     board.store_request_word(seat, 0, 1, 7, steps, exchanges);
     board.announce(seat, 0, steps, exchanges);

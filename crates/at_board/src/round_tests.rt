@@ -36,7 +36,7 @@ fn decide_first<L: Ledger, X: Ledger>(
     ensures board { seat.new.board ≡ seat.old.board }
     ensures decided { Decides board.now.book seat.old.knows seat.new.knows 0 0 (first_decision slot) result }
 {
-    let _accounts = board.book().accounts();
+    board.book().known();
     board.decide(seat, 0, 0, 2 + 2 * u64::from(slot), steps, exchanges)
 }
 
@@ -54,8 +54,8 @@ fn publish_round<L: Ledger, X: Ledger>(
     ensures idle { IsIdle board.now seat.new }
     ensures process { seat.new.knows.first ≡ seat.old.knows.first }
 {
-    let _accounts = board.book().accounts();
-    let _process = seat.process();
+    board.book().known();
+    seat.known();
     board.store_record_word(seat, 0, 1, steps, exchanges);
     board.store_record_word(seat, 1, 1 << 40, steps, exchanges);
     board.store_record_word(seat, 2, 2 + 2 * u64::from(slot), steps, exchanges);
@@ -81,7 +81,7 @@ pub(crate) fn settle<L: Ledger, X: Ledger>(
     ensures process { seat.new.knows.first ≡ seat.old.knows.first }
 {
     ask(board, seat, steps, exchanges);
-    let _process = seat.process();
+    seat.known();
     let word = decide_first(board, seat, slot, steps, exchanges);
     let _decision = unpack_decision(word);
     if word == 2 + 2 * u64::from(slot) {

@@ -36,15 +36,22 @@ impl BoardSeat {
 
     /// The process that the seat belongs to. The call makes no step. It tells a proof what the seat's type keeps.
     pub fn process(&self) -> u32
-        ensures process { result ≡ self.now.view.first }
-        ensures seat { IsSeat self.now.view result (own_part self.now.view).published }
+        ensures process { result ≡ self.now.knows.first }
+        ensures seat { IsSeat self.now.knows result (own_part self.now.knows).published }
     {
         self.process
     }
 
+    /// Tells a proof what the seat's type keeps between all steps. It makes no step, and does nothing when it runs.
+    pub fn known(&self)
+        ensures seat { IsSeat self.now.knows self.now.knows.first (own_part self.now.knows).published }
+    {
+        let _ = &self.process;
+    }
+
     /// How many records the process has published. The call makes no step.
     pub fn published(&self) -> u32
-        ensures { result ≡ (own_part self.now.view).published }
+        ensures { result ≡ (own_part self.now.knows).published }
     {
         self.published
     }
@@ -53,8 +60,8 @@ impl BoardSeat {
     pub(crate) fn into_seat(self) -> Seat<(), Knowledge>
         ensures table { result.table_id ≡ self.board }
         ensures empty { result.me.1 ≡ [] }
-        ensures view { result.me.0 ≡ self.view }
-        ensures one_part { length self.view.parts ≡ 1 }
+        ensures knows { result.me.0 ≡ self.knows }
+        ensures one_part { length self.knows.parts ≡ 1 }
     {
         let BoardSeat {
             seat,

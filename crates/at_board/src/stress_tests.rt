@@ -88,7 +88,7 @@ fn front<L: Ledger, X: Ledger>(
     ensures process { seat.new.knows.first ≡ seat.old.knows.first }
     ensures front { IfSome result (λ view. IsOwnFront board.now.book seat.new.knows view) }
 {
-    let _process = seat.process();
+    seat.known();
     let a = look(board, seat, 0, steps, exchanges);
     let b = look(board, seat, 1, steps, exchanges);
     let c = look(board, seat, 2, steps, exchanges);
@@ -118,7 +118,7 @@ fn move_nothing<L: Ledger, X: Ledger>(
     ensures idle { IsIdle board.now seat.new }
     ensures process { seat.new.knows.first ≡ seat.old.knows.first }
 {
-    let _accounts = board.book().accounts();
+    board.book().known();
     let head = 2 * (u64::from(seat.process()) + 1);
     board.store_record_word(seat, 0, head, steps, exchanges);
     board.store_record_word(seat, 1, 1 << 40, steps, exchanges);

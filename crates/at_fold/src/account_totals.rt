@@ -38,7 +38,7 @@ impl AccountTotals {
         requires { account < length book.now.accounts }
         ensures { IfOk result (λ a. a ≡ starting_row book.now account) }
     {
-        let _accounts = book.accounts();
+        book.known();
         let slot_count = slots_of(book, account);
         let rounds_room = slot_count * book.request_room();
         let is_counted = vec![in alloc; false; rounds_room as usize]?;

@@ -59,7 +59,7 @@ impl Totals {
         ensures steps { steps.new ≡ steps.old + 7 * (end - slice_index self.old.upto p) }
         ensures exchanges { exchanges.new ≡ exchanges.old }
     {
-        let _process = seat.process();
+        seat.known();
         let start = self.upto().get(p);
         for i in start..end {
             let entry = load_entry(board, seat, p, i, steps, exchanges);

@@ -127,8 +127,8 @@ fn pay<L: Ledger, X: Ledger>(
     ensures steps { steps.new ≡ steps.old + (board.now.book.processes + 8) }
     ensures exchanges { exchanges.new ≡ exchanges.old }
 {
-    let _accounts = board.book().accounts();
-    let _process = seat.process();
+    board.book().known();
+    seat.known();
     let record = Record {
         entry: Entry::Own { from: 0, targets },
         view: Counts::zeros(board.book().processes()),
@@ -194,8 +194,8 @@ fn catches_up<L: Ledger, X: Ledger>(
     ensures steps { steps.new ≡ steps.old + 7 }
     ensures exchanges { exchanges.new ≡ exchanges.old }
 {
-    let _accounts = board.book().accounts();
-    let _process = seat.process();
+    board.book().known();
+    seat.known();
     let mut counts = Counts::zeros(board.book().processes());
     counts.set(0, 1);
     totals.catch_up(board, seat, &counts, steps, exchanges);
@@ -311,7 +311,7 @@ fn counts_first(totals: &mut Totals, seat: &BoardSeat, entry: &Entry)
     ensures counted { HasCounted totals.new seat.now.knows.book seat.now.knows.seen }
     ensures upto { totals.new.upto ≡ slice_set totals.old.upto seat.now.knows.first 1 }
 {
-    let _process = seat.process();
+    seat.known();
     totals.count_own(seat, entry);
 }
 

@@ -59,6 +59,13 @@ impl Book {
         }
     }
 
+    /// Tells a proof what every book keeps. It does nothing when it runs.
+    pub fn known(&self)
+        ensures checked { IsBook self.now }
+    {
+        let _ = &self.processes;
+    }
+
     /// How many processes there are, at most 16.
     pub fn processes(&self) -> u32
         ensures { result ≡ self.now.processes }

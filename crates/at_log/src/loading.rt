@@ -32,8 +32,8 @@ pub fn load_entry<L: Ledger, X: Ledger>(
     ensures steps { steps.new ≡ steps.old + 7 }
     ensures exchanges { exchanges.new ≡ exchanges.old }
 {
-    let _accounts = board.book().accounts();
-    let _process = seat.process();
+    board.book().known();
+    seat.known();
     let mut words = [0u64; RECORD_WORDS as usize];
     for j in 0..RECORD_WORDS {
         words[j as usize] = board.load_record_word(seat, p, i, j, steps, exchanges);
@@ -58,8 +58,8 @@ pub fn load_view<L: Ledger, X: Ledger>(
     ensures steps { steps.new ≡ steps.old + board.now.book.processes }
     ensures exchanges { exchanges.new ≡ exchanges.old }
 {
-    let _accounts = board.book().accounts();
-    let _process = seat.process();
+    board.book().known();
+    seat.known();
     let processes = board.book().processes();
     let mut view = Counts::zeros(processes);
     for q in 0..processes {

@@ -40,8 +40,8 @@ pub fn append<L: Ledger, X: Ledger>(
     ensures steps { steps.new ≡ steps.old + (board.now.book.processes + 8) }
     ensures exchanges { exchanges.new ≡ exchanges.old }
 {
-    let _accounts = board.book().accounts();
-    let _process = seat.process();
+    board.book().known();
+    seat.known();
     let width = RECORD_WORDS + board.book().processes();
     for j in 0..width {
         board.store_record_word(seat, j, record_word(rec, j), steps, exchanges);

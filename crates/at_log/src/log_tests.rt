@@ -80,8 +80,8 @@ fn pay<L: Ledger, X: Ledger>(
     ensures steps { steps.new ≡ steps.old + (board.now.book.processes + 8) }
     ensures exchanges { exchanges.new ≡ exchanges.old }
 {
-    let _accounts = board.book().accounts();
-    let _process = seat.process();
+    board.book().known();
+    seat.known();
     let record = Record {
         entry: Entry::Own { from: 0, targets },
         view: Counts::zeros(board.book().processes()),

@@ -33,8 +33,8 @@ pub(crate) fn collect<L: Ledger, X: Ledger>(
     ensures steps { steps.new ≡ steps.old + board.now.book.processes }
     ensures exchanges { exchanges.new ≡ exchanges.old }
 {
-    let _process = seat.process();
-    let _accounts = board.book().accounts();
+    seat.known();
+    board.book().known();
     let n = board.book().processes();
     let mut counts = Counts::zeros(n);
     for p in 0..n {

@@ -52,7 +52,7 @@ impl Scan {
         ensures start { result ≡ starting_scan seat.now.knows }
         ensures scan { (b : BookTerms) → IsScanOf b result seat.now.knows }
     {
-        let _process = seat.process();
+        seat.known();
         Scan {
             collects: None,
             start: Snapshot::of(seat),
@@ -80,7 +80,7 @@ impl Scan {
         ensures steps { steps.new ≡ steps.old + board.now.book.processes + view_steps board.now.book.processes result }
         ensures exchanges { exchanges.new ≡ exchanges.old }
     {
-        let _process = seat.process();
+        seat.known();
         let now = collect(board, seat, steps, exchanges);
         match self.keep(&now, seat) {
             None => Turn::Again,

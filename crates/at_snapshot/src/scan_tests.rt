@@ -121,8 +121,8 @@ fn pay<L: Ledger, X: Ledger>(
     ensures process { seat.new.knows.first ≡ seat.old.knows.first }
     ensures paid { HasPaid seat.new.knows }
 {
-    let _accounts = board.book().accounts();
-    let _process = seat.process();
+    board.book().known();
+    seat.known();
     let record = paid(Counts::zeros(board.book().processes()));
     append(board, seat, &record, steps, exchanges);
 }
@@ -139,7 +139,7 @@ fn pay_again<L: Ledger, X: Ledger>(
     requires paid { HasPaid seat.old.knows }
     requires pays { MayPayTwice board.now.book 1 }
 {
-    let _process = seat.process();
+    seat.known();
     let view = snapshot(board, seat, steps, exchanges);
     if !counts_the_first(&view) {
         return false;

@@ -26,7 +26,7 @@ pub fn snapshot<L: Ledger, X: Ledger>(
     ensures steps { steps.new ≤ steps.old + snapshot_steps board.now.book.processes }
     ensures exchanges { exchanges.new ≡ exchanges.old }
 {
-    let _process = seat.process();
+    seat.known();
     let mut scan = Scan::start(seat);
     loop {
         match scan.turn(board, seat, steps, exchanges) {

@@ -43,14 +43,14 @@ HasAll-right : {X : Type 0} (xs ys zs : List X) → HasAll ys zs → HasAll (xs 
 HasAll-right xs ys zs has k z within = Contains-append_right xs ys (get_or zs k z) (has k z within)
 
 -- a seat's view has all that it has seen
-HasAll-first : {X : Type 0} (of_view : Knowledge → List X) (seat : SeatTerms) → All (λ s. HasAll (of_view seat.knows) (of_view s.view)) (seat ∷ [])
+HasAll-first : {X : Type 0} (of_view : Knowledge → List X) (seat : SeatTerms) → All (λ s. HasAll (of_view seat.knows) (of_view s.knows)) (seat ∷ [])
 HasAll-first of_view seat =
-    let P : SeatTerms → Type 0 = λ s. HasAll (of_view seat.knows) (of_view s.view) in
+    let P : SeatTerms → Type 0 = λ s. HasAll (of_view seat.knows) (of_view s.knows) in
     All-cons P seat [] (HasAll-refl (of_view seat.knows)) (All-nil P)
 
 -- of what each seat has seen a view has all, and of what one more seat has seen
 HasAll-push : {X : Type 0} (of_view : Knowledge → List X) (seats : List SeatTerms) (x : SeatTerms) (before after : List X)
-    → All (λ seat. HasAll before (of_view seat.knows)) seats → ((zs : List X) → HasAll before zs → HasAll after zs) → HasAll after (of_view x.view)
+    → All (λ seat. HasAll before (of_view seat.knows)) seats → ((zs : List X) → HasAll before zs → HasAll after zs) → HasAll after (of_view x.knows)
     → All (λ seat. HasAll after (of_view seat.knows)) (seats ++ x ∷ [])
 HasAll-push of_view seats x before after old more new =
     let P : SeatTerms → Type 0 = λ seat. HasAll after (of_view seat.knows) in
@@ -63,39 +63,39 @@ Gathers-first board seat is one =
       first = is.process;
       parts = one;
       own = λ k d within. let at : 0 ≡ k = omega (arith, within) in
-          subst (λ n. part_at seat.knows n ≡ own_part (get_or (seat ∷ []) n d).view) at refl;
+          subst (λ n. part_at seat.knows n ≡ own_part (get_or (seat ∷ []) n d).knows) at refl;
       free = λ k within. let at : 0 ≡ k = omega (arith, within, one) in subst (λ n. (part_at seat.knows n).held ≡ None) at is.free;
-      seen = All-cons (λ s. IsPrefix s.view.seen seat.knows.seen) seat [] (IsPrefix-refl seat.knows.seen) (All-nil (λ s. IsPrefix s.view.seen seat.knows.seen));
+      seen = All-cons (λ s. IsPrefix s.knows.seen seat.knows.seen) seat [] (IsPrefix-refl seat.knows.seen) (All-nil (λ s. IsPrefix s.knows.seen seat.knows.seen));
       requests = HasAll-first (λ v. v.requests) seat;
       decisions = HasAll-first (λ v. v.decisions) seat;
     }
 
 -- the next seat stands for the process after those that were gathered
 pub next_seat : (board : BoardTerms) (seats : List SeatTerms) (v : Knowledge) (x : SeatTerms) → Gathers seats v → IsFreeSeat board (length seats) x
-    → x.view.first ≡ v.first + length v.parts
+    → x.knows.first ≡ v.first + length v.parts
 next_seat board seats v x gathers is = omega (arith, is.process, gathers.first, gathers.parts)
 
 pub Gathers-more : (board : BoardTerms) (seats : List SeatTerms) (v : Knowledge) (x : SeatTerms) → Gathers seats v → IsFreeSeat board (length seats) x
-    → length x.view.parts ≡ 1 → IsPrefix v.seen (gathered v x.view).seen → IsPrefix x.view.seen (gathered v x.view).seen
-    → Gathers (seats ++ x ∷ []) (gathered v x.view)
+    → length x.knows.parts ≡ 1 → IsPrefix v.seen (gathered v x.knows).seen → IsPrefix x.knows.seen (gathered v x.knows).seen
+    → Gathers (seats ++ x ∷ []) (gathered v x.knows)
 Gathers-more board seats v x gathers is one mine theirs =
-    let w : Knowledge = x.view in
+    let w : Knowledge = x.knows in
     let u : Knowledge = gathered v w in
-    let P : SeatTerms → Type 0 = λ s. IsPrefix s.view.seen u.seen in
+    let P : SeatTerms → Type 0 = λ s. IsPrefix s.knows.seen u.seen in
     record {
       first = gathers.first;
       parts = omega (arith, length-append v.parts w.parts, gathers.parts, one, length_push seats x);
-      own = λ k d within. elim (cases_lt k (length seats)) as (λ _. get_or (v.parts ++ w.parts) k no_part ≡ own_part (get_or (seats ++ x ∷ []) k d).view) [
+      own = λ k d within. elim (cases_lt k (length seats)) as (λ _. get_or (v.parts ++ w.parts) k no_part ≡ own_part (get_or (seats ++ x ∷ []) k d).knows) [
         | inl below ↦
             get_or_append_left v.parts w.parts no_part k (omega (arith, below, gathers.parts))
-            ∙ (gathers.own k d below ∙ sym (ap (λ (t : SeatTerms). own_part t.view) (get_or_append_left seats (x ∷ []) d k below)))
+            ∙ (gathers.own k d below ∙ sym (ap (λ (t : SeatTerms). own_part t.knows) (get_or_append_left seats (x ∷ []) d k below)))
         | inr above ↦
             let at : k ≡ length seats = omega (arith, above, within, length_push seats x) in
             let mine : get_or (v.parts ++ w.parts) k no_part ≡ part_at w (k - length v.parts) =
             get_or-append_right v.parts w.parts (length v.parts) k no_part refl (omega (arith, gathers.parts, above)) in
             let first : k - length v.parts ≡ 0 = omega (arith, gathers.parts, at) in
             let last : get_or (seats ++ x ∷ []) k d ≡ x = ap (λ n. get_or (seats ++ x ∷ []) n d) at ∙ get_or-append_seam seats x [] d in
-            mine ∙ (ap (part_at w) first ∙ sym (ap (λ (t : SeatTerms). own_part t.view) last))
+            mine ∙ (ap (part_at w) first ∙ sym (ap (λ (t : SeatTerms). own_part t.knows) last))
       ];
       free = λ k within. elim (cases_lt k (length v.parts)) as (λ _. (get_or (v.parts ++ w.parts) k no_part).held ≡ None) [
         | inl below ↦ subst (λ q. q.held ≡ None) (sym (get_or_append_left v.parts w.parts no_part k below)) (gathers.free k below)

@@ -58,7 +58,7 @@ store_request_word-requires-clause-asks g c =
 pub store_request_word-requires-2-clause-asks : goal.store_request_word-requires-2-clause-asks
 store_request_word-requires-2-clause-asks g c = (
   0,
-  may_after_one c.args.board.now.book c.args.seat.now.knows c.store_request_word.new.seat.knows c.args.round c.requires.board.book (HasOwnPart-IsSeat c.process-process.ensures.seat)
+  may_after_one c.args.board.now.book c.args.seat.now.knows c.store_request_word.new.seat.knows c.args.round c.requires.board.book (HasOwnPart-IsSeat c.known.ensures.seat)
       c.requires.owners c.requires.process c.requires.asks c.store_request_word.ensures.stored,
 )
 
@@ -66,7 +66,7 @@ pub store_request_word-requires-3-clause-asks : goal.store_request_word-requires
 store_request_word-requires-3-clause-asks g c = (
   0,
   may_after_two c.args.board.now.book c.args.seat.now.knows c.store_request_word.new.seat.knows c.store_request_word-2.new.seat.knows c.args.round c.args.amount
-      c.requires.board.book (HasOwnPart-IsSeat c.process-process.ensures.seat) c.requires.owners c.requires.process c.requires.asks c.store_request_word.ensures.stored
+      c.requires.board.book (HasOwnPart-IsSeat c.known.ensures.seat) c.requires.owners c.requires.process c.requires.asks c.store_request_word.ensures.stored
       c.store_request_word-2.ensures.stored,
 )
 
@@ -75,7 +75,7 @@ announce-requires-clause-request g c = (
   0,
   payment_in c.args.round c.args.amount,
   may_announce c.args.board.now.book c.args.seat.now.knows c.store_request_word.new.seat.knows c.store_request_word-2.new.seat.knows
-      c.store_request_word-3.new.seat.knows c.args.round c.args.amount (2 * c.from.result) c.requires.board.book (HasOwnPart-IsSeat c.process-process.ensures.seat) c.requires.owners
+      c.store_request_word-3.new.seat.knows c.args.round c.args.amount (2 * c.from.result) c.requires.board.book (HasOwnPart-IsSeat c.known.ensures.seat) c.requires.owners
       c.requires.process c.requires.asks (ap (λ n. 2 * n) c.from.ensures) c.store_request_word.ensures.stored c.store_request_word-2.ensures.stored
       c.store_request_word-3.ensures.stored,
 )
@@ -89,7 +89,7 @@ returns-clause-announced g c =
     let three : Knowledge = c.store_request_word-3.new.seat.knows in
     let m = c.args.amount in
     let s = 2 * c.from.result in
-    let has = HasOwnPart-IsSeat c.process-process.ensures.seat in
+    let has = HasOwnPart-IsSeat c.known.ensures.seat in
     let s1 = c.store_request_word.ensures.stored in
     let s2 = c.store_request_word-2.ensures.stored in
     let s3 = c.store_request_word-3.ensures.stored in

@@ -19,7 +19,7 @@ stored g c =
     Stores-round c.args.seat.now.knows c.store_record_word.new.seat.knows c.store_record_word-2.new.seat.knows c.store_record_word-3.new.seat.knows
     c.store_record_word-4.new.seat.knows c.store_record_word-5.new.seat.knows c.store_record_word-6.new.seat.knows
     (1 + 8589934592 * c.from-count.result) (2 + 524304 * c.from-count.result) c.args.amount c.from-count.result
-    c.process-process.ensures.seat.one_part c.store_record_word.ensures.stored c.store_record_word-2.ensures.stored c.store_record_word-3.ensures.stored
+    c.known.ensures.seat.one_part c.store_record_word.ensures.stored c.store_record_word-2.ensures.stored c.store_record_word-3.ensures.stored
     c.store_record_word-4.ensures.stored c.store_record_word-5.ensures.stored c.store_record_word-6.ensures.stored
 
 may : (g : given.Over) (c : After-store_record_word-6 g)
@@ -38,4 +38,4 @@ returns-clause-published g c =
     let before : After-store_record_word-6 g = (goal.at.returns-clause-published g c).After-store_record_word-6 in
     let x = record_in c.args.seat.now.knows.first c.args.round c.args.amount in
     Publishes-Stores c.args.board.now.book c.args.seat.now.knows c.store_record_word-6.new.seat.knows c.publish.new.seat.knows (part_with g before) x
-    c.process-process.ensures.seat.one_part (stored g before) refl (c.publish.ensures.published x (may g before))
+    c.known.ensures.seat.one_part (stored g before) refl (c.publish.ensures.published x (may g before))

@@ -60,14 +60,14 @@ stored : (g : given.Over) (c : After-store_record_word-2 g) → Stores c.args.se
 stored g c =
     let v : Knowledge = c.args.seat.now.knows in
     let one : Knowledge = c.store_record_word.new.seat.knows in
-    let part = c.process-process.ensures.seat.one_part in
+    let part = c.known-2.ensures.seat.one_part in
     Stores-more v one c.store_record_word-2.new.seat.knows (with_word (own_part v) 1 1099511627777) 3 30 part
     (Stores-more v v one (own_part v) 1 1099511627777 part (Stores-none v) c.store_record_word.ensures.stored) c.store_record_word-2.ensures.stored
 
 may : (g : given.Over) (c : After-store_record_word-2 g) → MayPublish c.args.board.now.book c.store_record_word-2.new.seat.knows (payment c.args.board.now.book.processes c.args.seat.now.knows.first)
 may g c =
-    may_publish c.args.board.now.book c.args.seat.now.knows c.store_record_word-2.new.seat.knows (subst IsBook c.book.ensures c.accounts-accounts.ensures.checked)
-    c.requires.new (omega (arith, c.process-process.ensures.seat.known, ap (λ (t : Knowledge). t.book.processes) c.requires.new)) c.requires.pays (stored g c)
+    may_publish c.args.board.now.book c.args.seat.now.knows c.store_record_word-2.new.seat.knows (subst IsBook c.book.ensures c.known.ensures.checked)
+    c.requires.new (omega (arith, c.known-2.ensures.seat.known, ap (λ (t : Knowledge). t.book.processes) c.requires.new)) c.requires.pays (stored g c)
 
 pub publish-requires-clause-record : goal.publish-requires-clause-record
 publish-requires-clause-record g c = (payment c.args.board.now.book.processes c.args.seat.now.knows.first, may g (goal.at.publish-requires-clause-record g c).After-store_record_word-2)
@@ -78,7 +78,7 @@ returns-clause-idle g c =
     let v : Knowledge = c.args.seat.now.knows in
     let x = payment c.args.board.now.book.processes v.first in
     IsIdle-published c.args.board.now c.args.seat.now c.store_record_word-2.new.seat c.publish.new.seat (with_two (own_part v)) x
-    (record { id = c.requires.board; book = ap (λ (t : Knowledge). t.book) c.requires.new }) c.process-process.ensures.seat.one_part (stored g before)
+    (record { id = c.requires.board; book = ap (λ (t : Knowledge). t.book) c.requires.new }) c.known-2.ensures.seat.one_part (stored g before)
     (ap (λ (t : Knowledge). held_after x (own_part t).held) c.requires.new) (c.publish.ensures.published x (may g before))
     (c.publish.ensures.board ∙ (c.store_record_word-2.ensures.board ∙ c.store_record_word.ensures.board))
 

@@ -93,7 +93,7 @@ part-after u v w first second = second ∙ ap (λ (p : Part). record p { asking 
 may : (g : given.Over) (c : After-store_request_word-2 g) → MayAnnounce c.args.board.now.book c.store_request_word-2.new.seat.knows 0 c.requires.slot.0 payment
 may g c =
     asked c.args.board.now.book c.args.seat.now.knows c.store_request_word.new.seat.knows c.store_request_word-2.new.seat.knows c.requires.slot.0
-    (subst IsBook c.book.ensures c.accounts-accounts.ensures.checked) c.requires.new (HasOwnPart-IsSeat c.process-process.ensures.seat) c.requires.slot.1
+    (subst IsBook c.book.ensures c.known.ensures.checked) c.requires.new (HasOwnPart-IsSeat c.known-2.ensures.seat) c.requires.slot.1
     c.store_request_word.ensures.stored c.store_request_word-2.ensures.stored
 
 pub announce-requires-clause-request : goal.announce-requires-clause-request
@@ -122,10 +122,10 @@ returns-clause-request g c = λ slot has.
     let v : Knowledge = c.args.seat.now.knows in
     let one : Knowledge = c.store_request_word.new.seat.knows in
     let two : Knowledge = c.store_request_word-2.new.seat.knows in
-    let book : IsBook b = subst IsBook c.book.ensures c.accounts-accounts.ensures.checked in
+    let book : IsBook b = subst IsBook c.book.ensures c.known.ensures.checked in
     let first = c.store_request_word.ensures.stored in
     let second = c.store_request_word-2.ensures.stored in
-    let part = HasOwnPart-IsSeat c.process-process.ensures.seat in
+    let part = HasOwnPart-IsSeat c.known-2.ensures.seat in
     sees_payment b two c.announce.new.seat.knows slot (ap (λ (w : Asking). length w.announced) (stored_asking b v one two slot c.requires.new part has first second))
     (c.announce.ensures.announced slot payment (asked b v one two slot book c.requires.new part has first second))
 
@@ -138,7 +138,7 @@ returns-clause-part g c =
     let last : Knowledge = c.announce.new.seat.knows in
     let first = c.store_request_word.ensures.stored in
     let second = c.store_request_word-2.ensures.stored in
-    let part = HasOwnPart-IsSeat c.process-process.ensures.seat in
+    let part = HasOwnPart-IsSeat c.known-2.ensures.seat in
     let slot = c.requires.slot.0 in
     let told = c.announce.ensures.announced slot payment (may g before) in
     let one_part = HasOwnPart-StoresRequestWord v one 0 0 (2 ^ 40) part first in

@@ -32,7 +32,7 @@ may_propose b v own slot book has small sees covered free =
 pub decide-requires-clause-proposal : goal.decide-requires-clause-proposal
 decide-requires-clause-proposal g c =
     let b : BookTerms = c.args.board.now.book in
-    let book : IsBook b = subst IsBook c.book.ensures c.accounts-accounts.ensures.checked in (
+    let book : IsBook b = subst IsBook c.book.ensures c.known.ensures.checked in (
       first_decision c.args.slot,
       payment,
       may_propose b c.args.seat.now.knows c.requires.owner.0 c.args.slot book c.requires.owner.1 c.requires.slot c.requires.request c.requires.covered c.requires.free,
@@ -42,7 +42,7 @@ decide-requires-clause-proposal g c =
 pub returns-clause-decided : goal.returns-clause-decided
 returns-clause-decided g c =
     let b : BookTerms = c.args.board.now.book in
-    let book : IsBook b = subst IsBook c.book.ensures c.accounts-accounts.ensures.checked in
+    let book : IsBook b = subst IsBook c.book.ensures c.known.ensures.checked in
     c.decide.ensures.decided (first_decision c.args.slot) payment
     (may_propose b c.args.seat.now.knows c.requires.owner.0 c.args.slot book c.requires.owner.1 c.requires.slot c.requires.request c.requires.covered c.requires.free)
     (omega arith)

@@ -16,14 +16,14 @@ stored : (g : given.Over) (c : After-store_record_word-4 g)
     → Stores c.args.seat.now.knows c.store_record_word-4.new.seat.knows (with_four (own_part c.args.seat.now.knows) (2 + 2 * c.from.result))
 stored g c =
     Stores-four c.args.seat.now.knows c.store_record_word.new.seat.knows c.store_record_word-2.new.seat.knows c.store_record_word-3.new.seat.knows
-    c.store_record_word-4.new.seat.knows (2 + 2 * c.from.result) c.process-process.ensures.seat.one_part c.store_record_word.ensures.stored
+    c.store_record_word-4.new.seat.knows (2 + 2 * c.from.result) c.known-2.ensures.seat.one_part c.store_record_word.ensures.stored
     c.store_record_word-2.ensures.stored c.store_record_word-3.ensures.stored c.store_record_word-4.ensures.stored
 
 may : (g : given.Over) (c : After-store_record_word-4 g)
     → MayPublish c.args.board.now.book c.store_record_word-4.new.seat.knows (round_record c.args.board.now.book.processes c.args.seat.now.knows.first c.args.slot)
 may g c =
     may_publish_round c.args.board.now.book c.args.seat.now.knows c.store_record_word-4.new.seat.knows c.args.slot (2 + 2 * c.from.result)
-    (omega (arith, c.process-process.ensures.seat.known, ap (λ (t : BookTerms). t.processes) c.requires.board.book))
+    (omega (arith, c.known-2.ensures.seat.known, ap (λ (t : BookTerms). t.processes) c.requires.board.book))
     c.requires.slot c.requires.won (omega (arith, c.from.ensures)) (stored g c)
 
 pub publish-requires-clause-record : goal.publish-requires-clause-record
@@ -44,7 +44,7 @@ returns-clause-idle g c =
     let n = c.args.board.now.book.processes in
     let x = round_record n v.first c.args.slot in
     IsIdle-published c.args.board.now c.args.seat.now c.store_record_word-4.new.seat c.publish.new.seat (with_four (own_part v) (2 + 2 * c.from.result)) x
-    c.requires.board c.process-process.ensures.seat.one_part (stored g before) (gives_up_cell c.args.board.now.book v n v.first c.args.slot c.requires.won)
+    c.requires.board c.known-2.ensures.seat.one_part (stored g before) (gives_up_cell c.args.board.now.book v n v.first c.args.slot c.requires.won)
     (c.publish.ensures.published x (may g before))
     (c.publish.ensures.board ∙ (c.store_record_word-4.ensures.board ∙ (c.store_record_word-3.ensures.board
     ∙ (c.store_record_word-2.ensures.board ∙ c.store_record_word.ensures.board))))

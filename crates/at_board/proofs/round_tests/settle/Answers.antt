@@ -69,5 +69,5 @@ publish_round-requires-clause-won g c =
     let word : word_of d ≡ c.decide_first-word.result = omega (arith, c.from.ensures, c.if-word-from.true) in
     let same : told.decision ≡ d = ap found (sym (c.unpack_decision-decision.ensures.exact told.decision told.range (sym told.word))
     ∙ c.unpack_decision-decision.ensures.exact d mine word) in
-    has_won b v u c.decide_first-word.new.seat.knows slot c.decide_first-word.result c.requires.new c.ask.ensures.part c.process-process.ensures.seat.one_part
+    has_won b v u c.decide_first-word.new.seat.knows slot c.decide_first-word.result c.requires.new c.ask.ensures.part c.known.ensures.seat.one_part
     (c.ask.ensures.request slot c.requires.slot) told same

@@ -85,7 +85,7 @@ returns-clause-front g c =
     let first3 : v3.first ≡ c.args.seat.now.knows.first = ap (λ (t : Knowledge). t.first) c.look-c.ensures.told.same
     ∙ (ap (λ (t : Knowledge). t.first) c.look-b.ensures.told.same ∙ ap (λ (t : Knowledge). t.first) c.look-a.ensures.told.same) in
     let known : v3.first < b.processes =
-    omega (arith, first3, c.process-process.ensures.seat.known, ap (λ (t : BookTerms). t.processes) c.requires.idle.of_board.book) in
+    omega (arith, first3, c.known.ensures.seat.known, ap (λ (t : BookTerms). t.processes) c.requires.idle.of_board.book) in
     subst (IsOwnFront b v7) (sym c.counts_of.ensures)
     (is_own_front b c.args.seat.now.knows c.look-a.new.seat.knows c.look-b.new.seat.knows v3 v4 v5 v6 v7 i j k c.look-d.result c.requires.four known
     c.look-c.ensures.idle.one_part c.look-d.ensures.idle.one_part c.look-a_again.ensures.idle.one_part c.look-b_again.ensures.idle.one_part

@@ -45,7 +45,7 @@ returns-clause-all g c =
     let upto = all_seen b old.view.seen c.set.new.self c.requires.counted.book c.requires.one
     (handed_in b c.zeros-counts.result c.set.new.self c.processes.result c.set.ensures c.zeros-counts.ensures known) in
     let history : IsHistory b old.view.seen =
-    subst (λ (t : BookTerms). IsHistory t old.view.seen) c.requires.board.book c.process-process.ensures.seat.history in
+    subst (λ (t : BookTerms). IsHistory t old.view.seen) c.requires.board.book c.known-2.ensures.seat.history in
     let counted : HasCounted t b old.view.seen = subst (λ (s : SeatTerms). HasCounted t b s.view.seen) same c.catch_up.ensures.counted in
     subst (λ (s : SeatTerms). CountsAll t b s.view.seen) (sym same) (CountsAll-counts t b old.view.seen history counted (c.catch_up.ensures.upto ∙ upto))
 

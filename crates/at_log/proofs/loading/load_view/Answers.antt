@@ -10,10 +10,10 @@ use Rattle.at_log.proofs.loading.load_view.Goals.{After-load_record_word-count, 
 use Rattle.at_log.proofs.loading.load_view.Goals as goal
 
 book : (g : given.Over) (c : After-processes-processes g) → IsBook c.args.board.now.book
-book g c = subst IsBook c.book.ensures c.accounts-accounts.ensures.checked
+book g c = subst IsBook c.book.ensures c.known.ensures.checked
 
 history : (g : given.Over) (c : After-processes-processes g) → IsHistory c.args.board.now.book c.args.seat.now.knows.seen
-history g c = subst (λ t. IsHistory t c.args.seat.now.knows.seen) c.requires.board.book c.process-process.ensures.seat.history
+history g c = subst (λ t. IsHistory t c.args.seat.now.knows.seen) c.requires.board.book c.known-2.ensures.seat.history
 
 count : (g : given.Over) (c : After-processes-processes g) → c.processes-processes.result ≡ c.args.board.now.book.processes
 count g c = c.processes-processes.ensures ∙ ap (λ (t : BookTerms). t.processes) c.book-2.ensures

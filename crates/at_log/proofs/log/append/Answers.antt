@@ -23,9 +23,9 @@ pub record_word-requires-clause-entry : goal.record_word-requires-clause-entry
 record_word-requires-clause-entry g c =
     let b : BookTerms = c.args.board.now.book in
     let v : Knowledge = c.args.seat.now.knows in
-    let book : IsBook b = subst IsBook c.book.ensures c.accounts-accounts.ensures.checked in
+    let book : IsBook b = subst IsBook c.book.ensures c.known.ensures.checked in
     IsForm-MayAppend b v c.args.rec.now book.begun c.requires.board.book
-    (subst (λ t. IsHistory t v.seen) c.requires.board.book c.process-process.ensures.seat.history) c.process-process.ensures.seat.in_range
+    (subst (λ t. IsHistory t v.seen) c.requires.board.book c.known-2.ensures.seat.history) c.known-2.ensures.seat.in_range
     c.requires.record
 
 pub record_word-requires-clause-word : goal.record_word-requires-clause-word
@@ -42,16 +42,16 @@ pub store_record_word-requires-clause-word : goal.store_record_word-requires-cla
 store_record_word-requires-clause-word g c =
     let b : BookTerms = c.args.board.now.book in
     let v : Knowledge = c.args.seat.now.knows in
-    let told = c.process-process.ensures in
+    let told = c.known-2.ensures in
     let count = processes g (goal.at.store_record_word-requires-clause-word g c).After-processes-width in
-    let room = published-MayAppend b v c.args.rec.now c.process-process.result (own_part v).published c.requires.board.book told.seat c.requires.record in
+    let room = published-MayAppend b v c.args.rec.now c.known-2.result (own_part v).published c.requires.board.book told.seat c.requires.record in
     MayStoreWord-IsStoring b v c.loop-j.seat.knows (record_words (published_by v.first c.args.rec.now)) c.loop-j.j c.loop-j.j (omega (arith, told.seat.one_part)) room
     c.loop-j.invariant.storing (omega (arith, c.loop-j-test.true, count))
 
 pub loop-j-preserved : goal.loop-j-preserved
 loop-j-preserved g c =
     let v : Knowledge = c.args.seat.now.knows in
-    let seat = c.process-process.ensures.seat in
+    let seat = c.known-2.ensures.seat in
     let count = processes g (goal.at.loop-j-preserved g c).After-processes-width in
     let inside : c.loop-j.j < length (own_part v).stored = omega (arith, c.loop-j-test.true, count, seat.words, ap record_width c.requires.board.book) in
     record {
@@ -68,8 +68,8 @@ publish-requires-clause-record g c =
     let v : Knowledge = c.args.seat.now.knows in
     let count = processes g (goal.at.publish-requires-clause-record g c).After-processes-width in (
       published_by v.first c.args.rec.now,
-      MayPublish-IsStoring c.args.board.now.book v c.loop-j.seat.knows c.args.rec.now c.loop-j.j c.requires.board.book c.process-process.result
-          (own_part v).published c.process-process.ensures.seat c.requires.record c.loop-j.invariant.storing (omega (arith, c.loop-j-test.false, c.loop-j.auto.j-end, count)),
+      MayPublish-IsStoring c.args.board.now.book v c.loop-j.seat.knows c.args.rec.now c.loop-j.j c.requires.board.book c.known-2.result
+          (own_part v).published c.known-2.ensures.seat c.requires.record c.loop-j.invariant.storing (omega (arith, c.loop-j-test.false, c.loop-j.auto.j-end, count)),
     )
 
 pub returns-clause-published : goal.returns-clause-published
@@ -77,9 +77,9 @@ returns-clause-published g c =
     let b : BookTerms = c.args.board.now.book in
     let v : Knowledge = c.args.seat.now.knows in
     let x : Record = c.args.rec.now in
-    let seat = c.process-process.ensures.seat in
+    let seat = c.known-2.ensures.seat in
     let count = processes g (goal.at.returns-clause-published g c).After-processes-width in
-    let may = MayPublish-IsStoring b v c.loop-j.seat.knows x c.loop-j.j c.requires.board.book c.process-process.result (own_part v).published seat c.requires.record c.loop-j.invariant.storing
+    let may = MayPublish-IsStoring b v c.loop-j.seat.knows x c.loop-j.j c.requires.board.book c.known-2.result (own_part v).published seat c.requires.record c.loop-j.invariant.storing
     (omega (arith, c.loop-j-test.false, c.loop-j.auto.j-end, count)) in
     Publishes-IsStoring b v c.loop-j.seat.knows c.publish.new.seat.knows (published_by v.first x) (record_words (published_by v.first x)) c.loop-j.j
     (omega (arith, seat.one_part)) c.loop-j.invariant.storing (c.publish.ensures.published (published_by v.first x) may)
@@ -87,5 +87,5 @@ returns-clause-published g c =
 pub returns-clause-last : goal.returns-clause-last
 returns-clause-last g c =
     let v : Knowledge = c.args.seat.now.knows in
-    IsLast-Publishes c.args.board.now.book v c.publish.new.seat.knows (published_by v.first c.args.rec.now) (omega (arith, c.process-process.ensures.seat.one_part)) refl
+    IsLast-Publishes c.args.board.now.book v c.publish.new.seat.knows (published_by v.first c.args.rec.now) (omega (arith, c.known-2.ensures.seat.one_part)) refl
     (returns-clause-published g c)

@@ -46,8 +46,8 @@ pub append-requires-clause-record : goal.append-requires-clause-record
 append-requires-clause-record g c =
     let b : BookTerms = c.args.board.now.book in
     let v : Knowledge = c.args.seat.now.knows in
-    let book : IsBook b = subst IsBook c.book.ensures c.accounts-accounts.ensures.checked in
+    let book : IsBook b = subst IsBook c.book.ensures c.known.ensures.checked in
     let ours : v.book ≡ b = ap (λ (t : Knowledge). t.book) c.requires.new in
     may_append b v c.zeros.result c.args.targets book c.requires.new
-    (subst (λ (t : BookTerms). v.first < t.processes) ours c.process-process.ensures.seat.known)
+    (subst (λ (t : BookTerms). v.first < t.processes) ours c.known-2.ensures.seat.known)
     (c.zeros.ensures ∙ ap (λ n. replicate n 0) (c.processes.ensures ∙ ap (λ (t : BookTerms). t.processes) c.book-2.ensures)) c.requires.pays

@@ -70,7 +70,7 @@ append-requires-clause-record g c =
     let v : Knowledge = c.args.seat.now.knows in
     let ours : v.book ≡ b = ap (λ (t : Knowledge). t.book) c.requires.new in
     subst (MayAppend b v) (sym c.paid-record.ensures)
-    (may_append b v c.zeros.result c.requires.new (subst (λ (t : BookTerms). v.first < t.processes) ours c.process-process.ensures.seat.known)
+    (may_append b v c.zeros.result c.requires.new (subst (λ (t : BookTerms). v.first < t.processes) ours c.known-2.ensures.seat.known)
     (c.zeros.ensures ∙ ap (λ n. replicate n 0) (c.processes.ensures ∙ ap (λ (t : BookTerms). t.processes) c.book-2.ensures)) c.requires.pays)
 
 pub returns-clause-paid : goal.returns-clause-paid
@@ -78,5 +78,5 @@ returns-clause-paid g c =
     let b : BookTerms = c.args.board.now.book in
     let v : Knowledge = c.args.seat.now.knows in
     let w : Knowledge = c.append.new.seat.knows in
-    has_paid b v w c.zeros.result c.requires.new (omega (arith, c.process-process.ensures.seat.one_part))
+    has_paid b v w c.zeros.result c.requires.new (omega (arith, c.known-2.ensures.seat.one_part))
     (subst (λ (r : Record). Publishes b v w (published_by v.first r)) c.paid-record.ensures c.append.ensures.published)

@@ -55,7 +55,7 @@ append-requires-clause-record g c =
     let b : BookTerms = c.args.board.now.book in
     let v : Knowledge = c.args.seat.now.knows in
     let known : 1 < b.processes =
-    omega (arith, c.process-process.ensures.seat.known, c.requires.process, ap (λ (t : BookTerms). t.processes) c.requires.board.book) in
+    omega (arith, c.known.ensures.seat.known, c.requires.process, ap (λ (t : BookTerms). t.processes) c.requires.board.book) in
     subst (MayAppend b c.snapshot-view.new.seat.knows) (sym c.paid.ensures)
-    (may_append b v c.snapshot-view.new.seat.knows c.snapshot-view.result (omega (arith, c.process-process.ensures.seat.one_part)) c.requires.paid c.requires.pays
+    (may_append b v c.snapshot-view.new.seat.knows c.snapshot-view.result (omega (arith, c.known.ensures.seat.one_part)) c.requires.paid c.requires.pays
     c.requires.process known c.snapshot-view.ensures.loads c.snapshot-view.ensures.snapshot (c.counts_the_first.ensures c.if-not-counts_the_first.false))

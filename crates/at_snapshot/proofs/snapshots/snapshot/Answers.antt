@@ -13,7 +13,7 @@ loop-counts-init g c =
     let b : BookTerms = c.args.board.now.book in
     let v : Knowledge = c.args.seat.now.knows in
     let so = subst (λ (s : ScanTerms). IsScanOf b s v) c.start-scan.ensures.start (c.start-scan.ensures.scan b) in (
-      (0, subst (λ (s : ScanTerms). IsSnapping b v s v c.args.steps.now c.args.steps.now 0) (sym c.start-scan.ensures.start) (IsSnapping-start b v c.args.steps.now c.process-process.ensures.seat.own so)),
+      (0, subst (λ (s : ScanTerms). IsSnapping b v s v c.args.steps.now c.args.steps.now 0) (sym c.start-scan.ensures.start) (IsSnapping-start b v c.args.steps.now c.known.ensures.seat.own so)),
       c.requires,
       refl,
     )
@@ -26,7 +26,7 @@ loop-counts-preserved g c =
     let scan : ScanTerms = c.loop-counts.scan in
     let before = c.args.steps.now in
     let turns = c.loop-counts.invariant.0.0 in
-    let more = IsSnapping-Again b begun scan c.loop-counts.seat.knows w before c.loop-counts.steps turns (omega (arith, c.process-process.ensures.seat.one_part))
+    let more = IsSnapping-Again b begun scan c.loop-counts.seat.knows w before c.loop-counts.steps turns (omega (arith, c.known.ensures.seat.one_part))
     c.loop-counts.invariant.0.1 c.turn.ensures.collect c.in-Again.ensures.answer in
     let steps : c.turn.new.steps ≡ c.loop-counts.steps + b.processes = omega (arith, c.in-Again.ensures.steps) in (
       (
@@ -53,9 +53,9 @@ snapped : (g : Over) (c : goal.After-drop-scan-inside-in-Clean g)
 snapped g c =
     let b : BookTerms = c.args.board.now.book in
     let begun : Knowledge = c.args.seat.now.knows in
-    let known : begun.first < b.processes = omega (arith, c.process-process.ensures.seat.known, ap (λ (t : BookTerms). t.processes) c.requires.book) in
+    let known : begun.first < b.processes = omega (arith, c.known.ensures.seat.known, ap (λ (t : BookTerms). t.processes) c.requires.book) in
     IsSnapped-IsSnapping b begun c.loop-counts.scan c.loop-counts.seat.knows c.turn.new.seat.knows c.args.steps.now c.loop-counts.steps
-    c.loop-counts.invariant.0.0 c.turn.result (omega (arith, c.process-process.ensures.seat.one_part)) known c.loop-counts.invariant.0.1 c.turn.ensures.collect
+    c.loop-counts.invariant.0.0 c.turn.result (omega (arith, c.known.ensures.seat.one_part)) known c.loop-counts.invariant.0.1 c.turn.ensures.collect
 
 pub returns-in-Clean-clause-loads : goal.returns-in-Clean-clause-loads
 returns-in-Clean-clause-loads g c = (snapped g c).loads

@@ -17,7 +17,7 @@ use Rattle.at_board.proofs.board.Board.announce.Goals as goal
 
 -- the seat and the board are those that callers see
 mine : (g : given.Over) (c : After-from g) → c.seat.inside.seat.me.0 ≡ c.args.seat.now.knows
-mine g c = ap (λ s. s.view) c.seat.view_is
+mine g c = ap (λ s. s.knows) c.seat.view_is
 
 ours : (g : given.Over) (c : After-from g) → c.self.inside.book ≡ c.args.self.now.book
 ours g c = ap (λ t. t.book) c.self.view_is
@@ -28,10 +28,10 @@ book g c = ap (λ (t : Knowledge). t.book) (mine g c) ∙ (c.requires.board.book
 has : (g : given.Over) (c : After-from g) → HasSlot c.args.self.now.book c.args.seat.now.knows.first c.args.account c.own_slot-own.result
 has g c = subst (λ p. HasSlot c.args.self.now.book p c.args.account c.own_slot-own.result) c.process.ensures.process c.own_slot-own.ensures.slot
 
-at : (g : given.Over) (c : After-from g) → c.announced_index-place.result ≡ index_of c.self.inside.book (announced_of c.args.account c.own_slot-own.result)
+at : (g : given.Over) (c : After-from g) → c.announced_index-word.result ≡ index_of c.self.inside.book (announced_of c.args.account c.own_slot-own.result)
 at g c =
-    subst (λ (t : BookTerms). c.announced_index-place.result ≡ index_of t (announced_of c.args.account c.own_slot-own.result)) (sym (ours g c))
-    c.announced_index-place.ensures.place
+    subst (λ (t : BookTerms). c.announced_index-word.result ≡ index_of t (announced_of c.args.account c.own_slot-own.result)) (sym (ours g c))
+    c.announced_index-word.ensures.index
 
 may : (g : given.Over) (c : After-from g) (k : ℕ) (q : Request) → MayAnnounce c.args.self.now.book c.args.seat.now.knows c.args.account k q
     → MayAnnounce c.self.inside.book c.seat.inside.seat.me.0 c.args.account c.own_slot-own.result q
@@ -48,7 +48,7 @@ told : (g : given.Over) (c : After-store g) (q : Request) → MayAnnounce c.self
 told g c q asks =
     let before : After-from g = (goal.at.After-store g c).After-from in
     Announces-played c.self.inside.book c.self.inside.table.shared.table_id.slots c.seat.inside.seat.me c.store.new.seat.me c.args.account
-    c.own_slot-own.result q c.announced_index-place.result c.from.result (book g before) (at g before) asks c.store.ensures.2
+    c.own_slot-own.result q c.announced_index-word.result c.from.result (book g before) (at g before) asks c.store.ensures.2
 
 pub store-requires : goal.store-requires
 store-requires g c =
@@ -62,7 +62,7 @@ store-requires g c =
       ap (λ s. s.board) c.seat.view_is ∙ (c.requires.board.id ∙ sym (ap (λ t. t.id) c.self.view_is)),
       omega (arith, c.self.invariant.1, at g before, index_of-below b (announced_of a slot) (place-MayAnnounce b v a slot r asked)),
       announces_at c.self.inside.table.shared.key.value b c.self.inside.table.shared.table_id.slots c.seat.inside.seat.id c.seat.inside.seat.me
-          a slot r c.announced_index-place.result c.from.result c.self.invariant.0 (at g before) (omega (arith, c.from.ensures, counted g before)) c.self.invariant.2.begun
+          a slot r c.announced_index-word.result c.from.result c.self.invariant.0 (at g before) (omega (arith, c.from.ensures, counted g before)) c.self.invariant.2.begun
           (IsSeatOf-IsSeat b v c.seat.inside.process c.seat.inside.published (book g before) c.seat.invariant.1) asked,
     )
 

@@ -12,20 +12,20 @@ use Rattle.at_board.specs.Steps.Decide.{MayPropose}
 use Rattle.at_board.specs.Steps.Decide.{Decides, word_after}
 use Rattle.at_board.specs.Words.Addresses.{cell_of, word_count}
 use Rattle.at_board.proofs.board.Board.decide.Given as given
-use Rattle.at_board.proofs.board.Board.decide.Goals.{After-compare_exchange-found, After-process-process}
+use Rattle.at_board.proofs.board.Board.decide.Goals.{After-compare_exchange-found, After-known}
 use Rattle.at_board.proofs.board.Board.decide.Goals as goal
 
 -- the seat is the one that callers see
-mine : (g : given.Over) (c : After-process-process g) → c.seat.inside.seat.me.0 ≡ c.args.seat.now.knows
-mine g c = ap (λ s. s.view) c.seat.view_is
+mine : (g : given.Over) (c : After-known g) → c.seat.inside.seat.me.0 ≡ c.args.seat.now.knows
+mine g c = ap (λ s. s.knows) c.seat.view_is
 
-book : (g : given.Over) (c : After-process-process g) → c.seat.inside.seat.me.0.book ≡ c.args.self.now.book
+book : (g : given.Over) (c : After-known g) → c.seat.inside.seat.me.0.book ≡ c.args.self.now.book
 book g c = ap (λ (t : Knowledge). t.book) (mine g c) ∙ c.requires.board.book
 
-pub cell_index-place-requires : goal.cell_index-place-requires
-cell_index-place-requires g c =
+pub cell_index-index-requires : goal.cell_index-index-requires
+cell_index-index-requires g c =
     IsAddress-MayPropose c.args.self.now.book c.args.seat.now.knows c.args.account c.args.round c.requires.proposal.0 c.requires.proposal.1
-    c.requires.board.book c.process-process.ensures.seat.history c.process-process.ensures.seat.in_range c.requires.proposal.2
+    c.requires.board.book c.known.ensures.seat.history c.known.ensures.seat.in_range c.requires.proposal.2
 
 -- the step decides the round, or finds what decided it
 told : (g : given.Over) (c : After-compare_exchange-found g) (d : Decision) (r : Request)
@@ -33,14 +33,14 @@ told : (g : given.Over) (c : After-compare_exchange-found g) (d : Decision) (r :
     → Decides c.args.self.now.book c.args.seat.now.knows c.compare_exchange-found.new.seat.me.0 c.args.account c.args.round d
     (word_after c.compare_exchange-found.result c.args.proposal)
 told g c d r may word =
-    let before : After-process-process g = (goal.at.After-compare_exchange-found g c).After-process-process in
+    let before : After-known g = (goal.at.After-compare_exchange-found g c).After-known in
     Decides-played c.args.self.now.book c.self.inside.table.shared.table_id.slots c.seat.inside.seat.me c.compare_exchange-found.new.seat.me c.args.seat.now.knows
-    c.args.account c.args.round d r c.cell_index-place.result c.args.proposal c.compare_exchange-found.result (book g before) (mine g before)
-    c.cell_index-place.ensures.place word may c.compare_exchange-found.ensures.2
+    c.args.account c.args.round d r c.cell_index-index.result c.args.proposal c.compare_exchange-found.result (book g before) (mine g before)
+    c.cell_index-index.ensures.index word may c.compare_exchange-found.ensures.2
 
 pub compare_exchange-found-requires : goal.compare_exchange-found-requires
 compare_exchange-found-requires g c =
-    let before : After-process-process g = (goal.at.compare_exchange-found-requires g c).After-process-process in
+    let before : After-known g = (goal.at.compare_exchange-found-requires g c).After-known in
     let b : BookTerms = c.args.self.now.book in
     let v : Knowledge = c.seat.inside.seat.me.0 in
     let ours : c.self.inside.book ≡ b = ap (λ t. t.book) c.self.view_is in
@@ -50,12 +50,12 @@ compare_exchange-found-requires g c =
         arith,
         c.self.invariant.1,
         ap word_count ours,
-        c.cell_index-place.ensures.place,
-        index_of-below b (cell_of c.args.account c.args.round) (cell_index-place-requires g before),
+        c.cell_index-index.ensures.index,
+        index_of-below b (cell_of c.args.account c.args.round) (cell_index-index-requires g before),
       ),
       decides_at c.self.inside.table.shared.key.value b c.self.inside.table.shared.table_id.slots c.seat.inside.seat.id c.seat.inside.seat.me c.args.seat.now.knows
-          c.args.account c.args.round c.requires.proposal.0 c.requires.proposal.1 c.cell_index-place.result c.args.proposal (c.self.invariant.0 ∙ ours) (mine g before)
-          c.cell_index-place.ensures.place c.requires.proposal.3 (subst IsBegun ours c.self.invariant.2.begun)
+          c.args.account c.args.round c.requires.proposal.0 c.requires.proposal.1 c.cell_index-index.result c.args.proposal (c.self.invariant.0 ∙ ours) (mine g before)
+          c.cell_index-index.ensures.index c.requires.proposal.3 (subst IsBegun ours c.self.invariant.2.begun)
           (IsSeatOf-IsSeat b v c.seat.inside.process c.seat.inside.published (book g before) kept) c.seat.invariant.0 kept.history
           kept.in_range c.requires.proposal.2,
     )
@@ -63,7 +63,7 @@ compare_exchange-found-requires g c =
 pub invariant_of-seat : goal.invariant_of-seat
 invariant_of-seat g c =
     let after : After-compare_exchange-found g = (goal.at.invariant_of-seat g c).After-compare_exchange-found in
-    let before : After-process-process g = (goal.at.After-compare_exchange-found g after).After-process-process in
+    let before : After-known g = (goal.at.After-compare_exchange-found g after).After-known in
     let b : BookTerms = c.args.self.now.book in
     let v : Knowledge = c.seat.inside.seat.me.0 in
     let w : Knowledge = c.compare_exchange-found.new.seat.me.0 in
@@ -72,7 +72,7 @@ invariant_of-seat g c =
     let decided : Decides b v w c.args.account c.args.round d n = subst (λ (t : Knowledge). Decides b t w c.args.account c.args.round d n) (sym (mine g before))
     (told g after d c.requires.proposal.1 c.requires.proposal.2 c.requires.proposal.3) in (
       c.compare_exchange-found.ensures.2.0 ∙ c.seat.invariant.0,
-      IsSeat-decided b v w c.seat.inside.process c.seat.inside.published c.args.account c.args.round d n (book g before) (cell_index-place-requires g before) c.seat.invariant.1 decided,
+      IsSeat-decided b v w c.seat.inside.process c.seat.inside.published c.args.account c.args.round d n (book g before) (cell_index-index-requires g before) c.seat.invariant.1 decided,
       HasCounts-decided b v w c.args.account c.args.round d n c.seat.inside.announced.items (omega (arith, c.seat.invariant.1.one_part)) c.seat.invariant.1.accounts decided c.seat.invariant.2,
     )
 

@@ -14,12 +14,12 @@ load-count-requires g c =
     let v : Knowledge = c.seat.inside.seat.me.0 in
     let x = announced_of c.args.account c.args.slot in
     let ours : c.self.inside.book ≡ b = ap (λ t. t.book) c.self.view_is in
-    let book : v.book ≡ b = ap (λ s. s.view.book) c.seat.view_is ∙ c.requires.board.book in
+    let book : v.book ≡ b = ap (λ s. s.knows.book) c.seat.view_is ∙ c.requires.board.book in
     let is : IsAddress b x = (c.requires.account, c.requires.slot) in (
       ap (λ s. s.board) c.seat.view_is ∙ (c.requires.board.id ∙ sym (ap (λ t. t.id) c.self.view_is)),
-      omega (arith, c.self.invariant.1, ap word_count ours, c.announced_index-place.ensures.place, index_of-below b x is),
+      omega (arith, c.self.invariant.1, ap word_count ours, c.announced_index-index.ensures.index, index_of-below b x is),
       loads_announced_at c.self.inside.table.shared.key.value b c.self.inside.table.shared.table_id.slots c.seat.inside.seat.id c.seat.inside.seat.me
-          c.args.account c.args.slot c.announced_index-place.result (c.self.invariant.0 ∙ ours) c.announced_index-place.ensures.place
+          c.args.account c.args.slot c.announced_index-index.result (c.self.invariant.0 ∙ ours) c.announced_index-index.ensures.index
           (subst IsBegun ours c.self.invariant.2.begun) (IsSeatOf-IsSeat b v c.seat.inside.process c.seat.inside.published book c.seat.invariant.1) is,
     )
 
@@ -29,11 +29,11 @@ invariant_of-seat g c =
     let v : Knowledge = c.seat.inside.seat.me.0 in
     let w : Knowledge = c.load-count.new.seat.me.0 in
     let x = announced_of c.args.account c.args.slot in
-    let book : v.book ≡ b = ap (λ s. s.view.book) c.seat.view_is ∙ c.requires.board.book in
+    let book : v.book ≡ b = ap (λ s. s.knows.book) c.seat.view_is ∙ c.requires.board.book in
     let is : IsAddress b x = (c.requires.account, c.requires.slot) in
     let told : LoadsAnnounced b v w c.args.account c.args.slot c.load-count.result =
     LoadsAnnounced-played b c.self.inside.table.shared.table_id.slots c.seat.inside.seat.me c.load-count.new.seat.me c.args.account c.args.slot c.load-count.result
-    c.announced_index-place.result book c.announced_index-place.ensures.place is c.load-count.ensures.2 in (
+    c.announced_index-index.result book c.announced_index-index.ensures.index is c.load-count.ensures.2 in (
       c.load-count.ensures.2.0 ∙ c.seat.invariant.0,
       IsSeat-announced b v w c.seat.inside.process c.seat.inside.published c.args.account c.args.slot c.load-count.result book is c.seat.invariant.1 told,
       HasCounts-announced b v w c.args.account c.args.slot c.load-count.result c.seat.inside.announced.items (omega (arith, c.seat.invariant.1.one_part)) c.seat.invariant.1.accounts told c.seat.invariant.2,

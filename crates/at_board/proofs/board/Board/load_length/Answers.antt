@@ -16,7 +16,7 @@ load-length-requires g c =
     let b : BookTerms = c.args.self.now.book in
     let v : Knowledge = c.seat.inside.seat.me.0 in
     let ours : c.self.inside.book ≡ b = ap (λ t. t.book) c.self.view_is in
-    let book : v.book ≡ b = ap (λ s. s.view.book) c.seat.view_is ∙ c.requires.board.book in (
+    let book : v.book ≡ b = ap (λ s. s.knows.book) c.seat.view_is ∙ c.requires.board.book in (
       ap (λ s. s.board) c.seat.view_is ∙ (c.requires.board.id ∙ sym (ap (λ t. t.id) c.self.view_is)),
       omega (arith, c.self.invariant.1, ap word_count ours, index_of-below b (length_of c.args.p) c.requires.process, index_of-length_of b c.args.p),
       loads_length_at c.self.inside.table.shared.key.value b _ _ c.seat.inside.seat.me c.args.p c.args.p (c.self.invariant.0 ∙ ours)
@@ -25,7 +25,7 @@ load-length-requires g c =
     )
 
 book : (g : given.Over) (c : After-load-length g) → c.seat.inside.seat.me.0.book ≡ c.args.self.now.book
-book g c = ap (λ s. s.view.book) c.seat.view_is ∙ c.requires.board.book
+book g c = ap (λ s. s.knows.book) c.seat.view_is ∙ c.requires.board.book
 
 -- the step loads the length
 told : (g : given.Over) (c : After-load-length g) → LoadsLength c.args.self.now.book c.seat.inside.seat.me.0 c.load-length.new.seat.me.0 c.args.p c.load-length.result
@@ -54,5 +54,5 @@ invariant_of-seat g c =
 
 pub returns-clause-told : goal.returns-clause-told
 returns-clause-told g c =
-    subst (λ (t : Knowledge). LoadsLength c.args.self.now.book t c.load-length.new.seat.me.0 c.args.p c.load-length.result) (ap (λ s. s.view) c.seat.view_is)
+    subst (λ (t : Knowledge). LoadsLength c.args.self.now.book t c.load-length.new.seat.me.0 c.args.p c.load-length.result) (ap (λ s. s.knows) c.seat.view_is)
     (told g (goal.at.returns-clause-told g c).After-load-length)

@@ -9,62 +9,62 @@ use Rattle.at_board.specs.Words.Addresses.{IsAddress, request_word, word_count}
 use Rattle.at_board.specs.Steps.LoadRequestWord.{MayLoadRequest}
 use Rattle.at_board.specs.Steps.LoadRequestWord.{LoadsRequestWord}
 use Rattle.at_board.proofs.board.Board.load_request_word.Given as given
-use Rattle.at_board.proofs.board.Board.load_request_word.Goals.{After-load, After-process-process}
+use Rattle.at_board.proofs.board.Board.load_request_word.Goals.{After-load, After-known}
 use Rattle.at_board.proofs.board.Board.load_request_word.Goals as goal
 
 -- the seat is the one that callers see
-mine : (g : given.Over) (c : After-process-process g) → c.seat.inside.seat.me.0 ≡ c.args.seat.now.knows
-mine g c = ap (λ s. s.view) c.seat.view_is
+mine : (g : given.Over) (c : After-known g) → c.seat.inside.seat.me.0 ≡ c.args.seat.now.knows
+mine g c = ap (λ s. s.knows) c.seat.view_is
 
-book : (g : given.Over) (c : After-process-process g) → c.seat.inside.seat.me.0.book ≡ c.args.self.now.book
+book : (g : given.Over) (c : After-known g) → c.seat.inside.seat.me.0.book ≡ c.args.self.now.book
 book g c = ap (λ (t : Knowledge). t.book) (mine g c) ∙ c.requires.board.book
 
-may : (g : given.Over) (c : After-process-process g) → MayLoadRequest c.seat.inside.seat.me.0 c.args.account c.args.slot c.args.number c.args.j
+may : (g : given.Over) (c : After-known g) → MayLoadRequest c.seat.inside.seat.me.0 c.args.account c.args.slot c.args.number c.args.j
 may g c = subst (λ (t : Knowledge). MayLoadRequest t c.args.account c.args.slot c.args.number c.args.j) (sym (mine g c)) c.requires.request
 
-pub request_index-place-requires : goal.request_index-place-requires
-request_index-place-requires g c =
+pub request_index-index-requires : goal.request_index-index-requires
+request_index-index-requires g c =
     subst (λ (t : BookTerms). IsAddress t (request_word c.args.account c.args.slot c.args.number c.args.j)) c.requires.board.book
-    (place-MayLoadRequest c.args.seat.now.knows c.args.account c.args.slot c.args.number c.args.j c.process-process.ensures.seat.in_range c.requires.request)
+    (place-MayLoadRequest c.args.seat.now.knows c.args.account c.args.slot c.args.number c.args.j c.known.ensures.seat.in_range c.requires.request)
 
 -- the step loads the word
 told : (g : given.Over) (c : After-load g) → LoadsRequestWord c.args.self.now.book c.seat.inside.seat.me.0 c.load.new.seat.me.0 c.args.account c.args.slot
     c.args.number c.args.j c.load.result
 told g c =
-    let before : After-process-process g = (goal.at.After-load g c).After-process-process in
+    let before : After-known g = (goal.at.After-load g c).After-known in
     LoadsRequestWord-played c.args.self.now.book c.self.inside.table.shared.table_id.slots c.seat.inside.seat.me c.load.new.seat.me c.args.account c.args.slot
-    c.args.number c.args.j c.load.result c.request_index-place.result (book g before) c.request_index-place.ensures.place (request_index-place-requires g before)
+    c.args.number c.args.j c.load.result c.request_index-index.result (book g before) c.request_index-index.ensures.index (request_index-index-requires g before)
     (may g before) c.load.ensures.2
 
 pub load-requires : goal.load-requires
 load-requires g c =
-    let before : After-process-process g = (goal.at.load-requires g c).After-process-process in
+    let before : After-known g = (goal.at.load-requires g c).After-known in
     let b : BookTerms = c.args.self.now.book in
     let v : Knowledge = c.seat.inside.seat.me.0 in
     let ours : c.self.inside.book ≡ b = ap (λ t. t.book) c.self.view_is in
-    let is : IsAddress b (request_word c.args.account c.args.slot c.args.number c.args.j) = request_index-place-requires g before in (
+    let is : IsAddress b (request_word c.args.account c.args.slot c.args.number c.args.j) = request_index-index-requires g before in (
       ap (λ s. s.board) c.seat.view_is ∙ (c.requires.board.id ∙ sym (ap (λ t. t.id) c.self.view_is)),
       omega (
         arith,
         c.self.invariant.1,
         ap word_count ours,
-        c.request_index-place.ensures.place,
+        c.request_index-index.ensures.index,
         index_of-below b (request_word c.args.account c.args.slot c.args.number c.args.j) is,
       ),
       loads_request_word_at c.self.inside.table.shared.key.value b c.self.inside.table.shared.table_id.slots c.seat.inside.seat.id c.seat.inside.seat.me
-          c.args.account c.args.slot c.args.number c.args.j c.request_index-place.result (c.self.invariant.0 ∙ ours) c.request_index-place.ensures.place
+          c.args.account c.args.slot c.args.number c.args.j c.request_index-index.result (c.self.invariant.0 ∙ ours) c.request_index-index.ensures.index
           (subst IsBegun ours c.self.invariant.2.begun) (IsSeatOf-IsSeat b v c.seat.inside.process c.seat.inside.published (book g before) c.seat.invariant.1) is (may g before),
     )
 
 pub invariant_of-seat : goal.invariant_of-seat
 invariant_of-seat g c =
-    let before : After-process-process g = (goal.at.After-load g c).After-process-process in
+    let before : After-known g = (goal.at.After-load g c).After-known in
     let b : BookTerms = c.args.self.now.book in
     let v : Knowledge = c.seat.inside.seat.me.0 in
     let w : Knowledge = c.load.new.seat.me.0 in (
       c.load.ensures.2.0 ∙ c.seat.invariant.0,
       IsSeat-request b v w c.seat.inside.process c.seat.inside.published c.args.account c.args.slot c.args.number c.args.j c.load.result (book g before)
-          (request_index-place-requires g before) c.seat.invariant.1 (told g c),
+          (request_index-index-requires g before) c.seat.invariant.1 (told g c),
       HasCounts-request b v w c.args.account c.args.slot c.args.number c.args.j c.load.result c.seat.inside.announced.items (omega (arith, c.seat.invariant.1.one_part))
           c.seat.invariant.1.accounts (told g c) c.seat.invariant.2,
     )
@@ -72,6 +72,6 @@ invariant_of-seat g c =
 pub returns-clause-told : goal.returns-clause-told
 returns-clause-told g c =
     let after : After-load g = (goal.at.returns-clause-told g c).After-load in
-    let before : After-process-process g = (goal.at.After-load g after).After-process-process in
+    let before : After-known g = (goal.at.After-load g after).After-known in
     subst (λ (t : Knowledge). LoadsRequestWord c.args.self.now.book t c.load.new.seat.me.0 c.args.account c.args.slot c.args.number c.args.j c.load.result)
     (mine g before) (told g after)

@@ -18,7 +18,7 @@ use Rattle.at_board.proofs.board.Board.publish.Goals as goal
 
 -- the seat and the board are those that callers see
 mine : (g : given.Over) (c : After-from g) → c.seat.inside.seat.me.0 ≡ c.args.seat.now.knows
-mine g c = ap (λ s. s.view) c.seat.view_is
+mine g c = ap (λ s. s.knows) c.seat.view_is
 
 ours : (g : given.Over) (c : After-from g) → c.self.inside.book ≡ c.args.self.now.book
 ours g c = ap (λ t. t.book) c.self.view_is

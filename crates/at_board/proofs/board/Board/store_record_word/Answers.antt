@@ -15,7 +15,7 @@ use Rattle.at_board.proofs.board.Board.store_record_word.Goals as goal
 
 -- the seat is the one that callers see
 mine : (g : given.Over) (c : After-seat g) → c.seat.inside.seat.me.0 ≡ c.args.seat.now.knows
-mine g c = ap (λ s. s.view) c.seat.view_is
+mine g c = ap (λ s. s.knows) c.seat.view_is
 
 book : (g : given.Over) (c : After-seat g) → c.seat.inside.seat.me.0.book ≡ c.args.self.now.book
 book g c = ap (λ (t : Knowledge). t.book) (mine g c) ∙ c.requires.board.book
@@ -34,7 +34,7 @@ told : (g : given.Over) (c : After-store g) → StoresWord c.seat.inside.seat.me
 told g c =
     let before : After-seat g = (goal.at.After-store g c).After-seat in
     StoresWord-played c.args.self.now.book c.self.inside.table.shared.table_id.slots c.seat.inside.seat.me c.store.new.seat.me c.args.j c.args.w
-    c.record_index_of-place.result (book g before) (c.record_index_of-place.ensures.place ∙ at g before) (may g before) c.store.ensures.2
+    c.record_index-index.result (book g before) (c.record_index-index.ensures.index ∙ at g before) (may g before) c.store.ensures.2
 
 pub store-requires : goal.store-requires
 store-requires g c =
@@ -43,7 +43,7 @@ store-requires g c =
     let v : Knowledge = c.seat.inside.seat.me.0 in
     let ours : c.self.inside.book ≡ b = ap (λ t. t.book) c.self.view_is in
     let seat = IsSeatOf-IsSeat b v c.seat.inside.process c.seat.inside.published (book g before) c.seat.invariant.1 in
-    let place = c.record_index_of-place.ensures.place ∙ at g before in
+    let place = c.record_index-index.ensures.index ∙ at g before in
     let asked = may g before in (
       ap (λ s. s.board) c.seat.view_is ∙ (c.requires.board.id ∙ sym (ap (λ t. t.id) c.self.view_is)),
       omega (
@@ -54,7 +54,7 @@ store-requires g c =
         index_of-below b (record_word v.first (own_part v).published c.args.j) (seat.known, asked.room, asked.word),
       ),
       stores_word_at c.self.inside.table.shared.key.value b c.self.inside.table.shared.table_id.slots c.seat.inside.seat.id c.seat.inside.seat.me c.args.j c.args.w
-          c.record_index_of-place.result (c.self.invariant.0 ∙ ours) place seat c.seat.invariant.0 asked,
+          c.record_index-index.result (c.self.invariant.0 ∙ ours) place seat c.seat.invariant.0 asked,
     )
 
 pub invariant_of-seat : goal.invariant_of-seat

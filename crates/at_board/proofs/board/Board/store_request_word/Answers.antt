@@ -14,7 +14,7 @@ use Rattle.at_board.proofs.board.Board.store_request_word.Goals as goal
 
 -- the seat is the one that callers see
 mine : (g : given.Over) (c : After-announced-next g) → c.seat.inside.seat.me.0 ≡ c.args.seat.now.knows
-mine g c = ap (λ s. s.view) c.seat.view_is
+mine g c = ap (λ s. s.knows) c.seat.view_is
 
 book : (g : given.Over) (c : After-announced-next g) → c.seat.inside.seat.me.0.book ≡ c.args.self.now.book
 book g c = ap (λ (t : Knowledge). t.book) (mine g c) ∙ c.requires.board.book
@@ -40,7 +40,7 @@ told : (g : given.Over) (c : After-store g) → StoresRequestWord c.seat.inside.
 told g c =
     let before : After-announced-next g = (goal.at.After-store g c).After-announced-next in
     StoresRequestWord-played c.args.self.now.book c.self.inside.table.shared.table_id.slots c.seat.inside.seat.me c.store.new.seat.me c.args.account
-    c.own_slot-slot.result c.args.j c.args.w c.request_index-place.result (book g before) (c.request_index-place.ensures.place ∙ at g before) (may g before)
+    c.own_slot-slot.result c.args.j c.args.w c.request_index-index.result (book g before) (c.request_index-index.ensures.index ∙ at g before) (may g before)
     c.requires.word c.store.ensures.2
 
 pub store-requires : goal.store-requires
@@ -51,7 +51,7 @@ store-requires g c =
     let a = c.args.account in
     let slot = c.own_slot-slot.result in
     let ours : c.self.inside.book ≡ b = ap (λ t. t.book) c.self.view_is in
-    let place = c.request_index-place.ensures.place ∙ at g before in (
+    let place = c.request_index-index.ensures.index ∙ at g before in (
       ap (λ s. s.board) c.seat.view_is ∙ (c.requires.board.id ∙ sym (ap (λ t. t.id) c.self.view_is)),
       omega (
         arith,
@@ -61,7 +61,7 @@ store-requires g c =
         index_of-below b (request_word a slot (next_number v a) c.args.j) (place-MayAsk b v a slot c.args.j (may g before) c.requires.word),
       ),
       stores_request_word_at c.self.inside.table.shared.key.value b c.self.inside.table.shared.table_id.slots c.seat.inside.seat.id c.seat.inside.seat.me
-          a slot c.args.j c.args.w c.request_index-place.result (c.self.invariant.0 ∙ ours) place
+          a slot c.args.j c.args.w c.request_index-index.result (c.self.invariant.0 ∙ ours) place
           (IsSeatOf-IsSeat b v c.seat.inside.process c.seat.inside.published (book g before) c.seat.invariant.1) (may g before) c.requires.word,
     )
 

@@ -17,7 +17,7 @@ loop-i-preserved g c =
     let seat = c.load_entry-entry.ensures.same ∙ same in
     let history : IsHistory b now.view.seen =
     subst (λ (s : SeatTerms). IsHistory b s.view.seen) (sym same)
-    (subst (λ (t : BookTerms). IsHistory t old.view.seen) c.requires.board.book c.process-process.ensures.seat.history) in
+    (subst (λ (t : BookTerms). IsHistory t old.view.seen) c.requires.board.book c.known.ensures.seat.history) in
     let within : c.loop-i.i < count_of c.args.p now.view.seen =
     omega (arith, c.loop-i-test.true, c.requires.seen, ap (λ (s : SeatTerms). count_of c.args.p s.view.seen) same) in
     let inside : c.args.p < length c.args.self.now.upto = omega (arith, c.requires.process, c.requires.counted.processes) in

@@ -14,13 +14,13 @@ returns-in-None-clause-scan g c =
     let b : BookTerms = c.args.board.now.book in
     let w : Knowledge = c.collect-now.new.seat.knows in
     subst (λ (s : ScanTerms). IsScanOf b s w) (sym c.keep.ensures.after)
-    (IsScanOf-after b c.args.self.now c.args.seat.now.knows w (omega (arith, c.process-process.ensures.seat.one_part)) c.requires.scan c.collect-now.ensures.collect)
+    (IsScanOf-after b c.args.self.now c.args.seat.now.knows w (omega (arith, c.known.ensures.seat.one_part)) c.requires.scan c.collect-now.ensures.collect)
 
 pub returns-in-Some-clause-scan : goal.returns-in-Some-clause-scan
 returns-in-Some-clause-scan g c =
     let b : BookTerms = c.args.board.now.book in
     let w : Knowledge = c.collect-now.new.seat.knows in
-    let after = IsScanOf-after b c.args.self.now c.args.seat.now.knows w (omega (arith, c.process-process.ensures.seat.one_part)) c.requires.scan c.collect-now.ensures.collect in
+    let after = IsScanOf-after b c.args.self.now c.args.seat.now.knows w (omega (arith, c.known.ensures.seat.one_part)) c.requires.scan c.collect-now.ensures.collect in
     subst (λ (s : SeatTerms). IsScanOf b c.keep.new.self s.view) (sym c.compare.ensures.same)
     (subst (λ (s : ScanTerms). IsScanOf b s w) (sym c.keep.ensures.after) after)
 
@@ -31,7 +31,7 @@ returns-in-Some-clause-snapshot g c =
     let w : Knowledge = c.collect-now.new.seat.knows in
     let is : scan.collects ≡ Some c.in-Some.before = sym c.keep.ensures.before ∙ c.in-Some.is in
     let known : c.args.seat.now.knows.first < b.processes =
-    omega (arith, c.process-process.ensures.seat.known, ap (λ (t : BookTerms). t.processes) c.requires.board.book) in
+    omega (arith, c.known.ensures.seat.known, ap (λ (t : BookTerms). t.processes) c.requires.board.book) in
     let verdict = subst (λ now. IsVerdict c.in-Some.before w now c.compare.result) c.collect-now.ensures.counts c.compare.ensures.answer in
     subst (λ (s : SeatTerms). OnCounts c.compare.result (IsSnapshot b scan.start s.view)) (sym c.compare.ensures.same)
     (OnCounts-IsVerdict b scan c.in-Some.before c.args.seat.now.knows w c.compare.result c.keep.ensures.start c.requires.scan known is c.collect-now.ensures.collect verdict)

@@ -1,0 +1,69 @@
+use Rattle.std.proofs.Common.{◌≡◌, ◌+◌, ◌*◌, length, take, sym, ap, subst, ◌∙◌, arith}
+use Rattle.std.specs.List.{sum_by}
+use Rattle.std.proofs.lemmas.List.{take_all}
+use Rattle.at_ledger.specs.Book.{BookTerms}
+use Rattle.at_board.proofs.WordLaws.Addresses.{index_of-below}
+use Rattle.at_board.proofs.WordLaws.Sizes.{word_count-le}
+use Rattle.at_board.proofs.WordLaws.Slots.{IsRequestAddress, index_of-request_word, request_index-computed}
+use Rattle.at_ledger.specs.Account.{slots_of}
+use Rattle.at_board.specs.Words.Addresses.{IsAddress, index_of, request_word}
+use Rattle.at_board.proofs.board.Board.request_index.Goals.{After-first_slot, After-request_room}
+use Rattle.at_board.proofs.board.Board.request_index.Goals as goal
+
+-- the board's book is the one that callers see
+ours : (c : After-first_slot) → c.args.self.now.book ≡ c.self.inside.book
+ours c = sym (ap (λ t. t.book) c.self.view_is)
+
+is_address : (c : After-first_slot) → IsAddress c.self.inside.book (request_word c.args.account c.args.slot c.args.number c.args.j)
+is_address c = subst (λ (t : BookTerms). IsAddress t (request_word c.args.account c.args.slot c.args.number c.args.j)) (ours c) c.requires
+
+all_slots : (c : After-first_slot) → let b : BookTerms = c.self.inside.book in c.first_slot.result ≡ sum_by slots_of (take (length b.accounts) b.accounts)
+all_slots c = c.first_slot.ensures ∙ (λ t. sum_by slots_of (take (c.accounts.ensures.count t) (ours c t).accounts))
+
+-- the index, as it is computed
+computed : (c : After-request_room) → IsRequestAddress c.self.inside.book c.args.account c.args.slot c.args.number c.args.j
+    (c.self.inside.slots_start + c.first_slot.result) ((c.first_slot-2.result + c.args.slot) * c.request_room.result + c.args.number)
+computed c =
+    let first : After-first_slot = (goal.at.After-request_room c).After-first_slot in
+    request_index-computed c.self.inside.book c.args.account c.args.slot c.args.number c.args.j c.self.inside.slots_start c.first_slot.result c.first_slot-2.result
+    c.request_room.result c.self.invariant.2.begun (is_address first) c.self.invariant.4 (all_slots first)
+    (c.first_slot-2.ensures ∙ ap (λ (t : BookTerms). sum_by slots_of (take c.args.account t.accounts)) (ours first)) c.request_room.ensures
+
+pub overflow_add-start : goal.overflow_add-start
+overflow_add-start c =
+    let b : BookTerms = c.self.inside.book in
+    let first : After-first_slot = (goal.at.overflow_add-start c).After-first_slot in
+    omega (
+      arith,
+      c.self.invariant.4,
+      all_slots first,
+      ap (sum_by slots_of) (take_all (length b.accounts) b.accounts (omega arith)),
+      index_of-request_word b c.args.account c.args.slot c.args.number c.args.j,
+      index_of-below b (request_word c.args.account c.args.slot c.args.number c.args.j) (is_address first),
+      word_count-le b c.self.invariant.2.begun,
+    )
+
+pub overflow_mul-requests : goal.overflow_mul-requests
+overflow_mul-requests c = omega (arith, (computed (goal.at.overflow_mul-requests c).After-request_room).small)
+
+pub overflow_add-requests : goal.overflow_add-requests
+overflow_add-requests c = omega (arith, (computed (goal.at.overflow_add-requests c).After-request_room).small)
+
+pub overflow_mul-result : goal.overflow_mul-result
+overflow_mul-result c = omega (arith, (computed (goal.at.overflow_mul-result c).After-request_room).small)
+
+pub overflow_add-result : goal.overflow_add-result
+overflow_add-result c = omega (arith, (computed (goal.at.overflow_add-result c).After-request_room).small)
+
+pub overflow_add-result-2 : goal.overflow_add-result-2
+overflow_add-result-2 c = omega (arith, (computed (goal.at.overflow_add-result-2 c).After-request_room).small)
+
+pub returns : goal.returns
+returns c =
+    let all : After-request_room = (goal.at.returns c).After-request_room in
+    let x = request_word c.args.account c.args.slot c.args.number c.args.j in
+    let start = c.self.inside.slots_start + c.first_slot.result in
+    let requests = (c.first_slot-2.result + c.args.slot) * c.request_room.result + c.args.number in
+    record {
+      index = subst (λ (t : BookTerms). start + requests * 6 + c.args.j ≡ index_of t x) (ap (λ t. t.book) c.self.view_is) (computed all).here;
+    }

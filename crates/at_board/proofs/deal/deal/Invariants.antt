@@ -1,0 +1,13 @@
+use Rattle.std.proofs.Common.{◌≡◌, ℕ, ◌<◌, [], length, get_or}
+use Rattle.at_board.proofs.EndLaws.Cuts.{rest_view}
+use Rattle.at_board.specs.Ends.Opening.{starting_seat}
+use Rattle.at_board.specs.Knowledge.Seats.{SeatTerms}
+use Rattle.at_board.proofs.deal.deal.Given as goal
+
+-- so many seats are cut, and the rest stands for the others
+abbrev pub invariant-loop-process : goal.invariant-loop-process
+invariant-loop-process l =
+    (length l.seats.items ≡ l.process)
+    × ((p : ℕ) (d : SeatTerms) → p < l.process → get_or l.seats.items p d ≡ record { board = l.shared.table_id; knows = starting_seat l.book p })
+    × (l.rest.table_id ≡ l.shared.table_id)
+    × (l.rest.me ≡ (rest_view l.book l.process, []))

@@ -1,6 +1,0 @@
-use Rattle.std.proofs.Common.{◌≡◌, ◌<◌, ◌^◌}
-use Rattle.at_board.specs.Words.Addresses.{index_of, record_word}
-use Rattle.at_board.proofs.word_count.records_end.Given as goal
-
-abbrev pub invariant-loop-p : goal.invariant-loop-p
-invariant-loop-p l = (l.end ≡ index_of l.book (record_word l.p 0 0)) × (l.end < 2 ^ 32)

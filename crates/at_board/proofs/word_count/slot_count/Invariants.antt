@@ -1,7 +1,0 @@
-use Rattle.std.proofs.Common.{◌≡◌, ◌*◌, ◌≤◌, take}
-use Rattle.std.specs.List.{sum_by}
-use Rattle.at_ledger.specs.Account.{slots_of}
-use Rattle.at_board.proofs.word_count.slot_count.Given as goal
-
-abbrev pub invariant-loop-account : goal.invariant-loop-account
-invariant-loop-account l = (l.slots ≡ sum_by slots_of (take l.account l.book.accounts)) × (l.slots ≤ 8 * l.account)

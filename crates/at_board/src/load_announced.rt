@@ -1,0 +1,41 @@
+//! A step: a load of how many requests an owner has announced.
+
+ghost use Rattle.std.specs.Prelude.{◌≡◌, ◌+◌, ◌<◌, length};
+ghost use Rattle.at_board.specs.Knowledge.Seats.{IsOf};
+ghost use Rattle.at_ledger.specs.Book.{account_of};
+ghost use Rattle.at_ledger.specs.Account.{slots_of};
+ghost use Rattle.at_board.specs.Steps.LoadAnnounced.{LoadsAnnounced};
+
+use crate::board::Board;
+use crate::counter::Steps;
+use crate::plays::LoadAnnounced;
+use crate::seat::BoardSeat;
+use std::sync::ledger::Ledger;
+
+impl Board {
+    /// Loads how many requests the owner at a slot of a shared account has announced, in one step.
+    pub fn load_announced<L: Ledger, X: Ledger>(
+        &self,
+        seat: &mut BoardSeat,
+        account: u32,
+        slot: u32,
+        steps: &mut Steps<L>,
+        exchanges: &mut Steps<X>,
+    ) -> u32
+        requires board { IsOf seat.old self.now }
+        requires account { account < length self.now.book.accounts }
+        requires slot { slot < slots_of (account_of self.now.book account) }
+        ensures told { LoadsAnnounced self.now.book seat.old.knows seat.new.knows account slot result }
+        ensures board { seat.new.board ≡ seat.old.board }
+        ensures steps { steps.new ≡ steps.old + 1 }
+        ensures exchanges { exchanges.new ≡ exchanges.old }
+    {
+        steps.tick();
+        let index = self.announced_index(account, slot);
+        let count = self
+            .table
+            .shared
+            .load::<LoadAnnounced>(&mut seat.seat, index);
+        count as u32
+    }
+}

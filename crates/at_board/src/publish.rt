@@ -1,0 +1,37 @@
+//! A step: publishing a record.
+
+ghost use Rattle.std.specs.Prelude.{◌≡◌, ◌+◌, ◌<◌, length};
+ghost use Rattle.at_history.specs.declared.publication.Publication.{Publication};
+ghost use Rattle.at_board.specs.Steps.Publish.{MayPublish, Publishes};
+ghost use Rattle.at_board.specs.Knowledge.Seats.{IsOf};
+
+use crate::board::Board;
+use crate::counter::Steps;
+use crate::plays::Publish;
+use crate::seat::BoardSeat;
+use std::sync::ledger::Ledger;
+
+impl Board {
+    /// Publishes the seat's next record, whose words are stored, by one atomic store of its process's length, in one step.
+    pub fn publish<L: Ledger, X: Ledger>(
+        &self,
+        seat: &mut BoardSeat,
+        steps: &mut Steps<L>,
+        exchanges: &mut Steps<X>,
+    )
+        requires board { IsOf seat.old self.now }
+        requires record { (x : Publication) × MayPublish self.now.book seat.old.knows x }
+        ensures published { (x : Publication) → MayPublish self.now.book seat.old.knows x → Publishes self.now.book seat.old.knows seat.new.knows x }
+        ensures board { seat.new.board ≡ seat.old.board }
+        ensures steps { steps.new ≡ steps.old + 1 }
+        ensures exchanges { exchanges.new ≡ exchanges.old }
+    {
+        steps.tick();
+        self.table.shared.store::<Publish>(
+            &mut seat.seat,
+            seat.process as usize,
+            u64::from(seat.published) + 1,
+        );
+        seat.published += 1;
+    }
+}
