@@ -15,7 +15,7 @@ use Rattle.at_fold.proofs.CountedLaws.{All-counted, HasSameRecords-prefix_of, le
 use Rattle.at_fold.proofs.SumsLaws.{AreSumsOf-same}
 use Rattle.at_fold.specs.Counted.{counted}
 use Rattle.at_fold.specs.HasCounted.{AreSumsOf, CountsAccount, CountsFront, HasCounted}
-use Rattle.at_fold.specs.Sums.{AccountSums, TotalSums, no_row, row_at}
+use Rattle.at_fold.specs.Sums.{AccountSums, TotalSums, no_sums, sums_at}
 
 pub ArePublishedBy-IsHistory : (b : BookTerms) (seen : List Publication) → IsHistory b seen → ArePublishedBy b.processes seen
 ArePublishedBy-IsHistory b seen history =
@@ -30,29 +30,29 @@ AreSumsOf-front t b seen counts at =
     (All-counted t.upto seen) (All-take (Contains seen) (place t.upto) seen (All-contains_itself seen)) counts.sums
 
 -- the sums of an account give this balance
-pub record IsBalanced (row : AccountSums) (balance : ℕ) : Type 0 where
-  pub room : row.credits + 2 ^ 64 ≤ 2 ^ 128
-  pub covered : row.debits ≤ row.opening + row.credits
-  pub fits : row.opening + row.credits - row.debits < 2 ^ 64
-  pub is : row.opening + row.credits - row.debits ≡ balance
+pub record IsBalanced (account_sums : AccountSums) (balance : ℕ) : Type 0 where
+  pub room : account_sums.credits + 2 ^ 64 ≤ 2 ^ 128
+  pub covered : account_sums.debits ≤ account_sums.opening + account_sums.credits
+  pub fits : account_sums.opening + account_sums.credits - account_sums.debits < 2 ^ 64
+  pub is : account_sums.opening + account_sums.credits - account_sums.debits ≡ balance
 
 pub IsBalanced-front : (t : TotalSums) (b : BookTerms) (seen : List Publication) (a : ℕ) → CountsAccount t b seen a → CountsFront t b seen
-    → IsBalanced (row_at t.accounts a) (balance_after b (prefix_of t.upto seen) a)
+    → IsBalanced (sums_at t.accounts a) (balance_after b (prefix_of t.upto seen) a)
 IsBalanced-front t b seen a counts at =
-    let row = (AreSumsOf-front t b seen counts.counted at).accounts a counts.account_in in
+    let account_sums = (AreSumsOf-front t b seen counts.counted at).accounts a counts.account_in in
     let before = counts.counted.sums.accounts a counts.account_in in
     let run : IsRun b (prefix_of t.upto seen) =
     at.history.runs (place t.upto) (place-IsFront-le b.processes t.upto seen at.front (ArePublishedBy-IsHistory b seen at.history)) in
     let few = length-counted-le b t.upto seen counts.counted.book at.history counts.counted.processes in
     record {
       room = omega (arith, before.small_credits, few);
-      covered = omega (arith, row.opening, row.credits, row.debits, run.covered a counts.account_in);
-      fits = omega (arith, row.opening, row.credits, row.debits, run.fits a counts.account_in);
-      is = omega (arith, row.opening, row.credits, row.debits);
+      covered = omega (arith, account_sums.opening, account_sums.credits, account_sums.debits, run.covered a counts.account_in);
+      fits = omega (arith, account_sums.opening, account_sums.credits, account_sums.debits, run.fits a counts.account_in);
+      is = omega (arith, account_sums.opening, account_sums.credits, account_sums.debits);
     }
 
 -- what an index reads
-pub row_read : (inside rows : List AccountSums) (a : ℕ) (row : AccountSums) → row ≡ get_or inside a row → inside ≡ rows → a < length rows
-    → row ≡ row_at rows a
-row_read inside rows a row is same within =
-    is ∙ (get_or_default inside a row no_row (omega (arith, within, ap length same)) ∙ ap (λ r. row_at r a) same)
+pub sums_read : (inside all_sums : List AccountSums) (a : ℕ) (account_sums : AccountSums) → account_sums ≡ get_or inside a account_sums → inside ≡ all_sums → a < length all_sums
+    → account_sums ≡ sums_at all_sums a
+sums_read inside all_sums a account_sums is same within =
+    is ∙ (get_or_default inside a account_sums no_sums (omega (arith, within, ap length same)) ∙ ap (λ r. sums_at r a) same)

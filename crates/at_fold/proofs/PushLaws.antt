@@ -16,9 +16,9 @@ use Rattle.at_history.specs.Histories.{IsHistory}
 use Rattle.at_history.proofs.Laws.Rounds.{one_if, sum_by-firsts_new, sum_by-firsts_repeat}
 use Rattle.at_fold.proofs.RoundSums.{repeats-firsts}
 use Rattle.at_fold.proofs.SumsLaws.{same_entry-IsHistory}
-use Rattle.at_fold.specs.Counted.{IsAnswer}
+use Rattle.at_fold.specs.Counted.{IsSettledSo}
 use Rattle.at_fold.specs.HasCounted.{AreSumsOf, IsAccountOf, IsSlotOf}
-use Rattle.at_fold.specs.Sums.{AccountSums, SlotSums, answer_at, row_at, slot_at, with_amounts}
+use Rattle.at_fold.specs.Sums.{AccountSums, SlotSums, answer_at, sums_at, slot_at, with_amounts}
 
 -- an element that passes a test that some element passes
 found_by : (g : Publication → Bool) (xs : List Publication) → list_any g xs ≡ true → (y : Publication) × Contains xs y × (g y ≡ true)
@@ -64,11 +64,11 @@ list_any_again g xs x y listed same =
         ap (λ t. g u.entry || t) (found zs z (k, omega (arith, within), is) passes) ∙ or_true (g u.entry)
 
 -- an answer stays with one more record that says nothing of the request
-pub IsAnswer-push : (xs : List Publication) (x : Publication) (a slot number : ℕ) (answer : Option (ℕ × Decision))
+pub IsSettledSo-push : (xs : List Publication) (x : Publication) (a slot number : ℕ) (answer : Option (ℕ × Decision))
     → list_any (λ z. settles a slot number z.entry) (xs ++ x ∷ []) ≡ list_any (λ z. settles a slot number z.entry) xs
-    → IsAnswer xs a slot number answer → IsAnswer (xs ++ x ∷ []) a slot number answer
-IsAnswer-push xs x a slot number None same none = same ∙ none
-IsAnswer-push xs x a slot number (Some (round, d)) same so = record {
+    → IsSettledSo xs a slot number answer → IsSettledSo (xs ++ x ∷ []) a slot number answer
+IsSettledSo-push xs x a slot number None same none = same ∙ none
+IsSettledSo-push xs x a slot number (Some (round, d)) same so = record {
   publication = so.publication;
   targets = so.targets;
   listed = Contains-append_left xs (x ∷ []) so.publication so.listed;
@@ -85,12 +85,12 @@ module _ (b : BookTerms) where
     done = so.done ∙ sym (sum_by-firsts_repeat (λ z. one_if (names a slot z.entry)) xs x again);
     room = so.room;
     settled = λ number within.
-        IsAnswer-push xs x a slot number (answer_at sums number) (list_any_again (settles a slot number) xs x y listed same) (so.settled number within);
+        IsSettledSo-push xs x a slot number (answer_at sums number) (list_any_again (settles a slot number) xs x y listed same) (so.settled number within);
   }
 
-  IsAccountOf-repeat : (xs : List Publication) (x y : Publication) (a : ℕ) (row : AccountSums) → repeats x (firsts xs) ≡ true
-      → Contains xs y → x.entry ≡ y.entry → IsAccountOf b xs a row → IsAccountOf b (xs ++ x ∷ []) a row
-  IsAccountOf-repeat xs x y a row again listed same so =
+  IsAccountOf-repeat : (xs : List Publication) (x y : Publication) (a : ℕ) (account_sums : AccountSums) → repeats x (firsts xs) ≡ true
+      → Contains xs y → x.entry ≡ y.entry → IsAccountOf b xs a account_sums → IsAccountOf b (xs ++ x ∷ []) a account_sums
+  IsAccountOf-repeat xs x y a account_sums again listed same so =
       let long = length-append xs (x ∷ []) in
       record {
         opening = so.opening;
@@ -102,15 +102,15 @@ module _ (b : BookTerms) where
         room = so.room;
         is_counted = λ r within. so.is_counted r within ∙ sym (list_any_again (is_round a r) xs x y listed same);
         slots_room = so.slots_room;
-        slots = λ slot within. IsSlotOf-repeat xs x y a slot (slot_at row slot) again listed same (so.slots slot within);
+        slots = λ slot within. IsSlotOf-repeat xs x y a slot (slot_at account_sums slot) again listed same (so.slots slot within);
       }
 
-  pub AreSumsOf-repeat : (seen xs : List Publication) (x : Publication) (rows : List AccountSums) → IsHistory b seen
-      → All (Contains seen) xs → Contains seen x → repeats x (firsts xs) ≡ true → AreSumsOf b xs rows → AreSumsOf b (xs ++ x ∷ []) rows
-  AreSumsOf-repeat seen xs x rows history all known again so =
+  pub AreSumsOf-repeat : (seen xs : List Publication) (x : Publication) (all_sums : List AccountSums) → IsHistory b seen
+      → All (Contains seen) xs → Contains seen x → repeats x (firsts xs) ≡ true → AreSumsOf b xs all_sums → AreSumsOf b (xs ++ x ∷ []) all_sums
+  AreSumsOf-repeat seen xs x all_sums history all known again so =
       let twin = found_by (λ z. is_same_round x.entry z.entry) xs (sym (repeats-firsts x xs) ∙ again) in
       let same = same_entry-IsHistory b seen history x twin.0 known (All-contains (Contains seen) xs twin.0 all twin.1) twin.2 in
-      record { sized = so.sized; accounts = λ a within. IsAccountOf-repeat xs x twin.0 a (row_at rows a) again twin.1 same (so.accounts a within) }
+      record { sized = so.sized; accounts = λ a within. IsAccountOf-repeat xs x twin.0 a (sums_at all_sums a) again twin.1 same (so.accounts a within) }
 
   -- one more record that is of no round of the account
   pub IsSlotOf-other : (xs : List Publication) (x : Publication) (a slot : ℕ) (sums : SlotSums) → repeats x (firsts xs) ≡ false
@@ -120,16 +120,16 @@ module _ (b : BookTerms) where
     done = omega (arith, so.done, sum_by-firsts_new (λ z. one_if (names a slot z.entry)) xs x new, ap one_if unnamed);
     room = so.room;
     settled = λ number within.
-        IsAnswer-push xs x a slot number (answer_at sums number)
+        IsSettledSo-push xs x a slot number (answer_at sums number)
         (list_any_fails (λ z. settles a slot number z.entry) xs x (unsettled number)) (so.settled number within);
   }
 
-  pub IsAccountOf-other : (xs : List Publication) (x : Publication) (a : ℕ) (row : AccountSums) → repeats x (firsts xs) ≡ false
+  pub IsAccountOf-other : (xs : List Publication) (x : Publication) (a : ℕ) (account_sums : AccountSums) → repeats x (firsts xs) ≡ false
       → is_round_on a x.entry ≡ false → ((r : ℕ) → is_round a r x.entry ≡ false) → ((slot : ℕ) → names a slot x.entry ≡ false)
       → ((slot number : ℕ) → settles a slot number x.entry ≡ false)
-      → credit_of a x.entry ≤ 2 ^ 66 → debit_of a x.entry ≤ 2 ^ 66 → IsAccountOf b xs a row
-      → IsAccountOf b (xs ++ x ∷ []) a (with_amounts (credit_of a x.entry) (debit_of a x.entry) row)
-  IsAccountOf-other xs x a row new off none unnamed unsettled small less so =
+      → credit_of a x.entry ≤ 2 ^ 66 → debit_of a x.entry ≤ 2 ^ 66 → IsAccountOf b xs a account_sums
+      → IsAccountOf b (xs ++ x ∷ []) a (with_amounts (credit_of a x.entry) (debit_of a x.entry) account_sums)
+  IsAccountOf-other xs x a account_sums new off none unnamed unsettled small less so =
       let long = length-append xs (x ∷ []) in
       record {
         opening = so.opening;
@@ -141,5 +141,5 @@ module _ (b : BookTerms) where
         room = so.room;
         is_counted = λ r within. so.is_counted r within ∙ sym (list_any_fails (λ z. is_round a r z.entry) xs x (none r));
         slots_room = so.slots_room;
-        slots = λ slot within. IsSlotOf-other xs x a slot (slot_at row slot) new (unnamed slot) (λ number. unsettled slot number) (so.slots slot within);
+        slots = λ slot within. IsSlotOf-other xs x a slot (slot_at account_sums slot) new (unnamed slot) (λ number. unsettled slot number) (so.slots slot within);
       }

@@ -14,9 +14,9 @@ use Rattle.at_history.specs.Publications.{publications_of}
 use Rattle.at_history.proofs.Laws.Sums.{get_or-zeros}
 use Rattle.at_history.proofs.Laws.Rounds.{firsts-nil, one_if}
 use Rattle.at_fold.proofs.CountedLaws.{part}
-use Rattle.at_fold.specs.Counted.{IsAnswer, counted}
+use Rattle.at_fold.specs.Counted.{IsSettledSo, counted}
 use Rattle.at_fold.specs.HasCounted.{AreSumsOf, HasCounted, IsAccountOf, IsSlotOf}
-use Rattle.at_fold.specs.Sums.{no_row, no_slot, starting_row, starting_slot}
+use Rattle.at_fold.specs.Sums.{no_sums, no_slot, starting_sums, starting_slot}
 
 counted-zeros : (n : ℕ) (list : List Publication) → counted (replicate n 0) list ≡ []
 unfolding counted
@@ -32,10 +32,10 @@ IsSlotOf-starting : (b : BookTerms) (a slot : ℕ) → IsSlotOf b [] a slot (sta
 IsSlotOf-starting b a slot = record {
   done = ap (sum_by (λ x. one_if (names a slot x.entry))) (sym firsts-nil);
   room = length-replicate b.request_room None;
-  settled = λ number within. subst (IsAnswer [] a slot number) (sym (get_or-replicate b.request_room number None None within)) refl;
+  settled = λ number within. subst (IsSettledSo [] a slot number) (sym (get_or-replicate b.request_room number None None within)) refl;
 }
 
-IsAccountOf-starting : (b : BookTerms) (a : ℕ) → IsAccountOf b [] a (starting_row b a)
+IsAccountOf-starting : (b : BookTerms) (a : ℕ) → IsAccountOf b [] a (starting_sums b a)
 IsAccountOf-starting b a =
     let room = rounds_room b.request_room (account_of b a) in
     let slots = slots_of (account_of b a) in
@@ -54,18 +54,18 @@ IsAccountOf-starting b a =
     }
 
 pub HasCounted-starting : (b : BookTerms) (seen : List Publication) → IsBook b
-    → HasCounted (record { upto = replicate b.processes 0; accounts = map (starting_row b) (range_with_len 0 (length b.accounts)) }) b seen
+    → HasCounted (record { upto = replicate b.processes 0; accounts = map (starting_sums b) (range_with_len 0 (length b.accounts)) }) b seen
 HasCounted-starting b seen book =
-    let rows = map (starting_row b) (range_with_len 0 (length b.accounts)) in
-    let sums : AreSumsOf b [] rows = record {
-      sized = length-map-range_with_len (starting_row b) 0 (length b.accounts);
+    let all_sums = map (starting_sums b) (range_with_len 0 (length b.accounts)) in
+    let sums : AreSumsOf b [] all_sums = record {
+      sized = length-map-range_with_len (starting_sums b) 0 (length b.accounts);
       accounts = λ a within.
-          subst (IsAccountOf b [] a) (sym (get_or-map-range_with_len (starting_row b) 0 (length b.accounts) a a no_row within (omega arith)))
+          subst (IsAccountOf b [] a) (sym (get_or-map-range_with_len (starting_sums b) 0 (length b.accounts) a a no_sums within (omega arith)))
           (IsAccountOf-starting b a);
     } in
     record {
       book = book;
       processes = length-replicate b.processes 0;
       within = λ p below. omega (arith, get_or-zeros b.processes p);
-      sums = subst (λ list. AreSumsOf b list rows) (sym (counted-zeros b.processes seen)) sums;
+      sums = subst (λ list. AreSumsOf b list all_sums) (sym (counted-zeros b.processes seen)) sums;
     }

@@ -26,7 +26,7 @@ use Rattle.at_fold.proofs.RoundSums.{repeats-firsts}
 use Rattle.at_fold.proofs.SumsLaws.{AreSumsOf-same}
 use Rattle.at_fold.specs.Counted.{counted}
 use Rattle.at_fold.specs.HasCounted.{AreSumsOf, HasCounted, MayCount}
-use Rattle.at_fold.specs.Sums.{AccountSums, FitsMore, FitsRound, HasPlace, TotalSums, after_entry, is_new_to, row_at}
+use Rattle.at_fold.specs.Sums.{AccountSums, FitsMore, FitsRound, HasSums, TotalSums, after_entry, is_new_to, sums_at}
 
 -- the record that is counted next
 abbrev pub next_record : TotalSums → List Publication → ℕ → Publication
@@ -40,17 +40,17 @@ IsShown-IsHistory : (b : BookTerms) (seen : List Publication) (x : Publication) 
 IsShown-IsHistory b seen x history (k, within, is) =
     subst (IsShown b seen) (get_or_default seen k no_publication x within ∙ is) (history.entries k within, history.decisions k within)
 
-HasPlace-IsShown : (b : BookTerms) (seen xs prefix : List Publication) (p : ℕ) (e : Entry) (rows : List AccountSums) → AreSumsOf b xs rows
-    → IsShownEntry b p prefix e → IsShownDecision b seen e → HasPlace rows e
-HasPlace-IsShown b seen xs prefix p (Own from targets) rows so entry decision =
+HasSums-IsShown : (b : BookTerms) (seen xs prefix : List Publication) (p : ℕ) (e : Entry) (all_sums : List AccountSums) → AreSumsOf b xs all_sums
+    → IsShownEntry b p prefix e → IsShownDecision b seen e → HasSums all_sums e
+HasSums-IsShown b seen xs prefix p (Own from targets) all_sums so entry decision =
     (omega (arith, so.sized, entry.source_in), subst (λ n. AreTargetsOn n targets) (sym so.sized) entry.targets_in.accounts)
-HasPlace-IsShown b seen xs prefix p (Round account r d targets) rows so entry decision =
-    let row = so.accounts account entry.0.account_in in (
+HasSums-IsShown b seen xs prefix p (Round account r d targets) all_sums so entry decision =
+    let account_sums = so.accounts account entry.0.account_in in (
       omega (arith, so.sized, entry.0.account_in),
       subst (λ n. AreTargetsOn n targets) (sym so.sized) entry.1.accounts,
-      omega (arith, row.room, decision.room),
-      omega (arith, row.slots_room, entry.3),
-      omega (arith, (row.slots d.slot entry.3).room, decision.number_in),
+      omega (arith, account_sums.room, decision.room),
+      omega (arith, account_sums.slots_room, entry.3),
+      omega (arith, (account_sums.slots d.slot entry.3).room, decision.number_in),
     )
 
 -- a list has no more rounds than records
@@ -80,21 +80,21 @@ rounds-le g xs =
       ap (λ t. sum_by (λ x. one_if (g x)) (firsts t)) (take_all (length xs) xs (omega arith)),
     )
 
-FitsRound-IsShown : (b : BookTerms) (seen xs prefix : List Publication) (p : ℕ) (e : Entry) (rows : List AccountSums) → AreSumsOf b xs rows
-    → length xs ≤ 131072 → IsShownEntry b p prefix e → FitsRound rows e
-FitsRound-IsShown b seen xs prefix p (Own from targets) rows so few entry = tt
-FitsRound-IsShown b seen xs prefix p (Round account r d targets) rows so few entry =
-    let row = so.accounts account entry.0.account_in in (
-      omega (arith, row.rounds, rounds-le (λ x. is_round_on account x.entry) xs, few),
-      omega (arith, (row.slots d.slot entry.3).done, rounds-le (λ x. names account d.slot x.entry) xs, few),
+FitsRound-IsShown : (b : BookTerms) (seen xs prefix : List Publication) (p : ℕ) (e : Entry) (all_sums : List AccountSums) → AreSumsOf b xs all_sums
+    → length xs ≤ 131072 → IsShownEntry b p prefix e → FitsRound all_sums e
+FitsRound-IsShown b seen xs prefix p (Own from targets) all_sums so few entry = tt
+FitsRound-IsShown b seen xs prefix p (Round account r d targets) all_sums so few entry =
+    let account_sums = so.accounts account entry.0.account_in in (
+      omega (arith, account_sums.rounds, rounds-le (λ x. is_round_on account x.entry) xs, few),
+      omega (arith, (account_sums.slots d.slot entry.3).done, rounds-le (λ x. names account d.slot x.entry) xs, few),
     )
 
-is_new_to-IsShown : (b : BookTerms) (seen xs prefix : List Publication) (p : ℕ) (v : List ℕ) (e : Entry) (rows : List AccountSums)
-    → AreSumsOf b xs rows → IsShownEntry b p prefix e → IsShownDecision b seen e → is_new_to rows e ≡ not (repeats (published p v e) (firsts xs))
-is_new_to-IsShown b seen xs prefix p v (Own from targets) rows so entry decision = ap not (sym (repeats-own p v from targets (firsts xs)))
-is_new_to-IsShown b seen xs prefix p v (Round account r d targets) rows so entry decision =
-    let row = so.accounts account entry.0.account_in in
-    ap not (row.is_counted r decision.room ∙ sym (repeats-firsts (published p v (Round account r d targets)) xs))
+is_new_to-IsShown : (b : BookTerms) (seen xs prefix : List Publication) (p : ℕ) (v : List ℕ) (e : Entry) (all_sums : List AccountSums)
+    → AreSumsOf b xs all_sums → IsShownEntry b p prefix e → IsShownDecision b seen e → is_new_to all_sums e ≡ not (repeats (published p v e) (firsts xs))
+is_new_to-IsShown b seen xs prefix p v (Own from targets) all_sums so entry decision = ap not (sym (repeats-own p v from targets (firsts xs)))
+is_new_to-IsShown b seen xs prefix p v (Round account r d targets) all_sums so entry decision =
+    let account_sums = so.accounts account entry.0.account_in in
+    ap not (account_sums.is_counted r decision.room ∙ sym (repeats-firsts (published p v (Round account r d targets)) xs))
 
 module _ (t : TotalSums) (b : BookTerms) (seen : List Publication) (p : ℕ) (e : Entry) (may : MayCount t b seen p e) where
   abbrev x : Publication
@@ -112,15 +112,15 @@ module _ (t : TotalSums) (b : BookTerms) (seen : List Publication) (p : ℕ) (e 
   few : length (counted t.upto seen) ≤ 131072
   few = length-counted-le b t.upto seen may.counts.book may.history may.counts.processes
 
-  pub HasPlace-MayCount : HasPlace t.accounts e
-  HasPlace-MayCount =
-      subst (HasPlace t.accounts) (sym may.next.entry)
-      (HasPlace-IsShown b seen (counted t.upto seen) (prefix_of x.view seen) x.process x.entry t.accounts may.counts.sums shown.0 shown.1)
+  pub HasSums-MayCount : HasSums t.accounts e
+  HasSums-MayCount =
+      subst (HasSums t.accounts) (sym may.next.entry)
+      (HasSums-IsShown b seen (counted t.upto seen) (prefix_of x.view seen) x.process x.entry t.accounts may.counts.sums shown.0 shown.1)
 
   pub FitsMore-MayCount : FitsMore t.accounts
   FitsMore-MayCount a within =
-      let row = may.counts.sums.accounts a (omega (arith, within, may.counts.sums.sized)) in
-      (omega (arith, row.small_credits, few), omega (arith, row.small_debits, few))
+      let account_sums = may.counts.sums.accounts a (omega (arith, within, may.counts.sums.sized)) in
+      (omega (arith, account_sums.small_credits, few), omega (arith, account_sums.small_debits, few))
 
   pub FitsRound-MayCount : FitsRound t.accounts e
   FitsRound-MayCount =
@@ -178,14 +178,14 @@ module _ (t : TotalSums) (b : BookTerms) (seen : List Publication) (p : ℕ) (e 
   -- a record of a new round, or an own one, is counted where its amounts and its decision are added
   pub HasCounted-new : (after : List AccountSums) → is_new_to t.accounts e ≡ true
       → ((a : ℕ) → (credit_of a e ≤ 2 ^ 66) × (debit_of a e ≤ 2 ^ 66)) → length after ≡ length t.accounts
-      → ((a : ℕ) → a < length t.accounts → row_at after a ≡ after_entry a e (row_at t.accounts a))
+      → ((a : ℕ) → a < length t.accounts → sums_at after a ≡ after_entry a e (sums_at t.accounts a))
       → HasCounted (record { upto = set t.upto p (get_or t.upto p 0 + 1); accounts = after }) b seen
   HasCounted-new after new small same so =
       HasCounted-more after
       (AreSumsOf-new b (counted t.upto seen) x t.accounts after (not_true (repeats x (firsts (counted t.upto seen))) (sym is_new ∙ new))
-      (subst (HasPlace t.accounts) may.next.entry HasPlace-MayCount)
+      (subst (HasSums t.accounts) may.next.entry HasSums-MayCount)
       (λ a. subst (λ (f : Entry). (credit_of a f ≤ 2 ^ 66) × (debit_of a f ≤ 2 ^ 66)) may.next.entry (small a)) same
-      (λ a within. so a within ∙ ap (λ f. after_entry a f (row_at t.accounts a)) may.next.entry) may.counts.sums)
+      (λ a within. so a within ∙ ap (λ f. after_entry a f (sums_at t.accounts a)) may.next.entry) may.counts.sums)
 
   -- and one of a round that is counted, where nothing is
   pub HasCounted-repeat : is_new_to t.accounts e ≡ false

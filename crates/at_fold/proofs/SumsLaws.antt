@@ -20,9 +20,9 @@ use Rattle.at_history.specs.Histories.{IsHistory}
 use Rattle.at_history.proofs.Laws.Rounds.{one_if}
 use Rattle.at_fold.proofs.RoundSums.{sum_by-firsts-same}
 use Rattle.at_fold.proofs.Shuffles.{HasSameRecords, IsShuffle, IsShuffle-HasSameRecords, length-IsShuffle, list_any-IsShuffle}
-use Rattle.at_fold.specs.Counted.{IsAnswer}
+use Rattle.at_fold.specs.Counted.{IsSettledSo}
 use Rattle.at_fold.specs.HasCounted.{AreSumsOf, IsAccountOf, IsSlotOf}
-use Rattle.at_fold.specs.Sums.{AccountSums, SlotSums, answer_at, row_at, slot_at}
+use Rattle.at_fold.specs.Sums.{AccountSums, SlotSums, answer_at, sums_at, slot_at}
 
 and_true : (s t : Bool) → (s && t) ≡ true → (s ≡ true) × (t ≡ true)
 and_true true true both = (refl, refl)
@@ -72,11 +72,11 @@ All-IsShuffle (x ∷ xs) ys (front, back, split, rest) =
         ]
 
 -- an answer depends on the records alone
-IsAnswer-same : (xs ys : List Publication) (a slot number : ℕ) (answer : Option (ℕ × Decision)) → HasSameRecords xs ys
-    → IsAnswer xs a slot number answer → IsAnswer ys a slot number answer
-IsAnswer-same xs ys a slot number None same none =
+IsSettledSo-same : (xs ys : List Publication) (a slot number : ℕ) (answer : Option (ℕ × Decision)) → HasSameRecords xs ys
+    → IsSettledSo xs a slot number answer → IsSettledSo ys a slot number answer
+IsSettledSo-same xs ys a slot number None same none =
     sym (list_any-IsShuffle (λ x. settles a slot number x.entry) xs ys (IsShuffle-HasSameRecords xs ys same)) ∙ none
-IsAnswer-same xs ys a slot number (Some (round, d)) same so = record {
+IsSettledSo-same xs ys a slot number (Some (round, d)) same so = record {
   publication = so.publication;
   targets = so.targets;
   listed = All-contains (Contains ys) xs so.publication (All-IsShuffle xs ys (IsShuffle-HasSameRecords xs ys same)) so.listed;
@@ -98,12 +98,12 @@ module _ (b : BookTerms) (seen : List Publication) (history : IsHistory b seen) 
   IsSlotOf-same xs ys a slot sums same all all_too so = record {
     done = so.done ∙ round_sums-same (λ e. one_if (names a slot e)) xs ys same all all_too;
     room = so.room;
-    settled = λ number within. IsAnswer-same xs ys a slot number (answer_at sums number) same (so.settled number within);
+    settled = λ number within. IsSettledSo-same xs ys a slot number (answer_at sums number) same (so.settled number within);
   }
 
-  IsAccountOf-same : (xs ys : List Publication) (a : ℕ) (row : AccountSums) → HasSameRecords xs ys → All (Contains seen) xs → All (Contains seen) ys
-      → IsAccountOf b xs a row → IsAccountOf b ys a row
-  IsAccountOf-same xs ys a row same all all_too so =
+  IsAccountOf-same : (xs ys : List Publication) (a : ℕ) (account_sums : AccountSums) → HasSameRecords xs ys → All (Contains seen) xs → All (Contains seen) ys
+      → IsAccountOf b xs a account_sums → IsAccountOf b ys a account_sums
+  IsAccountOf-same xs ys a account_sums same all all_too so =
       let shuffle = IsShuffle-HasSameRecords xs ys same in
       let long = length-IsShuffle xs ys shuffle in
       record {
@@ -116,13 +116,13 @@ module _ (b : BookTerms) (seen : List Publication) (history : IsHistory b seen) 
         room = so.room;
         is_counted = λ r within. so.is_counted r within ∙ list_any-IsShuffle (λ x. is_round a r x.entry) xs ys shuffle;
         slots_room = so.slots_room;
-        slots = λ slot within. IsSlotOf-same xs ys a slot (slot_at row slot) same all all_too (so.slots slot within);
+        slots = λ slot within. IsSlotOf-same xs ys a slot (slot_at account_sums slot) same all all_too (so.slots slot within);
       }
 
   -- the sums of a list are those of each list with the same records
-  pub AreSumsOf-same : (xs ys : List Publication) (rows : List AccountSums) → HasSameRecords xs ys → All (Contains seen) xs
-      → All (Contains seen) ys → AreSumsOf b xs rows → AreSumsOf b ys rows
-  AreSumsOf-same xs ys rows same all all_too so = record {
+  pub AreSumsOf-same : (xs ys : List Publication) (all_sums : List AccountSums) → HasSameRecords xs ys → All (Contains seen) xs
+      → All (Contains seen) ys → AreSumsOf b xs all_sums → AreSumsOf b ys all_sums
+  AreSumsOf-same xs ys all_sums same all all_too so = record {
     sized = so.sized;
-    accounts = λ a within. IsAccountOf-same xs ys a (row_at rows a) same all all_too (so.accounts a within);
+    accounts = λ a within. IsAccountOf-same xs ys a (sums_at all_sums a) same all all_too (so.accounts a within);
   }

@@ -22,6 +22,6 @@ pub record IsDecidedIn (list : List Publication) (a s n r : ℕ) (d : Decision) 
   pub number : d.number ≡ n
 
 -- where a request was decided; nothing is answered exactly where no record names it
-abbrev pub IsAnswer : List Publication → ℕ → ℕ → ℕ → Option (ℕ × Decision) → Type 0
-IsAnswer list a slot number None = is_settled a slot number list ≡ false
-IsAnswer list a slot number (Some (round, d)) = IsDecidedIn list a slot number round d
+abbrev pub IsSettledSo : List Publication → ℕ → ℕ → ℕ → Option (ℕ × Decision) → Type 0
+IsSettledSo list a slot number None = is_settled a slot number list ≡ false
+IsSettledSo list a slot number (Some (round, d)) = IsDecidedIn list a slot number round d

@@ -14,33 +14,33 @@ use Rattle.at_history.specs.Publications.{IsPrefix, count_of, counts, publicatio
 use Rattle.at_history.specs.Rounds.{named, rounds}
 use Rattle.at_history.specs.Histories.{IsHistory}
 use Rattle.std.specs.List.{list_any}
-use Rattle.at_fold.specs.Counted.{IsAnswer, counted}
-use Rattle.at_fold.specs.Sums.{AccountSums, SlotSums, TotalSums, answer_at, is_counted, row_at, slot_at}
+use Rattle.at_fold.specs.Counted.{IsSettledSo, counted}
+use Rattle.at_fold.specs.Sums.{AccountSums, SlotSums, TotalSums, answer_at, is_counted, sums_at, slot_at}
 
 -- the sums of a slot are those of the list
 pub record IsSlotOf (b : BookTerms) (list : List Publication) (a slot : ℕ) (sums : SlotSums) : Type 0 where
   pub done : sums.done ≡ named a slot list
   pub room : length sums.settled ≡ b.request_room
-  pub settled : (number : ℕ) → number < b.request_room → IsAnswer list a slot number (answer_at sums number)
+  pub settled : (number : ℕ) → number < b.request_room → IsSettledSo list a slot number (answer_at sums number)
 
 -- the sums of an account are those of the list, and no record of it adds more than four amounts of 64 bits
-pub record IsAccountOf (b : BookTerms) (list : List Publication) (a : ℕ) (row : AccountSums) : Type 0 where
-  pub opening : row.opening ≡ (account_of b a).opening
-  pub credits : row.credits ≡ credits a list
-  pub debits : row.debits ≡ debits a list
-  pub small_credits : row.credits ≤ length list * 2 ^ 66
-  pub small_debits : row.debits ≤ length list * 2 ^ 66
-  pub rounds : row.rounds ≡ rounds a list
-  pub room : length row.is_counted ≡ rounds_room b.request_room (account_of b a)
+pub record IsAccountOf (b : BookTerms) (list : List Publication) (a : ℕ) (account_sums : AccountSums) : Type 0 where
+  pub opening : account_sums.opening ≡ (account_of b a).opening
+  pub credits : account_sums.credits ≡ credits a list
+  pub debits : account_sums.debits ≡ debits a list
+  pub small_credits : account_sums.credits ≤ length list * 2 ^ 66
+  pub small_debits : account_sums.debits ≤ length list * 2 ^ 66
+  pub rounds : account_sums.rounds ≡ rounds a list
+  pub room : length account_sums.is_counted ≡ rounds_room b.request_room (account_of b a)
   pub is_counted : (r : ℕ) → r < rounds_room b.request_room (account_of b a) →
-      is_counted row r ≡ list_any (λ x. is_round a r x.entry) list
-  pub slots_room : length row.slots ≡ slots_of (account_of b a)
-  pub slots : (slot : ℕ) → slot < slots_of (account_of b a) → IsSlotOf b list a slot (slot_at row slot)
+      is_counted account_sums r ≡ list_any (λ x. is_round a r x.entry) list
+  pub slots_room : length account_sums.slots ≡ slots_of (account_of b a)
+  pub slots : (slot : ℕ) → slot < slots_of (account_of b a) → IsSlotOf b list a slot (slot_at account_sums slot)
 
 -- the sums are those of the list
-pub record AreSumsOf (b : BookTerms) (list : List Publication) (rows : List AccountSums) : Type 0 where
-  pub sized : length rows ≡ length b.accounts
-  pub accounts : (a : ℕ) → a < length b.accounts → IsAccountOf b list a (row_at rows a)
+pub record AreSumsOf (b : BookTerms) (list : List Publication) (all_sums : List AccountSums) : Type 0 where
+  pub sized : length all_sums ≡ length b.accounts
+  pub accounts : (a : ℕ) → a < length b.accounts → IsAccountOf b list a (sums_at all_sums a)
 
 -- the totals have counted records that are in the list, and no others
 pub record HasCounted (t : TotalSums) (b : BookTerms) (seen : List Publication) : Type 0 where

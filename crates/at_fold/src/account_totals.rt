@@ -3,7 +3,7 @@
 ghost use Rattle.std.specs.Prelude.{◌≡◌, ◌+◌, ◌-◌, ◌*◌, ◌<◌, ◌≤◌, ◌^◌, false, length, IfOk};
 ghost use Rattle.at_ledger.specs.Book.{account_of};
 ghost use Rattle.at_ledger.specs.Account.{slots_of};
-ghost use Rattle.at_fold.specs.Sums.{answer_at, is_counted, slot_at, starting_row, with_credit, with_debit, with_round};
+ghost use Rattle.at_fold.specs.Sums.{answer_at, is_counted, slot_at, starting_sums, with_credit, with_debit, with_round};
 
 use crate::NoMemory;
 use crate::slot_totals::SlotTotals;
@@ -36,7 +36,7 @@ impl AccountTotals {
     /// Nothing counted of an account of the book.
     pub(crate) fn new(alloc: Global, book: &Book, account: u32) -> Result<AccountTotals, NoMemory>
         requires { account < length book.now.accounts }
-        ensures { IfOk result (λ a. a ≡ starting_row book.now account) }
+        ensures { IfOk result (λ a. a ≡ starting_sums book.now account) }
     {
         book.known();
         let slot_count = slots_of(book, account);

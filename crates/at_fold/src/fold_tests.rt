@@ -7,7 +7,7 @@ ghost use Rattle.at_board.specs.Knowledge.Seats.{IsOf, SeatTerms};
 ghost use Rattle.at_history.specs.Sound.{IsSoundOwn};
 ghost use Rattle.at_fold.specs.HasCounted.{HasCounted};
 ghost use Rattle.at_fold.specs.SmallFold.{CountsAll, HasOnlyFirst, HasPaid};
-ghost use Rattle.at_fold.specs.Sums.{starting_row};
+ghost use Rattle.at_fold.specs.Sums.{starting_sums};
 
 use crate::Totals;
 use crate::account_totals::AccountTotals;
@@ -369,7 +369,7 @@ fn first_round(
     account: &mut AccountTotals,
     decision: &Decision,
 ) -> Option<(u32, u32, Option<(u32, Decision)>)>
-    requires new { account.old ≡ starting_row book.now 1 }
+    requires new { account.old ≡ starting_sums book.now 1 }
     requires decision { (decision.now.slot ≡ 1) × (decision.now.number ≡ 0) }
 {
     if book.accounts() < 2 || book.owner_count(1) < 2 || book.request_room() == 0 {

@@ -8,9 +8,9 @@ ghost use Rattle.at_history.specs.Balances.{amount_for, balance_after, credit_of
 ghost use Rattle.at_history.specs.Fronts.{prefix_of};
 ghost use Rattle.at_history.specs.Rounds.{named, rounds};
 ghost use Rattle.at_board.specs.Knowledge.Parts.{own_part};
-ghost use Rattle.at_fold.specs.Counted.{IsAnswer, counted};
+ghost use Rattle.at_fold.specs.Counted.{IsSettledSo, counted};
 ghost use Rattle.at_fold.specs.HasCounted.{CountsAccount, CountsFront, CountsSlot, HasCounted, IsNext, MayCount, StaysCounted};
-ghost use Rattle.at_fold.specs.Sums.{FitsMore, FitsRound, HasPlace, after_entry, is_new_to, row_at, with_amounts, with_credit, with_decision};
+ghost use Rattle.at_fold.specs.Sums.{FitsMore, FitsRound, HasSums, after_entry, is_new_to, sums_at, with_amounts, with_credit, with_decided_round};
 
 use crate::NoMemory;
 use crate::account_totals::AccountTotals;
@@ -88,8 +88,8 @@ impl Totals {
     /// The round and the decision of a request, if a record counted names it. By look-up.
     pub fn settled(&self, account: u32, slot: u32, number: u32) -> Option<(u32, Decision)>
         requires { (b : BookTerms) × (seen : List Publication) × CountsSlot self.now b seen account slot × (number < b.request_room) }
-        ensures counted { (b : BookTerms) (seen : List Publication) → CountsSlot self.now b seen account slot → number < b.request_room → IsAnswer (counted self.now.upto seen) account slot number result }
-        ensures front { (b : BookTerms) (seen : List Publication) → CountsSlot self.now b seen account slot → number < b.request_room → CountsFront self.now b seen → IsAnswer (prefix_of self.now.upto seen) account slot number result }
+        ensures counted { (b : BookTerms) (seen : List Publication) → CountsSlot self.now b seen account slot → number < b.request_room → IsSettledSo (counted self.now.upto seen) account slot number result }
+        ensures front { (b : BookTerms) (seen : List Publication) → CountsSlot self.now b seen account slot → number < b.request_room → CountsFront self.now b seen → IsSettledSo (prefix_of self.now.upto seen) account slot number result }
     {
         self.accounts[account as usize].settled(slot, number)
     }
@@ -121,7 +121,7 @@ impl Totals {
 
     /// Whether no record of this round is counted.
     fn is_new(&self, entry: &Entry) -> bool
-        requires { HasPlace self.now.accounts entry.now }
+        requires { HasSums self.now.accounts entry.now }
         ensures { result ≡ is_new_to self.now.accounts entry.now }
     {
         match entry {
@@ -140,11 +140,11 @@ impl Totals {
 
     /// Adds a record of a round that isn't counted yet, or an own one.
     fn add(&mut self, entry: &Entry)
-        requires place { HasPlace self.old.accounts entry.now }
+        requires sums { HasSums self.old.accounts entry.now }
         requires amounts { FitsMore self.old.accounts }
         requires rounds { FitsRound self.old.accounts entry.now }
         ensures sized { length self.new.accounts ≡ length self.old.accounts }
-        ensures rows { (a : ℕ) → a < length self.old.accounts → row_at self.new.accounts a ≡ after_entry a entry.now (row_at self.old.accounts a) }
+        ensures all_sums { (a : ℕ) → a < length self.old.accounts → sums_at self.new.accounts a ≡ after_entry a entry.now (sums_at self.old.accounts a) }
         ensures small { (a : ℕ) → (credit_of a entry.now ≤ 2 ^ 66) × (debit_of a entry.now ≤ 2 ^ 66) }
         ensures upto { self.new.upto ≡ self.old.upto }
     {
@@ -154,10 +154,10 @@ impl Totals {
 
     /// Adds what a record moves, if it moves anything.
     fn add_amounts(&mut self, entry: &Entry)
-        requires place { HasPlace self.old.accounts entry.now }
+        requires sums { HasSums self.old.accounts entry.now }
         requires amounts { FitsMore self.old.accounts }
         ensures sized { length self.new.accounts ≡ length self.old.accounts }
-        ensures rows { (a : ℕ) → a < length self.old.accounts → row_at self.new.accounts a ≡ with_amounts (credit_of a entry.now) (debit_of a entry.now) (row_at self.old.accounts a) }
+        ensures all_sums { (a : ℕ) → a < length self.old.accounts → sums_at self.new.accounts a ≡ with_amounts (credit_of a entry.now) (debit_of a entry.now) (sums_at self.old.accounts a) }
         ensures small { (a : ℕ) → (credit_of a entry.now ≤ 2 ^ 66) × (debit_of a entry.now ≤ 2 ^ 66) }
         ensures upto { self.new.upto ≡ self.old.upto }
     {
@@ -178,10 +178,10 @@ impl Totals {
 
     /// Adds what a record says of a round.
     fn add_decision(&mut self, entry: &Entry)
-        requires place { HasPlace self.old.accounts entry.now }
+        requires sums { HasSums self.old.accounts entry.now }
         requires rounds { FitsRound self.old.accounts entry.now }
         ensures sized { length self.new.accounts ≡ length self.old.accounts }
-        ensures rows { (a : ℕ) → a < length self.old.accounts → row_at self.new.accounts a ≡ with_decision a entry.now (row_at self.old.accounts a) }
+        ensures all_sums { (a : ℕ) → a < length self.old.accounts → sums_at self.new.accounts a ≡ with_decided_round a entry.now (sums_at self.old.accounts a) }
         ensures upto { self.new.upto ≡ self.old.upto }
     {
         match entry {
@@ -204,7 +204,7 @@ impl Totals {
         requires targets { AreTargetsOn (length self.old.accounts) targets.now }
         requires amounts { FitsMore self.old.accounts }
         ensures sized { length self.new.accounts ≡ length self.old.accounts }
-        ensures rows { (a : ℕ) → a < length self.old.accounts → row_at self.new.accounts a ≡ with_amounts (amount_for a targets.now) (if from == a then amount_of targets.now else 0) (row_at self.old.accounts a) }
+        ensures all_sums { (a : ℕ) → a < length self.old.accounts → sums_at self.new.accounts a ≡ with_amounts (amount_for a targets.now) (if from == a then amount_of targets.now else 0) (sums_at self.old.accounts a) }
         ensures small { amount_of targets.now ≤ 2 ^ 66 }
         ensures upto { self.new.upto ≡ self.old.upto }
     {
@@ -215,9 +215,9 @@ impl Totals {
     /// Adds each amount to its target.
     fn credit(&mut self, targets: &Targets)
         requires targets { AreTargetsOn (length self.old.accounts) targets.now }
-        requires amounts { (a : ℕ) → a < length self.old.accounts → (row_at self.old.accounts a).credits + 2 ^ 66 ≤ 2 ^ 128 }
+        requires amounts { (a : ℕ) → a < length self.old.accounts → (sums_at self.old.accounts a).credits + 2 ^ 66 ≤ 2 ^ 128 }
         ensures sized { length self.new.accounts ≡ length self.old.accounts }
-        ensures rows { (a : ℕ) → a < length self.old.accounts → row_at self.new.accounts a ≡ with_credit (row_at self.old.accounts a) (amount_for a targets.now) }
+        ensures all_sums { (a : ℕ) → a < length self.old.accounts → sums_at self.new.accounts a ≡ with_credit (sums_at self.old.accounts a) (amount_for a targets.now) }
         ensures upto { self.new.upto ≡ self.old.upto }
     {
         for i in 0..targets.len() {

@@ -1,10 +1,9 @@
 -- Lists of held fronts.
-use Rattle.std.proofs.Common.{◌⊎◌, ◌≡◌, ℕ, ◌+◌, ◌<◌, List, [], ◌∷◌, ◌++◌, length, get_or, map, take, ap, inl, inr, subst, append-nil, append_assoc, ◌∙◌, sym}
+use Rattle.std.proofs.Common.{◌⊎◌, ◌≡◌, ℕ, ◌+◌, ◌<◌, List, [], ◌∷◌, ◌++◌, length, get_or, map, take, ap, inl, inr, subst, append_assoc, ◌∙◌, sym}
 use Rattle.std.specs.Prelude.{Option}
 use Rattle.std.specs.List.{Contains, cons_option, filter_map, flat_map}
 use Rattle.std.specs.List.Sorted.{IsNonDecreasingBy, IsPermutation}
 use Rattle.std.proofs.lemmas.List.{take_more}
-use Rattle.std.proofs.lemmas.Grind.{flat_map-append}
 use Rattle.std.proofs.lemmas.List.Elements.{Contains-append_left, Contains-push_cases, filter_map-append}
 use Rattle.std.proofs.lemmas.List.Sorted.{All-permutation, Contains-permutation, IsPermutation-map, IsPermutation-sym}
 use Rattle.at_history.specs.Fronts.{place}
@@ -28,21 +27,12 @@ pushed-filter_map pick xs i d start old new within before more =
     ∙ (append_assoc start (filter_map pick (take i xs)) (cons_option (pick (get_or xs i d)) [])
     ∙ ap (λ ys. start ++ ys) (sym (filter_map-take_more pick xs i d within))))
 
--- the list of one more element, added to a list that has those before
-pub pushed-flat_map : {X Y : Type 0} (g : X → List Y) (xs : List X) (i : ℕ) (d : X) (start old new : List Y) → i < length xs
-    → old ≡ start ++ flat_map g (take i xs) → new ≡ old ++ g (get_or xs i d) → new ≡ start ++ flat_map g (take (i + 1) xs)
-pushed-flat_map g xs i d start old new within before more =
-    more ∙ (ap (λ ys. ys ++ g (get_or xs i d)) before
-    ∙ (append_assoc start (flat_map g (take i xs)) (g (get_or xs i d))
-    ∙ ap (λ ys. start ++ ys) (sym (ap (flat_map g) (take_more xs i d within)
-    ∙ (flat_map-append g (take i xs) (get_or xs i d ∷ []) ∙ ap (λ ys. flat_map g (take i xs) ++ ys) (append-nil (g (get_or xs i d))))))))
-
 -- the held fronts but for the lengths of the logs, in any order
 abbrev pub all_but_lengths : ClosingTerms → List (List ℕ)
 all_but_lengths c =
     flat_map (λ log. map (λ x. x.view) log) c.logs ++ flat_map (λ receipts. filter_map (λ r. front_at r.at) receipts) c.receipts
 
--- once sorted by their places
+-- once sorted by their starts
 pub AreHeld-sorted : (c : ClosingTerms) (before after : List HeldFront) → counts_in before ≡ all_but_lengths c → ArePlaced before
     → IsPermutation before after → IsNonDecreasingBy (λ f. f.place) after → AreHeld c after
 AreHeld-sorted c before after are placed moved sorted =

@@ -1,8 +1,8 @@
 -- The keys of a process's publications, front by front.
-use Rattle.std.proofs.Common.{◌≡◌, ℕ, ◌+◌, ◌-◌, ◌<◌, ◌≤◌, zero, suc, List, [], ◌∷◌, ◌++◌, length, map, get_or, set, replicate, sum, refl, sym, ap, subst, ◌∙◌, arith, inl, inr}
+use Rattle.std.proofs.Common.{◌≡◌, ℕ, ◌+◌, ◌-◌, ◌<◌, ◌≤◌, zero, suc, List, [], ◌∷◌, ◌++◌, length, map, get_or, replicate, sum, refl, sym, ap, subst, ◌∙◌, arith, inl, inr}
 use Rattle.std.specs.List.{Contains, range_with_len}
-use Rattle.std.proofs.lemmas.Bool.{cases_eq, cases_lt}
-use Rattle.std.proofs.lemmas.List.{get_or-append_right, get_or_append_left, get_or-map, get_or-replicate, get_or_default, get_or-set_other, get_or-set_same, length-append, length-map, length-replicate, length-set}
+use Rattle.std.proofs.lemmas.Bool.{cases_lt}
+use Rattle.std.proofs.lemmas.List.{get_or-append_right, get_or_append_left, get_or-map, get_or-replicate, get_or_default, length-append, length-map, length-replicate}
 use Rattle.std.proofs.lemmas.List.FromFn.{fill_by_all}
 use Rattle.std.proofs.lemmas.List.Sums.{sum_by-cons}
 use Rattle.at_base.specs.Counts.{Covers}
@@ -13,7 +13,7 @@ use Rattle.at_log.specs.HeldFronts.{held_fronts}
 use Rattle.at_log.specs.JournalOrder.{publication_key}
 use Rattle.at_log.proofs.KeyLaws.{get_or-log_lengths, publication_key-at_least, publication_key-le, publication_key-le_all}
 use Rattle.at_journal.specs.Held.{AreHeld}
-use Rattle.at_journal.specs.Keys.{AreGiven, AreOrdered, AreWithin, IsRepeated, log_keys, with_key}
+use Rattle.at_journal.specs.Keys.{AreGiven, AreOrdered, AreWithin, IsRepeated, log_keys}
 use Rattle.at_journal.specs.declared.fronts.HeldFront.{HeldFront}
 
 -- the first keys, given by so many fronts
@@ -21,13 +21,6 @@ pub record HasKeys (c : ClosingTerms) (fronts : List HeldFront) (p k : ℕ) (key
   pub few : length keys ≤ length (log_of c p)
   pub are : (i : ℕ) → i < length keys → get_or keys i 0 ≡ publication_key c p i
   pub counted : (j : ℕ) (d : HeldFront) → j < k → j < length fronts → get_or (get_or fronts j d).counts.now p 0 ≤ length keys
-
-pub HasKeys-none : (c : ClosingTerms) (fronts : List HeldFront) (p : ℕ) → HasKeys c fronts p 0 []
-HasKeys-none c fronts p = record {
-  few = omega arith;
-  are = λ i within. absurd (omega arith);
-  counted = λ j d before within. absurd (omega arith);
-}
 
 -- a front of the sorted ones is held, within the lengths of the logs
 held_at : (c : ClosingTerms) (fronts : List HeldFront) (j : ℕ) (d : HeldFront) → AreHeld c fronts → j < length fronts
@@ -131,42 +124,10 @@ keys-HasKeys c fronts p keys held all known so =
     omega (arith, publication_key-le_all c p j, lower))
     (omega (arith, within, so.few)))
 
--- nothing is given to the first none of the processes
-pub AreGiven-none : (counts : ℕ → ℕ) (key : ℕ) (lists : List (List ℕ)) → AreGiven counts key 0 lists lists
-AreGiven-none counts key lists = record {
-  size = refl;
-  given = λ p below within. absurd (omega arith);
-  left = λ p past. refl;
-}
-
--- and a process more is given its keys
-pub AreGiven-more : (counts : ℕ → ℕ) (key p : ℕ) (old now : List (List ℕ)) → p < length old → AreGiven counts key p old now
-    → AreGiven counts key (p + 1) old (set now p (with_key (counts p) key (get_or now p [])))
-AreGiven-more counts key p old now known so =
-    let next = with_key (counts p) key (get_or now p []) in
-    record {
-      size = length-set now p next ∙ so.size;
-      given = λ q below within.
-          elim (cases_eq q p) as (λ _. get_or (set now p next) q [] ≡ with_key (counts q) key (get_or old q [])) [
-            | inl same ↦
-                ap (λ k. get_or (set now p next) k []) same
-                ∙ (get_or-set_same now p next [] (omega (arith, known, so.size))
-                ∙ (ap (with_key (counts p) key) (so.left p (omega arith)) ∙ ap (λ k. with_key (counts k) key (get_or old k [])) (sym same)))
-            | inr other ↦ get_or-set_other now p q next [] other ∙ so.given q (omega (arith, below, other)) within
-          ];
-      left = λ q past. get_or-set_other now p q next [] (λ (same : q ≡ p). absurd (omega (arith, past, same))) ∙ so.left q (omega (arith, past));
-    }
-
 -- the first keys of all processes, given by so many fronts
 pub record HaveKeys (c : ClosingTerms) (fronts : List HeldFront) (k : ℕ) (lists : List (List ℕ)) : Type 0 where
   pub size : length lists ≡ length c.logs
   pub each : (p : ℕ) → p < length c.logs → HasKeys c fronts p k (get_or lists p [])
-
-pub HaveKeys-none : (c : ClosingTerms) (fronts : List HeldFront) → HaveKeys c fronts 0 (replicate (length c.logs) [])
-HaveKeys-none c fronts = record {
-  size = length-replicate (length c.logs) [];
-  each = λ p known. subst (HasKeys c fronts p 0) (sym (get_or-replicate (length c.logs) p [] [] known)) (HasKeys-none c fronts p);
-}
 
 -- a front gives its place to all publications that it counts first
 pub HaveKeys-more : (c : ClosingTerms) (fronts : List HeldFront) (k : ℕ) (old new : List (List ℕ)) (front : HeldFront) → AreHeld c fronts → AreWithin c
@@ -186,12 +147,6 @@ keys-HaveKeys c fronts old new held all given so =
     fill_by_all (log_keys c) new (length c.logs) [] (given.size ∙ so.size)
     (λ p known. given.given p (omega (arith, known, so.size)) (omega (arith, known, so.size))
     ∙ keys-HasKeys c fronts p (get_or old p []) held all known (so.each p known))
-
--- a held front has a count for each process
-pub sized_front : (c : ClosingTerms) (fronts : List HeldFront) (k : ℕ) (front : HeldFront) → AreHeld c fronts → AreWithin c → k < length fronts
-    → get_or fronts k front ≡ front → length front.counts.now ≡ length c.logs
-sized_front c fronts k front held all within is =
-    (all front.counts.now (subst (λ (f : HeldFront). Contains (held_fronts c) f.counts.now) is (held_at c fronts k front held within))).0
 
 -- counts that cover others of the same sum are the same
 same-Covers : (view other : List ℕ) (p : ℕ) → length view ≡ length other → Covers view other → sum view ≡ sum other → p < length view
@@ -214,12 +169,12 @@ same-Covers (x ∷ xs) (y ∷ ys) p same covers sums within =
 -- two held fronts of one place are the same
 same_counts : (c : ClosingTerms) (view other : List ℕ) (p : ℕ) → AreWithin c → AreOrdered c → Contains (held_fronts c) view → Contains (held_fronts c) other
     → place view ≡ place other → p < length c.logs → get_or view p 0 ≡ get_or other p 0
-same_counts c view other p all ordered there also places known =
+same_counts c view other p all ordered there also starts known =
     let long = (all view there).0 in
     let size = (all other also).0 in
     elim (ordered view other there also) as (λ _. get_or view p 0 ≡ get_or other p 0) [
-      | inl over ↦ same-Covers view other p (long ∙ sym size) over places (omega (arith, long, known))
-      | inr under ↦ sym (same-Covers other view p (size ∙ sym long) under (sym places) (omega (arith, size, known)))
+      | inl over ↦ same-Covers view other p (long ∙ sym size) over starts (omega (arith, long, known))
+      | inr under ↦ sym (same-Covers other view p (size ∙ sym long) under (sym starts) (omega (arith, size, known)))
     ]
 
 -- a front of the place of the one before it counts nothing more
@@ -238,10 +193,10 @@ HaveKeys-same c fronts k lists held all ordered within repeated so = record {
               | inr late ↦
                   let at : j ≡ k = omega (arith, late, before) in
                   let last : k - 1 < length fronts = omega (arith, within) in
-                  let places : place (get_or fronts k d).counts.now ≡ place (get_or fronts (k - 1) d).counts.now =
+                  let starts : place (get_or fronts k d).counts.now ≡ place (get_or fronts (k - 1) d).counts.now =
                   sym (index_of c fronts k d held within) ∙ (sym (repeated d).1 ∙ index_of c fronts (k - 1) d held last) in
                   let same = same_counts c (get_or fronts k d).counts.now (get_or fronts (k - 1) d).counts.now p all ordered
-                  (held_at c fronts k d held within) (held_at c fronts (k - 1) d held last) places known in
+                  (held_at c fronts k d held within) (held_at c fronts (k - 1) d held last) starts known in
                   omega (arith, ap (λ m. get_or (get_or fronts m d).counts.now p 0) at, same, has.counted (k - 1) d (omega (arith, (repeated d).0)) last)
             ];
       };

@@ -28,7 +28,7 @@ use Rattle.at_log.specs.declared.receipt.Receipt.{Receipt}
 use Rattle.at_journal.proofs.KeepLaws.{no_receipt}
 use Rattle.at_journal.proofs.PositionLaws.{own_position-at, round_position-at}
 use Rattle.at_journal.proofs.SameMove.{first_account-payout}
-use Rattle.at_journal.specs.Positions.{HasOwnPositions, HasPlaces, HasRoundPositions}
+use Rattle.at_journal.specs.Positions.{HasOwnPositions, HasStarts, HasRoundPositions}
 
 -- a round with a record is one of the rounds
 round-below : (b : BookTerms) (c : ClosingTerms) (m a r : ℕ) (d : Decision) (targets : List TargetPair) → Coherent b c
@@ -41,12 +41,12 @@ round-below b c m a r d targets coherent within is =
     subst (IsInitial a) (take_all (length order) order (omega arith)) (IsInitial-journal_order b c (length order) coherent (omega arith) a) in
     ltb-true r (rounds a order) (sym (initial.has r) ∙ has)
 
-module _ (b : BookTerms) (c : ClosingTerms) (p : ℕ) (own : List ℕ) (places : List (List ℕ)) (coherent : Coherent b c)
-    (owns : HasOwnPositions p (journal_order c) own) (rounds_at : HasRoundPositions (length b.accounts) (journal_order c) (journal_order c) places) where
+module _ (b : BookTerms) (c : ClosingTerms) (p : ℕ) (own : List ℕ) (starts : List (List ℕ)) (coherent : Coherent b c)
+    (owns : HasOwnPositions p (journal_order c) own) (rounds_at : HasRoundPositions (length b.accounts) (journal_order c) (journal_order c) starts) where
   -- a receipt at neither a record nor a round names none
-  HasPlaces-still : (r : Receipt) → ((number : ℕ) → r.at ≡ At.Own number → ⊥) → ((number place : ℕ) → r.at ≡ At.Round number place → ⊥)
-      → HasPlaces p (journal_order c) own places r
-  HasPlaces-still r no_own no_round = record {
+  HasStarts-still : (r : Receipt) → ((number : ℕ) → r.at ≡ At.Own number → ⊥) → ((number place : ℕ) → r.at ≡ At.Round number place → ⊥)
+      → HasStarts p (journal_order c) own starts r
+  HasStarts-still r no_own no_round = record {
     own_at = λ number is. absurd (no_own number is);
     own_within = λ number is. absurd (no_own number is);
     account_in = λ number place is moved. absurd (no_round number place is);
@@ -54,16 +54,16 @@ module _ (b : BookTerms) (c : ClosingTerms) (p : ℕ) (own : List ℕ) (places :
     round_within = λ number place is moved. absurd (no_round number place is);
   }
 
-  HasPlaces-placed : (earlier : List Receipt) (r : Receipt) → IsPlaced b p (journal_order c) earlier r → HasPlaces p (journal_order c) own places r
-  HasPlaces-placed earlier r (read account balance call reply front) =
-      HasPlaces-still r (λ number is. cc (front.at, is)) (λ number place is. cc (front.at, is))
-  HasPlaces-placed earlier r (not_owner source targets call owner reply at) =
-      HasPlaces-still r (λ number is. cc (at, is)) (λ number place is. cc (at, is))
-  HasPlaces-placed earlier r (full source targets call owner room reply at) =
-      HasPlaces-still r (λ number is. cc (at, is)) (λ number place is. cc (at, is))
-  HasPlaces-placed earlier r (short source balance targets may single reply front less) =
-      HasPlaces-still r (λ number is. cc (front.at, is)) (λ number place is. cc (front.at, is))
-  HasPlaces-placed earlier r (done source targets may single reply so) =
+  HasStarts-placed : (earlier : List Receipt) (r : Receipt) → IsPlaced b p (journal_order c) earlier r → HasStarts p (journal_order c) own starts r
+  HasStarts-placed earlier r (read account balance call reply front) =
+      HasStarts-still r (λ number is. cc (front.at, is)) (λ number place is. cc (front.at, is))
+  HasStarts-placed earlier r (not_owner source targets call owner reply at) =
+      HasStarts-still r (λ number is. cc (at, is)) (λ number place is. cc (at, is))
+  HasStarts-placed earlier r (full source targets call owner room reply at) =
+      HasStarts-still r (λ number is. cc (at, is)) (λ number place is. cc (at, is))
+  HasStarts-placed earlier r (short source balance targets may single reply front less) =
+      HasStarts-still r (λ number is. cc (front.at, is)) (λ number place is. cc (front.at, is))
+  HasStarts-placed earlier r (done source targets may single reply so) =
       let order = journal_order c in
       let same : (number : ℕ) → r.at ≡ At.Own number → so.number ≡ number = λ number is. cc (so.at, is) in
       record {
@@ -75,7 +75,7 @@ module _ (b : BookTerms) (c : ClosingTerms) (p : ℕ) (own : List ℕ) (places :
         round_at = λ number place is moved. absurd (cc (so.at, is));
         round_within = λ number place is moved. absurd (cc (so.at, is));
       }
-  HasPlaces-placed earlier r (round source targets may shared so) =
+  HasStarts-placed earlier r (round source targets may shared so) =
       let order = journal_order c in
       let x : Publication = publication_at order so.position in
       let account = first_account r.call in
@@ -92,14 +92,14 @@ module _ (b : BookTerms) (c : ClosingTerms) (p : ℕ) (own : List ℕ) (places :
         own_within = λ number is. absurd (cc (so.at, is));
         account_in = λ number place is moved. omega (arith, known, rounds_at.sized);
         round_at = λ number place is moved.
-            let inside : number < length (get_or places account []) = omega (arith, rounds_at.counted account known, same number place is, below) in
+            let inside : number < length (get_or starts account []) = omega (arith, rounds_at.counted account known, same number place is, below) in
             (inside, rounds_at.first account number known inside);
         round_within = λ number place is moved.
             subst (λ k. round_position account k order < length order) (same number place is) (round_position-at account so.round order so.position so.within there).within;
       }
 
-  pub HasPlaces-receipt : (i : ℕ) → p < b.processes → i < length (receipts_of c p) → HasPlaces p (journal_order c) own places (receipt_at (receipts_of c p) i)
-  HasPlaces-receipt i known within = HasPlaces-placed (take i (receipts_of c p)) (receipt_at (receipts_of c p) i) ((coherent.told p known).placed i within)
+  pub HasStarts-receipt : (i : ℕ) → p < b.processes → i < length (receipts_of c p) → HasStarts p (journal_order c) own starts (receipt_at (receipts_of c p) i)
+  HasStarts-receipt i known within = HasStarts-placed (take i (receipts_of c p)) (receipt_at (receipts_of c p) i) ((coherent.told p known).placed i within)
 
 -- a receipt that was read
 pub receipt_at-is : (c : ClosingTerms) (p i : ℕ) (receipts : List Receipt) (r : Receipt) → receipts ≡ receipts_of c p → i < length (receipts_of c p)
@@ -125,14 +125,14 @@ unfolding keys_from
 keys_from-all p order previous receipts keys = ap (λ rs. keys ++ keys_from p order previous rs) (drop_all (length receipts) receipts (omega arith)) ∙ append-nil keys
 
 -- what is looked up for a success is a position
-pub first_of_round-small : (p : ℕ) (list : List Publication) (own : List ℕ) (places : List (List ℕ)) (r : Receipt) (number place account value : ℕ)
-    → HasPlaces p list own places r → r.at ≡ At.Round number place → is_success r.reply ≡ true → account ≡ first_account r.call
-    → value ≡ get_or (get_or places account []) number 0 → value < length list
-first_of_round-small p list own places r number place account value so at moved account_is is =
+pub first_of_round-small : (p : ℕ) (list : List Publication) (own : List ℕ) (starts : List (List ℕ)) (r : Receipt) (number place account value : ℕ)
+    → HasStarts p list own starts r → r.at ≡ At.Round number place → is_success r.reply ≡ true → account ≡ first_account r.call
+    → value ≡ get_or (get_or starts account []) number 0 → value < length list
+first_of_round-small p list own starts r number place account value so at moved account_is is =
     omega (
       arith,
       is,
-      ap (λ a. get_or (get_or places a []) number 0) account_is,
+      ap (λ a. get_or (get_or starts a []) number 0) account_is,
       (so.round_at number place at moved).1,
       so.round_within number place at moved,
     )

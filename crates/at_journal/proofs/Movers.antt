@@ -58,7 +58,7 @@ own_receipt b c p i (short source amount targets may single reply front less) ow
 own_receipt b c p i (done source targets may single reply so) own = (source, targets, so)
 own_receipt b c p i (round source targets may shared so) own = absurd (cc (own, ap is_at_own so.at))
 
--- two places of one number of a process are one
+-- two starts of one number of a process are one
 own_place : (p m k : ℕ) (list : List Publication) (number : ℕ) → IsOwnAt p number list m → IsOwnAt p number list k → m ≡ k
 own_place p m k list number one two =
     elim (cases_lt m k) as (λ _. m ≡ k) [

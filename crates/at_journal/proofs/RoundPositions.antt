@@ -85,29 +85,29 @@ module _ (b : BookTerms) (c : ClosingTerms) (k : ℕ) (coherent : Coherent b c) 
       ap (rounds a) (take-publication_at (journal_order c) k within) ∙ sum_by-firsts_nothing (λ y. one_if (is_round_on a y.entry)) before here (inr (ap one_if other))
 
   -- with no new round all stays
-  HasRoundPositions-same : (places : List (List ℕ)) → ((a : ℕ) → (repeats here (firsts before) ≡ true) ⊎ (is_round_on a here.entry ≡ false))
-      → HasRoundPositions (length b.accounts) before (journal_order c) places
-      → HasRoundPositions (length b.accounts) (take (k + 1) (journal_order c)) (journal_order c) places
-  HasRoundPositions-same places nothing so = record {
+  HasRoundPositions-same : (starts : List (List ℕ)) → ((a : ℕ) → (repeats here (firsts before) ≡ true) ⊎ (is_round_on a here.entry ≡ false))
+      → HasRoundPositions (length b.accounts) before (journal_order c) starts
+      → HasRoundPositions (length b.accounts) (take (k + 1) (journal_order c)) (journal_order c) starts
+  HasRoundPositions-same starts nothing so = record {
     sized = so.sized;
     counted = λ a known. so.counted a known ∙ sym (rounds-same a (nothing a));
     first = so.first;
   }
 
   -- the next round of its account
-  HasRoundPositions-next : (places : List (List ℕ)) (account r : ℕ) (d : Decision) (targets : List TargetPair) → here.entry ≡ Round account r d targets
-      → account < length b.accounts → length (get_or places account []) ≡ r
-      → HasRoundPositions (length b.accounts) before (journal_order c) places
-      → HasRoundPositions (length b.accounts) (take (k + 1) (journal_order c)) (journal_order c) (set places account (get_or places account [] ++ k ∷ []))
-  HasRoundPositions-next places account r d targets is known next so =
+  HasRoundPositions-next : (starts : List (List ℕ)) (account r : ℕ) (d : Decision) (targets : List TargetPair) → here.entry ≡ Round account r d targets
+      → account < length b.accounts → length (get_or starts account []) ≡ r
+      → HasRoundPositions (length b.accounts) before (journal_order c) starts
+      → HasRoundPositions (length b.accounts) (take (k + 1) (journal_order c)) (journal_order c) (set starts account (get_or starts account [] ++ k ∷ []))
+  HasRoundPositions-next starts account r d targets is known next so =
       let order = journal_order c in
-      let old = get_or places account [] in
+      let old = get_or starts account [] in
       let new = old ++ k ∷ [] in
       let count : rounds account before ≡ r = sym (so.counted account known) ∙ next in
-      let at : (a : ℕ) → a ≡ account → get_or (set places account new) a [] ≡ new =
-      λ a same. ap (λ i. get_or (set places account new) i []) same ∙ get_or-set_same places account new [] (omega (arith, known, so.sized)) in
-      let off : (a : ℕ) → (a ≡ account → ⊥) → get_or (set places account new) a [] ≡ get_or places a [] =
-      λ a apart. get_or-set_other places account a new [] apart in
+      let at : (a : ℕ) → a ≡ account → get_or (set starts account new) a [] ≡ new =
+      λ a same. ap (λ i. get_or (set starts account new) i []) same ∙ get_or-set_same starts account new [] (omega (arith, known, so.sized)) in
+      let off : (a : ℕ) → (a ≡ account → ⊥) → get_or (set starts account new) a [] ≡ get_or starts a [] =
+      λ a apart. get_or-set_other starts account a new [] apart in
       let more : rounds account (take (k + 1) order) ≡ rounds account before + 1 =
       ap (rounds account) (take-publication_at order k within)
       ∙ (ap (λ e. rounds account (before ++ published here.process here.view e ∷ [])) is
@@ -116,9 +116,9 @@ module _ (b : BookTerms) (c : ClosingTerms) (k : ℕ) (coherent : Coherent b c) 
       round_position-new account r order k within
       (ap (is_round account r) is ∙ (λ t. eq-eqb account account refl t && eq-eqb r r refl t)) (none_before account r count) in
       record {
-        sized = length-set places account new ∙ so.sized;
+        sized = length-set starts account new ∙ so.sized;
         counted = λ a inside.
-            elim (cases_eq a account) as (λ _. length (get_or (set places account new) a []) ≡ rounds a (take (k + 1) order)) [
+            elim (cases_eq a account) as (λ _. length (get_or (set starts account new) a []) ≡ rounds a (take (k + 1) order)) [
               | inl same ↦
                   ap length (at a same) ∙ (length_push old k ∙ (ap (λ n. n + 1) (so.counted account known) ∙ (sym more ∙ ap (λ i. rounds i (take (k + 1) order)) (sym same))))
               | inr apart ↦
@@ -126,9 +126,9 @@ module _ (b : BookTerms) (c : ClosingTerms) (k : ℕ) (coherent : Coherent b c) 
                   ∙ (so.counted a inside ∙ sym (rounds-same a (inr (ap (is_round_on a) is ∙ ne_eqb account a (λ e. apart (sym e))))))
             ];
         first = λ a i inside small.
-            elim (cases_eq a account) as (λ _. get_or (get_or (set places account new) a []) i 0 ≡ round_position a i order) [
+            elim (cases_eq a account) as (λ _. get_or (get_or (set starts account new) a []) i 0 ≡ round_position a i order) [
               | inl same ↦
-                  elim (cases_lt i (length old)) as (λ _. get_or (get_or (set places account new) a []) i 0 ≡ round_position a i order) [
+                  elim (cases_lt i (length old)) as (λ _. get_or (get_or (set starts account new) a []) i 0 ≡ round_position a i order) [
                     | inl early ↦
                         ap (λ xs. get_or xs i 0) (at a same)
                         ∙ (get_or_append_left old (k ∷ []) 0 i early ∙ (so.first account i known early ∙ ap (λ j. round_position j i order) (sym same)))
@@ -143,26 +143,26 @@ module _ (b : BookTerms) (c : ClosingTerms) (k : ℕ) (coherent : Coherent b c) 
       }
 
   -- whatever its entry is
-  with_entry : (places : List (List ℕ)) (e : Entry) → here.entry ≡ e → HasRoundPositions (length b.accounts) before (journal_order c) places
-      → HasRoundPositions (length b.accounts) (take (k + 1) (journal_order c)) (journal_order c) (with_position k e places)
-  with_entry places (Own from targets) is so = HasRoundPositions-same places (λ a. inr (ap (is_round_on a) is)) so
-  with_entry places (Round account r d targets) is so =
+  with_entry : (starts : List (List ℕ)) (e : Entry) → here.entry ≡ e → HasRoundPositions (length b.accounts) before (journal_order c) starts
+      → HasRoundPositions (length b.accounts) (take (k + 1) (journal_order c)) (journal_order c) (with_position k e starts)
+  with_entry starts (Own from targets) is so = HasRoundPositions-same starts (λ a. inr (ap (is_round_on a) is)) so
+  with_entry starts (Round account r d targets) is so =
       let order = journal_order c in
       let law = round_entry b c here.process (prefix_of here.view order) here.entry account r d targets (IsCoherentEntry-journal_order b c k coherent within) is in
       let known : account < length b.accounts = law.0.account_in in
-      let new = set places account (get_or places account [] ++ k ∷ []) in
-      elim (cases_eq (length (get_or places account [])) r) as (λ _. HasRoundPositions (length b.accounts) (take (k + 1) order) order (with_position k (Round account r d targets) places)) [
+      let new = set starts account (get_or starts account [] ++ k ∷ []) in
+      elim (cases_eq (length (get_or starts account [])) r) as (λ _. HasRoundPositions (length b.accounts) (take (k + 1) order) order (with_position k (Round account r d targets) starts)) [
         | inl next ↦
-            subst (HasRoundPositions (length b.accounts) (take (k + 1) order) order) (sym (ap (λ t. cond t new places) (eq-eqb (length (get_or places account [])) r next)))
-            (HasRoundPositions-next places account r d targets is known next so)
+            subst (HasRoundPositions (length b.accounts) (take (k + 1) order) order) (sym (ap (λ t. cond t new starts) (eq-eqb (length (get_or starts account [])) r next)))
+            (HasRoundPositions-next starts account r d targets is known next so)
         | inr apart ↦
             let at_most : r ≤ rounds account before = subst (IsNextAtMost before) is (IsNextAtMost-journal_order b c k coherent within) in
             let again : repeats here (firsts before) ≡ true =
             ap (λ e. repeats (published here.process here.view e) (firsts before)) is
             ∙ (repeats-round here.process here.view account r d targets before (IsInitial-journal_order b c k coherent (omega (arith, within)) account)
             ∙ lt-ltb r (rounds account before) (omega (arith, at_most, apart, so.counted account known))) in
-            subst (HasRoundPositions (length b.accounts) (take (k + 1) order) order) (sym (ap (λ t. cond t new places) (ne_eqb (length (get_or places account [])) r apart)))
-            (HasRoundPositions-same places (λ a. inl again) so)
+            subst (HasRoundPositions (length b.accounts) (take (k + 1) order) order) (sym (ap (λ t. cond t new starts) (ne_eqb (length (get_or starts account [])) r apart)))
+            (HasRoundPositions-same starts (λ a. inl again) so)
       ]
 
   -- the record is of an account of the book
@@ -171,15 +171,15 @@ module _ (b : BookTerms) (c : ClosingTerms) (k : ℕ) (coherent : Coherent b c) 
   on_account (Round account r d targets) is =
       (round_entry b c here.process (prefix_of here.view (journal_order c)) here.entry account r d targets (IsCoherentEntry-journal_order b c k coherent within) is).0.account_in
 
-  pub HasRoundPositions-more : (places : List (List ℕ)) → HasRoundPositions (length b.accounts) before (journal_order c) places
-      → HasRoundPositions (length b.accounts) (take (k + 1) (journal_order c)) (journal_order c) (with_position k here.entry places)
-  HasRoundPositions-more places so = with_entry places here.entry refl so
+  pub HasRoundPositions-more : (starts : List (List ℕ)) → HasRoundPositions (length b.accounts) before (journal_order c) starts
+      → HasRoundPositions (length b.accounts) (take (k + 1) (journal_order c)) (journal_order c) (with_position k here.entry starts)
+  HasRoundPositions-more starts so = with_entry starts here.entry refl so
 
   pub IsOnAccount-journal_order : IsOnAccount (length b.accounts) here.entry
   IsOnAccount-journal_order = on_account here.entry refl
 
 -- a position is noted at the next round of its account
-pub with_position-next : (position account r : ℕ) (d : Decision) (targets : List TargetPair) (places : List (List ℕ)) → length (get_or places account []) ≡ r
-    → with_position position (Round account r d targets) places ≡ set places account (get_or places account [] ++ position ∷ [])
-with_position-next position account r d targets places next =
-    ap (λ t. cond t (set places account (get_or places account [] ++ position ∷ [])) places) (eq-eqb (length (get_or places account [])) r next)
+pub with_position-next : (position account r : ℕ) (d : Decision) (targets : List TargetPair) (starts : List (List ℕ)) → length (get_or starts account []) ≡ r
+    → with_position position (Round account r d targets) starts ≡ set starts account (get_or starts account [] ++ position ∷ [])
+with_position-next position account r d targets starts next =
+    ap (λ t. cond t (set starts account (get_or starts account [] ++ position ∷ [])) starts) (eq-eqb (length (get_or starts account [])) r next)

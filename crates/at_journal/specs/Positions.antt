@@ -41,17 +41,17 @@ IsOnAccount accounts (Round account round decision targets) = account < accounts
 
 -- the positions of the first records of rounds, account by account, with a record more
 abbrev pub with_position : ℕ → Entry → List (List ℕ) → List (List ℕ)
-with_position position (Own from targets) places = places
-with_position position (Round account round decision targets) places =
-    if length (slice_index_or places account []) == round
-    then slice_set places account (slice_index_or places account [] ++ position ∷ [])
-    else places
+with_position position (Own from targets) starts = starts
+with_position position (Round account round decision targets) starts =
+    if length (slice_index_or starts account []) == round
+    then slice_set starts account (slice_index_or starts account [] ++ position ∷ [])
+    else starts
 
 -- for each account the positions in a list of the first records of those rounds that its prefix has
-pub record HasRoundPositions (accounts : ℕ) (prefix list : List Publication) (places : List (List ℕ)) : Type 0 where
-  pub sized : length places ≡ accounts
-  pub counted : (a : ℕ) → a < accounts → length (slice_index_or places a []) ≡ rounds a prefix
-  pub first : (a r : ℕ) → a < accounts → r < length (slice_index_or places a []) → slice_index (slice_index_or places a []) r ≡ round_position a r list
+pub record HasRoundPositions (accounts : ℕ) (prefix list : List Publication) (starts : List (List ℕ)) : Type 0 where
+  pub sized : length starts ≡ accounts
+  pub counted : (a : ℕ) → a < accounts → length (slice_index_or starts a []) ≡ rounds a prefix
+  pub first : (a r : ℕ) → a < accounts → r < length (slice_index_or starts a []) → slice_index (slice_index_or starts a []) r ≡ round_position a r list
 
 -- the positions of the records of a process
 pub record HasOwnPositions (process : ℕ) (list : List Publication) (positions : List ℕ) : Type 0 where
@@ -59,12 +59,12 @@ pub record HasOwnPositions (process : ℕ) (list : List Publication) (positions 
   pub own : (i : ℕ) → i < length positions → slice_index positions i ≡ own_position process i list
 
 -- what a receipt names is found in these positions
-pub record HasPlaces (process : ℕ) (list : List Publication) (own : List ℕ) (places : List (List ℕ)) (r : Receipt) : Type 0 where
+pub record HasStarts (process : ℕ) (list : List Publication) (own : List ℕ) (starts : List (List ℕ)) (r : Receipt) : Type 0 where
   pub own_at : (number : ℕ) → r.at ≡ At.Own number → number < length own × slice_index own number ≡ own_position process number list
   pub own_within : (number : ℕ) → r.at ≡ At.Own number → own_position process number list < length list
-  pub account_in : (round place : ℕ) → r.at ≡ At.Round round place → is_success r.reply ≡ true → first_account r.call < length places
+  pub account_in : (round place : ℕ) → r.at ≡ At.Round round place → is_success r.reply ≡ true → first_account r.call < length starts
   pub round_at : (round place : ℕ) → r.at ≡ At.Round round place → is_success r.reply ≡ true
-      → round < length (slice_index_or places (first_account r.call) [])
-      × slice_index (slice_index_or places (first_account r.call) []) round ≡ round_position (first_account r.call) round list
+      → round < length (slice_index_or starts (first_account r.call) [])
+      × slice_index (slice_index_or starts (first_account r.call) []) round ≡ round_position (first_account r.call) round list
   pub round_within : (round place : ℕ) → r.at ≡ At.Round round place → is_success r.reply ≡ true
       → round_position (first_account r.call) round list < length list

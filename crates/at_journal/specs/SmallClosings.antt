@@ -41,8 +41,8 @@ abbrev pub own_record : ℕ → List TargetPair → List ℕ → Record
 own_record from targets view = record { entry = Entry.Own from targets; view = view }
 
 -- the decision of the first request of the process at this slot
-abbrev pub first_decision : Bool → ℕ → ℕ → Decision
-first_decision ok slot at = record { ok = ok; slot = slot; number = 0; place = at }
+abbrev pub decision_of_first : Bool → ℕ → ℕ → Decision
+decision_of_first ok slot at = record { ok = ok; slot = slot; number = 0; place = at }
 
 -- a record of a round of account 0 whose request moves 60 to account 1
 abbrev pub round_record : ℕ → Decision → List ℕ → Record
@@ -84,7 +84,7 @@ paid_twice = record {
 -- both processes ask for 60, and the second request is short
 abbrev pub agreed : ClosingTerms
 agreed = record {
-  logs = (round_record 0 (first_decision true 0 0) (0 ∷ 0 ∷ []) ∷ []) ∷ (round_record 1 (first_decision false 1 1) (1 ∷ 0 ∷ []) ∷ []) ∷ [];
+  logs = (round_record 0 (decision_of_first true 0 0) (0 ∷ 0 ∷ []) ∷ []) ∷ (round_record 1 (decision_of_first false 1 1) (1 ∷ 0 ∷ []) ∷ []) ∷ [];
   receipts = (receipt (Transfer 0 1 60) Done (Round 0 0) ∷ receipt (Read 0) (Balance 40) (Front (1 ∷ 1 ∷ [])) ∷ [])
       ∷ (receipt (Transfer 0 1 60) Short (Round 1 1) ∷ receipt (Read 0) (Balance 40) (Front (1 ∷ 1 ∷ [])) ∷ [])
       ∷ [];
@@ -93,8 +93,8 @@ agreed = record {
 -- the same, where process 1 has published the first round too
 abbrev pub helped : ClosingTerms
 helped = record {
-  logs = (round_record 0 (first_decision true 0 0) (0 ∷ 0 ∷ []) ∷ [])
-      ∷ (round_record 0 (first_decision true 0 0) (0 ∷ 0 ∷ []) ∷ round_record 1 (first_decision false 1 2) (1 ∷ 1 ∷ []) ∷ [])
+  logs = (round_record 0 (decision_of_first true 0 0) (0 ∷ 0 ∷ []) ∷ [])
+      ∷ (round_record 0 (decision_of_first true 0 0) (0 ∷ 0 ∷ []) ∷ round_record 1 (decision_of_first false 1 2) (1 ∷ 1 ∷ []) ∷ [])
       ∷ [];
   receipts = (receipt (Transfer 0 1 60) Done (Round 0 0) ∷ receipt (Read 0) (Balance 40) (Front (1 ∷ 1 ∷ [])) ∷ [])
       ∷ (receipt (Transfer 0 1 60) Short (Round 1 2) ∷ receipt (Read 1) (Balance 60) (Front (1 ∷ 2 ∷ [])) ∷ [])

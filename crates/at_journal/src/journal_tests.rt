@@ -3,7 +3,7 @@
 
 ghost use Rattle.std.specs.Prelude.{◌≡◌, ◌<◌, ◌≤◌, ◌^◌, [], ◌∷◌, map, length, All, IfOk};
 ghost use Rattle.at_log.specs.Coherent.{Coherent};
-ghost use Rattle.at_journal.specs.SmallClosings.{account, agreed, first_decision, helped, little_room, no_calls, one_shared, own_record, paid_at_once, paid_back, paid_twice, receipt, refused_first, round_record, two_singles};
+ghost use Rattle.at_journal.specs.SmallClosings.{account, agreed, decision_of_first, helped, little_room, no_calls, one_shared, own_record, paid_at_once, paid_back, paid_twice, receipt, refused_first, round_record, two_singles};
 
 use crate::slow_order::is_order;
 use crate::{NoMemory, journal};
@@ -100,7 +100,7 @@ fn own_record(from: u32, targets: Targets, view: Counts) -> Record
 
 /// A record of a round of account 0, in which a process asks for 60 for the first time.
 fn round_record(round: u32, ok: bool, slot: u32, place: u32, view: Counts) -> Record
-    ensures { result ≡ round_record round (first_decision ok slot place) view }
+    ensures { result ≡ round_record round (decision_of_first ok slot place) view }
 {
     Record {
         entry: Entry::Round {

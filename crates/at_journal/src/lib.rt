@@ -10,7 +10,7 @@ mod journal_tests;
 mod keyed;
 mod keys;
 mod lines;
-mod places;
+mod positions;
 #[cfg(test)]
 mod slow_order;
 #[cfg(test)]
@@ -28,7 +28,7 @@ use crate::fronts::held_fronts;
 use crate::keyed::in_order;
 use crate::keys::total_of;
 use crate::lines::{line_keys, lines};
-use crate::places::{order_of, round_positions};
+use crate::positions::{order_of, round_positions};
 use at_ledger::{Book, Line};
 use at_log::Closing;
 use std::alloc::Global;
@@ -52,8 +52,8 @@ pub fn journal(alloc: Global, book: &Book, closing: &Closing) -> Result<Vec<Line
     let fronts = held_fronts(alloc, closing)?;
     let total = total_of(closing);
     let order = order_of(alloc, closing, fronts.as_slice(), total)?;
-    let places = round_positions(alloc, book, closing, order.as_slice())?;
-    let keys = line_keys(alloc, book, closing, order.as_slice(), places.as_slice())?;
+    let starts = round_positions(alloc, book, closing, order.as_slice())?;
+    let keys = line_keys(alloc, book, closing, order.as_slice(), starts.as_slice())?;
     let calls = in_order(alloc, keys.as_slice())?;
     lines(alloc, closing, calls.as_slice())
 }

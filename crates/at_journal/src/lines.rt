@@ -7,12 +7,12 @@ ghost use Rattle.at_log.specs.Coherent.{Coherent};
 ghost use Rattle.at_log.specs.JournalOrder.{journal_order, line_of};
 ghost use Rattle.at_log.specs.Receipts.{is_success, receipt_at};
 ghost use Rattle.at_log.specs.Told.{first_account, key_of, keys_of};
-ghost use Rattle.at_journal.specs.Positions.{AreReceipts, AreRecords, HasPlaces, HasRoundPositions, published_in};
+ghost use Rattle.at_journal.specs.Positions.{AreReceipts, AreRecords, HasStarts, HasRoundPositions, published_in};
 
 use crate::NoMemory;
 use crate::fronts::place_of;
 use crate::keyed::Keyed;
-use crate::places::own_positions;
+use crate::positions::own_positions;
 use at_ledger::{Book, Call, Line, Reply};
 use at_log::{At, Closing};
 use std::alloc::Global;
@@ -36,12 +36,12 @@ fn is_success(reply: &Reply) -> bool
 }
 
 /// Where the first record of a round stands.
-fn first_of_round(places: &[Vec<u64>], account: u32, round: u32) -> u64
-    requires account_in { account < length places.now }
-    requires round_in { round < length (slice_index_or (map (λ v. v.items) places.now) account []) }
-    ensures { result ≡ slice_index (slice_index_or (map (λ v. v.items) places.now) account []) round }
+fn first_of_round(starts: &[Vec<u64>], account: u32, round: u32) -> u64
+    requires account_in { account < length starts.now }
+    requires round_in { round < length (slice_index_or (map (λ v. v.items) starts.now) account []) }
+    ensures { result ≡ slice_index (slice_index_or (map (λ v. v.items) starts.now) account []) round }
 {
-    places[account as usize][round as usize]
+    starts[account as usize][round as usize]
 }
 
 /// The key of a call of a process, from that of the call before.
@@ -50,12 +50,12 @@ fn key_of(
     p: u32,
     i: usize,
     own: &[u64],
-    places: &[Vec<u64>],
+    starts: &[Vec<u64>],
     previous: u64,
 ) -> u64
     requires known { p < length closing.now.receipts }
     requires within { i < length (receipts_of closing.now p) }
-    requires places { HasPlaces p (journal_order closing.now) own.now (map (λ v. v.items) places.now) (receipt_at (receipts_of closing.now p) i) }
+    requires starts { HasStarts p (journal_order closing.now) own.now (map (λ v. v.items) starts.now) (receipt_at (receipts_of closing.now p) i) }
     requires small { length (journal_order closing.now) ≤ 2 ^ 36 }
     ensures { result ≡ key_of p (journal_order closing.now) previous (receipt_at (receipts_of closing.now p) i) }
 {
@@ -65,7 +65,7 @@ fn key_of(
         At::Own(number) => 2 * own[*number as usize] + 1,
         At::Round { round, place } => {
             if is_success(&receipt.reply) {
-                2 * first_of_round(places, first_account(&receipt.call), *round) + 1
+                2 * first_of_round(starts, first_account(&receipt.call), *round) + 1
             } else {
                 2 * u64::from(*place)
             }
@@ -74,23 +74,23 @@ fn key_of(
     }
 }
 
-/// The keys of a process's calls. `own` has where its records stand, and `places` where rounds begin.
+/// The keys of a process's calls. `own` has where its records stand, and `starts` where rounds begin.
 fn process_keys(
     alloc: Global,
     closing: &Closing,
     p: u32,
     own: &[u64],
-    places: &[Vec<u64>],
+    starts: &[Vec<u64>],
 ) -> Result<Vec<u64>, NoMemory>
     requires known { p < length closing.now.receipts }
-    requires places { (i : ℕ) → i < length (receipts_of closing.now p) → HasPlaces p (journal_order closing.now) own.now (map (λ v. v.items) places.now) (receipt_at (receipts_of closing.now p) i) }
+    requires starts { (i : ℕ) → i < length (receipts_of closing.now p) → HasStarts p (journal_order closing.now) own.now (map (λ v. v.items) starts.now) (receipt_at (receipts_of closing.now p) i) }
     requires small { length (journal_order closing.now) ≤ 2 ^ 36 }
     ensures { IfOk result (λ keys. keys.items ≡ keys_of p (journal_order closing.now) (receipts_of closing.now p)) }
 {
     let mut keys = Vec::new(alloc);
     let mut previous = 0;
     for i in 0..closing.receipts(p).len() {
-        previous = key_of(closing, p, i, own, places, previous);
+        previous = key_of(closing, p, i, own, starts, previous);
         keys.push(previous)?;
     }
     Ok(keys)
@@ -102,12 +102,12 @@ pub(crate) fn line_keys(
     book: &Book,
     closing: &Closing,
     order: &[Keyed],
-    places: &[Vec<u64>],
+    starts: &[Vec<u64>],
 ) -> Result<Vec<Vec<u64>>, NoMemory>
     requires coherent { Coherent book.now closing.now }
     requires order { published_in closing.now order.now ≡ journal_order closing.now }
     requires records { AreRecords closing.now order.now }
-    requires places { HasRoundPositions (length book.now.accounts) (journal_order closing.now) (journal_order closing.now) (map (λ v. v.items) places.now) }
+    requires starts { HasRoundPositions (length book.now.accounts) (journal_order closing.now) (journal_order closing.now) (map (λ v. v.items) starts.now) }
     requires small { length (journal_order closing.now) ≤ 2 ^ 36 }
     ensures keys { IfOk result (λ keys. map (λ v. v.items) keys.items ≡ map (λ p. keys_of p (journal_order closing.now) (receipts_of closing.now p)) (range_with_len 0 (length closing.now.receipts))) }
     ensures few { IfOk result (λ keys. length keys.items < 2 ^ 32) }
@@ -115,7 +115,7 @@ pub(crate) fn line_keys(
     let mut keys = Vec::new(alloc);
     for p in 0..book.processes() {
         let own = own_positions(alloc, order, p)?;
-        keys.push(process_keys(alloc, closing, p, own.as_slice(), places)?)?;
+        keys.push(process_keys(alloc, closing, p, own.as_slice(), starts)?)?;
     }
     Ok(keys)
 }

@@ -1,5 +1,5 @@
 -- Runs of the ledger, one after another.
-use Rattle.std.proofs.Common.{◌≡◌, ℕ, ◌+◌, ◌<◌, List, [], ◌∷◌, ◌++◌, Bool, true, false, cond, suc, length, get_or, take, refl, ap, ◌∙◌, rules}
+use Rattle.std.proofs.Common.{◌≡◌, ℕ, ◌+◌, ◌<◌, List, [], ◌∷◌, ◌++◌, Bool, true, false, cond, length, get_or, take, refl, ap, ◌∙◌, rules}
 use Rattle.std.proofs.lemmas.List.{take_more}
 use Rattle.at_ledger.specs.Call.{TargetPair}
 use Rattle.at_ledger.specs.Book.{BookTerms}
@@ -49,24 +49,11 @@ pub last-push : (s : LedgerState) (calls : List (ℕ × Call)) (call : ℕ × Ca
 unfolding run_from
 last-push s calls call = last-append s calls (call ∷ [])
 
--- a loop over calls: the call at i after the first i
-pub replies-take_more : (s : LedgerState) (calls : List (ℕ × Call)) (i : ℕ) (d : ℕ × Call) → i < length calls
-    → (run_from s (take (i + 1) calls)).replies
-    ≡ (run_from s (take i calls)).replies ++ (step (run_from s (take i calls)).last (get_or calls i d).0 (get_or calls i d).1).reply ∷ []
-replies-take_more s calls i d within =
-    ap (λ cs. (run_from s cs).replies) (take_more calls i d within) ∙ replies-push s (take i calls) (get_or calls i d)
-
 pub last-take_more : (s : LedgerState) (calls : List (ℕ × Call)) (i : ℕ) (d : ℕ × Call) → i < length calls
     → (run_from s (take (i + 1) calls)).last
     ≡ (step (run_from s (take i calls)).last (get_or calls i d).0 (get_or calls i d).1).ledger
 last-take_more s calls i d within =
     ap (λ cs. (run_from s cs).last) (take_more calls i d within) ∙ last-push s (take i calls) (get_or calls i d)
-
--- each call has a reply
-pub length-replies : (s : LedgerState) (calls : List (ℕ × Call)) → length (run_from s calls).replies ≡ length calls
-unfolding run_from
-length-replies s [] = refl
-length-replies s (x ∷ xs) = ap suc (length-replies (step s x.0 x.1).ledger xs)
 
 -- whichever of two steps is taken, the book is this one
 book-cond : (b : Bool) (x y : Step) (book : BookTerms) → x.ledger.book ≡ book → y.ledger.book ≡ book

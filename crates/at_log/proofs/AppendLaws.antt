@@ -16,7 +16,7 @@ use Rattle.at_board.specs.Knowledge.Seats.{IsSeat}
 use Rattle.at_board.specs.Knowledge.Parts.{with_part}
 use Rattle.at_board.specs.Steps.Publish.{Publishes, with_record}
 use Rattle.at_board.specs.Steps.StoreRecordWord.{StoresWord, with_word}
-use Rattle.at_board.specs.Knowledge.Parts.{no_part, own_part}
+use Rattle.at_board.specs.Knowledge.Parts.{own_part}
 use Rattle.at_board.specs.Words.Packed.{record_words}
 use Rattle.at_log.specs.declared.record.Record.{Record}
 use Rattle.at_log.specs.Appending.{MayAppend}
@@ -37,25 +37,9 @@ set_first-again : {X : Type 0} (xs : List X) (x y : X) → set (set xs 0 x) 0 y 
 set_first-again [] x y = refl
 set_first-again (z ∷ zs) x y = refl
 
-set_first-own : (v : Knowledge) → 0 < length v.parts → set v.parts 0 (own_part v) ≡ v.parts
-set_first-own v some = first v.parts some
-  where
-    first : (qs : List Part) → 0 < length qs → set qs 0 (get_or qs 0 no_part) ≡ qs
-    first [] some = absurd (omega arith)
-    first (q ∷ qs) some = refl
-
 -- a part that was set twice
 pub with_part-again : (v : Knowledge) (q r : Part) → with_part (with_part v q) r ≡ with_part v r
 with_part-again v q r = ap (λ parts. record v { parts = parts }) (set_first-again v.parts q r)
-
--- nothing is stored yet
-pub IsStoring-none : (v : Knowledge) (words : List ℕ) → 0 < length v.parts → IsStoring v v words 0
-IsStoring-none v words some = record {
-  stored = (own_part v).stored;
-  sized = refl;
-  same = ap (λ parts. record v { parts = parts }) (sym (set_first-own v some));
-  words_so_far = λ k below. absurd (omega arith);
-}
 
 -- one more word is stored
 pub IsStoring-more : (v u w : Knowledge) (words : List ℕ) (j n : ℕ) → 0 < length v.parts → j < length (own_part v).stored → IsStoring v u words j

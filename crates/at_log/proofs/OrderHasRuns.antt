@@ -6,7 +6,7 @@ use Rattle.std.proofs.lemmas.Bool.{cases_lt, ne_eqb}
 use Rattle.std.proofs.lemmas.List.{get_or_default}
 use Rattle.std.proofs.lemmas.List.Sums.{sum_by-cons}
 use Rattle.at_base.specs.declared.decision.Decision.{Decision}
-use Rattle.at_ledger.specs.Book.{BookTerms, IsBegun}
+use Rattle.at_ledger.specs.Book.{BookTerms}
 use Rattle.at_ledger.specs.Call.{TargetPair, amount_of}
 use Rattle.at_history.specs.declared.publication.Entry.{Entry}
 use Rattle.at_history.specs.declared.publication.Entry.TheVariants.{Own, Round}
@@ -16,11 +16,9 @@ use Rattle.at_history.specs.BoardState.{decision_at, publication_at, request_at}
 use Rattle.at_history.specs.Balances.{IsCovered}
 use Rattle.at_history.specs.Entries.{is_own}
 use Rattle.at_history.specs.Fronts.{place, prefix_of}
-use Rattle.at_history.specs.Moves.{AreRuns}
 use Rattle.at_history.specs.Publications.{no_publication, publications_of}
 use Rattle.at_history.specs.Rounds.{firsts, owns_of, rounds}
 use Rattle.at_history.specs.Sound.{IsSoundEntry}
-use Rattle.at_history.proofs.Laws.Runs.{AreRuns-HasRuns}
 use Rattle.at_history.proofs.Laws.Rounds.{one_if}
 use Rattle.at_history.specs.Entries.{names}
 use Rattle.at_history.proofs.Laws.HasRuns.{HasRuns}
@@ -174,7 +172,3 @@ HasRuns-journal_order b c coherent =
         let q : Request = request_at ((order_state c).rows a slot) n in
         let law = first_law b c found.2.number a found.0 found.1 q.targets coherent found.2.within found.2.entry in
         omega (arith, is, found.4, law.3.4.room)
-
--- each prefix of the order is a run of the ledger
-pub AreRuns-journal_order : (b : BookTerms) (c : ClosingTerms) → Coherent b c → IsBegun b → AreRuns b (journal_order c)
-AreRuns-journal_order b c coherent begun = AreRuns-HasRuns b (order_state c) (HasRuns-journal_order b c coherent) begun

@@ -1,5 +1,5 @@
 -- Collects: one load after another.
-use Rattle.std.proofs.Common.{◌≡◌, ◌≢◌, ℕ, ◌+◌, ◌<◌, ◌≤◌, List, length, get_or, set, refl, sym, ap, subst, ◌∙◌, arith, inl, inr}
+use Rattle.std.proofs.Common.{◌≡◌, ◌≢◌, ℕ, ◌+◌, ◌<◌, ◌≤◌, List, length, get_or, set, sym, ap, subst, ◌∙◌, arith, inl, inr}
 use Rattle.std.proofs.lemmas.Bool.{cases_eq, cases_lt}
 use Rattle.std.proofs.lemmas.List.{ext_get_or, get_or-set_other, get_or-set_same, length-set, length-map, get_or-map}
 use Rattle.at_ledger.specs.Book.{BookTerms}
@@ -22,18 +22,6 @@ pub record IsCollecting (b : BookTerms) (v w : Knowledge) (counts : List ℕ) (p
   pub last : (q : ℕ) → q < p → (loads_of (own_part w) q).last ≡ get_or counts q 0
   pub least : (q : ℕ) → q < p → count_of q v.seen ≤ get_or counts q 0
   pub most : (q : ℕ) → q < p → get_or counts q 0 ≤ count_of q w.seen
-
-pub IsCollecting-start : (b : BookTerms) (v : Knowledge) (counts : List ℕ) → length counts ≡ b.processes → IsCollecting b v v counts 0
-IsCollecting-start b v counts sized = record {
-  sized = sized;
-  start = λ e. refl;
-  loaded = λ some. absurd (omega arith);
-  done = λ q below. absurd (omega arith);
-  left = λ q above. refl;
-  last = λ q below. absurd (omega arith);
-  least = λ q below. absurd (omega arith);
-  most = λ q below. absurd (omega arith);
-}
 
 -- what stands before a load: as it was, or after loads
 pub record IsBefore (b : BookTerms) (v u : Knowledge) : Type 0 where

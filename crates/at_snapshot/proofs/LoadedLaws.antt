@@ -30,9 +30,6 @@ published-HasLoaded b v w part told = ap (λ (q : Part). q.published) (own_part-
 pub first-HasLoaded : (b : BookTerms) (v w : Knowledge) → HasLoaded b v w → w.first ≡ v.first
 first-HasLoaded b v w told = ap (λ (t : Knowledge). t.first) told.same
 
-pub book-HasLoaded : (b : BookTerms) (v w : Knowledge) → HasLoaded b v w → w.book ≡ v.book
-book-HasLoaded b v w told = ap (λ (t : Knowledge). t.book) told.same
-
 -- the own part after a load of a length
 pub own_part-LoadsLength : (b : BookTerms) (v w : Knowledge) (p n : ℕ) → 0 < length v.parts → LoadsLength b v w p n → own_part w ≡ with_load (own_part v) p n
 own_part-LoadsLength b v w p n part told = ap own_part told.same ∙ own_part-with_part (record v { seen = w.seen }) (with_load (own_part v) p n) part

@@ -42,12 +42,12 @@ returns-clause-all g c =
     let t : TotalSums = c.catch_up.new.self in
     let same = c.catch_up.ensures.same in
     let known = c.processes.ensures ∙ ap (λ (t : BookTerms). t.processes) c.book-2.ensures in
-    let upto = all_seen b old.view.seen c.set.new.self c.requires.counted.book c.requires.one
+    let upto = all_seen b old.knows.seen c.set.new.self c.requires.counted.book c.requires.one
     (handed_in b c.zeros-counts.result c.set.new.self c.processes.result c.set.ensures c.zeros-counts.ensures known) in
-    let history : IsHistory b old.view.seen =
-    subst (λ (t : BookTerms). IsHistory t old.view.seen) c.requires.board.book c.known-2.ensures.seat.history in
-    let counted : HasCounted t b old.view.seen = subst (λ (s : SeatTerms). HasCounted t b s.view.seen) same c.catch_up.ensures.counted in
-    subst (λ (s : SeatTerms). CountsAll t b s.view.seen) (sym same) (CountsAll-counts t b old.view.seen history counted (c.catch_up.ensures.upto ∙ upto))
+    let history : IsHistory b old.knows.seen =
+    subst (λ (t : BookTerms). IsHistory t old.knows.seen) c.requires.board.book c.known-2.ensures.seat.history in
+    let counted : HasCounted t b old.knows.seen = subst (λ (s : SeatTerms). HasCounted t b s.knows.seen) same c.catch_up.ensures.counted in
+    subst (λ (s : SeatTerms). CountsAll t b s.knows.seen) (sym same) (CountsAll-counts t b old.knows.seen history counted (c.catch_up.ensures.upto ∙ upto))
 
 pub returns-clause-steps : goal.returns-clause-steps
 returns-clause-steps g c =

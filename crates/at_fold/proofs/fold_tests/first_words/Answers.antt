@@ -6,5 +6,5 @@ use Rattle.at_fold.proofs.fold_tests.first_words.Goals as goal
 pub load_record_word-requires-clause-record : goal.load_record_word-requires-clause-record
 load_record_word-requires-clause-record g c =
     let s : SeatTerms = c.loop-j.seat in
-    let some : 0 < count_of 0 s.view.seen = omega (arith, c.requires.one.first, ap (λ (t : SeatTerms). count_of 0 t.view.seen) c.loop-j.invariant) in
+    let some : 0 < count_of 0 s.knows.seen = omega (arith, c.requires.one.first, ap (λ (t : SeatTerms). count_of 0 t.knows.seen) c.loop-j.invariant) in
     record { seen = some; word = omega (arith, c.requires.alone, c.loop-j-test.true) }

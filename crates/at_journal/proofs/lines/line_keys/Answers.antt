@@ -5,19 +5,19 @@ use Rattle.at_log.specs.ClosingTerms.{receipts_of}
 use Rattle.at_log.specs.JournalOrder.{journal_order}
 use Rattle.at_log.specs.Told.{keys_of}
 use Rattle.at_journal.specs.Positions.{HasOwnPositions}
-use Rattle.at_journal.proofs.LinePositions.{HasPlaces-receipt}
+use Rattle.at_journal.proofs.LinePositions.{HasStarts-receipt}
 use Rattle.at_journal.proofs.OwnPositions.{HasOwnPositions-positions_of}
 use Rattle.at_journal.proofs.lines.line_keys.Goals as goal
 
-pub process_keys-requires-clause-places : goal.process_keys-requires-clause-places
-process_keys-requires-clause-places c =
+pub process_keys-requires-clause-starts : goal.process_keys-requires-clause-starts
+process_keys-requires-clause-starts c =
     let closing = c.args.closing.now in
     let p = c.loop-p.p in
     let own : HasOwnPositions p (journal_order closing) c.as_slice.result.now =
     subst (HasOwnPositions p (journal_order closing)) (sym (c.as_slice.ensures.value ∙ c.in_ok-own.ensures))
     (HasOwnPositions-positions_of p closing c.args.order.now (journal_order closing) c.requires.order c.requires.records) in
     λ i within.
-    HasPlaces-receipt c.args.book.now closing p c.as_slice.result.now (map (λ v. v.items) c.args.places.now) c.requires.coherent own c.requires.places i
+    HasStarts-receipt c.args.book.now closing p c.as_slice.result.now (map (λ v. v.items) c.args.starts.now) c.requires.coherent own c.requires.starts i
     (omega (arith, c.processes-p-end.ensures)) within
 
 pub loop-p-preserved : goal.loop-p-preserved

@@ -19,7 +19,7 @@ loop-j-preserved g c =
     let j = c.loop-j.j in
     let w = c.load_record_word.result in
     let word : IsRecordWord v p i j w =
-    subst (λ (s : SeatTerms). IsRecordWord s.view p i j w) c.loop-j.invariant.same c.load_record_word.ensures.word in
+    subst (λ (s : SeatTerms). IsRecordWord s.knows p i j w) c.loop-j.invariant.same c.load_record_word.ensures.word in
     record {
       same = c.load_record_word.ensures.same ∙ c.loop-j.invariant.same;
       sized = length-set c.loop-j.words j w ∙ c.loop-j.invariant.sized;

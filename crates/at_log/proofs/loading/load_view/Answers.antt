@@ -21,7 +21,7 @@ count g c = c.processes-processes.ensures ∙ ap (λ (t : BookTerms). t.processe
 word : (g : given.Over) (c : After-load_record_word-count g)
     → IsRecordWord c.args.seat.now.knows c.args.p c.args.i (7 + c.loop-q.q) c.load_record_word-count.result
 word g c =
-    subst (λ (s : SeatTerms). IsRecordWord s.view c.args.p c.args.i (7 + c.loop-q.q) c.load_record_word-count.result) c.loop-q.invariant.same
+    subst (λ (s : SeatTerms). IsRecordWord s.knows c.args.p c.args.i (7 + c.loop-q.q) c.load_record_word-count.result) c.loop-q.invariant.same
     c.load_record_word-count.ensures.word
 
 pub overflow_cast-count : goal.overflow_cast-count

@@ -44,7 +44,7 @@ store_record_word-requires-clause-word g c =
     let v : Knowledge = c.args.seat.now.knows in
     let told = c.known-2.ensures in
     let count = processes g (goal.at.store_record_word-requires-clause-word g c).After-processes-width in
-    let room = published-MayAppend b v c.args.rec.now c.known-2.result (own_part v).published c.requires.board.book told.seat c.requires.record in
+    let room = published-MayAppend b v c.args.rec.now c.args.seat.now.knows.first (own_part v).published c.requires.board.book told.seat c.requires.record in
     MayStoreWord-IsStoring b v c.loop-j.seat.knows (record_words (published_by v.first c.args.rec.now)) c.loop-j.j c.loop-j.j (omega (arith, told.seat.one_part)) room
     c.loop-j.invariant.storing (omega (arith, c.loop-j-test.true, count))
 
@@ -68,7 +68,7 @@ publish-requires-clause-record g c =
     let v : Knowledge = c.args.seat.now.knows in
     let count = processes g (goal.at.publish-requires-clause-record g c).After-processes-width in (
       published_by v.first c.args.rec.now,
-      MayPublish-IsStoring c.args.board.now.book v c.loop-j.seat.knows c.args.rec.now c.loop-j.j c.requires.board.book c.known-2.result
+      MayPublish-IsStoring c.args.board.now.book v c.loop-j.seat.knows c.args.rec.now c.loop-j.j c.requires.board.book c.args.seat.now.knows.first
           (own_part v).published c.known-2.ensures.seat c.requires.record c.loop-j.invariant.storing (omega (arith, c.loop-j-test.false, c.loop-j.auto.j-end, count)),
     )
 
@@ -79,7 +79,7 @@ returns-clause-published g c =
     let x : Record = c.args.rec.now in
     let seat = c.known-2.ensures.seat in
     let count = processes g (goal.at.returns-clause-published g c).After-processes-width in
-    let may = MayPublish-IsStoring b v c.loop-j.seat.knows x c.loop-j.j c.requires.board.book c.known-2.result (own_part v).published seat c.requires.record c.loop-j.invariant.storing
+    let may = MayPublish-IsStoring b v c.loop-j.seat.knows x c.loop-j.j c.requires.board.book c.args.seat.now.knows.first (own_part v).published seat c.requires.record c.loop-j.invariant.storing
     (omega (arith, c.loop-j-test.false, c.loop-j.auto.j-end, count)) in
     Publishes-IsStoring b v c.loop-j.seat.knows c.publish.new.seat.knows (published_by v.first x) (record_words (published_by v.first x)) c.loop-j.j
     (omega (arith, seat.one_part)) c.loop-j.invariant.storing (c.publish.ensures.published (published_by v.first x) may)

@@ -18,13 +18,13 @@ sees_first b v before note after p is some process told =
 
 pub load_entry-entry-requires-clause-record : goal.load_entry-entry-requires-clause-record
 load_entry-entry-requires-clause-record g c =
-    sees_first c.args.board.now.book c.args.seat.now.knows c.args.other.now.knows c.note-note.result.view c.learn.new.seat.knows
+    sees_first c.args.board.now.book c.args.seat.now.knows c.args.other.now.knows c.note-note.result.knows c.learn.new.seat.knows
     c.process-process.result c.note-note.ensures.noted c.requires.published
-    (c.process-process.ensures.process ∙ ap (λ s. s.view.first) c.note-note.ensures.same) c.learn.ensures.learned
+    (c.process-process.ensures.process ∙ ap (λ s. s.knows.first) c.note-note.ensures.same) c.learn.ensures.learned
 
 pub load_view-view-requires-clause-record : goal.load_view-view-requires-clause-record
 load_view-view-requires-clause-record g c =
-    let there = sees_first c.args.board.now.book c.args.seat.now.knows c.args.other.now.knows c.note-note.result.view c.learn.new.seat.knows
+    let there = sees_first c.args.board.now.book c.args.seat.now.knows c.args.other.now.knows c.note-note.result.knows c.learn.new.seat.knows
     c.process-process.result c.note-note.ensures.noted c.requires.published
-    (c.process-process.ensures.process ∙ ap (λ s. s.view.first) c.note-note.ensures.same) c.learn.ensures.learned in
-    subst (λ (t : Knowledge). SeesRecord t c.process-process.result 0) (sym (ap (λ s. s.view) c.load_entry-entry.ensures.same)) there
+    (c.process-process.ensures.process ∙ ap (λ s. s.knows.first) c.note-note.ensures.same) c.learn.ensures.learned in
+    subst (λ (t : Knowledge). SeesRecord t c.process-process.result 0) (sym (ap (λ s. s.knows) c.load_entry-entry.ensures.same)) there

@@ -5,7 +5,7 @@ use Rattle.at_history.specs.Balances.{balance_after}
 use Rattle.at_history.specs.Fronts.{prefix_of}
 use Rattle.at_fold.specs.HasCounted.{CountsAccount, CountsFront}
 use Rattle.at_fold.specs.Sums.{TotalSums}
-use Rattle.at_fold.proofs.FrontLaws.{IsBalanced, IsBalanced-front, row_read}
+use Rattle.at_fold.proofs.FrontLaws.{IsBalanced, IsBalanced-front, sums_read}
 use Rattle.at_fold.proofs.totals.Totals.balance.Goals.{After-index}
 use Rattle.at_fold.proofs.totals.Totals.balance.Goals as goal
 
@@ -15,8 +15,8 @@ balanced : (c : After-index) (b : BookTerms) (seen : List Publication) → Count
 balanced c b seen account front =
     let t : TotalSums = c.args.self.now in
     let within : c.args.account < length t.accounts = omega (arith, account.counted.sums.sized, account.account_in) in
-    let row = row_read c.self.inside.accounts.items t.accounts c.args.account c.index.result.now c.index.ensures (ap (λ (t : TotalSums). t.accounts) c.self.view_is) within in
-    subst (λ r. IsBalanced r (balance_after b (prefix_of t.upto seen) c.args.account)) (sym row) (IsBalanced-front t b seen c.args.account account front)
+    let account_sums = sums_read c.self.inside.accounts.items t.accounts c.args.account c.index.result.now c.index.ensures (ap (λ (t : TotalSums). t.accounts) c.self.view_is) within in
+    subst (λ r. IsBalanced r (balance_after b (prefix_of t.upto seen) c.args.account)) (sym account_sums) (IsBalanced-front t b seen c.args.account account front)
 
 pub balance-requires-clause-room : goal.balance-requires-clause-room
 balance-requires-clause-room c = (balanced c c.requires.0 c.requires.1 c.requires.2 c.requires.3).room

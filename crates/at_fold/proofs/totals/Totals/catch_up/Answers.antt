@@ -48,13 +48,13 @@ catch_up_with-requires-clause-seen g c =
     let b = c.args.board.now.book in
     let old : SeatTerms = c.args.seat.now in
     let known : c.loop-p.p < b.processes = omega (arith, c.loop-p-test.true, c.len-p-end.ensures.length, c.requires.seen.sized) in
-    let within = c.requires.seen.within c.loop-p.p (omega (arith, known, length-counts b.processes old.view.seen)) in
+    let within = c.requires.seen.within c.loop-p.p (omega (arith, known, length-counts b.processes old.knows.seen)) in
     omega (
       arith,
       c.get.ensures,
       within,
-      get_or-counts b.processes old.view.seen c.loop-p.p 0 known,
-      ap (λ (s : SeatTerms). count_of c.loop-p.p s.view.seen) c.loop-p.invariant.same,
+      get_or-counts b.processes old.knows.seen c.loop-p.p 0 known,
+      ap (λ (s : SeatTerms). count_of c.loop-p.p s.knows.seen) c.loop-p.invariant.same,
     )
 
 pub returns-clause-stays : goal.returns-clause-stays

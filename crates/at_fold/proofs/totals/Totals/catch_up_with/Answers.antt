@@ -15,20 +15,20 @@ loop-i-preserved g c =
     let now : SeatTerms = c.loop-i.seat in
     let same = c.loop-i.invariant.same in
     let seat = c.load_entry-entry.ensures.same ∙ same in
-    let history : IsHistory b now.view.seen =
-    subst (λ (s : SeatTerms). IsHistory b s.view.seen) (sym same)
-    (subst (λ (t : BookTerms). IsHistory t old.view.seen) c.requires.board.book c.known.ensures.seat.history) in
-    let within : c.loop-i.i < count_of c.args.p now.view.seen =
-    omega (arith, c.loop-i-test.true, c.requires.seen, ap (λ (s : SeatTerms). count_of c.args.p s.view.seen) same) in
+    let history : IsHistory b now.knows.seen =
+    subst (λ (s : SeatTerms). IsHistory b s.knows.seen) (sym same)
+    (subst (λ (t : BookTerms). IsHistory t old.knows.seen) c.requires.board.book c.known.ensures.seat.history) in
+    let within : c.loop-i.i < count_of c.args.p now.knows.seen =
+    omega (arith, c.loop-i-test.true, c.requires.seen, ap (λ (s : SeatTerms). count_of c.args.p s.knows.seen) same) in
     let inside : c.args.p < length c.args.self.now.upto = omega (arith, c.requires.process, c.requires.counted.processes) in
     let next : get_or c.loop-i.self.upto c.args.p 0 ≡ c.loop-i.i =
     ap (λ (l : List ℕ). get_or l c.args.p 0) c.loop-i.invariant.upto ∙ get_or-set_same c.args.self.now.upto c.args.p c.loop-i.i 0 inside in
-    let may : MayCount c.loop-i.self b now.view.seen c.args.p c.load_entry-entry.result =
-    MayCount-loaded c.loop-i.self b now.view c.args.p c.loop-i.i c.load_entry-entry.result c.loop-i.invariant.counted history c.requires.process within next
+    let may : MayCount c.loop-i.self b now.knows.seen c.args.p c.load_entry-entry.result =
+    MayCount-loaded c.loop-i.self b now.knows c.args.p c.loop-i.i c.load_entry-entry.result c.loop-i.invariant.counted history c.requires.process within next
     c.load_entry-entry.ensures.entry in
-    let counted : HasCounted c.count.new.self b now.view.seen = c.count.ensures.counted b now.view.seen may in
+    let counted : HasCounted c.count.new.self b now.knows.seen = c.count.ensures.counted b now.knows.seen may in
     record {
-      counted = subst (λ (s : SeatTerms). HasCounted c.count.new.self b s.view.seen) (sym c.load_entry-entry.ensures.same) counted;
+      counted = subst (λ (s : SeatTerms). HasCounted c.count.new.self b s.knows.seen) (sym c.load_entry-entry.ensures.same) counted;
       upto = c.count.ensures.upto ∙ (ap (λ (l : List ℕ). set l c.args.p (c.loop-i.i + 1)) c.loop-i.invariant.upto
           ∙ set-set c.args.self.now.upto c.args.p c.loop-i.i (c.loop-i.i + 1));
       same = seat;

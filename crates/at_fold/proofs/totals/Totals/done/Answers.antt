@@ -1,6 +1,6 @@
 use Rattle.std.proofs.Common.{◌<◌, length, ap, ◌∙◌, arith}
 use Rattle.at_fold.specs.Sums.{AccountSums, TotalSums, slot_at}
-use Rattle.at_fold.proofs.FrontLaws.{AreSumsOf-front, row_read}
+use Rattle.at_fold.proofs.FrontLaws.{AreSumsOf-front, sums_read}
 use Rattle.at_fold.proofs.totals.Totals.done.Goals as goal
 
 pub returns-clause-front : goal.returns-clause-front
@@ -8,6 +8,6 @@ returns-clause-front c = λ b seen slot front.
     let account = slot.account in
     let sums = (AreSumsOf-front c.args.self.now b seen account.counted front).accounts c.args.account account.account_in in
     let within : c.args.account < length c.args.self.now.accounts = omega (arith, account.counted.sums.sized, account.account_in) in
-    let row = row_read c.self.inside.accounts.items c.args.self.now.accounts c.args.account c.index.result.now c.index.ensures
+    let account_sums = sums_read c.self.inside.accounts.items c.args.self.now.accounts c.args.account c.index.result.now c.index.ensures
     (ap (λ (t : TotalSums). t.accounts) c.self.view_is) within in
-    c.done.ensures ∙ (ap (λ (r : AccountSums). (slot_at r c.args.slot).done) row ∙ (sums.slots c.args.slot slot.slot_in).done)
+    c.done.ensures ∙ (ap (λ (r : AccountSums). (slot_at r c.args.slot).done) account_sums ∙ (sums.slots c.args.slot slot.slot_in).done)

@@ -1,7 +1,7 @@
 use Rattle.std.proofs.Common.{◌≡◌, map}
 use Rattle.std.specs.List.{range_with_len}
-use Rattle.at_fold.specs.Sums.{starting_row}
+use Rattle.at_fold.specs.Sums.{starting_sums}
 use Rattle.at_fold.proofs.totals.Totals.new.Given as goal
 
 abbrev pub invariant-loop-account : goal.invariant-loop-account
-invariant-loop-account l = l.accounts.items ≡ map (starting_row l.book) (range_with_len 0 l.account)
+invariant-loop-account l = l.accounts.items ≡ map (starting_sums l.book) (range_with_len 0 l.account)

@@ -21,7 +21,7 @@ returns-in-Some-clause-scan g c =
     let b : BookTerms = c.args.board.now.book in
     let w : Knowledge = c.collect-now.new.seat.knows in
     let after = IsScanOf-after b c.args.self.now c.args.seat.now.knows w (omega (arith, c.known.ensures.seat.one_part)) c.requires.scan c.collect-now.ensures.collect in
-    subst (λ (s : SeatTerms). IsScanOf b c.keep.new.self s.view) (sym c.compare.ensures.same)
+    subst (λ (s : SeatTerms). IsScanOf b c.keep.new.self s.knows) (sym c.compare.ensures.same)
     (subst (λ (s : ScanTerms). IsScanOf b s w) (sym c.keep.ensures.after) after)
 
 pub returns-in-Some-clause-snapshot : goal.returns-in-Some-clause-snapshot
@@ -33,5 +33,5 @@ returns-in-Some-clause-snapshot g c =
     let known : c.args.seat.now.knows.first < b.processes =
     omega (arith, c.known.ensures.seat.known, ap (λ (t : BookTerms). t.processes) c.requires.board.book) in
     let verdict = subst (λ now. IsVerdict c.in-Some.before w now c.compare.result) c.collect-now.ensures.counts c.compare.ensures.answer in
-    subst (λ (s : SeatTerms). OnCounts c.compare.result (IsSnapshot b scan.start s.view)) (sym c.compare.ensures.same)
+    subst (λ (s : SeatTerms). OnCounts c.compare.result (IsSnapshot b scan.start s.knows)) (sym c.compare.ensures.same)
     (OnCounts-IsVerdict b scan c.in-Some.before c.args.seat.now.knows w c.compare.result c.keep.ensures.start c.requires.scan known is c.collect-now.ensures.collect verdict)

@@ -1,7 +1,7 @@
 use Rattle.std.proofs.Common.{◌≡◌, ◌==◌, filter, get_or}
 use Rattle.std.specs.List.{range_with_len}
 use Rattle.at_journal.specs.Positions.{no_keyed}
-use Rattle.at_journal.proofs.places.own_positions.Given as goal
+use Rattle.at_journal.proofs.positions.own_positions.Given as goal
 
 abbrev pub invariant-loop-position : goal.invariant-loop-position
 invariant-loop-position l =

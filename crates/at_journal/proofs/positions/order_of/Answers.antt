@@ -6,7 +6,7 @@ use Rattle.at_journal.specs.Keys.{log_keys}
 use Rattle.at_journal.specs.Ordered.{AreInOrder}
 use Rattle.at_journal.specs.Positions.{AreRecords, published_in}
 use Rattle.at_journal.proofs.NamedLaws.{AreRecords-order, published_in-journal_order}
-use Rattle.at_journal.proofs.places.order_of.Goals as goal
+use Rattle.at_journal.proofs.positions.order_of.Goals as goal
 
 pub in_order-requires : goal.in_order-requires
 in_order-requires c = omega (arith, ap length c.as_slice.ensures.value, c.in_ok-keys.ensures.few)

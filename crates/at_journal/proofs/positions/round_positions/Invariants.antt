@@ -1,8 +1,8 @@
 use Rattle.std.proofs.Common.{length, map, take}
 use Rattle.at_log.specs.JournalOrder.{journal_order}
 use Rattle.at_journal.specs.Positions.{HasRoundPositions}
-use Rattle.at_journal.proofs.places.round_positions.Given as goal
+use Rattle.at_journal.proofs.positions.round_positions.Given as goal
 
 abbrev pub invariant-loop-position : goal.invariant-loop-position
 invariant-loop-position l =
-    HasRoundPositions (length l.book.accounts) (take l.position (journal_order l.closing)) (journal_order l.closing) (map (λ v. v.items) l.places.items)
+    HasRoundPositions (length l.book.accounts) (take l.position (journal_order l.closing)) (journal_order l.closing) (map (λ v. v.items) l.starts.items)

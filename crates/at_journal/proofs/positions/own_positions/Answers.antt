@@ -1,7 +1,7 @@
 use Rattle.std.proofs.Common.{◌++◌, [], ◌∷◌, ap, rules, sym, ◌∙◌}
 use Rattle.at_journal.proofs.OwnPositions.{positions-other, positions-own}
-use Rattle.at_journal.proofs.places.own_positions.Goals as goal
-use Rattle.at_journal.proofs.places.own_positions.Goals.{then-one-process+in_ok-push, else-one-process}
+use Rattle.at_journal.proofs.positions.own_positions.Goals as goal
+use Rattle.at_journal.proofs.positions.own_positions.Goals.{then-one-process+in_ok-push, else-one-process}
 
 pub loop-position-preserved : goal.loop-position-preserved
 loop-position-preserved c =

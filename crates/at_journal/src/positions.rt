@@ -53,14 +53,14 @@ pub(crate) fn own_positions(
 }
 
 /// Notes where a record stands, if it is the first of the next round of its account.
-fn note_position(places: &mut Vec<Vec<u64>>, entry: &Entry, position: u64) -> Result<(), NoMemory>
-    requires { IsOnAccount (length places.old.items) entry.now }
-    ensures { OnOk result (map (λ v. v.items) places.new.items ≡ with_position position entry.now (map (λ v. v.items) places.old.items)) }
+fn note_position(starts: &mut Vec<Vec<u64>>, entry: &Entry, position: u64) -> Result<(), NoMemory>
+    requires { IsOnAccount (length starts.old.items) entry.now }
+    ensures { OnOk result (map (λ v. v.items) starts.new.items ≡ with_position position entry.now (map (λ v. v.items) starts.old.items)) }
 {
     match entry {
         Entry::Own { .. } => Ok(()),
         Entry::Round { account, round, .. } => {
-            let firsts = &mut places[*account as usize];
+            let firsts = &mut starts[*account as usize];
             if firsts.len() == *round as usize {
                 firsts.push(position)?;
             }
@@ -79,13 +79,13 @@ pub(crate) fn round_positions(
     requires coherent { Coherent book.now closing.now }
     requires order { published_in closing.now order.now ≡ journal_order closing.now }
     requires records { AreRecords closing.now order.now }
-    ensures places { IfOk result (λ places. HasRoundPositions (length book.now.accounts) (journal_order closing.now) (journal_order closing.now) (map (λ v. v.items) places.items)) }
+    ensures starts { IfOk result (λ starts. HasRoundPositions (length book.now.accounts) (journal_order closing.now) (journal_order closing.now) (map (λ v. v.items) starts.items)) }
     ensures checked { IsBook book.now }
 {
-    let mut places = empty_lists(alloc, book.accounts())?;
+    let mut starts = empty_lists(alloc, book.accounts())?;
     for (position, one) in order.iter().enumerate() {
         let record = &closing.log(one.process)[one.number];
-        note_position(&mut places, &record.entry, position as u64)?;
+        note_position(&mut starts, &record.entry, position as u64)?;
     }
-    Ok(places)
+    Ok(starts)
 }

@@ -5,14 +5,14 @@ use Rattle.at_log.specs.JournalOrder.{journal_order}
 use Rattle.at_journal.specs.Positions.{HasRoundPositions, IsOnAccount, with_position}
 use Rattle.at_journal.proofs.NamedLaws.{entry-published_in, length-published_in}
 use Rattle.at_journal.proofs.RoundPositions.{HasRoundPositions-more, HasRoundPositions-none, IsOnAccount-journal_order}
-use Rattle.at_journal.proofs.places.round_positions.Goals as goal
+use Rattle.at_journal.proofs.positions.round_positions.Goals as goal
 
 pub loop-position-init : goal.loop-position-init
 loop-position-init c =
     let order = journal_order c.args.closing.now in
     let accounts = length c.args.book.now.accounts in
-    let none : map (λ v. v.items) c.in_ok-places.places.items ≡ replicate accounts [] =
-    c.in_ok-places.ensures ∙ ap (λ n. replicate n []) c.accounts.ensures.count in
+    let none : map (λ v. v.items) c.in_ok-starts.starts.items ≡ replicate accounts [] =
+    c.in_ok-starts.ensures ∙ ap (λ n. replicate n []) c.accounts.ensures.count in
     subst (HasRoundPositions accounts [] order) (sym none) (HasRoundPositions-none accounts order)
 
 pub note_position-requires : goal.note_position-requires
@@ -21,8 +21,8 @@ note_position-requires c =
     let order = c.args.order.now in
     let k = c.loop-position.position in
     let within : k < length (journal_order closing) = omega (arith, length-published_in closing order (journal_order closing) c.requires.order) in
-    let size : length c.args.book.now.accounts ≡ length c.loop-position.places.items =
-    sym c.loop-position.invariant.sized ∙ length-map c.loop-position.places.items (λ v. v.items) in
+    let size : length c.args.book.now.accounts ≡ length c.loop-position.starts.items =
+    sym c.loop-position.invariant.sized ∙ length-map c.loop-position.starts.items (λ v. v.items) in
     let entry : (publication_at (journal_order closing) k).entry ≡ c.index-log-one.result.entry =
     entry-published_in closing order k (journal_order closing) c.log.result.now c.index-log-one.result c.requires.order c.requires.records (omega arith) c.log.ensures
     ∙ ap (λ x. x.entry) (sym c.index-log-one.is) in
@@ -35,7 +35,7 @@ loop-position-preserved c =
     let order = c.args.order.now in
     let k = c.loop-position.position in
     let list = journal_order closing in
-    let before = map (λ v. v.items) c.loop-position.places.items in
+    let before = map (λ v. v.items) c.loop-position.starts.items in
     let accounts = length c.args.book.now.accounts in
     let within : k < length list = omega (arith, length-published_in closing order list c.requires.order) in
     let entry : (publication_at list k).entry ≡ c.index-log-one.result.entry =
