@@ -32,7 +32,7 @@ abbrev pub all_but_lengths : ClosingTerms → List (List ℕ)
 all_but_lengths c =
     flat_map (λ log. map (λ x. x.view) log) c.logs ++ flat_map (λ receipts. filter_map (λ r. front_at r.at) receipts) c.receipts
 
--- once sorted by their starts
+-- once sorted by their places
 pub AreHeld-sorted : (c : ClosingTerms) (before after : List HeldFront) → counts_in before ≡ all_but_lengths c → ArePlaced before
     → IsPermutation before after → IsNonDecreasingBy (λ f. f.place) after → AreHeld c after
 AreHeld-sorted c before after are placed moved sorted =
