@@ -31,7 +31,7 @@ whole-count_of xs ys m before last same =
     ) in
     whole-IsPrefix xs ys before (omega (arith, last, position-below_from_count p m (length xs) ys counted))
 
--- the view that stands for the process that published last has seen the whole list
+-- the seat of the process that published last has seen the whole list
 pub seen-Ruled : (b : BookTerms) (words : List ℕ) (views : List Knowledge) (ruled : Ruled b words views) (m : ℕ)
     → length ruled.state.published ≡ m + 1
     → (id : ℕ) × (v : Knowledge) × (get_elem? views id ≡ some v) × (v.seen ≡ ruled.state.published)
@@ -63,7 +63,7 @@ IsPrefix-Ruled b words views one other =
       | inr none ↦ IsPrefix-none xs ys (omega (arith, none))
     ]
 
--- all states that the words and the views may stand for have published one list
+-- all states that the words and the seats may stand for have published one list
 pub published-Ruled : (b : BookTerms) (words : List ℕ) (views : List Knowledge) (one other : Ruled b words views)
     → one.state.published ≡ other.state.published
 published-Ruled b words views one other =

@@ -9,16 +9,16 @@ use Rattle.at_board.specs.Knowledge.Knows.{Knows}
 use Rattle.at_board.specs.Words.Shown.{Shown}
 use Rattle.at_board.specs.declared.knowledge.Knowledge.{Knowledge}
 
--- the view has the part of the process
+-- the knowledge has the part of the process
 abbrev pub Holds : Knowledge → ℕ → Type 0
 Holds v p = (v.first ≤ p) × (p < v.first + length v.parts)
 
--- the part of each process stands in the view of its seat and in no other. A view that is spent has no part
+-- the part of each process stands in what its seat knows and in no other. What is spent has no part
 pub record AreSeated (b : BookTerms) (seat : ℕ → ℕ) (views : List Knowledge) : Type 0 where
   pub only : (id p : ℕ) (v : Knowledge) → get_elem? views id ≡ some v → Holds v p → seat p ≡ id
   pub some_seat : (p : ℕ) → p < b.processes → (v : Knowledge) × (get_elem? views (seat p) ≡ some v) × Holds v p
 
--- the words stand for a sound state, and whatever a view has seen is in it
+-- the words stand for a sound state, and whatever a seat or a note knows is in it
 pub record Ruled (b : BookTerms) (words : List ℕ) (views : List Knowledge) : Type 0 where
   pub state : BoardState
   pub seat : ℕ → ℕ

@@ -1,4 +1,4 @@
-//! The indices of the words of a board: the one place that knows how the words lie. The definition is `Words/Addresses`.
+//! The index of each word of a board. No other module knows how the words lie; the definition is `specs/Words/Addresses.antt`.
 
 ghost use Rattle.std.specs.Prelude.{◌≡◌, ◌+◌, ◌<◌, ◌≤◌, IfOk, length, sum_by, take, ◌^◌};
 ghost use Rattle.at_board.specs.Words.Addresses.{IsAddress, index_of, record_word, words_max, announced_of, request_word, cell_of, word_count, AreLogStarts, AreSlotsBefore};

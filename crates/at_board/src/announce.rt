@@ -33,8 +33,10 @@ impl Board {
         exchanges: &mut Steps<X>,
     )
         requires board { IsOf seat.old self.now }
-        requires request { (slot : ℕ) × (r : Request) × MayAnnounce self.now.book seat.old.knows account slot r }
-        ensures announced { (slot : ℕ) (r : Request) → MayAnnounce self.now.book seat.old.knows account slot r → Announces self.now.book seat.old.knows seat.new.knows account slot r }
+        requires request { (slot : ℕ) × (r : Request)
+            × MayAnnounce self.now.book seat.old.knows account slot r }
+        ensures announced { (slot : ℕ) (r : Request) → MayAnnounce self.now.book seat.old.knows account slot r
+            → Announces self.now.book seat.old.knows seat.new.knows account slot r }
         ensures board { seat.new.board ≡ seat.old.board }
         ensures steps { steps.new ≡ steps.old + 1 }
         ensures exchanges { exchanges.new ≡ exchanges.old }
@@ -43,6 +45,8 @@ impl Board {
         let own = self.own_slot(account, seat.process());
         let count = self.announced(seat, account) + 1;
         let word = self.announced_index(account, own);
+        // Right here: this one store makes the request one of the row, and its words stand. Before, others may have published,
+        // announced and decided; all that this process asked earlier is settled, and stays so.
         self.table
             .shared
             .store::<Announce>(&mut seat.seat, word, u64::from(count));

@@ -22,7 +22,8 @@ pub(crate) fn deal(
     first: Seat<(), Knowledge>,
     book: &Book,
 ) -> Result<Vec<BoardSeat>, AllocError>
-    requires table { (first.table_id ≡ shared.now.table_id) × (shared.now.key.value ≡ book.now) × (shared.now.table_id.words ≡ word_count book.now) }
+    requires table { (first.table_id ≡ shared.now.table_id) × (shared.now.key.value ≡ book.now)
+        × (shared.now.table_id.words ≡ word_count book.now) }
     requires first { first.me ≡ (starting_knowledge book.now, []) }
     ensures { IfOk result (λ seats. AreNew book.now shared.now.table_id seats.items) }
 {

@@ -27,7 +27,8 @@ impl Board {
     ) -> u64
         requires board { IsOf seat.old self.now }
         requires proposal { IsProposal self.now.book seat.old.knows account round proposal }
-        ensures decided { DecidesBy self.now.book seat.old.knows seat.new.knows account round proposal result }
+        ensures decided { DecidesBy self.now.book seat.old.knows seat.new.knows account round
+            proposal result }
         ensures board { seat.new.board ≡ seat.old.board }
         ensures steps { steps.new ≡ steps.old + 1 }
         ensures exchanges { exchanges.new ≡ exchanges.old + 1 }
@@ -36,6 +37,9 @@ impl Board {
         exchanges.tick();
         seat.known();
         let index = self.cell_index(account, round);
+        // Right here: the exchange stores only where it finds 0. Others may have decided this round before; then their word stands,
+        // and is the answer. Where none has, this round is the next one, and the proposal keeps the laws at its place, since
+        // the list up to there never changes.
         let found = self
             .table
             .shared

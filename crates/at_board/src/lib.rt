@@ -7,13 +7,12 @@
 //! The announced requests and the one cell of each round are the registers and the consensus objects that an account of several
 //! owners has in "The Consensus Number of a Cryptocurrency" (PODC 2019).
 //!
-//! The definitions read best in this order. What is published: `Publications`, `Fronts`, `Entries`, `Rounds`, `Balances`, `Moves`.
-//! What the words stand for: `BoardState`, `Places`, `TargetsWord`, `Words`, `Shown`. The laws: `Sound`. What a seat knows:
-//! `Views`, `RecordWords`, `Seen`. The rule: `Seated`. What each call asks: `Conditions`, `RequestConditions`. What it tells:
-//! `ShownRounds`, `Steps`, `RequestSteps`, `DecideSteps`, `NoteSteps`, `LearnSteps`. What a seat keeps between its steps:
-//! `SeatTerms`, `SeatCounts`. How a board begins and ends: `Cuts`, `Ends`. `Plays` and `Meetings` tie the steps to the table.
-//! `Fresh` and `Forms` are for the crates above, `SmallBoard` for the tests.
+//! What is true of the list and of a state as plain data stands in `at_history`, whose types this crate passes on.
 //!
+//! The definitions read best in this order. Where the words lie, what they hold, and what they stand for: `Words`. What a seat
+//! knows: `Knowledge`, with `Parts` first. The rule: `Rule`. What each call asks and tells: `Steps`, a file for each. How a board
+//! begins and ends: `Ends`. `Steps/Plays` and `Steps/Meetings` tie the steps to the table, `Knowledge/Fresh` is for the crates above,
+//! and `SmallBoard` for the tests.
 #![tactic(auto)]
 
 mod addresses;

@@ -25,13 +25,16 @@ impl Board {
         requires board { IsOf seat.old self.now }
         requires account { account < length self.now.book.accounts }
         requires slot { slot < slots_of (account_of self.now.book account) }
-        ensures told { LoadsAnnounced self.now.book seat.old.knows seat.new.knows account slot result }
+        ensures told { LoadsAnnounced self.now.book seat.old.knows seat.new.knows
+            account slot result }
         ensures board { seat.new.board ≡ seat.old.board }
         ensures steps { steps.new ≡ steps.old + 1 }
         ensures exchanges { exchanges.new ≡ exchanges.old }
     {
         steps.tick();
         let index = self.announced_index(account, slot);
+        // Right here: each request that the word counts was whole before it was counted, and never changes. The owner may have
+        // announced more before than this seat knew of, and may announce more at once after.
         let count = self
             .table
             .shared

@@ -27,6 +27,8 @@ impl Board {
         ensures exchanges { exchanges.new ≡ exchanges.old }
     {
         steps.tick();
+        // Right here: the word counts the records of its process in the one list, and only that process raises it. Before, any
+        // process may have published any number of records; so the seat learns a list that has just so many of this one.
         let length = self
             .table
             .shared

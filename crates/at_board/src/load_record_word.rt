@@ -33,6 +33,7 @@ impl Board {
         steps.tick();
         seat.known();
         let index = self.record_index(p, i, j);
+        // Right here: the record was published before, and no step changes a published record, whatever others have done since.
         self.table.shared.load::<LoadWord>(&mut seat.seat, index)
     }
 }

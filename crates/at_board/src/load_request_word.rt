@@ -24,7 +24,8 @@ impl Board {
     ) -> u64
         requires board { IsOf seat.old self.now }
         requires request { MayLoadRequest seat.old.knows account slot number j }
-        ensures told { LoadsRequestWord self.now.book seat.old.knows seat.new.knows account slot number j result }
+        ensures told { LoadsRequestWord self.now.book seat.old.knows seat.new.knows
+            account slot number j result }
         ensures board { seat.new.board ≡ seat.old.board }
         ensures steps { steps.new ≡ steps.old + 1 }
         ensures exchanges { exchanges.new ≡ exchanges.old }
@@ -32,6 +33,8 @@ impl Board {
         steps.tick();
         seat.known();
         let index = self.request_index(account, slot, number, j);
+        // Right here: the request is announced, since the seat has seen its number or a decision that names it, and no step changes
+        // an announced request, whatever others have done since.
         self.table
             .shared
             .load::<LoadRequestWord>(&mut seat.seat, index)

@@ -8,7 +8,7 @@ use std::marker::Brand;
 use std::sync::atomic::Ordering::SeqCst;
 use std::sync::atomic::raw;
 
-/// Tells that the table had a state in which its rule held and two different seats had these views. A step of the table tells
+/// Tells that the table had a state in which its rule held and two different seats knew this. A step of the table tells
 /// of its own seat alone. This loads a word of its own and none of the table's, so it is no step on the table.
 pub(crate) fn meet<S, V, K, P: TableRule<S, V, K>>(
     table: &Shared<S, V, K, P>,
@@ -19,7 +19,8 @@ pub(crate) fn meet<S, V, K, P: TableRule<S, V, K>>(
     requires other { other.old.table_id ≡ table.now.table_id }
     ensures one { one.new ≡ one.old }
     ensures other { other.new ≡ other.old }
-    ensures seen { AreSeen (P.holds table.now.key) one.old.id one.old.me.0 other.old.id other.old.me.0 }
+    ensures seen { AreSeen (P.holds table.now.key) one.old.id
+        one.old.me.0 other.old.id other.old.me.0 }
 {
     let word: u64 = 0;
     unsafe { raw::load::<Brand>(&raw const word, SeqCst) };

@@ -51,6 +51,7 @@ impl Board {
     {
         steps.tick();
         exchanges.tick();
+        // Right here: what the seat has seen never changes, so a copy of it is right at every later moment. No word changes.
         BoardNote {
             seat: self.table.shared.split_seat::<Note>(&mut seat.seat),
         }
@@ -76,6 +77,7 @@ impl Board {
         exchanges.tick();
         let shared = &self.table.shared;
         let BoardNote { seat: mut told } = note;
+        // Right here: both lists are prefixes of the one list, whoever has published before, so the longer one has both.
         meet(shared, &mut seat.seat, &mut told);
         shared.join_seat::<Learn>(&mut seat.seat, told);
     }

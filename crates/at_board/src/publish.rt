@@ -21,12 +21,16 @@ impl Board {
     )
         requires board { IsOf seat.old self.now }
         requires record { (x : Publication) × MayPublish self.now.book seat.old.knows x }
-        ensures published { (x : Publication) → MayPublish self.now.book seat.old.knows x → Publishes self.now.book seat.old.knows seat.new.knows x }
+        ensures published { (x : Publication) → MayPublish self.now.book seat.old.knows x
+            → Publishes self.now.book seat.old.knows seat.new.knows x }
         ensures board { seat.new.board ≡ seat.old.board }
         ensures steps { steps.new ≡ steps.old + 1 }
         ensures exchanges { exchanges.new ≡ exchanges.old }
     {
         steps.tick();
+        // Right here: this one store puts the record at the end of the list, after all that others have published before. What it
+        // rests on still stands: its view is a front of a prefix that never changes, its process alone debits the account or the
+        // round is decided, and its words were stored by this seat.
         self.table.shared.store::<Publish>(
             &mut seat.seat,
             seat.process as usize,

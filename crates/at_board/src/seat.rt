@@ -44,7 +44,8 @@ impl BoardSeat {
 
     /// Tells a proof what the seat's type keeps between all steps. It makes no step, and does nothing when it runs.
     pub fn known(&self)
-        ensures seat { IsSeat self.now.knows self.now.knows.first (own_part self.now.knows).published }
+        ensures seat { IsSeat self.now.knows self.now.knows.first
+            (own_part self.now.knows).published }
     {
         let _ = &self.process;
     }

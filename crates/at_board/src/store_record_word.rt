@@ -31,6 +31,8 @@ impl Board {
     {
         steps.tick();
         let index = self.record_index(seat.process, seat.published, j);
+        // Right here: the record lies past the end of its process's log, so no step of another seat reads the word. Before, others
+        // may have published anything; none of that touches it.
         self.table
             .shared
             .store::<StoreWord>(&mut seat.seat, index, w);

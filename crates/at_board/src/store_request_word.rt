@@ -35,6 +35,8 @@ impl Board {
         let slot = self.own_slot(account, seat.process());
         let next = self.announced(seat, account);
         let index = self.request_index(account, slot, next, j);
+        // Right here: the request isn't announced, so no step of another seat reads the word. Before, others may have published,
+        // announced and decided anything; none of that touches it.
         self.table
             .shared
             .store::<StoreRequestWord>(&mut seat.seat, index, w);

@@ -1,4 +1,4 @@
--- Loads of lengths: what they leave of a view, and one after another.
+-- Loads of lengths: what they leave as it was, and one after another.
 use Rattle.std.proofs.Common.{◌≡◌, ◌≢◌, ℕ, ◌+◌, ◌<◌, List, length, sym, ap, ◌∙◌, arith}
 use Rattle.std.proofs.lemmas.List.{get_or-set_other, get_or-set_same, length-set, set-set}
 use Rattle.at_ledger.specs.Book.{BookTerms}

@@ -86,7 +86,7 @@ turns_left-some b start mark (Some c) v known own so loaded =
     ) in
     unmoved-some c.first c.last p (are.last_length ∙ sym are.first_length) (omega (arith, known, are.first_length)) same
 
--- a snapshot after so many turns, from a view and a number of steps
+-- a snapshot after so many turns, from what the seat knew and a number of steps
 pub record IsSnapping (b : BookTerms) (begun : Knowledge) (scan : ScanTerms) (v : Knowledge) (before steps turns : ℕ) : Type 0 where
   pub scan_of : IsScanOf b scan v
   pub start : scan.start ≡ begun

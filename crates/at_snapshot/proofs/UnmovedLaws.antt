@@ -14,7 +14,7 @@ one_if_same-apart : (f l : ℕ) → f ≢ l → one_if_same f l ≡ 0
 unfolding one_if_same
 one_if_same-apart f l e = ap (λ c. cond c 1 0) (ne_eqb f l e)
 
--- how many places of two lists have the same number
+-- how many positions of two lists have the same number
 pub unmoved : List ℕ → List ℕ → ℕ
 unmoved [] ls = 0
 unmoved (f ∷ fs) [] = 0
@@ -25,7 +25,7 @@ unfolding unmoved
 unmoved-same [] = refl
 unmoved-same (f ∷ fs) = omega (arith, one_if_same-equal f f refl, unmoved-same fs)
 
--- a place with the same number counts
+-- a position with the same number counts
 pub unmoved-some : (fs ls : List ℕ) (p : ℕ) → length ls ≡ length fs → p < length fs → get_or fs p 0 ≡ get_or ls p 0 → 1 ≤ unmoved fs ls
 unfolding unmoved
 unmoved-some [] ls p sized within same = absurd (omega arith)

@@ -9,9 +9,9 @@ use Rattle.at_board.specs.Knowledge.Parts.{loads_of, own_part}
 
 -- the numbers that a seat last loaded
 abbrev pub collect_of : Knowledge → List ℕ
-collect_of view = map (λ l. l.last) (own_part view).loads
+collect_of v = map (λ l. l.last) (own_part v).loads
 
--- loads of lengths alone have changed the view: its list begins with the old one
+-- loads of lengths alone have changed what the seat knows: its list begins with the old one
 pub record HasLoaded (b : BookTerms) (before after : Knowledge) : Type 0 where
   pub more : IsPrefix before.seen after.seen
   pub own : count_of before.first after.seen ≡ (own_part before).published

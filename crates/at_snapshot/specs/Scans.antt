@@ -8,9 +8,9 @@ use Rattle.at_board.specs.Knowledge.Parts.{loads_of, own_part}
 use Rattle.at_snapshot.specs.declared.collects.Collects.{Collects}
 use Rattle.at_snapshot.specs.Collected.{collect_of}
 
--- the view has seen all records of its own process
+-- the seat has seen all records of its own process
 abbrev pub SeesOwnRecords : Knowledge → Type 0
-SeesOwnRecords view = count_of view.first view.seen ≡ (own_part view).published
+SeesOwnRecords v = count_of v.first v.seen ≡ (own_part v).published
 
 -- a scan by what its seat had seen at the start and at the end of the last collect, and by its first collect and its last
 pub record ScanTerms : Type 0 where
@@ -19,7 +19,7 @@ pub record ScanTerms : Type 0 where
   pub collects : Option Collects
 
 abbrev pub starting_scan : Knowledge → ScanTerms
-starting_scan view = record { start = view; mark = view; collects = None }
+starting_scan v = record { start = v; mark = v; collects = None }
 
 -- the collects after one more, which is the first where there was none
 abbrev pub collects_after : Option Collects → List ℕ → Collects
@@ -28,7 +28,7 @@ collects_after (Some c) collect = record { first = c.first; last = collect }
 
 -- the scan after a collect
 abbrev pub scan_after : ScanTerms → Knowledge → ScanTerms
-scan_after scan view = record { start = scan.start; mark = view; collects = Some (collects_after scan.collects (collect_of view)) }
+scan_after scan v = record { start = scan.start; mark = v; collects = Some (collects_after scan.collects (collect_of v)) }
 
 -- how often a scan has loaded each length at least
 abbrev pub loads_at_least : Option Collects → ℕ
@@ -45,11 +45,11 @@ pub record AreCollects (b : BookTerms) (scan : ScanTerms) (c : Collects) : Type 
   pub last : (p : ℕ) → p < b.processes → slice_index c.last p ≤ count_of p scan.mark.seen
   pub rising : Covers c.last c.first
 
--- the view is that of a scan's seat, which has published nothing since the start
-pub record IsScanOf (b : BookTerms) (scan : ScanTerms) (view : Knowledge) : Type 0 where
-  pub process : view.first ≡ scan.start.first
-  pub published : (own_part view).published ≡ (own_part scan.start).published
-  pub started : IsPrefix scan.start.seen view.seen
-  pub marked : IsPrefix scan.mark.seen view.seen
-  pub loads : (p : ℕ) → p < b.processes → (loads_of (own_part scan.start) p).times + loads_at_least scan.collects ≤ (loads_of (own_part view) p).times
+-- this is what a scan's seat knows, which has published nothing since the start
+pub record IsScanOf (b : BookTerms) (scan : ScanTerms) (v : Knowledge) : Type 0 where
+  pub process : v.first ≡ scan.start.first
+  pub published : (own_part v).published ≡ (own_part scan.start).published
+  pub started : IsPrefix scan.start.seen v.seen
+  pub marked : IsPrefix scan.mark.seen v.seen
+  pub loads : (p : ℕ) → p < b.processes → (loads_of (own_part scan.start) p).times + loads_at_least scan.collects ≤ (loads_of (own_part v) p).times
   pub collects : IfSome scan.collects (AreCollects b scan)

@@ -21,9 +21,9 @@ pub record IsLeastRisen (process : ℕ) (first now : List ℕ) (p : ℕ) : Type 
   pub least : (q : ℕ) → q < p → ¬ HasRisen process first now q
 
 -- the collect differs from the one before, and no other process has risen by two
-pub record IsUndecided (c : Collects) (view : Knowledge) (now : List ℕ) : Type 0 where
+pub record IsUndecided (c : Collects) (v : Knowledge) (now : List ℕ) : Type 0 where
   pub differs : c.last ≢ now
-  pub none : (p : ℕ) → ¬ HasRisen view.first c.first now p
+  pub none : (p : ℕ) → ¬ HasRisen v.first c.first now p
 
 -- the collect equals the one before, and these are its counts
 pub record IsRepeated (c : Collects) (now counts : List ℕ) : Type 0 where
@@ -32,21 +32,21 @@ pub record IsRepeated (c : Collects) (now counts : List ℕ) : Type 0 where
 
 -- the collect differs from the one before, another process has risen by two, and the counts are the view of the last record
 -- counted of the least such process
-pub record IsLent (c : Collects) (view : Knowledge) (now counts : List ℕ) : Type 0 where
+pub record IsLent (c : Collects) (v : Knowledge) (now counts : List ℕ) : Type 0 where
   pub differs : c.last ≢ now
   pub process : ℕ
-  pub least : IsLeastRisen view.first c.first now process
-  pub counts_are : counts ≡ (publication_at (publications_of process view.seen) (slice_index now process - 1)).view
+  pub least : IsLeastRisen v.first c.first now process
+  pub counts_are : counts ≡ (publication_at (publications_of process v.seen) (slice_index now process - 1)).view
 
 -- what a later collect answers, by the collects before it
 abbrev pub IsVerdict : Collects → Knowledge → List ℕ → Turn → Type 0
-IsVerdict c view now (Clean counts) = IsRepeated c now counts
-IsVerdict c view now (Borrowed counts) = IsLent c view now counts
-IsVerdict c view now Again = IsUndecided c view now
+IsVerdict c v now (Clean counts) = IsRepeated c now counts
+IsVerdict c v now (Borrowed counts) = IsLent c v now counts
+IsVerdict c v now Again = IsUndecided c v now
 
 -- what a turn answers: Again at the first collect, and later by the collects before it
 abbrev pub IsAnswer : ScanTerms → Knowledge → Turn → Type 0
-IsAnswer scan view turn = MatchOption scan.collects (turn ≡ Again) (λ c. IsVerdict c view (collect_of view) turn)
+IsAnswer scan v turn = MatchOption scan.collects (turn ≡ Again) (λ c. IsVerdict c v (collect_of v) turn)
 
 -- the steps of a turn beside its collect
 abbrev pub view_steps : ℕ → Turn → ℕ

@@ -54,7 +54,9 @@ pub(crate) fn are_equal(counts: &Counts, others: &Counts) -> bool
 /// The least process, other than the given one, whose count is at least two above the first.
 pub(crate) fn risen(first: &Counts, now: &Counts, process: u32) -> Option<u32>
     requires { length first.now ≡ length now.now }
-    ensures { MatchOption result ((p : ℕ) → ¬ HasRisen process first.now now.now p) (λ p. IsLeastRisen process first.now now.now p) }
+    ensures { MatchOption result
+        ((p : ℕ) → ¬ HasRisen process first.now now.now p)
+        (λ p. IsLeastRisen process first.now now.now p) }
 {
     for p in 0..now.len() {
         if p != process && 2 <= now.get(p).saturating_sub(first.get(p)) {

@@ -77,7 +77,8 @@ impl Scan {
         ensures answer { IsAnswer self.old seat.new.knows result }
         ensures snapshot { OnCounts result (IsSnapshot board.now.book self.old.start seat.new.knows) }
         ensures board { IsOf seat.new board.now }
-        ensures steps { steps.new ≡ steps.old + board.now.book.processes + view_steps board.now.book.processes result }
+        ensures steps { steps.new ≡ steps.old + board.now.book.processes
+            + view_steps board.now.book.processes result }
         ensures exchanges { exchanges.new ≡ exchanges.old }
     {
         seat.known();

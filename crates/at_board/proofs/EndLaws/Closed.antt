@@ -42,13 +42,13 @@ HasAll-left xs ys zs has k z within = Contains-append_left xs ys (get_or zs k z)
 HasAll-right : {X : Type 0} (xs ys zs : List X) → HasAll ys zs → HasAll (xs ++ ys) zs
 HasAll-right xs ys zs has k z within = Contains-append_right xs ys (get_or zs k z) (has k z within)
 
--- a seat's view has all that it has seen
+-- a seat knows all that it has seen
 HasAll-first : {X : Type 0} (of_view : Knowledge → List X) (seat : SeatTerms) → All (λ s. HasAll (of_view seat.knows) (of_view s.knows)) (seat ∷ [])
 HasAll-first of_view seat =
     let P : SeatTerms → Type 0 = λ s. HasAll (of_view seat.knows) (of_view s.knows) in
     All-cons P seat [] (HasAll-refl (of_view seat.knows)) (All-nil P)
 
--- of what each seat has seen a view has all, and of what one more seat has seen
+-- all that each seat has seen is known, and so is what one more seat has seen
 HasAll-push : {X : Type 0} (of_view : Knowledge → List X) (seats : List SeatTerms) (x : SeatTerms) (before after : List X)
     → All (λ seat. HasAll before (of_view seat.knows)) seats → ((zs : List X) → HasAll before zs → HasAll after zs) → HasAll after (of_view x.knows)
     → All (λ seat. HasAll after (of_view seat.knows)) (seats ++ x ∷ [])

@@ -45,7 +45,7 @@ Knows-gathered b words s v w next mine theirs =
       ];
     }
 
--- for which processes the view of both stands
+-- for which processes both stand together
 Holds-gathered : (v w : Knowledge) (p : ℕ) → w.first ≡ v.first + length v.parts → Holds (gathered v w) p → Holds v p ⊎ Holds w p
 Holds-gathered v w p next holds =
     elim (cases_lt p (v.first + length v.parts)) as (λ _. Holds v p ⊎ Holds w p) [

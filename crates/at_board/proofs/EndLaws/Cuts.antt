@@ -26,7 +26,7 @@ use Rattle.at_board.specs.declared.knowledge.Asking.{Asking}
 use Rattle.at_board.specs.declared.knowledge.Part.{Part}
 use Rattle.at_board.specs.declared.knowledge.Knowledge.{Knowledge}
 
--- a view after the cut is the first one, the new one, or another that stayed
+-- what is known after the cut is the first one, the new one, or another that stayed
 record CutCases (views : List Knowledge) (id j : ℕ) (v left right u : Knowledge) : Type 0 where
   which : ((j ≡ id) × (left ≡ u)) ⊎ (((j ≡ length views) × (right ≡ u)) ⊎ ((j ≢ id) × (get_elem? views j ≡ some u)))
 
@@ -185,7 +185,7 @@ IsHistory-nil b begun = record {
   runs = λ m within. subst (IsRun b) (sym (take_all m [] (omega arith))) (IsRun-nil b begun);
 }
 
--- the view of the seats that are still to be cut
+-- what the seats know that are still to be cut
 abbrev pub rest_view : BookTerms → ℕ → Knowledge
 rest_view b p = record (starting_knowledge b) { first = p; parts = replicate (b.processes - p) (starting_part b) }
 

@@ -83,7 +83,7 @@ Knows-starting b = record {
       (subst (λ t. HasPart b (starting_words b) starting_state (starting_knowledge b) t (starting_part b)) e (HasPart-starting b k inside));
 }
 
--- the only view of a list of one
+-- the only one of a list of one
 only_view : (v w : Knowledge) (id : ℕ) → get_elem? (v ∷ []) id ≡ some w → (id ≡ 0) × (v ≡ w)
 only_view v w zero found = (refl, some-injective v w found)
 only_view v w (suc id) found = absurd (some-ne-none w (sym found))

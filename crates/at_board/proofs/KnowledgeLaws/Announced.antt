@@ -17,7 +17,7 @@ use Rattle.at_board.specs.declared.knowledge.Part.{Part}
 use Rattle.at_board.specs.declared.knowledge.SeenRequest.{SeenRequest}
 use Rattle.at_board.specs.declared.knowledge.Knowledge.{Knowledge}
 
--- the view has one part, which has something on each account
+-- the seat has one part, which has something on each account
 pub record HasOwnPart (view : Knowledge) : Type 0 where
   pub one_part : length view.parts ≡ 1
   pub accounts : length (own_part view).asking ≡ length view.book.accounts

@@ -113,7 +113,7 @@ HasPart-asking b words after s rows v u p q a w grows longer more counted same_r
       ];
 }
 
--- the view of another seat
+-- what another seat knows
 pub Knows-kept : (b : BookTerms) (words after : List ℕ) (s : BoardState) (rows : Rows) (v : Knowledge) → Grows s.rows rows
     → ((k : ℕ) → k < length v.parts → IsLeft b words after s.rows rows (v.first + k) (part_at v k))
     → Knows b words s v → Knows b after (with_rows s rows) v
@@ -124,7 +124,7 @@ Knows-kept b words after s rows v grows left knows = record {
   parts = λ k within. HasPart-kept b words after s rows v v (v.first + k) (part_at v k) grows (IsPrefix-refl v.seen) (λ x sees. sees) (knows.parts k within).seen (left k within) (knows.parts k within);
 }
 
--- a view with a longer list, and the same requests
+-- a seat with a longer list, and the same requests
 pub HasAsking-longer : (b : BookTerms) (words : List ℕ) (s : BoardState) (v u : Knowledge) (a slot : ℕ) (w : Asking)
     → IsPrefix v.seen u.seen → u.requests ≡ v.requests → HasAsking b words s v a slot w → HasAsking b words s u a slot w
 HasAsking-longer b words s v u a slot w longer same has = record {
@@ -137,7 +137,7 @@ HasAsking-longer b words s v u a slot w longer same has = record {
   loaded = has.loaded;
 }
 
--- a view that has seen all, and the same requests
+-- a seat that has seen all, and the same requests
 pub HasPart-all : (b : BookTerms) (words : List ℕ) (s : BoardState) (v u : Knowledge) (p : ℕ) (q : Part)
     → IsPrefix v.seen s.published → u.seen ≡ s.published → u.requests ≡ v.requests → HasPart b words s v p q → HasPart b words s u p q
 HasPart-all b words s v u p q before all same has = record {

@@ -21,7 +21,7 @@ use Rattle.at_board.specs.declared.knowledge.Part.{Part}
 use Rattle.at_board.specs.declared.knowledge.SeenRequest.{SeenRequest}
 use Rattle.at_board.specs.declared.knowledge.Knowledge.{Knowledge}
 
--- a view with another part, in which as many requests are announced
+-- a seat with another part, in which as many requests are announced
 pub HasCounts-with_part : (v : Knowledge) (q : Part) (counts : List ℕ) → 0 < length v.parts
     → ((a : ℕ) → a < length v.book.accounts → length (asking_on q a).announced ≡ length (asking_on (own_part v) a).announced)
     → HasCounts v counts → HasCounts (with_part v q) counts
@@ -32,7 +32,7 @@ HasCounts-with_part v q counts part same has =
       counted = λ a within. has.counted a within ∙ (sym (same a within) ∙ sym (ap (λ (t : Part). length (asking_on t a).announced) own));
     }
 
--- the counts of a view read its book and its parts alone
+-- the counts of a seat read its book and its parts alone
 HasCounts-seen : (v : Knowledge) (list : List Publication) (counts : List ℕ) → HasCounts v counts → HasCounts (record v { seen = list }) counts
 HasCounts-seen v list counts has = record { sized = has.sized; counted = has.counted }
 

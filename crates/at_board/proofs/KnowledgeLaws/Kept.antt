@@ -16,7 +16,7 @@ use Rattle.at_board.specs.Words.Addresses.{record_word}
 use Rattle.at_board.specs.declared.knowledge.Part.{Part}
 use Rattle.at_board.specs.declared.knowledge.Knowledge.{Knowledge}
 
--- a view that has seen a history, with another part, all of whose records and requests it has seen
+-- a seat that has seen a history, with another part, all of whose records and requests it has seen
 pub IsSeat-with_part : (v : Knowledge) (list : List Publication) (q : Part) (process k : ℕ) → IsSeat v process k
     → length q.asking ≡ length (own_part v).asking → length q.stored ≡ length (own_part v).stored
     → (published : ℕ) → q.published ≡ published → IsHistory v.book list → count_of v.first list ≡ published
@@ -62,6 +62,6 @@ IsSeat-store v w process k j n seat told agrees =
     (IsSeat-with_part v v.seen (with_word (own_part v) j n) process k seat refl (length-set (own_part v).stored j n) k seat.published_is seat.history seat.own
     (same_requests v v.seen (with_word (own_part v) j n) process k seat (λ a. refl)) (subst AgreesWithSeen told agrees))
 
--- the place of the seat's next record, by the seat's fields
+-- the address of the seat's next record, by the seat's fields
 pub next_record : (v : Knowledge) (process k j : ℕ) → IsSeat v process k → record_word process k j ≡ record_word v.first (own_part v).published j
 next_record v process k j seat = λ t. record_word (sym seat.process_is t) (sym seat.published_is t) j

@@ -17,11 +17,11 @@ use Rattle.at_board.specs.declared.knowledge.Part.{Part}
 use Rattle.at_board.specs.declared.knowledge.SeenRequest.{SeenRequest}
 use Rattle.at_board.specs.declared.knowledge.Knowledge.{Knowledge}
 
--- the part that was set is the view's own
+-- the part that was set is the seat's own
 pub own_part-with_part : (v : Knowledge) (q : Part) → 0 < length v.parts → own_part (with_part v q) ≡ q
 own_part-with_part v q part = get_or-set_same v.parts 0 q _ part
 
--- a view that has seen more requests, and whose part has announced the same
+-- a seat that has seen more requests, and whose part has announced the same
 pub SeesOwnRequests-with_part : (v : Knowledge) (list : List Publication) (requests : List SeenRequest) (q : Part) → 0 < length v.parts
     → ((a : ℕ) → (asking_on q a).announced ≡ (asking_on (own_part v) a).announced) → HasRequests requests v.requests
     → SeesOwnRequests v → SeesOwnRequests (with_part (record v { seen = list; requests = requests }) q)

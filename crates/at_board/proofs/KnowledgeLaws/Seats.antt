@@ -15,7 +15,7 @@ within_found [] id v found = absurd (some-ne-none v (sym found))
 within_found (u ∷ views) zero v found = omega arith
 within_found (u ∷ views) (suc id) v found = omega (arith, within_found views id v found)
 
--- a step changes one view, and not for which processes it stands
+-- a step changes what one seat knows, and not for which processes it stands
 pub AreSeated-set : (b : BookTerms) (seat : ℕ → ℕ) (views : List Knowledge) (id : ℕ) (v w : Knowledge) → AreSeated b seat views
     → get_elem? views id ≡ some v → w.first ≡ v.first → length w.parts ≡ length v.parts → AreSeated b seat (set views id w)
 AreSeated-set b seat views id v w seated found first parts = record {
@@ -40,7 +40,7 @@ AreSeated-set b seat views id v w seated found first parts = record {
       ];
 }
 
--- each view after a step is the changed one, or another's that stayed
+-- what each seat knows after a step is the changed one, or another's that stayed
 pub knows_after : (b : BookTerms) (words : List ℕ) (s : BoardState) (views : List Knowledge) (id : ℕ) (w : Knowledge)
     → Knows b words s w → ((j : ℕ) (u : Knowledge) → j ≢ id → get_elem? views j ≡ some u → Knows b words s u)
     → (j : ℕ) (u : Knowledge) → get_elem? (set views id w) j ≡ some u → Knows b words s u

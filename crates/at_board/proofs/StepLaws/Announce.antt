@@ -345,7 +345,7 @@ HasCounts-announce b v w a slot r n counts part sized counted told has =
     (HasCounts-counted v w.seen (v.requests ++ seen_as a slot (next_number v a) r ∷ []) a n (with_request asking r (rounds a w.seen)) counts part sized
     (counted ∙ sym (length_push asking.announced r)) has)
 
--- the same at an equal book and view
+-- the same at an equal book and knowledge
 pub MayAnnounce-same : (b c : BookTerms) (v u : Knowledge) (a slot : ℕ) (r : Request) → c ≡ b → u ≡ v → MayAnnounce b v a slot r → MayAnnounce c u a slot r
 MayAnnounce-same b c v u a slot r book view may =
     subst (λ (t : BookTerms). MayAnnounce t u a slot r) (sym book) (subst (λ (t : Knowledge). MayAnnounce b t a slot r) (sym view) may)

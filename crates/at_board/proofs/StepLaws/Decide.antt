@@ -55,7 +55,7 @@ use Rattle.at_board.specs.declared.knowledge.SeenDecision.{SeenDecision}
 use Rattle.at_board.specs.declared.knowledge.SeenRequest.{SeenRequest}
 use Rattle.at_board.specs.declared.knowledge.Knowledge.{Knowledge}
 
--- the same at an equal book and view
+-- the same at an equal book and knowledge
 MayPropose-same : (b c : BookTerms) (v u : Knowledge) (a round : ℕ) (d : Decision) (r : Request) → b ≡ c → v ≡ u → MayPropose b v a round d r
     → MayPropose c u a round d r
 MayPropose-same b c v u a round d r book view may =
@@ -77,7 +77,7 @@ abbrev pub exchanged_words : BookTerms → List ℕ → ℕ → ℕ → ℕ → 
 exchanged_words b words a round w =
     let n = word_at b words (cell_of a round) in set words (index_of b (cell_of a round)) (either (n == 0) w n)
 
--- the new view, the rule with it, and what the step tells
+-- what is known then, the rule with it, and what the step tells
 pub record Decided (b : BookTerms) (words : List ℕ) (views : List Knowledge) (id : ℕ) (v : Knowledge) (a round : ℕ) (d : Decision) : Type 0 where
   pub view : Knowledge
   pub ruled : Ruled b (exchanged_words b words a round (word_of d)) (set views id view)
@@ -326,7 +326,7 @@ HasPart-decided b words after s p a d v u k q held longer requests same record_s
   asking = λ l slot slot_in. HasAsking-decided b words after s p a d v u l slot (asking_on q l) longer requests same (has.asking l slot slot_in);
 }
 
--- the view of another seat
+-- what another seat knows
 pub Knows-decided : (b : BookTerms) (words after : List ℕ) (s : BoardState) (p a : ℕ) (d : Decision) (v : Knowledge) → SameRequestWords b words after
     → ((k i : ℕ) → SameRecordWords b words after k i) → ((k : ℕ) → k < length v.parts → v.first + k ≢ p)
     → Knows b words s v → Knows b after (decided s p a d) v
@@ -341,7 +341,7 @@ Knows-decided b words after s p a d v same record_same apart knows = record {
       (has.held ∙ sym (held-other s p a (v.first + k) d (apart k within))) has;
 }
 
--- the view of the seat whose proposal is decided
+-- what the seat knows whose proposal is decided
 pub Knows-proposed : (b : BookTerms) (words after : List ℕ) (s : BoardState) (a round : ℕ) (d : Decision) (v : Knowledge) → 0 < length v.parts
     → SameRequestWords b words after → ((k i : ℕ) → SameRecordWords b words after k i) → length (s.cells a) ≡ round → Knows b words s v
     → Knows b after (decided s v.first a d)

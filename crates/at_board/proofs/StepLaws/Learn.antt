@@ -71,7 +71,7 @@ Knows-spent_knowledge b words s = record {
   parts = λ k within. absurd (omega arith);
 }
 
--- a view with no part stands for no process
+-- knowledge with no part stands for no process
 Holds-nothing : (v : Knowledge) (p : ℕ) → length v.parts ≡ 0 → Holds v p → ⊥
 Holds-nothing v p none holds = omega (arith, holds.0, holds.1)
 

@@ -49,7 +49,7 @@ All-all_of P a slot row each =
     let here : k ≡ get_or (range_with_len 0 n) k d = omega (arith, get_or-range_with_len 0 n k d inside) in
     subst (λ i. P (f i)) here (each k inside))
 
--- the view after a load of an announced word, when these are all publications
+-- what is known after a load of an announced word, when these are all publications
 abbrev pub announced_view : Knowledge → List Publication → ℕ → ℕ → List Request → ℕ → Knowledge
 announced_view v all a slot row n =
     with_asking (record v { seen = all; requests = v.requests ++ all_of a slot row }) a (with_row (asking_on (own_part v) a) slot n)

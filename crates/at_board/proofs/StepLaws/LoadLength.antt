@@ -20,7 +20,7 @@ use Rattle.at_board.specs.Words.Addresses.{length_of, word_at}
 use Rattle.at_board.specs.declared.knowledge.Part.{Part}
 use Rattle.at_board.specs.declared.knowledge.Knowledge.{Knowledge}
 
--- the view after a load of a length, when these are all publications
+-- what is known after a load of a length, when these are all publications
 abbrev pub loaded : Knowledge → List Publication → ℕ → ℕ → Knowledge
 loaded v all p n = with_part (record v { seen = all }) (with_load (own_part v) p n)
 
@@ -38,7 +38,7 @@ HasPart-load b words s u process q p n has = record {
   asking = has.asking;
 }
 
--- the parts of a view whose own part is changed
+-- the parts of a seat whose own part is changed
 pub parts_after : (P : ℕ → Part → Type 0) (parts : List Part) (q : Part) → 0 < length parts → P 0 q
     → ((k : ℕ) → k ≢ 0 → k < length parts → P k (get_or parts k no_part))
     → (k : ℕ) → k < length (set parts 0 q) → P k (get_or (set parts 0 q) k no_part)

@@ -36,7 +36,7 @@ use Rattle.at_board.specs.declared.knowledge.SeenDecision.{SeenDecision}
 use Rattle.at_board.specs.declared.knowledge.SeenRequest.{SeenRequest}
 use Rattle.at_board.specs.declared.knowledge.Knowledge.{Knowledge}
 
--- a request that the view knows of is announced
+-- a request that the seat knows of is announced
 pub announced-KnowsOf : (b : BookTerms) (words : List ℕ) (s : BoardState) (v : Knowledge) (a slot number : ℕ) → Sound b s → Knows b words s v
     → KnowsOf v a slot number → number < length (s.rows a slot)
 announced-KnowsOf b words s v a slot number sound knows (inl (r, sees)) =
@@ -63,7 +63,7 @@ place-MayLoadRequest v a slot number j sees may =
         (subst (λ k. IsAddress v.book (request_word a k d.number 0)) slot_is
         (All-contains (DecisionInRange v.book) v.decisions x sees.decisions seen).words)
 
--- the view after a load of a word of a request
+-- what is known after a load of a word of a request
 abbrev pub request_view : Knowledge → ℕ → SeenRequest → ℕ → Knowledge
 request_view v a x j = with_asking (record v { requests = v.requests ++ x ∷ [] }) a (with_loaded (asking_on (own_part v) a) x j)
 

@@ -20,7 +20,7 @@ use Rattle.atomic_table.specs.Seated.{fact, seen, roster, TableId, age, standing
 use Rattle.atomic_table.specs.Table.{State, Me}
 use Rattle.at_board.specs.Steps.Meetings.{AreSeen}
 
--- a view that is set to what it was
+-- what is known is set to what it was
 set_as_it_was : {V : Type 0} (views : List V) (id : ℕ) (v : V) → get_elem? views id ≡ maybe.some v → set views id v ≡ views
 set_as_it_was [] id v at = refl
 set_as_it_was (u ∷ views) zero v at = ap (λ x. x ∷ views) (sym (some-injective u v at))

@@ -26,7 +26,7 @@ Knows-noted b words s v knows = record {
 Holds-noted : (v : Knowledge) (p : ℕ) → Holds (noted v) p → ⊥
 Holds-noted v p holds = omega (arith, holds.0, holds.1)
 
--- one more view, that of a note
+-- one more that knows, a note
 Ruled-noted : (b : BookTerms) (words : List ℕ) (views : List Knowledge) (id : ℕ) (v : Knowledge) → Ruled b words views → get_elem? views id ≡ some v
     → Ruled b words (views ++ noted v ∷ [])
 Ruled-noted b words views id v ruled found = record {

@@ -384,7 +384,7 @@ IsSeat-publish b v w process k x book seat told =
     (subst (λ t. IsHistory t w.seen) (sym book) told.history) (told.own ∙ ap (λ n. n + 1) seat.published_is)
     (same_requests v w.seen (with_record b (own_part v) x) process k seat (λ a. refl)) (subst AgreesWithSeen told.same told.agrees))
 
--- the same at an equal book and view
+-- the same at an equal book and knowledge
 pub MayPublish-same : (b c : BookTerms) (v u : Knowledge) (x : Publication) → c ≡ b → u ≡ v → MayPublish b v x → MayPublish c u x
 MayPublish-same b c v u x book view may =
     subst (λ (t : BookTerms). MayPublish t u x) (sym book) (subst (λ (t : Knowledge). MayPublish b t x) (sym view) may)

@@ -135,7 +135,7 @@ module _ {S : Type 0} where
       (subst (λ (t : BookTerms). (own_part me.0).published < log_room_of t me.0.first) (sym book) may.room)
       (subst (λ (t : BookTerms). i ≡ index_of t (record_word me.0.first (own_part me.0).published j)) (sym book) at)
 
--- the seat is of the board, where its view is and its book is the board's
+-- the seat is of the board, where its book is the board's
 pub IsSeatOf-IsSeat : (b : BookTerms) (v : Knowledge) (process published : ℕ) → v.book ≡ b → IsSeat v process published → IsSeatOf b v
 IsSeatOf-IsSeat b v process published book seat = record {
   book = book;

@@ -112,18 +112,18 @@ same_place b (request_word a s i j) (request_word c t k l) one other same =
 same_place b (cell_of a r) (cell_of c t) one other same = cc (same.block, same.number)
 same_place b x y one other same = absurd (omega (arith, same.group))
 
--- two places have one index only if they are one place
+-- two addresses have one index only if they are one
 pub index_of-injective : (b : BookTerms) (x y : Address) → IsAddress b x → IsAddress b y → index_of b x ≡ index_of b y → x ≡ y
 index_of-injective b x y one other same =
     same_place b x y one other (AreSame-index_of b x y (IsWord-IsAddress b x one) (IsWord-IsAddress b y other) same)
 
--- a store at a place is read there
+-- a store at an address is read there
 pub word_at-set_same : (b : BookTerms) (words : List ℕ) (x : Address) (w : ℕ) → length words ≡ word_count b → IsAddress b x
     → word_at b (set words (index_of b x) w) x ≡ w
 word_at-set_same b words x w sized within =
     get_or-set_same words (index_of b x) w 0 (omega (arith, index_of-below b x within))
 
--- and changes no other place
+-- and changes no other word
 pub word_at-set_other : (b : BookTerms) (words : List ℕ) (x y : Address) (w : ℕ) → IsAddress b x → IsAddress b y → y ≢ x
     → word_at b (set words (index_of b x) w) y ≡ word_at b words y
 word_at-set_other b words x y w one other apart =

@@ -42,11 +42,11 @@ pub record AreAllFree (board : BoardTerms) (seats : List SeatTerms) : Type 0 whe
   pub count : length seats ≡ board.book.processes
   pub each : (p : ℕ) (d : SeatTerms) → p < board.book.processes → IsFreeSeat board p (slice_index_or seats p d)
 
--- the view of two seats in one, of which the second stands for the processes after those of the first
+-- what two seats know, in one, of which the second stands for the processes after those of the first
 abbrev pub gathered : Knowledge → Knowledge → Knowledge
 gathered v w = record (learned v w) { parts = v.parts ++ w.parts }
 
--- the view has the own parts of the first seats in order, which hold no cell, and all that they have seen
+-- the knowledge has the own parts of the first seats in order, which hold no cell, and all that they have seen
 pub record Gathers (seats : List SeatTerms) (v : Knowledge) : Type 0 where
   pub first : v.first ≡ 0
   pub parts : length v.parts ≡ length seats

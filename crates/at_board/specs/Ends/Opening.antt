@@ -13,7 +13,7 @@ first_part v = record v { parts = take 1 v.parts }
 abbrev pub other_parts : Knowledge → Knowledge
 other_parts v = record v { first = v.first + 1; parts = drop 1 v.parts }
 
--- the view of a process's seat on a new board
+-- what a process's seat knows on a new board
 abbrev pub starting_seat : BookTerms → ℕ → Knowledge
 starting_seat b p = record (starting_knowledge b) { first = p; parts = starting_part b ∷ [] }
 

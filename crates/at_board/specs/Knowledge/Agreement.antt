@@ -27,27 +27,27 @@ pub record DecisionInRange (b : BookTerms) (x : SeenDecision) : Type 0 where
   pub range : InRange x.decision
   pub room : x.round < rounds_room b.request_room (account_of b x.account)
 
--- each request and each decision that the view has seen is in range
-pub record SeesInRange (view : Knowledge) : Type 0 where
-  pub requests : All (RequestInRange view.book) view.requests
-  pub decisions : All (DecisionInRange view.book) view.decisions
+-- each request and each decision that the seat has seen is in range
+pub record SeesInRange (v : Knowledge) : Type 0 where
+  pub requests : All (RequestInRange v.book) v.requests
+  pub decisions : All (DecisionInRange v.book) v.decisions
 
--- the view has seen no other decision of the round, no other round that decides the request, and no later `since` of the request
-pub record AgreesOnDecision (view : Knowledge) (account round : ℕ) (d : Decision) : Type 0 where
-  pub same : (e : Decision) → SeesDecision view account round e → e ≡ d
-  pub once : (other : ℕ) (e : Decision) → SeesDecision view account other e → e.slot ≡ d.slot → e.number ≡ d.number → other ≡ round
-  pub since : (r : Request) → SeesRequest view account d.slot d.number r → r.since ≤ d.place
+-- the seat has seen no other decision of the round, no other round that decides the request, and no later `since` of the request
+pub record AgreesOnDecision (v : Knowledge) (account round : ℕ) (d : Decision) : Type 0 where
+  pub same : (e : Decision) → SeesDecision v account round e → e ≡ d
+  pub once : (other : ℕ) (e : Decision) → SeesDecision v account other e → e.slot ≡ d.slot → e.number ≡ d.number → other ≡ round
+  pub since : (r : Request) → SeesRequest v account d.slot d.number r → r.since ≤ d.place
 
--- a round's record says what the view has seen of the round: its decision, and the targets of the request that this names
+-- a round's record says what the seat has seen of the round: its decision, and the targets of the request that this names
 abbrev pub AgreesOnEntry : Knowledge → Entry → Type 0
-AgreesOnEntry view (Own from targets) = Unit {0}
-AgreesOnEntry view (Round account round decision targets) =
-    AgreesOnDecision view account round decision
-    × ((r : Request) → SeesRequest view account decision.slot decision.number r → r.targets ≡ targets)
+AgreesOnEntry v (Own from targets) = Unit {0}
+AgreesOnEntry v (Round account round decision targets) =
+    AgreesOnDecision v account round decision
+    × ((r : Request) → SeesRequest v account decision.slot decision.number r → r.targets ≡ targets)
 
--- what the view has seen agrees: its requests, its decisions and its records say the same
-pub record AgreesWithSeen (view : Knowledge) : Type 0 where
-  pub requests : (account slot number : ℕ) (r q : Request) → SeesRequest view account slot number r →
-      SeesRequest view account slot number q → r ≡ q
-  pub decisions : (account round : ℕ) (d : Decision) → SeesDecision view account round d → AgreesOnDecision view account round d
-  pub records : All (λ x. AgreesOnEntry view x.entry) view.seen
+-- what the seat has seen agrees: its requests, its decisions and its records say the same
+pub record AgreesWithSeen (v : Knowledge) : Type 0 where
+  pub requests : (account slot number : ℕ) (r q : Request) → SeesRequest v account slot number r →
+      SeesRequest v account slot number q → r ≡ q
+  pub decisions : (account round : ℕ) (d : Decision) → SeesDecision v account round d → AgreesOnDecision v account round d
+  pub records : All (λ x. AgreesOnEntry v x.entry) v.seen

@@ -1,4 +1,4 @@
--- Fresh views: those that a call may take for a snapshot.
+-- Fresh counts: those that a call may take for a snapshot.
 use Rattle.std.specs.Prelude.{◌≡◌, ◌≢◌, ℕ, ◌+◌, ◌<◌, ◌≤◌, ◌⊎◌, List, length, map}
 use Rattle.at_ledger.specs.Book.{BookTerms}
 use Rattle.at_history.specs.BoardState.{publication_at}
@@ -9,14 +9,14 @@ use Rattle.at_board.specs.declared.knowledge.Knowledge.{Knowledge}
 abbrev pub fresh_loads : ℕ
 fresh_loads = 2
 
--- the view is that of another process's record, which had not been seen when the call began
+-- the counts are the view of another process's record, which had not been seen when the call began
 pub record IsBorrowed (before after : Knowledge) (view : List ℕ) (m : ℕ) : Type 0 where
   pub later : length before.seen ≤ m
   pub seen : m < length after.seen
   pub other : (publication_at after.seen m).process ≢ after.first
   pub same : (publication_at after.seen m).view ≡ view
 
--- in the call each length was loaded at least twice, and the view is what the last loads gave or was borrowed
+-- in the call each length was loaded at least twice, and the counts are what the last loads gave, or were borrowed
 pub record IsFresh (b : BookTerms) (before after : Knowledge) (view : List ℕ) : Type 0 where
   pub loaded : (p : ℕ) → p < b.processes → (loads_of (own_part before) p).times + fresh_loads ≤ (loads_of (own_part after) p).times
   pub taken : (view ≡ map (λ l. l.last) (own_part after).loads) ⊎ ((m : ℕ) × IsBorrowed before after view m)

@@ -21,7 +21,7 @@ IsAnnounced s x = (x.number < length (s.rows x.account x.slot)) × (request_at (
 abbrev pub IsDecided : BoardState → SeenDecision → Type 0
 IsDecided s x = (x.round < length (s.cells x.account)) × (decision_at (s.cells x.account) x.round ≡ x.decision)
 
--- what a process has on an account that it shares: its row, which the view has seen, and the words of its next request
+-- what a process has on an account that it shares: its row, which its seat has seen, and the words of its next request
 pub record HasAsking (b : BookTerms) (words : List ℕ) (s : BoardState) (v : Knowledge) (a slot : ℕ) (w : Asking) : Type 0 where
   pub announced : w.announced ≡ s.rows a slot
   pub seen : (i : ℕ) → i < length w.announced → SeesRequest v a slot i (request_at w.announced i)
@@ -32,7 +32,7 @@ pub record HasAsking (b : BookTerms) (words : List ℕ) (s : BoardState) (v : Kn
   pub rows : All (λ row. row.count ≤ length (s.rows a row.slot)) w.rows
   pub loaded : All (λ l. IsAnnounced s l.request) w.loaded
 
--- the part of a process: all that it published, which the view has seen, the words of its next record, and the cell that it holds
+-- the part of a process: all that it published, which its seat has seen, the words of its next record, and the cell that it holds
 pub record HasPart (b : BookTerms) (words : List ℕ) (s : BoardState) (v : Knowledge) (process : ℕ) (q : Part) : Type 0 where
   pub known : process < b.processes
   pub published : q.published ≡ count_of process s.published
@@ -45,7 +45,7 @@ pub record HasPart (b : BookTerms) (words : List ℕ) (s : BoardState) (v : Know
   pub accounts : length q.asking ≡ length b.accounts
   pub asking : (a slot : ℕ) → HasSlot b process a slot → HasAsking b words s v a slot (asking_on q a)
 
--- the list that a view has seen is a prefix of what was published, its requests were announced and its decisions made, and its
+-- the list that a seat has seen is a prefix of what was published, its requests were announced and its decisions made, and its
 -- parts are its processes'
 pub record Knows (b : BookTerms) (words : List ℕ) (s : BoardState) (v : Knowledge) : Type 0 where
   pub seen : IsPrefix v.seen s.published
@@ -53,7 +53,7 @@ pub record Knows (b : BookTerms) (words : List ℕ) (s : BoardState) (v : Knowle
   pub decisions : All (IsDecided s) v.decisions
   pub parts : (k : ℕ) → k < length v.parts → HasPart b words s v (v.first + k) (part_at v k)
 
--- a sound board has published just what the view has seen, announced its requests and made its decisions
+-- a sound board has published just what the seat has seen, announced its requests and made its decisions
 pub record SeesAll (b : BookTerms) (v : Knowledge) : Type 0 where
   pub state : BoardState
   pub sound : Sound b state

@@ -19,18 +19,18 @@ part_asking q a w = record q { asking = slice_set q.asking a w }
 abbrev pub no_part : Part
 no_part = record { published = 0; stored = []; held = None; loads = []; asking = [] }
 
--- the part of a view's k-th process. A seat's own is the first
+-- the part of the k-th process. A seat's own is the first
 abbrev pub part_at : Knowledge → ℕ → Part
 part_at v k = slice_index_or v.parts k no_part
 
 abbrev pub own_part : Knowledge → Part
 own_part v = part_at v 0
 
--- the view with this part in place of the seat's own
+-- the knowledge with this part as the seat's own
 abbrev pub with_part : Knowledge → Part → Knowledge
 with_part v q = record v { parts = slice_set v.parts 0 q }
 
--- the view whose own part has this on an account
+-- the knowledge whose own part has this on an account
 abbrev pub with_asking : Knowledge → ℕ → Asking → Knowledge
 with_asking v a w = with_part v (part_asking (own_part v) a w)
 
@@ -49,7 +49,7 @@ asking_on q a = slice_index_or q.asking a no_asking
 abbrev pub loads_of : Part → ℕ → Loads
 loads_of q p = slice_index_or q.loads p (record { times = 0; last = 0 })
 
--- the view has seen this request, or this decision
+-- the seat has seen this request, or this decision
 abbrev pub SeesRequest : Knowledge → ℕ → ℕ → ℕ → Request → Type 0
 SeesRequest v a slot number r = Contains v.requests (record { account = a; slot = slot; number = number; request = r })
 

@@ -5,7 +5,7 @@ use Rattle.at_history.specs.Publications.{count_of, publications_of}
 use Rattle.at_board.specs.Words.Packed.{record_words}
 use Rattle.at_board.specs.declared.knowledge.Knowledge.{Knowledge}
 
--- the view has seen record i of the process
+-- the seat has seen record i of the process
 abbrev pub SeesRecord : Knowledge → ℕ → ℕ → Type 0
 SeesRecord v p i = i < count_of p v.seen
 

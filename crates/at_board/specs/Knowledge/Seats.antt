@@ -11,9 +11,9 @@ use Rattle.at_board.specs.Words.Addresses.{record_width}
 use Rattle.at_board.specs.declared.knowledge.Knowledge.{Knowledge}
 
 -- the counts are those of the requests that the seat's process has announced on each account
-pub record HasCounts (view : Knowledge) (announced : List ℕ) : Type 0 where
-  pub sized : length announced ≡ length view.book.accounts
-  pub counted : (a : ℕ) → a < length view.book.accounts → slice_index announced a ≡ length (asking_on (own_part view) a).announced
+pub record HasCounts (v : Knowledge) (announced : List ℕ) : Type 0 where
+  pub sized : length announced ≡ length v.book.accounts
+  pub counted : (a : ℕ) → a < length v.book.accounts → slice_index announced a ≡ length (asking_on (own_part v) a).announced
 
 -- a board by its identity and its book
 pub record BoardTerms : Type 0 where
@@ -25,27 +25,27 @@ pub record SeatTerms : Type 0 where
   pub board : TableId
   pub knows : Knowledge
 
--- the view has seen each request that its process has announced, by its number
+-- the seat has seen each request that its process has announced, by its number
 abbrev pub SeesOwnRequests : Knowledge → Type 0
-SeesOwnRequests view = (a slot i : ℕ) → HasSlot view.book view.first a slot → i < length (asking_on (own_part view) a).announced →
-    SeesRequest view a slot i (request_at (asking_on (own_part view) a).announced i)
+SeesOwnRequests v = (a slot i : ℕ) → HasSlot v.book v.first a slot → i < length (asking_on (own_part v) a).announced →
+    SeesRequest v a slot i (request_at (asking_on (own_part v) a).announced i)
 
--- a seat's view has one part, its process's, with something on each account and each word of the next record. It has seen all
+-- a seat has one part, its process's, with something on each account and each word of the next record. It has seen all
 -- records and requests of that process. Its list is a history, its requests and decisions are in range, and all that it has seen
 -- agrees
-pub record IsSeat (view : Knowledge) (process published : ℕ) : Type 0 where
-  pub one_part : length view.parts ≡ 1
-  pub accounts : length (own_part view).asking ≡ length view.book.accounts
-  pub words : length (own_part view).stored ≡ record_width view.book
-  pub process_is : view.first ≡ process
-  pub published_is : (own_part view).published ≡ published
-  pub own : count_of view.first view.seen ≡ published
-  pub asked : SeesOwnRequests view
-  pub known : view.first < view.book.processes
-  pub book : IsBook view.book
-  pub history : IsHistory view.book view.seen
-  pub in_range : SeesInRange view
-  pub agrees : AgreesWithSeen view
+pub record IsSeat (v : Knowledge) (process published : ℕ) : Type 0 where
+  pub one_part : length v.parts ≡ 1
+  pub accounts : length (own_part v).asking ≡ length v.book.accounts
+  pub words : length (own_part v).stored ≡ record_width v.book
+  pub process_is : v.first ≡ process
+  pub published_is : (own_part v).published ≡ published
+  pub own : count_of v.first v.seen ≡ published
+  pub asked : SeesOwnRequests v
+  pub known : v.first < v.book.processes
+  pub book : IsBook v.book
+  pub history : IsHistory v.book v.seen
+  pub in_range : SeesInRange v
+  pub agrees : AgreesWithSeen v
 
 -- the seat belongs to the board
 pub record IsOf (seat : SeatTerms) (board : BoardTerms) : Type 0 where

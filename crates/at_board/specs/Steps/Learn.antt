@@ -6,7 +6,7 @@ use Rattle.at_history.specs.Publications.{IsPrefix, count_of, longer}
 use Rattle.at_board.specs.Knowledge.Agreement.{AgreesWithSeen}
 use Rattle.at_board.specs.declared.knowledge.Knowledge.{Knowledge}
 
--- the view of a seat with all that a note has seen
+-- what a seat knows, with all that a note has seen
 abbrev pub learned : Knowledge → Knowledge → Knowledge
 learned v w = record v {
   seen = longer v.seen w.seen;
@@ -14,7 +14,7 @@ learned v w = record v {
   decisions = v.decisions ++ w.decisions;
 }
 
--- what is left of the view of a seat or a note that was joined to a seat
+-- what is left to a seat or a note that was joined to a seat
 abbrev pub spent_knowledge : Knowledge
 spent_knowledge = record {
   book = record { processes = 0; own_room = 0; request_room = 0; accounts = [] };

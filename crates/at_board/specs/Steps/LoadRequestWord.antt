@@ -13,7 +13,7 @@ use Rattle.at_board.specs.declared.knowledge.SeenRequest.{SeenRequest}
 use Rattle.at_board.specs.declared.knowledge.Knowledge.{Knowledge}
 use Rattle.at_board.specs.declared.words.TheConstants.{REQUEST_WORDS}
 
--- the view has seen the request, or a decision that names it
+-- the seat has seen the request, or a decision that names it
 abbrev pub KnowsOf : Knowledge → ℕ → ℕ → ℕ → Type 0
 KnowsOf v a slot number =
     ((r : Request) × SeesRequest v a slot number r)

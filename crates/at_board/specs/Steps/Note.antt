@@ -5,13 +5,13 @@ use Rattle.at_history.specs.Histories.{IsHistory}
 use Rattle.at_board.specs.Knowledge.Agreement.{SeesInRange}
 use Rattle.at_board.specs.declared.knowledge.Knowledge.{Knowledge}
 
--- all that a view has seen, with no process's part
+-- all that a seat has seen, with no process's part
 abbrev pub noted : Knowledge → Knowledge
 noted v = record v { parts = [] }
 
--- a note's view has no part, what it has seen is a history, and its requests and decisions are in range
-pub record IsNote (view : Knowledge) : Type 0 where
-  pub no_part : length view.parts ≡ 0
-  pub book : IsBook view.book
-  pub history : IsHistory view.book view.seen
-  pub in_range : SeesInRange view
+-- a note has no part, what it has seen is a history, and its requests and decisions are in range
+pub record IsNote (v : Knowledge) : Type 0 where
+  pub no_part : length v.parts ≡ 0
+  pub book : IsBook v.book
+  pub history : IsHistory v.book v.seen
+  pub in_range : SeesInRange v

@@ -85,7 +85,7 @@ word_count b = sum (map sum (groups b))
 abbrev pub words_max : ℕ
 words_max = PROCESSES_MAX + places_max * (RECORD_WORDS + PROCESSES_MAX) + ROUNDS_MAX * (REQUEST_WORDS + 2)
 
--- the word at a place
+-- the word at an address
 abbrev pub word_at : BookTerms → List ℕ → Address → ℕ
 word_at b words x = slice_index words (index_of b x)
 

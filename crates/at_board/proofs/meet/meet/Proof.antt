@@ -32,7 +32,7 @@ meet_spec 𝓤 𝓛 𝓜 𝓡 wired S V K P _ _ _ _ g d _ =
     proved 𝓛 En hs c 𝓜 𝓡 (Goes-dropped 𝓛 7 shared yes (λ κs x f. refl), (Goes-ref 𝓛 7 1 tt sitter, (Goes-ref 𝓛 7 2 tt sitter, tt)))
     (#self inst) fn (code.unfolded 𝓤 H 𝓜 𝓡 wired (S, (V, (K, (P, tt)))) d) (λ κs. (shr_vals, (mut_vals, (mut_vals, tt))))
     (λ κs. (shr_Tells (named 0) κs.0 Row, (mut_Tells (named 1) κs.1.0 Sr, (mut_Tells (named 2) κs.1.1.0 Sr, tt)))) (λ κs qs bounds a gh are.
-    -- the table, the one seat and the other, with the places of their references
+    -- the table, the one seat and the other, with where their references point
     let t : Row.Denot = a.0.now in let z : TableId = t.table_id in let α : Lft = age z in let cv : Coded V.Denot = W.coded in
     let w : Ptr = t.words in let p : Ptr = t.slots in let holds = g.holds t.key in let κ : Lft = κs.0 in let b : ℕ = a.0.ref_ptr.0 in let o : ℕ = a.0.ref_ptr.1 in
     let h : Sr.Denot = a.1.0.now in let v : Me S.Denot V.Denot = h.me in let b₁ : ℕ = a.1.0.ref_ptr.0 in let o₁ : ℕ = a.1.0.ref_ptr.1 in

@@ -23,7 +23,7 @@ book g c = ap (λ (t : Knowledge). t.book) (mine g c) ∙ c.requires.board.book
 may : (g : given.Over) (c : After-seat g) → MayStoreWord c.args.self.now.book c.seat.inside.seat.me.0 c.args.j
 may g c = subst (λ (t : Knowledge). MayStoreWord c.args.self.now.book t c.args.j) (sym (mine g c)) c.requires.word
 
--- the word's place, by what the seat's view has
+-- the word's address, by what the seat knows
 at : (g : given.Over) (c : After-seat g) → index_of c.args.self.now.book (record_word c.seat.inside.process c.seat.inside.published c.args.j)
     ≡ index_of c.args.self.now.book (record_word c.seat.inside.seat.me.0.first (own_part c.seat.inside.seat.me.0).published c.args.j)
 at g c =

@@ -28,7 +28,7 @@ may g c =
     (MayAsk-slot b c.args.seat.now.knows a c.requires.asks.0 slot c.requires.asks.1
     (subst (λ p. HasSlot b p a slot) c.process.ensures.process c.own_slot-slot.ensures.slot))
 
--- the word's place, by the number that the seat's view has
+-- the word's address, by the number that the seat knows
 at : (g : given.Over) (c : After-announced-next g) → index_of c.args.self.now.book (request_word c.args.account c.own_slot-slot.result c.announced-next.result c.args.j)
     ≡ index_of c.args.self.now.book (request_word c.args.account c.own_slot-slot.result (next_number c.seat.inside.seat.me.0 c.args.account) c.args.j)
 at g c =
