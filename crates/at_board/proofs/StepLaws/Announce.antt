@@ -12,7 +12,7 @@ use Rattle.at_history.proofs.Laws.Prefixes.{IsPrefix-length, IsPrefix-refl, take
 use Rattle.at_history.proofs.Laws.Histories.{IsHistory-Sound}
 use Rattle.at_history.proofs.Laws.Slots.{other_slot}
 use Rattle.at_history.proofs.Laws.Sums.{get_or-zeros}
-use Rattle.at_history.proofs.Steps.Announce.{Grows-announced, IsNext, Sound-announced, announced_rows, announced_rows-here, announced_rows-other, slot_cases, length-Grows, with_rows}
+use Rattle.at_history.proofs.Steps.Announce.{Grows-announced, IsNextRequest, Sound-announced, announced_rows, announced_rows-here, announced_rows-other, slot_cases, length-Grows, with_rows}
 use Rattle.at_history.specs.BoardState.{BoardState, request_at}
 use Rattle.at_history.specs.Fronts.{places_max}
 use Rattle.at_history.specs.Histories.{IsHistory}
@@ -167,9 +167,9 @@ HasAsking-announced b words after s v u a slot w r shown all requests kept has =
     }
 
 -- what may be announced keeps the laws of requests
-IsNext-MayAnnounce : (b : BookTerms) (words : List ℕ) (s : BoardState) (v : Knowledge) (a slot : ℕ) (r : Request) → Knows b words s v
-    → (asking_on (own_part v) a).announced ≡ s.rows a slot → MayAnnounce b v a slot r → IsNext b s a slot r
-IsNext-MayAnnounce b words s v a slot r knows row may = record {
+IsNextRequest-MayAnnounce : (b : BookTerms) (words : List ℕ) (s : BoardState) (v : Knowledge) (a slot : ℕ) (r : Request) → Knows b words s v
+    → (asking_on (own_part v) a).announced ≡ s.rows a slot → MayAnnounce b v a slot r → IsNextRequest b s a slot r
+IsNextRequest-MayAnnounce b words s v a slot r knows row may = record {
   slot_in = may.asks.slot_in.within;
   room = omega (arith, may.asks.room, ap length row);
   targets = may.targets;
@@ -207,7 +207,7 @@ Announces-Ruled b words views id v a slot r ruled begun found part may =
     subst (λ n. word_at b words (request_word a slot n j) ≡ get_or (request_words r) j 0) row
     (asking.stored j (subst (λ n. IsAddress b (request_word a slot n j)) (sym row) is) ∙ ap (λ ws. get_or ws j 0) may.stored) in
     let shown : Shown b after t = subst (λ n. Shown b (announced_words b words a slot (n + 1)) t) (sym row) (Shown-announced b words s a slot r ruled.shown here stored) in
-    let sound = Sound-announced b s a slot r ruled.sound (IsNext-MayAnnounce b words s v a slot r knows asking.announced may) in
+    let sound = Sound-announced b s a slot r ruled.sound (IsNextRequest-MayAnnounce b words s v a slot r knows asking.announced may) in
     let left : (p : ℕ) (k : Part) → p ≢ v.first → IsLeft b words after s.rows rows p k = λ p k apart. record {
       record_words = same_records p k.published;
       asking = λ c other has. (

@@ -19,7 +19,7 @@ use Rattle.at_history.proofs.Laws.Prefixes.{IsPrefix-refl, IsPrefix-length, take
 use Rattle.at_history.proofs.Laws.Rounds.{rounds-IsPrefix}
 use Rattle.at_history.proofs.Laws.HasRuns.{HasRuns-Sound}
 use Rattle.at_history.proofs.Laws.Histories.{IsHistory-Sound}
-use Rattle.at_history.proofs.Steps.Decide.{cell, decided, Sound-decided, cells-own, cells-other, KeptCells-push, KeptCells-decided, held-other, held-own, IsProposed}
+use Rattle.at_history.proofs.Steps.Decide.{cell, decided, Sound-decided, cells-own, cells-other, KeptCells-push, KeptCells-decided, held-other, held-own, IsNextDecision}
 use Rattle.at_history.specs.Balances.{IsCovered}
 use Rattle.at_history.specs.BoardState.{BoardState, decision_at, request_at}
 use Rattle.at_history.specs.Fronts.{place}
@@ -375,9 +375,9 @@ Knows-proposed b words after s a round d v part same record_same full knows =
           moved k inside (part_at v k).held (has.held ∙ sym (held-other s v.first a (v.first + k) d (λ e. apart (omega arith)))));
     }
 
-pub IsProposed-MayPropose : (b : BookTerms) (words : List ℕ) (s : BoardState) (v : Knowledge) (a round : ℕ) (d : Decision) (r : Request)
-    → Sound b s → Knows b words s v → IsAddress b (cell_of a round) → MayPropose b v a round d r → IsProposed b s a round d
-IsProposed-MayPropose b words s v a round d r sound knows here may =
+pub IsNextDecision-MayPropose : (b : BookTerms) (words : List ℕ) (s : BoardState) (v : Knowledge) (a round : ℕ) (d : Decision) (r : Request)
+    → Sound b s → Knows b words s v → IsAddress b (cell_of a round) → MayPropose b v a round d r → IsNextDecision b s a round d
+IsNextDecision-MayPropose b words s v a round d r sound knows here may =
     let place : d.place ≤ length s.published = omega (arith, may.place, IsPrefix-length v.seen s.published knows.seen) in
     let same : take d.place v.seen ≡ take d.place s.published = sym (take-IsPrefix-le d.place v.seen s.published may.place knows.seen) in
     let next : rounds a (take d.place s.published) ≡ round = subst (λ t. rounds a t ≡ round) same may.next in
@@ -409,7 +409,7 @@ Decides-proposed b words views id v a round d r ruled begun found part here may 
     let knows = ruled.knows id v found in
     let first : v.first + 0 ≡ v.first = omega arith in
     let own : HasPart b words s v v.first (own_part v) = subst (λ t. HasPart b words s v t (own_part v)) first (knows.parts 0 part) in
-    let proposed = IsProposed-MayPropose b words s v a round d r ruled.sound knows here may in
+    let proposed = IsNextDecision-MayPropose b words s v a round d r ruled.sound knows here may in
     let full : length (s.cells a) ≡ round = omega (arith, past, proposed.within) in
     let n = word_at b words (cell_of a round) in
     let is : n ≡ 0 = ruled.shown.cells a round here ∙ cell_word-past (s.cells a) round past in

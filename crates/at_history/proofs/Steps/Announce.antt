@@ -122,14 +122,14 @@ IsSoundRequest-Grows b s rows a slot number r law = record {
 }
 
 -- what is asked of a request that is announced next
-pub record IsNext (b : BookTerms) (s : BoardState) (a slot : ℕ) (r : Request) : Type 0 where
+pub record IsNextRequest (b : BookTerms) (s : BoardState) (a slot : ℕ) (r : Request) : Type 0 where
   pub slot_in : slot < slots_of (account_of b a)
   pub room : length (s.rows a slot) < b.request_room
   pub targets : AreTargets b r.targets
   pub since : r.since ≤ length s.published
   pub follows : (before : ℕ) → before + 1 ≡ length (s.rows a slot) → is_settled a slot before (take r.since s.published) ≡ true
 
-IsSoundRequest-next : (b : BookTerms) (s : BoardState) (rows : Rows) (a slot : ℕ) (r : Request) → Sound b s → IsNext b s a slot r
+IsSoundRequest-next : (b : BookTerms) (s : BoardState) (rows : Rows) (a slot : ℕ) (r : Request) → Sound b s → IsNextRequest b s a slot r
     → IsSoundRequest b (with_rows s rows) a slot (length (s.rows a slot)) r
 IsSoundRequest-next b s rows a slot r sound next = record {
   slot_in = next.slot_in;
@@ -168,7 +168,7 @@ each_announced F rows a slot r old new c other i within =
               subst (F a slot i) (sym (get_or_push row r none i at)) (subst (λ k. F a slot k r) at new)
         ])
 
-pub Sound-announced : (b : BookTerms) (s : BoardState) (a slot : ℕ) (r : Request) → Sound b s → IsNext b s a slot r
+pub Sound-announced : (b : BookTerms) (s : BoardState) (a slot : ℕ) (r : Request) → Sound b s → IsNextRequest b s a slot r
     → Sound b (with_rows s (announced_rows s.rows a slot r))
 Sound-announced b s a slot r sound next =
     let rows = announced_rows s.rows a slot r in

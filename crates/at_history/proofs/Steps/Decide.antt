@@ -87,7 +87,7 @@ cells_all s p a d P old new k r within =
     ]
 
 -- the proposal, by what the board has
-pub record IsProposed (b : BookTerms) (s : BoardState) (a round : ℕ) (d : Decision) : Type 0 where
+pub record IsNextDecision (b : BookTerms) (s : BoardState) (a round : ℕ) (d : Decision) : Type 0 where
   pub law : IsSoundDecision b s a round d
   pub within : round ≤ length (s.cells a)
   pub unsettled : is_settled a d.slot d.number (take d.place s.published) ≡ false
@@ -152,7 +152,7 @@ IsHeld-decided b s p a d c free (k, known, held) =
       | inr other ↦ (k, known, held-other s p a k d other ∙ held)
     ]
 
-pub Sound-decided : (b : BookTerms) (s : BoardState) (p a round : ℕ) (d : Decision) → Sound b s → IsProposed b s a round d
+pub Sound-decided : (b : BookTerms) (s : BoardState) (p a round : ℕ) (d : Decision) → Sound b s → IsNextDecision b s a round d
     → length (s.cells a) ≡ round → p < b.processes → s.held p ≡ None → Sound b (decided s p a d)
 Sound-decided b s p a round d sound proposed full known free =
     let s' : BoardState = decided s p a d in
