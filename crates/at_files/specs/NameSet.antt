@@ -4,6 +4,6 @@ use Rattle.std.specs.List.{IsDistinct}
 use Rattle.at_files.specs.declared.name_set.TheConstants.{NAME_MAX}
 
 -- no two are the same, and none is longer than a name may be
-pub record AreHeld (names : List (List ℕ)) : Type 0 where
+pub record IsNameSet (names : List (List ℕ)) : Type 0 where
   pub distinct : IsDistinct bytes_eq names
   pub short : All (λ name. length name ≤ NAME_MAX) names

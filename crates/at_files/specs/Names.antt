@@ -19,9 +19,9 @@ process_name names process = slice_index_or names.processes process []
 abbrev pub account_name : NameList → ℕ → List ℕ
 account_name names account = slice_index_or names.accounts account []
 
--- the place of a name among others, from 0
-abbrev pub place_of : List (List ℕ) → List ℕ → Option ℕ
-place_of names name = position (bytes_eq name) names
+-- the position of a name among others, from 0
+abbrev pub position_of : List (List ℕ) → List ℕ → Option ℕ
+position_of names name = position (bytes_eq name) names
 
 -- whether the name is among them
 abbrev pub has_name : List (List ℕ) → List ℕ → Bool

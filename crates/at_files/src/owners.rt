@@ -8,7 +8,7 @@ ghost use Rattle.at_files.specs.BookRecords.{numbers_of, owner_known, owners_nam
 use crate::NoMemory;
 use crate::book_fault::{BadBook, BookWhy, ReadBookFault};
 use crate::name_set::NameSet;
-use crate::records::bad_book;
+use crate::first_records::bad_book;
 use at_base::parse_number;
 use at_ledger::{ACCOUNTS_MAX, BookError, OWNERS_MAX};
 use std::alloc::{AllocError, Global};
@@ -40,15 +40,15 @@ fn read_numbers(alloc: Global, text: &[u8]) -> Result<Option<Vec<u64>>, NoMemory
     Ok(Some(numbers))
 }
 
-/// The process at a place, where the account has `count` owners and the next one has to be at least `least`.
-fn owner_known(account: u32, count: usize, least: u64, place: Option<usize>) -> Result<u64, BookWhy>
-    ensures known { result ≡ owner_known account count least place }
-    ensures place { IfOk result (λ owner. place ≡ Some owner) }
+/// The process at a position, where the account has `count` owners and the next one has to be at least `least`.
+fn owner_known(account: u32, count: usize, least: u64, position: Option<usize>) -> Result<u64, BookWhy>
+    ensures known { result ≡ owner_known account count least position }
+    ensures position { IfOk result (λ owner. position ≡ Some owner) }
 {
-    let Some(place) = place else {
+    let Some(position) = position else {
         return Err(BookWhy::UnknownOwner);
     };
-    let owner = place as u64;
+    let owner = position as u64;
     if owner < least {
         Err(BookWhy::Book(BookError::OwnersNotRising { account }))
     } else if OWNERS_MAX <= count {
@@ -92,7 +92,7 @@ fn pieces_named(
     let mut owners = Vec::new(alloc);
     let mut least = 0;
     for piece in text.split(|byte| *byte == b' ') {
-        let owner = match owner_known(account, owners.len(), least, processes.place(piece)) {
+        let owner = match owner_known(account, owners.len(), least, processes.position(piece)) {
             Ok(owner) => owner,
             Err(why) => return Err(bad_book(account + 4, why)),
         };

@@ -14,7 +14,7 @@ const TWO_PROCESSES: &[u8] =
 const NAMED: &[u8] =
     b"book,2\nprocesses,ann,bob\nlimits,10,10\naccount,ann-cash,100,ann\naccount,joint,50,ann bob\naccount,shop,0,\n";
 
-/// The numbers of processes and accounts of a book, or its first offence.
+/// The numbers of processes and accounts of a book, or its first fault.
 fn sizes(alloc: Global, text: &[u8]) -> Result<(u32, u32), ReadBookFault> {
     match read_book(alloc, text) {
         Ok((book, _)) => Ok((book.processes(), book.accounts())),
@@ -22,7 +22,7 @@ fn sizes(alloc: Global, text: &[u8]) -> Result<(u32, u32), ReadBookFault> {
     }
 }
 
-/// The number of calls of a payment file beside a book, or its first offence.
+/// The number of calls of a payment file beside a book, or its first fault.
 fn calls(alloc: Global, book: &[u8], text: &[u8]) -> Result<usize, ReadPaymentsFault> {
     let Ok((book, names)) = read_book(alloc, book) else {
         return Err(ReadPaymentsFault::NoMemory);
@@ -192,8 +192,8 @@ fn names_and_calls(rt: HostRuntime) -> Result<(), Fail> {
     Ok(())
 }
 
-/// The first offence of a book whose first account is in the fourth record.
-fn named_offence(alloc: Global, text: &[u8]) -> Result<(u32, u32), ReadBookFault> {
+/// The first fault of a book whose first account is in the fourth record.
+fn named_fault(alloc: Global, text: &[u8]) -> Result<(u32, u32), ReadBookFault> {
     let mut book = Vec::new(alloc);
     for part in [
         b"book,2\nprocesses,ann,bob\nlimits,10,10\naccount,ann-cash,1,ann\n".as_slice(),
@@ -247,7 +247,7 @@ fn named_accounts(rt: HostRuntime) {
         (b"account,ann,5,ann bob", Ok((2, 2))),
     ];
     for (text, want) in table {
-        assert_eq!(rt; named_offence(rt.alloc(), text), want, "{text:?}");
+        assert_eq!(rt; named_fault(rt.alloc(), text), want, "{text:?}");
     }
 }
 

@@ -24,9 +24,9 @@ pub IsSummed-with_account : (b : BookTerms) (t : AccountTerms) (rounds total : �
     → rounds ≡ rounds_of b + rounds_room b.request_room t → total ≡ total_of b + t.opening
     → IsSummed (with_account b t) rounds total
 IsSummed-with_account b t rounds total begun room known small rounds_is total_is =
-    let place = length b.accounts in
-    let first = choice-none (ltb ROUNDS_MAX (rounds_of b + rounds_room b.request_room t)) (RoundsOverLimit place) _ small in
-    let second = choice-none (leb (2 ^ 64) (total_of b + t.opening)) (TotalOverLimit place) None first.1 in
+    let position = length b.accounts in
+    let first = choice-none (ltb ROUNDS_MAX (rounds_of b + rounds_room b.request_room t)) (RoundsOverLimit position) _ small in
+    let second = choice-none (leb (2 ^ 64) (total_of b + t.opening)) (TotalOverLimit position) None first.1 in
     let more_rounds = sum_by_push (rounds_room b.request_room) b.accounts t in
     let more_total = sum_by_push (λ a. a.opening) b.accounts t in
     record {
@@ -38,7 +38,7 @@ IsSummed-with_account b t rounds total begun room known small rounds_is total_is
         some_request_room = begun.some_request_room;
         request_room = begun.request_room;
         few_accounts = omega (arith, length-append b.accounts (t ∷ []), room);
-        accounts = All-push (IsAccount b.processes) b.accounts t begun.accounts (IsAccount-from_none b.processes place t.opening t.owners known);
+        accounts = All-push (IsAccount b.processes) b.accounts t begun.accounts (IsAccount-from_none b.processes position t.opening t.owners known);
         rounds = omega (arith, more_rounds, ltb-false _ _ first.0);
         total = omega (arith, more_total, leb-false _ _ second.0);
       };

@@ -1,4 +1,4 @@
--- The walk over a draft that finds its first offence, and the book that a draft without one gives.
+-- The walk over a draft that finds its first fault, and the book that a draft without one gives.
 use Rattle.std.specs.Prelude.{ℕ, ◌+◌, ◌^◌, ◌++◌, Bool, ◌&&◌, ◌==◌, List, [], ◌∷◌, length, map, nat_lt, nat_le, Option, Some, None, if◌then◌else◌}
 use Rattle.std.specs.Option.{option_or}
 use Rattle.at_ledger.specs.Account.{AccountTerms, rounds_room}
@@ -70,7 +70,7 @@ book_without_accounts processes own_room request_room =
 abbrev pub terms_of : DraftAccount → AccountTerms
 terms_of a = terms_with a.opening a.owners.items
 
--- the first offence of a draft: its limits, and then its accounts in turn
+-- the first fault of a draft: its limits, and then its accounts in turn
 abbrev pub book_fault : Draft → Option BookError
 book_fault d =
     option_or (limits_fault d.processes d.own_room d.request_room)

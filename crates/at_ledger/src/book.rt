@@ -34,7 +34,7 @@ impl Book {
     ghost use Rattle.at_ledger.specs.Book.{IsBook, account_of, is_owner, log_room_of};
     ghost use Rattle.at_ledger.specs.Draft.{book_fault, book_of};
 
-    /// Checks a draft and copies it. A refusal names the first offence: the limits, then the accounts in
+    /// Checks a draft and copies it. A refusal names the first fault: the limits, then the accounts in
     /// turn, each with its owners from left to right before its sums.
     pub fn new(alloc: Global, draft: &Draft) -> Result<Book, BookFault>
         ensures ok { IfOk result (λ b. b ≡ book_of draft.now) }

@@ -117,8 +117,8 @@ impl BookBuilder {
         if self.is_full() {
             return Err(BookError::TooManyAccounts);
         }
-        let place = self.accounts.len() as u32;
-        let owners = checked_owners(self.processes, place, owners)?;
+        let position = self.accounts.len() as u32;
+        let owners = checked_owners(self.processes, position, owners)?;
         let account = Account { opening, owners };
         let sums = self.sums_with(&account)?;
         Ok((account, sums))
@@ -132,14 +132,14 @@ impl BookBuilder {
         ensures good { OnOk result (sums_fault self.now account.now ≡ None) }
         ensures bad { IfErr result (λ e. sums_fault self.now account.now ≡ Some e) }
     {
-        let place = self.accounts.len() as u32;
+        let position = self.accounts.len() as u32;
         let rounds = self.sums.rounds + account.rounds_room(self.request_room);
         if ROUNDS_MAX < rounds {
-            return Err(BookError::RoundsOverLimit { account: place });
+            return Err(BookError::RoundsOverLimit { account: position });
         }
         match self.sums.total.checked_add(account.opening) {
             Some(total) => Ok(Sums { rounds, total }),
-            None => Err(BookError::TotalOverLimit { account: place }),
+            None => Err(BookError::TotalOverLimit { account: position }),
         }
     }
 }

@@ -7,7 +7,7 @@ use Rattle.at_ledger.specs.declared.call.Call.{Call}
 use Rattle.at_program.specs.Loading.{IsFileOn, calls_of}
 use Rattle.at_program.proofs.Played.{get_or-calls_of}
 
--- the file at a place
+-- the file at a position
 record IsFileAt (files : List (Vec Call Global)) (i : ℕ) (file : Vec Call Global) : Type 0 where
   pub within : i < length (calls_of files)
   pub calls : file.items ≡ get_or (calls_of files) i file.items

@@ -70,8 +70,8 @@ abbrev pub joint_terms : ℕ → ℕ → AccountTerms
 joint_terms processes calls = terms_with (100 * calls * processes) (range_with_len 0 processes)
 
 -- the book with the first accounts of one process each
-abbrev pub book_begun : ℕ → ℕ → ℕ → BookTerms
-book_begun processes calls accounts =
+abbrev pub book_of_own_accounts : ℕ → ℕ → ℕ → BookTerms
+book_of_own_accounts processes calls accounts =
     record { processes = processes; own_room = calls; request_room = calls; accounts = map (own_terms calls) (range_with_len 0 accounts) }
 
 -- an account for each process, and then the one of all

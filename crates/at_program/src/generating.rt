@@ -5,7 +5,7 @@ ghost use Rattle.std.specs.List.{range_with_len};
 ghost use Rattle.at_ledger.specs.Book.{IsBook};
 ghost use Rattle.at_ledger.specs.Draft.{account_fault, terms_with, with_account};
 ghost use Rattle.at_program.specs.Loading.{IsFileOn, calls_of};
-ghost use Rattle.at_program.specs.Generator.{MayMake, book_begun, book_made, call_drawn, calls_drawn, drawn, files_made, next_state, state_after_call, state_after_calls};
+ghost use Rattle.at_program.specs.Generator.{MayMake, book_of_own_accounts, book_made, call_drawn, calls_drawn, drawn, files_made, next_state, state_after_call, state_after_calls};
 ghost use Rattle.at_program.specs.Made.{AllDone, AllSum, made};
 
 use at_ledger::{Book, BookBuilder, BookFault, Call};
@@ -92,7 +92,7 @@ fn add_account(builder: &mut BookBuilder, opening: u64, owners: &[u64]) -> Resul
 /// An account for each process alone, with room for all calls.
 fn own_accounts(alloc: Global, processes: u32, calls: u32) -> Result<BookBuilder, AllocError>
     requires { MayMake processes calls }
-    ensures { IfOk result (λ b. b ≡ book_begun processes calls processes) }
+    ensures { IfOk result (λ b. b ≡ book_of_own_accounts processes calls processes) }
 {
     let room = u64::from(calls);
     let Ok(mut builder) = BookBuilder::new(alloc, u64::from(processes), room, room) else {

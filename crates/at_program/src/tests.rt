@@ -103,7 +103,7 @@ fn runs_of_one_process(rt: HostRuntime) -> Result<(), Fail> {
         "book,1\nprocesses,4\nlimits,1,1024\naccount,0,0,0 1 2 3\naccount,1,0,0 1 2 3\naccount,2,0,0 1 2 3\n";
     let two_shared =
         "book,1\nprocesses,4\nlimits,1,1024\naccount,0,0,0 1 2 3\naccount,1,0,0 1 2 3\n";
-    let rows = [
+    let cases = [
         (ONE, "", 0, "journal 0\nbalances 2\n0 100\n1 0\ntotal 100\n"),
         (ONE, USUAL, 0, USUAL_REPORT),
         (
@@ -187,7 +187,7 @@ fn runs_of_one_process(rt: HostRuntime) -> Result<(), Fail> {
         ("book,3\nprocesses,ann\n", "", 3, "book: line 1: version\n"),
     ];
     let alloc = rt.alloc();
-    for (book, calls, code, text) in rows {
+    for (book, calls, code, text) in cases {
         let files = files_of(alloc, book.as_bytes(), calls.as_bytes(), b"")?;
         let (status, written) = answer_over(&rt, alloc, "run book 0", files)?;
         assert_eq!(rt; written.taken(), text.as_bytes());
@@ -203,7 +203,7 @@ fn words(rt: HostRuntime) -> Result<(), Fail> {
         "journal 2\n0 1 transfer 2 0 0 not-owner\n0 2 transfer 1 0 0 not-owner\nbalances 3\n0 100\n1 0\n2 50\ntotal 150\n";
     let twice =
         "journal 2\n0 1 read 0 100\n1 1 read 0 100\nbalances 3\n0 100\n1 0\n2 50\ntotal 150\n";
-    let rows = [
+    let cases = [
         (
             "run book 0 1",
             "transfer,2,0,0\ntransfer,1,0,0\n",
@@ -254,7 +254,7 @@ fn words(rt: HostRuntime) -> Result<(), Fail> {
         ("make 7 1 2 3", "", "", 2, USAGE),
     ];
     let alloc = rt.alloc();
-    for (words, first, second, code, text) in rows {
+    for (words, first, second, code, text) in cases {
         let files = files_of(alloc, TWO.as_bytes(), first.as_bytes(), second.as_bytes())?;
         let (status, written) = answer_over(&rt, alloc, words, files)?;
         assert_eq!(rt; written.taken(), text.as_bytes());
@@ -274,7 +274,7 @@ fn runs_with_names(rt: HostRuntime) -> Result<(), Fail> {
         "book,2\nprocesses,ann,bob\nlimits,10,10\naccount,ann-cash,100,ann\naccount,joint,50,ann carl\naccount,shop,0,\n";
     let shop =
         "book,2\nprocesses,ann,bob\nlimits,10,10\naccount,ann-cash,100,ann\naccount,joint,50,ann bob\naccount,Shop,0,\n";
-    let rows = [
+    let cases = [
         (
             named,
             "pay,ann-cash,shop,30,joint,20\nread,shop\n",
@@ -292,7 +292,7 @@ fn runs_with_names(rt: HostRuntime) -> Result<(), Fail> {
         ),
     ];
     let alloc = rt.alloc();
-    for (book, calls, code, text) in rows {
+    for (book, calls, code, text) in cases {
         let files = files_of(alloc, book.as_bytes(), calls.as_bytes(), b"")?;
         let (status, written) = answer_over(&rt, alloc, "run book 0 1", files)?;
         assert_eq!(rt; written.taken(), text.as_bytes());

@@ -24,7 +24,7 @@ pub enum Command {
 
 /// The words of a command: the book's file, and the payment files in process order.
 #[derive(Clone, Copy)]
-pub struct CommandLine<'a> {
+pub struct Form<'a> {
     pub command: Command,
     pub book: &'a str,
     pub payments: &'a [String],
@@ -41,7 +41,7 @@ fn command_named(word: &str) -> Option<Command>
 }
 
 /// The form of the words after the program's name, if they have one. A word is never taken as an option.
-pub fn command_line(words: &[String]) -> Option<CommandLine<'_>>
+pub fn form_of(words: &[String]) -> Option<Form<'_>>
     ensures { option_map form_shown result ≡ form_of (words_of words.now) }
 {
     let [command, book, payments @ ..] = words else {
@@ -51,7 +51,7 @@ pub fn command_line(words: &[String]) -> Option<CommandLine<'_>>
         Some(command) => command,
         None => return None,
     };
-    Some(CommandLine {
+    Some(Form {
         command,
         book: book.as_str(),
         payments,
