@@ -16,7 +16,7 @@ use Rattle.at_ledger.specs.Book.{BookTerms}
 use Rattle.at_ledger.specs.Draft.{account_fault, owners_fault, sums_fault, terms_with, with_account}
 use Rattle.at_ledger.specs.declared.draft.BookError.{BookError}
 use Rattle.at_ledger.specs.declared.draft.BookError.TheVariants.{OwnersNotRising, TooManyAccounts, TooManyOwners}
-use Rattle.at_ledger.specs.declared.draft.TheConstants.{ACCOUNTS_MAX, OWNERS_MAX}
+use Rattle.at_ledger.specs.Limits.{most_accounts, most_owners}
 use Rattle.at_ledger.proofs.Faults.{choice-none, option_or-none}
 use Rattle.at_ledger.proofs.Owners.{IsAccount-from_none}
 use Rattle.at_files.specs.Names.{AreFormed, AreNames, AreNamesOf, has_name, is_name, position_of}
@@ -25,7 +25,7 @@ use Rattle.at_files.specs.BookRecords.{NamedBook, named_terms, numbered_terms, n
 use Rattle.at_files.specs.BookFile.{fields_of_account, owners_text}
 use Rattle.at_files.specs.declared.book_fault.BookWhy.{BookWhy}
 use Rattle.at_files.specs.declared.book_fault.BookWhy.TheVariants as why
-use Rattle.at_files.specs.declared.name_set.TheConstants.{NAME_MAX}
+use Rattle.at_files.specs.Limits.{most_name_bytes}
 use Rattle.at_files.specs.Results.{and_then}
 use Rattle.at_files.proofs.NameLaws.{decimal-AreNames, decimals_below-more, has_name-decimals_below, known_version, position_of-Some}
 use Rattle.at_files.proofs.OwnerLaws.{pieces_of-some}
@@ -78,7 +78,7 @@ map-name_in version processes (owner ∷ owners) are first known =
 -- an owner that follows others
 pub owner_known-ok : (account count least : ℕ) (position : Option ℕ) (owner : ℕ) → owner_known account count least position ≡ Ok owner → position ≡ Some owner
 owner_known-ok account count least None owner h = absurd (cc)
-owner_known-ok account count least (Some n) owner h = by (nat_lt n least) (nat_le OWNERS_MAX count) h
+owner_known-ok account count least (Some n) owner h = by (nat_lt n least) (nat_le most_owners count) h
   where
     by : (low many : Bool) → (if low then Err (why.Book (OwnersNotRising account)) else if many then Err (why.Book (TooManyOwners account)) else Ok n) ≡ Ok owner → Some n ≡ Some owner
     by true many is = absurd (cc)
@@ -148,7 +148,7 @@ with_name-added names more name h = by (is_name name) (has_name names name) refl
     by true false e f is = record { form = e; new = f; more_is = let same : names ++ name ∷ [] ≡ more = cc in sym same }
 
 AreNamesOf-with_named : (b : NamedBook) (name : List ℕ) (t : AccountTerms) → AreNamesOf b.book b.names → AreNames b.names.version (b.names.accounts ++ name ∷ [])
-    → length b.book.accounts < ACCOUNTS_MAX → AreNamesOf (with_named b name t).book (with_named b name t).names
+    → length b.book.accounts < most_accounts → AreNamesOf (with_named b name t).book (with_named b name t).names
 AreNamesOf-with_named b name t are formed room = record {
   processes = are.processes;
   accounts = length_push b.names.accounts name ∙ ap (λ (n : ℕ). n + 1) are.accounts ∙ sym (length_push b.book.accounts t);
@@ -169,15 +169,15 @@ pub record Adds (b : NamedBook) (fields : Fields) (whole : NamedBook) : Type 0 w
 
 -- the parts of an account without a fault
 record IsFree (b : BookTerms) (t : AccountTerms) : Type 0 where
-  room : length b.accounts < ACCOUNTS_MAX
+  room : length b.accounts < most_accounts
   known : All (λ owner. owner < b.processes) t.owners
 
 IsFree-account_fault : (b : BookTerms) (t : AccountTerms) → account_fault b t ≡ None → IsFree b t
 IsFree-account_fault b t none =
-    let room = choice-none (nat_le ACCOUNTS_MAX (length b.accounts)) TooManyAccounts _ none in
+    let room = choice-none (nat_le most_accounts (length b.accounts)) TooManyAccounts _ none in
     let both = option_or-none (owners_fault b.processes (length b.accounts) 0 0 t.owners) (sums_fault b t) room.1 in
     record {
-      room = let test : nat_le ACCOUNTS_MAX (length b.accounts) ≡ false = room.0 in grind (arith, nat_tests);
+      room = let test : nat_le most_accounts (length b.accounts) ≡ false = room.0 in grind (arith, nat_tests);
       known = (IsAccount-from_none b.processes (length b.accounts) t.opening t.owners both.0).known;
     }
 
@@ -267,7 +267,7 @@ with_named_record-adds b fields whole shape are second h =
     (AreNames-name b.names.version b.names.accounts (field_of fields 1) are.formed.accounts second added.form added.new) leads.later
 
 pub with_account_record-adds : (b : NamedBook) (fields : Fields) (whole : NamedBook) → AreNamesOf b.book b.names → with_account_record b fields ≡ Ok whole → Adds b fields whole
-with_account_record-adds b fields whole are h = by (nat_le ACCOUNTS_MAX (length b.book.accounts)) (has_shape (codes "account") 4 fields) (b.names.version == 2) refl refl h
+with_account_record-adds b fields whole are h = by (nat_le most_accounts (length b.book.accounts)) (has_shape (codes "account") 4 fields) (b.names.version == 2) refl refl h
   where
     first : (b.names.version == 2) ≡ false → b.names.version ≡ 1
     first other = elim (known_version b.names.version b.names.accounts are.formed.accounts) [ inl is ↦ is | inr is ↦ grind (arith, nat_tests) ]
@@ -307,8 +307,8 @@ with_plain_record-built b fields t book names added are first terms limits new a
         at (inl (v, formed)) = rw is (rw (← formed) at (has_name-decimals_below (length xs) small))
 
 -- the name of an account of version 1 is short
-pub length-numbered : (account : ℕ) (fields : Fields) (opening : Option ℕ) (owners : Option (List ℕ)) (t : AccountTerms) → account < ACCOUNTS_MAX
-    → numbered_terms account (number_at fields 1) opening owners ≡ Ok t → length (field_of fields 1) ≤ NAME_MAX
+pub length-numbered : (account : ℕ) (fields : Fields) (opening : Option ℕ) (owners : Option (List ℕ)) (t : AccountTerms) → account < most_accounts
+    → numbered_terms account (number_at fields 1) opening owners ≡ Ok t → length (field_of fields 1) ≤ most_name_bytes
 length-numbered account fields opening owners t room terms =
     let is = numbered_terms-IsNextNumbered account (number_at fields 1) opening owners t terms in
     rw (field_of-number_at fields 1 account is.id_is)

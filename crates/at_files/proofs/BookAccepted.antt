@@ -20,7 +20,7 @@ use Rattle.at_ledger.specs.Account.{AccountTerms, rounds_room}
 use Rattle.at_ledger.specs.Book.{BookTerms, IsBook, rounds_of, total_of}
 use Rattle.at_ledger.specs.Draft.{owner_fault, owners_fault, sums_fault, account_fault, accounts_fault, with_account, book_without_accounts}
 use Rattle.at_ledger.specs.declared.draft.BookError.TheVariants.{NoAccount, OwnerOutOfRange, OwnersNotRising, TooManyAccounts, TooManyOwners, RoundsOverLimit, TotalOverLimit}
-use Rattle.at_ledger.specs.declared.draft.TheConstants.{PROCESSES_MAX, ACCOUNTS_MAX, OWNERS_MAX, ROUNDS_MAX}
+use Rattle.at_ledger.specs.Limits.{most_accounts, most_owners, most_processes, most_rounds}
 use Rattle.at_ledger.proofs.Faults.{choice-none, option_or-none}
 use Rattle.at_ledger.proofs.Owners.{IsAccount-from_none}
 use Rattle.at_files.specs.Names.{AreFormed, AreNames, AreNamesOf, NameList, has_name, is_name, is_name_byte}
@@ -113,22 +113,22 @@ owners_named-names processes account count least (owner ∷ owners) distinct non
     let both = option_or-none (owner_fault (length processes) account count least owner) (owners_fault (length processes) account (count + 1) (owner + 1) owners) none in
     let range = choice-none (nat_le (length processes) owner) (OwnerOutOfRange account) _ both.0 in
     let rising = choice-none (nat_lt owner least) (OwnersNotRising account) _ range.1 in
-    let few = choice-none (nat_le OWNERS_MAX count) (TooManyOwners account) None rising.1 in
+    let few = choice-none (nat_le most_owners count) (TooManyOwners account) None rising.1 in
     let within : owner < length processes = let test : nat_le (length processes) owner ≡ false = range.0 in grind (arith, nat_tests) in
     rw (position_of-at processes owner distinct within, rising.0, few.0, owners_named-names processes account (count + 1) (owner + 1) owners distinct both.1) refl
 
 -- what an account without a fault keeps
 record IsGood (b : BookTerms) (t : AccountTerms) : Type 0 where
-  room : nat_le ACCOUNTS_MAX (length b.accounts) ≡ false
+  room : nat_le most_accounts (length b.accounts) ≡ false
   opening : Fits64 t.opening
   known : All (λ owner. owner < b.processes) t.owners
   owners : owners_fault b.processes (length b.accounts) 0 0 t.owners ≡ None
 
 IsGood-account_fault : (b : BookTerms) (t : AccountTerms) → account_fault b t ≡ None → IsGood b t
 IsGood-account_fault b t none =
-    let room = choice-none (nat_le ACCOUNTS_MAX (length b.accounts)) TooManyAccounts _ none in
+    let room = choice-none (nat_le most_accounts (length b.accounts)) TooManyAccounts _ none in
     let both = option_or-none (owners_fault b.processes (length b.accounts) 0 0 t.owners) (sums_fault b t) room.1 in
-    let rounds = choice-none (nat_lt ROUNDS_MAX (rounds_of b + rounds_room b.request_room t)) (RoundsOverLimit (length b.accounts)) _ both.1 in
+    let rounds = choice-none (nat_lt most_rounds (rounds_of b + rounds_room b.request_room t)) (RoundsOverLimit (length b.accounts)) _ both.1 in
     let total = choice-none (nat_le (2 ^ 64) (total_of b + t.opening)) (TotalOverLimit (length b.accounts)) None rounds.1 in
     record {
       room = room.0;
@@ -179,14 +179,14 @@ AreNext-AreNames version names (name ∷ later) are = (
 record IsReady (b : NamedBook) : Type 0 where
   processes : AreNames b.names.version b.names.processes
   count : length b.names.processes ≡ b.book.processes
-  few : b.book.processes ≤ PROCESSES_MAX
+  few : b.book.processes ≤ most_processes
   same : length b.names.accounts ≡ length b.book.accounts
 
 with_plain_record-fields : (b : NamedBook) (name : List ℕ) (t : AccountTerms) → IsReady b → IsGood b.book t → account_fault b.book t ≡ None → b.names.version ≡ 1
     → name ≡ decimal (length b.names.accounts) → with_plain_record b (fields_of_account b.names.processes name t) ≡ Ok (with_named b name t)
 unfolding field_at
 with_plain_record-fields b name t ready good none first is =
-    let fits : Fits64 (length b.book.accounts) = let room : nat_le ACCOUNTS_MAX (length b.book.accounts) ≡ false = good.room in grind (arith, nat_tests) in
+    let fits : Fits64 (length b.book.accounts) = let room : nat_le most_accounts (length b.book.accounts) ≡ false = good.room in grind (arith, nat_tests) in
     let id : number_of name ≡ Some (length b.book.accounts) = rw (is, ready.same) (number_of-decimal (length b.book.accounts) fits) in
     let next : (length b.book.accounts == length b.book.accounts) ≡ true = eq-eqb (length b.book.accounts) (length b.book.accounts) refl in
     let known : All (λ owner. owner < length b.names.processes) t.owners = subst (λ (n : ℕ). All (λ owner. owner < n) t.owners) (sym ready.count) good.known in
@@ -264,15 +264,15 @@ unfolding field_at
 version_of-record version (inl first) = rw (first, decimal_digit 1 (omega arith)) refl
 version_of-record version (inr second) = rw (second, decimal_digit 2 (omega arith)) refl
 
-with_processes-next : (names later : List (List ℕ)) → AreNext 2 names later → length names + length later ≤ PROCESSES_MAX → with_processes names later ≡ Ok (names ++ later)
+with_processes-next : (names later : List (List ℕ)) → AreNext 2 names later → length names + length later ≤ most_processes → with_processes names later ≡ Ok (names ++ later)
 unfolding with_processes AreNext
 with_processes-next names [] next few = ap Ok (sym (append-nil names))
 with_processes-next names (name ∷ later) (inl (wrong, is), rest) few = absurd (omega arith)
 with_processes-next names (name ∷ later) (inr (second, form, new), rest) few =
-    let room : nat_le PROCESSES_MAX (length names) ≡ false = grind (arith, nat_tests) in
+    let room : nat_le most_processes (length names) ≡ false = grind (arith, nat_tests) in
     rw (room, form, new, with_processes-next (names ++ name ∷ []) later rest (omega (arith, length_push names name)), append_assoc names (name ∷ []) later) refl
 
-processes_of-record : (names : NameList) → AreNames names.version names.processes → 1 ≤ length names.processes → length names.processes ≤ PROCESSES_MAX
+processes_of-record : (names : NameList) → AreNames names.version names.processes → 1 ≤ length names.processes → length names.processes ≤ most_processes
     → processes_of names.version (fields_of_processes names) ≡ Ok names.processes
 unfolding field_at
 processes_of-record names are some few = by are.formed
@@ -296,7 +296,7 @@ limits_of-record : (b : BookTerms) (names : NameList) → IsBook b → length na
     ≡ Ok (book_begun names.version names.processes b.own_room b.request_room)
 unfolding field_at
 limits_of-record b names is count =
-    let few : length names.processes ≤ PROCESSES_MAX = let most = is.begun.few_processes in omega arith in
+    let few : length names.processes ≤ most_processes = let most = is.begun.few_processes in omega arith in
     let some : 1 ≤ length names.processes = let least = is.begun.some_process in omega arith in
     rw (
       number_of-decimal b.own_room (omega (arith, is.begun.own_room)),
@@ -307,7 +307,7 @@ limits_of-record b names is count =
 -- a book with its names, written out, is read back
 pub book_of_records-records_of_book : (b : BookTerms) (names : NameList) → IsBook b → AreNamesOf b names → book_of_records (records_of_book b names) ≡ Ok (record { book = b; names = names })
 book_of_records-records_of_book b names is are =
-    let few : length names.processes ≤ PROCESSES_MAX = let most = is.begun.few_processes in let count = are.processes in omega arith in
+    let few : length names.processes ≤ most_processes = let most = is.begun.few_processes in let count = are.processes in omega arith in
     let some : 1 ≤ length names.processes = let least = is.begun.some_process in let count = are.processes in omega arith in
     let begun : NamedBook = book_begun names.version names.processes b.own_room b.request_room in
     let ready : IsReady begun = record { processes = are.formed.processes; count = refl; few = few; same = refl } in

@@ -6,7 +6,7 @@ use Rattle.csv.specs.Records.{field_at}
 use Rattle.at_ledger.specs.Account.{AccountTerms}
 use Rattle.at_ledger.specs.Book.{IsBook, BookTerms}
 use Rattle.at_ledger.specs.declared.draft.BookError.TheVariants.{NoAccount, NoProcess, TooManyProcesses}
-use Rattle.at_ledger.specs.declared.draft.TheConstants.{PROCESSES_MAX}
+use Rattle.at_ledger.specs.Limits.{most_processes}
 use Rattle.at_files.specs.Names.{NameList, AreNamesOf}
 use Rattle.at_files.specs.Records.{Fields, field_of, has_shape}
 use Rattle.at_files.specs.BookRecords.{NamedBook, book_begun, counted_processes, limits_of, named_processes, processes_of, version_of, with_name, with_process, with_processes, with_account_record}
@@ -97,7 +97,7 @@ version_of-spelled fields version h =
 
 -- processes that were named are those of the fields
 with_process-spelled : (names more : List (List ℕ)) (name : List ℕ) → with_process names name ≡ Ok more → more ≡ names ++ name ∷ []
-with_process-spelled names more name h = by (nat_le PROCESSES_MAX (length names)) h
+with_process-spelled names more name h = by (nat_le most_processes (length names)) h
   where
     by : (full : Bool) → (if full then Err (why.Book TooManyProcesses) else with_name names name) ≡ Ok more → more ≡ names ++ name ∷ []
     by true is = absurd (cc)

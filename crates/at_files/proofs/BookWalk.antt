@@ -4,7 +4,7 @@ use Rattle.std.proofs.lemmas.Bool.Decides.{nat_tests}
 use Rattle.std.proofs.lemmas.List.{length_push}
 use Rattle.at_ledger.specs.Draft.{limits_fault}
 use Rattle.at_ledger.specs.declared.draft.BookError.TheVariants.{NoProcess, TooManyAccounts, TooManyProcesses}
-use Rattle.at_ledger.specs.declared.draft.TheConstants.{ACCOUNTS_MAX, PROCESSES_MAX}
+use Rattle.at_ledger.specs.Limits.{most_accounts, most_processes}
 use Rattle.at_files.specs.Names.{AreNames, AreNamesOf, decimals_below}
 use Rattle.at_files.specs.Records.{Fields, field_of, number_at, has_shape}
 use Rattle.at_files.specs.BookRecords.{NamedBook, book_begun, book_with_rooms, counted_processes, limits_of, named_processes, process_count, processes_of, version_of, with_name, with_process, with_processes, with_account_record}
@@ -27,7 +27,7 @@ version_of-known fields version h = by (has_shape (codes "book") 2 fields) (byte
 
 -- one process more
 AreNames-with_process : (names more : List (List ℕ)) (name : List ℕ) → AreNames 2 names → with_process names name ≡ Ok more → AreNames 2 more
-AreNames-with_process names more name are h = by (nat_le PROCESSES_MAX (length names)) h
+AreNames-with_process names more name are h = by (nat_le most_processes (length names)) h
   where
     by : (full : Bool) → (if full then Err (why.Book TooManyProcesses) else with_name names name) ≡ Ok more → AreNames 2 more
     by true is = absurd (cc)
@@ -51,13 +51,13 @@ AreNames-named_processes fields names h = by (bytes_eq (field_of fields 0) (code
     by true false is = AreNames-with_processes [] (drop 1 fields) names (AreNames-none 2 (inr refl)) is
 
 -- a number of processes is small
-process_count-few : (processes : Option ℕ) (count : ℕ) → process_count processes ≡ Ok count → (processes ≡ Some count) × (count ≤ PROCESSES_MAX)
+process_count-few : (processes : Option ℕ) (count : ℕ) → process_count processes ≡ Ok count → (processes ≡ Some count) × (count ≤ most_processes)
 process_count-few None count h = absurd (cc)
 process_count-few (Some n) count h =
     let both = within_limits-ok (limits_fault n 1 1) n count h in
-    (ap Some both.1, rw (← both.1) (by (n == 0) (nat_lt PROCESSES_MAX n) refl both.0))
+    (ap Some both.1, rw (← both.1) (by (n == 0) (nat_lt most_processes n) refl both.0))
   where
-    by : (none many : Bool) → nat_lt PROCESSES_MAX n ≡ many → (if none then Some NoProcess else if many then Some TooManyProcesses else None) ≡ None → n ≤ PROCESSES_MAX
+    by : (none many : Bool) → nat_lt most_processes n ≡ many → (if none then Some NoProcess else if many then Some TooManyProcesses else None) ≡ None → n ≤ most_processes
     by true many e is = absurd (cc)
     by false true e is = absurd (cc)
     by false false e is = grind (arith, nat_tests)
@@ -67,7 +67,7 @@ pub record AreCounted (fields : Fields) (names : List (List ℕ)) : Type 0 where
   pub count : ℕ
   pub shape : has_shape (codes "processes") 2 fields ≡ true
   pub count_is : number_at fields 1 ≡ Some count
-  pub few : count ≤ PROCESSES_MAX
+  pub few : count ≤ most_processes
   pub names_are : names ≡ decimals_below count
 
 pub counted_processes-AreCounted : (fields : Fields) (names : List (List ℕ)) → counted_processes fields ≡ Ok names → AreCounted fields names
@@ -172,13 +172,13 @@ Added-end whole b account records found fields rest added next none =
     added.walk ∙ rw here refl
 
 -- a book that is full takes no further record
-with_account_record-full : (b : NamedBook) (fields : Fields) → length b.book.accounts ≡ ACCOUNTS_MAX → with_account_record b fields ≡ Err (why.Book TooManyAccounts)
+with_account_record-full : (b : NamedBook) (fields : Fields) → length b.book.accounts ≡ most_accounts → with_account_record b fields ≡ Err (why.Book TooManyAccounts)
 with_account_record-full b fields full = rw full refl
 
 pub Added-full : (whole : Result NamedBook BadBook) (b : NamedBook) (account : ℕ) (records : List Fields) (found : Bool) (fields : Fields) (rest : List Fields)
-    → Added whole b account records → IsNext records found fields rest → found ≡ true → account ≡ ACCOUNTS_MAX
-    → whole ≡ Err (record { line = ACCOUNTS_MAX + 4; why = why.Book TooManyAccounts })
+    → Added whole b account records → IsNext records found fields rest → found ≡ true → account ≡ most_accounts
+    → whole ≡ Err (record { line = most_accounts + 4; why = why.Book TooManyAccounts })
 Added-full whole b account records found fields rest added next some last =
     let here : records ≡ fields ∷ rest = next ∙ rw some refl in
-    let full : length b.book.accounts ≡ ACCOUNTS_MAX = let at = added.count in omega arith in
+    let full : length b.book.accounts ≡ most_accounts = let at = added.count in omega arith in
     added.walk ∙ rw (here, accounts_from-fields b fields rest, with_account_record-full b fields full, full) refl

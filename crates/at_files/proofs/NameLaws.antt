@@ -15,8 +15,8 @@ use Rattle.std.proofs.lemmas.Slice.Eq.{bytes_eq-Decides}
 use Rattle.at_base.specs.Numbers.{number_of}
 use Rattle.at_base.proofs.NumberLaws.{number_of-decimal}
 use Rattle.at_ledger.specs.Book.{BookTerms}
-use Rattle.at_ledger.specs.declared.draft.TheConstants.{ACCOUNTS_MAX}
-use Rattle.at_files.specs.declared.name_set.TheConstants.{NAME_MAX}
+use Rattle.at_ledger.specs.Limits.{most_accounts}
+use Rattle.at_files.specs.Limits.{most_name_bytes}
 use Rattle.at_files.proofs.FieldLaws.{both_tests}
 use Rattle.at_files.specs.Names.{AreFormed, AreNames, AreNamesOf, decimals_below, has_name, is_name, is_name_byte, position_of, plain_names}
 
@@ -118,7 +118,7 @@ known_version version names are = by are.formed
     by (inr (v, formed)) = inr v
 
 -- the numbers below the counts of a book are its names
-pub AreNamesOf-plain_names : (b : BookTerms) → b.processes ≤ 2 ^ 64 → length b.accounts ≤ ACCOUNTS_MAX → AreNamesOf b (plain_names b)
+pub AreNamesOf-plain_names : (b : BookTerms) → b.processes ≤ 2 ^ 64 → length b.accounts ≤ most_accounts → AreNamesOf b (plain_names b)
 AreNamesOf-plain_names b few many = record {
   processes = length-decimals_below b.processes;
   accounts = length-decimals_below (length b.accounts);
@@ -132,8 +132,8 @@ AreNamesOf-plain_names b few many = record {
 -- the bytes of a name of version 2
 pub name-bytes : (name : List ℕ) → is_name name ≡ true → list_all is_name_byte name ≡ true
 name-bytes name h =
-    let first = both_tests (nat_le (length name) NAME_MAX && list_all is_name_byte name) (is_ascii_lowercase (slice_index name 0)) h in
-    (both_tests (nat_le (length name) NAME_MAX) (list_all is_name_byte name) first.0).1
+    let first = both_tests (nat_le (length name) most_name_bytes && list_all is_name_byte name) (is_ascii_lowercase (slice_index name 0)) h in
+    (both_tests (nat_le (length name) most_name_bytes) (list_all is_name_byte name) first.0).1
 
 pub name-some : (name : List ℕ) → is_name name ≡ true → 0 < length name
 name-some [] h = absurd (cc)

@@ -10,7 +10,7 @@ use Rattle.std.proofs.lemmas.Slice.Eq.{bytes_eq-Decides}
 use Rattle.indexmap.specs.IndexSet.{insert_key}
 use Rattle.at_files.specs.Names.{has_name, position_of}
 use Rattle.at_files.specs.NameSet.{IsNameSet}
-use Rattle.at_files.specs.declared.name_set.TheConstants.{NAME_MAX}
+use Rattle.at_files.specs.Limits.{most_name_bytes}
 
 module _ {N : Type 0} (f : N → List ℕ) where
   pub has_name-map : (keys : List N) (name : List ℕ) → has_name (map f keys) name ≡ list_any (λ key. bytes_eq name (f key)) keys
@@ -35,7 +35,7 @@ module _ {N : Type 0} (f : N → List ℕ) where
       by false = map-append f keys (key ∷ [])
 
 -- names that are held, with one more
-pub IsNameSet-add : (names : List (List ℕ)) (name : List ℕ) → IsNameSet names → length name ≤ NAME_MAX
+pub IsNameSet-add : (names : List (List ℕ)) (name : List ℕ) → IsNameSet names → length name ≤ most_name_bytes
     → IsNameSet (if has_name names name then names else names ++ name ∷ [])
 IsNameSet-add names name held short = by (has_name names name) refl
   where
@@ -43,7 +43,7 @@ IsNameSet-add names name held short = by (has_name names name) refl
     by true there = held
     by false absent = record {
       distinct = IsDistinct-push nat_list_eq_equiv names name held.distinct absent;
-      short = All-push (λ other. length other ≤ NAME_MAX) names name held.short short;
+      short = All-push (λ other. length other ≤ most_name_bytes) names name held.short short;
     }
 
 pub IsNameSet-none : IsNameSet []
@@ -51,7 +51,7 @@ unfolding IsDistinct
 IsNameSet-none = record { distinct = tt; short = λ k d within. absurd (omega arith) }
 
 -- a text that is longer than a name is none of them
-pub position_of-long : (names : List (List ℕ)) (text : List ℕ) → IsNameSet names → NAME_MAX < length text → position_of names text ≡ None
+pub position_of-long : (names : List (List ℕ)) (text : List ℕ) → IsNameSet names → most_name_bytes < length text → position_of names text ≡ None
 position_of-long names text held long = by (position_of names text) refl
   where
     by : (position : Option ℕ) → position_of names text ≡ position → position ≡ None
@@ -59,5 +59,5 @@ position_of-long names text held long = by (position_of names text) refl
     by (Some n) is =
         let at = position-Some (bytes_eq text) names n [] is in
         let same : text ≡ get_or names n [] = (bytes_eq-Decides text (get_or names n [])).0 at.1 in
-        let short : length (get_or names n []) ≤ NAME_MAX = held.short n [] at.0 in
+        let short : length (get_or names n []) ≤ most_name_bytes = held.short n [] at.0 in
         absurd (let same_length = ap length same in omega arith)

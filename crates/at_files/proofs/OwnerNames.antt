@@ -6,7 +6,7 @@ use Rattle.at_files.specs.BookRecords.{owner_known, owners_named, pieces_of}
 use Rattle.at_files.specs.declared.book_fault.BookWhy.{BookWhy}
 use Rattle.at_files.specs.Results.{and_then}
 
--- owners before those that come later, unless an fault does
+-- owners before those that come later, unless a fault does
 abbrev pub owners_before : List ℕ → Result (List ℕ) BookWhy → Result (List ℕ) BookWhy
 owners_before owners (Ok later) = Ok (owners ++ later)
 owners_before owners (Err w) = Err w

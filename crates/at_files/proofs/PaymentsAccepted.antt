@@ -10,11 +10,11 @@ use Rattle.at_ledger.specs.Book.{BookTerms}
 use Rattle.at_ledger.specs.Call.{AreTargetsOn, IsCallOn, TargetPair}
 use Rattle.at_ledger.specs.declared.call.Call.{Call}
 use Rattle.at_ledger.specs.declared.call.Call.TheVariants.{Transfer, Read, Pay}
-use Rattle.at_ledger.specs.declared.targets.TheConstants.{TARGETS_MAX}
+use Rattle.at_ledger.specs.Limits.{most_targets}
 use Rattle.at_files.specs.Names.{AreNames, NameList, AreNamesOf, account_name}
 use Rattle.at_files.specs.Records.{Fields, has_shape}
 use Rattle.at_files.specs.Payments.{plain_call_of, named_call_of, call_of, has_amounts, is_pay, targets_spelled, fields_of_targets, payments_from, payments_of, fields_of_call, IsCallOfVersion, HasAmounts, Pays}
-use Rattle.at_files.specs.declared.payments_fault.TheConstants.{CALLS_MAX}
+use Rattle.at_files.specs.Limits.{most_calls}
 use Rattle.at_files.specs.declared.payments_fault.BadPayments.{BadPayments}
 use Rattle.at_files.specs.declared.payments_fault.ReadPaymentsFault.{ReadPaymentsFault}
 use Rattle.at_files.specs.declared.payments_fault.ReadPaymentsFault.TheVariants.{NoMemory}
@@ -63,7 +63,7 @@ has_amounts-fields names [] fits = refl
 has_amounts-fields names (t ∷ ts) fits =
     rw (number_of-decimal t.1 (All-head (λ (x : TargetPair). x.1 < 2 ^ 64) t ts fits)) (has_amounts-fields names ts (All-tail (λ (x : TargetPair). x.1 < 2 ^ 64) t ts fits))
 
-is_pay-fields : (names : NameList) (from : ℕ) (targets : List TargetPair) → 1 ≤ length targets → length targets ≤ TARGETS_MAX
+is_pay-fields : (names : NameList) (from : ℕ) (targets : List TargetPair) → 1 ≤ length targets → length targets ≤ most_targets
     → is_pay (fields_of_call names (Pay from targets)) ≡ true
 unfolding field_at fields_of_targets
 is_pay-fields names from [] some few = absurd (omega arith)
@@ -116,7 +116,7 @@ call_of-fields names call are few known amounts version = by (known_version name
         rw test (named_call_of-fields names call are.distinct known amounts version)
 
 payments_from-calls : (names : NameList) (line : ℕ) (calls : List Call) → AreNames names.version names.accounts → length names.accounts ≤ 2 ^ 64
-    → All (IsCallOn (length names.accounts)) calls → All HasAmounts calls → All (IsCallOfVersion names.version) calls → length calls + line ≤ CALLS_MAX + 1
+    → All (IsCallOn (length names.accounts)) calls → All HasAmounts calls → All (IsCallOfVersion names.version) calls → length calls + line ≤ most_calls + 1
     → payments_from names line (map (fields_of_call names) calls) ≡ Ok calls
 unfolding payments_from
 payments_from-calls names line [] are few known amounts versions within = refl
@@ -137,7 +137,7 @@ pub payments_of-Pays : (b : BookTerms) (names : NameList) (records : List Fields
 payments_of-Pays b names records calls are pays =
     rw pays.spelled
     (payments_from-calls names 1 calls are.formed.accounts (omega (arith, are.formed.few_accounts)) (rw are.accounts pays.known) pays.amounts pays.versions
-    (let fits : length calls ≤ CALLS_MAX = pays.few in omega arith))
+    (let fits : length calls ≤ most_calls = pays.few in omega arith))
 
 -- a file that pays calls isn't refused
 pub Pays-not_bad : (b : BookTerms) (names : NameList) (records : List Fields) (calls : List Call) (bad : BadPayments) (fault : ReadPaymentsFault) → AreNamesOf b names

@@ -13,7 +13,7 @@ use Rattle.at_ledger.specs.declared.call.Call.TheVariants.{Transfer, Read, Pay}
 use Rattle.at_files.specs.Names.{AreNames, NameList, AreNamesOf, account_name, position_of}
 use Rattle.at_files.specs.Records.{Fields, before, field_of, number_at, has_shape}
 use Rattle.at_files.specs.Payments.{transfer_of, read_of, plain_call_of, named_transfer, named_read, named_pay, named_call_of, has_amounts, is_pay, target_of, targets_spelled, call_of, call_before, payments_from, payments_of, fields_of_call, fields_of_targets, IsCallOfVersion, HasAmounts, Pays}
-use Rattle.at_files.specs.declared.payments_fault.TheConstants.{CALLS_MAX}
+use Rattle.at_files.specs.Limits.{most_calls}
 use Rattle.at_files.specs.declared.payments_fault.PaymentsWhy.{PaymentsWhy}
 use Rattle.at_files.specs.declared.payments_fault.PaymentsWhy.TheVariants.{Shape, UnknownAccount, TooManyCalls}
 use Rattle.at_files.specs.declared.payments_fault.BadPayments.{BadPayments}
@@ -247,7 +247,7 @@ record AllSpelled (names : NameList) (line : ℕ) (records : List Fields) (calls
   known : All (IsCallOn (length names.accounts)) calls
   amounts : All HasAmounts calls
   versions : All (IsCallOfVersion names.version) calls
-  few : length calls + line ≤ CALLS_MAX + 1
+  few : length calls + line ≤ most_calls + 1
 
 AllSpelled-cons : (names : NameList) (line : ℕ) (fields : Fields) (records : List Fields) (call : Call) (calls : List Call) → Spelled names fields call
     → AllSpelled names (line + 1) records calls → AllSpelled names line (fields ∷ records) (call ∷ calls)
@@ -256,7 +256,7 @@ AllSpelled-cons names line fields records call calls first others = record {
   known = All-cons (IsCallOn (length names.accounts)) call calls first.known others.known;
   amounts = All-cons HasAmounts call calls first.amounts others.amounts;
   versions = All-cons (IsCallOfVersion names.version) call calls first.version others.versions;
-  few = let few : length calls + (line + 1) ≤ CALLS_MAX + 1 = others.few in omega arith;
+  few = let few : length calls + (line + 1) ≤ most_calls + 1 = others.few in omega arith;
 }
 
 call_before-spelled : (names : NameList) (line : ℕ) (fields : Fields) (records : List Fields) (calls : List Call) (first : Result Call PaymentsWhy) (later : Result (List Call) BadPayments)
@@ -269,7 +269,7 @@ call_before-spelled names line fields records calls (Ok call) (Ok more) one all 
     let P : List Call → Type 0 = AllSpelled names line (fields ∷ records) in
     subst P is (AllSpelled-cons names line fields records call more (one call refl) (all more refl))
 
-payments_from-spelled : (names : NameList) (line : ℕ) (records : List Fields) (calls : List Call) → AreNames names.version names.accounts → line ≤ CALLS_MAX + 1
+payments_from-spelled : (names : NameList) (line : ℕ) (records : List Fields) (calls : List Call) → AreNames names.version names.accounts → line ≤ most_calls + 1
     → payments_from names line records ≡ Ok calls → AllSpelled names line records calls
 unfolding payments_from
 payments_from-spelled names line [] calls are within h =
@@ -277,15 +277,15 @@ payments_from-spelled names line [] calls are within h =
     let P : List Call → Type 0 = AllSpelled names line [] in
     subst P is (record { spelled = refl; known = λ k d h. absurd (omega arith); amounts = λ k d h. absurd (omega arith); versions = λ k d h. absurd (omega arith); few = omega arith })
 payments_from-spelled names line (fields ∷ records) calls are within h =
-    by (line == CALLS_MAX + 1) refl h (λ fits more. payments_from-spelled names (line + 1) records more are fits)
+    by (line == most_calls + 1) refl h (λ fits more. payments_from-spelled names (line + 1) records more are fits)
   where
-    by : (b : Bool) → (line == CALLS_MAX + 1) ≡ b
+    by : (b : Bool) → (line == most_calls + 1) ≡ b
         → (if b then Err (record { line = line; why = TooManyCalls }) else call_before line (call_of names fields) (payments_from names (line + 1) records)) ≡ Ok calls
-        → (line + 1 ≤ CALLS_MAX + 1 → (more : List Call) → payments_from names (line + 1) records ≡ Ok more → AllSpelled names (line + 1) records more)
+        → (line + 1 ≤ most_calls + 1 → (more : List Call) → payments_from names (line + 1) records ≡ Ok more → AllSpelled names (line + 1) records more)
         → AllSpelled names line (fields ∷ records) calls
     by true last is all = absurd (cc)
     by false other is all =
-        let fits : line + 1 ≤ CALLS_MAX + 1 = grind (arith, nat_tests) in
+        let fits : line + 1 ≤ most_calls + 1 = grind (arith, nat_tests) in
         call_before-spelled names line fields records calls (call_of names fields) (payments_from names (line + 1) records)
         (λ call e. call_of-spelled names fields call are e) (all fits) is
 
@@ -298,5 +298,5 @@ Pays-payments_of b names records calls are h =
       known = rw are.accounts at all.known;
       amounts = all.amounts;
       versions = all.versions;
-      few = let few : length calls + 1 ≤ CALLS_MAX + 1 = all.few in omega arith;
+      few = let few : length calls + 1 ≤ most_calls + 1 = all.few in omega arith;
     }

@@ -5,7 +5,7 @@ use Rattle.at_ledger.specs.declared.call.Call.{Call}
 use Rattle.at_files.specs.Names.{NameList}
 use Rattle.at_files.specs.Records.{Fields}
 use Rattle.at_files.specs.Payments.{call_of, calls_before, call_before, bad_payments, payments_from, payments_of}
-use Rattle.at_files.specs.declared.payments_fault.TheConstants.{CALLS_MAX}
+use Rattle.at_files.specs.Limits.{most_calls}
 use Rattle.at_files.specs.declared.payments_fault.PaymentsWhy.{PaymentsWhy}
 use Rattle.at_files.specs.declared.payments_fault.PaymentsWhy.TheVariants.{TooManyCalls}
 use Rattle.at_files.specs.declared.payments_fault.BadPayments.{BadPayments}
@@ -25,10 +25,10 @@ calls_before-push : (calls : List Call) (call : Call) (later : Result (List Call
 calls_before-push calls call (Ok later) = ap Ok (sym (append_assoc calls (call ∷ []) later))
 calls_before-push calls call (Err bad) = refl
 
-not_last : (line : ℕ) → line < CALLS_MAX + 1 → (line == CALLS_MAX + 1) ≡ false
+not_last : (line : ℕ) → line < most_calls + 1 → (line == most_calls + 1) ≡ false
 not_last line h = grind (arith, nat_tests)
 
-pub payments_from-more : (names : NameList) (line : ℕ) (fields : Fields) (records : List Fields) → line < CALLS_MAX + 1
+pub payments_from-more : (names : NameList) (line : ℕ) (fields : Fields) (records : List Fields) → line < most_calls + 1
     → payments_from names line (fields ∷ records) ≡ call_before line (call_of names fields) (payments_from names (line + 1) records)
 unfolding payments_from
 payments_from-more names line fields records h = rw (not_last line h) refl
@@ -41,7 +41,7 @@ abbrev pub IsNext : List Fields → Bool → Fields → List Fields → Type 0
 IsNext records found fields rest = records ≡ (if found then fields ∷ rest else [])
 
 pub Walked-more : (names : NameList) (all : List Fields) (calls : List Call) (line : ℕ) (records : List Fields) (found : Bool) (fields : Fields) (rest : List Fields) (call : Call)
-    → Walked names all calls line records → IsNext records found fields rest → found ≡ true → line < CALLS_MAX + 1
+    → Walked names all calls line records → IsNext records found fields rest → found ≡ true → line < most_calls + 1
     → call_of names fields ≡ Ok call → Walked names all (calls ++ call ∷ []) (line + 1) rest
 Walked-more names all calls line records found fields rest call walked next some h is =
     let here : records ≡ fields ∷ rest = next ∙ rw some refl in
@@ -57,15 +57,15 @@ Walked-end names all calls line records found fields rest walked next none =
     (rw here at walked.walk) ∙ ap Ok (append-nil calls)
 
 pub Walked-bad : (names : NameList) (all : List Fields) (calls : List Call) (line : ℕ) (records : List Fields) (found : Bool) (fields : Fields) (rest : List Fields) (why : PaymentsWhy)
-    → Walked names all calls line records → IsNext records found fields rest → found ≡ true → line < CALLS_MAX + 1
+    → Walked names all calls line records → IsNext records found fields rest → found ≡ true → line < most_calls + 1
     → call_of names fields ≡ Err why → payments_of names all ≡ bad_payments line why
 Walked-bad names all calls line records found fields rest why walked next some h is =
     let here : records ≡ fields ∷ rest = next ∙ rw some refl in
     (rw here at walked.walk) ∙ rw (payments_from-more names line fields rest h, is) refl
 
 pub Walked-many : (names : NameList) (all : List Fields) (calls : List Call) (line : ℕ) (records : List Fields) (found : Bool) (fields : Fields) (rest : List Fields)
-    → Walked names all calls line records → IsNext records found fields rest → found ≡ true → line ≡ CALLS_MAX + 1
-    → payments_of names all ≡ bad_payments (CALLS_MAX + 1) TooManyCalls
+    → Walked names all calls line records → IsNext records found fields rest → found ≡ true → line ≡ most_calls + 1
+    → payments_of names all ≡ bad_payments (most_calls + 1) TooManyCalls
 unfolding payments_from
 Walked-many names all calls line records found fields rest walked next some last =
     let here : records ≡ fields ∷ rest = next ∙ rw some refl in

@@ -17,11 +17,6 @@ abbrev pub at_line : {A : Type 0} → ℕ → Result A BookWhy → Result A BadB
 at_line line (Ok x) = Ok x
 at_line line (Err w) = Err (record { line = line; why = w })
 
--- what a value leads to, unless an fault came before
-abbrev pub after : {A B : Type 0} → Result A BadBook → (A → Result B BadBook) → Result B BadBook
-after (Ok x) more = more x
-after (Err bad) more = Err bad
-
 -- the end of the records: a book has an account
 abbrev pub book_at_end : NamedBook → Result NamedBook BadBook
 book_at_end b = if length b.book.accounts == 0 then at_line 4 (Err (why.Book NoAccount)) else Ok b

@@ -7,7 +7,7 @@ use Rattle.at_ledger.specs.Book.{BookTerms}
 use Rattle.at_ledger.specs.Draft.{limits_fault, account_fault, terms_with, with_account, book_without_accounts}
 use Rattle.at_ledger.specs.declared.draft.BookError.{BookError}
 use Rattle.at_ledger.specs.declared.draft.BookError.TheVariants.{NoProcess, TooManyProcesses, TooManyAccounts, OwnersNotRising, TooManyOwners}
-use Rattle.at_ledger.specs.declared.draft.TheConstants.{ACCOUNTS_MAX, OWNERS_MAX, PROCESSES_MAX}
+use Rattle.at_ledger.specs.Limits.{most_accounts, most_owners, most_processes}
 use Rattle.at_files.specs.Names.{NameList, decimals_below, has_name, is_name, position_of}
 use Rattle.at_files.specs.Records.{Fields, before, field_of, number_at, has_shape}
 use Rattle.at_files.specs.Results.{and_then}
@@ -38,7 +38,7 @@ with_name names name =
 
 -- one more process, of which a book has sixteen at most
 abbrev pub with_process : List (List ℕ) → List ℕ → Result (List (List ℕ)) BookWhy
-with_process names name = if nat_le PROCESSES_MAX (length names) then Err (why.Book TooManyProcesses) else with_name names name
+with_process names name = if nat_le most_processes (length names) then Err (why.Book TooManyProcesses) else with_name names name
 
 -- the processes so far, and those that these fields name from left to right
 unfoldable pub with_processes : List (List ℕ) → Fields → Result (List (List ℕ)) BookWhy
@@ -102,7 +102,7 @@ abbrev pub owner_known : ℕ → ℕ → ℕ → Option ℕ → Result ℕ BookW
 owner_known account count least None = Err why.UnknownOwner
 owner_known account count least (Some owner) =
     if nat_lt owner least then Err (why.Book (OwnersNotRising account))
-    else if nat_le OWNERS_MAX count then Err (why.Book (TooManyOwners account))
+    else if nat_le most_owners count then Err (why.Book (TooManyOwners account))
     else Ok owner
 
 -- the owners that the pieces name, from left to right, after `count` others
@@ -141,6 +141,6 @@ with_named_record b fields =
 -- a record from the fourth on: the book so far with the account that it adds
 abbrev pub with_account_record : NamedBook → Fields → Result NamedBook BookWhy
 with_account_record b fields =
-    if nat_le ACCOUNTS_MAX (length b.book.accounts) then Err (why.Book TooManyAccounts)
+    if nat_le most_accounts (length b.book.accounts) then Err (why.Book TooManyAccounts)
     else if has_shape (codes "account") 4 fields then (if b.names.version == 2 then with_named_record b fields else with_plain_record b fields)
     else Err why.Shape

@@ -5,10 +5,10 @@ use Rattle.at_ledger.specs.Book.{BookTerms}
 use Rattle.at_ledger.specs.Call.{TargetPair, IsCallOn}
 use Rattle.at_ledger.specs.declared.call.Call.{Call}
 use Rattle.at_ledger.specs.declared.call.Call.TheVariants.{Transfer, Read, Pay}
-use Rattle.at_ledger.specs.declared.targets.TheConstants.{TARGETS_MAX}
+use Rattle.at_ledger.specs.Limits.{most_targets}
 use Rattle.at_files.specs.Names.{NameList, account_name, position_of}
 use Rattle.at_files.specs.Records.{Fields, before, field_of, number_at, has_shape}
-use Rattle.at_files.specs.declared.payments_fault.TheConstants.{CALLS_MAX}
+use Rattle.at_files.specs.Limits.{most_calls}
 use Rattle.at_files.specs.declared.payments_fault.PaymentsWhy.{PaymentsWhy}
 use Rattle.at_files.specs.declared.payments_fault.PaymentsWhy.TheVariants.{Shape, Number, UnknownAccount, TooManyCalls}
 use Rattle.at_files.specs.declared.payments_fault.BadPayments.{BadPayments}
@@ -85,11 +85,11 @@ abbrev pub call_of : NameList → Fields → Result Call PaymentsWhy
 call_of names fields =
     if names.version == 2 then named_call_of names.accounts fields else plain_call_of (length names.accounts) fields
 
--- an fault at this line
+-- a fault at this line
 abbrev pub bad_payments : ℕ → PaymentsWhy → Result (List Call) BadPayments
 bad_payments line why = Err (record { line = line; why = why })
 
--- calls before those that come later, unless an fault does
+-- calls before those that come later, unless a fault does
 abbrev pub calls_before : List Call → Result (List Call) BadPayments → Result (List Call) BadPayments
 calls_before calls (Ok later) = Ok (calls ++ later)
 calls_before calls (Err bad) = Err bad
@@ -103,7 +103,7 @@ call_before line (Err why) later = bad_payments line why
 unfoldable pub payments_from : NameList → ℕ → List Fields → Result (List Call) BadPayments
 payments_from names line [] = Ok []
 payments_from names line (fields ∷ records) =
-    if line == CALLS_MAX + 1 then bad_payments line TooManyCalls
+    if line == most_calls + 1 then bad_payments line TooManyCalls
     else call_before line (call_of names fields) (payments_from names (line + 1) records)
 
 -- the calls of a file's records, or the first fault
@@ -126,7 +126,7 @@ fields_of_call names (Pay from targets) = codes "pay" ∷ account_name names fro
 abbrev pub IsCallOfVersion : ℕ → Call → Type 0
 IsCallOfVersion version (Transfer from to amount) = Unit {0}
 IsCallOfVersion version (Read account) = Unit {0}
-IsCallOfVersion version (Pay from targets) = (version ≡ 2) × (1 ≤ length targets) × (length targets ≤ TARGETS_MAX)
+IsCallOfVersion version (Pay from targets) = (version ≡ 2) × (1 ≤ length targets) × (length targets ≤ most_targets)
 
 -- the amounts of a call are numbers that a file can hold
 abbrev pub HasAmounts : Call → Type 0
@@ -140,4 +140,4 @@ pub record Pays (b : BookTerms) (names : NameList) (records : List Fields) (call
   pub known : All (IsCallOn (length b.accounts)) calls
   pub amounts : All HasAmounts calls
   pub versions : All (IsCallOfVersion names.version) calls
-  pub few : length calls ≤ CALLS_MAX
+  pub few : length calls ≤ most_calls

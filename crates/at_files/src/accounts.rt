@@ -1,6 +1,7 @@
 //! The records of a book file from the fourth on, each of an account.
 
 ghost use Rattle.std.specs.Prelude.{◌≡◌, ◌+◌, ◌<◌, length, Err, Ok, OnOk, IfErr, IfOk, option_map};
+ghost use Rattle.at_ledger.specs.Limits.{most_accounts};
 ghost use Rattle.csv.specs.Records.{fields_of};
 ghost use Rattle.at_ledger.specs.Draft.{account_fault, terms_with, with_account};
 ghost use Rattle.at_files.specs.Names.{AreNamesOf};
@@ -9,9 +10,9 @@ ghost use Rattle.at_files.specs.BookFile.{at_line};
 
 use crate::book_fault::{BadBook, BookWhy, ReadBookFault};
 use crate::fields::{field_of, has_shape, number_at};
+use crate::first_records::{add_name, bad_book};
 use crate::name_set::NameSet;
 use crate::owners::{owners_named, read_owners};
-use crate::first_records::{add_name, bad_book};
 use at_ledger::{ACCOUNTS_MAX, BookBuilder, BookFault};
 use csv::ByteRecord;
 use std::alloc::Global;
@@ -87,7 +88,7 @@ fn add_terms(
     opening: u64,
     owners: &[u64],
 ) -> Result<(), ReadBookFault>
-    requires { account < ACCOUNTS_MAX }
+    requires { account < most_accounts }
     ensures ok { OnOk result (within_limits (account_fault builder.old (terms_with opening owners.now)) (with_account builder.old (terms_with opening owners.now)) ≡ Ok builder.new) }
     ensures bad { (b : BadBook) → result ≡ Err (ReadBookFault.Bad b)
         → at_line (account + 4) (within_limits (account_fault builder.old (terms_with opening owners.now)) (with_account builder.old (terms_with opening owners.now))) ≡ Err b }
@@ -127,7 +128,7 @@ fn named_terms(
     opening: Option<u64>,
     text: &[u8],
 ) -> Result<(u64, Vec<u64>), ReadBookFault>
-    requires { account < ACCOUNTS_MAX }
+    requires { account < most_accounts }
     ensures ok { IfOk result (λ t. named_terms processes.now account opening text.now ≡ Ok (terms_with t.0 t.1.items)) }
     ensures bad { (b : BadBook) → result ≡ Err (ReadBookFault.Bad b) → at_line (account + 4) (named_terms processes.now account opening text.now) ≡ Err b }
 {
@@ -148,7 +149,7 @@ fn add_plain_record(
     fields: &ByteRecord,
 ) -> Result<(), ReadBookFault>
     requires account { account ≡ length begun.old.book.accounts }
-    requires room { account < ACCOUNTS_MAX }
+    requires room { account < most_accounts }
     requires version { begun.old.names.version ≡ 1 }
     requires names { AreNamesOf begun.old.book begun.old.names }
     ensures ok { OnOk result (with_plain_record begun.old (fields_of fields.now) ≡ Ok begun.new) }
@@ -183,7 +184,7 @@ fn add_named_record(
     fields: &ByteRecord,
 ) -> Result<(), ReadBookFault>
     requires account { account ≡ length begun.old.book.accounts }
-    requires room { account < ACCOUNTS_MAX }
+    requires room { account < most_accounts }
     ensures ok { OnOk result (with_named_record begun.old (fields_of fields.now) ≡ Ok begun.new) }
     ensures bad { (b : BadBook) → result ≡ Err (ReadBookFault.Bad b) → at_line (account + 4) (with_named_record begun.old (fields_of fields.now)) ≡ Err b }
 {
@@ -211,7 +212,7 @@ pub(crate) fn add_record(
     fields: &ByteRecord,
 ) -> Result<(), ReadBookFault>
     requires account { account ≡ length begun.old.book.accounts }
-    requires room { account < ACCOUNTS_MAX }
+    requires room { account < most_accounts }
     requires names { AreNamesOf begun.old.book begun.old.names }
     ensures ok { OnOk result (with_account_record begun.old (fields_of fields.now) ≡ Ok begun.new) }
     ensures names { OnOk result (AreNamesOf begun.new.book begun.new.names) }

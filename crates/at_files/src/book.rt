@@ -8,9 +8,9 @@ ghost use Rattle.at_files.specs.BookFile.{Spells, accounts_from, book_at_end, bo
 
 use crate::accounts::{Begun, add_record, limits_of};
 use crate::book_fault::{BadBook, BookWhy, ReadBookFault};
+use crate::first_records::{bad_book, processes_of, version_of};
 use crate::name_set::NameSet;
 use crate::names::Names;
-use crate::first_records::{bad_book, processes_of, version_of};
 use crate::records::Records;
 use at_ledger::{ACCOUNTS_MAX, Book, BookError};
 use csv::ByteRecord;

@@ -1,8 +1,8 @@
 //! The call that one record of a payment file spells.
 
 ghost use Rattle.std.specs.Prelude.{◌≡◌, ◌+◌, ◌*◌, ◌≤◌, ◌<◌, true, drop, length};
+ghost use Rattle.at_ledger.specs.Limits.{most_targets};
 ghost use Rattle.csv.specs.Records.{fields_of};
-ghost use Rattle.at_ledger.specs.declared.targets.TheConstants.{TARGETS_MAX};
 ghost use Rattle.at_files.specs.Names.{position_of};
 ghost use Rattle.at_files.specs.Records.{field_of, number_at};
 ghost use Rattle.at_files.specs.Payments.{call_of, has_amounts, is_pay, named_call_of, named_pay, named_read, named_transfer, plain_call_of, read_of, target_of, targets_spelled, transfer_of};
@@ -112,7 +112,7 @@ fn target_count(fields: &ByteRecord) -> usize
     requires { is_pay (fields_of fields.now) ≡ true }
     ensures fields { length (fields_of fields.now) ≡ 2 * result + 2 }
     ensures some { 1 ≤ result }
-    ensures few { result ≤ TARGETS_MAX }
+    ensures few { result ≤ most_targets }
 {
     (fields.len() - 2) / 2
 }
@@ -132,7 +132,7 @@ fn has_amounts(fields: &ByteRecord) -> bool
 
 /// A target of a pay-out, from 0, if its account and its amount are there.
 fn target_of(names: &Names, fields: &ByteRecord, i: usize) -> Option<(u32, u64)>
-    requires { i < TARGETS_MAX }
+    requires { i < most_targets }
     ensures { result ≡ target_of (position_of names.now.accounts (field_of (fields_of fields.now) (2 * i + 2))) (number_at (fields_of fields.now) (2 * i + 3)) }
 {
     match (
@@ -200,7 +200,11 @@ fn named_call_of(names: &Names, fields: &ByteRecord) -> Result<Call, PaymentsWhy
 }
 
 /// The call that a record spells beside the names of a book with so many accounts.
-pub(crate) fn call_of(accounts: u32, names: &Names, fields: &ByteRecord) -> Result<Call, PaymentsWhy>
+pub(crate) fn call_of(
+    accounts: u32,
+    names: &Names,
+    fields: &ByteRecord,
+) -> Result<Call, PaymentsWhy>
     requires { accounts ≡ length names.now.accounts }
     ensures { result ≡ call_of names.now (fields_of fields.now) }
 {

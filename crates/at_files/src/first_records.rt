@@ -1,6 +1,7 @@
 //! The first three records of a book file.
 
 ghost use Rattle.std.specs.Prelude.{◌≡◌, ◌≤◌, [], drop, Err, Ok, OnOk, IfOk};
+ghost use Rattle.at_ledger.specs.Limits.{most_processes};
 ghost use Rattle.csv.specs.Records.{fields_of};
 ghost use Rattle.at_files.specs.BookRecords.{counted_processes, named_processes, process_count, processes_of, version_of, with_name, with_process, with_processes};
 ghost use Rattle.at_files.specs.BookFile.{at_line};
@@ -96,7 +97,7 @@ fn named_processes(alloc: Global, fields: &ByteRecord) -> Result<NameSet, ReadBo
 /// A number of processes within the limits.
 fn process_count(alloc: Global, processes: Option<u64>) -> Result<u64, BookWhy>
     ensures count { result ≡ process_count processes }
-    ensures few { IfOk result (λ count. count ≤ PROCESSES_MAX) }
+    ensures few { IfOk result (λ count. count ≤ most_processes) }
 {
     let Some(processes) = processes else {
         return Err(BookWhy::Number);

@@ -8,12 +8,12 @@ mod book;
 mod book_fault;
 mod calls;
 mod fields;
+mod first_records;
 mod name_set;
 mod names;
 mod owners;
 mod payments;
 mod payments_fault;
-mod first_records;
 mod records;
 #[cfg(test)]
 mod tests;

@@ -1,6 +1,7 @@
 //! Names that are told apart, each with its position.
 
 ghost use Rattle.std.specs.Prelude.{◌≡◌, ◌≤◌, ◌<◌, ◌++◌, [], ◌∷◌, bytes_eq, length, not, if◌then◌else◌, slice_index, slice_index_or, IfNone, IfOk, IfSome};
+ghost use Rattle.at_files.specs.Limits.{most_name_bytes};
 ghost use Rattle.std.specs.Char.{is_ascii_lowercase};
 ghost use Rattle.std.specs.List.{IsDistinct, list_all};
 ghost use Rattle.at_files.specs.Names.{has_name, is_name, is_name_byte, position_of};
@@ -73,7 +74,7 @@ impl NameSet {
 
     /// Adds a name after the others, and answers `true`, unless it is there.
     pub(crate) fn add(&mut self, text: &[u8]) -> Result<bool, NoMemory>
-        requires { length text.now ≤ NAME_MAX }
+        requires { length text.now ≤ most_name_bytes }
         ensures added { IfOk result (λ added. added ≡ not (has_name self.old text.now)) }
         ensures names { IfOk result (λ added. self.new ≡ (if added then self.old ++ text.now ∷ [] else self.old)) }
     {
@@ -90,7 +91,7 @@ impl NameSet {
 /// A text that is no longer than a name.
 fn held(text: &[u8]) -> Option<Name>
     ensures some { IfSome result (λ name. name.items ≡ text.now) }
-    ensures none { IfNone result (NAME_MAX < length text.now) }
+    ensures none { IfNone result (most_name_bytes < length text.now) }
 {
     let mut name = ArrayVec::new();
     match name.try_extend_from_slice(text) {

@@ -1,6 +1,7 @@
 //! A checked book.
 
 ghost use Rattle.std.specs.Prelude.{◌≡◌, ◌<◌, ◌≤◌, length, map, slice_index, None, Some, IfOk, OnOk, IfSome};
+ghost use Rattle.at_ledger.specs.Limits.{most_owners};
 
 use crate::NoMemory;
 use crate::account::Account;
@@ -100,7 +101,7 @@ impl Book {
     pub fn owner_count(&self, account: u32) -> u32
         requires { account < length self.now.accounts }
         ensures count { result ≡ length (account_of self.now account).owners }
-        ensures few { result ≤ OWNERS_MAX }
+        ensures few { result ≤ most_owners }
     {
         self.accounts[account as usize].owner_count()
     }
@@ -109,7 +110,7 @@ impl Book {
     pub fn slot_count(&self, account: u32) -> u32
         requires { account < length self.now.accounts }
         ensures count { result ≡ slots_of (account_of self.now account) }
-        ensures few { result ≤ OWNERS_MAX }
+        ensures few { result ≤ most_owners }
     {
         self.accounts[account as usize].slot_count()
     }

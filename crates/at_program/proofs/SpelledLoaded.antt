@@ -9,7 +9,7 @@ use Rattle.at_files.specs.BookFile.{book_of_records}
 use Rattle.at_files.specs.Payments.{payments_of}
 use Rattle.at_files.proofs.BookAccepted.{book_of_records-records_of_book}
 use Rattle.at_files.proofs.PaymentsAccepted.{payments_of-Pays}
-use Rattle.at_io.specs.declared.reading.TheConstants.{FILE_MAX}
+use Rattle.at_io.specs.Limits.{most_file_bytes}
 use Rattle.at_report.specs.Lines.{Word}
 use Rattle.at_program.specs.Words.{Form}
 use Rattle.at_program.specs.Loading.{Files, HoldsFile, Loaded, Spelled, SpellsBook, SpellsCalls, book_loaded, calls_loaded, fetched, files_loaded, loaded}
@@ -17,7 +17,7 @@ use Rattle.at_program.specs.Loading.{Files, HoldsFile, Loaded, Spelled, SpellsBo
 -- a file that is there and not too long is fetched
 fetched-HoldsFile : (files : Files) (name : Word) (bytes : List ℕ) (number : ℕ) → HoldsFile files name bytes → fetched (files name) number ≡ Ok bytes
 fetched-HoldsFile files name bytes number held =
-    let size : nat_lt FILE_MAX (length bytes) ≡ false = let size = held.size in grind (arith, nat_tests) in
+    let size : nat_lt most_file_bytes (length bytes) ≡ false = let size = held.size in grind (arith, nat_tests) in
     rw (held.there, size) refl
 
 book_loaded-SpellsBook : (files : Files) (name : Word) (b : BookTerms) (names : NameList) → SpellsBook files name b names → book_loaded files name ≡ Ok (record { book = b; names = names })

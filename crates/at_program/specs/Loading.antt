@@ -10,13 +10,13 @@ use Rattle.at_files.specs.BookFile.{book_of_records, Spells}
 use Rattle.at_files.specs.Payments.{payments_of, Pays}
 use Rattle.at_files.specs.declared.book_fault.BadBook.{BadBook}
 use Rattle.at_files.specs.declared.payments_fault.BadPayments.{BadPayments}
-use Rattle.at_io.specs.declared.reading.TheConstants.{FILE_MAX}
+use Rattle.at_io.specs.Limits.{most_file_bytes}
 use Rattle.at_report.specs.declared.status.Status.{Status}
 use Rattle.at_report.specs.declared.status.Status.TheVariants as status
 use Rattle.at_report.specs.declared.status.UsageFault.TheVariants as usage
 use Rattle.std.specs.Global.{Global}
 use Rattle.at_ledger.specs.Call.{IsCallOn}
-use Rattle.at_files.specs.declared.payments_fault.TheConstants.{CALLS_MAX}
+use Rattle.at_files.specs.Limits.{most_calls}
 use Rattle.at_report.specs.Lines.{Word}
 use Rattle.at_program.specs.Words.{Form}
 use Rattle.at_program.specs.declared.loading.Loaded as program
@@ -28,7 +28,7 @@ Files = Word → Option (List ℕ)
 -- the bytes of the file with this number, which has to be there and not too long
 abbrev pub fetched : Option (List ℕ) → ℕ → Result (List ℕ) Status
 fetched None number = Err (status.ReadFault number)
-fetched (Some bytes) number = if nat_lt FILE_MAX (length bytes) then Err (status.TooLong number) else Ok bytes
+fetched (Some bytes) number = if nat_lt most_file_bytes (length bytes) then Err (status.TooLong number) else Ok bytes
 
 -- the book of a file's bytes, with its names
 abbrev pub book_read : Result NamedBook BadBook → Result NamedBook Status
@@ -110,7 +110,7 @@ pub record MayReach (tells : Bool) (files : Files) (form : Form) (file : ℕ) : 
 -- the file is there and not too long, and these are its bytes
 pub record HoldsFile (files : Files) (name : Word) (bytes : List ℕ) : Type 0 where
   pub there : files name ≡ Some bytes
-  pub size : length bytes ≤ FILE_MAX
+  pub size : length bytes ≤ most_file_bytes
 
 -- the file of this name spells the book and its names
 pub record SpellsBook (files : Files) (name : Word) (b : BookTerms) (names : NameList) : Type 0 where
@@ -143,7 +143,7 @@ pub record Spelled (files : Files) (form : Form) (l : Loaded) : Type 0 where
 -- the calls are of the book's accounts, and not too many
 pub record IsFileOn (accounts : ℕ) (calls : List Call) : Type 0 where
   pub known : All (IsCallOn accounts) calls
-  pub few : length calls ≤ CALLS_MAX
+  pub few : length calls ≤ most_calls
 
 -- the calls of each file, as the program holds them
 abbrev pub calls_of : List (Vec Call Global) → List (List Call)

@@ -8,7 +8,7 @@ use Rattle.at_program.specs.declared.words.Form as words
 use Rattle.at_program.specs.declared.words.Command.{Command}
 use Rattle.at_program.specs.declared.words.Command.TheVariants.{Run, Check}
 use Rattle.at_program.specs.declared.words.Making.{Making}
-use Rattle.at_program.specs.declared.words.TheConstants.{MADE_CALLS_MAX, MADE_PROCESSES_MAX}
+use Rattle.at_program.specs.Limits.{most_made_calls, most_made_processes}
 
 -- a command, the name of the book, and the names of the payment files in process order
 pub record Form : Type 0 where
@@ -50,6 +50,6 @@ making_of None processes calls = None
 -- the words of `make`: the command, any number, the number of processes, and that of the calls of each
 abbrev pub make_of : List Word → Option Making
 make_of (word ∷ first ∷ processes ∷ calls ∷ []) =
-    if bytes_eq word (codes "make") then making_of (number_of first) (within MADE_PROCESSES_MAX (number_of processes)) (within MADE_CALLS_MAX (number_of calls))
+    if bytes_eq word (codes "make") then making_of (number_of first) (within most_made_processes (number_of processes)) (within most_made_calls (number_of calls))
     else None
 make_of words = None

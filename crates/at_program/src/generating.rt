@@ -1,6 +1,7 @@
 //! The book and the calls that a number gives.
 
 ghost use Rattle.std.specs.Prelude.{◌≡◌, ◌+◌, ◌*◌, ◌<◌, ◌≤◌, None, length, All, IfOk, OnOk};
+ghost use Rattle.at_program.specs.Limits.{most_made_processes};
 ghost use Rattle.std.specs.List.{range_with_len};
 ghost use Rattle.at_ledger.specs.Book.{IsBook};
 ghost use Rattle.at_ledger.specs.Draft.{account_fault, terms_with, with_account};
@@ -41,7 +42,7 @@ impl Draws {
 
     /// The next call of the process.
     fn call(&mut self, processes: u32, process: u32) -> Call
-        requires { processes ≤ 8 }
+        requires { processes ≤ most_made_processes }
         ensures call { result ≡ call_drawn processes process self.old.state }
         ensures state { self.new.state ≡ state_after_call self.old.state }
     {
@@ -65,7 +66,7 @@ impl Draws {
         process: u32,
         calls: u32,
     ) -> Result<Vec<Call>, AllocError>
-        requires { processes ≤ 8 }
+        requires { processes ≤ most_made_processes }
         ensures calls { IfOk result (λ file. file.items ≡ calls_drawn processes process calls self.old.state) }
         ensures state { OnOk result (self.new.state ≡ state_after_calls self.old.state calls) }
     {
@@ -138,7 +139,7 @@ fn draw_files(
     processes: u32,
     calls: u32,
 ) -> Result<Vec<Vec<Call>>, AllocError>
-    requires { processes ≤ 8 }
+    requires { processes ≤ most_made_processes }
     ensures { IfOk result (λ files. calls_of files.items ≡ files_made first processes calls) }
 {
     let mut draws = Draws { state: first };

@@ -39,7 +39,7 @@ fn fetch_file<F: Shelf>(
     ensures numbered { (files : ℕ) → number ≤ files → IfErr result (HasFileNumbers files) }
 {
     let mut bytes = Vec::new(alloc);
-    match fetch(alloc, shelf, name, &mut bytes) {
+    match fetch(shelf, name, &mut bytes) {
         Ok(()) => Ok(bytes),
         Err(FetchError::Failed) => Err(Status::ReadFault { file: number }),
         Err(FetchError::TooLong) => Err(Status::TooLong { file: number }),

@@ -39,7 +39,7 @@ fn count_calls(loaded: &loading::Loaded) -> u32
     requires known { All (IsFileOn (length loaded.now.book.accounts)) (calls_of loaded.now.files.items) }
     ensures { result ≡ sum_by length (calls_of loaded.now.files.items) }
 {
-    let _ = loaded.book.accounts();
+    let _known = loaded.book.accounts();
     let mut calls = 0;
     for file in &loaded.files {
         calls += file.len() as u32;
@@ -85,7 +85,7 @@ fn files_text<F: Shelf>(
 }
 
 /// Writes the line of a refusal. A fault of the sink changes nothing: there is nobody left to tell.
-fn tell<E: Sink>(err: &mut E, status: &Status)
+pub fn tell<E: Sink>(err: &mut E, status: &Status)
     requires { status.now ≢ Status.Done }
     ensures later { E.faults err.old ≤ E.faults err.new }
     ensures as_told { E.tells err.new ≡ E.tells err.old }

@@ -55,7 +55,7 @@ schedule_cause schedule.Shape = codes "shape"
 schedule_cause schedule.Number = codes "number"
 schedule_cause schedule.UnknownProcess = codes "unknown process"
 
--- the cause of an fault of a file of deliveries
+-- the cause of a fault of a file of deliveries
 abbrev pub order_cause : OrderWhy → List ℕ
 order_cause order.TooManyDeliveries = codes "too many deliveries"
 order_cause order.Shape = codes "shape"
@@ -76,7 +76,7 @@ abbrev pub usage_text : UsageFault → List ℕ
 usage_text usage.Words = codes "usage: run BOOK PAY... | check BOOK PAY... | make NUMBER PROCESSES CALLS"
 usage_text (usage.Files wanted given) = codes "files: wanted " ++ decimal wanted ++ codes ", given " ++ decimal given
 
--- an fault in a file: its line and cause
+-- a fault in a file: its line and cause
 abbrev pub line_and_cause : ℕ → List ℕ → List ℕ
 line_and_cause line cause = codes ": line " ++ decimal line ++ codes ": " ++ cause
 

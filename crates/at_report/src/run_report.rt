@@ -92,8 +92,8 @@ pub fn report(
     ensures spells { IfOk result (λ text. (others : List Line) → length others < 2 ^ 64 → All (IsPrinted book.now) lines.now → All (IsPrinted book.now) others
         → text.items ≡ report_text book.now names.now others → lines.now ≡ others) }
 {
-    let _accounts = book.accounts();
-    let _lines = lines.len();
+    let _known = book.accounts();
+    let _known = lines.len();
     let text = write_report(alloc, book, names, lines)?;
     Ok(text)
 }

@@ -35,7 +35,10 @@ fn is_read(call: &Call) -> bool
 fn done_in(lines: &[Line]) -> u64
     ensures { result ≡ done_in lines.now }
 {
-    lines.iter().filter(|line| is_done_reply(line.reply)).count() as u64
+    lines
+        .iter()
+        .filter(|line| is_done_reply(line.reply))
+        .count() as u64
 }
 
 /// How many lines are reads.
