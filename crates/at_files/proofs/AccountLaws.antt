@@ -16,19 +16,20 @@ use Rattle.at_ledger.specs.Book.{BookTerms}
 use Rattle.at_ledger.specs.Draft.{account_fault, owners_fault, sums_fault, terms_with, with_account}
 use Rattle.at_ledger.specs.declared.draft.BookError.{BookError}
 use Rattle.at_ledger.specs.declared.draft.BookError.TheVariants.{OwnersNotRising, TooManyAccounts, TooManyOwners}
-use Rattle.at_ledger.specs.declared.draft.TheConstants.{ACCOUNTS_MAX, OWNERS_MAX}
+use Rattle.at_ledger.specs.Limits.{most_accounts, most_owners}
 use Rattle.at_ledger.proofs.Faults.{choice-none, option_or-none}
 use Rattle.at_ledger.proofs.Owners.{IsAccount-from_none}
-use Rattle.at_files.specs.Names.{AreFormed, AreNames, AreNamesOf, has_name, is_name, place_of}
-use Rattle.at_files.specs.Rows.{Fields, before, field_of, number_at, has_shape}
-use Rattle.at_files.specs.BookRecords.{NamedBook, and_then, named_terms, numbered_terms, numbers_of, owner_known, owners_named, pieces_of, with_name, with_named, with_named_row, with_plain_row, with_row, with_terms, within_limits}
+use Rattle.at_files.specs.Names.{AreFormed, AreNames, AreNamesOf, has_name, is_name, position_of}
+use Rattle.at_files.specs.Records.{Fields, before, field_of, number_at, has_shape}
+use Rattle.at_files.specs.BookRecords.{NamedBook, named_terms, numbered_terms, numbers_of, owner_known, owners_named, pieces_of, with_name, with_named, with_named_record, with_plain_record, with_account_record, with_terms, within_limits}
 use Rattle.at_files.specs.BookFile.{fields_of_account, owners_text}
 use Rattle.at_files.specs.declared.book_fault.BookWhy.{BookWhy}
 use Rattle.at_files.specs.declared.book_fault.BookWhy.TheVariants as why
-use Rattle.at_files.specs.declared.name_set.TheConstants.{NAME_MAX}
-use Rattle.at_files.proofs.NameLaws.{decimal-AreNames, decimals_below-more, has_name-decimals_below, known_version, place_of-Some}
+use Rattle.at_files.specs.Limits.{most_name_bytes}
+use Rattle.at_files.specs.Results.{and_then}
+use Rattle.at_files.proofs.NameLaws.{decimal-AreNames, decimals_below-more, has_name-decimals_below, known_version, position_of-Some}
 use Rattle.at_files.proofs.OwnerLaws.{pieces_of-some}
-use Rattle.at_files.proofs.RecordLaws.{length-has_shape, first-has_shape, four_fields, field_of-number_at}
+use Rattle.at_files.proofs.FieldLaws.{length-has_shape, first-has_shape, four_fields, field_of-number_at}
 
 -- a value came only where the one before it did
 pub record Leads {A B : Type 0} (r : Result A BookWhy) (more : A → Result B BookWhy) (last : B) : Type 0 where
@@ -75,9 +76,9 @@ map-name_in version processes (owner ∷ owners) are first known =
     ) refl
 
 -- an owner that follows others
-pub owner_known-ok : (account count least : ℕ) (place : Option ℕ) (owner : ℕ) → owner_known account count least place ≡ Ok owner → place ≡ Some owner
+pub owner_known-ok : (account count least : ℕ) (position : Option ℕ) (owner : ℕ) → owner_known account count least position ≡ Ok owner → position ≡ Some owner
 owner_known-ok account count least None owner h = absurd (cc)
-owner_known-ok account count least (Some n) owner h = by (nat_lt n least) (nat_le OWNERS_MAX count) h
+owner_known-ok account count least (Some n) owner h = by (nat_lt n least) (nat_le most_owners count) h
   where
     by : (low many : Bool) → (if low then Err (why.Book (OwnersNotRising account)) else if many then Err (why.Book (TooManyOwners account)) else Ok n) ≡ Ok owner → Some n ≡ Some owner
     by true many is = absurd (cc)
@@ -93,10 +94,10 @@ pieces-owners_named : (processes : List (List ℕ)) (account count least : ℕ) 
 unfolding owners_named
 pieces-owners_named processes account count least [] owners h = let none : [] ≡ owners = cc in rw (← none) refl
 pieces-owners_named processes account count least (piece ∷ pieces) owners h =
-    let first = and_then-leads (owner_known account count least (place_of processes piece))
+    let first = and_then-leads (owner_known account count least (position_of processes piece))
     (λ owner. and_then (owners_named processes account (count + 1) (owner + 1) pieces) (λ more. Ok (owner ∷ more))) owners h in
     let later = and_then-leads (owners_named processes account (count + 1) (first.value + 1) pieces) (λ more. Ok (first.value ∷ more)) owners first.later in
-    let at = place_of-Some processes piece first.value (owner_known-ok account count least (place_of processes piece) first.value first.is) in
+    let at = position_of-Some processes piece first.value (owner_known-ok account count least (position_of processes piece) first.value first.is) in
     let whole : first.value ∷ later.value ≡ owners = let is = later.later in cc in
     subst (λ os. piece ∷ pieces ≡ map (name_in processes) os) whole
     (cons_same (sym at.1) (pieces-owners_named processes account (count + 1) (first.value + 1) pieces later.value later.is))
@@ -147,7 +148,7 @@ with_name-added names more name h = by (is_name name) (has_name names name) refl
     by true false e f is = record { form = e; new = f; more_is = let same : names ++ name ∷ [] ≡ more = cc in sym same }
 
 AreNamesOf-with_named : (b : NamedBook) (name : List ℕ) (t : AccountTerms) → AreNamesOf b.book b.names → AreNames b.names.version (b.names.accounts ++ name ∷ [])
-    → length b.book.accounts < ACCOUNTS_MAX → AreNamesOf (with_named b name t).book (with_named b name t).names
+    → length b.book.accounts < most_accounts → AreNamesOf (with_named b name t).book (with_named b name t).names
 AreNamesOf-with_named b name t are formed room = record {
   processes = are.processes;
   accounts = length_push b.names.accounts name ∙ ap (λ (n : ℕ). n + 1) are.accounts ∙ sym (length_push b.book.accounts t);
@@ -168,33 +169,33 @@ pub record Adds (b : NamedBook) (fields : Fields) (whole : NamedBook) : Type 0 w
 
 -- the parts of an account without a fault
 record IsFree (b : BookTerms) (t : AccountTerms) : Type 0 where
-  room : length b.accounts < ACCOUNTS_MAX
+  room : length b.accounts < most_accounts
   known : All (λ owner. owner < b.processes) t.owners
 
 IsFree-account_fault : (b : BookTerms) (t : AccountTerms) → account_fault b t ≡ None → IsFree b t
 IsFree-account_fault b t none =
-    let room = choice-none (nat_le ACCOUNTS_MAX (length b.accounts)) TooManyAccounts _ none in
+    let room = choice-none (nat_le most_accounts (length b.accounts)) TooManyAccounts _ none in
     let both = option_or-none (owners_fault b.processes (length b.accounts) 0 0 t.owners) (sums_fault b t) room.1 in
     record {
-      room = let test : nat_le ACCOUNTS_MAX (length b.accounts) ≡ false = room.0 in grind (arith, nat_tests);
+      room = let test : nat_le most_accounts (length b.accounts) ≡ false = room.0 in grind (arith, nat_tests);
       known = (IsAccount-from_none b.processes (length b.accounts) t.opening t.owners both.0).known;
     }
 
 -- the parts of an account of version 1
-pub record IsNumbered (account : ℕ) (id opening : Option ℕ) (owners : Option (List ℕ)) (t : AccountTerms) : Type 0 where
+pub record IsNextNumbered (account : ℕ) (id opening : Option ℕ) (owners : Option (List ℕ)) (t : AccountTerms) : Type 0 where
   pub id_is : id ≡ Some account
   pub opening_is : opening ≡ Some t.opening
   pub owners_are : owners ≡ Some t.owners
 
-pub numbered_terms-IsNumbered : (account : ℕ) (id opening : Option ℕ) (owners : Option (List ℕ)) (t : AccountTerms) → numbered_terms account id opening owners ≡ Ok t
-    → IsNumbered account id opening owners t
-numbered_terms-IsNumbered account None opening owners t h = absurd (cc)
-numbered_terms-IsNumbered account (Some id) None owners t h = absurd (cc)
-numbered_terms-IsNumbered account (Some id) (Some opening) None t h = absurd (cc)
-numbered_terms-IsNumbered account (Some id) (Some opening) (Some owners) t h = by (id == account) refl h
+pub numbered_terms-IsNextNumbered : (account : ℕ) (id opening : Option ℕ) (owners : Option (List ℕ)) (t : AccountTerms) → numbered_terms account id opening owners ≡ Ok t
+    → IsNextNumbered account id opening owners t
+numbered_terms-IsNextNumbered account None opening owners t h = absurd (cc)
+numbered_terms-IsNextNumbered account (Some id) None owners t h = absurd (cc)
+numbered_terms-IsNextNumbered account (Some id) (Some opening) None t h = absurd (cc)
+numbered_terms-IsNextNumbered account (Some id) (Some opening) (Some owners) t h = by (id == account) refl h
   where
     by : (next : Bool) → (id == account) ≡ next → (if next then Ok (terms_with opening owners) else Err why.AccountOrder) ≡ Ok t
-        → IsNumbered account (Some id) (Some opening) (Some owners) t
+        → IsNextNumbered account (Some id) (Some opening) (Some owners) t
     by false e is = absurd (cc)
     by true e is =
         let same : terms_with opening owners ≡ t = cc in
@@ -221,13 +222,13 @@ with_terms-adds b fields whole t shape are opening owners formed h =
       named = subst P both.1 (AreNamesOf-with_named b (field_of fields 1) t are formed free.room);
     }
 
-pub with_plain_row-adds : (b : NamedBook) (fields : Fields) (whole : NamedBook) → has_shape (codes "account") 4 fields ≡ true → AreNamesOf b.book b.names
-    → b.names.version ≡ 1 → with_plain_row b fields ≡ Ok whole → Adds b fields whole
-with_plain_row-adds b fields whole shape are first h =
+pub with_plain_record-adds : (b : NamedBook) (fields : Fields) (whole : NamedBook) → has_shape (codes "account") 4 fields ≡ true → AreNamesOf b.book b.names
+    → b.names.version ≡ 1 → with_plain_record b fields ≡ Ok whole → Adds b fields whole
+with_plain_record-adds b fields whole shape are first h =
     let leads = and_then-leads (numbered_terms (length b.book.accounts) (number_at fields 1) (number_at fields 2) (numbers_of (pieces_of (field_of fields 3))))
     (with_terms b (field_of fields 1)) whole h in
     let t = leads.value in
-    let is = numbered_terms-IsNumbered (length b.book.accounts) (number_at fields 1) (number_at fields 2) (numbers_of (pieces_of (field_of fields 3))) t leads.is in
+    let is = numbered_terms-IsNextNumbered (length b.book.accounts) (number_at fields 1) (number_at fields 2) (numbers_of (pieces_of (field_of fields 3))) t leads.is in
     let free = IsFree-account_fault b.book t (within_limits-ok (account_fault b.book t) (with_named b (field_of fields 1) t) whole leads.later).0 in
     let pieces = pieces-numbers_of (pieces_of (field_of fields 3)) t.owners is.owners_are in
     let name : field_of fields 1 ≡ decimal (length b.names.accounts) = field_of-number_at fields 1 (length b.book.accounts) is.id_is ∙ ap decimal (sym are.accounts) in
@@ -254,9 +255,9 @@ named_terms-IsNamed processes account (Some opening) text t h =
       text_is = text-pieces_of text (map (name_in processes) leads.value) (pieces-owners_named processes account 0 0 (pieces_of text) leads.value leads.is);
     })
 
-pub with_named_row-adds : (b : NamedBook) (fields : Fields) (whole : NamedBook) → has_shape (codes "account") 4 fields ≡ true → AreNamesOf b.book b.names
-    → b.names.version ≡ 2 → with_named_row b fields ≡ Ok whole → Adds b fields whole
-with_named_row-adds b fields whole shape are second h =
+pub with_named_record-adds : (b : NamedBook) (fields : Fields) (whole : NamedBook) → has_shape (codes "account") 4 fields ≡ true → AreNamesOf b.book b.names
+    → b.names.version ≡ 2 → with_named_record b fields ≡ Ok whole → Adds b fields whole
+with_named_record-adds b fields whole shape are second h =
     let name = and_then-leads (with_name b.names.accounts (field_of fields 1))
     (λ names. and_then (named_terms b.names.processes (length b.book.accounts) (number_at fields 2) (field_of fields 3)) (with_terms b (field_of fields 1))) whole h in
     let added = with_name-added b.names.accounts name.value (field_of fields 1) name.is in
@@ -265,33 +266,33 @@ with_named_row-adds b fields whole shape are second h =
     with_terms-adds b fields whole leads.value shape are is.opening_is is.text_is
     (AreNames-name b.names.version b.names.accounts (field_of fields 1) are.formed.accounts second added.form added.new) leads.later
 
-pub with_row-adds : (b : NamedBook) (fields : Fields) (whole : NamedBook) → AreNamesOf b.book b.names → with_row b fields ≡ Ok whole → Adds b fields whole
-with_row-adds b fields whole are h = by (nat_le ACCOUNTS_MAX (length b.book.accounts)) (has_shape (codes "account") 4 fields) (b.names.version == 2) refl refl h
+pub with_account_record-adds : (b : NamedBook) (fields : Fields) (whole : NamedBook) → AreNamesOf b.book b.names → with_account_record b fields ≡ Ok whole → Adds b fields whole
+with_account_record-adds b fields whole are h = by (nat_le most_accounts (length b.book.accounts)) (has_shape (codes "account") 4 fields) (b.names.version == 2) refl refl h
   where
     first : (b.names.version == 2) ≡ false → b.names.version ≡ 1
     first other = elim (known_version b.names.version b.names.accounts are.formed.accounts) [ inl is ↦ is | inr is ↦ grind (arith, nat_tests) ]
 
     by : (full shape named : Bool) → has_shape (codes "account") 4 fields ≡ shape → (b.names.version == 2) ≡ named
         → (if full then Err (why.Book TooManyAccounts)
-        else if shape then (if named then with_named_row b fields else with_plain_row b fields) else Err why.Shape) ≡ Ok whole → Adds b fields whole
+        else if shape then (if named then with_named_record b fields else with_plain_record b fields) else Err why.Shape) ≡ Ok whole → Adds b fields whole
     by true shape named e f is = absurd (cc)
     by false false named e f is = absurd (cc)
-    by false true true e f is = with_named_row-adds b fields whole e are (eqb-true b.names.version 2 f) is
-    by false true false e f is = with_plain_row-adds b fields whole e are (first f) is
+    by false true true e f is = with_named_record-adds b fields whole e are (eqb-true b.names.version 2 f) is
+    by false true false e f is = with_plain_record-adds b fields whole e are (first f) is
 
 -- a book that isn't of version 2 is of version 1
 pub first_version : (b : NamedBook) → AreNamesOf b.book b.names → ¬ (b.names.version ≡ 2) → b.names.version ≡ 1
 first_version b are other = elim (known_version b.names.version b.names.accounts are.formed.accounts) [ inl is ↦ is | inr is ↦ absurd (other is) ]
 
 -- what the parts of a record of version 1 make
-pub with_plain_row-built : (b : NamedBook) (fields : Fields) (t : AccountTerms) (book : BookTerms) (names : List (List ℕ)) (added : Bool) → AreNamesOf b.book b.names
+pub with_plain_record-built : (b : NamedBook) (fields : Fields) (t : AccountTerms) (book : BookTerms) (names : List (List ℕ)) (added : Bool) → AreNamesOf b.book b.names
     → b.names.version ≡ 1
     → numbered_terms (length b.book.accounts) (number_at fields 1) (number_at fields 2) (numbers_of (pieces_of (field_of fields 3))) ≡ Ok t
     → within_limits (account_fault b.book t) (with_account b.book t) ≡ Ok book → added ≡ not (has_name b.names.accounts (field_of fields 1))
     → names ≡ (if added then b.names.accounts ++ field_of fields 1 ∷ [] else b.names.accounts)
-    → with_plain_row b fields ≡ Ok (record { book = book; names = record b.names { accounts = names } })
-with_plain_row-built b fields t book names added are first terms limits new all =
-    let is = numbered_terms-IsNumbered (length b.book.accounts) (number_at fields 1) (number_at fields 2) (numbers_of (pieces_of (field_of fields 3))) t terms in
+    → with_plain_record b fields ≡ Ok (record { book = book; names = record b.names { accounts = names } })
+with_plain_record-built b fields t book names added are first terms limits new all =
+    let is = numbered_terms-IsNextNumbered (length b.book.accounts) (number_at fields 1) (number_at fields 2) (numbers_of (pieces_of (field_of fields 3))) t terms in
     let both = within_limits-ok (account_fault b.book t) (with_account b.book t) book limits in
     let name : field_of fields 1 ≡ decimal (length b.names.accounts) = field_of-number_at fields 1 (length b.book.accounts) is.id_is ∙ ap decimal (sym are.accounts) in
     let absent = absent_plain b.names.version b.names.accounts (field_of fields 1) are.formed.accounts first (omega (arith, are.formed.few_accounts)) name in
@@ -306,9 +307,9 @@ with_plain_row-built b fields t book names added are first terms limits new all 
         at (inl (v, formed)) = rw is (rw (← formed) at (has_name-decimals_below (length xs) small))
 
 -- the name of an account of version 1 is short
-pub length-numbered : (account : ℕ) (fields : Fields) (opening : Option ℕ) (owners : Option (List ℕ)) (t : AccountTerms) → account < ACCOUNTS_MAX
-    → numbered_terms account (number_at fields 1) opening owners ≡ Ok t → length (field_of fields 1) ≤ NAME_MAX
+pub length-numbered : (account : ℕ) (fields : Fields) (opening : Option ℕ) (owners : Option (List ℕ)) (t : AccountTerms) → account < most_accounts
+    → numbered_terms account (number_at fields 1) opening owners ≡ Ok t → length (field_of fields 1) ≤ most_name_bytes
 length-numbered account fields opening owners t room terms =
-    let is = numbered_terms-IsNumbered account (number_at fields 1) opening owners t terms in
+    let is = numbered_terms-IsNextNumbered account (number_at fields 1) opening owners t terms in
     rw (field_of-number_at fields 1 account is.id_is)
     (let short : length (decimal account) ≤ 4 = length-decimal-le 4 account (omega arith) (omega arith) (omega arith) in omega arith)

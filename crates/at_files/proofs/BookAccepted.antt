@@ -20,19 +20,19 @@ use Rattle.at_ledger.specs.Account.{AccountTerms, rounds_room}
 use Rattle.at_ledger.specs.Book.{BookTerms, IsBook, rounds_of, total_of}
 use Rattle.at_ledger.specs.Draft.{owner_fault, owners_fault, sums_fault, account_fault, accounts_fault, with_account, book_without_accounts}
 use Rattle.at_ledger.specs.declared.draft.BookError.TheVariants.{NoAccount, OwnerOutOfRange, OwnersNotRising, TooManyAccounts, TooManyOwners, RoundsOverLimit, TotalOverLimit}
-use Rattle.at_ledger.specs.declared.draft.TheConstants.{PROCESSES_MAX, ACCOUNTS_MAX, OWNERS_MAX, ROUNDS_MAX}
+use Rattle.at_ledger.specs.Limits.{most_accounts, most_owners, most_processes, most_rounds}
 use Rattle.at_ledger.proofs.Faults.{choice-none, option_or-none}
 use Rattle.at_ledger.proofs.Owners.{IsAccount-from_none}
 use Rattle.at_files.specs.Names.{AreFormed, AreNames, AreNamesOf, NameList, has_name, is_name, is_name_byte}
-use Rattle.at_files.specs.Rows.{Fields}
-use Rattle.at_files.specs.BookRecords.{NamedBook, book_begun, limits_of, numbers_of, owners_named, pieces_of, processes_of, version_of, with_named, with_named_row, with_plain_row, with_processes, with_row}
-use Rattle.at_files.specs.BookFile.{accounts_from, book_at_end, book_of_rows, fields_of_account, fields_of_processes, owners_text, account_rows, rows_of_book, Spells}
+use Rattle.at_files.specs.Records.{Fields}
+use Rattle.at_files.specs.BookRecords.{NamedBook, book_begun, limits_of, numbers_of, owners_named, pieces_of, processes_of, version_of, with_named, with_named_record, with_plain_record, with_processes, with_account_record}
+use Rattle.at_files.specs.BookFile.{accounts_from, book_at_end, book_of_records, fields_of_account, fields_of_processes, owners_text, account_records, records_of_book, Spells}
 use Rattle.at_files.specs.declared.book_fault.BadBook.{BadBook}
 use Rattle.at_files.specs.declared.book_fault.ReadBookFault.{ReadBookFault}
 use Rattle.at_files.specs.declared.book_fault.ReadBookFault.TheVariants.{Bad, NoMemory}
 use Rattle.at_files.proofs.AccountLaws.{map-name_in, name_in}
 use Rattle.at_files.proofs.BookLimits.{accounts_fault-IsBook, limits_fault-within}
-use Rattle.at_files.proofs.NameLaws.{decimal-AreNames, known_version, name-bytes, name-some, name_byte-above, place_of-at}
+use Rattle.at_files.proofs.NameLaws.{decimal-AreNames, known_version, name-bytes, name-some, name_byte-above, position_of-at}
 use Rattle.at_files.proofs.OwnerLaws.{pieces_of-some}
 
 -- a text that holds no space, and isn't empty
@@ -113,22 +113,22 @@ owners_named-names processes account count least (owner ∷ owners) distinct non
     let both = option_or-none (owner_fault (length processes) account count least owner) (owners_fault (length processes) account (count + 1) (owner + 1) owners) none in
     let range = choice-none (nat_le (length processes) owner) (OwnerOutOfRange account) _ both.0 in
     let rising = choice-none (nat_lt owner least) (OwnersNotRising account) _ range.1 in
-    let few = choice-none (nat_le OWNERS_MAX count) (TooManyOwners account) None rising.1 in
+    let few = choice-none (nat_le most_owners count) (TooManyOwners account) None rising.1 in
     let within : owner < length processes = let test : nat_le (length processes) owner ≡ false = range.0 in grind (arith, nat_tests) in
-    rw (place_of-at processes owner distinct within, rising.0, few.0, owners_named-names processes account (count + 1) (owner + 1) owners distinct both.1) refl
+    rw (position_of-at processes owner distinct within, rising.0, few.0, owners_named-names processes account (count + 1) (owner + 1) owners distinct both.1) refl
 
 -- what an account without a fault keeps
 record IsGood (b : BookTerms) (t : AccountTerms) : Type 0 where
-  room : nat_le ACCOUNTS_MAX (length b.accounts) ≡ false
+  room : nat_le most_accounts (length b.accounts) ≡ false
   opening : Fits64 t.opening
   known : All (λ owner. owner < b.processes) t.owners
   owners : owners_fault b.processes (length b.accounts) 0 0 t.owners ≡ None
 
 IsGood-account_fault : (b : BookTerms) (t : AccountTerms) → account_fault b t ≡ None → IsGood b t
 IsGood-account_fault b t none =
-    let room = choice-none (nat_le ACCOUNTS_MAX (length b.accounts)) TooManyAccounts _ none in
+    let room = choice-none (nat_le most_accounts (length b.accounts)) TooManyAccounts _ none in
     let both = option_or-none (owners_fault b.processes (length b.accounts) 0 0 t.owners) (sums_fault b t) room.1 in
-    let rounds = choice-none (nat_lt ROUNDS_MAX (rounds_of b + rounds_room b.request_room t)) (RoundsOverLimit (length b.accounts)) _ both.1 in
+    let rounds = choice-none (nat_lt most_rounds (rounds_of b + rounds_room b.request_room t)) (RoundsOverLimit (length b.accounts)) _ both.1 in
     let total = choice-none (nat_le (2 ^ 64) (total_of b + t.opening)) (TotalOverLimit (length b.accounts)) None rounds.1 in
     record {
       room = room.0;
@@ -179,14 +179,14 @@ AreNext-AreNames version names (name ∷ later) are = (
 record IsReady (b : NamedBook) : Type 0 where
   processes : AreNames b.names.version b.names.processes
   count : length b.names.processes ≡ b.book.processes
-  few : b.book.processes ≤ PROCESSES_MAX
+  few : b.book.processes ≤ most_processes
   same : length b.names.accounts ≡ length b.book.accounts
 
-with_plain_row-fields : (b : NamedBook) (name : List ℕ) (t : AccountTerms) → IsReady b → IsGood b.book t → account_fault b.book t ≡ None → b.names.version ≡ 1
-    → name ≡ decimal (length b.names.accounts) → with_plain_row b (fields_of_account b.names.processes name t) ≡ Ok (with_named b name t)
+with_plain_record-fields : (b : NamedBook) (name : List ℕ) (t : AccountTerms) → IsReady b → IsGood b.book t → account_fault b.book t ≡ None → b.names.version ≡ 1
+    → name ≡ decimal (length b.names.accounts) → with_plain_record b (fields_of_account b.names.processes name t) ≡ Ok (with_named b name t)
 unfolding field_at
-with_plain_row-fields b name t ready good none first is =
-    let fits : Fits64 (length b.book.accounts) = let room : nat_le ACCOUNTS_MAX (length b.book.accounts) ≡ false = good.room in grind (arith, nat_tests) in
+with_plain_record-fields b name t ready good none first is =
+    let fits : Fits64 (length b.book.accounts) = let room : nat_le most_accounts (length b.book.accounts) ≡ false = good.room in grind (arith, nat_tests) in
     let id : number_of name ≡ Some (length b.book.accounts) = rw (is, ready.same) (number_of-decimal (length b.book.accounts) fits) in
     let next : (length b.book.accounts == length b.book.accounts) ≡ true = eq-eqb (length b.book.accounts) (length b.book.accounts) refl in
     let known : All (λ owner. owner < length b.names.processes) t.owners = subst (λ (n : ℕ). All (λ owner. owner < n) t.owners) (sym ready.count) good.known in
@@ -198,10 +198,10 @@ with_plain_row-fields b name t ready good none first is =
     ap numbers_of pieces ∙ numbers_of-decimals t.owners (λ k d within. let below = known k d within in omega arith) in
     rw (id, number_of-decimal t.opening good.opening, owners, next, none) refl
 
-with_named_row-fields : (b : NamedBook) (name : List ℕ) (t : AccountTerms) → IsReady b → IsGood b.book t → account_fault b.book t ≡ None
-    → is_name name ≡ true → has_name b.names.accounts name ≡ false → with_named_row b (fields_of_account b.names.processes name t) ≡ Ok (with_named b name t)
+with_named_record-fields : (b : NamedBook) (name : List ℕ) (t : AccountTerms) → IsReady b → IsGood b.book t → account_fault b.book t ≡ None
+    → is_name name ≡ true → has_name b.names.accounts name ≡ false → with_named_record b (fields_of_account b.names.processes name t) ≡ Ok (with_named b name t)
 unfolding field_at
-with_named_row-fields b name t ready good none form new =
+with_named_record-fields b name t ready good none form new =
     let known : All (λ owner. owner < length b.names.processes) t.owners = subst (λ (n : ℕ). All (λ owner. owner < n) t.owners) (sym ready.count) good.known in
     let few : length b.names.processes < 2 ^ 64 = let same = ready.count in let small = ready.few in omega arith in
     let pieces : pieces_of (owners_text b.names.processes t.owners) ≡ map (name_in b.names.processes) t.owners =
@@ -213,17 +213,17 @@ with_named_row-fields b name t ready good none form new =
     ∙ owners_named-names b.names.processes (length b.book.accounts) 0 0 t.owners ready.processes.distinct free in
     rw (form, new, number_of-decimal t.opening good.opening, owners, none) refl
 
-with_row-fields : (b : NamedBook) (name : List ℕ) (t : AccountTerms) → IsReady b → account_fault b.book t ≡ None → IsNextName b.names.version b.names.accounts name
-    → with_row b (fields_of_account b.names.processes name t) ≡ Ok (with_named b name t)
+with_account_record-fields : (b : NamedBook) (name : List ℕ) (t : AccountTerms) → IsReady b → account_fault b.book t ≡ None → IsNextName b.names.version b.names.accounts name
+    → with_account_record b (fields_of_account b.names.processes name t) ≡ Ok (with_named b name t)
 unfolding field_at
-with_row-fields b name t ready none (inl (first, is)) =
+with_account_record-fields b name t ready none (inl (first, is)) =
     let good = IsGood-account_fault b.book t none in
     let test : (b.names.version == 2) ≡ false = grind (arith, nat_tests) in
-    rw (good.room, test) (with_plain_row-fields b name t ready good none first is)
-with_row-fields b name t ready none (inr (second, form, new)) =
+    rw (good.room, test) (with_plain_record-fields b name t ready good none first is)
+with_account_record-fields b name t ready none (inr (second, form, new)) =
     let good = IsGood-account_fault b.book t none in
     let test : (b.names.version == 2) ≡ true = eq-eqb b.names.version 2 second in
-    rw (good.room, test) (with_named_row-fields b name t ready good none form new)
+    rw (good.room, test) (with_named_record-fields b name t ready good none form new)
 
 -- a book with further accounts and their names
 abbrev with_all : NamedBook → List (List ℕ) → List AccountTerms → NamedBook
@@ -232,18 +232,18 @@ with_all b names ts = record {
   names = record b.names { accounts = b.names.accounts ++ names };
 }
 
-accounts_from-rows : (b : NamedBook) (names : List (List ℕ)) (ts : List AccountTerms) → length names ≡ length ts → IsReady b → AreNext b.names.version b.names.accounts names
-    → accounts_fault b.book ts ≡ None → accounts_from b (account_rows b.names.processes names ts) ≡ Ok (with_all b names ts)
-unfolding accounts_from account_rows accounts_fault AreNext
-accounts_from-rows b [] [] same ready next none =
+accounts_from-records : (b : NamedBook) (names : List (List ℕ)) (ts : List AccountTerms) → length names ≡ length ts → IsReady b → AreNext b.names.version b.names.accounts names
+    → accounts_fault b.book ts ≡ None → accounts_from b (account_records b.names.processes names ts) ≡ Ok (with_all b names ts)
+unfolding accounts_from account_records accounts_fault AreNext
+accounts_from-records b [] [] same ready next none =
     let some = choice-none (length b.book.accounts == 0) NoAccount None none in
     at_end b some.0 ∙ ap Ok (rw (append-nil b.book.accounts, append-nil b.names.accounts) refl)
   where
     at_end : (x : NamedBook) → (length x.book.accounts == 0) ≡ false → book_at_end x ≡ Ok x
     at_end x test = rw test refl
-accounts_from-rows b [] (t ∷ ts) same ready next none = absurd (omega arith)
-accounts_from-rows b (name ∷ names) [] same ready next none = absurd (omega arith)
-accounts_from-rows b (name ∷ names) (t ∷ ts) same ready next none =
+accounts_from-records b [] (t ∷ ts) same ready next none = absurd (omega arith)
+accounts_from-records b (name ∷ names) [] same ready next none = absurd (omega arith)
+accounts_from-records b (name ∷ names) (t ∷ ts) same ready next none =
     let both = option_or-none (account_fault b.book t) (accounts_fault (with_account b.book t) ts) none in
     let more : IsReady (with_named b name t) = record {
       processes = ready.processes;
@@ -252,8 +252,8 @@ accounts_from-rows b (name ∷ names) (t ∷ ts) same ready next none =
       same = length_push b.names.accounts name ∙ ap (λ (n : ℕ). n + 1) ready.same ∙ sym (length_push b.book.accounts t);
     } in
     rw (
-      with_row-fields b name t ready both.0 next.0,
-      accounts_from-rows (with_named b name t) names ts (omega arith) more next.1 both.1,
+      with_account_record-fields b name t ready both.0 next.0,
+      accounts_from-records (with_named b name t) names ts (omega arith) more next.1 both.1,
       append_assoc b.book.accounts (t ∷ []) ts,
       append_assoc b.names.accounts (name ∷ []) names,
     ) refl
@@ -264,15 +264,15 @@ unfolding field_at
 version_of-record version (inl first) = rw (first, decimal_digit 1 (omega arith)) refl
 version_of-record version (inr second) = rw (second, decimal_digit 2 (omega arith)) refl
 
-with_processes-next : (names later : List (List ℕ)) → AreNext 2 names later → length names + length later ≤ PROCESSES_MAX → with_processes names later ≡ Ok (names ++ later)
+with_processes-next : (names later : List (List ℕ)) → AreNext 2 names later → length names + length later ≤ most_processes → with_processes names later ≡ Ok (names ++ later)
 unfolding with_processes AreNext
 with_processes-next names [] next few = ap Ok (sym (append-nil names))
 with_processes-next names (name ∷ later) (inl (wrong, is), rest) few = absurd (omega arith)
 with_processes-next names (name ∷ later) (inr (second, form, new), rest) few =
-    let room : nat_le PROCESSES_MAX (length names) ≡ false = grind (arith, nat_tests) in
+    let room : nat_le most_processes (length names) ≡ false = grind (arith, nat_tests) in
     rw (room, form, new, with_processes-next (names ++ name ∷ []) later rest (omega (arith, length_push names name)), append_assoc names (name ∷ []) later) refl
 
-processes_of-record : (names : NameList) → AreNames names.version names.processes → 1 ≤ length names.processes → length names.processes ≤ PROCESSES_MAX
+processes_of-record : (names : NameList) → AreNames names.version names.processes → 1 ≤ length names.processes → length names.processes ≤ most_processes
     → processes_of names.version (fields_of_processes names) ≡ Ok names.processes
 unfolding field_at
 processes_of-record names are some few = by are.formed
@@ -296,7 +296,7 @@ limits_of-record : (b : BookTerms) (names : NameList) → IsBook b → length na
     ≡ Ok (book_begun names.version names.processes b.own_room b.request_room)
 unfolding field_at
 limits_of-record b names is count =
-    let few : length names.processes ≤ PROCESSES_MAX = let most = is.begun.few_processes in omega arith in
+    let few : length names.processes ≤ most_processes = let most = is.begun.few_processes in omega arith in
     let some : 1 ≤ length names.processes = let least = is.begun.some_process in omega arith in
     rw (
       number_of-decimal b.own_room (omega (arith, is.begun.own_room)),
@@ -305,16 +305,16 @@ limits_of-record b names is count =
     ) refl
 
 -- a book with its names, written out, is read back
-pub book_of_rows-rows_of_book : (b : BookTerms) (names : NameList) → IsBook b → AreNamesOf b names → book_of_rows (rows_of_book b names) ≡ Ok (record { book = b; names = names })
-book_of_rows-rows_of_book b names is are =
-    let few : length names.processes ≤ PROCESSES_MAX = let most = is.begun.few_processes in let count = are.processes in omega arith in
+pub book_of_records-records_of_book : (b : BookTerms) (names : NameList) → IsBook b → AreNamesOf b names → book_of_records (records_of_book b names) ≡ Ok (record { book = b; names = names })
+book_of_records-records_of_book b names is are =
+    let few : length names.processes ≤ most_processes = let most = is.begun.few_processes in let count = are.processes in omega arith in
     let some : 1 ≤ length names.processes = let least = is.begun.some_process in let count = are.processes in omega arith in
     let begun : NamedBook = book_begun names.version names.processes b.own_room b.request_room in
     let ready : IsReady begun = record { processes = are.formed.processes; count = refl; few = few; same = refl } in
     let free : accounts_fault (book_without_accounts (length names.processes) b.own_room b.request_room) b.accounts ≡ None =
     subst (λ (n : ℕ). accounts_fault (book_without_accounts n b.own_room b.request_room) b.accounts ≡ None) (sym are.processes) (accounts_fault-IsBook b is) in
-    let accounts : accounts_from begun (account_rows names.processes names.accounts b.accounts) ≡ Ok (with_all begun names.accounts b.accounts) =
-    accounts_from-rows begun names.accounts b.accounts are.accounts ready (AreNext-AreNames names.version [] names.accounts are.formed.accounts) free in
+    let accounts : accounts_from begun (account_records names.processes names.accounts b.accounts) ≡ Ok (with_all begun names.accounts b.accounts) =
+    accounts_from-records begun names.accounts b.accounts are.accounts ready (AreNext-AreNames names.version [] names.accounts are.formed.accounts) free in
     let whole : with_all begun names.accounts b.accounts ≡ record { book = b; names = names } =
     ap (λ (n : ℕ). record { book = record b { processes = n }; names = names }) are.processes in
     rw (
@@ -325,9 +325,9 @@ book_of_rows-rows_of_book b names is are =
     ) (ap Ok whole)
 
 -- a file that spells a book isn't refused
-pub Spells-not_bad : (b : BookTerms) (names : NameList) (rows : List Fields) (fault : ReadBookFault) → Spells rows b names
-    → ((bad : BadBook) → fault ≡ Bad bad → book_of_rows rows ≡ Err bad) → fault ≡ NoMemory
-Spells-not_bad b names rows NoMemory spells bads = refl
-Spells-not_bad b names rows (Bad bad) spells bads =
-    let wrong : ◌≡◌ {A = Result NamedBook BadBook} (Ok (record { book = b; names = names })) (Err bad) = sym (book_of_rows-rows_of_book b names spells.book spells.named) ∙ rw spells.spelled at (bads bad refl) in
+pub Spells-not_bad : (b : BookTerms) (names : NameList) (records : List Fields) (fault : ReadBookFault) → Spells records b names
+    → ((bad : BadBook) → fault ≡ Bad bad → book_of_records records ≡ Err bad) → fault ≡ NoMemory
+Spells-not_bad b names records NoMemory spells bads = refl
+Spells-not_bad b names records (Bad bad) spells bads =
+    let wrong : ◌≡◌ {A = Result NamedBook BadBook} (Ok (record { book = b; names = names })) (Err bad) = sym (book_of_records-records_of_book b names spells.book spells.named) ∙ rw spells.spelled at (bads bad refl) in
     absurd (cc)

@@ -6,28 +6,28 @@ use Rattle.std.proofs.lemmas.List.Sums.{sum_by-cons, sum_by_push}
 use Rattle.at_ledger.specs.Account.{AccountTerms, IsRisingFrom, rounds_room}
 use Rattle.at_ledger.specs.Book.{BookTerms, IsAccount, IsBook, rounds_of, total_of}
 use Rattle.at_ledger.specs.Draft.{limits_fault, owner_fault, owners_fault, account_fault, accounts_fault, with_account, book_without_accounts}
-use Rattle.at_ledger.specs.declared.draft.TheConstants.{PROCESSES_MAX, ACCOUNTS_MAX, OWNERS_MAX, OWN_ROOM_MAX, REQUEST_ROOM_MAX, ROUNDS_MAX}
+use Rattle.at_ledger.specs.Limits.{most_accounts, most_own_room, most_owners, most_processes, most_request_room, most_rounds}
 
-owner_fault-free : (processes account count least owner : ℕ) → owner < processes → least ≤ owner → count < OWNERS_MAX → owner_fault processes account count least owner ≡ None
+owner_fault-free : (processes account count least owner : ℕ) → owner < processes → least ≤ owner → count < most_owners → owner_fault processes account count least owner ≡ None
 owner_fault-free processes account count least owner known rising few =
     let one : nat_le processes owner ≡ false = grind (arith, nat_tests) in
     let two : nat_lt owner least ≡ false = grind (arith, nat_tests) in
-    let three : nat_le OWNERS_MAX count ≡ false = grind (arith, nat_tests) in
+    let three : nat_le most_owners count ≡ false = grind (arith, nat_tests) in
     rw (one, two, three) refl
 
 owners_fault-none : (processes account count least : ℕ) (owners : List ℕ) → All (λ owner. owner < processes) owners → IsRisingFrom least owners
-    → count + length owners ≤ OWNERS_MAX → owners_fault processes account count least owners ≡ None
+    → count + length owners ≤ most_owners → owners_fault processes account count least owners ≡ None
 unfolding owners_fault IsRisingFrom
 owners_fault-none processes account count least [] known rising few = refl
 owners_fault-none processes account count least (owner ∷ owners) known rising few =
     rw (owner_fault-free processes account count least owner (All-head (λ o. o < processes) owner owners known) rising.0 (omega arith))
     (owners_fault-none processes account (count + 1) (owner + 1) owners (All-tail (λ o. o < processes) owner owners known) rising.1 (omega arith))
 
-account_fault-none : (b : BookTerms) (t : AccountTerms) → length b.accounts < ACCOUNTS_MAX → IsAccount b.processes t
-    → rounds_of b + rounds_room b.request_room t ≤ ROUNDS_MAX → total_of b + t.opening < 2 ^ 64 → account_fault b t ≡ None
+account_fault-none : (b : BookTerms) (t : AccountTerms) → length b.accounts < most_accounts → IsAccount b.processes t
+    → rounds_of b + rounds_room b.request_room t ≤ most_rounds → total_of b + t.opening < 2 ^ 64 → account_fault b t ≡ None
 account_fault-none b t room is rounds total =
-    let one : nat_le ACCOUNTS_MAX (length b.accounts) ≡ false = grind (arith, nat_tests) in
-    let two : nat_lt ROUNDS_MAX (rounds_of b + rounds_room b.request_room t) ≡ false = grind (arith, nat_tests) in
+    let one : nat_le most_accounts (length b.accounts) ≡ false = grind (arith, nat_tests) in
+    let two : nat_lt most_rounds (rounds_of b + rounds_room b.request_room t) ≡ false = grind (arith, nat_tests) in
     let three : nat_le (2 ^ 64) (total_of b + t.opening) ≡ false = grind (arith, nat_tests) in
     let owners = owners_fault-none b.processes (length b.accounts) 0 0 t.owners is.known is.rising (omega (arith, is.few)) in
     rw (one, owners, two, three) refl
@@ -35,8 +35,8 @@ account_fault-none b t room is rounds total =
 -- what is left of a book to which accounts are still to be added
 record Fit (b : BookTerms) (ts : List AccountTerms) : Type 0 where
   accounts : All (IsAccount b.processes) ts
-  few : length b.accounts + length ts ≤ ACCOUNTS_MAX
-  rounds : rounds_of b + sum_by (rounds_room b.request_room) ts ≤ ROUNDS_MAX
+  few : length b.accounts + length ts ≤ most_accounts
+  rounds : rounds_of b + sum_by (rounds_room b.request_room) ts ≤ most_rounds
   total : total_of b + sum_by (λ t. t.opening) ts < 2 ^ 64
   some : 1 ≤ length b.accounts + length ts
 
@@ -75,13 +75,13 @@ accounts_fault-IsBook b is =
       some = omega (arith, is.some_account);
     })
 
-pub limits_fault-within : (processes own_room request_room : ℕ) → 1 ≤ processes → processes ≤ PROCESSES_MAX → 1 ≤ own_room → own_room ≤ OWN_ROOM_MAX
-    → 1 ≤ request_room → request_room ≤ REQUEST_ROOM_MAX → limits_fault processes own_room request_room ≡ None
+pub limits_fault-within : (processes own_room request_room : ℕ) → 1 ≤ processes → processes ≤ most_processes → 1 ≤ own_room → own_room ≤ most_own_room
+    → 1 ≤ request_room → request_room ≤ most_request_room → limits_fault processes own_room request_room ≡ None
 limits_fault-within processes own_room request_room some few one most any all =
     let none : (processes == 0) ≡ false = grind (arith, nat_tests) in
-    let many : nat_lt PROCESSES_MAX processes ≡ false = grind (arith, nat_tests) in
+    let many : nat_lt most_processes processes ≡ false = grind (arith, nat_tests) in
     let a : nat_le 1 own_room ≡ true = grind (arith, nat_tests) in
-    let b : nat_le own_room OWN_ROOM_MAX ≡ true = grind (arith, nat_tests) in
+    let b : nat_le own_room most_own_room ≡ true = grind (arith, nat_tests) in
     let c : nat_le 1 request_room ≡ true = grind (arith, nat_tests) in
-    let d : nat_le request_room REQUEST_ROOM_MAX ≡ true = grind (arith, nat_tests) in
+    let d : nat_le request_room most_request_room ≡ true = grind (arith, nat_tests) in
     rw (none, many, a, b, c, d) refl

@@ -6,17 +6,18 @@ use Rattle.csv.specs.Records.{field_at}
 use Rattle.at_ledger.specs.Account.{AccountTerms}
 use Rattle.at_ledger.specs.Book.{IsBook, BookTerms}
 use Rattle.at_ledger.specs.declared.draft.BookError.TheVariants.{NoAccount, NoProcess, TooManyProcesses}
-use Rattle.at_ledger.specs.declared.draft.TheConstants.{PROCESSES_MAX}
+use Rattle.at_ledger.specs.Limits.{most_processes}
 use Rattle.at_files.specs.Names.{NameList, AreNamesOf}
-use Rattle.at_files.specs.Rows.{Fields, field_of, has_shape}
-use Rattle.at_files.specs.BookRecords.{NamedBook, book_begun, counted_processes, limits_of, named_processes, processes_of, version_of, with_name, with_process, with_processes, with_row}
-use Rattle.at_files.specs.BookFile.{at_line, after, book_at_end, accounts_from, limits_from, processes_from, book_of_rows, account_rows, fields_of_processes, rows_of_book, Spells}
+use Rattle.at_files.specs.Records.{Fields, field_of, has_shape}
+use Rattle.at_files.specs.BookRecords.{NamedBook, book_begun, counted_processes, limits_of, named_processes, processes_of, version_of, with_name, with_process, with_processes, with_account_record}
+use Rattle.at_files.specs.BookFile.{at_line, book_at_end, accounts_from, limits_from, processes_from, book_of_records, account_records, fields_of_processes, records_of_book, Spells}
 use Rattle.at_files.specs.declared.book_fault.BookWhy.{BookWhy}
 use Rattle.at_files.specs.declared.book_fault.BookWhy.TheVariants as why
 use Rattle.at_files.specs.declared.book_fault.BadBook.{BadBook}
+use Rattle.at_files.specs.Results.{and_then}
 use Rattle.at_files.proofs.NameLaws.{length-decimals_below}
-use Rattle.at_files.proofs.RecordLaws.{length-has_shape, first-has_shape, two_fields, three_fields, field_of-number_at}
-use Rattle.at_files.proofs.AccountLaws.{Adds, and_then-leads, with_name-added, with_row-adds}
+use Rattle.at_files.proofs.FieldLaws.{length-has_shape, first-has_shape, two_fields, three_fields, field_of-number_at}
+use Rattle.at_files.proofs.AccountLaws.{Adds, and_then-leads, with_name-added, with_account_record-adds}
 use Rattle.at_files.proofs.BookWalk.{AreNamesOf-limits_of, AreNames-processes_of, HasRooms, counted_processes-AreCounted, limits_of-rooms, version_of-known}
 
 -- a book came only where the record gave a value, and the records after it the book
@@ -25,9 +26,9 @@ record Goes {A : Type 0} (r : Result A BookWhy) (more : A → Result NamedBook B
   is : r ≡ Ok value
   later : more value ≡ Ok whole
 
-after-goes : {A : Type 0} (line : ℕ) (r : Result A BookWhy) (more : A → Result NamedBook BadBook) (whole : NamedBook) → after (at_line line r) more ≡ Ok whole → Goes r more whole
-after-goes line (Ok x) more whole h = record { value = x; is = refl; later = h }
-after-goes line (Err w) more whole h = absurd (cc)
+and_then-goes : {A : Type 0} (line : ℕ) (r : Result A BookWhy) (more : A → Result NamedBook BadBook) (whole : NamedBook) → and_then (at_line line r) more ≡ Ok whole → Goes r more whole
+and_then-goes line (Ok x) more whole h = record { value = x; is = refl; later = h }
+and_then-goes line (Err w) more whole h = absurd (cc)
 
 -- a book with further accounts and their names
 abbrev with_all : NamedBook → List (List ℕ) → List AccountTerms → NamedBook
@@ -37,14 +38,14 @@ with_all b names ts = record {
 }
 
 -- the accounts of these records follow those of the book so far
-record Follows (b : NamedBook) (rows : List Fields) (whole : NamedBook) : Type 0 where
+record Follows (b : NamedBook) (records : List Fields) (whole : NamedBook) : Type 0 where
   names : List (List ℕ)
   accounts : List AccountTerms
   whole_is : whole ≡ with_all b names accounts
-  spelled : rows ≡ account_rows b.names.processes names accounts
+  spelled : records ≡ account_records b.names.processes names accounts
 
 Follows-none : (b whole : NamedBook) → book_at_end b ≡ Ok whole → Follows b [] whole
-unfolding account_rows
+unfolding account_records
 Follows-none b whole h = by (length b.book.accounts == 0) h
   where
     by : (none : Bool) → (if none then at_line 4 (Err (why.Book NoAccount)) else Ok b) ≡ Ok whole → Follows b [] whole
@@ -53,9 +54,9 @@ Follows-none b whole h = by (length b.book.accounts == 0) h
         let same : b ≡ whole = cc in
         record { names = []; accounts = []; whole_is = sym same ∙ rw (append-nil b.book.accounts, append-nil b.names.accounts) refl; spelled = refl }
 
-Follows-cons : (b more whole : NamedBook) (fields : Fields) (rows : List Fields) → Adds b fields more → Follows more rows whole → Follows b (fields ∷ rows) whole
-unfolding account_rows
-Follows-cons b more whole fields rows adds follows = record {
+Follows-cons : (b more whole : NamedBook) (fields : Fields) (records : List Fields) → Adds b fields more → Follows more records whole → Follows b (fields ∷ records) whole
+unfolding account_records
+Follows-cons b more whole fields records adds follows = record {
   names = adds.name ∷ follows.names;
   accounts = adds.account ∷ follows.accounts;
   whole_is =
@@ -66,17 +67,17 @@ Follows-cons b more whole fields rows adds follows = record {
         append_assoc b.names.accounts (adds.name ∷ []) follows.names,
       ) refl;
   spelled =
-      let later : rows ≡ account_rows b.names.processes follows.names follows.accounts = follows.spelled ∙ rw adds.whole_is refl in
+      let later : records ≡ account_records b.names.processes follows.names follows.accounts = follows.spelled ∙ rw adds.whole_is refl in
       rw (adds.spelled, later) refl;
 }
 
-accounts_from-follows : (b whole : NamedBook) (rows : List Fields) → AreNamesOf b.book b.names → accounts_from b rows ≡ Ok whole → Follows b rows whole
+accounts_from-follows : (b whole : NamedBook) (records : List Fields) → AreNamesOf b.book b.names → accounts_from b records ≡ Ok whole → Follows b records whole
 unfolding accounts_from
 accounts_from-follows b whole [] are h = Follows-none b whole h
-accounts_from-follows b whole (fields ∷ rows) are h =
-    let goes = after-goes (length b.book.accounts + 4) (with_row b fields) (λ more. accounts_from more rows) whole h in
-    let adds = with_row-adds b fields goes.value are goes.is in
-    Follows-cons b goes.value whole fields rows adds (accounts_from-follows goes.value whole rows adds.named goes.later)
+accounts_from-follows b whole (fields ∷ records) are h =
+    let goes = and_then-goes (length b.book.accounts + 4) (with_account_record b fields) (λ more. accounts_from more records) whole h in
+    let adds = with_account_record-adds b fields goes.value are goes.is in
+    Follows-cons b goes.value whole fields records adds (accounts_from-follows goes.value whole records adds.named goes.later)
 
 version_of-spelled : (fields : Fields) (version : ℕ) → version_of fields ≡ Ok version → fields ≡ codes "book" ∷ decimal version ∷ []
 version_of-spelled fields version h =
@@ -96,7 +97,7 @@ version_of-spelled fields version h =
 
 -- processes that were named are those of the fields
 with_process-spelled : (names more : List (List ℕ)) (name : List ℕ) → with_process names name ≡ Ok more → more ≡ names ++ name ∷ []
-with_process-spelled names more name h = by (nat_le PROCESSES_MAX (length names)) h
+with_process-spelled names more name h = by (nat_le most_processes (length names)) h
   where
     by : (full : Bool) → (if full then Err (why.Book TooManyProcesses) else with_name names name) ≡ Ok more → more ≡ names ++ name ∷ []
     by true is = absurd (cc)
@@ -149,37 +150,37 @@ limits_of-spelled version processes fields b rooms =
     ) refl
 
 -- the records of a whole file, put together
-whole_rows : (version own_room request_room : ℕ) (processes names : List (List ℕ)) (accounts : List AccountTerms) (whole : NamedBook) (first second third : Fields) (rows : List Fields)
+whole_records : (version own_room request_room : ℕ) (processes names : List (List ℕ)) (accounts : List AccountTerms) (whole : NamedBook) (first second third : Fields) (records : List Fields)
     → first ≡ codes "book" ∷ decimal version ∷ [] → second ≡ second_record version processes → third ≡ codes "limits" ∷ decimal own_room ∷ decimal request_room ∷ []
-    → rows ≡ account_rows processes names accounts → whole ≡ with_all (book_begun version processes own_room request_room) names accounts
-    → first ∷ second ∷ third ∷ rows ≡ rows_of_book whole.book whole.names
-whole_rows version own_room request_room processes names accounts whole first second third rows is next last later all = rw (is, next, last, later, all) refl
+    → records ≡ account_records processes names accounts → whole ≡ with_all (book_begun version processes own_room request_room) names accounts
+    → first ∷ second ∷ third ∷ records ≡ records_of_book whole.book whole.names
+whole_records version own_room request_room processes names accounts whole first second third records is next last later all = rw (is, next, last, later, all) refl
 
-pub book_of_rows-spelled : (rows : List Fields) (b : NamedBook) → book_of_rows rows ≡ Ok b → rows ≡ rows_of_book b.book b.names
-book_of_rows-spelled [] b h = absurd (cc)
-book_of_rows-spelled (first ∷ []) b h =
-    absurd (let goes = after-goes 1 (version_of first) (λ version. processes_from version []) b h in let wrong = goes.later in cc)
-book_of_rows-spelled (first ∷ second ∷ []) b h =
-    absurd (let goes = after-goes 1 (version_of first) (λ version. processes_from version (second ∷ [])) b h in
-    let next = after-goes 2 (processes_of goes.value second) (λ processes. limits_from goes.value processes []) b goes.later in
+pub book_of_records-spelled : (records : List Fields) (b : NamedBook) → book_of_records records ≡ Ok b → records ≡ records_of_book b.book b.names
+book_of_records-spelled [] b h = absurd (cc)
+book_of_records-spelled (first ∷ []) b h =
+    absurd (let goes = and_then-goes 1 (version_of first) (λ version. processes_from version []) b h in let wrong = goes.later in cc)
+book_of_records-spelled (first ∷ second ∷ []) b h =
+    absurd (let goes = and_then-goes 1 (version_of first) (λ version. processes_from version (second ∷ [])) b h in
+    let next = and_then-goes 2 (processes_of goes.value second) (λ processes. limits_from goes.value processes []) b goes.later in
     let wrong = next.later in cc)
-book_of_rows-spelled (first ∷ second ∷ third ∷ rows) b h =
-    let version = after-goes 1 (version_of first) (λ version. processes_from version (second ∷ third ∷ rows)) b h in
+book_of_records-spelled (first ∷ second ∷ third ∷ records) b h =
+    let version = and_then-goes 1 (version_of first) (λ version. processes_from version (second ∷ third ∷ records)) b h in
     let known = version_of-known first version.value version.is in
-    let processes = after-goes 2 (processes_of version.value second) (λ processes. limits_from version.value processes (third ∷ rows)) b version.later in
-    let limits = after-goes 3 (limits_of version.value processes.value third) (λ x. accounts_from x rows) b processes.later in
+    let processes = and_then-goes 2 (processes_of version.value second) (λ processes. limits_from version.value processes (third ∷ records)) b version.later in
+    let limits = and_then-goes 3 (limits_of version.value processes.value third) (λ x. accounts_from x records) b processes.later in
     let are = AreNamesOf-limits_of version.value processes.value third limits.value (AreNames-processes_of version.value second processes.value known processes.is) limits.is in
     let rooms = limits_of-rooms version.value processes.value third limits.value limits.is in
-    let P : NamedBook → Type 0 = λ x. Follows x rows b in
-    let follows = subst P rooms.book_is (accounts_from-follows limits.value b rows are limits.later) in
-    whole_rows version.value rooms.own_room rooms.request_room processes.value follows.names follows.accounts b first second third rows
+    let P : NamedBook → Type 0 = λ x. Follows x records b in
+    let follows = subst P rooms.book_is (accounts_from-follows limits.value b records are limits.later) in
+    whole_records version.value rooms.own_room rooms.request_room processes.value follows.names follows.accounts b first second third records
     (version_of-spelled first version.value version.is) (processes_of-spelled version.value second processes.value known processes.is)
     (limits_of-spelled version.value processes.value third limits.value rooms) follows.spelled follows.whole_is
 
-pub Spells-book_of_rows : (rows : List Fields) (b : BookTerms) (names : NameList) → book_of_rows rows ≡ Ok (record { book = b; names = names }) → IsBook b → AreNamesOf b names
-    → Spells rows b names
-Spells-book_of_rows rows b names h book are = record {
+pub Spells-book_of_records : (records : List Fields) (b : BookTerms) (names : NameList) → book_of_records records ≡ Ok (record { book = b; names = names }) → IsBook b → AreNamesOf b names
+    → Spells records b names
+Spells-book_of_records records b names h book are = record {
   book = book;
-  spelled = book_of_rows-spelled rows (record { book = b; names = names }) h;
+  spelled = book_of_records-spelled records (record { book = b; names = names }) h;
   named = are;
 }

@@ -4,14 +4,15 @@ use Rattle.std.proofs.lemmas.Bool.Decides.{nat_tests}
 use Rattle.std.proofs.lemmas.List.{length_push}
 use Rattle.at_ledger.specs.Draft.{limits_fault}
 use Rattle.at_ledger.specs.declared.draft.BookError.TheVariants.{NoProcess, TooManyAccounts, TooManyProcesses}
-use Rattle.at_ledger.specs.declared.draft.TheConstants.{ACCOUNTS_MAX, PROCESSES_MAX}
+use Rattle.at_ledger.specs.Limits.{most_accounts, most_processes}
 use Rattle.at_files.specs.Names.{AreNames, AreNamesOf, decimals_below}
-use Rattle.at_files.specs.Rows.{Fields, field_of, number_at, has_shape}
-use Rattle.at_files.specs.BookRecords.{NamedBook, and_then, book_begun, book_with_rooms, counted_processes, limits_of, named_processes, process_count, processes_of, version_of, with_name, with_process, with_processes, with_row}
-use Rattle.at_files.specs.BookFile.{at_line, after, accounts_from, book_at_end}
+use Rattle.at_files.specs.Records.{Fields, field_of, number_at, has_shape}
+use Rattle.at_files.specs.BookRecords.{NamedBook, book_begun, book_with_rooms, counted_processes, limits_of, named_processes, process_count, processes_of, version_of, with_name, with_process, with_processes, with_account_record}
+use Rattle.at_files.specs.BookFile.{at_line, accounts_from, book_at_end}
 use Rattle.at_files.specs.declared.book_fault.BookWhy.TheVariants as why
 use Rattle.at_files.specs.declared.book_fault.BadBook.{BadBook}
-use Rattle.at_files.proofs.AccountLaws.{AreNames-name, and_then-leads, with_name-added, with_row-adds, within_limits-ok}
+use Rattle.at_files.specs.Results.{and_then}
+use Rattle.at_files.proofs.AccountLaws.{AreNames-name, and_then-leads, with_name-added, with_account_record-adds, within_limits-ok}
 use Rattle.at_files.proofs.NameLaws.{AreNames-decimals_below, AreNames-none, known_version}
 
 -- the version of a book is one of two
@@ -26,7 +27,7 @@ version_of-known fields version h = by (has_shape (codes "book") 2 fields) (byte
 
 -- one process more
 AreNames-with_process : (names more : List (List ℕ)) (name : List ℕ) → AreNames 2 names → with_process names name ≡ Ok more → AreNames 2 more
-AreNames-with_process names more name are h = by (nat_le PROCESSES_MAX (length names)) h
+AreNames-with_process names more name are h = by (nat_le most_processes (length names)) h
   where
     by : (full : Bool) → (if full then Err (why.Book TooManyProcesses) else with_name names name) ≡ Ok more → AreNames 2 more
     by true is = absurd (cc)
@@ -50,13 +51,13 @@ AreNames-named_processes fields names h = by (bytes_eq (field_of fields 0) (code
     by true false is = AreNames-with_processes [] (drop 1 fields) names (AreNames-none 2 (inr refl)) is
 
 -- a number of processes is small
-process_count-few : (processes : Option ℕ) (count : ℕ) → process_count processes ≡ Ok count → (processes ≡ Some count) × (count ≤ PROCESSES_MAX)
+process_count-few : (processes : Option ℕ) (count : ℕ) → process_count processes ≡ Ok count → (processes ≡ Some count) × (count ≤ most_processes)
 process_count-few None count h = absurd (cc)
 process_count-few (Some n) count h =
     let both = within_limits-ok (limits_fault n 1 1) n count h in
-    (ap Some both.1, rw (← both.1) (by (n == 0) (nat_lt PROCESSES_MAX n) refl both.0))
+    (ap Some both.1, rw (← both.1) (by (n == 0) (nat_lt most_processes n) refl both.0))
   where
-    by : (none many : Bool) → nat_lt PROCESSES_MAX n ≡ many → (if none then Some NoProcess else if many then Some TooManyProcesses else None) ≡ None → n ≤ PROCESSES_MAX
+    by : (none many : Bool) → nat_lt most_processes n ≡ many → (if none then Some NoProcess else if many then Some TooManyProcesses else None) ≡ None → n ≤ most_processes
     by true many e is = absurd (cc)
     by false true e is = absurd (cc)
     by false false e is = grind (arith, nat_tests)
@@ -66,7 +67,7 @@ pub record AreCounted (fields : Fields) (names : List (List ℕ)) : Type 0 where
   pub count : ℕ
   pub shape : has_shape (codes "processes") 2 fields ≡ true
   pub count_is : number_at fields 1 ≡ Some count
-  pub few : count ≤ PROCESSES_MAX
+  pub few : count ≤ most_processes
   pub names_are : names ≡ decimals_below count
 
 pub counted_processes-AreCounted : (fields : Fields) (names : List (List ℕ)) → counted_processes fields ≡ Ok names → AreCounted fields names
@@ -124,60 +125,60 @@ AreNamesOf-limits_of version processes fields b are h =
     })
 
 -- the records give what those from here on give, beside the book so far
-pub record Added (whole : Result NamedBook BadBook) (b : NamedBook) (account : ℕ) (rows : List Fields) : Type 0 where
-  pub walk : whole ≡ accounts_from b rows
+pub record Added (whole : Result NamedBook BadBook) (b : NamedBook) (account : ℕ) (records : List Fields) : Type 0 where
+  pub walk : whole ≡ accounts_from b records
   pub count : account ≡ length b.book.accounts
   pub named : AreNamesOf b.book b.names
 
 -- a record was read, or there was none
 abbrev pub IsNext : List Fields → Bool → Fields → List Fields → Type 0
-IsNext rows found fields rest = rows ≡ (if found then fields ∷ rest else [])
+IsNext records found fields rest = records ≡ (if found then fields ∷ rest else [])
 
-accounts_from-row : (b : NamedBook) (fields : Fields) (rows : List Fields)
-    → accounts_from b (fields ∷ rows) ≡ after (at_line (length b.book.accounts + 4) (with_row b fields)) (λ more. accounts_from more rows)
+accounts_from-fields : (b : NamedBook) (fields : Fields) (records : List Fields)
+    → accounts_from b (fields ∷ records) ≡ and_then (at_line (length b.book.accounts + 4) (with_account_record b fields)) (λ more. accounts_from more records)
 unfolding accounts_from
-accounts_from-row b fields rows = refl
+accounts_from-fields b fields records = refl
 
 -- an added account makes the book longer by one
-length-with_row : (b more : NamedBook) (fields : Fields) → AreNamesOf b.book b.names → with_row b fields ≡ Ok more → length more.book.accounts ≡ length b.book.accounts + 1
-length-with_row b more fields are h =
-    let adds = with_row-adds b fields more are h in
+length-with_account_record : (b more : NamedBook) (fields : Fields) → AreNamesOf b.book b.names → with_account_record b fields ≡ Ok more → length more.book.accounts ≡ length b.book.accounts + 1
+length-with_account_record b more fields are h =
+    let adds = with_account_record-adds b fields more are h in
     rw adds.whole_is (length_push b.book.accounts adds.account)
 
-pub Added-start : (b : NamedBook) (rows : List Fields) → b.book.accounts ≡ [] → AreNamesOf b.book b.names → Added (accounts_from b rows) b 0 rows
-Added-start b rows none are = record { walk = refl; count = rw none refl; named = are }
+pub Added-start : (b : NamedBook) (records : List Fields) → b.book.accounts ≡ [] → AreNamesOf b.book b.names → Added (accounts_from b records) b 0 records
+Added-start b records none are = record { walk = refl; count = rw none refl; named = are }
 
-pub Added-more : (whole : Result NamedBook BadBook) (b : NamedBook) (account : ℕ) (rows : List Fields) (found : Bool) (fields : Fields) (rest : List Fields) (more : NamedBook)
-    → Added whole b account rows → IsNext rows found fields rest → found ≡ true → with_row b fields ≡ Ok more → AreNamesOf more.book more.names → Added whole more (account + 1) rest
-Added-more whole b account rows found fields rest more added next some is are =
-    let here : rows ≡ fields ∷ rest = next ∙ rw some refl in
+pub Added-more : (whole : Result NamedBook BadBook) (b : NamedBook) (account : ℕ) (records : List Fields) (found : Bool) (fields : Fields) (rest : List Fields) (more : NamedBook)
+    → Added whole b account records → IsNext records found fields rest → found ≡ true → with_account_record b fields ≡ Ok more → AreNamesOf more.book more.names → Added whole more (account + 1) rest
+Added-more whole b account records found fields rest more added next some is are =
+    let here : records ≡ fields ∷ rest = next ∙ rw some refl in
     record {
-      walk = added.walk ∙ rw (here, accounts_from-row b fields rest, is) refl;
-      count = let longer = length-with_row b more fields added.named is in let at = added.count in omega arith;
+      walk = added.walk ∙ rw (here, accounts_from-fields b fields rest, is) refl;
+      count = let longer = length-with_account_record b more fields added.named is in let at = added.count in omega arith;
       named = are;
     }
 
-pub Added-bad : (whole : Result NamedBook BadBook) (b : NamedBook) (account : ℕ) (rows : List Fields) (found : Bool) (fields : Fields) (rest : List Fields) (bad : BadBook)
-    → Added whole b account rows → IsNext rows found fields rest → found ≡ true → at_line (account + 4) (with_row b fields) ≡ Err bad → whole ≡ Err bad
-Added-bad whole b account rows found fields rest bad added next some is =
-    let here : rows ≡ fields ∷ rest = next ∙ rw some refl in
-    added.walk ∙ rw (here, accounts_from-row b fields rest, rw added.count at is) refl
+pub Added-bad : (whole : Result NamedBook BadBook) (b : NamedBook) (account : ℕ) (records : List Fields) (found : Bool) (fields : Fields) (rest : List Fields) (bad : BadBook)
+    → Added whole b account records → IsNext records found fields rest → found ≡ true → at_line (account + 4) (with_account_record b fields) ≡ Err bad → whole ≡ Err bad
+Added-bad whole b account records found fields rest bad added next some is =
+    let here : records ≡ fields ∷ rest = next ∙ rw some refl in
+    added.walk ∙ rw (here, accounts_from-fields b fields rest, rw added.count at is) refl
 
-pub Added-end : (whole : Result NamedBook BadBook) (b : NamedBook) (account : ℕ) (rows : List Fields) (found : Bool) (fields : Fields) (rest : List Fields)
-    → Added whole b account rows → IsNext rows found fields rest → found ≡ false → whole ≡ book_at_end b
+pub Added-end : (whole : Result NamedBook BadBook) (b : NamedBook) (account : ℕ) (records : List Fields) (found : Bool) (fields : Fields) (rest : List Fields)
+    → Added whole b account records → IsNext records found fields rest → found ≡ false → whole ≡ book_at_end b
 unfolding accounts_from
-Added-end whole b account rows found fields rest added next none =
-    let here : rows ≡ [] = next ∙ rw none refl in
+Added-end whole b account records found fields rest added next none =
+    let here : records ≡ [] = next ∙ rw none refl in
     added.walk ∙ rw here refl
 
 -- a book that is full takes no further record
-with_row-full : (b : NamedBook) (fields : Fields) → length b.book.accounts ≡ ACCOUNTS_MAX → with_row b fields ≡ Err (why.Book TooManyAccounts)
-with_row-full b fields full = rw full refl
+with_account_record-full : (b : NamedBook) (fields : Fields) → length b.book.accounts ≡ most_accounts → with_account_record b fields ≡ Err (why.Book TooManyAccounts)
+with_account_record-full b fields full = rw full refl
 
-pub Added-full : (whole : Result NamedBook BadBook) (b : NamedBook) (account : ℕ) (rows : List Fields) (found : Bool) (fields : Fields) (rest : List Fields)
-    → Added whole b account rows → IsNext rows found fields rest → found ≡ true → account ≡ ACCOUNTS_MAX
-    → whole ≡ Err (record { line = ACCOUNTS_MAX + 4; why = why.Book TooManyAccounts })
-Added-full whole b account rows found fields rest added next some last =
-    let here : rows ≡ fields ∷ rest = next ∙ rw some refl in
-    let full : length b.book.accounts ≡ ACCOUNTS_MAX = let at = added.count in omega arith in
-    added.walk ∙ rw (here, accounts_from-row b fields rest, with_row-full b fields full, full) refl
+pub Added-full : (whole : Result NamedBook BadBook) (b : NamedBook) (account : ℕ) (records : List Fields) (found : Bool) (fields : Fields) (rest : List Fields)
+    → Added whole b account records → IsNext records found fields rest → found ≡ true → account ≡ most_accounts
+    → whole ≡ Err (record { line = most_accounts + 4; why = why.Book TooManyAccounts })
+Added-full whole b account records found fields rest added next some last =
+    let here : records ≡ fields ∷ rest = next ∙ rw some refl in
+    let full : length b.book.accounts ≡ most_accounts = let at = added.count in omega arith in
+    added.walk ∙ rw (here, accounts_from-fields b fields rest, with_account_record-full b fields full, full) refl

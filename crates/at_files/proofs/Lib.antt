@@ -1,8 +1,8 @@
-pub mod RowLaws
 pub mod RecordLaws
+pub mod FieldLaws
 pub mod NameSetLaws
 pub mod NameLaws
-pub mod Offences
+pub mod Faults
 pub mod ProcessLaws
 pub mod OwnerLaws
 pub mod OwnerNames

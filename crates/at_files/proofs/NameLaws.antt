@@ -1,4 +1,4 @@
--- Names and their places: those of version 1 are the canonical decimals.
+-- Names and their positions: those of version 1 are the canonical decimals.
 use Rattle.std.proofs.Common.{◌≡◌, ℕ, zero, suc, ◌+◌, ◌^◌, ◌<◌, ◌≤◌, Bool, true, false, not, ◌&&◌, nat_le, nat_lt, slice_index, ◌⊎◌, inl, inr, if◌then◌else◌, List, [], ◌∷◌, ◌++◌, length, Some, None, bytes_eq, decimal, get_or, refl, sym, ◌∙◌, ap, subst, arith}
 use Rattle.std.specs.Prelude.{Contains, slice_get}
 use Rattle.std.specs.Char.{is_ascii_lowercase}
@@ -15,34 +15,34 @@ use Rattle.std.proofs.lemmas.Slice.Eq.{bytes_eq-Decides}
 use Rattle.at_base.specs.Numbers.{number_of}
 use Rattle.at_base.proofs.NumberLaws.{number_of-decimal}
 use Rattle.at_ledger.specs.Book.{BookTerms}
-use Rattle.at_ledger.specs.declared.draft.TheConstants.{ACCOUNTS_MAX}
-use Rattle.at_files.specs.declared.name_set.TheConstants.{NAME_MAX}
-use Rattle.at_files.proofs.RecordLaws.{both_tests}
-use Rattle.at_files.specs.Names.{AreFormed, AreNames, AreNamesOf, decimals_below, has_name, is_name, is_name_byte, place_of, plain_names}
+use Rattle.at_ledger.specs.Limits.{most_accounts}
+use Rattle.at_files.specs.Limits.{most_name_bytes}
+use Rattle.at_files.proofs.FieldLaws.{both_tests}
+use Rattle.at_files.specs.Names.{AreFormed, AreNames, AreNamesOf, decimals_below, has_name, is_name, is_name_byte, position_of, plain_names}
 
--- the name at the place that was found
-pub place_of-Some : (names : List (List ℕ)) (name : List ℕ) (n : ℕ) → place_of names name ≡ Some n → (n < length names) × (get_or names n [] ≡ name)
-place_of-Some names name n is =
+-- the name at the position that was found
+pub position_of-Some : (names : List (List ℕ)) (name : List ℕ) (n : ℕ) → position_of names name ≡ Some n → (n < length names) × (get_or names n [] ≡ name)
+position_of-Some names name n is =
     let at = position-Some (bytes_eq name) names n [] is in
     (at.0, sym ((bytes_eq-Decides name (get_or names n [])).0 at.1))
 
-pub slice_get-place_of : (names : List (List ℕ)) (name : List ℕ) (n : ℕ) → place_of names name ≡ Some n → slice_get names n ≡ Some name
-slice_get-place_of names name n is = let at = place_of-Some names name n is in slice_get-get_or names n [] at.0 ∙ ap Some at.1
+pub slice_get-position_of : (names : List (List ℕ)) (name : List ℕ) (n : ℕ) → position_of names name ≡ Some n → slice_get names n ≡ Some name
+slice_get-position_of names name n is = let at = position_of-Some names name n is in slice_get-get_or names n [] at.0 ∙ ap Some at.1
 
 bytes_eq-refl : (name : List ℕ) → bytes_eq name name ≡ true
 bytes_eq-refl name = (bytes_eq-Decides name name).1 refl
 
--- a name with no place isn't among them
-pub place_of-None : (names : List (List ℕ)) (name : List ℕ) → place_of names name ≡ None → Contains names name → ⊥
-place_of-None names name is (k, within, same) =
+-- a name with no position isn't among them
+pub position_of-None : (names : List (List ℕ)) (name : List ℕ) → position_of names name ≡ None → Contains names name → ⊥
+position_of-None names name is (k, within, same) =
     let past : length names ≤ position_or_len (bytes_eq name) names = grind (arith, nat_tests) in
     let fails : not (bytes_eq name (get_or names k name)) ≡ true = prefix_len_passes (λ other. not (bytes_eq name other)) names k name (omega arith) in
     let wrong : not true ≡ true = rw (same, bytes_eq-refl name) at fails in
     cc
 
--- each of names that differ is found at its place
-pub place_of-at : (names : List (List ℕ)) (n : ℕ) → IsDistinct bytes_eq names → n < length names → place_of names (get_or names n []) ≡ Some n
-place_of-at names n distinct within =
+-- each of names that differ is found at its position
+pub position_of-at : (names : List (List ℕ)) (n : ℕ) → IsDistinct bytes_eq names → n < length names → position_of names (get_or names n []) ≡ Some n
+position_of-at names n distinct within =
     let first : position_or_len (bytes_eq (get_or names n [])) names ≡ n =
     position_or_len_is (bytes_eq (get_or names n [])) names n [] (omega arith)
     (λ k before. nat_list_eq_equiv.symm (get_or names n []) (get_or names k []) ∙ apart_from_distinct bytes_eq names k n [] distinct before within)
@@ -102,7 +102,7 @@ decimals_below-add names more name added n small are is new all =
     let yes : added ≡ true = new ∙ rw (are, is, has_name-decimals_below n small) refl in
     all ∙ rw (yes, are, is) (sym (decimals_below-more n))
 
--- the name of version 1 at a place
+-- the name of version 1 at a position
 pub decimal-AreNames : (version : ℕ) (names : List (List ℕ)) (n : ℕ) → AreNames version names → version ≡ 1 → n < length names → get_or names n [] ≡ decimal n
 decimal-AreNames version names n are first within = by are.formed
   where
@@ -118,7 +118,7 @@ known_version version names are = by are.formed
     by (inr (v, formed)) = inr v
 
 -- the numbers below the counts of a book are its names
-pub AreNamesOf-plain_names : (b : BookTerms) → b.processes ≤ 2 ^ 64 → length b.accounts ≤ ACCOUNTS_MAX → AreNamesOf b (plain_names b)
+pub AreNamesOf-plain_names : (b : BookTerms) → b.processes ≤ 2 ^ 64 → length b.accounts ≤ most_accounts → AreNamesOf b (plain_names b)
 AreNamesOf-plain_names b few many = record {
   processes = length-decimals_below b.processes;
   accounts = length-decimals_below (length b.accounts);
@@ -132,8 +132,8 @@ AreNamesOf-plain_names b few many = record {
 -- the bytes of a name of version 2
 pub name-bytes : (name : List ℕ) → is_name name ≡ true → list_all is_name_byte name ≡ true
 name-bytes name h =
-    let first = both_tests (nat_le (length name) NAME_MAX && list_all is_name_byte name) (is_ascii_lowercase (slice_index name 0)) h in
-    (both_tests (nat_le (length name) NAME_MAX) (list_all is_name_byte name) first.0).1
+    let first = both_tests (nat_le (length name) most_name_bytes && list_all is_name_byte name) (is_ascii_lowercase (slice_index name 0)) h in
+    (both_tests (nat_le (length name) most_name_bytes) (list_all is_name_byte name) first.0).1
 
 pub name-some : (name : List ℕ) → is_name name ≡ true → 0 < length name
 name-some [] h = absurd (cc)

@@ -8,9 +8,9 @@ use Rattle.std.proofs.lemmas.List.Quantifiers.{position-Some}
 use Rattle.std.proofs.lemmas.Map.Keys.{IsDistinct-push}
 use Rattle.std.proofs.lemmas.Slice.Eq.{bytes_eq-Decides}
 use Rattle.indexmap.specs.IndexSet.{insert_key}
-use Rattle.at_files.specs.Names.{has_name, place_of}
-use Rattle.at_files.specs.NameSet.{AreHeld}
-use Rattle.at_files.specs.declared.name_set.TheConstants.{NAME_MAX}
+use Rattle.at_files.specs.Names.{has_name, position_of}
+use Rattle.at_files.specs.NameSet.{IsNameSet}
+use Rattle.at_files.specs.Limits.{most_name_bytes}
 
 module _ {N : Type 0} (f : N → List ℕ) where
   pub has_name-map : (keys : List N) (name : List ℕ) → has_name (map f keys) name ≡ list_any (λ key. bytes_eq name (f key)) keys
@@ -22,8 +22,8 @@ module _ {N : Type 0} (f : N → List ℕ) where
   position_or_len-map (key ∷ keys) name = rw (position_or_len-map keys name) refl
 
   -- a name is found among keys that show their names
-  pub place_of-map : (keys : List N) (name : List ℕ) → place_of (map f keys) name ≡ position (λ key. bytes_eq name (f key)) keys
-  place_of-map keys name = rw (position_or_len-map keys name, length-map) refl
+  pub position_of-map : (keys : List N) (name : List ℕ) → position_of (map f keys) name ≡ position (λ key. bytes_eq name (f key)) keys
+  position_of-map keys name = rw (position_or_len-map keys name, length-map) refl
 
   -- a key that is inserted shows its name after the others, unless it is there
   pub insert_key-map : (keys : List N) (key : N) (name : List ℕ) → f key ≡ name
@@ -35,29 +35,29 @@ module _ {N : Type 0} (f : N → List ℕ) where
       by false = map-append f keys (key ∷ [])
 
 -- names that are held, with one more
-pub AreHeld-add : (names : List (List ℕ)) (name : List ℕ) → AreHeld names → length name ≤ NAME_MAX
-    → AreHeld (if has_name names name then names else names ++ name ∷ [])
-AreHeld-add names name held short = by (has_name names name) refl
+pub IsNameSet-add : (names : List (List ℕ)) (name : List ℕ) → IsNameSet names → length name ≤ most_name_bytes
+    → IsNameSet (if has_name names name then names else names ++ name ∷ [])
+IsNameSet-add names name held short = by (has_name names name) refl
   where
-    by : (b : Bool) → has_name names name ≡ b → AreHeld (if b then names else names ++ name ∷ [])
+    by : (b : Bool) → has_name names name ≡ b → IsNameSet (if b then names else names ++ name ∷ [])
     by true there = held
     by false absent = record {
       distinct = IsDistinct-push nat_list_eq_equiv names name held.distinct absent;
-      short = All-push (λ other. length other ≤ NAME_MAX) names name held.short short;
+      short = All-push (λ other. length other ≤ most_name_bytes) names name held.short short;
     }
 
-pub AreHeld-none : AreHeld []
+pub IsNameSet-none : IsNameSet []
 unfolding IsDistinct
-AreHeld-none = record { distinct = tt; short = λ k d within. absurd (omega arith) }
+IsNameSet-none = record { distinct = tt; short = λ k d within. absurd (omega arith) }
 
 -- a text that is longer than a name is none of them
-pub place_of-long : (names : List (List ℕ)) (text : List ℕ) → AreHeld names → NAME_MAX < length text → place_of names text ≡ None
-place_of-long names text held long = by (place_of names text) refl
+pub position_of-long : (names : List (List ℕ)) (text : List ℕ) → IsNameSet names → most_name_bytes < length text → position_of names text ≡ None
+position_of-long names text held long = by (position_of names text) refl
   where
-    by : (place : Option ℕ) → place_of names text ≡ place → place ≡ None
+    by : (position : Option ℕ) → position_of names text ≡ position → position ≡ None
     by None is = refl
     by (Some n) is =
         let at = position-Some (bytes_eq text) names n [] is in
         let same : text ≡ get_or names n [] = (bytes_eq-Decides text (get_or names n [])).0 at.1 in
-        let short : length (get_or names n []) ≤ NAME_MAX = held.short n [] at.0 in
+        let short : length (get_or names n []) ≤ most_name_bytes = held.short n [] at.0 in
         absurd (let same_length = ap length same in omega arith)

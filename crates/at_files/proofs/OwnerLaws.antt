@@ -3,10 +3,10 @@ use Rattle.std.proofs.Common.{◌≡◌, ℕ, ◌+◌, ◌<◌, ◌≤◌, ◌==
 use Rattle.std.proofs.lemmas.List.{at_drop_more, at_drop_all}
 use Rattle.at_base.specs.Numbers.{number_of}
 use Rattle.std.specs.List.{slice_split}
-use Rattle.at_files.specs.Rows.{before}
+use Rattle.at_files.specs.Records.{before}
 use Rattle.at_files.specs.BookRecords.{numbers_of, pieces_of}
 
--- numbers in front of those that come later, if each of these is one
+-- numbers before those that come later, if each of these is one
 abbrev pub numbers_before : List ℕ → Option (List ℕ) → Option (List ℕ)
 numbers_before numbers (Some later) = Some (numbers ++ later)
 numbers_before numbers None = None

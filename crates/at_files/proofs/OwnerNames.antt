@@ -1,11 +1,12 @@
 -- The owners that names give.
 use Rattle.std.proofs.Common.{◌≡◌, ℕ, ◌+◌, ◌<◌, ◌≤◌, ◌==◌, true, List, [], ◌∷◌, ◌++◌, length, drop, get_or, Result, Ok, Err, refl, sym, ◌∙◌, ap, append_assoc, append-nil, arith}
 use Rattle.std.proofs.lemmas.List.{at_drop_more, at_drop_all, length_push}
-use Rattle.at_files.specs.Names.{place_of}
-use Rattle.at_files.specs.BookRecords.{and_then, owner_known, owners_named, pieces_of}
+use Rattle.at_files.specs.Names.{position_of}
+use Rattle.at_files.specs.BookRecords.{owner_known, owners_named, pieces_of}
 use Rattle.at_files.specs.declared.book_fault.BookWhy.{BookWhy}
+use Rattle.at_files.specs.Results.{and_then}
 
--- owners in front of those that come later, unless an offence does
+-- owners before those that come later, unless a fault does
 abbrev pub owners_before : List ℕ → Result (List ℕ) BookWhy → Result (List ℕ) BookWhy
 owners_before owners (Ok later) = Ok (owners ++ later)
 owners_before owners (Err w) = Err w
@@ -27,12 +28,12 @@ owners_before-push owners owner (Err w) = refl
 owners_named-drop : (processes : List (List ℕ)) (account : ℕ) (pieces : List (List ℕ)) (least count : ℕ) (piece : List ℕ)
     → (count < length pieces) × (piece ≡ get_or pieces count piece)
     → owners_named processes account count least (drop count pieces)
-    ≡ and_then (owner_known account count least (place_of processes piece))
+    ≡ and_then (owner_known account count least (position_of processes piece))
     (λ owner. and_then (owners_named processes account (count + 1) (owner + 1) (drop (count + 1) pieces)) (λ owners. Ok (owner ∷ owners)))
 unfolding owners_named
 owners_named-drop processes account pieces least count piece turn =
     at_drop_more (owners_named processes account count least) pieces count piece turn.0
-    ∙ ap (λ p. and_then (owner_known account count least (place_of processes p))
+    ∙ ap (λ p. and_then (owner_known account count least (position_of processes p))
     (λ owner. and_then (owners_named processes account (count + 1) (owner + 1) (drop (count + 1) pieces)) (λ owners. Ok (owner ∷ owners)))) (sym turn.1)
 
 pub AreNamed-start : (processes : List (List ℕ)) (account : ℕ) (pieces : List (List ℕ)) → AreNamed processes account pieces [] 0 0
@@ -40,7 +41,7 @@ AreNamed-start processes account pieces = record { named = sym (owners_before-no
 
 pub AreNamed-more : (processes : List (List ℕ)) (account : ℕ) (pieces : List (List ℕ)) (owners : List ℕ) (least count : ℕ) (piece : List ℕ) (owner : ℕ)
     → AreNamed processes account pieces owners least count → (count < length pieces) × (piece ≡ get_or pieces count piece)
-    → owner_known account (length owners) least (place_of processes piece) ≡ Ok owner → AreNamed processes account pieces (owners ++ owner ∷ []) (owner + 1) (count + 1)
+    → owner_known account (length owners) least (position_of processes piece) ≡ Ok owner → AreNamed processes account pieces (owners ++ owner ∷ []) (owner + 1) (count + 1)
 AreNamed-more processes account pieces owners least count piece owner are turn known = record {
   named =
       are.named
@@ -51,7 +52,7 @@ AreNamed-more processes account pieces owners least count piece owner are turn k
 
 pub AreNamed-bad : (processes : List (List ℕ)) (account : ℕ) (pieces : List (List ℕ)) (owners : List ℕ) (least count : ℕ) (piece : List ℕ) (w : BookWhy)
     → AreNamed processes account pieces owners least count → (count < length pieces) × (piece ≡ get_or pieces count piece)
-    → owner_known account (length owners) least (place_of processes piece) ≡ Err w → owners_named processes account 0 0 pieces ≡ Err w
+    → owner_known account (length owners) least (position_of processes piece) ≡ Err w → owners_named processes account 0 0 pieces ≡ Err w
 AreNamed-bad processes account pieces owners least count piece w are turn known =
     are.named ∙ rw (owners_named-drop processes account pieces least count piece turn, rw are.counted at known) refl
 

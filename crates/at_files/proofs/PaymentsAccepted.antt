@@ -10,15 +10,15 @@ use Rattle.at_ledger.specs.Book.{BookTerms}
 use Rattle.at_ledger.specs.Call.{AreTargetsOn, IsCallOn, TargetPair}
 use Rattle.at_ledger.specs.declared.call.Call.{Call}
 use Rattle.at_ledger.specs.declared.call.Call.TheVariants.{Transfer, Read, Pay}
-use Rattle.at_ledger.specs.declared.targets.TheConstants.{TARGETS_MAX}
+use Rattle.at_ledger.specs.Limits.{most_targets}
 use Rattle.at_files.specs.Names.{AreNames, NameList, AreNamesOf, account_name}
-use Rattle.at_files.specs.Rows.{Fields, has_shape}
-use Rattle.at_files.specs.Payments.{plain_call_of, named_call_of, call_of, has_amounts, is_pay, targets_of, fields_of_targets, payments_from, payments_of, fields_of_call, IsCallOfVersion, HasAmounts, Pays}
-use Rattle.at_files.specs.declared.payments_fault.TheConstants.{CALLS_MAX}
+use Rattle.at_files.specs.Records.{Fields, has_shape}
+use Rattle.at_files.specs.Payments.{plain_call_of, named_call_of, call_of, has_amounts, is_pay, targets_spelled, fields_of_targets, payments_from, payments_of, fields_of_call, IsCallOfVersion, HasAmounts, Pays}
+use Rattle.at_files.specs.Limits.{most_calls}
 use Rattle.at_files.specs.declared.payments_fault.BadPayments.{BadPayments}
 use Rattle.at_files.specs.declared.payments_fault.ReadPaymentsFault.{ReadPaymentsFault}
 use Rattle.at_files.specs.declared.payments_fault.ReadPaymentsFault.TheVariants.{NoMemory}
-use Rattle.at_files.proofs.NameLaws.{known_version, place_of-at}
+use Rattle.at_files.proofs.NameLaws.{known_version, position_of-at}
 use Rattle.at_files.proofs.PaymentsWalk.{payments_from-more}
 use Rattle.at_files.proofs.PaymentsSpelled.{AreNumbered, account_name-decimal}
 
@@ -46,15 +46,15 @@ plain_call_of-fields names (Read account) numbered few known amounts version =
 plain_call_of-fields names (Pay from targets) numbered few known amounts version = absurd (let second = version.0 in let first = numbered.0 in omega arith)
 
 -- the fields of targets, read back
-targets_of-fields : (names : NameList) (targets : List TargetPair) → IsDistinct bytes_eq names.accounts → AreTargetsOn (length names.accounts) targets
-    → All (λ t. t.1 < 2 ^ 64) targets → targets_of names.accounts (fields_of_targets names targets) ≡ Some targets
-unfolding targets_of fields_of_targets
-targets_of-fields names [] distinct known fits = refl
-targets_of-fields names (t ∷ ts) distinct known fits =
+targets_spelled-fields : (names : NameList) (targets : List TargetPair) → IsDistinct bytes_eq names.accounts → AreTargetsOn (length names.accounts) targets
+    → All (λ t. t.1 < 2 ^ 64) targets → targets_spelled names.accounts (fields_of_targets names targets) ≡ Some targets
+unfolding targets_spelled fields_of_targets
+targets_spelled-fields names [] distinct known fits = refl
+targets_spelled-fields names (t ∷ ts) distinct known fits =
     rw (
-      place_of-at names.accounts t.0 distinct (All-head (λ (x : TargetPair). x.0 < length names.accounts) t ts known),
+      position_of-at names.accounts t.0 distinct (All-head (λ (x : TargetPair). x.0 < length names.accounts) t ts known),
       number_of-decimal t.1 (All-head (λ (x : TargetPair). x.1 < 2 ^ 64) t ts fits),
-      targets_of-fields names ts distinct (All-tail (λ (x : TargetPair). x.0 < length names.accounts) t ts known) (All-tail (λ (x : TargetPair). x.1 < 2 ^ 64) t ts fits),
+      targets_spelled-fields names ts distinct (All-tail (λ (x : TargetPair). x.0 < length names.accounts) t ts known) (All-tail (λ (x : TargetPair). x.1 < 2 ^ 64) t ts fits),
     ) refl
 
 has_amounts-fields : (names : NameList) (targets : List TargetPair) → All (λ t. t.1 < 2 ^ 64) targets → has_amounts (fields_of_targets names targets) ≡ true
@@ -63,7 +63,7 @@ has_amounts-fields names [] fits = refl
 has_amounts-fields names (t ∷ ts) fits =
     rw (number_of-decimal t.1 (All-head (λ (x : TargetPair). x.1 < 2 ^ 64) t ts fits)) (has_amounts-fields names ts (All-tail (λ (x : TargetPair). x.1 < 2 ^ 64) t ts fits))
 
-is_pay-fields : (names : NameList) (from : ℕ) (targets : List TargetPair) → 1 ≤ length targets → length targets ≤ TARGETS_MAX
+is_pay-fields : (names : NameList) (from : ℕ) (targets : List TargetPair) → 1 ≤ length targets → length targets ≤ most_targets
     → is_pay (fields_of_call names (Pay from targets)) ≡ true
 unfolding field_at fields_of_targets
 is_pay-fields names from [] some few = absurd (omega arith)
@@ -90,17 +90,17 @@ named_call_of-fields : (names : NameList) (call : Call) → IsDistinct bytes_eq 
     → IsCallOn (length names.accounts) call → HasAmounts call → IsCallOfVersion names.version call → named_call_of names.accounts (fields_of_call names call) ≡ Ok call
 unfolding field_at
 named_call_of-fields names (Transfer from to amount) distinct known fits version =
-    rw (place_of-at names.accounts from distinct known.0, place_of-at names.accounts to distinct known.1, number_of-decimal amount fits) refl
-named_call_of-fields names (Read account) distinct known fits version = rw (place_of-at names.accounts account distinct known) refl
+    rw (position_of-at names.accounts from distinct known.0, position_of-at names.accounts to distinct known.1, number_of-decimal amount fits) refl
+named_call_of-fields names (Read account) distinct known fits version = rw (position_of-at names.accounts account distinct known) refl
 named_call_of-fields names (Pay from targets) distinct known fits version =
     let pay : is_pay (fields_of_call names (Pay from targets)) ≡ true = is_pay-fields names from targets version.1 version.2 in
     rw (
       not_transfer (account_name names from ∷ fields_of_targets names targets),
       not_read (account_name names from ∷ fields_of_targets names targets),
       pay,
-      place_of-at names.accounts from distinct known.0,
+      position_of-at names.accounts from distinct known.0,
       has_amounts-fields names targets fits,
-      targets_of-fields names targets distinct known.1 fits,
+      targets_spelled-fields names targets distinct known.1 fits,
     ) refl
 
 call_of-fields : (names : NameList) (call : Call) → AreNames names.version names.accounts → length names.accounts ≤ 2 ^ 64
@@ -116,7 +116,7 @@ call_of-fields names call are few known amounts version = by (known_version name
         rw test (named_call_of-fields names call are.distinct known amounts version)
 
 payments_from-calls : (names : NameList) (line : ℕ) (calls : List Call) → AreNames names.version names.accounts → length names.accounts ≤ 2 ^ 64
-    → All (IsCallOn (length names.accounts)) calls → All HasAmounts calls → All (IsCallOfVersion names.version) calls → length calls + line ≤ CALLS_MAX + 1
+    → All (IsCallOn (length names.accounts)) calls → All HasAmounts calls → All (IsCallOfVersion names.version) calls → length calls + line ≤ most_calls + 1
     → payments_from names line (map (fields_of_call names) calls) ≡ Ok calls
 unfolding payments_from
 payments_from-calls names line [] are few known amounts versions within = refl
@@ -132,16 +132,16 @@ payments_from-calls names line (call ∷ calls) are few known amounts versions w
     payments_from-more names line (fields_of_call names call) (map (fields_of_call names) calls) (omega arith) ∙ rw (here, later) refl
 
 -- what the file pays is what the walk gives
-pub payments_of-Pays : (b : BookTerms) (names : NameList) (rows : List Fields) (calls : List Call) → AreNamesOf b names
-    → Pays b names rows calls → payments_of names rows ≡ Ok calls
-payments_of-Pays b names rows calls are pays =
+pub payments_of-Pays : (b : BookTerms) (names : NameList) (records : List Fields) (calls : List Call) → AreNamesOf b names
+    → Pays b names records calls → payments_of names records ≡ Ok calls
+payments_of-Pays b names records calls are pays =
     rw pays.spelled
     (payments_from-calls names 1 calls are.formed.accounts (omega (arith, are.formed.few_accounts)) (rw are.accounts pays.known) pays.amounts pays.versions
-    (let fits : length calls ≤ CALLS_MAX = pays.few in omega arith))
+    (let fits : length calls ≤ most_calls = pays.few in omega arith))
 
 -- a file that pays calls isn't refused
-pub Pays-not_bad : (b : BookTerms) (names : NameList) (rows : List Fields) (calls : List Call) (bad : BadPayments) (fault : ReadPaymentsFault) → AreNamesOf b names
-    → Pays b names rows calls → payments_of names rows ≡ Err bad → fault ≡ NoMemory
-Pays-not_bad b names rows calls bad fault are pays is =
-    let wrong : Ok calls ≡ Err bad = sym (payments_of-Pays b names rows calls are pays) ∙ is in
+pub Pays-not_bad : (b : BookTerms) (names : NameList) (records : List Fields) (calls : List Call) (bad : BadPayments) (fault : ReadPaymentsFault) → AreNamesOf b names
+    → Pays b names records calls → payments_of names records ≡ Err bad → fault ≡ NoMemory
+Pays-not_bad b names records calls bad fault are pays is =
+    let wrong : Ok calls ≡ Err bad = sym (payments_of-Pays b names records calls are pays) ∙ is in
     cc

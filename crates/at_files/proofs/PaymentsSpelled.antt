@@ -10,15 +10,15 @@ use Rattle.at_ledger.specs.Book.{BookTerms}
 use Rattle.at_ledger.specs.Call.{AreTargetsOn, IsCallOn, TargetPair}
 use Rattle.at_ledger.specs.declared.call.Call.{Call}
 use Rattle.at_ledger.specs.declared.call.Call.TheVariants.{Transfer, Read, Pay}
-use Rattle.at_files.specs.Names.{AreNames, NameList, AreNamesOf, account_name, place_of}
-use Rattle.at_files.specs.Rows.{Fields, before, field_of, number_at, has_shape}
-use Rattle.at_files.specs.Payments.{transfer_of, read_of, plain_call_of, named_transfer, named_read, named_pay, named_call_of, has_amounts, is_pay, target_of, targets_of, call_of, call_before, payments_from, payments_of, fields_of_call, fields_of_targets, IsCallOfVersion, HasAmounts, Pays}
-use Rattle.at_files.specs.declared.payments_fault.TheConstants.{CALLS_MAX}
+use Rattle.at_files.specs.Names.{AreNames, NameList, AreNamesOf, account_name, position_of}
+use Rattle.at_files.specs.Records.{Fields, before, field_of, number_at, has_shape}
+use Rattle.at_files.specs.Payments.{transfer_of, read_of, plain_call_of, named_transfer, named_read, named_pay, named_call_of, has_amounts, is_pay, target_of, targets_spelled, call_of, call_before, payments_from, payments_of, fields_of_call, fields_of_targets, IsCallOfVersion, HasAmounts, Pays}
+use Rattle.at_files.specs.Limits.{most_calls}
 use Rattle.at_files.specs.declared.payments_fault.PaymentsWhy.{PaymentsWhy}
 use Rattle.at_files.specs.declared.payments_fault.PaymentsWhy.TheVariants.{Shape, UnknownAccount, TooManyCalls}
 use Rattle.at_files.specs.declared.payments_fault.BadPayments.{BadPayments}
-use Rattle.at_files.proofs.NameLaws.{decimal-AreNames, known_version, place_of-Some}
-use Rattle.at_files.proofs.RecordLaws.{both_tests, length-has_shape, first-has_shape, two_fields, four_fields, field_of-number_at, number_at-lt}
+use Rattle.at_files.proofs.NameLaws.{decimal-AreNames, known_version, position_of-Some}
+use Rattle.at_files.proofs.FieldLaws.{both_tests, length-has_shape, first-has_shape, two_fields, four_fields, field_of-number_at, number_at-lt}
 
 -- the accounts' names are their numbers
 abbrev pub AreNumbered : NameList → Type 0
@@ -94,15 +94,15 @@ plain_call_of-spelled names fields call numbered h = by (has_shape (codes "trans
 
 -- calls whose accounts are given by their names
 named_transfer-spelled : (names : NameList) (fields : Fields) (call : Call) (from to amount : Option ℕ) → has_shape (codes "transfer") 4 fields ≡ true
-    → place_of names.accounts (field_of fields 1) ≡ from → place_of names.accounts (field_of fields 2) ≡ to → number_at fields 3 ≡ amount
+    → position_of names.accounts (field_of fields 1) ≡ from → position_of names.accounts (field_of fields 2) ≡ to → number_at fields 3 ≡ amount
     → named_transfer from to amount ≡ Ok call → Spelled names fields call
 named_transfer-spelled names fields call from to None shape e1 e2 e3 h = absurd (cc)
 named_transfer-spelled names fields call None to (Some amount) shape e1 e2 e3 h = absurd (cc)
 named_transfer-spelled names fields call (Some from) None (Some amount) shape e1 e2 e3 h = absurd (cc)
 named_transfer-spelled names fields call (Some from) (Some to) (Some amount) shape e1 e2 e3 h =
     let same : Transfer from to amount ≡ call = cc in
-    let source = place_of-Some names.accounts (field_of fields 1) from e1 in
-    let target = place_of-Some names.accounts (field_of fields 2) to e2 in
+    let source = position_of-Some names.accounts (field_of fields 1) from e1 in
+    let target = position_of-Some names.accounts (field_of fields 2) to e2 in
     let P : Call → Type 0 = Spelled names fields in
     subst P same (record {
       spelled =
@@ -114,11 +114,11 @@ named_transfer-spelled names fields call (Some from) (Some to) (Some amount) sha
     })
 
 named_read-spelled : (names : NameList) (fields : Fields) (call : Call) (account : Option ℕ) → has_shape (codes "read") 2 fields ≡ true
-    → place_of names.accounts (field_of fields 1) ≡ account → named_read account ≡ Ok call → Spelled names fields call
+    → position_of names.accounts (field_of fields 1) ≡ account → named_read account ≡ Ok call → Spelled names fields call
 named_read-spelled names fields call None shape e h = absurd (cc)
 named_read-spelled names fields call (Some account) shape e h =
     let same : Read account ≡ call = cc in
-    let at = place_of-Some names.accounts (field_of fields 1) account e in
+    let at = position_of-Some names.accounts (field_of fields 1) account e in
     let P : Call → Type 0 = Spelled names fields in
     subst P same (record {
       spelled = two_fields fields (length-has_shape (codes "read") 2 fields shape) ∙ rw (first-has_shape (codes "read") 2 fields shape, at.1) refl;
@@ -135,7 +135,7 @@ record AreSpelled (names : NameList) (fields : Fields) (targets : List TargetPai
   count : length fields ≡ 2 * length targets
 
 AreSpelled-cons : (names : NameList) (name amount : List ℕ) (rest : Fields) (to paid : Option ℕ) (later : Option (List TargetPair)) (targets : List TargetPair)
-    → place_of names.accounts name ≡ to → number_of amount ≡ paid → ((more : List TargetPair) → later ≡ Some more → AreSpelled names rest more)
+    → position_of names.accounts name ≡ to → number_of amount ≡ paid → ((more : List TargetPair) → later ≡ Some more → AreSpelled names rest more)
     → before (target_of to paid) later ≡ Some targets → AreSpelled names (name ∷ amount ∷ rest) targets
 unfolding fields_of_targets
 AreSpelled-cons names name amount rest None paid None targets e f all h = absurd (cc)
@@ -145,7 +145,7 @@ AreSpelled-cons names name amount rest (Some to) None (Some more) targets e f al
 AreSpelled-cons names name amount rest (Some to) (Some paid) None targets e f all h = absurd (cc)
 AreSpelled-cons names name amount rest (Some to) (Some paid) (Some more) targets e f all h =
     let same : (to, paid) ∷ more ≡ targets = cc in
-    let at = place_of-Some names.accounts name to e in
+    let at = position_of-Some names.accounts name to e in
     let number = number_of-some amount paid f in
     let later = all more refl in
     let P : List TargetPair → Type 0 = AreSpelled names (name ∷ amount ∷ rest) in
@@ -156,16 +156,16 @@ AreSpelled-cons names name amount rest (Some to) (Some paid) (Some more) targets
       count = let count = later.count in omega arith;
     })
 
-targets_of-spelled : (names : NameList) (fields : Fields) (targets : List TargetPair) → targets_of names.accounts fields ≡ Some targets → AreSpelled names fields targets
-unfolding targets_of fields_of_targets
-targets_of-spelled names [] targets h =
+targets_spelled-spelled : (names : NameList) (fields : Fields) (targets : List TargetPair) → targets_spelled names.accounts fields ≡ Some targets → AreSpelled names fields targets
+unfolding targets_spelled fields_of_targets
+targets_spelled-spelled names [] targets h =
     let same : [] ≡ targets = cc in
     let P : List TargetPair → Type 0 = AreSpelled names [] in
     subst P same (record { spelled = refl; known = λ k d within. absurd (omega arith); amounts = λ k d within. absurd (omega arith); count = refl })
-targets_of-spelled names (name ∷ []) targets h = absurd (cc)
-targets_of-spelled names (name ∷ amount ∷ rest) targets h =
-    AreSpelled-cons names name amount rest (place_of names.accounts name) (number_of amount) (targets_of names.accounts rest) targets refl refl
-    (λ more is. targets_of-spelled names rest more is) h
+targets_spelled-spelled names (name ∷ []) targets h = absurd (cc)
+targets_spelled-spelled names (name ∷ amount ∷ rest) targets h =
+    AreSpelled-cons names name amount rest (position_of names.accounts name) (number_of amount) (targets_spelled names.accounts rest) targets refl refl
+    (λ more is. targets_spelled-spelled names rest more is) h
 
 -- the parts of a pay-out
 record IsPayOut (fields : Fields) : Type 0 where
@@ -197,15 +197,15 @@ IsPayOut-is_pay fields h =
     by false false false false e f g i is = absurd (cc)
 
 named_pay-spelled : (names : NameList) (fields : Fields) (call : Call) (from : Option ℕ) (numbers : Bool) (targets : Option (List TargetPair)) → names.version ≡ 2 → is_pay fields ≡ true
-    → place_of names.accounts (field_of fields 1) ≡ from → targets_of names.accounts (drop 2 fields) ≡ targets → named_pay from numbers targets ≡ Ok call → Spelled names fields call
+    → position_of names.accounts (field_of fields 1) ≡ from → targets_spelled names.accounts (drop 2 fields) ≡ targets → named_pay from numbers targets ≡ Ok call → Spelled names fields call
 named_pay-spelled names fields call from false targets second pay e f h = absurd (cc)
 named_pay-spelled names fields call None true targets second pay e f h = absurd (cc)
 named_pay-spelled names fields call (Some from) true None second pay e f h = absurd (cc)
 named_pay-spelled names fields call (Some from) true (Some targets) second pay e f h =
     let same : Pay from targets ≡ call = cc in
     let parts = IsPayOut-is_pay fields pay in
-    let at = place_of-Some names.accounts (field_of fields 1) from e in
-    let all = targets_of-spelled names (drop 2 fields) targets f in
+    let at = position_of-Some names.accounts (field_of fields 1) from e in
+    let all = targets_spelled-spelled names (drop 2 fields) targets f in
     let whole = ap length parts.parts in
     let long : length fields ≡ length (drop 2 fields) + 2 = omega arith in
     let P : Call → Type 0 = Spelled names fields in
@@ -220,15 +220,15 @@ named_call_of-spelled : (names : NameList) (fields : Fields) (call : Call) → n
 named_call_of-spelled names fields call second h = by (has_shape (codes "transfer") 4 fields) (has_shape (codes "read") 2 fields) (is_pay fields) refl refl refl h
   where
     by : (b c d : Bool) → has_shape (codes "transfer") 4 fields ≡ b → has_shape (codes "read") 2 fields ≡ c → is_pay fields ≡ d
-        → (if b then named_transfer (place_of names.accounts (field_of fields 1)) (place_of names.accounts (field_of fields 2)) (number_at fields 3)
-        else if c then named_read (place_of names.accounts (field_of fields 1))
-        else if d then named_pay (place_of names.accounts (field_of fields 1)) (has_amounts (drop 2 fields)) (targets_of names.accounts (drop 2 fields))
+        → (if b then named_transfer (position_of names.accounts (field_of fields 1)) (position_of names.accounts (field_of fields 2)) (number_at fields 3)
+        else if c then named_read (position_of names.accounts (field_of fields 1))
+        else if d then named_pay (position_of names.accounts (field_of fields 1)) (has_amounts (drop 2 fields)) (targets_spelled names.accounts (drop 2 fields))
         else Err Shape) ≡ Ok call → Spelled names fields call
     by true c d shape _ _ is =
-        named_transfer-spelled names fields call (place_of names.accounts (field_of fields 1)) (place_of names.accounts (field_of fields 2)) (number_at fields 3) shape refl refl refl is
-    by false true d _ shape _ is = named_read-spelled names fields call (place_of names.accounts (field_of fields 1)) shape refl is
+        named_transfer-spelled names fields call (position_of names.accounts (field_of fields 1)) (position_of names.accounts (field_of fields 2)) (number_at fields 3) shape refl refl refl is
+    by false true d _ shape _ is = named_read-spelled names fields call (position_of names.accounts (field_of fields 1)) shape refl is
     by false false true _ _ pay is =
-        named_pay-spelled names fields call (place_of names.accounts (field_of fields 1)) (has_amounts (drop 2 fields)) (targets_of names.accounts (drop 2 fields)) second pay refl refl is
+        named_pay-spelled names fields call (position_of names.accounts (field_of fields 1)) (has_amounts (drop 2 fields)) (targets_spelled names.accounts (drop 2 fields)) second pay refl refl is
     by false false false _ _ _ is = absurd (cc)
 
 call_of-spelled : (names : NameList) (fields : Fields) (call : Call) → AreNames names.version names.accounts → call_of names fields ≡ Ok call → Spelled names fields call
@@ -242,61 +242,61 @@ call_of-spelled names fields call are h = by (names.version == 2) refl h
     by false other is = plain_call_of-spelled names fields call (first other, are) is
 
 -- the records from a line on are the calls, written out
-record AllSpelled (names : NameList) (line : ℕ) (rows : List Fields) (calls : List Call) : Type 0 where
-  spelled : rows ≡ map (fields_of_call names) calls
+record AllSpelled (names : NameList) (line : ℕ) (records : List Fields) (calls : List Call) : Type 0 where
+  spelled : records ≡ map (fields_of_call names) calls
   known : All (IsCallOn (length names.accounts)) calls
   amounts : All HasAmounts calls
   versions : All (IsCallOfVersion names.version) calls
-  few : length calls + line ≤ CALLS_MAX + 1
+  few : length calls + line ≤ most_calls + 1
 
-AllSpelled-cons : (names : NameList) (line : ℕ) (fields : Fields) (rows : List Fields) (call : Call) (calls : List Call) → Spelled names fields call
-    → AllSpelled names (line + 1) rows calls → AllSpelled names line (fields ∷ rows) (call ∷ calls)
-AllSpelled-cons names line fields rows call calls first others = record {
+AllSpelled-cons : (names : NameList) (line : ℕ) (fields : Fields) (records : List Fields) (call : Call) (calls : List Call) → Spelled names fields call
+    → AllSpelled names (line + 1) records calls → AllSpelled names line (fields ∷ records) (call ∷ calls)
+AllSpelled-cons names line fields records call calls first others = record {
   spelled = rw (first.spelled, others.spelled) refl;
   known = All-cons (IsCallOn (length names.accounts)) call calls first.known others.known;
   amounts = All-cons HasAmounts call calls first.amounts others.amounts;
   versions = All-cons (IsCallOfVersion names.version) call calls first.version others.versions;
-  few = let few : length calls + (line + 1) ≤ CALLS_MAX + 1 = others.few in omega arith;
+  few = let few : length calls + (line + 1) ≤ most_calls + 1 = others.few in omega arith;
 }
 
-call_before-spelled : (names : NameList) (line : ℕ) (fields : Fields) (rows : List Fields) (calls : List Call) (first : Result Call PaymentsWhy) (later : Result (List Call) BadPayments)
-    → ((call : Call) → first ≡ Ok call → Spelled names fields call) → ((more : List Call) → later ≡ Ok more → AllSpelled names (line + 1) rows more)
-    → call_before line first later ≡ Ok calls → AllSpelled names line (fields ∷ rows) calls
-call_before-spelled names line fields rows calls (Err why) later one all h = absurd (cc)
-call_before-spelled names line fields rows calls (Ok call) (Err bad) one all h = absurd (cc)
-call_before-spelled names line fields rows calls (Ok call) (Ok more) one all h =
+call_before-spelled : (names : NameList) (line : ℕ) (fields : Fields) (records : List Fields) (calls : List Call) (first : Result Call PaymentsWhy) (later : Result (List Call) BadPayments)
+    → ((call : Call) → first ≡ Ok call → Spelled names fields call) → ((more : List Call) → later ≡ Ok more → AllSpelled names (line + 1) records more)
+    → call_before line first later ≡ Ok calls → AllSpelled names line (fields ∷ records) calls
+call_before-spelled names line fields records calls (Err why) later one all h = absurd (cc)
+call_before-spelled names line fields records calls (Ok call) (Err bad) one all h = absurd (cc)
+call_before-spelled names line fields records calls (Ok call) (Ok more) one all h =
     let is : call ∷ more ≡ calls = cc in
-    let P : List Call → Type 0 = AllSpelled names line (fields ∷ rows) in
-    subst P is (AllSpelled-cons names line fields rows call more (one call refl) (all more refl))
+    let P : List Call → Type 0 = AllSpelled names line (fields ∷ records) in
+    subst P is (AllSpelled-cons names line fields records call more (one call refl) (all more refl))
 
-payments_from-spelled : (names : NameList) (line : ℕ) (rows : List Fields) (calls : List Call) → AreNames names.version names.accounts → line ≤ CALLS_MAX + 1
-    → payments_from names line rows ≡ Ok calls → AllSpelled names line rows calls
+payments_from-spelled : (names : NameList) (line : ℕ) (records : List Fields) (calls : List Call) → AreNames names.version names.accounts → line ≤ most_calls + 1
+    → payments_from names line records ≡ Ok calls → AllSpelled names line records calls
 unfolding payments_from
 payments_from-spelled names line [] calls are within h =
     let is : [] ≡ calls = cc in
     let P : List Call → Type 0 = AllSpelled names line [] in
     subst P is (record { spelled = refl; known = λ k d h. absurd (omega arith); amounts = λ k d h. absurd (omega arith); versions = λ k d h. absurd (omega arith); few = omega arith })
-payments_from-spelled names line (fields ∷ rows) calls are within h =
-    by (line == CALLS_MAX + 1) refl h (λ fits more. payments_from-spelled names (line + 1) rows more are fits)
+payments_from-spelled names line (fields ∷ records) calls are within h =
+    by (line == most_calls + 1) refl h (λ fits more. payments_from-spelled names (line + 1) records more are fits)
   where
-    by : (b : Bool) → (line == CALLS_MAX + 1) ≡ b
-        → (if b then Err (record { line = line; why = TooManyCalls }) else call_before line (call_of names fields) (payments_from names (line + 1) rows)) ≡ Ok calls
-        → (line + 1 ≤ CALLS_MAX + 1 → (more : List Call) → payments_from names (line + 1) rows ≡ Ok more → AllSpelled names (line + 1) rows more)
-        → AllSpelled names line (fields ∷ rows) calls
+    by : (b : Bool) → (line == most_calls + 1) ≡ b
+        → (if b then Err (record { line = line; why = TooManyCalls }) else call_before line (call_of names fields) (payments_from names (line + 1) records)) ≡ Ok calls
+        → (line + 1 ≤ most_calls + 1 → (more : List Call) → payments_from names (line + 1) records ≡ Ok more → AllSpelled names (line + 1) records more)
+        → AllSpelled names line (fields ∷ records) calls
     by true last is all = absurd (cc)
     by false other is all =
-        let fits : line + 1 ≤ CALLS_MAX + 1 = grind (arith, nat_tests) in
-        call_before-spelled names line fields rows calls (call_of names fields) (payments_from names (line + 1) rows)
+        let fits : line + 1 ≤ most_calls + 1 = grind (arith, nat_tests) in
+        call_before-spelled names line fields records calls (call_of names fields) (payments_from names (line + 1) records)
         (λ call e. call_of-spelled names fields call are e) (all fits) is
 
 -- what the walk gives is what the file pays
-pub Pays-payments_of : (b : BookTerms) (names : NameList) (rows : List Fields) (calls : List Call) → AreNamesOf b names → payments_of names rows ≡ Ok calls → Pays b names rows calls
-Pays-payments_of b names rows calls are h =
-    let all = payments_from-spelled names 1 rows calls are.formed.accounts (omega arith) h in
+pub Pays-payments_of : (b : BookTerms) (names : NameList) (records : List Fields) (calls : List Call) → AreNamesOf b names → payments_of names records ≡ Ok calls → Pays b names records calls
+Pays-payments_of b names records calls are h =
+    let all = payments_from-spelled names 1 records calls are.formed.accounts (omega arith) h in
     record {
       spelled = all.spelled;
       known = rw are.accounts at all.known;
       amounts = all.amounts;
       versions = all.versions;
-      few = let few : length calls + 1 ≤ CALLS_MAX + 1 = all.few in omega arith;
+      few = let few : length calls + 1 ≤ most_calls + 1 = all.few in omega arith;
     }

@@ -1,4 +1,4 @@
--- What each record of a book file gives, or the cause of its offence.
+-- What each record of a book file gives, or the cause of its fault.
 use Rattle.std.specs.Prelude.{ℕ, ◌+◌, ◌==◌, List, [], ◌∷◌, ◌++◌, length, drop, bytes_eq, codes, nat_le, nat_lt, Option, Some, None, Result, Ok, Err, if◌then◌else◌}
 use Rattle.std.specs.List.{slice_split}
 use Rattle.at_base.specs.Numbers.{number_of}
@@ -7,9 +7,10 @@ use Rattle.at_ledger.specs.Book.{BookTerms}
 use Rattle.at_ledger.specs.Draft.{limits_fault, account_fault, terms_with, with_account, book_without_accounts}
 use Rattle.at_ledger.specs.declared.draft.BookError.{BookError}
 use Rattle.at_ledger.specs.declared.draft.BookError.TheVariants.{NoProcess, TooManyProcesses, TooManyAccounts, OwnersNotRising, TooManyOwners}
-use Rattle.at_ledger.specs.declared.draft.TheConstants.{ACCOUNTS_MAX, OWNERS_MAX, PROCESSES_MAX}
-use Rattle.at_files.specs.Names.{NameList, decimals_below, has_name, is_name, place_of}
-use Rattle.at_files.specs.Rows.{Fields, before, field_of, number_at, has_shape}
+use Rattle.at_ledger.specs.Limits.{most_accounts, most_owners, most_processes}
+use Rattle.at_files.specs.Names.{NameList, decimals_below, has_name, is_name, position_of}
+use Rattle.at_files.specs.Records.{Fields, before, field_of, number_at, has_shape}
+use Rattle.at_files.specs.Results.{and_then}
 use Rattle.at_files.specs.declared.book_fault.BookWhy.{BookWhy}
 use Rattle.at_files.specs.declared.book_fault.BookWhy.TheVariants as why
 
@@ -22,11 +23,6 @@ pub record NamedBook : Type 0 where
 abbrev pub within_limits : {A : Type 0} → Option BookError → A → Result A BookWhy
 within_limits None x = Ok x
 within_limits (Some e) x = Err (why.Book e)
-
--- what a value leads to, unless an offence came before
-abbrev pub and_then : {A B : Type 0} → Result A BookWhy → (A → Result B BookWhy) → Result B BookWhy
-and_then (Ok x) more = more x
-and_then (Err w) more = Err w
 
 -- record 1: the version
 abbrev pub version_of : Fields → Result ℕ BookWhy
@@ -42,7 +38,7 @@ with_name names name =
 
 -- one more process, of which a book has sixteen at most
 abbrev pub with_process : List (List ℕ) → List ℕ → Result (List (List ℕ)) BookWhy
-with_process names name = if nat_le PROCESSES_MAX (length names) then Err (why.Book TooManyProcesses) else with_name names name
+with_process names name = if nat_le most_processes (length names) then Err (why.Book TooManyProcesses) else with_name names name
 
 -- the processes so far, and those that these fields name from left to right
 unfoldable pub with_processes : List (List ℕ) → Fields → Result (List (List ℕ)) BookWhy
@@ -106,14 +102,14 @@ abbrev pub owner_known : ℕ → ℕ → ℕ → Option ℕ → Result ℕ BookW
 owner_known account count least None = Err why.UnknownOwner
 owner_known account count least (Some owner) =
     if nat_lt owner least then Err (why.Book (OwnersNotRising account))
-    else if nat_le OWNERS_MAX count then Err (why.Book (TooManyOwners account))
+    else if nat_le most_owners count then Err (why.Book (TooManyOwners account))
     else Ok owner
 
 -- the owners that the pieces name, from left to right, after `count` others
 unfoldable pub owners_named : List (List ℕ) → ℕ → ℕ → ℕ → List (List ℕ) → Result (List ℕ) BookWhy
 owners_named processes account count least [] = Ok []
 owners_named processes account count least (piece ∷ pieces) =
-    and_then (owner_known account count least (place_of processes piece))
+    and_then (owner_known account count least (position_of processes piece))
     (λ owner. and_then (owners_named processes account (count + 1) (owner + 1) pieces) (λ owners. Ok (owner ∷ owners)))
 
 -- an account of version 2 whose name is good
@@ -131,20 +127,20 @@ abbrev pub with_terms : NamedBook → List ℕ → AccountTerms → Result Named
 with_terms b name t = within_limits (account_fault b.book t) (with_named b name t)
 
 -- an account's record in version 1
-abbrev pub with_plain_row : NamedBook → Fields → Result NamedBook BookWhy
-with_plain_row b fields =
+abbrev pub with_plain_record : NamedBook → Fields → Result NamedBook BookWhy
+with_plain_record b fields =
     and_then (numbered_terms (length b.book.accounts) (number_at fields 1) (number_at fields 2) (numbers_of (pieces_of (field_of fields 3))))
     (with_terms b (field_of fields 1))
 
 -- an account's record in version 2
-abbrev pub with_named_row : NamedBook → Fields → Result NamedBook BookWhy
-with_named_row b fields =
+abbrev pub with_named_record : NamedBook → Fields → Result NamedBook BookWhy
+with_named_record b fields =
     and_then (with_name b.names.accounts (field_of fields 1))
     (λ names. and_then (named_terms b.names.processes (length b.book.accounts) (number_at fields 2) (field_of fields 3)) (with_terms b (field_of fields 1)))
 
 -- a record from the fourth on: the book so far with the account that it adds
-abbrev pub with_row : NamedBook → Fields → Result NamedBook BookWhy
-with_row b fields =
-    if nat_le ACCOUNTS_MAX (length b.book.accounts) then Err (why.Book TooManyAccounts)
-    else if has_shape (codes "account") 4 fields then (if b.names.version == 2 then with_named_row b fields else with_plain_row b fields)
+abbrev pub with_account_record : NamedBook → Fields → Result NamedBook BookWhy
+with_account_record b fields =
+    if nat_le most_accounts (length b.book.accounts) then Err (why.Book TooManyAccounts)
+    else if has_shape (codes "account") 4 fields then (if b.names.version == 2 then with_named_record b fields else with_plain_record b fields)
     else Err why.Shape

@@ -1,6 +1,8 @@
+pub mod Limits
+pub mod Results
 pub mod Names
 pub mod NameSet
-pub mod Rows
+pub mod Records
 pub mod Reading
 pub mod Payments
 pub mod BookRecords

@@ -1,9 +1,9 @@
 -- What holds of names that are told apart.
 use Rattle.std.specs.Prelude.{ℕ, ◌≤◌, List, length, All, bytes_eq}
 use Rattle.std.specs.List.{IsDistinct}
-use Rattle.at_files.specs.declared.name_set.TheConstants.{NAME_MAX}
+use Rattle.at_files.specs.Limits.{most_name_bytes}
 
 -- no two are the same, and none is longer than a name may be
-pub record AreHeld (names : List (List ℕ)) : Type 0 where
+pub record IsNameSet (names : List (List ℕ)) : Type 0 where
   pub distinct : IsDistinct bytes_eq names
-  pub short : All (λ name. length name ≤ NAME_MAX) names
+  pub short : All (λ name. length name ≤ most_name_bytes) names

@@ -3,8 +3,8 @@ use Rattle.std.specs.Prelude.{◌≡◌, ℕ, ◌≤◌, ◌==◌, Bool, true, �
 use Rattle.std.specs.Char.{is_ascii_digit, is_ascii_lowercase}
 use Rattle.std.specs.List.{IsDistinct, list_all, list_any, range_with_len}
 use Rattle.at_ledger.specs.Book.{BookTerms}
-use Rattle.at_ledger.specs.declared.draft.TheConstants.{ACCOUNTS_MAX}
-use Rattle.at_files.specs.declared.name_set.TheConstants.{NAME_MAX}
+use Rattle.at_ledger.specs.Limits.{most_accounts}
+use Rattle.at_files.specs.Limits.{most_name_bytes}
 
 -- the version of the book that gives them, and a name for each process and each account, in order
 pub record NameList : Type 0 where
@@ -19,9 +19,9 @@ process_name names process = slice_index_or names.processes process []
 abbrev pub account_name : NameList → ℕ → List ℕ
 account_name names account = slice_index_or names.accounts account []
 
--- the place of a name among others, from 0
-abbrev pub place_of : List (List ℕ) → List ℕ → Option ℕ
-place_of names name = position (bytes_eq name) names
+-- the position of a name among others, from 0
+abbrev pub position_of : List (List ℕ) → List ℕ → Option ℕ
+position_of names name = position (bytes_eq name) names
 
 -- whether the name is among them
 abbrev pub has_name : List (List ℕ) → List ℕ → Bool
@@ -41,7 +41,7 @@ is_name_byte byte = is_ascii_lowercase byte || is_ascii_digit byte || (byte == 4
 
 -- a name of version 2: 1 to 16 of these bytes, the first of which is a letter
 abbrev pub is_name : List ℕ → Bool
-is_name text = nat_le (length text) NAME_MAX && list_all is_name_byte text && is_ascii_lowercase (slice_index text 0)
+is_name text = nat_le (length text) most_name_bytes && list_all is_name_byte text && is_ascii_lowercase (slice_index text 0)
 
 -- what each name of a book of this version is: its number in version 1, and of the form above in version 2
 abbrev pub AreFormed : ℕ → List (List ℕ) → Type 0
@@ -57,7 +57,7 @@ pub record AreNames (version : ℕ) (names : List (List ℕ)) : Type 0 where
 pub record IsNameList (names : NameList) : Type 0 where
   pub processes : AreNames names.version names.processes
   pub accounts : AreNames names.version names.accounts
-  pub few_accounts : length names.accounts ≤ ACCOUNTS_MAX
+  pub few_accounts : length names.accounts ≤ most_accounts
 
 -- these are the names of the book: one for each process and each account
 pub record AreNamesOf (b : BookTerms) (names : NameList) : Type 0 where

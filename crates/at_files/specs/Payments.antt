@@ -1,14 +1,14 @@
--- The payments of one process: the calls that the records of its file spell, or the first offence.
+-- The payments of one process: the calls that the records of its file spell, or the first fault.
 use Rattle.std.specs.Prelude.{◌≡◌, ℕ, ◌+◌, ◌^◌, ◌<◌, ◌≤◌, ◌==◌, Bool, true, false, ◌&&◌, ◌||◌, List, [], ◌∷◌, ◌++◌, length, drop, is_some, map, All, codes, decimal, nat_lt, Option, Some, None, Result, Ok, Err, if◌then◌else◌}
 use Rattle.at_base.specs.Numbers.{number_of}
 use Rattle.at_ledger.specs.Book.{BookTerms}
 use Rattle.at_ledger.specs.Call.{TargetPair, IsCallOn}
 use Rattle.at_ledger.specs.declared.call.Call.{Call}
 use Rattle.at_ledger.specs.declared.call.Call.TheVariants.{Transfer, Read, Pay}
-use Rattle.at_ledger.specs.declared.targets.TheConstants.{TARGETS_MAX}
-use Rattle.at_files.specs.Names.{NameList, account_name, place_of}
-use Rattle.at_files.specs.Rows.{Fields, before, field_of, number_at, has_shape}
-use Rattle.at_files.specs.declared.payments_fault.TheConstants.{CALLS_MAX}
+use Rattle.at_ledger.specs.Limits.{most_targets}
+use Rattle.at_files.specs.Names.{NameList, account_name, position_of}
+use Rattle.at_files.specs.Records.{Fields, before, field_of, number_at, has_shape}
+use Rattle.at_files.specs.Limits.{most_calls}
 use Rattle.at_files.specs.declared.payments_fault.PaymentsWhy.{PaymentsWhy}
 use Rattle.at_files.specs.declared.payments_fault.PaymentsWhy.TheVariants.{Shape, Number, UnknownAccount, TooManyCalls}
 use Rattle.at_files.specs.declared.payments_fault.BadPayments.{BadPayments}
@@ -54,10 +54,10 @@ target_of (Some to) (Some amount) = Some (to, amount)
 target_of _ _ = None
 
 -- the targets that these fields give, a name and an amount for each
-unfoldable pub targets_of : List (List ℕ) → Fields → Option (List TargetPair)
-targets_of names [] = Some []
-targets_of names (name ∷ []) = None
-targets_of names (name ∷ amount ∷ rest) = before (target_of (place_of names name) (number_of amount)) (targets_of names rest)
+unfoldable pub targets_spelled : List (List ℕ) → Fields → Option (List TargetPair)
+targets_spelled names [] = Some []
+targets_spelled names (name ∷ []) = None
+targets_spelled names (name ∷ amount ∷ rest) = before (target_of (position_of names name) (number_of amount)) (targets_spelled names rest)
 
 -- a pay-out between accounts that are given by their names
 abbrev pub named_pay : Option ℕ → Bool → Option (List TargetPair) → Result Call PaymentsWhy
@@ -75,9 +75,9 @@ is_pay fields =
 abbrev pub named_call_of : List (List ℕ) → Fields → Result Call PaymentsWhy
 named_call_of names fields =
     if has_shape (codes "transfer") 4 fields
-    then named_transfer (place_of names (field_of fields 1)) (place_of names (field_of fields 2)) (number_at fields 3)
-    else if has_shape (codes "read") 2 fields then named_read (place_of names (field_of fields 1))
-    else if is_pay fields then named_pay (place_of names (field_of fields 1)) (has_amounts (drop 2 fields)) (targets_of names (drop 2 fields))
+    then named_transfer (position_of names (field_of fields 1)) (position_of names (field_of fields 2)) (number_at fields 3)
+    else if has_shape (codes "read") 2 fields then named_read (position_of names (field_of fields 1))
+    else if is_pay fields then named_pay (position_of names (field_of fields 1)) (has_amounts (drop 2 fields)) (targets_spelled names (drop 2 fields))
     else Err Shape
 
 -- the call that a record spells beside a book's names
@@ -85,11 +85,11 @@ abbrev pub call_of : NameList → Fields → Result Call PaymentsWhy
 call_of names fields =
     if names.version == 2 then named_call_of names.accounts fields else plain_call_of (length names.accounts) fields
 
--- an offence at this line
+-- a fault at this line
 abbrev pub bad_payments : ℕ → PaymentsWhy → Result (List Call) BadPayments
 bad_payments line why = Err (record { line = line; why = why })
 
--- calls in front of those that come later, unless an offence does
+-- calls before those that come later, unless a fault does
 abbrev pub calls_before : List Call → Result (List Call) BadPayments → Result (List Call) BadPayments
 calls_before calls (Ok later) = Ok (calls ++ later)
 calls_before calls (Err bad) = Err bad
@@ -99,16 +99,16 @@ abbrev pub call_before : ℕ → Result Call PaymentsWhy → Result (List Call) 
 call_before line (Ok call) later = calls_before (call ∷ []) later
 call_before line (Err why) later = bad_payments line why
 
--- the calls of the records from this line on, or the first offence
+-- the calls of the records from this line on, or the first fault
 unfoldable pub payments_from : NameList → ℕ → List Fields → Result (List Call) BadPayments
 payments_from names line [] = Ok []
-payments_from names line (fields ∷ rows) =
-    if line == CALLS_MAX + 1 then bad_payments line TooManyCalls
-    else call_before line (call_of names fields) (payments_from names (line + 1) rows)
+payments_from names line (fields ∷ records) =
+    if line == most_calls + 1 then bad_payments line TooManyCalls
+    else call_before line (call_of names fields) (payments_from names (line + 1) records)
 
--- the calls of a file's records, or the first offence
+-- the calls of a file's records, or the first fault
 abbrev pub payments_of : NameList → List Fields → Result (List Call) BadPayments
-payments_of names rows = payments_from names 1 rows
+payments_of names records = payments_from names 1 records
 
 -- the fields of a pay-out's targets, a name and an amount for each
 unfoldable pub fields_of_targets : NameList → List TargetPair → Fields
@@ -126,7 +126,7 @@ fields_of_call names (Pay from targets) = codes "pay" ∷ account_name names fro
 abbrev pub IsCallOfVersion : ℕ → Call → Type 0
 IsCallOfVersion version (Transfer from to amount) = Unit {0}
 IsCallOfVersion version (Read account) = Unit {0}
-IsCallOfVersion version (Pay from targets) = (version ≡ 2) × (1 ≤ length targets) × (length targets ≤ TARGETS_MAX)
+IsCallOfVersion version (Pay from targets) = (version ≡ 2) × (1 ≤ length targets) × (length targets ≤ most_targets)
 
 -- the amounts of a call are numbers that a file can hold
 abbrev pub HasAmounts : Call → Type 0
@@ -135,9 +135,9 @@ HasAmounts (Read account) = Unit {0}
 HasAmounts (Pay from targets) = All (λ t. t.1 < 2 ^ 64) targets
 
 -- the records are these calls, written out one after another
-pub record Pays (b : BookTerms) (names : NameList) (rows : List Fields) (calls : List Call) : Type 0 where
-  pub spelled : rows ≡ map (fields_of_call names) calls
+pub record Pays (b : BookTerms) (names : NameList) (records : List Fields) (calls : List Call) : Type 0 where
+  pub spelled : records ≡ map (fields_of_call names) calls
   pub known : All (IsCallOn (length b.accounts)) calls
   pub amounts : All HasAmounts calls
   pub versions : All (IsCallOfVersion names.version) calls
-  pub few : length calls ≤ CALLS_MAX
+  pub few : length calls ≤ most_calls

@@ -6,19 +6,19 @@ use Rattle.csv.specs.Reading.{default_config, records_from, source_of, Ready, re
 use Rattle.csv.specs.declared.parser.State.{State}
 use Rattle.csv.specs.declared.reader.Reader.{Reader}
 use Rattle.csv.specs.declared.reader.Trim.TheVariants as trim
-use Rattle.at_files.specs.Rows.{Fields}
+use Rattle.at_files.specs.Records.{Fields}
 
 -- the records of bytes that are read on from a state
-abbrev pub rows_from : State → List ℕ → List Fields
-rows_from state bytes = records_from default_config (length bytes + 1) state bytes
+abbrev pub records_read_from : State → List ℕ → List Fields
+records_read_from state bytes = records_from default_config (length bytes + 1) state bytes
 
 -- the bytes that a reader has left
-abbrev pub unread : Reader (Bor (List ℕ)) → List ℕ
-unread reader = unwrap_or (source_of (λ bytes. Some bytes.now) reader) []
+abbrev pub bytes_left : Reader (Bor (List ℕ)) → List ℕ
+bytes_left reader = unwrap_or (source_of (λ bytes. Some bytes.now) reader) []
 
 -- the records that a reader has left
-abbrev pub rows_left : Reader (Bor (List ℕ)) → List Fields
-rows_left reader = rows_from (reader_state reader) (unread reader)
+abbrev pub records_left : Reader (Bor (List ℕ)) → List Fields
+records_left reader = records_read_from (reader_state reader) (bytes_left reader)
 
 -- a reader with the crate's defaults and no header row, which stands between two records
 pub record IsBetweenRecords (reader : Reader (Bor (List ℕ))) : Type 0 where

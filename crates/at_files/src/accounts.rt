@@ -1,17 +1,18 @@
 //! The records of a book file from the fourth on, each of an account.
 
 ghost use Rattle.std.specs.Prelude.{◌≡◌, ◌+◌, ◌<◌, length, Err, Ok, OnOk, IfErr, IfOk, option_map};
+ghost use Rattle.at_ledger.specs.Limits.{most_accounts};
 ghost use Rattle.csv.specs.Records.{fields_of};
 ghost use Rattle.at_ledger.specs.Draft.{account_fault, terms_with, with_account};
 ghost use Rattle.at_files.specs.Names.{AreNamesOf};
-ghost use Rattle.at_files.specs.BookRecords.{book_with_rooms, limits_of, named_terms, numbered_terms, with_named_row, with_plain_row, with_row, within_limits};
+ghost use Rattle.at_files.specs.BookRecords.{book_with_rooms, limits_of, named_terms, numbered_terms, with_named_record, with_plain_record, with_account_record, within_limits};
 ghost use Rattle.at_files.specs.BookFile.{at_line};
 
 use crate::book_fault::{BadBook, BookWhy, ReadBookFault};
 use crate::fields::{field_of, has_shape, number_at};
+use crate::first_records::{add_name, bad_book};
 use crate::name_set::NameSet;
 use crate::owners::{owners_named, read_owners};
-use crate::records::{add_name, bad_book};
 use at_ledger::{ACCOUNTS_MAX, BookBuilder, BookFault};
 use csv::ByteRecord;
 use std::alloc::Global;
@@ -63,17 +64,17 @@ pub(crate) fn limits_of(
     alloc: Global,
     version: u32,
     processes: NameSet,
-    row: &ByteRecord,
+    fields: &ByteRecord,
 ) -> Result<Begun, BookWhy>
-    ensures { result ≡ limits_of version processes (fields_of row.now) }
+    ensures { result ≡ limits_of version processes (fields_of fields.now) }
 {
-    if has_shape(row, b"limits", 3) {
+    if has_shape(fields, b"limits", 3) {
         book_with_rooms(
             alloc,
             version,
             processes,
-            number_at(row, 1),
-            number_at(row, 2),
+            number_at(fields, 1),
+            number_at(fields, 2),
         )
     } else {
         Err(BookWhy::Shape)
@@ -87,7 +88,7 @@ fn add_terms(
     opening: u64,
     owners: &[u64],
 ) -> Result<(), ReadBookFault>
-    requires { account < ACCOUNTS_MAX }
+    requires { account < most_accounts }
     ensures ok { OnOk result (within_limits (account_fault builder.old (terms_with opening owners.now)) (with_account builder.old (terms_with opening owners.now)) ≡ Ok builder.new) }
     ensures bad { (b : BadBook) → result ≡ Err (ReadBookFault.Bad b)
         → at_line (account + 4) (within_limits (account_fault builder.old (terms_with opening owners.now)) (with_account builder.old (terms_with opening owners.now))) ≡ Err b }
@@ -127,7 +128,7 @@ fn named_terms(
     opening: Option<u64>,
     text: &[u8],
 ) -> Result<(u64, Vec<u64>), ReadBookFault>
-    requires { account < ACCOUNTS_MAX }
+    requires { account < most_accounts }
     ensures ok { IfOk result (λ t. named_terms processes.now account opening text.now ≡ Ok (terms_with t.0 t.1.items)) }
     ensures bad { (b : BadBook) → result ≡ Err (ReadBookFault.Bad b) → at_line (account + 4) (named_terms processes.now account opening text.now) ≡ Err b }
 {
@@ -141,26 +142,26 @@ fn named_terms(
 }
 
 /// Adds the account of a record in version 1.
-fn add_plain_row(
+fn add_plain_record(
     alloc: Global,
     begun: &mut Begun,
     account: u32,
-    row: &ByteRecord,
+    fields: &ByteRecord,
 ) -> Result<(), ReadBookFault>
     requires account { account ≡ length begun.old.book.accounts }
-    requires room { account < ACCOUNTS_MAX }
+    requires room { account < most_accounts }
     requires version { begun.old.names.version ≡ 1 }
     requires names { AreNamesOf begun.old.book begun.old.names }
-    ensures ok { OnOk result (with_plain_row begun.old (fields_of row.now) ≡ Ok begun.new) }
-    ensures bad { (b : BadBook) → result ≡ Err (ReadBookFault.Bad b) → at_line (account + 4) (with_plain_row begun.old (fields_of row.now)) ≡ Err b }
+    ensures ok { OnOk result (with_plain_record begun.old (fields_of fields.now) ≡ Ok begun.new) }
+    ensures bad { (b : BadBook) → result ≡ Err (ReadBookFault.Bad b) → at_line (account + 4) (with_plain_record begun.old (fields_of fields.now)) ≡ Err b }
 {
-    let Ok(owners) = read_owners(alloc, field_of(row, 3)) else {
+    let Ok(owners) = read_owners(alloc, field_of(fields, 3)) else {
         return Err(ReadBookFault::NoMemory);
     };
     let (opening, owners) = match numbered_terms(
         account,
-        number_at(row, 1),
-        number_at(row, 2),
+        number_at(fields, 1),
+        number_at(fields, 2),
         owners,
     ) {
         Ok(terms) => terms,
@@ -169,33 +170,33 @@ fn add_plain_row(
     if let Err(fault) = add_terms(&mut begun.builder, account, opening, &owners) {
         return Err(fault);
     }
-    let Ok(_added) = begun.accounts.add(field_of(row, 1)) else {
+    let Ok(_added) = begun.accounts.add(field_of(fields, 1)) else {
         return Err(ReadBookFault::NoMemory);
     };
     Ok(())
 }
 
 /// Adds the account of a record in version 2.
-fn add_named_row(
+fn add_named_record(
     alloc: Global,
     begun: &mut Begun,
     account: u32,
-    row: &ByteRecord,
+    fields: &ByteRecord,
 ) -> Result<(), ReadBookFault>
     requires account { account ≡ length begun.old.book.accounts }
-    requires room { account < ACCOUNTS_MAX }
-    ensures ok { OnOk result (with_named_row begun.old (fields_of row.now) ≡ Ok begun.new) }
-    ensures bad { (b : BadBook) → result ≡ Err (ReadBookFault.Bad b) → at_line (account + 4) (with_named_row begun.old (fields_of row.now)) ≡ Err b }
+    requires room { account < most_accounts }
+    ensures ok { OnOk result (with_named_record begun.old (fields_of fields.now) ≡ Ok begun.new) }
+    ensures bad { (b : BadBook) → result ≡ Err (ReadBookFault.Bad b) → at_line (account + 4) (with_named_record begun.old (fields_of fields.now)) ≡ Err b }
 {
-    if let Err(fault) = add_name(&mut begun.accounts, account + 4, field_of(row, 1)) {
+    if let Err(fault) = add_name(&mut begun.accounts, account + 4, field_of(fields, 1)) {
         return Err(fault);
     }
     let (opening, owners) = match named_terms(
         alloc,
         &begun.processes,
         account,
-        number_at(row, 2),
-        field_of(row, 3),
+        number_at(fields, 2),
+        field_of(fields, 3),
     ) {
         Ok(terms) => terms,
         Err(fault) => return Err(fault),
@@ -204,25 +205,25 @@ fn add_named_row(
 }
 
 /// Adds the account of a record to the book so far, which has room for it.
-pub(crate) fn add_row(
+pub(crate) fn add_record(
     alloc: Global,
     begun: &mut Begun,
     account: u32,
-    row: &ByteRecord,
+    fields: &ByteRecord,
 ) -> Result<(), ReadBookFault>
     requires account { account ≡ length begun.old.book.accounts }
-    requires room { account < ACCOUNTS_MAX }
+    requires room { account < most_accounts }
     requires names { AreNamesOf begun.old.book begun.old.names }
-    ensures ok { OnOk result (with_row begun.old (fields_of row.now) ≡ Ok begun.new) }
+    ensures ok { OnOk result (with_account_record begun.old (fields_of fields.now) ≡ Ok begun.new) }
     ensures names { OnOk result (AreNamesOf begun.new.book begun.new.names) }
-    ensures bad { (b : BadBook) → result ≡ Err (ReadBookFault.Bad b) → at_line (account + 4) (with_row begun.old (fields_of row.now)) ≡ Err b }
+    ensures bad { (b : BadBook) → result ≡ Err (ReadBookFault.Bad b) → at_line (account + 4) (with_account_record begun.old (fields_of fields.now)) ≡ Err b }
 {
-    if !has_shape(row, b"account", 4) {
+    if !has_shape(fields, b"account", 4) {
         return Err(bad_book(account + 4, BookWhy::Shape));
     }
     if begun.version == 2 {
-        add_named_row(alloc, begun, account, row)
+        add_named_record(alloc, begun, account, fields)
     } else {
-        add_plain_row(alloc, begun, account, row)
+        add_plain_record(alloc, begun, account, fields)
     }
 }

@@ -3,32 +3,32 @@
 ghost use Rattle.std.specs.Prelude.{◌≡◌, ◌⊎◌, [], Err, IfErr, IfOk, Ok};
 ghost use Rattle.at_ledger.specs.Book.{BookTerms, IsBook};
 ghost use Rattle.at_files.specs.Names.{AreNames, AreNamesOf, NameList};
-ghost use Rattle.at_files.specs.Rows.{rows_of};
-ghost use Rattle.at_files.specs.BookFile.{Spells, accounts_from, book_at_end, book_of_rows, limits_from, processes_from};
+ghost use Rattle.at_files.specs.Records.{records_of};
+ghost use Rattle.at_files.specs.BookFile.{Spells, accounts_from, book_at_end, book_of_records, limits_from, processes_from};
 
-use crate::accounts::{Begun, add_row, limits_of};
+use crate::accounts::{Begun, add_record, limits_of};
 use crate::book_fault::{BadBook, BookWhy, ReadBookFault};
+use crate::first_records::{bad_book, processes_of, version_of};
 use crate::name_set::NameSet;
 use crate::names::Names;
-use crate::records::{bad_book, processes_of, version_of};
-use crate::rows::Rows;
+use crate::records::Records;
 use at_ledger::{ACCOUNTS_MAX, Book, BookError};
 use csv::ByteRecord;
 use std::alloc::Global;
 
 /// Reads record 1.
-fn read_title(rows: &mut Rows<'_>, row: &mut ByteRecord) -> Result<u32, ReadBookFault>
-    ensures ok { IfOk result (λ version. book_of_rows rows.old ≡ processes_from version rows.new) }
+fn read_title(records: &mut Records<'_>, fields: &mut ByteRecord) -> Result<u32, ReadBookFault>
+    ensures ok { IfOk result (λ version. book_of_records records.old ≡ processes_from version records.new) }
     ensures known { IfOk result (λ version. (version ≡ 1) ⊎ (version ≡ 2)) }
-    ensures bad { (b : BadBook) → result ≡ Err (ReadBookFault.Bad b) → book_of_rows rows.old ≡ Err b }
+    ensures bad { (b : BadBook) → result ≡ Err (ReadBookFault.Bad b) → book_of_records records.old ≡ Err b }
 {
-    let Ok(found) = rows.next(row) else {
+    let Ok(found) = records.next(fields) else {
         return Err(ReadBookFault::NoMemory);
     };
     if !found {
         return Err(bad_book(1, BookWhy::Shape));
     }
-    match version_of(row) {
+    match version_of(fields) {
         Ok(version) => Ok(version),
         Err(why) => Err(bad_book(1, why)),
     }
@@ -38,20 +38,20 @@ fn read_title(rows: &mut Rows<'_>, row: &mut ByteRecord) -> Result<u32, ReadBook
 fn read_processes(
     alloc: Global,
     version: u32,
-    rows: &mut Rows<'_>,
-    row: &mut ByteRecord,
+    records: &mut Records<'_>,
+    fields: &mut ByteRecord,
 ) -> Result<NameSet, ReadBookFault>
-    ensures ok { IfOk result (λ processes. processes_from version rows.old ≡ limits_from version processes rows.new) }
+    ensures ok { IfOk result (λ processes. processes_from version records.old ≡ limits_from version processes records.new) }
     ensures names { (version ≡ 1) ⊎ (version ≡ 2) → IfOk result (AreNames version) }
-    ensures bad { (b : BadBook) → result ≡ Err (ReadBookFault.Bad b) → processes_from version rows.old ≡ Err b }
+    ensures bad { (b : BadBook) → result ≡ Err (ReadBookFault.Bad b) → processes_from version records.old ≡ Err b }
 {
-    let Ok(found) = rows.next(row) else {
+    let Ok(found) = records.next(fields) else {
         return Err(ReadBookFault::NoMemory);
     };
     if !found {
         return Err(bad_book(2, BookWhy::Shape));
     }
-    match processes_of(alloc, version, row) {
+    match processes_of(alloc, version, fields) {
         Ok(processes) => Ok(processes),
         Err(fault) => Err(fault),
     }
@@ -62,22 +62,22 @@ fn read_limits(
     alloc: Global,
     version: u32,
     processes: NameSet,
-    rows: &mut Rows<'_>,
-    row: &mut ByteRecord,
+    records: &mut Records<'_>,
+    fields: &mut ByteRecord,
 ) -> Result<Begun, ReadBookFault>
     requires { AreNames version processes }
-    ensures ok { IfOk result (λ b. limits_from version processes rows.old ≡ accounts_from b rows.new) }
+    ensures ok { IfOk result (λ b. limits_from version processes records.old ≡ accounts_from b records.new) }
     ensures empty { IfOk result (λ b. b.book.accounts ≡ []) }
     ensures names { IfOk result (λ b. AreNamesOf b.book b.names) }
-    ensures bad { (b : BadBook) → result ≡ Err (ReadBookFault.Bad b) → limits_from version processes rows.old ≡ Err b }
+    ensures bad { (b : BadBook) → result ≡ Err (ReadBookFault.Bad b) → limits_from version processes records.old ≡ Err b }
 {
-    let Ok(found) = rows.next(row) else {
+    let Ok(found) = records.next(fields) else {
         return Err(ReadBookFault::NoMemory);
     };
     if !found {
         return Err(bad_book(3, BookWhy::Shape));
     }
-    match limits_of(alloc, version, processes, row) {
+    match limits_of(alloc, version, processes, fields) {
         Ok(begun) => Ok(begun),
         Err(why) => Err(bad_book(3, why)),
     }
@@ -87,28 +87,28 @@ fn read_limits(
 fn read_accounts(
     alloc: Global,
     begun: Begun,
-    rows: &mut Rows<'_>,
-    row: &mut ByteRecord,
+    records: &mut Records<'_>,
+    fields: &mut ByteRecord,
 ) -> Result<Begun, ReadBookFault>
     requires empty { begun.book.accounts ≡ [] }
     requires names { AreNamesOf begun.book begun.names }
-    ensures ok { IfOk result (λ b. accounts_from begun rows.old ≡ book_at_end b) }
+    ensures ok { IfOk result (λ b. accounts_from begun records.old ≡ book_at_end b) }
     ensures names { IfOk result (λ b. AreNamesOf b.book b.names) }
-    ensures bad { (b : BadBook) → result ≡ Err (ReadBookFault.Bad b) → accounts_from begun rows.old ≡ Err b }
+    ensures bad { (b : BadBook) → result ≡ Err (ReadBookFault.Bad b) → accounts_from begun records.old ≡ Err b }
 {
     let mut begun = begun;
     for account in 0..ACCOUNTS_MAX {
-        let Ok(found) = rows.next(row) else {
+        let Ok(found) = records.next(fields) else {
             return Err(ReadBookFault::NoMemory);
         };
         if !found {
             return Ok(begun);
         }
-        if let Err(fault) = add_row(alloc, &mut begun, account, row) {
+        if let Err(fault) = add_record(alloc, &mut begun, account, fields) {
             return Err(fault);
         }
     }
-    let Ok(found) = rows.next(row) else {
+    let Ok(found) = records.next(fields) else {
         return Err(ReadBookFault::NoMemory);
     };
     if found {
@@ -140,27 +140,27 @@ fn finish_book(begun: Begun) -> Result<(Book, Names), ReadBookFault>
 /// Reads all records.
 fn read_terms(
     alloc: Global,
-    rows: &mut Rows<'_>,
-    row: &mut ByteRecord,
+    records: &mut Records<'_>,
+    fields: &mut ByteRecord,
 ) -> Result<(Book, Names), ReadBookFault>
-    ensures ok { IfOk result (λ r. book_of_rows rows.old ≡ Ok (record { book = r.0; names = r.1 })) }
+    ensures ok { IfOk result (λ r. book_of_records records.old ≡ Ok (record { book = r.0; names = r.1 })) }
     ensures checked { IfOk result (λ r. IsBook r.0) }
     ensures names { IfOk result (λ r. AreNamesOf r.0 r.1) }
-    ensures bad { (b : BadBook) → result ≡ Err (ReadBookFault.Bad b) → book_of_rows rows.old ≡ Err b }
+    ensures bad { (b : BadBook) → result ≡ Err (ReadBookFault.Bad b) → book_of_records records.old ≡ Err b }
 {
-    let version = match read_title(rows, row) {
+    let version = match read_title(records, fields) {
         Ok(version) => version,
         Err(fault) => return Err(fault),
     };
-    let processes = match read_processes(alloc, version, rows, row) {
+    let processes = match read_processes(alloc, version, records, fields) {
         Ok(processes) => processes,
         Err(fault) => return Err(fault),
     };
-    let begun = match read_limits(alloc, version, processes, rows, row) {
+    let begun = match read_limits(alloc, version, processes, records, fields) {
         Ok(begun) => begun,
         Err(fault) => return Err(fault),
     };
-    let begun = match read_accounts(alloc, begun, rows, row) {
+    let begun = match read_accounts(alloc, begun, records, fields) {
         Ok(begun) => begun,
         Err(fault) => return Err(fault),
     };
@@ -171,15 +171,15 @@ fn read_terms(
 ///
 /// Only one record is held at a time, and each name is looked up by its hash.
 pub fn read_book(alloc: Global, bytes: &[u8]) -> Result<(Book, Names), ReadBookFault>
-    ensures ok { IfOk result (λ r. book_of_rows (rows_of bytes.now) ≡ Ok (record { book = r.0; names = r.1 })) }
-    ensures spelled { IfOk result (λ r. Spells (rows_of bytes.now) r.0 r.1) }
+    ensures ok { IfOk result (λ r. book_of_records (records_of bytes.now) ≡ Ok (record { book = r.0; names = r.1 })) }
+    ensures spelled { IfOk result (λ r. Spells (records_of bytes.now) r.0 r.1) }
     ensures names { IfOk result (λ r. AreNamesOf r.0 r.1) }
-    ensures accepts { (b : BookTerms) (names : NameList) → Spells (rows_of bytes.now) b names → IfErr result (λ fault. fault ≡ ReadBookFault.NoMemory) }
-    ensures bad { (b : BadBook) → result ≡ Err (ReadBookFault.Bad b) → book_of_rows (rows_of bytes.now) ≡ Err b }
+    ensures accepts { (b : BookTerms) (names : NameList) → Spells (records_of bytes.now) b names → IfErr result (λ fault. fault ≡ ReadBookFault.NoMemory) }
+    ensures bad { (b : BadBook) → result ≡ Err (ReadBookFault.Bad b) → book_of_records (records_of bytes.now) ≡ Err b }
 {
-    let mut rows = Rows::new(alloc, bytes);
-    let mut row = ByteRecord::new(alloc);
-    match read_terms(alloc, &mut rows, &mut row) {
+    let mut records = Records::new(alloc, bytes);
+    let mut fields = ByteRecord::new(alloc);
+    match read_terms(alloc, &mut records, &mut fields) {
         Ok(read) => Ok(read),
         Err(fault) => Err(fault),
     }

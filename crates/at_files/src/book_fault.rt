@@ -3,7 +3,7 @@
 use at_ledger::BookError;
 use thiserror::Error;
 
-/// The cause of a book file's first offence.
+/// The cause of a book file's first fault.
 #[derive(Clone, Copy, Debug, PartialEq, Eq, Error)]
 pub enum BookWhy {
     /// The second field of the first record is neither `1` nor `2`.
@@ -32,7 +32,7 @@ pub enum BookWhy {
     UnknownOwner,
 }
 
-/// A book file's first offence. A line is the number of a record, from 1.
+/// A book file's first fault. A line is the number of a record, from 1.
 #[derive(Clone, Copy, Debug, PartialEq, Eq, Error)]
 #[error("line {line}: {why}")]
 pub struct BadBook {

@@ -1,11 +1,11 @@
 //! The call that one record of a payment file spells.
 
 ghost use Rattle.std.specs.Prelude.{◌≡◌, ◌+◌, ◌*◌, ◌≤◌, ◌<◌, true, drop, length};
+ghost use Rattle.at_ledger.specs.Limits.{most_targets};
 ghost use Rattle.csv.specs.Records.{fields_of};
-ghost use Rattle.at_ledger.specs.declared.targets.TheConstants.{TARGETS_MAX};
-ghost use Rattle.at_files.specs.Names.{place_of};
-ghost use Rattle.at_files.specs.Rows.{field_of, number_at};
-ghost use Rattle.at_files.specs.Payments.{call_of, has_amounts, is_pay, named_call_of, named_pay, named_read, named_transfer, plain_call_of, read_of, target_of, targets_of, transfer_of};
+ghost use Rattle.at_files.specs.Names.{position_of};
+ghost use Rattle.at_files.specs.Records.{field_of, number_at};
+ghost use Rattle.at_files.specs.Payments.{call_of, has_amounts, is_pay, named_call_of, named_pay, named_read, named_transfer, plain_call_of, read_of, target_of, targets_spelled, transfer_of};
 
 use crate::fields::{field_of, has_shape, number_at};
 use crate::names::Names;
@@ -53,18 +53,18 @@ fn read_of(accounts: u32, account: Option<u64>) -> Result<Call, PaymentsWhy>
 }
 
 /// The call that a record spells, where accounts are given by their numbers.
-fn plain_call_of(accounts: u32, row: &ByteRecord) -> Result<Call, PaymentsWhy>
-    ensures { result ≡ plain_call_of accounts (fields_of row.now) }
+fn plain_call_of(accounts: u32, fields: &ByteRecord) -> Result<Call, PaymentsWhy>
+    ensures { result ≡ plain_call_of accounts (fields_of fields.now) }
 {
-    if has_shape(row, b"transfer", 4) {
+    if has_shape(fields, b"transfer", 4) {
         transfer_of(
             accounts,
-            number_at(row, 1),
-            number_at(row, 2),
-            number_at(row, 3),
+            number_at(fields, 1),
+            number_at(fields, 2),
+            number_at(fields, 3),
         )
-    } else if has_shape(row, b"read", 2) {
-        read_of(accounts, number_at(row, 1))
+    } else if has_shape(fields, b"read", 2) {
+        read_of(accounts, number_at(fields, 1))
     } else {
         Err(PaymentsWhy::Shape)
     }
@@ -98,32 +98,32 @@ fn named_read(account: Option<u32>) -> Result<Call, PaymentsWhy>
 }
 
 /// Whether the record is a pay-out to one, two, three or four targets.
-fn is_pay(row: &ByteRecord) -> bool
-    ensures { result ≡ is_pay (fields_of row.now) }
+fn is_pay(fields: &ByteRecord) -> bool
+    ensures { result ≡ is_pay (fields_of fields.now) }
 {
-    has_shape(row, b"pay", 4)
-        || has_shape(row, b"pay", 6)
-        || has_shape(row, b"pay", 8)
-        || has_shape(row, b"pay", 10)
+    has_shape(fields, b"pay", 4)
+        || has_shape(fields, b"pay", 6)
+        || has_shape(fields, b"pay", 8)
+        || has_shape(fields, b"pay", 10)
 }
 
 /// How many targets a pay-out has.
-fn target_count(row: &ByteRecord) -> usize
-    requires { is_pay (fields_of row.now) ≡ true }
-    ensures fields { length (fields_of row.now) ≡ 2 * result + 2 }
+fn target_count(fields: &ByteRecord) -> usize
+    requires { is_pay (fields_of fields.now) ≡ true }
+    ensures fields { length (fields_of fields.now) ≡ 2 * result + 2 }
     ensures some { 1 ≤ result }
-    ensures few { result ≤ TARGETS_MAX }
+    ensures few { result ≤ most_targets }
 {
-    (row.len() - 2) / 2
+    (fields.len() - 2) / 2
 }
 
 /// Whether each target has a number as its amount.
-fn has_amounts(row: &ByteRecord) -> bool
-    requires { is_pay (fields_of row.now) ≡ true }
-    ensures { result ≡ has_amounts (drop 2 (fields_of row.now)) }
+fn has_amounts(fields: &ByteRecord) -> bool
+    requires { is_pay (fields_of fields.now) ≡ true }
+    ensures { result ≡ has_amounts (drop 2 (fields_of fields.now)) }
 {
-    for i in 0..target_count(row) {
-        if number_at(row, 2 * i + 3).is_none() {
+    for i in 0..target_count(fields) {
+        if number_at(fields, 2 * i + 3).is_none() {
             return false;
         }
     }
@@ -131,13 +131,13 @@ fn has_amounts(row: &ByteRecord) -> bool
 }
 
 /// A target of a pay-out, from 0, if its account and its amount are there.
-fn target_of(names: &Names, row: &ByteRecord, i: usize) -> Option<(u32, u64)>
-    requires { i < TARGETS_MAX }
-    ensures { result ≡ target_of (place_of names.now.accounts (field_of (fields_of row.now) (2 * i + 2))) (number_at (fields_of row.now) (2 * i + 3)) }
+fn target_of(names: &Names, fields: &ByteRecord, i: usize) -> Option<(u32, u64)>
+    requires { i < most_targets }
+    ensures { result ≡ target_of (position_of names.now.accounts (field_of (fields_of fields.now) (2 * i + 2))) (number_at (fields_of fields.now) (2 * i + 3)) }
 {
     match (
-        names.find(field_of(row, 2 * i + 2)),
-        number_at(row, 2 * i + 3),
+        names.find(field_of(fields, 2 * i + 2)),
+        number_at(fields, 2 * i + 3),
     ) {
         (Some(to), Some(amount)) => Some((to, amount)),
         _ => None,
@@ -145,17 +145,17 @@ fn target_of(names: &Names, row: &ByteRecord, i: usize) -> Option<(u32, u64)>
 }
 
 /// The targets of a pay-out, if all of them are there.
-fn targets_of(names: &Names, row: &ByteRecord) -> Option<Targets>
-    requires { is_pay (fields_of row.now) ≡ true }
-    ensures { result ≡ targets_of names.now.accounts (drop 2 (fields_of row.now)) }
+fn targets_spelled(names: &Names, fields: &ByteRecord) -> Option<Targets>
+    requires { is_pay (fields_of fields.now) ≡ true }
+    ensures { result ≡ targets_spelled names.now.accounts (drop 2 (fields_of fields.now)) }
 {
-    let count = target_count(row);
-    let Some((to, amount)) = target_of(names, row, 0) else {
+    let count = target_count(fields);
+    let Some((to, amount)) = target_of(names, fields, 0) else {
         return None;
     };
     let mut targets = Targets::one(to, amount);
     for i in 1..count {
-        let Some((to, amount)) = target_of(names, row, i) else {
+        let Some((to, amount)) = target_of(names, fields, i) else {
             return None;
         };
         targets.push(to, amount);
@@ -164,49 +164,53 @@ fn targets_of(names: &Names, row: &ByteRecord) -> Option<Targets>
 }
 
 /// A pay-out between accounts that are given by their names.
-fn named_pay(names: &Names, row: &ByteRecord) -> Result<Call, PaymentsWhy>
-    requires { is_pay (fields_of row.now) ≡ true }
-    ensures { result ≡ named_pay (place_of names.now.accounts (field_of (fields_of row.now) 1)) (has_amounts (drop 2 (fields_of row.now))) (targets_of names.now.accounts (drop 2 (fields_of row.now))) }
+fn named_pay(names: &Names, fields: &ByteRecord) -> Result<Call, PaymentsWhy>
+    requires { is_pay (fields_of fields.now) ≡ true }
+    ensures { result ≡ named_pay (position_of names.now.accounts (field_of (fields_of fields.now) 1)) (has_amounts (drop 2 (fields_of fields.now))) (targets_spelled names.now.accounts (drop 2 (fields_of fields.now))) }
 {
-    if !has_amounts(row) {
+    if !has_amounts(fields) {
         return Err(PaymentsWhy::Number);
     }
-    let Some(from) = names.find(field_of(row, 1)) else {
+    let Some(from) = names.find(field_of(fields, 1)) else {
         return Err(PaymentsWhy::UnknownAccount);
     };
-    let Some(targets) = targets_of(names, row) else {
+    let Some(targets) = targets_spelled(names, fields) else {
         return Err(PaymentsWhy::UnknownAccount);
     };
     Ok(Call::Pay { from, targets })
 }
 
 /// The call that a record spells, where accounts are given by their names.
-fn named_call_of(names: &Names, row: &ByteRecord) -> Result<Call, PaymentsWhy>
-    ensures { result ≡ named_call_of names.now.accounts (fields_of row.now) }
+fn named_call_of(names: &Names, fields: &ByteRecord) -> Result<Call, PaymentsWhy>
+    ensures { result ≡ named_call_of names.now.accounts (fields_of fields.now) }
 {
-    if has_shape(row, b"transfer", 4) {
+    if has_shape(fields, b"transfer", 4) {
         named_transfer(
-            names.find(field_of(row, 1)),
-            names.find(field_of(row, 2)),
-            number_at(row, 3),
+            names.find(field_of(fields, 1)),
+            names.find(field_of(fields, 2)),
+            number_at(fields, 3),
         )
-    } else if has_shape(row, b"read", 2) {
-        named_read(names.find(field_of(row, 1)))
-    } else if is_pay(row) {
-        named_pay(names, row)
+    } else if has_shape(fields, b"read", 2) {
+        named_read(names.find(field_of(fields, 1)))
+    } else if is_pay(fields) {
+        named_pay(names, fields)
     } else {
         Err(PaymentsWhy::Shape)
     }
 }
 
 /// The call that a record spells beside the names of a book with so many accounts.
-pub(crate) fn call_of(accounts: u32, names: &Names, row: &ByteRecord) -> Result<Call, PaymentsWhy>
+pub(crate) fn call_of(
+    accounts: u32,
+    names: &Names,
+    fields: &ByteRecord,
+) -> Result<Call, PaymentsWhy>
     requires { accounts ≡ length names.now.accounts }
-    ensures { result ≡ call_of names.now (fields_of row.now) }
+    ensures { result ≡ call_of names.now (fields_of fields.now) }
 {
     if names.version() == 2 {
-        named_call_of(names, row)
+        named_call_of(names, fields)
     } else {
-        plain_call_of(accounts, row)
+        plain_call_of(accounts, fields)
     }
 }

@@ -2,16 +2,16 @@
 
 ghost use Rattle.std.specs.Prelude.{◌≡◌, bytes_eq};
 ghost use Rattle.csv.specs.Records.{fields_of};
-ghost use Rattle.at_files.specs.Rows.{field_of, has_shape, number_at};
+ghost use Rattle.at_files.specs.Records.{field_of, has_shape, number_at};
 
 use at_base::parse_number;
 use csv::ByteRecord;
 
-/// The field at a place, from 0. Past the last one there is no byte.
-pub(crate) fn field_of(row: &ByteRecord, i: usize) -> &[u8]
-    ensures { result.now ≡ field_of (fields_of row.now) i }
+/// The field at a position, from 0. Past the last one there is no byte.
+pub(crate) fn field_of(fields: &ByteRecord, i: usize) -> &[u8]
+    ensures { result.now ≡ field_of (fields_of fields.now) i }
 {
-    row.get(i).unwrap_or(&[])
+    fields.get(i).unwrap_or(&[])
 }
 
 /// Whether the field is the word.
@@ -22,15 +22,15 @@ pub(crate) fn is_word(field: &[u8], word: &[u8]) -> bool
 }
 
 /// Whether the record has so many fields and begins with the word.
-pub(crate) fn has_shape(row: &ByteRecord, word: &[u8], count: usize) -> bool
-    ensures { result ≡ has_shape word.now count (fields_of row.now) }
+pub(crate) fn has_shape(fields: &ByteRecord, word: &[u8], count: usize) -> bool
+    ensures { result ≡ has_shape word.now count (fields_of fields.now) }
 {
-    row.len() == count && is_word(field_of(row, 0), word)
+    fields.len() == count && is_word(field_of(fields, 0), word)
 }
 
-/// The number that the field at a place is.
-pub(crate) fn number_at(row: &ByteRecord, i: usize) -> Option<u64>
-    ensures { result ≡ number_at (fields_of row.now) i }
+/// The number that the field at a position is.
+pub(crate) fn number_at(fields: &ByteRecord, i: usize) -> Option<u64>
+    ensures { result ≡ number_at (fields_of fields.now) i }
 {
-    parse_number(field_of(row, i))
+    parse_number(field_of(fields, i))
 }

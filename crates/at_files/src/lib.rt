@@ -1,6 +1,6 @@
-//! Book files and payment files: what their bytes spell, or the first offence with its line and cause.
+//! Book files and payment files: what their bytes spell, or the first fault with its line and cause.
 //!
-//! `read_book` and `read_payments` accept exactly the forms, and name the first offence of every other file.
+//! `read_book` and `read_payments` accept exactly the forms, and name the first fault of every other file.
 #![tactic(auto)]
 
 mod accounts;
@@ -8,13 +8,13 @@ mod book;
 mod book_fault;
 mod calls;
 mod fields;
+mod first_records;
 mod name_set;
 mod names;
 mod owners;
 mod payments;
 mod payments_fault;
 mod records;
-mod rows;
 #[cfg(test)]
 mod tests;
 

@@ -1,9 +1,10 @@
-//! Names that are told apart, each with its place.
+//! Names that are told apart, each with its position.
 
 ghost use Rattle.std.specs.Prelude.{◌≡◌, ◌≤◌, ◌<◌, ◌++◌, [], ◌∷◌, bytes_eq, length, not, if◌then◌else◌, slice_index, slice_index_or, IfNone, IfOk, IfSome};
+ghost use Rattle.at_files.specs.Limits.{most_name_bytes};
 ghost use Rattle.std.specs.Char.{is_ascii_lowercase};
 ghost use Rattle.std.specs.List.{IsDistinct, list_all};
-ghost use Rattle.at_files.specs.Names.{has_name, is_name, is_name_byte, place_of};
+ghost use Rattle.at_files.specs.Names.{has_name, is_name, is_name_byte, position_of};
 
 use crate::NoMemory;
 use arrayvec::ArrayVec;
@@ -25,13 +26,13 @@ pub(crate) struct NameSet {
 
 impl Model for NameSet {
     ghost use Rattle.std.specs.Prelude.{ℕ, List, map};
-    ghost use Rattle.at_files.specs.NameSet.{AreHeld};
+    ghost use Rattle.at_files.specs.NameSet.{IsNameSet};
 
     ghost Value = { List (List ℕ) };
 
     ghost view = { λ s. map (λ name. name.items) s.names.keys };
 
-    ghost invariant = { λ s. AreHeld (map (λ name. name.items) s.names.keys) };
+    ghost invariant = { λ s. IsNameSet (map (λ name. name.items) s.names.keys) };
 }
 
 impl NameSet {
@@ -52,18 +53,18 @@ impl NameSet {
         self.names.len()
     }
 
-    /// The name at a place.
-    pub(crate) fn name(&self, place: usize) -> &[u8]
-        requires { place < length self.now }
-        ensures { result.now ≡ slice_index_or self.now place [] }
+    /// The name at a position.
+    pub(crate) fn name(&self, position: usize) -> &[u8]
+        requires { position < length self.now }
+        ensures { result.now ≡ slice_index_or self.now position [] }
     {
-        self.names.as_slice()[place].as_slice()
+        self.names.as_slice()[position].as_slice()
     }
 
-    /// The place of a name, if it is there.
-    pub(crate) fn place(&self, text: &[u8]) -> Option<usize>
-        ensures place { result ≡ place_of self.now text.now }
-        ensures within { IfSome result (λ place. place < length self.now) }
+    /// The position of a name, if it is there.
+    pub(crate) fn position(&self, text: &[u8]) -> Option<usize>
+        ensures position { result ≡ position_of self.now text.now }
+        ensures within { IfSome result (λ position. position < length self.now) }
     {
         match held(text) {
             Some(name) => self.names.get_index_of(&name),
@@ -73,7 +74,7 @@ impl NameSet {
 
     /// Adds a name after the others, and answers `true`, unless it is there.
     pub(crate) fn add(&mut self, text: &[u8]) -> Result<bool, NoMemory>
-        requires { length text.now ≤ NAME_MAX }
+        requires { length text.now ≤ most_name_bytes }
         ensures added { IfOk result (λ added. added ≡ not (has_name self.old text.now)) }
         ensures names { IfOk result (λ added. self.new ≡ (if added then self.old ++ text.now ∷ [] else self.old)) }
     {
@@ -90,7 +91,7 @@ impl NameSet {
 /// A text that is no longer than a name.
 fn held(text: &[u8]) -> Option<Name>
     ensures some { IfSome result (λ name. name.items ≡ text.now) }
-    ensures none { IfNone result (NAME_MAX < length text.now) }
+    ensures none { IfNone result (most_name_bytes < length text.now) }
 {
     let mut name = ArrayVec::new();
     match name.try_extend_from_slice(text) {

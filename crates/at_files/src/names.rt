@@ -1,7 +1,7 @@
 //! The names of a book's processes and accounts.
 
 ghost use Rattle.std.specs.Prelude.{◌≡◌, ◌⊎◌, ◌<◌, Contains, IfNone, IfOk, IfSome, Some, decimal, length, slice_get};
-ghost use Rattle.at_files.specs.Names.{AreNamesOf, IsNameList, account_name, decimals_below, place_of, plain_names, process_name};
+ghost use Rattle.at_files.specs.Names.{AreNamesOf, IsNameList, account_name, decimals_below, position_of, plain_names, process_name};
 
 use crate::NoMemory;
 use crate::name_set::NameSet;
@@ -88,12 +88,12 @@ impl Names {
 
     /// The account with this name, which is looked up by its hash.
     pub fn find(&self, name: &[u8]) -> Option<u32>
-        ensures place { result ≡ place_of self.now.accounts name.now }
+        ensures position { result ≡ position_of self.now.accounts name.now }
         ensures found { IfSome result (λ account. slice_get self.now.accounts account ≡ Some name.now) }
         ensures none { IfNone result (¬ (Contains self.now.accounts name.now)) }
     {
-        match self.accounts.place(name) {
-            Some(place) => Some(place as u32),
+        match self.accounts.position(name) {
+            Some(position) => Some(position as u32),
             None => None,
         }
     }

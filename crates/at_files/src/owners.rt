@@ -1,14 +1,15 @@
 //! The owners field of an account's record.
 
 ghost use Rattle.std.specs.Prelude.{◌≡◌, ◌+◌, ◌<◌, ◌==◌, Err, IfOk, Ok, Some, option_map};
+ghost use Rattle.at_ledger.specs.Limits.{most_accounts};
 ghost use Rattle.std.specs.List.{slice_split};
 ghost use Rattle.at_files.specs.BookFile.{at_line};
 ghost use Rattle.at_files.specs.BookRecords.{numbers_of, owner_known, owners_named, pieces_of};
 
 use crate::NoMemory;
 use crate::book_fault::{BadBook, BookWhy, ReadBookFault};
+use crate::first_records::bad_book;
 use crate::name_set::NameSet;
-use crate::records::bad_book;
 use at_base::parse_number;
 use at_ledger::{ACCOUNTS_MAX, BookError, OWNERS_MAX};
 use std::alloc::{AllocError, Global};
@@ -40,15 +41,20 @@ fn read_numbers(alloc: Global, text: &[u8]) -> Result<Option<Vec<u64>>, NoMemory
     Ok(Some(numbers))
 }
 
-/// The process at a place, where the account has `count` owners and the next one has to be at least `least`.
-fn owner_known(account: u32, count: usize, least: u64, place: Option<usize>) -> Result<u64, BookWhy>
-    ensures known { result ≡ owner_known account count least place }
-    ensures place { IfOk result (λ owner. place ≡ Some owner) }
+/// The process at a position, where the account has `count` owners and the next one has to be at least `least`.
+fn owner_known(
+    account: u32,
+    count: usize,
+    least: u64,
+    position: Option<usize>,
+) -> Result<u64, BookWhy>
+    ensures known { result ≡ owner_known account count least position }
+    ensures position { IfOk result (λ owner. position ≡ Some owner) }
 {
-    let Some(place) = place else {
+    let Some(position) = position else {
         return Err(BookWhy::UnknownOwner);
     };
-    let owner = place as u64;
+    let owner = position as u64;
     if owner < least {
         Err(BookWhy::Book(BookError::OwnersNotRising { account }))
     } else if OWNERS_MAX <= count {
@@ -65,7 +71,7 @@ pub(crate) fn owners_named(
     account: u32,
     text: &[u8],
 ) -> Result<Vec<u64>, ReadBookFault>
-    requires { account < ACCOUNTS_MAX }
+    requires { account < most_accounts }
     ensures ok { IfOk result (λ owners. owners_named processes.now account 0 0 (pieces_of text.now) ≡ Ok owners.items) }
     ensures bad { (b : BadBook) → result ≡ Err (ReadBookFault.Bad b) → at_line (account + 4) (owners_named processes.now account 0 0 (pieces_of text.now)) ≡ Err b }
 {
@@ -83,16 +89,16 @@ fn pieces_named(
     account: u32,
     text: &[u8],
 ) -> Result<Vec<u64>, ReadBookFault>
-    requires { account < ACCOUNTS_MAX }
+    requires { account < most_accounts }
     ensures ok { IfOk result (λ owners. owners_named processes.now account 0 0 (slice_split (λ byte. byte == 32) text.now) ≡ Ok owners.items) }
     ensures bad { (b : BadBook) → result ≡ Err (ReadBookFault.Bad b)
         → at_line (account + 4) (owners_named processes.now account 0 0 (slice_split (λ byte. byte == 32) text.now)) ≡ Err b }
 {
-    let _count = processes.len();
+    let _known = processes.len();
     let mut owners = Vec::new(alloc);
     let mut least = 0;
     for piece in text.split(|byte| *byte == b' ') {
-        let owner = match owner_known(account, owners.len(), least, processes.place(piece)) {
+        let owner = match owner_known(account, owners.len(), least, processes.position(piece)) {
             Ok(owner) => owner,
             Err(why) => return Err(bad_book(account + 4, why)),
         };

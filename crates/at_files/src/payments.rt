@@ -2,13 +2,13 @@
 
 ghost use Rattle.std.specs.Prelude.{◌≡◌, List, Ok, Err, IfErr, IfOk};
 ghost use Rattle.at_files.specs.Names.{AreNamesOf};
-ghost use Rattle.at_files.specs.Rows.{rows_of};
+ghost use Rattle.at_files.specs.Records.{records_of};
 ghost use Rattle.at_files.specs.Payments.{payments_of, Pays};
 
 use crate::calls::call_of;
 use crate::names::Names;
 use crate::payments_fault::{BadPayments, CALLS_MAX, PaymentsWhy, ReadPaymentsFault};
-use crate::rows::Rows;
+use crate::records::Records;
 use at_ledger::{Book, Call};
 use csv::ByteRecord;
 use std::alloc::Global;
@@ -23,23 +23,23 @@ pub fn read_payments(
     bytes: &[u8],
 ) -> Result<Vec<Call>, ReadPaymentsFault>
     requires { AreNamesOf book.now names.now }
-    ensures ok { IfOk result (λ calls. payments_of names.now (rows_of bytes.now) ≡ Ok calls.items) }
-    ensures pays { IfOk result (λ calls. Pays book.now names.now (rows_of bytes.now) calls.items) }
-    ensures accepts { (calls : List Call) → Pays book.now names.now (rows_of bytes.now) calls → IfErr result (λ fault. fault ≡ ReadPaymentsFault.NoMemory) }
-    ensures bad { (b : BadPayments) → result ≡ Err (ReadPaymentsFault.Bad b) → payments_of names.now (rows_of bytes.now) ≡ Err b }
+    ensures ok { IfOk result (λ calls. payments_of names.now (records_of bytes.now) ≡ Ok calls.items) }
+    ensures pays { IfOk result (λ calls. Pays book.now names.now (records_of bytes.now) calls.items) }
+    ensures accepts { (calls : List Call) → Pays book.now names.now (records_of bytes.now) calls → IfErr result (λ fault. fault ≡ ReadPaymentsFault.NoMemory) }
+    ensures bad { (b : BadPayments) → result ≡ Err (ReadPaymentsFault.Bad b) → payments_of names.now (records_of bytes.now) ≡ Err b }
 {
     let accounts = book.accounts();
-    let mut rows = Rows::new(alloc, bytes);
-    let mut row = ByteRecord::new(alloc);
+    let mut records = Records::new(alloc, bytes);
+    let mut fields = ByteRecord::new(alloc);
     let mut calls = Vec::new(alloc);
     for line in 1..CALLS_MAX + 1 {
-        let Ok(found) = rows.next(&mut row) else {
+        let Ok(found) = records.next(&mut fields) else {
             return Err(ReadPaymentsFault::NoMemory);
         };
         if !found {
             return Ok(calls);
         }
-        let call = match call_of(accounts, names, &row) {
+        let call = match call_of(accounts, names, &fields) {
             Ok(call) => call,
             Err(why) => return Err(ReadPaymentsFault::Bad(BadPayments { line, why })),
         };
@@ -47,7 +47,7 @@ pub fn read_payments(
             return Err(ReadPaymentsFault::NoMemory);
         }
     }
-    let Ok(found) = rows.next(&mut row) else {
+    let Ok(found) = records.next(&mut fields) else {
         return Err(ReadPaymentsFault::NoMemory);
     };
     if found {

@@ -5,7 +5,7 @@ use thiserror::Error;
 /// The most calls of one payment file.
 pub const CALLS_MAX: u32 = 16_384;
 
-/// The cause of a payment file's first offence.
+/// The cause of a payment file's first fault.
 #[derive(Clone, Copy, Debug, PartialEq, Eq, Error)]
 pub enum PaymentsWhy {
     /// The first field is no call's word, or the call has another number of fields.
@@ -22,7 +22,7 @@ pub enum PaymentsWhy {
     TooManyCalls,
 }
 
-/// A payment file's first offence. A line is the number of a record, from 1.
+/// A payment file's first fault. A line is the number of a record, from 1.
 #[derive(Clone, Copy, Debug, PartialEq, Eq, Error)]
 #[error("line {line}: {why}")]
 pub struct BadPayments {

@@ -1,142 +1,62 @@
-//! The first three records of a book file.
+//! The records of a file, one after another.
 
-ghost use Rattle.std.specs.Prelude.{◌≡◌, ◌≤◌, [], drop, Err, Ok, OnOk, IfOk};
+ghost use Rattle.std.specs.Prelude.{◌≡◌, ◌∷◌, [], if◌then◌else◌, IfOk, OnErr};
 ghost use Rattle.csv.specs.Records.{fields_of};
-ghost use Rattle.at_files.specs.BookRecords.{counted_processes, named_processes, process_count, processes_of, version_of, with_name, with_process, with_processes};
-ghost use Rattle.at_files.specs.BookFile.{at_line};
+ghost use Rattle.at_files.specs.Records.{records_of};
 
-use crate::book_fault::{BadBook, BookWhy, ReadBookFault};
-use crate::fields::{field_of, has_shape, is_word, number_at};
-use crate::name_set::{NameSet, is_name};
-use crate::names::plain_names;
-use at_ledger::{BookBuilder, BookError, PROCESSES_MAX};
-use csv::ByteRecord;
-use std::alloc::Global;
+use crate::NoMemory;
+use csv::{ByteRecord, Reader, ReaderBuilder};
+use std::alloc::{AllocError, Global};
+use std::marker::Model;
 
-/// An offence at a line.
-pub(crate) fn bad_book(line: u32, why: BookWhy) -> ReadBookFault
-    ensures { result ≡ ReadBookFault.Bad (record { line = line; why = why }) }
-{
-    ReadBookFault::Bad(BadBook { line, why })
+/// The records that are left of a file.
+#[derive(Drop)]
+pub(crate) struct Records<'a> {
+    reader: Reader<&'a [u8]>,
+    ended: bool,
 }
 
-/// The version that record 1 gives.
-pub(crate) fn version_of(row: &ByteRecord) -> Result<u32, BookWhy>
-    ensures { result ≡ version_of (fields_of row.now) }
-{
-    if !has_shape(row, b"book", 2) {
-        return Err(BookWhy::Shape);
-    }
-    if is_word(field_of(row, 1), b"1") {
-        Ok(1)
-    } else if is_word(field_of(row, 1), b"2") {
-        Ok(2)
-    } else {
-        Err(BookWhy::Version)
-    }
+impl<'a> Model for Records<'a> {
+    ghost use Rattle.std.specs.Prelude.{◌≡◌, false, [], List, if◌then◌else◌};
+    ghost use Rattle.at_files.specs.Records.{Fields};
+    ghost use Rattle.at_files.specs.Reading.{records_left, IsBetweenRecords};
+
+    ghost Value = { List Fields };
+
+    ghost view = { λ r. if r.ended then [] else records_left r.reader };
+
+    ghost invariant = { λ r. r.ended ≡ false → IsBetweenRecords r.reader };
 }
 
-/// Adds a name, which has to have the form of one and to be new.
-pub(crate) fn add_name(names: &mut NameSet, line: u32, name: &[u8]) -> Result<(), ReadBookFault>
-    ensures ok { OnOk result (with_name names.old name.now ≡ Ok names.new) }
-    ensures bad { (b : BadBook) → result ≡ Err (ReadBookFault.Bad b) → at_line line (with_name names.old name.now) ≡ Err b }
-{
-    if !is_name(name) {
-        return Err(bad_book(line, BookWhy::Name));
-    }
-    let Ok(added) = names.add(name) else {
-        return Err(ReadBookFault::NoMemory);
-    };
-    if added {
-        Ok(())
-    } else {
-        Err(bad_book(line, BookWhy::NameTwice))
-    }
-}
-
-/// Adds a process of record 2.
-fn add_process(names: &mut NameSet, name: &[u8]) -> Result<(), ReadBookFault>
-    ensures ok { OnOk result (with_process names.old name.now ≡ Ok names.new) }
-    ensures bad { (b : BadBook) → result ≡ Err (ReadBookFault.Bad b) → at_line 2 (with_process names.old name.now) ≡ Err b }
-{
-    if names.len() >= PROCESSES_MAX as usize {
-        return Err(bad_book(2, BookWhy::Book(BookError::TooManyProcesses)));
-    }
-    add_name(names, 2, name)
-}
-
-/// The processes that the fields after the first name.
-fn names_of_processes(alloc: Global, row: &ByteRecord) -> Result<NameSet, ReadBookFault>
-    ensures ok { IfOk result (λ names. with_processes [] (drop 1 (fields_of row.now)) ≡ Ok names) }
-    ensures bad { (b : BadBook) → result ≡ Err (ReadBookFault.Bad b) → at_line 2 (with_processes [] (drop 1 (fields_of row.now))) ≡ Err b }
-{
-    let mut names = NameSet::new(alloc);
-    for i in 1..row.len() {
-        if let Err(fault) = add_process(&mut names, field_of(row, i)) {
-            return Err(fault);
+impl<'a> Records<'a> {
+    /// All records of a file.
+    pub(crate) fn new(alloc: Global, bytes: &'a [u8]) -> Records<'a>
+        ensures { result ≡ records_of bytes.now }
+    {
+        let reader = ReaderBuilder::new()
+            .has_headers(false)
+            .flexible(true)
+            .from_reader(alloc, bytes);
+        Records {
+            reader,
+            ended: false,
         }
     }
-    Ok(names)
-}
 
-/// The processes of record 2 in version 2.
-fn named_processes(alloc: Global, row: &ByteRecord) -> Result<NameSet, ReadBookFault>
-    ensures ok { IfOk result (λ names. named_processes (fields_of row.now) ≡ Ok names) }
-    ensures bad { (b : BadBook) → result ≡ Err (ReadBookFault.Bad b) → at_line 2 (named_processes (fields_of row.now)) ≡ Err b }
-{
-    if !is_word(field_of(row, 0), b"processes") {
-        return Err(bad_book(2, BookWhy::Shape));
-    }
-    if row.len() == 1 {
-        return Err(bad_book(2, BookWhy::Book(BookError::NoProcess)));
-    }
-    names_of_processes(alloc, row)
-}
-
-/// A number of processes within the limits.
-fn process_count(alloc: Global, processes: Option<u64>) -> Result<u64, BookWhy>
-    ensures count { result ≡ process_count processes }
-    ensures few { IfOk result (λ count. count ≤ PROCESSES_MAX) }
-{
-    let Some(processes) = processes else {
-        return Err(BookWhy::Number);
-    };
-    match BookBuilder::new(alloc, processes, 1, 1) {
-        Ok(_) => Ok(processes),
-        Err(fault) => Err(BookWhy::Book(fault)),
-    }
-}
-
-/// The processes of record 2 in version 1.
-fn counted_processes(alloc: Global, row: &ByteRecord) -> Result<NameSet, ReadBookFault>
-    ensures ok { IfOk result (λ names. counted_processes (fields_of row.now) ≡ Ok names) }
-    ensures bad { (b : BadBook) → result ≡ Err (ReadBookFault.Bad b) → at_line 2 (counted_processes (fields_of row.now)) ≡ Err b }
-{
-    if !has_shape(row, b"processes", 2) {
-        return Err(bad_book(2, BookWhy::Shape));
-    }
-    let count = match process_count(alloc, number_at(row, 1)) {
-        Ok(count) => count,
-        Err(why) => return Err(bad_book(2, why)),
-    };
-    match plain_names(alloc, count as u32) {
-        Ok(names) => Ok(names),
-        Err(_) => Err(ReadBookFault::NoMemory),
-    }
-}
-
-/// The processes that record 2 names or counts.
-pub(crate) fn processes_of(
-    alloc: Global,
-    version: u32,
-    row: &ByteRecord,
-) -> Result<NameSet, ReadBookFault>
-    ensures ok { IfOk result (λ names. processes_of version (fields_of row.now) ≡ Ok names) }
-    ensures bad { (b : BadBook) → result ≡ Err (ReadBookFault.Bad b) → at_line 2 (processes_of version (fields_of row.now)) ≡ Err b }
-{
-    if version == 2 {
-        named_processes(alloc, row)
-    } else {
-        counted_processes(alloc, row)
+    /// Reads the next record into `record`, and answers whether there was one. An error ends the records, and each
+    /// one is answered as want of memory: no clause of `csv` rules out another over bytes that are there.
+    pub(crate) fn next(&mut self, fields: &mut ByteRecord) -> Result<bool, NoMemory>
+        ensures ok { IfOk result (λ found. self.old ≡ (if found then fields_of fields.new ∷ self.new else [])) }
+        ensures err { OnErr result (self.new ≡ []) }
+    {
+        if self.ended {
+            return Ok(false);
+        }
+        self.ended = true;
+        let Ok(found) = self.reader.read_byte_record(fields) else {
+            return Err(AllocError);
+        };
+        self.ended = !found;
+        Ok(found)
     }
 }

@@ -1,9 +1,9 @@
 use crate::{
-    BadBook, BadPayments, BookWhy, PaymentsWhy, ReadBookFault, ReadPaymentsFault, read_book,
+    BadBook, BadPayments, BookWhy, Names, PaymentsWhy, ReadBookFault, ReadPaymentsFault, read_book,
     read_payments,
 };
 use at_ledger::{BookError, Call};
-use std::alloc::Global;
+use std::alloc::{AllocError, Global};
 use std::test::Fail;
 
 const ONE_PROCESS: &[u8] = b"book,1\nprocesses,1\nlimits,4,4\naccount,0,100,0\naccount,1,0,\n";
@@ -14,140 +14,229 @@ const TWO_PROCESSES: &[u8] =
 const NAMED: &[u8] =
     b"book,2\nprocesses,ann,bob\nlimits,10,10\naccount,ann-cash,100,ann\naccount,joint,50,ann bob\naccount,shop,0,\n";
 
-/// The numbers of processes and accounts of a book, or its first offence.
-fn sizes(alloc: Global, text: &[u8]) -> Result<(u32, u32), ReadBookFault> {
+/// A file with the line and the cause of its first fault.
+type BadFile<W> = (&'static [u8], u32, W);
+
+/// A book file with its numbers of processes and accounts.
+type GoodBook = (&'static [u8], u32, u32);
+
+/// Whether the book is refused for this fault.
+fn is_bad_book(alloc: Global, text: &[u8], line: u32, why: BookWhy) -> bool {
     match read_book(alloc, text) {
-        Ok((book, _)) => Ok((book.processes(), book.accounts())),
-        Err(fault) => Err(fault),
+        Ok(_) => false,
+        Err(fault) => fault == ReadBookFault::Bad(BadBook { line, why }),
     }
 }
 
-/// The number of calls of a payment file beside a book, or its first offence.
-fn calls(alloc: Global, book: &[u8], text: &[u8]) -> Result<usize, ReadPaymentsFault> {
-    let Ok((book, names)) = read_book(alloc, book) else {
-        return Err(ReadPaymentsFault::NoMemory);
-    };
-    match read_payments(alloc, &book, &names, text) {
-        Ok(calls) => Ok(calls.len()),
-        Err(fault) => Err(fault),
+/// Whether the book has so many processes and accounts.
+fn is_good_book(alloc: Global, text: &[u8], processes: u32, accounts: u32) -> bool {
+    match read_book(alloc, text) {
+        Ok((book, _)) => book.processes() == processes && book.accounts() == accounts,
+        Err(_) => false,
     }
 }
 
-fn bad_book(line: u32, why: BookWhy) -> Result<(u32, u32), ReadBookFault> {
-    Err(ReadBookFault::Bad(BadBook { line, why }))
+/// The first of the books that is not refused so.
+fn first_not_bad(alloc: Global, cases: &[BadFile<BookWhy>]) -> Option<&'static [u8]> {
+    for (text, line, why) in cases {
+        if !is_bad_book(alloc, text, *line, *why) {
+            return Some(*text);
+        }
+    }
+    None
 }
 
-fn bad_payments(line: u32, why: PaymentsWhy) -> Result<usize, ReadPaymentsFault> {
-    Err(ReadPaymentsFault::Bad(BadPayments { line, why }))
+/// The first of the books that is not read so.
+fn first_not_good(alloc: Global, cases: &[GoodBook]) -> Option<&'static [u8]> {
+    for (text, processes, accounts) in cases {
+        if !is_good_book(alloc, text, *processes, *accounts) {
+            return Some(*text);
+        }
+    }
+    None
 }
+
+const CUT_BOOKS: &[(usize, u32, BookWhy)] = &[
+    (0, 1, BookWhy::Shape),
+    (4, 1, BookWhy::Shape),
+    (5, 1, BookWhy::Version),
+    (6, 2, BookWhy::Shape),
+    (7, 2, BookWhy::Shape),
+    (17, 2, BookWhy::Number),
+    (18, 3, BookWhy::Shape),
+    (19, 3, BookWhy::Shape),
+    (27, 3, BookWhy::Shape),
+    (28, 3, BookWhy::Number),
+    (29, 4, BookWhy::Book(BookError::NoAccount)),
+    (30, 4, BookWhy::Book(BookError::NoAccount)),
+    (43, 4, BookWhy::Shape),
+];
 
 #[test]
 fn books_that_are_cut(rt: HostRuntime) {
-    let table = [
-        (0, bad_book(1, BookWhy::Shape)),
-        (4, bad_book(1, BookWhy::Shape)),
-        (5, bad_book(1, BookWhy::Version)),
-        (6, bad_book(2, BookWhy::Shape)),
-        (7, bad_book(2, BookWhy::Shape)),
-        (17, bad_book(2, BookWhy::Number)),
-        (18, bad_book(3, BookWhy::Shape)),
-        (19, bad_book(3, BookWhy::Shape)),
-        (27, bad_book(3, BookWhy::Shape)),
-        (28, bad_book(3, BookWhy::Number)),
-        (29, bad_book(4, BookWhy::Book(BookError::NoAccount))),
-        (30, bad_book(4, BookWhy::Book(BookError::NoAccount))),
-        (43, bad_book(4, BookWhy::Shape)),
-        (44, Ok((1, 1))),
-        (45, Ok((1, 1))),
-        (46, Ok((1, 1))),
-        (58, Ok((1, 2))),
-        (59, Ok((1, 2))),
-    ];
-    for (length, want) in table {
+    for (length, line, why) in CUT_BOOKS {
+        let text = ONE_PROCESS.get(..*length).unwrap_or(b"");
+        assert!(rt; is_bad_book(rt.alloc(), text, *line, *why), "at {length}");
+    }
+    for (length, accounts) in [(44, 1), (45, 1), (46, 1), (58, 2), (59, 2)] {
         let text = ONE_PROCESS.get(..length).unwrap_or(b"");
-        assert_eq!(rt; sizes(rt.alloc(), text), want, "at {length}");
+        assert!(rt; is_good_book(rt.alloc(), text, 1, accounts), "at {length}");
     }
 }
+
+const BAD_BOOKS: &[BadFile<BookWhy>] = &[
+    (
+        b"book,1\nprocesses,4\nlimits,1,1024\naccount,0,0,0 1 2 3\naccount,1,0,0 1 2 3\naccount,2,0,0 1 2 3\n",
+        6,
+        BookWhy::Book(BookError::RoundsOverLimit { account: 2 }),
+    ),
+    (
+        b"book,1\nprocesses,0\n",
+        2,
+        BookWhy::Book(BookError::NoProcess),
+    ),
+    (
+        b"book,1\nprocesses,17\n",
+        2,
+        BookWhy::Book(BookError::TooManyProcesses),
+    ),
+    (
+        b"book,1\nprocesses,1\nlimits,4,1025\n",
+        3,
+        BookWhy::Book(BookError::RoomOutOfRange),
+    ),
+    (
+        b"book,1\nprocesses,1\nlimits,4,4\naccount,0,18446744073709551615,\naccount,1,1,\n",
+        5,
+        BookWhy::Book(BookError::TotalOverLimit { account: 1 }),
+    ),
+    (
+        b"book,1\nprocesses,2\nlimits,4,4\naccount,0,0,0  1\n",
+        4,
+        BookWhy::Number,
+    ),
+    (
+        b"book,1\nprocesses,2\nlimits,4,4\naccount,0,0,0 2\n",
+        4,
+        BookWhy::Book(BookError::OwnerOutOfRange { account: 0 }),
+    ),
+    (
+        b"book,1\nprocesses,2\nlimits,4,4\naccount,0,0,1 0\n",
+        4,
+        BookWhy::Book(BookError::OwnersNotRising { account: 0 }),
+    ),
+    (
+        b"book,1\nprocesses,9\nlimits,1,1\naccount,0,0,0 1 2 3 4 5 6 7 8\n",
+        4,
+        BookWhy::Book(BookError::TooManyOwners { account: 0 }),
+    ),
+    (
+        b"book,1\nprocesses,2\nlimits,4,4\naccount,1,0,\n",
+        4,
+        BookWhy::AccountOrder,
+    ),
+    (b"book,3\n", 1, BookWhy::Version),
+];
 
 #[test]
 fn books(rt: HostRuntime) {
-    let table = [
-        (
-            b"book,1\nprocesses,4\nlimits,1,1024\naccount,0,0,0 1 2 3\naccount,1,0,0 1 2 3\naccount,2,0,0 1 2 3\n".as_slice(),
-            bad_book(6, BookWhy::Book(BookError::RoundsOverLimit { account: 2 })),
-        ),
-        (
-            b"book,1\nprocesses,17\n",
-            bad_book(2, BookWhy::Book(BookError::TooManyProcesses)),
-        ),
-        (
-            b"book,1\nprocesses,1\nlimits,4,4\naccount,0,18446744073709551615,\naccount,1,1,\n",
-            bad_book(5, BookWhy::Book(BookError::TotalOverLimit { account: 1 })),
-        ),
-        (
-            b"book,1\nprocesses,2\nlimits,4,4\naccount,0,0,0  1\n",
-            bad_book(4, BookWhy::Number),
-        ),
-        (
-            b"book,1\nprocesses,2\nlimits,4,4\naccount,1,0,\n",
-            bad_book(4, BookWhy::AccountOrder),
-        ),
-        (b"book,3\n", bad_book(1, BookWhy::Version)),
-        (TWO_PROCESSES, Ok((2, 3))),
-    ];
-    for (text, want) in table {
-        assert_eq!(rt; sizes(rt.alloc(), text), want, "{text:?}");
+    assert_eq!(rt; first_not_bad(rt.alloc(), BAD_BOOKS), None);
+    assert!(rt; is_good_book(rt.alloc(), TWO_PROCESSES, 2, 3));
+}
+
+/// A book of so many accounts.
+fn book_of(alloc: Global, accounts: u32) -> Result<Vec<u8>, AllocError> {
+    let mut book = Vec::from_slice(alloc, b"book,1\nprocesses,1\nlimits,4,4\n")?;
+    for account in 0..accounts {
+        book.extend_from_slice(b"account,")?;
+        at_base::push_number(&mut book, u64::from(account))?;
+        book.extend_from_slice(b",1,0\n")?;
     }
+    Ok(book)
 }
 
 #[test]
+fn most_accounts(rt: HostRuntime) -> Result<(), Fail> {
+    let alloc = rt.alloc();
+    let most = book_of(alloc, 1_024)?;
+    let more = book_of(alloc, 1_025)?;
+    let why = BookWhy::Book(BookError::TooManyAccounts);
+    assert!(rt; is_good_book(alloc, &most, 1, 1_024) && is_bad_book(alloc, &more, 1_028, why));
+    Ok(())
+}
+
+/// Whether the calls beside the book are refused for this fault.
+fn are_bad_payments(alloc: Global, book: &[u8], text: &[u8], line: u32, why: PaymentsWhy) -> bool {
+    let Ok((book, names)) = read_book(alloc, book) else {
+        return false;
+    };
+    match read_payments(alloc, &book, &names, text) {
+        Ok(_) => false,
+        Err(fault) => fault == ReadPaymentsFault::Bad(BadPayments { line, why }),
+    }
+}
+
+/// How many calls there are beside the book, if all is good.
+fn count_of(alloc: Global, book: &[u8], text: &[u8]) -> Option<usize> {
+    let Ok((book, names)) = read_book(alloc, book) else {
+        return None;
+    };
+    match read_payments(alloc, &book, &names, text) {
+        Ok(calls) => Some(calls.len()),
+        Err(_) => None,
+    }
+}
+
+/// The first of the payments beside the book that are not refused so.
+fn first_not_bad_payments(
+    alloc: Global,
+    book: &[u8],
+    cases: &[BadFile<PaymentsWhy>],
+) -> Option<&'static [u8]> {
+    for (text, line, why) in cases {
+        if !are_bad_payments(alloc, book, text, *line, *why) {
+            return Some(*text);
+        }
+    }
+    None
+}
+
+const BAD_PAYMENTS: &[BadFile<PaymentsWhy>] = &[
+    (b"transfer,0,1,007\n", 1, PaymentsWhy::Number),
+    (b"transfer,0,1,+5\n", 1, PaymentsWhy::Number),
+    (b"transfer,0,1,\n", 1, PaymentsWhy::Number),
+    (
+        b"transfer,0,1,18446744073709551616\n",
+        1,
+        PaymentsWhy::Number,
+    ),
+    (b"read,\xff\n", 1, PaymentsWhy::Number),
+    (b"read,0\nread,9\n", 2, PaymentsWhy::UnknownAccount),
+    (b"pay,1\n", 1, PaymentsWhy::Shape),
+    (
+        b"\"transfer\",0,1,30\r\n\r\nread,0\r\nread,9",
+        3,
+        PaymentsWhy::UnknownAccount,
+    ),
+];
+
+#[test]
 fn payments(rt: HostRuntime) {
-    let table = [
-        (
-            ONE_PROCESS,
-            b"transfer,0,1,007\n".as_slice(),
-            bad_payments(1, PaymentsWhy::Number),
-        ),
-        (
-            ONE_PROCESS,
-            b"transfer,0,1,+5\n",
-            bad_payments(1, PaymentsWhy::Number),
-        ),
-        (
-            ONE_PROCESS,
-            b"transfer,0,1,\n",
-            bad_payments(1, PaymentsWhy::Number),
-        ),
-        (
-            ONE_PROCESS,
-            b"transfer,0,1,18446744073709551616\n",
-            bad_payments(1, PaymentsWhy::Number),
-        ),
-        (
-            ONE_PROCESS,
-            b"read,\xff\n",
-            bad_payments(1, PaymentsWhy::Number),
-        ),
-        (ONE_PROCESS, b"\"transfer\",0,1,30\r\n\r\nread,0", Ok(2)),
-        (
-            ONE_PROCESS,
-            b"\"transfer\",0,1,30\r\n\r\nread,0\r\nread,9",
-            bad_payments(3, PaymentsWhy::UnknownAccount),
-        ),
-        (
-            TWO_PROCESSES,
-            b"read,0\nread,9\n",
-            bad_payments(2, PaymentsWhy::UnknownAccount),
-        ),
-        (
-            TWO_PROCESSES,
-            b"pay,1\n",
-            bad_payments(1, PaymentsWhy::Shape),
-        ),
-        (ONE_PROCESS, b"\n\n\n", Ok(0)),
-    ];
-    for (book, text, want) in table {
-        assert_eq!(rt; calls(rt.alloc(), book, text), want, "{text:?}");
+    for book in [ONE_PROCESS, TWO_PROCESSES] {
+        assert_eq!(rt;
+            first_not_bad_payments(rt.alloc(), book, BAD_PAYMENTS),
+            None
+        );
+    }
+    for (text, count) in [
+        (b"\"transfer\",0,1,30\r\n\r\nread,0".as_slice(), 2),
+        (b"\n\n\n", 0),
+    ] {
+        assert_eq!(rt;
+            count_of(rt.alloc(), ONE_PROCESS, text),
+            Some(count),
+            "{text:?}"
+        );
     }
 }
 
@@ -157,206 +246,212 @@ fn many_payments(rt: HostRuntime) -> Result<(), Fail> {
     for _ in 0..16_384 {
         text.extend_from_slice(b"read,0\n")?;
     }
-    assert_eq!(rt; calls(rt.alloc(), ONE_PROCESS, &text), Ok(16_384));
+    let most = count_of(rt.alloc(), ONE_PROCESS, &text) == Some(16_384);
     text.extend_from_slice(b"read,0\n")?;
-    assert_eq!(rt;
-        calls(rt.alloc(), ONE_PROCESS, &text),
-        bad_payments(16_385, PaymentsWhy::TooManyCalls)
-    );
+    let why = PaymentsWhy::TooManyCalls;
+    assert!(rt; most && are_bad_payments(rt.alloc(), ONE_PROCESS, &text, 16_385, why));
     Ok(())
 }
 
+/// Whether the names of the book of one process are its numbers.
+fn are_plain(names: &Names) -> bool {
+    names.version() == 1
+        && names.find(b"1") == Some(1)
+        && [b"2".as_slice(), b"01", b"", b"ann"]
+            .iter()
+            .all(|name| names.find(name).is_none())
+}
+
 #[test]
-fn names_and_calls(rt: HostRuntime) -> Result<(), Fail> {
+fn names_of_version_1(rt: HostRuntime) -> Result<(), Fail> {
     let (book, names) = read_book(rt.alloc(), ONE_PROCESS)?;
-    assert!(rt; book.processes() == 1 && book.accounts() == 2);
-    assert_eq!(rt; names.version(), 1);
-    assert_eq!(rt; names.account(0), b"0".as_slice());
-    assert_eq!(rt; names.process(0), b"0".as_slice());
-    assert_eq!(rt; names.find(b"1"), Some(1));
-    for name in [b"2".as_slice(), b"01", b"", b"ann"] {
-        assert_eq!(rt; names.find(name), None, "{name:?}");
-    }
-    let calls = read_payments(rt.alloc(), &book, &names, b"transfer,0,1,30\nread,1\n")?;
-    assert!(rt;
-        matches!(
-            calls.first(),
-            Some(Call::Transfer {
-                from: 0,
-                to: 1,
-                amount: 30
-            })
-        )
-    );
-    assert!(rt; matches!(calls.last(), Some(Call::Read { account: 1 })));
+    let named = book.processes() == 1
+        && book.accounts() == 2
+        && names.account(0) == b"0".as_slice()
+        && names.process(0) == b"0".as_slice();
+    assert!(rt; named && are_plain(&names));
     Ok(())
 }
 
-/// The first offence of a book whose first account is in the fourth record.
-fn named_offence(alloc: Global, text: &[u8]) -> Result<(u32, u32), ReadBookFault> {
-    let mut book = Vec::new(alloc);
-    for part in [
-        b"book,2\nprocesses,ann,bob\nlimits,10,10\naccount,ann-cash,1,ann\n".as_slice(),
-        text,
-    ] {
-        if book.extend_from_slice(part).is_err() {
-            return Err(ReadBookFault::NoMemory);
+/// Whether these are a transfer of 30 and a read.
+fn are_two_calls(calls: &[Call]) -> bool {
+    let [first, second] = calls else {
+        return false;
+    };
+    matches!(
+        first,
+        Call::Transfer {
+            from: 0,
+            to: 1,
+            amount: 30
         }
-    }
-    sizes(alloc, &book)
+    ) && matches!(second, Call::Read { account: 1 })
 }
 
 #[test]
-fn named_accounts(rt: HostRuntime) {
-    let table = [
-        (
-            b"account,ann-cash,0,".as_slice(),
-            bad_book(5, BookWhy::NameTwice),
-        ),
-        (
-            b"account,joint,50,ann carl",
-            bad_book(5, BookWhy::UnknownOwner),
-        ),
-        (b"account,Shop,0,", bad_book(5, BookWhy::Name)),
-        (b"account,Shop,x", bad_book(5, BookWhy::Shape)),
-        (b"account,Shop,x,carl", bad_book(5, BookWhy::Name)),
-        (b"account,a1234567890123456,0,", bad_book(5, BookWhy::Name)),
-        (b"account,a123456789012345,0,", Ok((2, 2))),
-        (b"account,ann-cash,x,carl", bad_book(5, BookWhy::NameTwice)),
-        (b"account,shop,x,carl", bad_book(5, BookWhy::Number)),
-        (
-            b"account,shop,0,ann  bob",
-            bad_book(5, BookWhy::UnknownOwner),
-        ),
-        (
-            b"account,shop,0,bob carl ann",
-            bad_book(5, BookWhy::UnknownOwner),
-        ),
-        (
-            b"account,shop,0,bob ann carl",
-            bad_book(5, BookWhy::Book(BookError::OwnersNotRising { account: 1 })),
-        ),
-        (
-            b"account,shop,18446744073709551615,bob ann",
-            bad_book(5, BookWhy::Book(BookError::OwnersNotRising { account: 1 })),
-        ),
-        (
-            b"account,shop,18446744073709551615,bob",
-            bad_book(5, BookWhy::Book(BookError::TotalOverLimit { account: 1 })),
-        ),
-        (b"account,ann,5,ann bob", Ok((2, 2))),
-    ];
-    for (text, want) in table {
-        assert_eq!(rt; named_offence(rt.alloc(), text), want, "{text:?}");
-    }
+fn calls_of_version_1(rt: HostRuntime) -> Result<(), Fail> {
+    let (book, names) = read_book(rt.alloc(), ONE_PROCESS)?;
+    let calls = read_payments(rt.alloc(), &book, &names, b"transfer,0,1,30\nread,1\n")?;
+    assert!(rt; are_two_calls(calls.as_slice()));
+    Ok(())
 }
+
+/// The book that begins with an account of version 2 in the fourth record and goes on so.
+fn book_with(alloc: Global, text: &[u8]) -> Result<Vec<u8>, AllocError> {
+    let mut book = Vec::from_slice(
+        alloc,
+        b"book,2\nprocesses,ann,bob\nlimits,10,10\naccount,ann-cash,1,ann\n",
+    )?;
+    book.extend_from_slice(text)?;
+    Ok(book)
+}
+
+const BAD_ACCOUNTS: &[(&[u8], BookWhy)] = &[
+    (b"account,ann-cash,0,", BookWhy::NameTwice),
+    (b"account,joint,50,ann carl", BookWhy::UnknownOwner),
+    (b"account,Shop,0,", BookWhy::Name),
+    (b"account,Shop,x", BookWhy::Shape),
+    (b"account,Shop,x,carl", BookWhy::Name),
+    (b"account,a1234567890123456,0,", BookWhy::Name),
+    (b"account,ann-cash,x,carl", BookWhy::NameTwice),
+    (b"account,shop,x,carl", BookWhy::Number),
+    (b"account,shop,0,ann  bob", BookWhy::UnknownOwner),
+    (b"account,shop,0,bob carl ann", BookWhy::UnknownOwner),
+    (
+        b"account,shop,0,bob ann carl",
+        BookWhy::Book(BookError::OwnersNotRising { account: 1 }),
+    ),
+    (
+        b"account,shop,18446744073709551615,bob ann",
+        BookWhy::Book(BookError::OwnersNotRising { account: 1 }),
+    ),
+    (
+        b"account,shop,18446744073709551615,bob",
+        BookWhy::Book(BookError::TotalOverLimit { account: 1 }),
+    ),
+];
+
+#[test]
+fn named_accounts(rt: HostRuntime) -> Result<(), Fail> {
+    for (text, why) in BAD_ACCOUNTS {
+        let book = book_with(rt.alloc(), text)?;
+        assert!(rt; is_bad_book(rt.alloc(), &book, 5, *why), "{text:?}");
+    }
+    for text in [
+        b"account,a123456789012345,0,".as_slice(),
+        b"account,ann,5,ann bob",
+    ] {
+        let book = book_with(rt.alloc(), text)?;
+        assert!(rt; is_good_book(rt.alloc(), &book, 2, 2), "{text:?}");
+    }
+    Ok(())
+}
+
+const BAD_NAMED_BOOKS: &[BadFile<BookWhy>] = &[
+    (b"book,2\nprocess\n", 2, BookWhy::Shape),
+    (
+        b"book,2\nprocesses\n",
+        2,
+        BookWhy::Book(BookError::NoProcess),
+    ),
+    (
+        b"book,2\nprocesses,a,b,c,d,e,f,g,h,i,j,k,l,m,n,o,p,Q\n",
+        2,
+        BookWhy::Book(BookError::TooManyProcesses),
+    ),
+    (b"book,2\nprocesses,ann,ann,Bob\n", 2, BookWhy::NameTwice),
+    (b"book,2\nprocesses,ann,-bob,ann\n", 2, BookWhy::Name),
+    (b"book,2\nprocesses,\n", 2, BookWhy::Name),
+    (b"book,2\nprocesses,ann\n", 3, BookWhy::Shape),
+    (
+        b"book,2\nprocesses,ann\nlimits,0,1\n",
+        3,
+        BookWhy::Book(BookError::RoomOutOfRange),
+    ),
+    (
+        b"book,2\nprocesses,ann\nlimits,1,1\n",
+        4,
+        BookWhy::Book(BookError::NoAccount),
+    ),
+    (
+        b"book,2\nprocesses,a,b,c,d,e,f,g,h,i\nlimits,1,1\naccount,x,0,a b c d e f g h i\n",
+        4,
+        BookWhy::Book(BookError::TooManyOwners { account: 0 }),
+    ),
+    (
+        b"book,2\nprocesses,a,b,c,d,e,f,g,h,i\nlimits,1,1\naccount,x,0,a b c d e f g h h\n",
+        4,
+        BookWhy::Book(BookError::OwnersNotRising { account: 0 }),
+    ),
+    (
+        b"book,2\nprocesses,a,b,c,d\nlimits,1,1024\naccount,x,1,a b c d\naccount,y,0,a b c d\naccount,z,18446744073709551615,a b c d\n",
+        6,
+        BookWhy::Book(BookError::RoundsOverLimit { account: 2 }),
+    ),
+];
 
 #[test]
 fn named_books(rt: HostRuntime) {
-    let table = [
-        (NAMED, Ok((2, 3))),
-        (b"book,2\nprocess\n", bad_book(2, BookWhy::Shape)),
-        (
-            b"book,2\nprocesses\n",
-            bad_book(2, BookWhy::Book(BookError::NoProcess)),
-        ),
-        (
-            b"book,2\nprocesses,a,b,c,d,e,f,g,h,i,j,k,l,m,n,o,p,Q\n",
-            bad_book(2, BookWhy::Book(BookError::TooManyProcesses)),
-        ),
-        (
-            b"book,2\nprocesses,ann,ann,Bob\n",
-            bad_book(2, BookWhy::NameTwice),
-        ),
-        (
-            b"book,2\nprocesses,ann,-bob,ann\n",
-            bad_book(2, BookWhy::Name),
-        ),
-        (b"book,2\nprocesses,\n", bad_book(2, BookWhy::Name)),
-        (b"book,2\nprocesses,ann\n", bad_book(3, BookWhy::Shape)),
-        (
-            b"book,2\nprocesses,ann\nlimits,0,1\n",
-            bad_book(3, BookWhy::Book(BookError::RoomOutOfRange)),
-        ),
-        (
-            b"book,2\nprocesses,ann\nlimits,1,1\n",
-            bad_book(4, BookWhy::Book(BookError::NoAccount)),
-        ),
-        (
-            b"book,2\nprocesses,a,b,c,d,e,f,g,h,i\nlimits,1,1\naccount,x,0,a b c d e f g h i\n",
-            bad_book(4, BookWhy::Book(BookError::TooManyOwners { account: 0 })),
-        ),
-        (
-            b"book,2\nprocesses,a,b,c,d,e,f,g,h,i\nlimits,1,1\naccount,x,0,a b c d e f g h h\n",
-            bad_book(4, BookWhy::Book(BookError::OwnersNotRising { account: 0 })),
-        ),
-        (
-            b"book,2\nprocesses,a,b,c,d\nlimits,1,1024\naccount,x,1,a b c d\naccount,y,0,a b c d\naccount,z,18446744073709551615,a b c d\n",
-            bad_book(6, BookWhy::Book(BookError::RoundsOverLimit { account: 2 })),
-        ),
-    ];
-    for (text, want) in table {
-        assert_eq!(rt; sizes(rt.alloc(), text), want, "{text:?}");
-    }
+    assert_eq!(rt; first_not_bad(rt.alloc(), BAD_NAMED_BOOKS), None);
+    assert!(rt; is_good_book(rt.alloc(), NAMED, 2, 3));
 }
+
+const BAD_NAMED_PAYMENTS: &[BadFile<PaymentsWhy>] = &[
+    (b"pay,ann-cash,shop\n", 1, PaymentsWhy::Shape),
+    (b"pay,x,shop,y,joint\n", 1, PaymentsWhy::Shape),
+    (b"pay,x,a,1,a,1,a,1,a,1,a,1\n", 1, PaymentsWhy::Shape),
+    (b"transfer,x,y,z\n", 1, PaymentsWhy::Number),
+    (b"pay,x,y,1,y,z\n", 1, PaymentsWhy::Number),
+    (
+        b"transfer,ann-cash,carl,5\n",
+        1,
+        PaymentsWhy::UnknownAccount,
+    ),
+    (b"read,0\n", 1, PaymentsWhy::UnknownAccount),
+    (
+        b"read,shop\npay,ann-cash,shop,30,carl,20\n",
+        2,
+        PaymentsWhy::UnknownAccount,
+    ),
+];
 
 #[test]
 fn named_payments(rt: HostRuntime) {
-    let table = [
-        (
-            b"pay,ann-cash,shop,30,joint,20\nread,shop\ntransfer,ann-cash,shop,1\n".as_slice(),
-            Ok(3),
-        ),
-        (b"pay,ann-cash,shop\n", bad_payments(1, PaymentsWhy::Shape)),
-        (b"pay,x,shop,y,joint\n", bad_payments(1, PaymentsWhy::Shape)),
-        (
-            b"pay,x,a,1,a,1,a,1,a,1,a,1\n",
-            bad_payments(1, PaymentsWhy::Shape),
-        ),
-        (b"transfer,x,y,z\n", bad_payments(1, PaymentsWhy::Number)),
-        (b"pay,x,y,1,y,z\n", bad_payments(1, PaymentsWhy::Number)),
-        (
-            b"transfer,ann-cash,carl,5\n",
-            bad_payments(1, PaymentsWhy::UnknownAccount),
-        ),
-        (b"read,0\n", bad_payments(1, PaymentsWhy::UnknownAccount)),
-        (
-            b"read,shop\npay,ann-cash,shop,30,carl,20\n",
-            bad_payments(2, PaymentsWhy::UnknownAccount),
-        ),
-    ];
-    for (text, want) in table {
-        assert_eq!(rt; calls(rt.alloc(), NAMED, text), want, "{text:?}");
-    }
+    assert_eq!(rt;
+        first_not_bad_payments(rt.alloc(), NAMED, BAD_NAMED_PAYMENTS),
+        None
+    );
+    let text = b"pay,ann-cash,shop,30,joint,20\nread,shop\ntransfer,ann-cash,shop,1\n";
+    assert_eq!(rt; count_of(rt.alloc(), NAMED, text), Some(3));
 }
 
 #[test]
-fn names_of_a_book(rt: HostRuntime) -> Result<(), Fail> {
+fn names_of_version_2(rt: HostRuntime) -> Result<(), Fail> {
     let (book, names) = read_book(rt.alloc(), NAMED)?;
-    assert!(rt; book.processes() == 2 && book.accounts() == 3);
-    assert_eq!(rt; names.version(), 2);
-    assert_eq!(rt; names.account(1), b"joint".as_slice());
-    assert_eq!(rt; names.process(1), b"bob".as_slice());
-    assert_eq!(rt; names.find(b"shop"), Some(2));
-    assert_eq!(rt; names.find(b"ann"), None);
+    let named = book.processes() == 2
+        && book.accounts() == 3
+        && names.account(1) == b"joint".as_slice()
+        && names.process(1) == b"bob".as_slice();
+    let found = names.find(b"shop") == Some(2) && names.find(b"ann").is_none();
+    assert!(rt; named && found && names.version() == 2);
     Ok(())
+}
+
+/// Whether this is a pay-out of 30 and 20.
+fn is_pay_out(call: Option<&Call>) -> bool {
+    let Some(Call::Pay { from: 1, targets }) = call else {
+        return false;
+    };
+    targets.len() == 2
+        && (targets.to(0), targets.amount(0)) == (2, 30)
+        && (targets.to(1), targets.amount(1)) == (0, 20)
 }
 
 #[test]
 fn pay_outs(rt: HostRuntime) -> Result<(), Fail> {
     let (book, names) = read_book(rt.alloc(), NAMED)?;
-    let calls = read_payments(
-        rt.alloc(),
-        &book,
-        &names,
-        b"pay,joint,shop,30,ann-cash,20\n",
-    )?;
-    let Some(Call::Pay { from, targets }) = calls.first() else {
-        panic!(rt; "no pay-out")
-    };
-    assert!(rt; *from == 1);
-    assert!(rt; targets.len() == 2);
-    assert_eq!(rt; (targets.to(0), targets.amount(0)), (2, 30));
-    assert_eq!(rt; (targets.to(1), targets.amount(1)), (0, 20));
+    let text = b"pay,joint,shop,30,ann-cash,20\n";
+    let calls = read_payments(rt.alloc(), &book, &names, text)?;
+    assert!(rt; is_pay_out(calls.first()));
     Ok(())
 }

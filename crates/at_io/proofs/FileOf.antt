@@ -1,11 +1,11 @@
--- The first file of a name, and its place.
+-- The first file of a name, and its position.
 use Rattle.std.proofs.Common.{◌≡◌, ℕ, Bool, true, false, List, [], ◌∷◌, map, length, Option, Some, None, refl, sym, ◌∙◌, ap, inl, inr, cond, is_some, unwrap_or, position, bytes_eq, nat_lt, string_bytes}
 use Rattle.std.specs.List.{position_or_len, slice_get, find}
 use Rattle.std.specs.Option.{option_map}
 use Rattle.std.proofs.lemmas.Bool.{lt-ltb, le-ltb}
 use Rattle.std.proofs.lemmas.List.Folds.{find_at}
 use Rattle.std.proofs.lemmas.Option.{slice_get_cases}
-use Rattle.at_io.specs.HeldFiles.{KeptFile, NamedFile, named, file_of, unread}
+use Rattle.at_io.specs.HeldFiles.{KeptFile, NamedFile, named_file, file_of, unread}
 
 -- the first element that passes of mapped elements is that of the elements, mapped
 pub find-map : {X Y : Type 0} (p : Y → Bool) (f : X → Y) → (xs : List X) →
@@ -28,54 +28,54 @@ is_named name file = bytes_eq (string_bytes file.0) name
 abbrev bytes_of : KeptFile → List ℕ
 bytes_of file = file.1.items
 
--- the first file of a name stands at the first place of that name
-pub file_of-named : (files : List KeptFile) (name : List ℕ) →
-    file_of (map named files) name
+-- the first file of a name stands at the first position of that name
+pub file_of-named_file : (files : List KeptFile) (name : List ℕ) →
+    file_of (map named_file files) name
     ≡ option_map bytes_of (slice_get files (position_or_len (is_named name) files))
-file_of-named files name =
+file_of-named_file files name =
     ap
     (option_map (λ (file : NamedFile). file.1))
-    (find-map (λ (file : NamedFile). bytes_eq file.0 name) named files)
+    (find-map (λ (file : NamedFile). bytes_eq file.0 name) named_file files)
     ∙ (fused (find (is_named name) files)
     ∙ ap (option_map bytes_of) (find_at (is_named name) files))
   where
     fused : (found : Option KeptFile) →
-        option_map (λ (file : NamedFile). file.1) (option_map named found)
+        option_map (λ (file : NamedFile). file.1) (option_map named_file found)
         ≡ option_map bytes_of found
     fused None = refl
     fused (Some file) = refl
 
--- a place within the list, or none
-abbrev place_within : ℕ → List KeptFile → Option ℕ
-place_within n files = cond (nat_lt n (length files)) (Some n) None
+-- a position within the list, or none
+abbrev position_within : ℕ → List KeptFile → Option ℕ
+position_within n files = cond (nat_lt n (length files)) (Some n) None
 
--- from its start, the file at a place is its bytes
-unread-place_within : (files : List KeptFile) (n : ℕ) →
-    unread files (place_within n files) 0 ≡ unwrap_or (option_map bytes_of (slice_get files n)) []
-unread-place_within files n =
+-- from its start, the file at a position is its bytes
+unread-position_within : (files : List KeptFile) (n : ℕ) →
+    unread files (position_within n files) 0 ≡ unwrap_or (option_map bytes_of (slice_get files n)) []
+unread-position_within files n =
     elim (slice_get_cases files n).1 [
       | inl h ↦ rw (lt-ltb n (length files) h.1, h.2) refl
       | inr h ↦ rw (le-ltb n (length files) h.0, h.1) refl
     ]
 
-is_some-place_within : (files : List KeptFile) (n : ℕ) →
-    is_some (place_within n files) ≡ is_some (option_map bytes_of (slice_get files n))
-is_some-place_within files n =
+is_some-position_within : (files : List KeptFile) (n : ℕ) →
+    is_some (position_within n files) ≡ is_some (option_map bytes_of (slice_get files n))
+is_some-position_within files n =
     elim (slice_get_cases files n).1 [
       | inl h ↦ rw (lt-ltb n (length files) h.1, h.2) refl
       | inr h ↦ rw (le-ltb n (length files) h.0, h.1) refl
     ]
 
--- from its start, the file at the first place of a name is the file of that name
+-- from its start, the file at the first position of a name is the file of that name
 pub unread-position : (files : List KeptFile) (name : List ℕ) →
-    unread files (position (is_named name) files) 0 ≡ unwrap_or (file_of (map named files) name) []
+    unread files (position (is_named name) files) 0 ≡ unwrap_or (file_of (map named_file files) name) []
 unread-position files name =
-    unread-place_within files (position_or_len (is_named name) files)
-    ∙ sym (ap (λ found. unwrap_or found []) (file_of-named files name))
+    unread-position_within files (position_or_len (is_named name) files)
+    ∙ sym (ap (λ found. unwrap_or found []) (file_of-named_file files name))
 
--- a name has a place exactly where it has a file
+-- a name has a position exactly where it has a file
 pub is_some-position : (files : List KeptFile) (name : List ℕ) →
-    is_some (position (is_named name) files) ≡ is_some (file_of (map named files) name)
+    is_some (position (is_named name) files) ≡ is_some (file_of (map named_file files) name)
 is_some-position files name =
-    is_some-place_within files (position_or_len (is_named name) files)
-    ∙ sym (ap is_some (file_of-named files name))
+    is_some-position_within files (position_or_len (is_named name) files)
+    ∙ sym (ap is_some (file_of-named_file files name))

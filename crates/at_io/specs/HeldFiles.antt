@@ -11,8 +11,8 @@ abbrev pub KeptFile : Type 0
 KeptFile = String Global × Vec ℕ Global
 
 -- the name and the bytes of a file that is kept
-abbrev pub named : KeptFile → NamedFile
-named file = (string_bytes file.0, file.1.items)
+abbrev pub named_file : KeptFile → NamedFile
+named_file file = (string_bytes file.0, file.1.items)
 
 -- the files, and what is unread of the chosen one
 pub record Held : Type 0 where
@@ -25,8 +25,8 @@ file_of files name =
     option_map (λ (file : NamedFile). file.1)
     (find (λ (file : NamedFile). bytes_eq file.0 name) files)
 
--- the bytes of the file at a place, from an index on
+-- the bytes of the file at a position, from an index on
 abbrev pub unread : List KeptFile → Option ℕ → ℕ → List ℕ
 unread files None at = []
-unread files (Some place) at =
-    unwrap_or (option_map (λ (file : KeptFile). drop at file.1.items) (slice_get files place)) []
+unread files (Some position) at =
+    unwrap_or (option_map (λ (file : KeptFile). drop at file.1.items) (slice_get files position)) []

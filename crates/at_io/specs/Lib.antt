@@ -1,5 +1,6 @@
 pub mod Faults
 pub mod HeldFiles
+pub mod Limits
 pub mod MemoryShelf
 pub mod MemorySink
 pub mod Shelf

@@ -17,4 +17,4 @@ IsLonger limit file = (bytes : List ℕ) × ((file ≡ Some bytes) × (limit < l
 -- of the file, one byte more than the limit was read, and the rest was not
 abbrev pub IsReadPast : ℕ → Option (List ℕ) → List ℕ → Type 0
 IsReadPast limit file rest =
-    (front : List ℕ) × ((file ≡ Some (front ++ rest)) × (length front ≡ limit + 1))
+    (prefix : List ℕ) × ((file ≡ Some (prefix ++ rest)) × (length prefix ≡ limit + 1))

@@ -1,5 +1,5 @@
 ghost use Rattle.std.specs.Prelude.{◌≡◌, ◌↔◌, ◌≤◌, ◌<◌, ◌++◌, ◌^◌, ◌-◌, true, false, [], map, take, length, IfOk, OnOk, OnErr, is_some, IsErr, ◌&&◌, not, is_ok};
-ghost use Rattle.at_io.specs.HeldFiles.{named, file_of};
+ghost use Rattle.at_io.specs.HeldFiles.{named_file, file_of};
 ghost use Rattle.at_io.specs.MemoryShelf.{next_fails, after_call, rest_chosen, rest_read, read_count};
 
 use crate::faults::raised;
@@ -39,7 +39,7 @@ impl Model for MemoryShelf {
 impl MemoryShelf {
     /// A shelf of these files, by name, whose calls of these numbers fail.
     pub fn new(files: Vec<(String, Vec<u8>)>, failing: Vec<u64>) -> MemoryShelf
-        ensures files { result.held.files ≡ map named files.items }
+        ensures files { result.held.files ≡ map named_file files.items }
         ensures none_chosen { result.held.rest ≡ [] }
         ensures failing { result.failing ≡ failing.items }
         ensures grain { result.grain ≡ 2 ^ 64 - 1 }
@@ -52,7 +52,7 @@ impl MemoryShelf {
     /// The same, where a read gives at most `grain` bytes.
     pub fn with_grain(files: Vec<(String, Vec<u8>)>, failing: Vec<u64>, grain: usize) -> MemoryShelf
         requires { 0 < grain }
-        ensures files { result.held.files ≡ map named files.items }
+        ensures files { result.held.files ≡ map named_file files.items }
         ensures none_chosen { result.held.rest ≡ [] }
         ensures failing { result.failing ≡ failing.items }
         ensures grain { result.grain ≡ grain }

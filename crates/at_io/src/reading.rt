@@ -1,9 +1,9 @@
 ghost use Rattle.std.specs.Prelude.{◌≡◌, ◌≢◌, ◌≤◌, ◌<◌, ◌⊎◌, ◌+◌, true, [], ◌++◌, length, Some, IfOk, OnOk, OnErr};
 ghost use Rattle.at_io.specs.Faults.{Rose};
+ghost use Rattle.at_io.specs.Limits.{most_file_bytes};
 ghost use Rattle.at_io.specs.Shelf.{SameFiles, LacksFile, IsLonger, IsReadPast};
 
 use crate::shelf::Shelf;
-use std::alloc::Global;
 use thiserror::Error;
 
 /// The most bytes that a file may have to be fetched.
@@ -30,12 +30,7 @@ pub enum FetchError {
 /// one byte past `FILE_MAX`. Over a shelf that tells its files, with no fault counted and memory
 /// found, a file that is held is answered by its bytes or, exactly where it has more than
 /// `FILE_MAX`, by `TooLong`.
-pub fn fetch<F: Shelf>(
-    _alloc: Global,
-    shelf: &mut F,
-    name: &str,
-    out: &mut Vec<u8>,
-) -> Result<(), FetchError>
+pub fn fetch<F: Shelf>(shelf: &mut F, name: &str, out: &mut Vec<u8>) -> Result<(), FetchError>
     requires { out.old.items ≡ [] }
     ensures files { SameFiles (F.tells shelf.old) (F.tells shelf.new)
         (F.file shelf.old) (F.file shelf.new) }
@@ -43,7 +38,7 @@ pub fn fetch<F: Shelf>(
     ensures kept { OnOk result (F.faults shelf.new ≡ F.faults shelf.old) }
     ensures contents { F.tells shelf.old ≡ true →
         OnOk result (F.file shelf.old name.now ≡ Some out.new.items) }
-    ensures size { OnOk result (length out.new.items ≤ FILE_MAX) }
+    ensures size { OnOk result (length out.new.items ≤ most_file_bytes) }
 
     ensures failed { result ≡ Err FetchError.Failed →
         Rose (F.faults shelf.old) (F.faults shelf.new)
@@ -51,9 +46,9 @@ pub fn fetch<F: Shelf>(
     ensures too_long_kept { result ≡ Err FetchError.TooLong →
         F.faults shelf.new ≡ F.faults shelf.old }
     ensures too_long { F.tells shelf.old ≡ true → result ≡ Err FetchError.TooLong →
-        IsLonger FILE_MAX (F.file shelf.old name.now) }
+        IsLonger most_file_bytes (F.file shelf.old name.now) }
     ensures read_past { F.tells shelf.old ≡ true → result ≡ Err FetchError.TooLong →
-        IsReadPast FILE_MAX (F.file shelf.old name.now) (F.rest shelf.new) }
+        IsReadPast most_file_bytes (F.file shelf.old name.now) (F.rest shelf.new) }
     ensures no_memory_kept { result ≡ Err FetchError.NoMemory →
         F.faults shelf.new ≡ F.faults shelf.old }
     ensures emptied { OnErr result (out.new.items ≡ []) }
@@ -77,11 +72,11 @@ fn read_whole<F: Shelf>(shelf: &mut F, out: &mut Vec<u8>) -> Result<(), FetchErr
     ensures kept { result ≢ Err FetchError.Failed → F.faults shelf.new ≡ F.faults shelf.old }
     ensures failed { result ≡ Err FetchError.Failed →
         Rose (F.faults shelf.old) (F.faults shelf.new) }
-    ensures size { OnOk result (length out.new.items ≤ FILE_MAX) }
+    ensures size { OnOk result (length out.new.items ≤ most_file_bytes) }
     ensures contents { F.tells shelf.old ≡ true → OnOk result (F.rest shelf.old ≡ out.new.items) }
     ensures too_long { F.tells shelf.old ≡ true → result ≡ Err FetchError.TooLong →
         (F.rest shelf.old ≡ out.new.items ++ F.rest shelf.new)
-        × (length out.new.items ≡ FILE_MAX + 1) }
+        × (length out.new.items ≡ most_file_bytes + 1) }
 {
     let mut buffer = [0; READ_MAX];
     while out.len() <= FILE_MAX {

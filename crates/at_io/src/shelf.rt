@@ -33,7 +33,7 @@ pub trait Shelf {
             OnOk result (file self.old name.now ≡ Some (rest self.new)) }
         ensures none_chosen { tells self.old ≡ true → OnErr result (rest self.new ≡ []) };
 
-    /// Reads the next bytes of the chosen file into the front of `buf`, and answers how many. With
+    /// Reads the next bytes of the chosen file into the start of `buf`, and answers how many. With
     /// no file chosen there are none. After a failure `buf` may hold anything.
     fn read(&mut self, buf: &mut [u8]) -> Result<usize, ReadFailed>
         ensures files { SameFiles (tells self.old) (tells self.new)

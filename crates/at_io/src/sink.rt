@@ -16,7 +16,7 @@ pub trait Sink {
     // how many faults were counted
     ghost faults: { Self → ℕ };
 
-    /// Takes a front of the piece, of one byte at least where the piece is not empty, and answers
+    /// Takes a prefix of the piece, of one byte at least where the piece is not empty, and answers
     /// its length.
     fn write(&mut self, piece: &[u8]) -> Result<usize, WriteFailed>
         ensures as_told { tells self.new ≡ tells self.old }
@@ -26,7 +26,7 @@ pub trait Sink {
         ensures bound { IfOk result (λ n. n ≤ length piece.now) }
         ensures some { 0 < length piece.now → IfOk result (λ n. 0 < n) }
         ensures empty { piece.now ≡ [] → result ≡ Ok 0 }
-        ensures front { tells self.old ≡ true →
+        ensures prefix { tells self.old ≡ true →
             IfOk result (λ n. taken self.new ≡ taken self.old ++ take n piece.now) }
         ensures untaken { tells self.old ≡ true → OnErr result (taken self.new ≡ taken self.old) };
 }

@@ -56,7 +56,7 @@ impl<W: io::Write + Drop> Sink for StdSink<W> {
     }
 }
 
-/// Writes a front of the piece and flushes it, and answers its length, or 0 where either failed.
+/// Writes a prefix of the piece and flushes it, and answers its length, or 0 where either failed.
 fn write_through<W: io::Write>(writer: &mut W, piece: &[u8]) -> usize
     ensures { result ≤ length piece.now }
 {

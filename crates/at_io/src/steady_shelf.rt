@@ -1,5 +1,5 @@
 ghost use Rattle.std.specs.Prelude.{◌≡◌, [], map};
-ghost use Rattle.at_io.specs.HeldFiles.{named};
+ghost use Rattle.at_io.specs.HeldFiles.{named_file};
 
 use crate::held_files::HeldFiles;
 use crate::shelf::{ReadFailed, Shelf};
@@ -23,7 +23,7 @@ impl Model for SteadyShelf {
 impl SteadyShelf {
     /// A shelf of these files, by name.
     pub fn new(files: Vec<(String, Vec<u8>)>) -> SteadyShelf
-        ensures files { result.files ≡ map named files.items }
+        ensures files { result.files ≡ map named_file files.items }
         ensures none_chosen { result.rest ≡ [] }
     {
         SteadyShelf {

@@ -1,7 +1,8 @@
 use super::*;
 use std::alloc::Global;
+use std::fs::File;
 use std::test::Fail;
-use std::{env, fs, io};
+use std::{env, fs, io, process};
 
 const GREETING: &[u8] = b"hello, world";
 
@@ -22,7 +23,7 @@ fn sample(alloc: Global) -> Result<Vec<(String, Vec<u8>)>, NoMemory> {
 /// The bytes that are fetched.
 fn fetched<F: Shelf>(alloc: Global, shelf: &mut F, name: &str) -> Result<Vec<u8>, FetchError> {
     let mut out = Vec::new(alloc);
-    match fetch(alloc, shelf, name, &mut out) {
+    match fetch(shelf, name, &mut out) {
         Ok(()) => Ok(out),
         Err(error) => Err(error),
     }
@@ -109,26 +110,96 @@ fn steady_sink_counts_bytes(rt: HostRuntime) -> Result<(), Fail> {
     Ok(())
 }
 
-#[test]
-fn real_file_is_written_and_read_back(rt: HostRuntime) -> Result<(), Fail> {
-    let alloc = rt.alloc();
-    let mut path = env::temp_dir(&rt)?;
-    path.push("at_io_real_file")?;
-    let path = path.to_str().ok_or("a path that is text")?;
+/// A path for a file of this test alone.
+fn path_of(rt: &HostRuntime, name: &str) -> Result<String, Fail> {
+    let mut path = env::temp_dir(rt)?;
+    path.push(name)?;
+    let text = path.to_str().ok_or("a path that is text")?;
+    Ok(format!(in rt.alloc(); "{text}_{}", process::id(rt.process()))?)
+}
 
-    let mut sink = StdSink::new(fs::create(&rt, path)?);
-    assert_eq!(rt; put_all(&mut sink, GREETING), Ok(()));
-    let mut shelf = DirShelf::new(&rt);
+/// Whether a real shelf reads these bytes from the file, each time that it is chosen.
+fn are_read(rt: &HostRuntime, path: &str, want: &[u8]) -> bool {
+    let mut shelf = DirShelf::new(rt);
     for _turn in 0..2 {
-        let bytes = fetched(alloc, &mut shelf, path)?;
-        assert_eq!(rt; bytes.as_slice(), GREETING);
+        match fetched(rt.alloc(), &mut shelf, path) {
+            Ok(bytes) if bytes.as_slice() == want => {}
+            _ => return false,
+        }
     }
-    fs::remove_file(&rt, path)?;
-    for name in [path, "", "/"] {
-        let refused = fetched(alloc, &mut shelf, name);
+    true
+}
+
+/// Bytes for more than two reads of a shelf, each another than the one before it.
+fn many_bytes(alloc: Global) -> Result<Vec<u8>, NoMemory> {
+    let mut bytes = Vec::new(alloc);
+    for i in 0..50_000u32 {
+        bytes.push((i % 251) as u8)?;
+    }
+    Ok(bytes)
+}
+
+#[test]
+fn real_files_are_written_and_read_back(rt: HostRuntime) -> Result<(), Fail> {
+    let path = path_of(&rt, "at_io_real_files")?;
+    let many = many_bytes(rt.alloc())?;
+    for want in [GREETING, b"", many.as_slice()] {
+        let mut sink = StdSink::new(fs::create(&rt, path.as_str())?);
+        let written = put_all(&mut sink, want).is_ok();
+        assert!(rt;
+            written && are_read(&rt, path.as_str(), want),
+            "{} bytes",
+            want.len()
+        );
+    }
+    Ok(fs::remove_file(&rt, path.as_str())?)
+}
+
+#[test]
+fn real_shelf_fails_without_a_file(rt: HostRuntime) -> Result<(), Fail> {
+    let path = path_of(&rt, "at_io_no_file")?;
+    let mut shelf = DirShelf::new(&rt);
+    for name in [path.as_str(), "", "/"] {
+        let refused = fetched(rt.alloc(), &mut shelf, name);
         assert_eq!(rt; refused.err(), Some(FetchError::Failed), "{name}");
     }
     Ok(())
+}
+
+/// A file that takes one byte of a piece, and fails after so many bytes.
+#[derive(Drop)]
+struct SlowFile {
+    file: File,
+    left: usize,
+}
+
+impl io::Write for SlowFile {
+    fn write(&mut self, buf: &[u8]) -> io::Result<usize> {
+        if self.left == 0 {
+            return Err(io::Error::other("no room"));
+        }
+        self.left -= 1;
+        self.file.write(buf.get(..1).unwrap_or(buf))
+    }
+
+    fn flush(&mut self) -> io::Result<()> {
+        self.file.flush()
+    }
+}
+
+#[test]
+fn real_sink_writes_what_a_short_write_left(rt: HostRuntime) -> Result<(), Fail> {
+    let path = path_of(&rt, "at_io_slow_file")?;
+    for (left, want, fails) in [(100, GREETING, false), (5, b"hello", true)] {
+        let file = fs::create(&rt, path.as_str())?;
+        let mut sink = StdSink::new(SlowFile { file, left });
+        let failed = put_all(&mut sink, GREETING).is_err();
+        assert!(rt;
+            failed == fails && are_read(&rt, path.as_str(), want),
+            "{left} bytes"
+        );
+    }
+    Ok(fs::remove_file(&rt, path.as_str())?)
 }
 
 /// A writer whose flush fails.

@@ -1,6 +1,6 @@
 ghost use Rattle.std.specs.Prelude.{◌≡◌, ◌≤◌, true, ◌++◌, OnOk, OnErr};
 ghost use Rattle.at_io.specs.Faults.{Rose};
-ghost use Rattle.at_io.specs.Sink.{TakesFront};
+ghost use Rattle.at_io.specs.Sink.{TakesPrefix};
 
 use crate::sink::Sink;
 
@@ -16,8 +16,8 @@ pub fn put_all<O: Sink>(sink: &mut O, bytes: &[u8]) -> Result<(), WriteFault>
     ensures all { O.tells sink.old ≡ true →
         OnOk result (O.taken sink.new ≡ O.taken sink.old ++ bytes.now) }
     ensures fault { OnErr result (Rose (O.faults sink.old) (O.faults sink.new)) }
-    ensures front { O.tells sink.old ≡ true →
-        OnErr result (TakesFront (O.taken sink.old) (O.taken sink.new) bytes.now) }
+    ensures prefix { O.tells sink.old ≡ true →
+        OnErr result (TakesPrefix (O.taken sink.old) (O.taken sink.new) bytes.now) }
 {
     let mut at = 0;
     while at < bytes.len() {

@@ -16,17 +16,17 @@ use Rattle.at_ledger.specs.declared.draft.Draft.{Draft}
 use Rattle.at_ledger.specs.declared.draft.DraftAccount.{DraftAccount}
 use Rattle.at_ledger.specs.declared.draft.BookError.{BookError}
 use Rattle.at_ledger.specs.declared.draft.BookError.TheVariants.{NoAccount, RoundsOverLimit, TotalOverLimit}
-use Rattle.at_ledger.specs.declared.draft.TheConstants.{ACCOUNTS_MAX, ROUNDS_MAX}
+use Rattle.at_ledger.specs.Limits.{most_accounts, most_rounds}
 
 -- an account without a fault keeps what holds of a book so far
 pub IsSummed-with_account : (b : BookTerms) (t : AccountTerms) (rounds total : ℕ) → IsBegun b
-    → length b.accounts < ACCOUNTS_MAX → owners_fault b.processes (length b.accounts) 0 0 t.owners ≡ None → sums_fault b t ≡ None
+    → length b.accounts < most_accounts → owners_fault b.processes (length b.accounts) 0 0 t.owners ≡ None → sums_fault b t ≡ None
     → rounds ≡ rounds_of b + rounds_room b.request_room t → total ≡ total_of b + t.opening
     → IsSummed (with_account b t) rounds total
 IsSummed-with_account b t rounds total begun room known small rounds_is total_is =
-    let place = length b.accounts in
-    let first = choice-none (ltb ROUNDS_MAX (rounds_of b + rounds_room b.request_room t)) (RoundsOverLimit place) _ small in
-    let second = choice-none (leb (2 ^ 64) (total_of b + t.opening)) (TotalOverLimit place) None first.1 in
+    let position = length b.accounts in
+    let first = choice-none (ltb most_rounds (rounds_of b + rounds_room b.request_room t)) (RoundsOverLimit position) _ small in
+    let second = choice-none (leb (2 ^ 64) (total_of b + t.opening)) (TotalOverLimit position) None first.1 in
     let more_rounds = sum_by_push (rounds_room b.request_room) b.accounts t in
     let more_total = sum_by_push (λ a. a.opening) b.accounts t in
     record {
@@ -38,7 +38,7 @@ IsSummed-with_account b t rounds total begun room known small rounds_is total_is
         some_request_room = begun.some_request_room;
         request_room = begun.request_room;
         few_accounts = omega (arith, length-append b.accounts (t ∷ []), room);
-        accounts = All-push (IsAccount b.processes) b.accounts t begun.accounts (IsAccount-from_none b.processes place t.opening t.owners known);
+        accounts = All-push (IsAccount b.processes) b.accounts t begun.accounts (IsAccount-from_none b.processes position t.opening t.owners known);
         rounds = omega (arith, more_rounds, ltb-false _ _ first.0);
         total = omega (arith, more_total, leb-false _ _ second.0);
       };
@@ -99,7 +99,7 @@ rounds_room_of-le request_room process t =
 
 -- the room of a log is at most the own room with all rounds
 pub log_room-take-le : (b : BookTerms) (process i : ℕ) (t : AccountTerms) → IsBegun b → i < length b.accounts
-    → sum_by (rounds_room_of b.request_room process) (take i b.accounts) + rounds_room_of b.request_room process (get_or b.accounts i t) ≤ ROUNDS_MAX
+    → sum_by (rounds_room_of b.request_room process) (take i b.accounts) + rounds_room_of b.request_room process (get_or b.accounts i t) ≤ most_rounds
 log_room-take-le b process i t begun within =
     let f = rounds_room_of b.request_room process in
     let part = sum_by_more_le_part f (rounds_room b.request_room) b.accounts i t within (rounds_room_of-le b.request_room process) in

@@ -11,7 +11,7 @@ use Rattle.at_ledger.specs.Book.{IsAccount}
 use Rattle.at_ledger.specs.Draft.{owner_fault, owners_fault, terms_with}
 use Rattle.at_ledger.specs.declared.draft.BookError.{BookError}
 use Rattle.at_ledger.specs.declared.draft.BookError.TheVariants.{OwnerOutOfRange, OwnersNotRising, TooManyOwners}
-use Rattle.at_ledger.specs.declared.draft.TheConstants.{OWNERS_MAX}
+use Rattle.at_ledger.specs.Limits.{most_owners}
 
 -- an owner without a fault: the walk goes on after it
 pub owners_fault-drop_good : (processes account count least : ℕ) (owners : List ℕ) (i : ℕ) → i < length owners
@@ -43,20 +43,20 @@ owners_fault-drop_all processes account count least owners i all =
 -- an owner without a fault is a process, high enough, and not the ninth
 owner_fault-none : (processes account count least owner : ℕ)
     → owner_fault processes account count least owner ≡ None
-    → (owner < processes) × (least ≤ owner) × (count < OWNERS_MAX)
+    → (owner < processes) × (least ≤ owner) × (count < most_owners)
 owner_fault-none processes account count least owner good =
     let known = choice-none (leb processes owner) (OwnerOutOfRange account) _ good in
     let rising = choice-none (ltb owner least) (OwnersNotRising account) _ known.1 in
-    let few = choice-none (leb OWNERS_MAX count) (TooManyOwners account) _ rising.1 in
+    let few = choice-none (leb most_owners count) (TooManyOwners account) _ rising.1 in
     (leb-false _ _ known.0, ltb-false _ _ rising.0, leb-false _ _ few.0)
 
 -- owners that follow `count` others
 record AreOwners (processes count least : ℕ) (owners : List ℕ) : Type 0 where
   known : All (λ owner. owner < processes) owners
   rising : IsRisingFrom least owners
-  few : count + length owners ≤ OWNERS_MAX
+  few : count + length owners ≤ most_owners
 
-AreOwners-from_none : (processes account count least : ℕ) (owners : List ℕ) → count ≤ OWNERS_MAX
+AreOwners-from_none : (processes account count least : ℕ) (owners : List ℕ) → count ≤ most_owners
     → owners_fault processes account count least owners ≡ None → AreOwners processes count least owners
 unfolding owners_fault IsRisingFrom
 AreOwners-from_none processes account count least [] few good =

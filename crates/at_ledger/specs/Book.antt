@@ -1,7 +1,7 @@
 -- A checked book: its processes, its accounts in order, and the room that each process has.
 use Rattle.std.specs.Prelude.{◌≡◌, ℕ, ◌+◌, ◌^◌, ◌<◌, ◌≤◌, Bool, List, length, All, sum_by, slice_index_or, Some}
 use Rattle.at_ledger.specs.Account.{AccountTerms, no_account, is_owner_in, rounds_room, rounds_room_of, slot_in, slots_of, IsRisingFrom}
-use Rattle.at_ledger.specs.declared.draft.TheConstants.{PROCESSES_MAX, ACCOUNTS_MAX, OWNERS_MAX, OWN_ROOM_MAX, REQUEST_ROOM_MAX, ROUNDS_MAX}
+use Rattle.at_ledger.specs.Limits.{most_accounts, most_own_room, most_owners, most_processes, most_request_room, most_rounds}
 
 -- own_room counts the successful transfers from single accounts that each process has,
 -- request_room the requests of each owner of each shared account
@@ -41,19 +41,19 @@ log_room_of b process = b.own_room + sum_by (rounds_room_of b.request_room proce
 pub record IsAccount (processes : ℕ) (t : AccountTerms) : Type 0 where
   pub known : All (λ owner. owner < processes) t.owners
   pub rising : IsRisingFrom 0 t.owners
-  pub few : length t.owners ≤ OWNERS_MAX
+  pub few : length t.owners ≤ most_owners
 
 -- what holds of a book to which accounts are still added
 pub record IsBegun (b : BookTerms) : Type 0 where
   pub some_process : 1 ≤ b.processes
-  pub few_processes : b.processes ≤ PROCESSES_MAX
+  pub few_processes : b.processes ≤ most_processes
   pub some_own_room : 1 ≤ b.own_room
-  pub own_room : b.own_room ≤ OWN_ROOM_MAX
+  pub own_room : b.own_room ≤ most_own_room
   pub some_request_room : 1 ≤ b.request_room
-  pub request_room : b.request_room ≤ REQUEST_ROOM_MAX
-  pub few_accounts : length b.accounts ≤ ACCOUNTS_MAX
+  pub request_room : b.request_room ≤ most_request_room
+  pub few_accounts : length b.accounts ≤ most_accounts
   pub accounts : All (IsAccount b.processes) b.accounts
-  pub rounds : rounds_of b ≤ ROUNDS_MAX
+  pub rounds : rounds_of b ≤ most_rounds
   pub total : total_of b < 2 ^ 64
 
 -- a book so far, with the sums of its rounds and openings

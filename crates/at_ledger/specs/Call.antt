@@ -8,7 +8,7 @@ use Rattle.at_ledger.specs.declared.call.Line.{Line}
 abbrev pub TargetPair : Type 0
 TargetPair = ℕ × ℕ
 
--- the target at a place
+-- the target at a position
 abbrev pub target_at : List TargetPair → ℕ → TargetPair
 target_at targets i = slice_index_or targets i (0, 0)
 

@@ -1,4 +1,4 @@
--- The walk over a draft that finds its first offence, and the book that a draft without one gives.
+-- The walk over a draft that finds its first fault, and the book that a draft without one gives.
 use Rattle.std.specs.Prelude.{ℕ, ◌+◌, ◌^◌, ◌++◌, Bool, ◌&&◌, ◌==◌, List, [], ◌∷◌, length, map, nat_lt, nat_le, Option, Some, None, if◌then◌else◌}
 use Rattle.std.specs.Option.{option_or}
 use Rattle.at_ledger.specs.Account.{AccountTerms, rounds_room}
@@ -7,7 +7,7 @@ use Rattle.at_ledger.specs.declared.draft.Draft.{Draft}
 use Rattle.at_ledger.specs.declared.draft.DraftAccount.{DraftAccount}
 use Rattle.at_ledger.specs.declared.draft.BookError.{BookError}
 use Rattle.at_ledger.specs.declared.draft.BookError.TheVariants.{NoProcess, TooManyProcesses, NoAccount, TooManyAccounts, OwnerOutOfRange, OwnersNotRising, TooManyOwners, RoomOutOfRange, RoundsOverLimit, TotalOverLimit}
-use Rattle.at_ledger.specs.declared.draft.TheConstants.{PROCESSES_MAX, ACCOUNTS_MAX, OWNERS_MAX, OWN_ROOM_MAX, REQUEST_ROOM_MAX, ROUNDS_MAX}
+use Rattle.at_ledger.specs.Limits.{most_accounts, most_own_room, most_owners, most_processes, most_request_room, most_rounds}
 
 -- whether a number is from 1 to `most`
 abbrev pub is_within : ℕ → ℕ → Bool
@@ -17,8 +17,8 @@ is_within most n = nat_le 1 n && nat_le n most
 abbrev pub limits_fault : ℕ → ℕ → ℕ → Option BookError
 limits_fault processes own_room request_room =
     if processes == 0 then Some NoProcess
-    else if nat_lt PROCESSES_MAX processes then Some TooManyProcesses
-    else if is_within OWN_ROOM_MAX own_room && is_within REQUEST_ROOM_MAX request_room then None
+    else if nat_lt most_processes processes then Some TooManyProcesses
+    else if is_within most_own_room own_room && is_within most_request_room request_room then None
     else Some RoomOutOfRange
 
 -- why this owner can't follow `count` owners, where the next one has to be at least `least`
@@ -26,7 +26,7 @@ abbrev pub owner_fault : ℕ → ℕ → ℕ → ℕ → ℕ → Option BookErro
 owner_fault processes account count least owner =
     if nat_le processes owner then Some (OwnerOutOfRange account)
     else if nat_lt owner least then Some (OwnersNotRising account)
-    else if nat_le OWNERS_MAX count then Some (TooManyOwners account)
+    else if nat_le most_owners count then Some (TooManyOwners account)
     else None
 
 -- the first fault of the owners, from left to right
@@ -38,14 +38,14 @@ owners_fault processes account count least (owner ∷ owners) =
 -- with this account the rounds, or the openings, pass their limit
 abbrev pub sums_fault : BookTerms → AccountTerms → Option BookError
 sums_fault b t =
-    if nat_lt ROUNDS_MAX (rounds_of b + rounds_room b.request_room t) then Some (RoundsOverLimit (length b.accounts))
+    if nat_lt most_rounds (rounds_of b + rounds_room b.request_room t) then Some (RoundsOverLimit (length b.accounts))
     else if nat_le (2 ^ 64) (total_of b + t.opening) then Some (TotalOverLimit (length b.accounts))
     else None
 
 -- why this account can't follow those that the book has so far
 abbrev pub account_fault : BookTerms → AccountTerms → Option BookError
 account_fault b t =
-    if nat_le ACCOUNTS_MAX (length b.accounts) then Some TooManyAccounts
+    if nat_le most_accounts (length b.accounts) then Some TooManyAccounts
     else option_or (owners_fault b.processes (length b.accounts) 0 0 t.owners) (sums_fault b t)
 
 -- an account that opens with so much and has these owners
@@ -70,7 +70,7 @@ book_without_accounts processes own_room request_room =
 abbrev pub terms_of : DraftAccount → AccountTerms
 terms_of a = terms_with a.opening a.owners.items
 
--- the first offence of a draft: its limits, and then its accounts in turn
+-- the first fault of a draft: its limits, and then its accounts in turn
 abbrev pub book_fault : Draft → Option BookError
 book_fault d =
     option_or (limits_fault d.processes d.own_room d.request_room)

@@ -12,7 +12,7 @@ pub record Run : Type 0 where
   pub replies : List Reply
   pub last : LedgerState
 
--- a reply in front of a run from the state after it
+-- a reply before a run from the state after it
 abbrev pub run_after : Reply → Run → Run
 run_after reply r = record { replies = reply ∷ r.replies; last = r.last }
 

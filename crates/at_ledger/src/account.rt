@@ -1,6 +1,7 @@
 //! One account of a checked book.
 
 ghost use Rattle.std.specs.Prelude.{◌≡◌, ◌<◌, ◌≤◌, length, slice_index, IfSome};
+ghost use Rattle.at_ledger.specs.Limits.{most_owners, most_request_room, most_rounds};
 
 use crate::draft::{OWNERS_MAX, REQUEST_ROOM_MAX, ROUNDS_MAX};
 use arrayvec::ArrayVec;
@@ -38,14 +39,14 @@ impl Account {
 
     pub(crate) fn owner_count(&self) -> u32
         ensures count { result ≡ length self.now.owners }
-        ensures few { length self.now.owners ≤ OWNERS_MAX }
+        ensures few { length self.now.owners ≤ most_owners }
     {
         self.owners.len() as u32
     }
 
     pub(crate) fn slot_count(&self) -> u32
         ensures count { result ≡ slots_of self.now }
-        ensures few { result ≤ OWNERS_MAX }
+        ensures few { result ≤ most_owners }
     {
         if self.is_shared() {
             self.owner_count()
@@ -65,9 +66,9 @@ impl Account {
     }
 
     pub(crate) fn rounds_room(&self, request_room: u32) -> u32
-        requires { request_room ≤ REQUEST_ROOM_MAX }
+        requires { request_room ≤ most_request_room }
         ensures room { result ≡ rounds_room request_room self.now }
-        ensures few { result ≤ ROUNDS_MAX }
+        ensures few { result ≤ most_rounds }
     {
         if self.is_shared() {
             self.owner_count() * request_room
@@ -78,7 +79,7 @@ impl Account {
 
     /// The rounds of the account that the log of the process has room for.
     pub(crate) fn rounds_of(&self, process: u32, request_room: u32) -> u32
-        requires { request_room ≤ REQUEST_ROOM_MAX }
+        requires { request_room ≤ most_request_room }
         ensures { result ≡ rounds_room_of request_room process self.now }
     {
         if self.slot_in(process).is_some() {

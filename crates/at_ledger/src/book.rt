@@ -1,6 +1,7 @@
 //! A checked book.
 
 ghost use Rattle.std.specs.Prelude.{◌≡◌, ◌<◌, ◌≤◌, length, map, slice_index, None, Some, IfOk, OnOk, IfSome};
+ghost use Rattle.at_ledger.specs.Limits.{most_owners};
 
 use crate::NoMemory;
 use crate::account::Account;
@@ -34,7 +35,7 @@ impl Book {
     ghost use Rattle.at_ledger.specs.Book.{IsBook, account_of, is_owner, log_room_of};
     ghost use Rattle.at_ledger.specs.Draft.{book_fault, book_of};
 
-    /// Checks a draft and copies it. A refusal names the first offence: the limits, then the accounts in
+    /// Checks a draft and copies it. A refusal names the first fault: the limits, then the accounts in
     /// turn, each with its owners from left to right before its sums.
     pub fn new(alloc: Global, draft: &Draft) -> Result<Book, BookFault>
         ensures ok { IfOk result (λ b. b ≡ book_of draft.now) }
@@ -107,7 +108,7 @@ impl Book {
     pub fn owner_count(&self, account: u32) -> u32
         requires { account < length self.now.accounts }
         ensures count { result ≡ length (account_of self.now account).owners }
-        ensures few { result ≤ OWNERS_MAX }
+        ensures few { result ≤ most_owners }
     {
         self.accounts[account as usize].owner_count()
     }
@@ -116,7 +117,7 @@ impl Book {
     pub fn slot_count(&self, account: u32) -> u32
         requires { account < length self.now.accounts }
         ensures count { result ≡ slots_of (account_of self.now account) }
-        ensures few { result ≤ OWNERS_MAX }
+        ensures few { result ≤ most_owners }
     {
         self.accounts[account as usize].slot_count()
     }

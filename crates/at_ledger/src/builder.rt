@@ -1,6 +1,7 @@
 //! A book to which accounts are added one by one.
 
 ghost use Rattle.std.specs.Prelude.{◌≡◌, ◌+◌, ◌<◌, ◌↔◌, [], None, Some, length, IsTrue, OnOk, OnErr, IfOk, IfErr};
+ghost use Rattle.at_ledger.specs.Limits.{most_accounts};
 
 use crate::account::Account;
 use crate::book::Book;
@@ -68,7 +69,7 @@ impl BookBuilder {
 
     /// Whether no further account fits.
     pub fn is_full(&self) -> bool
-        ensures full { IsTrue result ↔ (length self.now.accounts ≡ ACCOUNTS_MAX) }
+        ensures full { IsTrue result ↔ (length self.now.accounts ≡ most_accounts) }
         ensures checked { IsBegun self.now }
     {
         self.accounts.len() == ACCOUNTS_MAX as usize
@@ -117,8 +118,8 @@ impl BookBuilder {
         if self.is_full() {
             return Err(BookError::TooManyAccounts);
         }
-        let place = self.accounts.len() as u32;
-        let owners = checked_owners(self.processes, place, owners)?;
+        let position = self.accounts.len() as u32;
+        let owners = checked_owners(self.processes, position, owners)?;
         let account = Account { opening, owners };
         let sums = self.sums_with(&account)?;
         Ok((account, sums))
@@ -126,20 +127,20 @@ impl BookBuilder {
 
     /// The sums with one more account, or why they pass a limit.
     fn sums_with(&self, account: &Account) -> Result<Sums, BookError>
-        requires { length self.now.accounts < ACCOUNTS_MAX }
+        requires { length self.now.accounts < most_accounts }
         ensures rounds { IfOk result (λ s. s.rounds ≡ rounds_of self.now + rounds_room self.now.request_room account.now) }
         ensures total { IfOk result (λ s. s.total ≡ total_of self.now + account.now.opening) }
         ensures good { OnOk result (sums_fault self.now account.now ≡ None) }
         ensures bad { IfErr result (λ e. sums_fault self.now account.now ≡ Some e) }
     {
-        let place = self.accounts.len() as u32;
+        let position = self.accounts.len() as u32;
         let rounds = self.sums.rounds + account.rounds_room(self.request_room);
         if ROUNDS_MAX < rounds {
-            return Err(BookError::RoundsOverLimit { account: place });
+            return Err(BookError::RoundsOverLimit { account: position });
         }
         match self.sums.total.checked_add(account.opening) {
             Some(total) => Ok(Sums { rounds, total }),
-            None => Err(BookError::TotalOverLimit { account: place }),
+            None => Err(BookError::TotalOverLimit { account: position }),
         }
     }
 }

@@ -40,7 +40,7 @@ pub struct DraftAccount {
     pub owners: Vec<u64>,
 }
 
-/// Why a draft is no book. An account is named by its place in the book, from 0.
+/// Why a draft is no book. An account is named by its position in the book, from 0.
 #[derive(Clone, Copy, Debug, PartialEq, Eq, Error)]
 pub enum BookError {
     #[error("no process")]

@@ -1,7 +1,7 @@
 //! The book of accounts and the sequential ledger over it: who may debit which account, and what each
 //! call answers and changes where calls come one after another.
 //!
-//! A `Book` is made only where every limit holds, and a refusal names the first offence. `State::step`
+//! A `Book` is made only where every limit holds, and a refusal names the first fault. `State::step`
 //! is the ledger's definition, call by call.
 #![tactic(auto)]
 

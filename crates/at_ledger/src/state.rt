@@ -128,7 +128,7 @@ impl State {
     fn asked_position(&self, process: u32, account: u32) -> usize
         requires process_in { process < self.now.book.processes }
         requires account_in { account < length self.now.book.accounts }
-        ensures place { result ≡ asked_position self.now.book process account }
+        ensures position { result ≡ asked_position self.now.book process account }
         ensures within { result < length self.now.asked }
     {
         process as usize * self.book.accounts() as usize + account as usize
@@ -192,8 +192,8 @@ impl State {
         requires room { asked_of self.old process account < self.old.book.request_room }
         ensures { self.new ≡ with_asked self.old process account }
     {
-        let place = self.asked_position(process, account);
-        self.asked[place] += 1;
+        let position = self.asked_position(process, account);
+        self.asked[position] += 1;
     }
 
     /// Counts a success on a single account.

@@ -1,6 +1,7 @@
 //! The targets of a pay-out.
 
 ghost use Rattle.std.specs.Prelude.{◌≡◌, ◌<◌, ◌≤◌, ◌++◌, [], ◌∷◌, length};
+ghost use Rattle.at_ledger.specs.Limits.{most_targets};
 
 use arrayvec::ArrayVec;
 use std::marker::Model;
@@ -16,13 +17,13 @@ pub struct Targets {
 
 impl Model for Targets {
     ghost use Rattle.std.specs.Prelude.{◌≤◌, List, ℕ, length};
-    ghost use Rattle.at_ledger.specs.declared.targets.TheConstants.{TARGETS_MAX};
+    ghost use Rattle.at_ledger.specs.Limits.{most_targets};
 
     ghost Value = { List (ℕ × ℕ) };
 
     ghost view = { λ t. t.list.items };
 
-    ghost invariant = { λ t. (1 ≤ length t.list.items) × (length t.list.items ≤ TARGETS_MAX) };
+    ghost invariant = { λ t. (1 ≤ length t.list.items) × (length t.list.items ≤ most_targets) };
 }
 
 impl Targets {
@@ -39,7 +40,7 @@ impl Targets {
 
     /// Adds a target after the others.
     pub fn push(&mut self, to: u32, amount: u64)
-        requires { length self.old < TARGETS_MAX }
+        requires { length self.old < most_targets }
         ensures { self.new ≡ self.old ++ (to, amount) ∷ [] }
     {
         self.list.push((to, amount));
@@ -49,7 +50,8 @@ impl Targets {
     pub fn len(&self) -> u32
         ensures count { result ≡ length self.now }
         ensures some { 1 ≤ length self.now }
-        ensures few { length self.now ≤ TARGETS_MAX }
+        ensures few { length self.now ≤ most_targets }
+        ensures limit { TARGETS_MAX ≡ most_targets }
     {
         self.list.len() as u32
     }

@@ -1,4 +1,4 @@
-//! Worked rows, and each public call once.
+//! Worked cases, and each public call once.
 
 ghost use Rattle.std.specs.Prelude.{◌≡◌, length};
 ghost use Rattle.at_ledger.specs.Call.{AreTargetsOn};
@@ -200,7 +200,7 @@ fn does_each_call(rt: HostRuntime) -> Result<(), Fail> {
 }
 
 #[test]
-fn names_the_first_offence(rt: HostRuntime) -> Result<(), Fail> {
+fn names_the_first_fault(rt: HostRuntime) -> Result<(), Fail> {
     let alloc = rt.alloc();
     let one: [(u64, &[u64]); 1] = [(0, &[])];
     for (processes, own_room, request_room, want) in [

@@ -1,5 +1,6 @@
 -- How many calls the files have.
 use Rattle.std.proofs.Common.{◌≡◌, ℕ, ◌+◌, ◌<◌, ◌≤◌, List, Vec, All, length, get_or, take, sum_by, sym, ap, ◌∙◌}
+use Rattle.at_files.specs.Limits.{most_calls}
 use Rattle.std.specs.Global.{Global}
 use Rattle.std.proofs.lemmas.List.{length-map}
 use Rattle.std.proofs.lemmas.List.Sums.{sum_by_more}
@@ -7,7 +8,7 @@ use Rattle.at_ledger.specs.declared.call.Call.{Call}
 use Rattle.at_program.specs.Loading.{IsFileOn, calls_of}
 use Rattle.at_program.proofs.Played.{get_or-calls_of}
 
--- the file at a place
+-- the file at a position
 record IsFileAt (files : List (Vec Call Global)) (i : ℕ) (file : Vec Call Global) : Type 0 where
   pub within : i < length (calls_of files)
   pub calls : file.items ≡ get_or (calls_of files) i file.items
@@ -20,7 +21,7 @@ IsFileAt-from files i file within is = record {
 
 -- a file has not too many calls
 pub few_calls : (accounts : ℕ) (files : List (Vec Call Global)) (i : ℕ) (file : Vec Call Global) → i < length files → file ≡ get_or files i file
-    → All (IsFileOn accounts) (calls_of files) → length file.items ≤ 16384
+    → All (IsFileOn accounts) (calls_of files) → length file.items ≤ most_calls
 few_calls accounts files i file within is known =
     let at = IsFileAt-from files i file within is in
     rw at.calls (known i file.items at.within).few

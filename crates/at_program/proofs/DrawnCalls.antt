@@ -14,7 +14,7 @@ use Rattle.at_ledger.specs.declared.call.Call.TheVariants.{Transfer, Read, Pay}
 use Rattle.at_ledger.specs.declared.call.Line.{Line}
 use Rattle.at_program.specs.Generator.{MayMake, account_drawn, amount_drawn, call_drawn, calls_drawn, drawn, files_made, kind_drawn, next_state, source_drawn, state_after_calls}
 use Rattle.at_program.specs.Loading.{IsFileOn}
-use Rattle.at_program.specs.Made.{debit_of, over_files}
+use Rattle.at_program.specs.Made.{call_debit, over_files}
 use Rattle.at_program.proofs.LineSums.{sum_by-Whole}
 use Rattle.at_program.proofs.SettledRuns.{debits_in, lines_by}
 
@@ -103,28 +103,28 @@ lines_by-Whole first processes calls lines p whole below =
     ∙ length-calls_drawn processes p calls (state_after_calls first (p * calls))
 
 -- a call takes at most 100 from any account
-debit_of-le : (processes process a : ℕ) (call : Call) → IsDrawn processes process call → debit_of a call ≤ 100
-debit_of-le processes process a (Transfer from to amount) (source, to_in, small) = cond_both (from == a) amount 0 (λ n. n ≤ 100) (λ _. small) (λ _. omega arith)
-debit_of-le processes process a (Read account) drawn = omega arith
-debit_of-le processes process a (Pay from targets) drawn = absurd drawn
+call_debit-le : (processes process a : ℕ) (call : Call) → IsDrawn processes process call → call_debit a call ≤ 100
+call_debit-le processes process a (Transfer from to amount) (source, to_in, small) = cond_both (from == a) amount 0 (λ n. n ≤ 100) (λ _. small) (λ _. omega arith)
+call_debit-le processes process a (Read account) drawn = omega arith
+call_debit-le processes process a (Pay from targets) drawn = absurd drawn
 
 -- and nothing from the own account of another process
-debit_of-own : (processes process a : ℕ) (call : Call) → IsDrawn processes process call → a < processes → debit_of a call ≤ 100 * cond (process == a) 1 0
-debit_of-own processes process a (Transfer from to amount) (inl own, to_in, small) below =
+call_debit-own : (processes process a : ℕ) (call : Call) → IsDrawn processes process call → a < processes → call_debit a call ≤ 100 * cond (process == a) 1 0
+call_debit-own processes process a (Transfer from to amount) (inl own, to_in, small) below =
     rw own (elim (process == a) as (λ b. cond b amount 0 ≤ 100 * cond b 1 0) [ true ↦ omega arith | false ↦ omega arith ])
-debit_of-own processes process a (Transfer from to amount) (inr all, to_in, small) below =
+call_debit-own processes process a (Transfer from to amount) (inr all, to_in, small) below =
     let other : from == a ≡ false = ne_eqb from a (λ e. omega arith) in
     rw other (omega arith)
-debit_of-own processes process a (Read account) drawn below = omega arith
-debit_of-own processes process a (Pay from targets) drawn below = absurd drawn
+call_debit-own processes process a (Read account) drawn below = omega arith
+call_debit-own processes process a (Pay from targets) drawn below = absurd drawn
 
 -- a process's own account pays for its own calls alone
 debits_in-own : (processes a : ℕ) (lines : List Line) → All (λ l. IsDrawn processes l.process l.call) lines → a < processes → debits_in a lines ≤ 100 * lines_by a lines
 debits_in-own processes a [] drawn below = omega arith
 debits_in-own processes a (l ∷ ls) drawn below =
-    let first = debit_of-own processes l.process a l.call (All-head (λ (m : Line). IsDrawn processes m.process m.call) l ls drawn) below in
+    let first = call_debit-own processes l.process a l.call (All-head (λ (m : Line). IsDrawn processes m.process m.call) l ls drawn) below in
     let rest = debits_in-own processes a ls (All-tail (λ (m : Line). IsDrawn processes m.process m.call) l ls drawn) below in
-    omega (arith, first, rest, sum_by-cons (λ (m : Line). debit_of a m.call) l ls, sum_by-cons (λ (m : Line). cond (m.process == a) 1 0) l ls)
+    omega (arith, first, rest, sum_by-cons (λ (m : Line). call_debit a m.call) l ls, sum_by-cons (λ (m : Line). cond (m.process == a) 1 0) l ls)
 
 pub debits_in-own_Whole : (first processes calls a : ℕ) (lines : List Line) → Whole (files_made first processes calls) lines → a < processes
     → debits_in a lines ≤ 100 * calls
@@ -137,15 +137,15 @@ pub debits_in-all_Whole : (first processes calls a : ℕ) (lines : List Line) �
     → debits_in a lines ≤ processes * (calls * 100)
 debits_in-all_Whole first processes calls a lines whole =
     let files = files_made first processes calls in
-    let total = sum_by-Whole (debit_of a) files lines whole in
-    let most : over_files (debit_of a) files ≤ length files * (calls * 100) = sum_by-le (λ (file : List Call). sum_by (debit_of a) file) (calls * 100) files each in
+    let total = sum_by-Whole (call_debit a) files lines whole in
+    let most : over_files (call_debit a) files ≤ length files * (calls * 100) = sum_by-le (λ (file : List Call). sum_by (call_debit a) file) (calls * 100) files each in
     let few = rw (length-files_made first processes calls) at most in
     omega (arith, total, few)
   where
-    each : All (λ (file : List Call). sum_by (debit_of a) file ≤ calls * 100) (files_made first processes calls)
+    each : All (λ (file : List Call). sum_by (call_debit a) file ≤ calls * 100) (files_made first processes calls)
     each k d within =
         let below : k < processes = omega (arith, length-files_made first processes calls) in
         let x = state_after_calls first (k * calls) in
-        let most = sum_by-le (debit_of a) 100 (calls_drawn processes k calls x)
-        (All-weaker (IsDrawn processes k) (λ call. debit_of a call ≤ 100) (λ call is. debit_of-le processes k a call is) _ (IsDrawn-calls_drawn processes k calls x)) in
+        let most = sum_by-le (call_debit a) 100 (calls_drawn processes k calls x)
+        (All-weaker (IsDrawn processes k) (λ call. call_debit a call ≤ 100) (λ call is. call_debit-le processes k a call is) _ (IsDrawn-calls_drawn processes k calls x)) in
         rw (get_or-files_made first processes calls k d below) (rw (length-calls_drawn processes k calls x) at most)

@@ -10,11 +10,13 @@ use Rattle.at_ledger.specs.Book.{BookTerms}
 use Rattle.at_ledger.specs.declared.call.Call.{Call}
 use Rattle.at_files.specs.Names.{NameList}
 use Rattle.at_files.specs.BookRecords.{NamedBook}
+use Rattle.at_files.specs.Results.{and_then}
 use Rattle.at_report.specs.declared.status.Status.{Status}
 use Rattle.at_report.specs.declared.status.Status.TheVariants as status
 use Rattle.at_report.specs.declared.status.UsageFault.TheVariants as usage
-use Rattle.at_program.specs.Words.{Form, Word, words_of}
-use Rattle.at_program.specs.Loading.{EachSpells, Files, IsFileReached, MayReach, SpellsCalls, after, book_loaded, calls_before, calls_loaded, calls_of, files_loaded, loaded}
+use Rattle.at_report.specs.Lines.{Word}
+use Rattle.at_program.specs.Words.{Form, words_of}
+use Rattle.at_program.specs.Loading.{EachSpells, Files, IsFileReached, MayReach, SpellsCalls, book_loaded, calls_first, calls_loaded, calls_of, files_loaded, loaded}
 
 -- what files that were loaded come of: the first, and the others
 record AreParts (r : Result (List Call) Status) (rest : Result (List (List Call)) Status) (loaded : List (List Call)) : Type 0 where
@@ -24,15 +26,15 @@ record AreParts (r : Result (List Call) Status) (rest : Result (List (List Call)
   others_are : rest ≡ Ok others
   whole : loaded ≡ first ∷ others
 
-AreParts-after : (r : Result (List Call) Status) (rest : Result (List (List Call)) Status) (loaded : List (List Call))
-    → after r (λ calls. calls_before calls rest) ≡ Ok loaded → AreParts r rest loaded
-AreParts-after (Ok first) (Ok others) loaded h = record { first = first; others = others; first_is = refl; others_are = refl; whole = cc }
-AreParts-after (Ok first) (Err refusal) loaded h = cc
-AreParts-after (Err refusal) rest loaded h = cc
+AreParts-and_then : (r : Result (List Call) Status) (rest : Result (List (List Call)) Status) (loaded : List (List Call))
+    → and_then r (λ calls. calls_first calls rest) ≡ Ok loaded → AreParts r rest loaded
+AreParts-and_then (Ok first) (Ok others) loaded h = record { first = first; others = others; first_is = refl; others_are = refl; whole = cc }
+AreParts-and_then (Ok first) (Err refusal) loaded h = cc
+AreParts-and_then (Err refusal) rest loaded h = cc
 
 -- the first, and others with one more, make a whole with one more
 whole_after : (r : Result (List Call) Status) (rest : Result (List (List Call)) Status) (first : List Call) (others loaded : List (List Call)) (calls : List Call)
-    → r ≡ Ok first → rest ≡ Ok (others ++ calls ∷ []) → loaded ≡ first ∷ others → after r (λ front. calls_before front rest) ≡ Ok (loaded ++ calls ∷ [])
+    → r ≡ Ok first → rest ≡ Ok (others ++ calls ∷ []) → loaded ≡ first ∷ others → and_then r (λ prefix. calls_first prefix rest) ≡ Ok (loaded ++ calls ∷ [])
 whole_after r rest first others loaded calls first_is rest_is whole = rw (first_is, rest_is, whole) refl
 
 -- no file
@@ -41,58 +43,58 @@ unfolding files_loaded
 files_loaded-nil files names = refl
 
 -- one more file after those that were loaded
-pub files_loaded-push : (files : Files) (names : NameList) (process : ℕ) (front : List Word) (name : Word) (loaded : List (List Call)) (calls : List Call)
-    → files_loaded files names process front ≡ Ok loaded → calls_loaded files names (process + length front) name ≡ Ok calls
-    → files_loaded files names process (front ++ name ∷ []) ≡ Ok (loaded ++ calls ∷ [])
+pub files_loaded-push : (files : Files) (names : NameList) (process : ℕ) (prefix : List Word) (name : Word) (loaded : List (List Call)) (calls : List Call)
+    → files_loaded files names process prefix ≡ Ok loaded → calls_loaded files names (process + length prefix) name ≡ Ok calls
+    → files_loaded files names process (prefix ++ name ∷ []) ≡ Ok (loaded ++ calls ∷ [])
 unfolding files_loaded
-files_loaded-push files names process [] name loaded calls front_is last_is =
+files_loaded-push files names process [] name loaded calls prefix_is last_is =
     let here : process + length {A = Word} [] ≡ process = omega arith in
     let last : calls_loaded files names process name ≡ Ok calls = rw here at last_is in
     let none : loaded ≡ [] = cc in
     rw (last, none) refl
-files_loaded-push files names process (word ∷ front) name loaded calls front_is last_is =
-    let parts = AreParts-after (calls_loaded files names process word) (files_loaded files names (process + 1) front) loaded front_is in
-    let there : process + length (word ∷ front) ≡ process + 1 + length front = omega arith in
-    let last : calls_loaded files names (process + 1 + length front) name ≡ Ok calls = rw there at last_is in
-    let more : files_loaded files names (process + 1) (front ++ name ∷ []) ≡ Ok (parts.others ++ calls ∷ []) =
-    files_loaded-push files names (process + 1) front name parts.others calls parts.others_are last in
+files_loaded-push files names process (word ∷ prefix) name loaded calls prefix_is last_is =
+    let parts = AreParts-and_then (calls_loaded files names process word) (files_loaded files names (process + 1) prefix) loaded prefix_is in
+    let there : process + length (word ∷ prefix) ≡ process + 1 + length prefix = omega arith in
+    let last : calls_loaded files names (process + 1 + length prefix) name ≡ Ok calls = rw there at last_is in
+    let more : files_loaded files names (process + 1) (prefix ++ name ∷ []) ≡ Ok (parts.others ++ calls ∷ []) =
+    files_loaded-push files names (process + 1) prefix name parts.others calls parts.others_are last in
     whole_after (calls_loaded files names process word) _ parts.first parts.others loaded calls parts.first_is more parts.whole
 
 -- a file that is refused after those that were loaded
-pub files_loaded-refused : (files : Files) (names : NameList) (process : ℕ) (front : List Word) (name : Word) (rest : List Word) (loaded : List (List Call)) (refusal : Status)
-    → files_loaded files names process front ≡ Ok loaded → calls_loaded files names (process + length front) name ≡ Err refusal
-    → files_loaded files names process (front ++ name ∷ rest) ≡ Err refusal
+pub files_loaded-refused : (files : Files) (names : NameList) (process : ℕ) (prefix : List Word) (name : Word) (rest : List Word) (loaded : List (List Call)) (refusal : Status)
+    → files_loaded files names process prefix ≡ Ok loaded → calls_loaded files names (process + length prefix) name ≡ Err refusal
+    → files_loaded files names process (prefix ++ name ∷ rest) ≡ Err refusal
 unfolding files_loaded
-files_loaded-refused files names process [] name rest loaded refusal front_is last_is =
+files_loaded-refused files names process [] name rest loaded refusal prefix_is last_is =
     let here : process + length {A = Word} [] ≡ process = omega arith in
     let last : calls_loaded files names process name ≡ Err refusal = rw here at last_is in
     rw last refl
-files_loaded-refused files names process (word ∷ front) name rest loaded refusal front_is last_is =
-    let parts = AreParts-after (calls_loaded files names process word) (files_loaded files names (process + 1) front) loaded front_is in
-    let there : process + length (word ∷ front) ≡ process + 1 + length front = omega arith in
-    let last : calls_loaded files names (process + 1 + length front) name ≡ Err refusal = rw there at last_is in
-    let more : files_loaded files names (process + 1) (front ++ name ∷ rest) ≡ Err refusal =
-    files_loaded-refused files names (process + 1) front name rest parts.others refusal parts.others_are last in
+files_loaded-refused files names process (word ∷ prefix) name rest loaded refusal prefix_is last_is =
+    let parts = AreParts-and_then (calls_loaded files names process word) (files_loaded files names (process + 1) prefix) loaded prefix_is in
+    let there : process + length (word ∷ prefix) ≡ process + 1 + length prefix = omega arith in
+    let last : calls_loaded files names (process + 1 + length prefix) name ≡ Err refusal = rw there at last_is in
+    let more : files_loaded files names (process + 1) (prefix ++ name ∷ rest) ≡ Err refusal =
+    files_loaded-refused files names (process + 1) prefix name rest parts.others refusal parts.others_are last in
     rw (parts.first_is, more) refl
 
--- the file at a place, after those before it
+-- the file at a position, after those before it
 pub files_loaded-take_more : (files : Files) (names : NameList) (words : List Word) (i : ℕ) (loaded : List (List Call)) (calls : List Call)
     → i < length words → files_loaded files names 0 (take i words) ≡ Ok loaded → calls_loaded files names i (get_or words i []) ≡ Ok calls
     → files_loaded files names 0 (take (i + 1) words) ≡ Ok (loaded ++ calls ∷ [])
-files_loaded-take_more files names words i loaded calls within front_is last_is =
-    let place : 0 + length (take i words) ≡ i = omega (arith, length-take-le i words) in
-    let last : calls_loaded files names (0 + length (take i words)) (get_or words i []) ≡ Ok calls = rw place last_is in
-    rw (take_more words i [] within) (files_loaded-push files names 0 (take i words) (get_or words i []) loaded calls front_is last)
+files_loaded-take_more files names words i loaded calls within prefix_is last_is =
+    let position : 0 + length (take i words) ≡ i = omega (arith, length-take-le i words) in
+    let last : calls_loaded files names (0 + length (take i words)) (get_or words i []) ≡ Ok calls = rw position last_is in
+    rw (take_more words i [] within) (files_loaded-push files names 0 (take i words) (get_or words i []) loaded calls prefix_is last)
 
--- the file at a place that is refused, after those before it
+-- the file at a position that is refused, after those before it
 pub files_loaded-refused_at : (files : Files) (names : NameList) (words : List Word) (i : ℕ) (loaded : List (List Call)) (refusal : Status)
     → i < length words → files_loaded files names 0 (take i words) ≡ Ok loaded → calls_loaded files names i (get_or words i []) ≡ Err refusal
     → files_loaded files names 0 words ≡ Err refusal
-files_loaded-refused_at files names words i loaded refusal within front_is last_is =
-    let place : 0 + length (take i words) ≡ i = omega (arith, length-take-le i words) in
-    let last : calls_loaded files names (0 + length (take i words)) (get_or words i []) ≡ Err refusal = rw place last_is in
+files_loaded-refused_at files names words i loaded refusal within prefix_is last_is =
+    let position : 0 + length (take i words) ≡ i = omega (arith, length-take-le i words) in
+    let last : calls_loaded files names (0 + length (take i words)) (get_or words i []) ≡ Err refusal = rw position last_is in
     let split : take i words ++ get_or words i [] ∷ drop (suc i) words ≡ words = ap (λ (rest : List Word). take i words ++ rest) (sym (drop-cons words i [] within)) ∙ take-append-drop i words in
-    let refused = files_loaded-refused files names 0 (take i words) (get_or words i []) (drop (suc i) words) loaded refusal front_is last in
+    let refused = files_loaded-refused files names 0 (take i words) (get_or words i []) (drop (suc i) words) loaded refusal prefix_is last in
     rw split at refused
 
 EachSpells-push_at : (files : Files) (payments : List Word) (b : BookTerms) (names : NameList) (loaded : List (List Call)) (calls : List Call)
@@ -108,7 +110,7 @@ pub EachSpells-push : (files : Files) (payments : List Word) (b : BookTerms) (na
 EachSpells-push files payments b names loaded calls each last p within =
     EachSpells-push_at files payments b names loaded calls each last p (eq-or-lt_of_le (omega (arith, length-append loaded (calls ∷ []))))
 
--- the word at a place
+-- the word at a position
 pub get_or-words_of : (payments : List (String Global)) (i : ℕ) (name : String Global) → i < length payments → name ≡ get_or payments i name
     → get_or (words_of payments) i [] ≡ string_bytes name
 get_or-words_of payments i name within is = get_or-map string_bytes payments i name [] within ∙ ap string_bytes (sym is)

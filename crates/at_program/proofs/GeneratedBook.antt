@@ -7,13 +7,13 @@ use Rattle.std.proofs.lemmas.List.Sums.{sum_by-cons}
 use Rattle.at_ledger.specs.Account.{AccountTerms, rounds_room}
 use Rattle.at_ledger.specs.Book.{rounds_of, total_of}
 use Rattle.at_ledger.specs.Draft.{account_fault, owner_fault, owners_fault, with_account}
-use Rattle.at_ledger.specs.declared.draft.TheConstants.{ACCOUNTS_MAX, OWNERS_MAX, ROUNDS_MAX}
+use Rattle.at_ledger.specs.Limits.{most_accounts, most_owners, most_rounds}
 use Rattle.std.proofs.Math.Nat.{mul-le-mul, mul_comm, suc-mul}
-use Rattle.at_program.specs.Generator.{MayMake, book_begun, joint_terms, own_terms}
+use Rattle.at_program.specs.Generator.{MayMake, book_of_own_accounts, joint_terms, own_terms}
 
 -- an owner that is a process, high enough and not the ninth has no fault
 owner_fault_none : (processes account count least owner : ℕ) → owner < processes → least ≤ owner → count < 8 → owner_fault processes account count least owner ≡ None
-owner_fault_none processes account count least owner known rising few = rw (lt-leb processes owner known, le-ltb owner least rising, lt-leb OWNERS_MAX count few) refl
+owner_fault_none processes account count least owner known rising few = rw (lt-leb processes owner known, le-ltb owner least rising, lt-leb most_owners count few) refl
 
 -- processes one after another have no fault
 owners_fault-range : (processes account k n : ℕ) → k + n ≤ processes → k + n ≤ 8 → owners_fault processes account k k (range_with_len k n) ≡ None
@@ -30,15 +30,15 @@ owners_fault-one processes account owner known =
     rw first refl
 
 -- no process's own account has a round
-rounds_of-book_begun : (processes calls n : ℕ) → rounds_of (book_begun processes calls n) ≡ 0
-rounds_of-book_begun processes calls n = rounds_none calls 0 n
+rounds_of-book_of_own_accounts : (processes calls n : ℕ) → rounds_of (book_of_own_accounts processes calls n) ≡ 0
+rounds_of-book_of_own_accounts processes calls n = rounds_none calls 0 n
   where
     rounds_none : (calls a n : ℕ) → sum_by (rounds_room calls) (map (own_terms calls) (range_with_len a n)) ≡ 0
     rounds_none calls a zero = refl
     rounds_none calls a (suc n) = rounds_none calls (a + 1) n
 
-total_of-book_begun : (processes calls n : ℕ) → total_of (book_begun processes calls n) ≡ n * (100 * calls)
-total_of-book_begun processes calls n = total_from calls 0 n
+total_of-book_of_own_accounts : (processes calls n : ℕ) → total_of (book_of_own_accounts processes calls n) ≡ n * (100 * calls)
+total_of-book_of_own_accounts processes calls n = total_from calls 0 n
   where
     total_from : (calls a n : ℕ) → sum_by (λ (t : AccountTerms). t.opening) (map (own_terms calls) (range_with_len a n)) ≡ n * (100 * calls)
     total_from calls a zero = omega arith
@@ -47,53 +47,53 @@ total_of-book_begun processes calls n = total_from calls 0 n
         let rest = total_from calls (a + 1) n in
         omega (arith, first, rest, suc-mul n (100 * calls))
 
-length-book_begun : (processes calls n : ℕ) → length (book_begun processes calls n).accounts ≡ n
-length-book_begun processes calls n = length-map-range_with_len (own_terms calls) 0 n
+length-book_of_own_accounts : (processes calls n : ℕ) → length (book_of_own_accounts processes calls n).accounts ≡ n
+length-book_of_own_accounts processes calls n = length-map-range_with_len (own_terms calls) 0 n
 
 -- the own account of the next process
 pub account_fault-own : (processes calls n : ℕ) → MayMake processes calls → n < processes
-    → account_fault (book_begun processes calls n) (own_terms calls n) ≡ None
+    → account_fault (book_of_own_accounts processes calls n) (own_terms calls n) ≡ None
 account_fault-own processes calls n may below =
-    let count = length-book_begun processes calls n in
-    let rounds = rounds_of-book_begun processes calls n in
-    let total = total_of-book_begun processes calls n in
-    let room : nat_le ACCOUNTS_MAX (length (book_begun processes calls n).accounts) ≡ false = lt-leb _ _ (omega (arith, may, count)) in
-    let owners = owners_fault-one processes (length (book_begun processes calls n).accounts) n below in
+    let count = length-book_of_own_accounts processes calls n in
+    let rounds = rounds_of-book_of_own_accounts processes calls n in
+    let total = total_of-book_of_own_accounts processes calls n in
+    let room : nat_le most_accounts (length (book_of_own_accounts processes calls n).accounts) ≡ false = lt-leb _ _ (omega (arith, may, count)) in
+    let owners = owners_fault-one processes (length (book_of_own_accounts processes calls n).accounts) n below in
     let few : n ≤ 8 = omega (arith, may) in
     let each : 100 * calls ≤ 100 * 1000 = omega (arith, may) in
     let product : n * (100 * calls) ≤ 8 * (100 * 1000) = mul-le-mul few each in
-    let few_rounds : nat_lt ROUNDS_MAX (rounds_of (book_begun processes calls n) + rounds_room calls (own_terms calls n)) ≡ false = le-ltb _ _ (omega (arith, rounds)) in
-    let few_total : nat_le (2 ^ 64) (total_of (book_begun processes calls n) + 100 * calls) ≡ false = lt-leb _ _ (omega (arith, total, may, product)) in
+    let few_rounds : nat_lt most_rounds (rounds_of (book_of_own_accounts processes calls n) + rounds_room calls (own_terms calls n)) ≡ false = le-ltb _ _ (omega (arith, rounds)) in
+    let few_total : nat_le (2 ^ 64) (total_of (book_of_own_accounts processes calls n) + 100 * calls) ≡ false = lt-leb _ _ (omega (arith, total, may, product)) in
     rw (room, owners, few_rounds, few_total) refl
 
 -- the rounds of an account of so many processes
-rounds_room-joint : (processes calls : ℕ) → MayMake processes calls → rounds_room calls (joint_terms processes calls) ≤ ROUNDS_MAX
+rounds_room-joint : (processes calls : ℕ) → MayMake processes calls → rounds_room calls (joint_terms processes calls) ≤ most_rounds
 rounds_room-joint processes calls may =
     let owners = length-range_with_len 0 processes in
     let product : processes * calls ≤ 8 * 1000 = mul-le-mul may.few_processes may.few_calls in
-    rw owners (cond_both (nat_le 2 processes) (processes * calls) 0 (λ n. n ≤ ROUNDS_MAX) (λ _. omega (arith, product)) (λ _. omega arith))
+    rw owners (cond_both (nat_le 2 processes) (processes * calls) 0 (λ n. n ≤ most_rounds) (λ _. omega (arith, product)) (λ _. omega arith))
 
 -- the account of all processes
 pub account_fault-joint : (processes calls : ℕ) → MayMake processes calls
-    → account_fault (book_begun processes calls processes) (joint_terms processes calls) ≡ None
+    → account_fault (book_of_own_accounts processes calls processes) (joint_terms processes calls) ≡ None
 account_fault-joint processes calls may =
-    let b = book_begun processes calls processes in
-    let count = length-book_begun processes calls processes in
-    let rounds = rounds_of-book_begun processes calls processes in
-    let total = total_of-book_begun processes calls processes in
-    let room : nat_le ACCOUNTS_MAX (length b.accounts) ≡ false = lt-leb _ _ (omega (arith, may, count)) in
+    let b = book_of_own_accounts processes calls processes in
+    let count = length-book_of_own_accounts processes calls processes in
+    let rounds = rounds_of-book_of_own_accounts processes calls processes in
+    let total = total_of-book_of_own_accounts processes calls processes in
+    let room : nat_le most_accounts (length b.accounts) ≡ false = lt-leb _ _ (omega (arith, may, count)) in
     let owners = owners_fault-range processes (length b.accounts) 0 processes (omega arith) (omega (arith, may)) in
     let each : 100 * calls ≤ 100 * 1000 = omega (arith, may) in
     let product : processes * (100 * calls) ≤ 8 * (100 * 1000) = mul-le-mul may.few_processes each in
     let turned : 100 * calls * processes ≡ processes * (100 * calls) = mul_comm (100 * calls) processes in
-    let few_rounds : nat_lt ROUNDS_MAX (rounds_of b + rounds_room calls (joint_terms processes calls)) ≡ false =
+    let few_rounds : nat_lt most_rounds (rounds_of b + rounds_room calls (joint_terms processes calls)) ≡ false =
     le-ltb _ _ (omega (arith, rounds, rounds_room-joint processes calls may)) in
     let few_total : nat_le (2 ^ 64) (total_of b + 100 * calls * processes) ≡ false = lt-leb _ _ (omega (arith, total, product, turned)) in
     rw (room, owners, few_rounds, few_total) refl
 
 -- one more account
-pub with_account-book_begun : (processes calls n : ℕ) → with_account (book_begun processes calls n) (own_terms calls n) ≡ book_begun processes calls (n + 1)
-with_account-book_begun processes calls n =
+pub with_account-book_of_own_accounts : (processes calls n : ℕ) → with_account (book_of_own_accounts processes calls n) (own_terms calls n) ≡ book_of_own_accounts processes calls (n + 1)
+with_account-book_of_own_accounts processes calls n =
     let more = map-range_with_len_more (own_terms calls) 0 n n (omega arith) in
     rw more refl
 

@@ -21,7 +21,7 @@ use Rattle.at_report.specs.Lines.{Words, lines_text}
 use Rattle.at_report.specs.Report.{audit_lines}
 use Rattle.at_report.specs.Summary.{done_in, is_read, made_lines, read_in}
 use Rattle.at_program.specs.Generator.{book_made, files_made, joint_terms, own_terms}
-use Rattle.at_program.specs.Made.{AllDone, AllSum, balance_settled, credit_of, debit_of, made, reads_in, state_settled, transfers_in}
+use Rattle.at_program.specs.Made.{AllDone, AllSum, balance_settled, call_credit, call_debit, made, reads_in, state_settled, transfers_in}
 use Rattle.at_program.proofs.LineSums.{sum_by-Whole}
 use Rattle.at_program.proofs.SettledSteps.{IsOwnCall, IsSized}
 use Rattle.at_program.proofs.SettledRuns.{debits_in, IsCovered, IsSettled, IsSettled-IsCovered}
@@ -123,8 +123,8 @@ IsCovered-Whole first processes calls lines begun whole =
       debits = λ a within. debits_in-covered first processes calls a lines whole (eq-or-lt_of_le (omega (arith, count)));
       sent = λ p known. omega (arith, get_or-replicate {A = ℕ} processes p 0 0 known, lines_by-Whole first processes calls lines p whole known);
       asked = λ p a known within.
-          let place : asked_position b p a < length b.accounts * processes = mul-add-lt p (length b.accounts) a processes known within in
-          let below : asked_position b p a < processes * length b.accounts = omega (arith, place, mul_comm (length b.accounts) processes) in
+          let position : asked_position b p a < length b.accounts * processes = mul-add-lt p (length b.accounts) a processes known within in
+          let below : asked_position b p a < processes * length b.accounts = omega (arith, position, mul_comm (length b.accounts) processes) in
           omega (arith, get_or-replicate {A = ℕ} (processes * length b.accounts) (asked_position b p a) 0 0 below, lines_by-Whole first processes calls lines p whole known);
     }
 
@@ -148,7 +148,7 @@ balances-Whole first processes calls lines begun whole legal =
     fill_by_all (balance_settled b files) (last_state b lines).balances (length b.accounts) 0 settled.sized
     (λ a within.
     let now = settled.balances a within in
-    omega (arith, now, balance_of-opening b a within, sum_by-Whole (credit_of a) files lines whole, sum_by-Whole (debit_of a) files lines whole))
+    omega (arith, now, balance_of-opening b a within, sum_by-Whole (call_credit a) files lines whole, sum_by-Whole (call_debit a) files lines whole))
 
 -- an audit tells the accounts and the balances alone
 audit_lines-same : (names : NameList) (s t : LedgerState) → s.book ≡ t.book → s.balances ≡ t.balances → audit_lines names s ≡ audit_lines names t

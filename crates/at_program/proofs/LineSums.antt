@@ -85,9 +85,9 @@ sum_by-lines_of f (l ∷ ls) n within =
     let one = sum_by-only (f l) l.process 0 n (omega arith) (omega arith) in
     sum_by-cons f l ls ∙ omega (arith, rest, each, parts, one)
 
--- a sum over files goes over their places
-sum_by-places : (g : List Call → ℕ) (files : List (List Call)) → sum_by g files ≡ sum_by (λ p. g (get_or files p [])) (range_with_len 0 (length files))
-sum_by-places g files =
+-- a sum over files goes over their positions
+sum_by-positions : (g : List Call → ℕ) (files : List (List Call)) → sum_by g files ≡ sum_by (λ p. g (get_or files p [])) (range_with_len 0 (length files))
+sum_by-positions g files =
     let at = fill_by_all (λ p. get_or files p []) files (length files) [] refl (λ k below. refl) in
     ap (sum_by g) at ∙ sum_by-map g (λ p. get_or files p []) (range_with_len 0 (length files))
 
@@ -99,4 +99,4 @@ sum_by-Whole term files lines whole =
     let by_process = sum_by-lines_of (λ l. term l.call) lines n whole.within in
     let each = sum_by-same (λ p. sum_by (λ (l : Line). term l.call) (lines_of p lines)) (λ p. sum_by term (get_or files p [])) (range_with_len 0 n)
     (All-range _ n (λ p below. sym (sum_by-map term (λ (l : Line). l.call) (lines_of p lines)) ∙ ap (sum_by term) (whole.calls p below))) in
-    by_process ∙ each ∙ sym (sum_by-places (sum_by term) files)
+    by_process ∙ each ∙ sym (sum_by-positions (sum_by term) files)

@@ -77,7 +77,7 @@ lines_of-files_played_below s process other (calls ∷ files) below =
 append-nothing : (xs ys zs : List Line) → xs ≡ zs → ys ≡ [] → xs ++ ys ≡ zs
 append-nothing xs ys zs same nothing = rw (same, nothing) (append-nil zs)
 
--- the lines of the process at a place are the calls of its file, played from some state
+-- the lines of the process at a position are the calls of its file, played from some state
 record ArePlayed (lines : List Line) (process : ℕ) (calls : List Call) : Type 0 where
   state : LedgerState
   are : lines_of process lines ≡ played state process 1 calls

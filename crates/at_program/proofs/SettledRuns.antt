@@ -9,8 +9,8 @@ use Rattle.at_ledger.specs.Run.{Run, asked_in, run_after, run_from}
 use Rattle.at_ledger.specs.declared.call.Line.{Line}
 use Rattle.at_ledger.specs.declared.call.Reply.TheVariants.{Done}
 use Rattle.at_ledger.proofs.Run.{run_from-cons, run_from-nil}
-use Rattle.at_report.specs.Summary.{done_in, is_done, is_read}
-use Rattle.at_program.specs.Made.{credit_of, debit_of}
+use Rattle.at_report.specs.Summary.{done_in, is_done_reply, is_read}
+use Rattle.at_program.specs.Made.{call_credit, call_debit}
 use Rattle.at_program.proofs.SettledSteps.{IsDoneStep, IsDoneStep-step, IsMoved, IsOwnCall, IsSized, MayStep}
 
 -- the lines of one process, and the debits of an account, among these
@@ -18,10 +18,10 @@ abbrev pub lines_by : ℕ → List Line → ℕ
 lines_by process lines = count_by (λ l. l.process == process) lines
 
 abbrev pub debits_in : ℕ → List Line → ℕ
-debits_in account lines = sum_by (λ l. debit_of account l.call) lines
+debits_in account lines = sum_by (λ l. call_debit account l.call) lines
 
 abbrev pub credits_in : ℕ → List Line → ℕ
-credits_in account lines = sum_by (λ l. credit_of account l.call) lines
+credits_in account lines = sum_by (λ l. call_credit account l.call) lines
 
 -- a line of a process, about what it owns
 abbrev pub IsOwnLine : BookTerms → Line → Type 0
@@ -61,7 +61,7 @@ MayStep-IsCovered s l ls covered =
       sized = covered.sized;
       known = own.0;
       own = own.1;
-      debits = λ a within. omega (arith, covered.debits a within, sum_by-cons (λ (m : Line). debit_of a m.call) l ls);
+      debits = λ a within. omega (arith, covered.debits a within, sum_by-cons (λ (m : Line). call_debit a m.call) l ls);
       sent = omega (arith, covered.sent l.process own.0, lines, one);
       asked = λ a within. omega (arith, covered.asked l.process a own.0 within, lines, one);
     }
@@ -71,7 +71,7 @@ IsCovered-IsMoved : (s t : LedgerState) (l : Line) (ls : List Line) → IsCovere
 IsCovered-IsMoved s t l ls covered is = record {
   sized = is.sized;
   own = rw is.book (All-tail (IsOwnLine s.book) l ls covered.own);
-  debits = rw is.book (λ a within. omega (arith, covered.debits a within, is.balances a within, sum_by-cons (λ (m : Line). debit_of a m.call) l ls));
+  debits = rw is.book (λ a within. omega (arith, covered.debits a within, is.balances a within, sum_by-cons (λ (m : Line). call_debit a m.call) l ls));
   sent = rw is.book (λ p known. omega (arith, covered.sent p known, is.sent p, sum_by-cons (λ (m : Line). cond (m.process == p) 1 0) l ls));
   asked = rw is.book (λ p a known within.
       let more = rw is.book at (is.asked p a within) in
@@ -98,13 +98,13 @@ IsSettled-IsCovered s (l ∷ ls) covered legal =
     let later = IsSettled-IsCovered st.ledger ls (IsCovered-IsMoved s st.ledger l ls covered is.moved) rest in
     let last : last_from s (l ∷ ls) ≡ last_from st.ledger ls = ap (λ (r : Run). r.last) run in
     let accounts : length st.ledger.book.accounts ≡ length s.book.accounts = ap (λ (b : BookTerms). length b.accounts) is.moved.book in
-    let counts : ◌≡◌ {A = ℕ} (cond (is_done l.reply) 1 0) (cond (not (is_read l.call)) 1 0) = ap (λ (b : Bool). cond b 1 0) (ap is_done first ∙ is.counts) in
+    let counts : ◌≡◌ {A = ℕ} (cond (is_done_reply l.reply) 1 0) (cond (not (is_read l.call)) 1 0) = ap (λ (b : Bool). cond b 1 0) (ap is_done_reply first ∙ is.counts) in
     record {
       sized = ap (λ (t : LedgerState). length t.balances) last ∙ later.sized ∙ accounts;
       done = All-cons (λ (m : Line). is_read m.call ≡ false → m.reply ≡ Done) l ls (λ transfer. first ∙ is.done transfer) later.done;
       counts = omega (
         arith,
-        sum_by-cons (λ (m : Line). cond (is_done m.reply) 1 0) l ls,
+        sum_by-cons (λ (m : Line). cond (is_done_reply m.reply) 1 0) l ls,
         sum_by-cons (λ (m : Line). cond (not (is_read m.call)) 1 0) l ls,
         later.counts,
         counts,
@@ -116,7 +116,7 @@ IsSettled-IsCovered s (l ∷ ls) covered legal =
             arith,
             now,
             is.moved.balances a within,
-            sum_by-cons (λ (m : Line). debit_of a m.call) l ls,
-            sum_by-cons (λ (m : Line). credit_of a m.call) l ls,
+            sum_by-cons (λ (m : Line). call_debit a m.call) l ls,
+            sum_by-cons (λ (m : Line). call_credit a m.call) l ls,
           ));
     }

@@ -10,8 +10,8 @@ use Rattle.at_ledger.specs.State.{LedgerState, Step, after_done, asked_of, asked
 use Rattle.at_ledger.specs.declared.call.Call.{Call}
 use Rattle.at_ledger.specs.declared.call.Call.TheVariants.{Transfer, Read, Pay}
 use Rattle.at_ledger.specs.declared.call.Reply.TheVariants.{Done}
-use Rattle.at_report.specs.Summary.{is_done, is_read}
-use Rattle.at_program.specs.Made.{credit_of, debit_of}
+use Rattle.at_report.specs.Summary.{is_done_reply, is_read}
+use Rattle.at_program.specs.Made.{call_credit, call_debit}
 
 -- the call moves what its process owns, between accounts that are there
 abbrev pub IsOwnCall : BookTerms → ℕ → Call → Type 0
@@ -30,7 +30,7 @@ pub record MayStep (s : LedgerState) (process : ℕ) (call : Call) : Type 0 wher
   pub sized : IsSized s
   pub known : process < s.book.processes
   pub own : IsOwnCall s.book process call
-  pub debits : (a : ℕ) → a < length s.book.accounts → debit_of a call ≤ balance_of s a
+  pub debits : (a : ℕ) → a < length s.book.accounts → call_debit a call ≤ balance_of s a
   pub sent : sent_of s process < s.book.own_room
   pub asked : (a : ℕ) → a < length s.book.accounts → asked_of s process a < s.book.request_room
 
@@ -38,14 +38,14 @@ pub record MayStep (s : LedgerState) (process : ℕ) (call : Call) : Type 0 wher
 pub record IsMoved (s t : LedgerState) (process : ℕ) (call : Call) : Type 0 where
   pub book : t.book ≡ s.book
   pub sized : IsSized t
-  pub balances : (a : ℕ) → a < length s.book.accounts → balance_of t a + debit_of a call ≡ balance_of s a + credit_of a call
+  pub balances : (a : ℕ) → a < length s.book.accounts → balance_of t a + call_debit a call ≡ balance_of s a + call_credit a call
   pub sent : (q : ℕ) → sent_of t q ≤ sent_of s q + cond (process == q) 1 0
   pub asked : (q a : ℕ) → a < length s.book.accounts → asked_of t q a ≤ asked_of s q a + cond (process == q) 1 0
 
 -- the call is done, if it is a transfer
 pub record IsDoneStep (s : LedgerState) (process : ℕ) (call : Call) (to : Step) : Type 0 where
   pub moved : IsMoved s to.ledger process call
-  pub counts : is_done to.reply ≡ not (is_read call)
+  pub counts : is_done_reply to.reply ≡ not (is_read call)
   pub done : is_read call ≡ false → to.reply ≡ Done
 
 -- one number of a list is set
@@ -131,19 +131,19 @@ unfolding credited
 IsMoved-asked s process from to amount sized known source target covers =
     let ys = set s.balances from (balance_of s from - (0 + amount)) in
     let accounts = length s.book.accounts in
-    let place = asked_position s.book process from in
-    let place_below : place < accounts * s.book.processes = mul-add-lt process accounts from s.book.processes known source in
-    let within : place < length s.asked = omega (arith, sized.asked, mul_comm accounts s.book.processes) in
+    let position = asked_position s.book process from in
+    let position_below : position < accounts * s.book.processes = mul-add-lt process accounts from s.book.processes known source in
+    let within : position < length s.asked = omega (arith, sized.asked, mul_comm accounts s.book.processes) in
     record {
       book = refl;
       sized = record {
         balances = length-set ys to (get_or ys to 0 + amount) ∙ length-set s.balances from (balance_of s from - (0 + amount)) ∙ sized.balances;
         sent = sized.sent;
-        asked = length-set s.asked place (asked_of s process from + 1) ∙ sized.asked;
+        asked = length-set s.asked position (asked_of s process from + 1) ∙ sized.asked;
       };
       balances = λ a below. get_or-moved s.balances from to amount a (omega (arith, sized.balances)) (omega (arith, sized.balances)) covers;
       sent = λ q. omega arith;
-      asked = λ q a below. get_or-count_more s.asked place (asked_position s.book q a) (process == q) within
+      asked = λ q a below. get_or-count_more s.asked position (asked_position s.book q a) (process == q) within
           (λ same. eq-eqb process q (same_from_place process from q a accounts source below same).0);
     }
 

@@ -4,31 +4,32 @@ use Rattle.std.proofs.lemmas.Bool.Decides.{nat_tests}
 use Rattle.at_ledger.specs.Book.{BookTerms}
 use Rattle.at_ledger.specs.declared.call.Call.{Call}
 use Rattle.at_files.specs.Names.{AreNamesOf, NameList}
-use Rattle.at_files.specs.Rows.{rows_of}
-use Rattle.at_files.specs.BookFile.{book_of_rows}
+use Rattle.at_files.specs.Records.{records_of}
+use Rattle.at_files.specs.BookFile.{book_of_records}
 use Rattle.at_files.specs.Payments.{payments_of}
-use Rattle.at_files.proofs.BookAccepted.{book_of_rows-rows_of_book}
+use Rattle.at_files.proofs.BookAccepted.{book_of_records-records_of_book}
 use Rattle.at_files.proofs.PaymentsAccepted.{payments_of-Pays}
-use Rattle.at_io.specs.declared.reading.TheConstants.{FILE_MAX}
-use Rattle.at_program.specs.Words.{Form, Word}
-use Rattle.at_program.specs.Loading.{Files, Holds, Loaded, Spelled, SpellsBook, SpellsCalls, book_loaded, calls_loaded, fetched, files_loaded, loaded}
+use Rattle.at_io.specs.Limits.{most_file_bytes}
+use Rattle.at_report.specs.Lines.{Word}
+use Rattle.at_program.specs.Words.{Form}
+use Rattle.at_program.specs.Loading.{Files, HoldsFile, Loaded, Spelled, SpellsBook, SpellsCalls, book_loaded, calls_loaded, fetched, files_loaded, loaded}
 
 -- a file that is there and not too long is fetched
-fetched-Holds : (files : Files) (name : Word) (bytes : List ℕ) (number : ℕ) → Holds files name bytes → fetched (files name) number ≡ Ok bytes
-fetched-Holds files name bytes number held =
-    let size : nat_lt FILE_MAX (length bytes) ≡ false = let size = held.size in grind (arith, nat_tests) in
+fetched-HoldsFile : (files : Files) (name : Word) (bytes : List ℕ) (number : ℕ) → HoldsFile files name bytes → fetched (files name) number ≡ Ok bytes
+fetched-HoldsFile files name bytes number held =
+    let size : nat_lt most_file_bytes (length bytes) ≡ false = let size = held.size in grind (arith, nat_tests) in
     rw (held.there, size) refl
 
 book_loaded-SpellsBook : (files : Files) (name : Word) (b : BookTerms) (names : NameList) → SpellsBook files name b names → book_loaded files name ≡ Ok (record { book = b; names = names })
 book_loaded-SpellsBook files name b names is =
-    let read : book_of_rows (rows_of is.bytes) ≡ Ok (record { book = b; names = names }) = rw is.spelled.spelled (book_of_rows-rows_of_book b names is.spelled.book is.spelled.named) in
-    rw (fetched-Holds files name is.bytes 0 is.held, read) refl
+    let read : book_of_records (records_of is.bytes) ≡ Ok (record { book = b; names = names }) = rw is.spelled.spelled (book_of_records-records_of_book b names is.spelled.book is.spelled.named) in
+    rw (fetched-HoldsFile files name is.bytes 0 is.held, read) refl
 
 calls_loaded-SpellsCalls : (files : Files) (name : Word) (process : ℕ) (b : BookTerms) (names : NameList) (calls : List Call) → AreNamesOf b names
     → SpellsCalls files name b names calls → calls_loaded files names process name ≡ Ok calls
 calls_loaded-SpellsCalls files name process b names calls are is =
-    let read : payments_of names (rows_of is.bytes) ≡ Ok calls = payments_of-Pays b names (rows_of is.bytes) calls are is.spelled in
-    rw (fetched-Holds files name is.bytes (process + 1) is.held, read) refl
+    let read : payments_of names (records_of is.bytes) ≡ Ok calls = payments_of-Pays b names (records_of is.bytes) calls are is.spelled in
+    rw (fetched-HoldsFile files name is.bytes (process + 1) is.held, read) refl
 
 -- the files of processes that spell their calls, one after another
 files_loaded-each : (files : Files) (b : BookTerms) (names : NameList) → AreNamesOf b names

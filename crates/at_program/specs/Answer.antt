@@ -4,7 +4,7 @@ use Rattle.at_ledger.specs.Book.{total_of}
 use Rattle.at_ledger.specs.Run.{Legal, Whole, last_state}
 use Rattle.at_ledger.specs.declared.call.Line.{Line}
 use Rattle.at_io.specs.Faults.{Rose}
-use Rattle.at_io.specs.Sink.{TakesFront}
+use Rattle.at_io.specs.Sink.{TakesPrefix}
 use Rattle.at_report.specs.FaultText.{fault_line}
 use Rattle.at_report.specs.declared.status.Status.{Status}
 use Rattle.at_report.specs.Report.{report_text, checked_line}
@@ -40,13 +40,13 @@ pub record TookAll (files : Files) (form : Form) (before after : List ℕ) : Typ
   pub printed : PrintsSpelled files form text
   pub taken : after ≡ before ++ text
 
--- a sink has taken a front of such a text, and not all of it
-pub record TookFront (files : Files) (form : Form) (before after : List ℕ) : Type 0 where
+-- a sink has taken a prefix of such a text, and not all of it
+pub record TookPrefix (files : Files) (form : Form) (before after : List ℕ) : Type 0 where
   pub text : List ℕ
   pub printed : PrintsSpelled files form text
-  pub taken : TakesFront before after text
+  pub taken : TakesPrefix before after text
 
--- a sink has taken the line of a refusal, or a front of it where a fault of the sink was counted
+-- a sink has taken the line of a refusal, or a prefix of it where a fault of the sink was counted
 abbrev pub TookLine : Status → ℕ → ℕ → List ℕ → List ℕ → Type 0
 TookLine refusal faults faults_now before after =
-    (after ≡ before ++ fault_line refusal) ⊎ (Rose faults faults_now × TakesFront before after (fault_line refusal))
+    (after ≡ before ++ fault_line refusal) ⊎ (Rose faults faults_now × TakesPrefix before after (fault_line refusal))

@@ -24,12 +24,12 @@ MayRefuse tells expected before now (TooLong file) = IsBrought tells expected be
 MayRefuse tells expected before now _ = ⊥
 
 -- the numbers that a refusal carries are those of a form with this many payment files
-abbrev pub IsNumbered : ℕ → Status → Type 0
-IsNumbered files (Usage (usage.Files wanted given)) = (given ≡ files) × (wanted ≢ given)
-IsNumbered files (BadPayments process bad) = process < files
-IsNumbered files (ReadFault file) = file ≤ files
-IsNumbered files (TooLong file) = file ≤ files
-IsNumbered files _ = ⊤
+abbrev pub HasFileNumbers : ℕ → Status → Type 0
+HasFileNumbers files (Usage (usage.Files wanted given)) = (given ≡ files) × (wanted ≢ given)
+HasFileNumbers files (BadPayments process bad) = process < files
+HasFileNumbers files (ReadFault file) = file ≤ files
+HasFileNumbers files (TooLong file) = file ≤ files
+HasFileNumbers files _ = ⊤
 
 -- no fault is counted: the count stands as it was, and not at its last value
 pub record IsFaultless (before now : ℕ) : Type 0 where

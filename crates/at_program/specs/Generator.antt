@@ -1,5 +1,6 @@
 -- The book and the calls that a number gives.
 use Rattle.std.specs.Prelude.{ℕ, ◌+◌, ◌*◌, ◌/◌, ◌%◌, ◌^◌, ◌≤◌, ◌==◌, List, [], ◌∷◌, ◌++◌, map, zero, suc, if◌then◌else◌}
+use Rattle.at_program.specs.Limits.{most_made_calls, most_made_processes}
 use Rattle.std.specs.List.{range_with_len}
 use Rattle.at_ledger.specs.Account.{AccountTerms}
 use Rattle.at_ledger.specs.Book.{BookTerms}
@@ -10,9 +11,9 @@ use Rattle.at_ledger.specs.declared.call.Call.TheVariants.{Transfer, Read}
 -- how many processes there may be, and how many calls of each
 pub record MayMake (processes calls : ℕ) : Type 0 where
   pub some_process : 1 ≤ processes
-  pub few_processes : processes ≤ 8
+  pub few_processes : processes ≤ most_made_processes
   pub some_call : 1 ≤ calls
-  pub few_calls : calls ≤ 1000
+  pub few_calls : calls ≤ most_made_calls
 
 -- the state after a draw
 unfoldable pub next_state : ℕ → ℕ
@@ -70,8 +71,8 @@ abbrev pub joint_terms : ℕ → ℕ → AccountTerms
 joint_terms processes calls = terms_with (100 * calls * processes) (range_with_len 0 processes)
 
 -- the book with the first accounts of one process each
-abbrev pub book_begun : ℕ → ℕ → ℕ → BookTerms
-book_begun processes calls accounts =
+abbrev pub book_of_own_accounts : ℕ → ℕ → ℕ → BookTerms
+book_of_own_accounts processes calls accounts =
     record { processes = processes; own_room = calls; request_room = calls; accounts = map (own_terms calls) (range_with_len 0 accounts) }
 
 -- an account for each process, and then the one of all

@@ -2,36 +2,33 @@
 use Rattle.std.specs.Prelude.{◌≡◌, ℕ, ◌+◌, Bool, true, All, Vec, map, ◌<◌, ◌≤◌, ◌==◌, ⊤, List, [], ◌∷◌, zero, suc, length, take, nat_lt, slice_index_or, Option, Some, None, Result, Ok, Err, if◌then◌else◌}
 use Rattle.at_ledger.specs.Book.{BookTerms}
 use Rattle.at_ledger.specs.declared.call.Call.{Call}
-use Rattle.at_files.specs.Rows.{rows_of}
+use Rattle.at_files.specs.Records.{records_of}
+use Rattle.at_files.specs.Results.{and_then}
 use Rattle.at_files.specs.Names.{NameList}
 use Rattle.at_files.specs.BookRecords.{NamedBook}
-use Rattle.at_files.specs.BookFile.{book_of_rows, Spells}
+use Rattle.at_files.specs.BookFile.{book_of_records, Spells}
 use Rattle.at_files.specs.Payments.{payments_of, Pays}
 use Rattle.at_files.specs.declared.book_fault.BadBook.{BadBook}
 use Rattle.at_files.specs.declared.payments_fault.BadPayments.{BadPayments}
-use Rattle.at_io.specs.declared.reading.TheConstants.{FILE_MAX}
+use Rattle.at_io.specs.Limits.{most_file_bytes}
 use Rattle.at_report.specs.declared.status.Status.{Status}
 use Rattle.at_report.specs.declared.status.Status.TheVariants as status
 use Rattle.at_report.specs.declared.status.UsageFault.TheVariants as usage
 use Rattle.std.specs.Global.{Global}
 use Rattle.at_ledger.specs.Call.{IsCallOn}
-use Rattle.at_files.specs.declared.payments_fault.TheConstants.{CALLS_MAX}
-use Rattle.at_program.specs.Words.{Word, Form}
+use Rattle.at_files.specs.Limits.{most_calls}
+use Rattle.at_report.specs.Lines.{Word}
+use Rattle.at_program.specs.Words.{Form}
 use Rattle.at_program.specs.declared.loading.Loaded as program
 
 -- the bytes of a file by its name, if it is there
 abbrev pub Files : Type 0
 Files = Word → Option (List ℕ)
 
--- what a value leads to, unless it was refused
-abbrev pub after : {A B : Type 0} → Result A Status → (A → Result B Status) → Result B Status
-after (Ok x) more = more x
-after (Err refusal) more = Err refusal
-
 -- the bytes of the file with this number, which has to be there and not too long
 abbrev pub fetched : Option (List ℕ) → ℕ → Result (List ℕ) Status
 fetched None number = Err (status.ReadFault number)
-fetched (Some bytes) number = if nat_lt FILE_MAX (length bytes) then Err (status.TooLong number) else Ok bytes
+fetched (Some bytes) number = if nat_lt most_file_bytes (length bytes) then Err (status.TooLong number) else Ok bytes
 
 -- the book of a file's bytes, with its names
 abbrev pub book_read : Result NamedBook BadBook → Result NamedBook Status
@@ -40,7 +37,7 @@ book_read (Err bad) = Err (status.BadBook bad)
 
 -- the book of file 0, with its names
 abbrev pub book_loaded : Files → Word → Result NamedBook Status
-book_loaded files name = after (fetched (files name) 0) (λ bytes. book_read (book_of_rows (rows_of bytes)))
+book_loaded files name = and_then (fetched (files name) 0) (λ bytes. book_read (book_of_records (records_of bytes)))
 
 -- the calls of a process, from its file's bytes
 abbrev pub calls_read : ℕ → Result (List Call) BadPayments → Result (List Call) Status
@@ -50,17 +47,17 @@ calls_read process (Err bad) = Err (status.BadPayments process bad)
 -- the calls of the file of a process, which is one above its number
 abbrev pub calls_loaded : Files → NameList → ℕ → Word → Result (List Call) Status
 calls_loaded files names process name =
-    after (fetched (files name) (process + 1)) (λ bytes. calls_read process (payments_of names (rows_of bytes)))
+    and_then (fetched (files name) (process + 1)) (λ bytes. calls_read process (payments_of names (records_of bytes)))
 
--- calls in front of those of the processes that come later
-abbrev pub calls_before : List Call → Result (List (List Call)) Status → Result (List (List Call)) Status
-calls_before calls later = after later (λ others. Ok (calls ∷ others))
+-- calls before those of the processes that come later
+abbrev pub calls_first : List Call → Result (List (List Call)) Status → Result (List (List Call)) Status
+calls_first calls later = and_then later (λ others. Ok (calls ∷ others))
 
 -- the calls of the files of these names, the first of which is this process's
 unfoldable pub files_loaded : Files → NameList → ℕ → List Word → Result (List (List Call)) Status
 files_loaded files names process [] = Ok []
 files_loaded files names process (name ∷ rest) =
-    after (calls_loaded files names process name) (λ calls. calls_before calls (files_loaded files names (process + 1) rest))
+    and_then (calls_loaded files names process name) (λ calls. calls_first calls (files_loaded files names (process + 1) rest))
 
 -- a book with its names, and the calls of each process
 pub record Loaded : Type 0 where
@@ -70,7 +67,7 @@ pub record Loaded : Type 0 where
 
 -- the calls beside this book
 abbrev pub with_book : NamedBook → Result (List (List Call)) Status → Result Loaded Status
-with_book b files = after files (λ calls. Ok (record { book = b.book; names = b.names; files = calls }))
+with_book b files = and_then files (λ calls. Ok (record { book = b.book; names = b.names; files = calls }))
 
 -- as many files as the book has processes, and what they spell
 abbrev pub payments_loaded : Files → List Word → NamedBook → Result Loaded Status
@@ -80,7 +77,7 @@ payments_loaded files payments b =
 
 -- what the words' files spell, or the first refusal: the book's, then that of their number, then that of each in turn
 abbrev pub loaded : Files → Form → Result Loaded Status
-loaded files form = after (book_loaded files form.book) (λ b. payments_loaded files form.payments b)
+loaded files form = and_then (book_loaded files form.book) (λ b. payments_loaded files form.payments b)
 
 -- the files before that of this process are good
 pub record AreGoodBefore (files : Files) (names : NameList) (payments : List Word) (process : ℕ) : Type 0 where
@@ -111,21 +108,21 @@ pub record MayReach (tells : Bool) (files : Files) (form : Form) (file : ℕ) : 
   pub reached : tells ≡ true → IsReached files form file
 
 -- the file is there and not too long, and these are its bytes
-pub record Holds (files : Files) (name : Word) (bytes : List ℕ) : Type 0 where
+pub record HoldsFile (files : Files) (name : Word) (bytes : List ℕ) : Type 0 where
   pub there : files name ≡ Some bytes
-  pub size : length bytes ≤ FILE_MAX
+  pub size : length bytes ≤ most_file_bytes
 
 -- the file of this name spells the book and its names
 pub record SpellsBook (files : Files) (name : Word) (b : BookTerms) (names : NameList) : Type 0 where
   pub bytes : List ℕ
-  pub held : Holds files name bytes
-  pub spelled : Spells (rows_of bytes) b names
+  pub held : HoldsFile files name bytes
+  pub spelled : Spells (records_of bytes) b names
 
 -- the file of this name spells the calls
 pub record SpellsCalls (files : Files) (name : Word) (b : BookTerms) (names : NameList) (calls : List Call) : Type 0 where
   pub bytes : List ℕ
-  pub held : Holds files name bytes
-  pub spelled : Pays b names (rows_of bytes) calls
+  pub held : HoldsFile files name bytes
+  pub spelled : Pays b names (records_of bytes) calls
 
 -- each of the files spells the calls of its process
 abbrev pub EachSpells : Files → List Word → BookTerms → NameList → List (List Call) → Type 0
@@ -146,7 +143,7 @@ pub record Spelled (files : Files) (form : Form) (l : Loaded) : Type 0 where
 -- the calls are of the book's accounts, and not too many
 pub record IsFileOn (accounts : ℕ) (calls : List Call) : Type 0 where
   pub known : All (IsCallOn accounts) calls
-  pub few : length calls ≤ CALLS_MAX
+  pub few : length calls ≤ most_calls
 
 -- the calls of each file, as the program holds them
 abbrev pub calls_of : List (Vec Call Global) → List (List Call)

@@ -13,16 +13,16 @@ use Rattle.at_report.specs.Summary.{is_read, summary_of, summary_text}
 use Rattle.at_program.specs.Generator.{book_made, files_made}
 
 -- what the call brings to the account once it is done
-abbrev pub credit_of : ℕ → Call → ℕ
-credit_of account (Transfer from to amount) = if to == account then amount else 0
-credit_of account (Read asked) = 0
-credit_of account (Pay from targets) = sum_by (λ t. if t.0 == account then t.1 else 0) targets
+abbrev pub call_credit : ℕ → Call → ℕ
+call_credit account (Transfer from to amount) = if to == account then amount else 0
+call_credit account (Read asked) = 0
+call_credit account (Pay from targets) = sum_by (λ t. if t.0 == account then t.1 else 0) targets
 
 -- what the call takes from the account once it is done
-abbrev pub debit_of : ℕ → Call → ℕ
-debit_of account (Transfer from to amount) = if from == account then amount else 0
-debit_of account (Read asked) = 0
-debit_of account (Pay from targets) = if from == account then amount_of targets else 0
+abbrev pub call_debit : ℕ → Call → ℕ
+call_debit account (Transfer from to amount) = if from == account then amount else 0
+call_debit account (Read asked) = 0
+call_debit account (Pay from targets) = if from == account then amount_of targets else 0
 
 -- a sum over all calls of the files
 abbrev pub over_files : (Call → ℕ) → List (List Call) → ℕ
@@ -38,7 +38,7 @@ reads_in files = over_files (λ call. if is_read call then 1 else 0) files
 
 -- the opening, with all credits and without all debits
 abbrev pub balance_settled : BookTerms → List (List Call) → ℕ → ℕ
-balance_settled b files account = (account_of b account).opening + over_files (credit_of account) files - over_files (debit_of account) files
+balance_settled b files account = (account_of b account).opening + over_files (call_credit account) files - over_files (call_debit account) files
 
 -- the openings moved by all calls
 abbrev pub state_settled : BookTerms → List (List Call) → LedgerState

@@ -3,15 +3,12 @@ use Rattle.std.specs.Prelude.{ℕ, List, [], ◌∷◌, map, codes, bytes_eq, Op
 use Rattle.std.specs.Global.{Global}
 use Rattle.at_base.specs.Numbers.{number_of}
 use Rattle.at_ledger.specs.Draft.{is_within}
-use Rattle.at_program.specs.declared.words.CommandLine.{CommandLine}
+use Rattle.at_report.specs.Lines.{Word}
+use Rattle.at_program.specs.declared.words.Form as words
 use Rattle.at_program.specs.declared.words.Command.{Command}
 use Rattle.at_program.specs.declared.words.Command.TheVariants.{Run, Check}
 use Rattle.at_program.specs.declared.words.Making.{Making}
-use Rattle.at_program.specs.declared.words.TheConstants.{MADE_CALLS_MAX, MADE_PROCESSES_MAX}
-
--- a word, as bytes
-abbrev pub Word : Type 0
-Word = List ℕ
+use Rattle.at_program.specs.Limits.{most_made_calls, most_made_processes}
 
 -- a command, the name of the book, and the names of the payment files in process order
 pub record Form : Type 0 where
@@ -35,8 +32,8 @@ abbrev pub words_of : List (String Global) → List Word
 words_of words = map string_bytes words
 
 -- the same words, as the program holds them
-abbrev pub form_shown : CommandLine → Form
-form_shown line = record { command = line.command; book = line.book.now; payments = words_of line.payments.now }
+abbrev pub form_shown : words.Form → Form
+form_shown form = record { command = form.command; book = form.book.now; payments = words_of form.payments.now }
 
 -- a number from 1 to `most`
 abbrev pub within : ℕ → Option ℕ → Option ℕ
@@ -53,6 +50,6 @@ making_of None processes calls = None
 -- the words of `make`: the command, any number, the number of processes, and that of the calls of each
 abbrev pub make_of : List Word → Option Making
 make_of (word ∷ first ∷ processes ∷ calls ∷ []) =
-    if bytes_eq word (codes "make") then making_of (number_of first) (within MADE_PROCESSES_MAX (number_of processes)) (within MADE_CALLS_MAX (number_of calls))
+    if bytes_eq word (codes "make") then making_of (number_of first) (within most_made_processes (number_of processes)) (within most_made_calls (number_of calls))
     else None
 make_of words = None

@@ -1,11 +1,12 @@
 //! The book and the calls that a number gives.
 
 ghost use Rattle.std.specs.Prelude.{◌≡◌, ◌+◌, ◌*◌, ◌<◌, ◌≤◌, None, length, All, IfOk, OnOk};
+ghost use Rattle.at_program.specs.Limits.{most_made_processes};
 ghost use Rattle.std.specs.List.{range_with_len};
 ghost use Rattle.at_ledger.specs.Book.{IsBook};
 ghost use Rattle.at_ledger.specs.Draft.{account_fault, terms_with, with_account};
 ghost use Rattle.at_program.specs.Loading.{IsFileOn, calls_of};
-ghost use Rattle.at_program.specs.Generator.{MayMake, book_begun, book_made, call_drawn, calls_drawn, drawn, files_made, next_state, state_after_call, state_after_calls};
+ghost use Rattle.at_program.specs.Generator.{MayMake, book_of_own_accounts, book_made, call_drawn, calls_drawn, drawn, files_made, next_state, state_after_call, state_after_calls};
 ghost use Rattle.at_program.specs.Made.{AllDone, AllSum, made};
 
 use at_ledger::{Book, BookBuilder, BookFault, Call};
@@ -41,7 +42,7 @@ impl Draws {
 
     /// The next call of the process.
     fn call(&mut self, processes: u32, process: u32) -> Call
-        requires { processes ≤ 8 }
+        requires { processes ≤ most_made_processes }
         ensures call { result ≡ call_drawn processes process self.old.state }
         ensures state { self.new.state ≡ state_after_call self.old.state }
     {
@@ -65,7 +66,7 @@ impl Draws {
         process: u32,
         calls: u32,
     ) -> Result<Vec<Call>, AllocError>
-        requires { processes ≤ 8 }
+        requires { processes ≤ most_made_processes }
         ensures calls { IfOk result (λ file. file.items ≡ calls_drawn processes process calls self.old.state) }
         ensures state { OnOk result (self.new.state ≡ state_after_calls self.old.state calls) }
     {
@@ -92,7 +93,7 @@ fn add_account(builder: &mut BookBuilder, opening: u64, owners: &[u64]) -> Resul
 /// An account for each process alone, with room for all calls.
 fn own_accounts(alloc: Global, processes: u32, calls: u32) -> Result<BookBuilder, AllocError>
     requires { MayMake processes calls }
-    ensures { IfOk result (λ b. b ≡ book_begun processes calls processes) }
+    ensures { IfOk result (λ b. b ≡ book_of_own_accounts processes calls processes) }
 {
     let room = u64::from(calls);
     let Ok(mut builder) = BookBuilder::new(alloc, u64::from(processes), room, room) else {
@@ -138,7 +139,7 @@ fn draw_files(
     processes: u32,
     calls: u32,
 ) -> Result<Vec<Vec<Call>>, AllocError>
-    requires { processes ≤ 8 }
+    requires { processes ≤ most_made_processes }
     ensures { IfOk result (λ files. calls_of files.items ≡ files_made first processes calls) }
 {
     let mut draws = Draws { state: first };

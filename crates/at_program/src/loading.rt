@@ -4,10 +4,10 @@ ghost use Rattle.std.specs.Prelude.{◌≡◌, ℕ, ◌+◌, ◌^◌, ◌<◌, �
 ghost use Rattle.at_io.specs.Shelf.{SameFiles};
 ghost use Rattle.at_files.specs.Names.{AreNamesOf};
 ghost use Rattle.at_program.specs.Words.{words_of, form_shown};
-ghost use Rattle.at_program.specs.Faults.{IsNumbered, MayRefuse};
-ghost use Rattle.at_program.specs.Loading.{EachSpells, Holds, IsFileOn, IsFileReached, MayReach, Spelled, SpellsBook, SpellsCalls, book_loaded, calls_loaded, calls_of, fetched, files_loaded, loaded, loaded_shown};
+ghost use Rattle.at_program.specs.Faults.{HasFileNumbers, MayRefuse};
+ghost use Rattle.at_program.specs.Loading.{EachSpells, HoldsFile, IsFileOn, IsFileReached, MayReach, Spelled, SpellsBook, SpellsCalls, book_loaded, calls_loaded, calls_of, fetched, files_loaded, loaded, loaded_shown};
 
-use crate::words::CommandLine;
+use crate::words::Form;
 use at_files::{Names, ReadBookFault, ReadPaymentsFault, read_book, read_payments};
 use at_io::{FetchError, Shelf, fetch};
 use at_ledger::{Book, Call};
@@ -33,13 +33,13 @@ fn fetch_file<F: Shelf>(
     ensures later { F.faults shelf.old ≤ F.faults shelf.new }
     ensures kept { OnOk result (F.faults shelf.new ≡ F.faults shelf.old) }
     ensures ok { F.tells shelf.old ≡ true → IfOk result (λ bytes. fetched (F.file shelf.old name.now) number ≡ Ok bytes.items) }
-    ensures held { F.tells shelf.old ≡ true → IfOk result (λ bytes. Holds (F.file shelf.old) name.now bytes.items) }
+    ensures held { F.tells shelf.old ≡ true → IfOk result (λ bytes. HoldsFile (F.file shelf.old) name.now bytes.items) }
     ensures err { IfErr result (λ refusal. MayRefuse (F.tells shelf.old) (fetched (F.file shelf.old name.now) number) (F.faults shelf.old) (F.faults shelf.new) refusal) }
     ensures file { (file : ℕ) → result ≡ Err (Status.ReadFault file) → file ≡ number }
-    ensures numbered { (files : ℕ) → number ≤ files → IfErr result (IsNumbered files) }
+    ensures numbered { (files : ℕ) → number ≤ files → IfErr result (HasFileNumbers files) }
 {
     let mut bytes = Vec::new(alloc);
-    match fetch(alloc, shelf, name, &mut bytes) {
+    match fetch(shelf, name, &mut bytes) {
         Ok(()) => Ok(bytes),
         Err(FetchError::Failed) => Err(Status::ReadFault { file: number }),
         Err(FetchError::TooLong) => Err(Status::TooLong { file: number }),
@@ -57,7 +57,7 @@ fn load_book<F: Shelf>(alloc: Global, shelf: &mut F, name: &str) -> Result<(Book
     ensures names { IfOk result (λ l. AreNamesOf l.0 l.1) }
     ensures err { IfErr result (λ refusal. MayRefuse (F.tells shelf.old) (book_loaded (F.file shelf.old) name.now) (F.faults shelf.old) (F.faults shelf.new) refusal) }
     ensures file { (file : ℕ) → result ≡ Err (Status.ReadFault file) → file ≡ 0 }
-    ensures numbered { (files : ℕ) → IfErr result (IsNumbered files) }
+    ensures numbered { (files : ℕ) → IfErr result (HasFileNumbers files) }
 {
     let bytes = match fetch_file(alloc, shelf, name, 0) {
         Ok(bytes) => bytes,
@@ -89,7 +89,7 @@ fn load_calls<F: Shelf>(
     ensures known { IfOk result (λ calls. IsFileOn (length book.now.accounts) calls.items) }
     ensures err { IfErr result (λ refusal. MayRefuse (F.tells shelf.old) (calls_loaded (F.file shelf.old) names.now process name.now) (F.faults shelf.old) (F.faults shelf.new) refusal) }
     ensures file { (file : ℕ) → result ≡ Err (Status.ReadFault file) → file ≡ process + 1 }
-    ensures numbered { (files : ℕ) → process < files → IfErr result (IsNumbered files) }
+    ensures numbered { (files : ℕ) → process < files → IfErr result (HasFileNumbers files) }
 {
     let bytes = match fetch_file(alloc, shelf, name, process + 1) {
         Ok(bytes) => bytes,
@@ -121,7 +121,7 @@ fn load_files<F: Shelf>(
     ensures known { IfOk result (λ files. All (IsFileOn (length book.now.accounts)) (calls_of files.items)) }
     ensures err { IfErr result (λ refusal. MayRefuse (F.tells shelf.old) (files_loaded (F.file shelf.old) names.now 0 (words_of payments.now)) (F.faults shelf.old) (F.faults shelf.new) refusal) }
     ensures file { (file : ℕ) → result ≡ Err (Status.ReadFault file) → IsFileReached (F.tells shelf.old) (F.file shelf.old) names.now (words_of payments.now) file }
-    ensures numbered { IfErr result (IsNumbered (length payments.now)) }
+    ensures numbered { IfErr result (HasFileNumbers (length payments.now)) }
 {
     let mut files = Vec::new(alloc);
     for (process, name) in payments.iter().enumerate() {
@@ -138,11 +138,7 @@ fn load_files<F: Shelf>(
 
 /// What the files of the form spell, or the first refusal: the book's, that of the number of files, or that of
 /// each payment file in turn. Each file is read before the next is fetched.
-pub fn load<F: Shelf>(
-    alloc: Global,
-    shelf: &mut F,
-    form: &CommandLine<'_>,
-) -> Result<Loaded, Status>
+pub fn load<F: Shelf>(alloc: Global, shelf: &mut F, form: &Form<'_>) -> Result<Loaded, Status>
     ensures files { SameFiles (F.tells shelf.old) (F.tells shelf.new) (F.file shelf.old) (F.file shelf.new) }
     ensures later { F.faults shelf.old ≤ F.faults shelf.new }
     ensures kept { OnOk result (F.faults shelf.new ≡ F.faults shelf.old) }
@@ -153,7 +149,7 @@ pub fn load<F: Shelf>(
     ensures count { IfOk result (λ l. length l.files.items ≡ l.book.processes) }
     ensures err { IfErr result (λ refusal. MayRefuse (F.tells shelf.old) (loaded (F.file shelf.old) (form_shown form.now)) (F.faults shelf.old) (F.faults shelf.new) refusal) }
     ensures reached { (file : ℕ) → result ≡ Err (Status.ReadFault file) → MayReach (F.tells shelf.old) (F.file shelf.old) (form_shown form.now) file }
-    ensures numbered { IfErr result (IsNumbered (length form.now.payments.now)) }
+    ensures numbered { IfErr result (HasFileNumbers (length form.now.payments.now)) }
 {
     let (book, names) = match load_book(alloc, shelf, form.book) {
         Ok(read) => read,

@@ -6,6 +6,8 @@
 //! numbers give leads to, and each refusal names the first cause.
 #![tactic(auto)]
 
+ghost use Rattle.std.specs.Prelude.{◌≢◌, IfErr};
+
 mod generating;
 mod loading;
 mod playing;
@@ -14,15 +16,17 @@ mod serving;
 mod tests;
 mod words;
 
-use crate::serving::serve;
-use at_io::{DirShelf, StdSink, put_all};
-use at_report::{Status, UsageFault, fault_text};
+use crate::serving::{serve, tell};
+use at_io::{DirShelf, StdSink};
+use at_report::{Status, UsageFault};
 use std::io;
 use std::process::ExitCode;
 use std::rt::Env;
 
 /// The words after the program's name. Words that are not text have no form.
-fn words_given(rt: &(impl Env + AllocGlobal)) -> Result<Vec<String>, Status> {
+fn words_given(rt: &(impl Env + AllocGlobal)) -> Result<Vec<String>, Status>
+    ensures { IfErr result (λ refusal. refusal ≢ Status.Done) }
+{
     let mut words = Vec::new(rt.alloc());
     let given = match std::env::args(rt) {
         Ok(given) => given,
@@ -53,7 +57,7 @@ fn main(rt: HostRuntime) -> ExitCode {
             )
         }
         Err(status) => {
-            let _ = put_all(&mut err, fault_text(&status).as_slice());
+            tell(&mut err, &status);
             status
         }
     };

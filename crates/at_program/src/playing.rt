@@ -64,10 +64,10 @@ pub fn play(alloc: Global, book: &Book, files: &[Vec<Call>]) -> Result<Vec<Line>
     ensures known { IfOk result (λ lines. All (IsLineOn book.now.processes (length book.now.accounts)) lines.items) }
     ensures total { IfOk result (λ lines. sum (last_state book.now lines.items).balances ≡ total_of book.now) }
 {
-    let _ = book.processes();
+    let _known = book.processes();
     let mut state = State::new(alloc, book)?;
     let mut lines = Vec::new(alloc);
     play_each(&mut state, &mut lines, files)?;
-    let _ = state.total();
+    let _known = state.total();
     Ok(lines)
 }

@@ -4,19 +4,19 @@ ghost use Rattle.std.specs.Prelude.{◌≡◌, ◌≢◌, ◌↔◌, ◌⊎◌, 
 ghost use Rattle.at_files.specs.Names.{AreNamesOf};
 ghost use Rattle.at_io.specs.Faults.{Rose};
 ghost use Rattle.at_io.specs.Shelf.{SameFiles};
-ghost use Rattle.at_io.specs.Sink.{TakesFront};
+ghost use Rattle.at_io.specs.Sink.{TakesPrefix};
 ghost use Rattle.at_program.specs.Words.{Form, form_of, form_shown, make_of, words_of};
 ghost use Rattle.at_program.specs.Generator.{MayMake};
 ghost use Rattle.at_program.specs.Made.{IsMade, made};
 ghost use Rattle.at_program.specs.declared.words.Making.{Making};
 ghost use Rattle.at_program.specs.Loading.{IsFileOn, Loaded, MayReach, Spelled, calls_of, loaded, loaded_shown};
-ghost use Rattle.at_program.specs.Faults.{Answers, IsFaultless, IsNumbered, MayRefuse};
-ghost use Rattle.at_program.specs.Answer.{Prints, PrintsSpelled, TookAll, TookFront, TookLine};
+ghost use Rattle.at_program.specs.Faults.{Answers, IsFaultless, HasFileNumbers, MayRefuse};
+ghost use Rattle.at_program.specs.Answer.{Prints, PrintsSpelled, TookAll, TookPrefix, TookLine};
 
 use crate::generating::generate;
 use crate::loading::{self, load};
 use crate::playing::play;
-use crate::words::{Command, CommandLine, Making, command_line, what_to_make};
+use crate::words::{self, Command, Making, form_of, what_to_make};
 use at_io::{Shelf, Sink, put_all};
 use at_report::{Status, UsageFault, checked_text, fault_text, report, summary};
 use std::alloc::{AllocError, Global};
@@ -39,7 +39,7 @@ fn count_calls(loaded: &loading::Loaded) -> u32
     requires known { All (IsFileOn (length loaded.now.book.accounts)) (calls_of loaded.now.files.items) }
     ensures { result ≡ sum_by length (calls_of loaded.now.files.items) }
 {
-    let _ = loaded.book.accounts();
+    let _known = loaded.book.accounts();
     let mut calls = 0;
     for file in &loaded.files {
         calls += file.len() as u32;
@@ -61,10 +61,10 @@ fn text_of(alloc: Global, command: Command, loaded: &loading::Loaded) -> Result<
 }
 
 /// The text of the form's command for its files, or why there is none.
-fn make_text<F: Shelf>(
+fn files_text<F: Shelf>(
     alloc: Global,
     shelf: &mut F,
-    form: &CommandLine<'_>,
+    form: &words::Form<'_>,
 ) -> Result<Vec<u8>, Status>
     ensures files { SameFiles (F.tells shelf.old) (F.tells shelf.new) (F.file shelf.old) (F.file shelf.new) }
     ensures later { F.faults shelf.old ≤ F.faults shelf.new }
@@ -72,7 +72,7 @@ fn make_text<F: Shelf>(
     ensures printed { F.tells shelf.old ≡ true → IfOk result (λ text. PrintsSpelled (F.file shelf.old) (form_shown form.now) text.items) }
     ensures err { IfErr result (λ refusal. MayRefuse (F.tells shelf.old) (loaded (F.file shelf.old) (form_shown form.now)) (F.faults shelf.old) (F.faults shelf.new) refusal) }
     ensures reached { (file : ℕ) → result ≡ Err (Status.ReadFault file) → MayReach (F.tells shelf.old) (F.file shelf.old) (form_shown form.now) file }
-    ensures numbered { IfErr result (IsNumbered (length form.now.payments.now)) }
+    ensures numbered { IfErr result (HasFileNumbers (length form.now.payments.now)) }
 {
     let loaded = match load(alloc, shelf, form) {
         Ok(loaded) => loaded,
@@ -85,7 +85,7 @@ fn make_text<F: Shelf>(
 }
 
 /// Writes the line of a refusal. A fault of the sink changes nothing: there is nobody left to tell.
-fn tell<E: Sink>(err: &mut E, status: &Status)
+pub fn tell<E: Sink>(err: &mut E, status: &Status)
     requires { status.now ≢ Status.Done }
     ensures later { E.faults err.old ≤ E.faults err.new }
     ensures as_told { E.tells err.new ≡ E.tells err.old }
@@ -99,7 +99,7 @@ fn answer<F: Shelf, O: Sink>(
     alloc: Global,
     shelf: &mut F,
     out: &mut O,
-    form: &CommandLine<'_>,
+    form: &words::Form<'_>,
 ) -> Status
     ensures files { SameFiles (F.tells shelf.old) (F.tells shelf.new) (F.file shelf.old) (F.file shelf.new) }
     ensures later { (F.faults shelf.old ≤ F.faults shelf.new) × (O.faults out.old ≤ O.faults out.new) }
@@ -108,14 +108,14 @@ fn answer<F: Shelf, O: Sink>(
     ensures done { result ≡ Status.Done → F.tells shelf.old ≡ true → O.tells out.old ≡ true → TookAll (F.file shelf.old) (form_shown form.now) (O.taken out.old) (O.taken out.new) }
     ensures done_kept { result ≡ Status.Done → (F.faults shelf.new ≡ F.faults shelf.old) × (O.faults out.new ≡ O.faults out.old) }
     ensures write_fault { result ≡ Status.WriteFault → Rose (O.faults out.old) (O.faults out.new) × (F.faults shelf.new ≡ F.faults shelf.old) }
-    ensures front { result ≡ Status.WriteFault → F.tells shelf.old ≡ true → O.tells out.old ≡ true → TookFront (F.file shelf.old) (form_shown form.now) (O.taken out.old) (O.taken out.new) }
+    ensures prefix { result ≡ Status.WriteFault → F.tells shelf.old ≡ true → O.tells out.old ≡ true → TookPrefix (F.file shelf.old) (form_shown form.now) (O.taken out.old) (O.taken out.new) }
     ensures refusal { result ≢ Status.Done → result ≢ Status.WriteFault → MayRefuse (F.tells shelf.old) (loaded (F.file shelf.old) (form_shown form.now)) (F.faults shelf.old) (F.faults shelf.new) result }
     ensures reached { (file : ℕ) → result ≡ Status.ReadFault file → MayReach (F.tells shelf.old) (F.file shelf.old) (form_shown form.now) file }
-    ensures numbered { IsNumbered (length form.now.payments.now) result }
+    ensures numbered { HasFileNumbers (length form.now.payments.now) result }
     ensures loads { F.tells shelf.old ≡ true → (result ≡ Status.Done) ⊎ (result ≡ Status.WriteFault) → (l : Loaded) × (loaded (F.file shelf.old) (form_shown form.now) ≡ Ok l) }
     ensures untouched { result ≢ Status.Done → result ≢ Status.WriteFault → out.new ≡ out.old }
 {
-    let text = match make_text(alloc, shelf, form) {
+    let text = match files_text(alloc, shelf, form) {
         Ok(text) => text,
         Err(refusal) => return refusal,
     };
@@ -151,7 +151,7 @@ fn answer_made<O: Sink>(alloc: Global, words: &[String], out: &mut O) -> Status
     ensures all { (m : Making) → make_of (words_of words.now) ≡ Some m → result ≡ Status.Done → IsMade m.first m.processes m.calls (made m.first m.processes m.calls) }
     ensures done_kept { result ≡ Status.Done → O.faults out.new ≡ O.faults out.old }
     ensures write_fault { result ≡ Status.WriteFault → Rose (O.faults out.old) (O.faults out.new) }
-    ensures front { (m : Making) → make_of (words_of words.now) ≡ Some m → result ≡ Status.WriteFault → O.tells out.old ≡ true → TakesFront (O.taken out.old) (O.taken out.new) (made m.first m.processes m.calls) }
+    ensures prefix { (m : Making) → make_of (words_of words.now) ≡ Some m → result ≡ Status.WriteFault → O.tells out.old ≡ true → TakesPrefix (O.taken out.old) (O.taken out.new) (made m.first m.processes m.calls) }
     ensures answers { (m : Making) → make_of (words_of words.now) ≡ Some m → (result ≡ Status.Done) ⊎ ((result ≡ Status.WriteFault) ⊎ (result ≡ Status.NoMemory)) }
     ensures untouched { result ≢ Status.Done → result ≢ Status.WriteFault → out.new ≡ out.old }
 {
@@ -198,18 +198,18 @@ pub fn serve<R: Threads + Sync, F: Shelf, O: Sink, E: Sink>(
     // legal run of their calls, whatever its order, and in each of these every transfer is done.
     ensures made { (m : Making) → make_of (words_of words.now) ≡ Some m → result ≡ Status.Done → O.tells out.old ≡ true → O.taken out.new ≡ O.taken out.old ++ made m.first m.processes m.calls }
     ensures made_all { (m : Making) → make_of (words_of words.now) ≡ Some m → result ≡ Status.Done → IsMade m.first m.processes m.calls (made m.first m.processes m.calls) }
-    ensures made_front { (m : Making) → make_of (words_of words.now) ≡ Some m → result ≡ Status.WriteFault → O.tells out.old ≡ true → TakesFront (O.taken out.old) (O.taken out.new) (made m.first m.processes m.calls) }
+    ensures made_prefix { (m : Making) → make_of (words_of words.now) ≡ Some m → result ≡ Status.WriteFault → O.tells out.old ≡ true → TakesPrefix (O.taken out.old) (O.taken out.new) (made m.first m.processes m.calls) }
     ensures made_answers { (m : Making) → make_of (words_of words.now) ≡ Some m → (result ≡ Status.Done) ⊎ ((result ≡ Status.WriteFault) ⊎ (result ≡ Status.NoMemory)) }
     ensures made_unread { (m : Making) → make_of (words_of words.now) ≡ Some m → shelf.new ≡ shelf.old }
 
-    // What could not be written whole was written as a front.
+    // What could not be written whole was written as a prefix.
     ensures write_fault { result ≡ Status.WriteFault → Rose (O.faults out.old) (O.faults out.new) × (F.faults shelf.new ≡ F.faults shelf.old) }
-    ensures front { (form : Form) → form_of (words_of words.now) ≡ Some form → result ≡ Status.WriteFault → F.tells shelf.old ≡ true → O.tells out.old ≡ true → TookFront (F.file shelf.old) form (O.taken out.old) (O.taken out.new) }
+    ensures prefix { (form : Form) → form_of (words_of words.now) ≡ Some form → result ≡ Status.WriteFault → F.tells shelf.old ≡ true → O.tells out.old ≡ true → TookPrefix (F.file shelf.old) form (O.taken out.old) (O.taken out.new) }
 
     // When each refusal comes: only so, and where no fault is counted exactly so, but for want of memory.
     ensures refusal { (form : Form) → form_of (words_of words.now) ≡ Some form → result ≢ Status.Done → result ≢ Status.WriteFault → MayRefuse (F.tells shelf.old) (loaded (F.file shelf.old) form) (F.faults shelf.old) (F.faults shelf.new) result }
     ensures reached { (form : Form) (file : ℕ) → form_of (words_of words.now) ≡ Some form → result ≡ Status.ReadFault file → MayReach (F.tells shelf.old) (F.file shelf.old) form file }
-    ensures numbered { (form : Form) → form_of (words_of words.now) ≡ Some form → IsNumbered (length form.payments) result }
+    ensures numbered { (form : Form) → form_of (words_of words.now) ≡ Some form → HasFileNumbers (length form.payments) result }
     ensures exact { (form : Form) → form_of (words_of words.now) ≡ Some form → F.tells shelf.old ≡ true → IsFaultless (F.faults shelf.old) (F.faults shelf.new) → (result ≡ Status.NoMemory) ⊎ Answers (loaded (F.file shelf.old) form) result }
     ensures untouched { result ≢ Status.Done → result ≢ Status.WriteFault → out.new ≡ out.old }
 
@@ -220,7 +220,7 @@ pub fn serve<R: Threads + Sync, F: Shelf, O: Sink, E: Sink>(
     ensures silent { result ≡ Status.Done → err.new ≡ err.old }
     ensures told { result ≢ Status.Done → E.tells err.old ≡ true → TookLine result (E.faults err.old) (E.faults err.new) (E.taken err.old) (E.taken err.new) }
 {
-    let status = match command_line(words) {
+    let status = match form_of(words) {
         Some(form) => answer(alloc, shelf, out, &form),
         None => answer_made(alloc, words, out),
     };

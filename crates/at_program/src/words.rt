@@ -1,6 +1,7 @@
 //! The words of the command line.
 
 ghost use Rattle.std.specs.Prelude.{◌≡◌, option_map, IfSome};
+ghost use Rattle.at_program.specs.Limits.{most_made_calls, most_made_processes};
 ghost use Rattle.at_base.specs.Numbers.{number_of};
 ghost use Rattle.at_program.specs.Generator.{MayMake};
 ghost use Rattle.at_program.specs.Words.{command_named, form_of, form_shown, make_of, making_of, within, words_of};
@@ -24,7 +25,7 @@ pub enum Command {
 
 /// The words of a command: the book's file, and the payment files in process order.
 #[derive(Clone, Copy)]
-pub struct CommandLine<'a> {
+pub struct Form<'a> {
     pub command: Command,
     pub book: &'a str,
     pub payments: &'a [String],
@@ -41,7 +42,7 @@ fn command_named(word: &str) -> Option<Command>
 }
 
 /// The form of the words after the program's name, if they have one. A word is never taken as an option.
-pub fn command_line(words: &[String]) -> Option<CommandLine<'_>>
+pub fn form_of(words: &[String]) -> Option<Form<'_>>
     ensures { option_map form_shown result ≡ form_of (words_of words.now) }
 {
     let [command, book, payments @ ..] = words else {
@@ -51,7 +52,7 @@ pub fn command_line(words: &[String]) -> Option<CommandLine<'_>>
         Some(command) => command,
         None => return None,
     };
-    Some(CommandLine {
+    Some(Form {
         command,
         book: book.as_str(),
         payments,
@@ -80,7 +81,7 @@ fn number_within(most: u32, word: &str) -> Option<u32>
 
 /// What calls the three words ask for.
 fn making_of(first: &str, processes: &str, calls: &str) -> Option<Making>
-    ensures asked { result ≡ making_of (number_of first.now) (within MADE_PROCESSES_MAX (number_of processes.now)) (within MADE_CALLS_MAX (number_of calls.now)) }
+    ensures asked { result ≡ making_of (number_of first.now) (within most_made_processes (number_of processes.now)) (within most_made_calls (number_of calls.now)) }
     ensures may { IfSome result (λ m. MayMake m.processes m.calls) }
 {
     let first = parse_number(first.as_bytes())?;

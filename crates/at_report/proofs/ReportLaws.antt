@@ -16,9 +16,9 @@ use Rattle.at_ledger.specs.Run.{asked_in, last_state}
 use Rattle.at_ledger.specs.State.{LedgerState, opening_state}
 use Rattle.at_ledger.proofs.Run.{book-run_from}
 use Rattle.std.proofs.lemmas.Grind.{flat_map-append}
-use Rattle.at_files.specs.Names.{AreFormed, AreNames, AreNamesOf, NameList, account_name, is_name_byte, place_of, process_name}
+use Rattle.at_files.specs.Names.{AreFormed, AreNames, AreNamesOf, NameList, account_name, is_name_byte, position_of, process_name}
 use Rattle.at_files.specs.Payments.{HasAmounts}
-use Rattle.at_files.proofs.NameLaws.{decimal-AreNames, name-bytes, name_byte-above, place_of-at}
+use Rattle.at_files.proofs.NameLaws.{decimal-AreNames, name-bytes, name_byte-above, position_of-at}
 use Rattle.at_report.specs.Lines.{Words, call_words, journal_words, line_text, lines_text, reply_word, targets_words}
 use Rattle.at_report.specs.Report.{HasBalance, IsPrinted, balance_lines, report_text}
 use Rattle.at_report.proofs.WordLaws.{AreWords, AreWords-append, IsLineOfWords, IsWord, IsWord-decimal, IsWord-from, split_line}
@@ -95,9 +95,9 @@ IsWord-AreNames version names n are within few = by are.formed
     by (inr (second, formed)) = IsWord-name_bytes (get_or names n []) (name-bytes (get_or names n []) (formed n [] within))
 
 -- names that differ are told apart
-same_place : (names : List (List ℕ)) (n m : ℕ) → IsDistinct bytes_eq names → n < length names → m < length names → get_or names n [] ≡ get_or names m [] → n ≡ m
-same_place names n m distinct hn hm e =
-    let both : Some n ≡ Some m = sym (place_of-at names n distinct hn) ∙ ap (place_of names) e ∙ place_of-at names m distinct hm in
+same_position : (names : List (List ℕ)) (n m : ℕ) → IsDistinct bytes_eq names → n < length names → m < length names → get_or names n [] ≡ get_or names m [] → n ≡ m
+same_position names n m distinct hn hm e =
+    let both : Some n ≡ Some m = sym (position_of-at names n distinct hn) ∙ ap (position_of names) e ∙ position_of-at names m distinct hm in
     cc
 
 -- the names that lines cite: each is a word, and no two of one kind are the same
@@ -118,8 +118,8 @@ AreToldApart-AreNamesOf b names is are =
       accounts_fit = omega (arith, is.begun.few_accounts);
       process = λ p below. IsWord-AreNames names.version names.processes p are.formed.processes (omega arith) few_processes;
       account = λ a below. IsWord-AreNames names.version names.accounts a are.formed.accounts (omega arith) few_accounts;
-      one_process = λ p q hp hq. same_place names.processes p q are.formed.processes.distinct (omega arith) (omega arith);
-      one_account = λ a c ha hc. same_place names.accounts a c are.formed.accounts.distinct (omega arith) (omega arith);
+      one_process = λ p q hp hq. same_position names.processes p q are.formed.processes.distinct (omega arith) (omega arith);
+      one_account = λ a c ha hc. same_position names.accounts a c are.formed.accounts.distinct (omega arith) (omega arith);
     }
 
 -- the targets and the reply that end a line are told apart

@@ -30,7 +30,7 @@ limit_text RoomOutOfRange = codes "room out of range"
 limit_text (RoundsOverLimit account) = codes "rounds over limit"
 limit_text (TotalOverLimit account) = codes "total over limit"
 
--- the cause of a book file's offence
+-- the cause of a book file's fault
 abbrev pub book_cause : BookWhy → List ℕ
 book_cause book.Version = codes "version"
 book_cause book.Shape = codes "shape"
@@ -41,21 +41,21 @@ book_cause book.Name = codes "name"
 book_cause book.NameTwice = codes "name twice"
 book_cause book.UnknownOwner = codes "unknown owner"
 
--- the cause of a payment file's offence
+-- the cause of a payment file's fault
 abbrev pub payments_cause : PaymentsWhy → List ℕ
 payments_cause payments.Shape = codes "shape"
 payments_cause payments.Number = codes "number"
 payments_cause payments.UnknownAccount = codes "unknown account"
 payments_cause payments.TooManyCalls = codes "too many calls"
 
--- the cause of a schedule's offence
+-- the cause of a schedule's fault
 abbrev pub schedule_cause : ScheduleWhy → List ℕ
 schedule_cause schedule.TooManyTurns = codes "too many turns"
 schedule_cause schedule.Shape = codes "shape"
 schedule_cause schedule.Number = codes "number"
 schedule_cause schedule.UnknownProcess = codes "unknown process"
 
--- the cause of an offence of a file of deliveries
+-- the cause of a fault of a file of deliveries
 abbrev pub order_cause : OrderWhy → List ℕ
 order_cause order.TooManyDeliveries = codes "too many deliveries"
 order_cause order.Shape = codes "shape"
@@ -63,7 +63,7 @@ order_cause order.Number = codes "number"
 order_cause order.UnknownProcess = codes "unknown process"
 order_cause order.UnknownMessage = codes "unknown message"
 
--- the cause of a message file's offence
+-- the cause of a message file's fault
 abbrev pub messages_cause : MessagesWhy → List ℕ
 messages_cause messages.TooManyMessages = codes "too many messages"
 messages_cause messages.Shape = codes "shape"
@@ -76,24 +76,24 @@ abbrev pub usage_text : UsageFault → List ℕ
 usage_text usage.Words = codes "usage: run BOOK PAY... | check BOOK PAY... | make NUMBER PROCESSES CALLS"
 usage_text (usage.Files wanted given) = codes "files: wanted " ++ decimal wanted ++ codes ", given " ++ decimal given
 
--- an offence in a file: its line and cause
-abbrev pub offence_text : ℕ → List ℕ → List ℕ
-offence_text line cause = codes ": line " ++ decimal line ++ codes ": " ++ cause
+-- a fault in a file: its line and cause
+abbrev pub line_and_cause : ℕ → List ℕ → List ℕ
+line_and_cause line cause = codes ": line " ++ decimal line ++ codes ": " ++ cause
 
 -- what is said of each refusal, and nothing of a run that is done
 abbrev pub fault_words : Status → List ℕ
 fault_words Done = []
 fault_words (Usage fault) = usage_text fault
-fault_words (BadBook bad) = codes "book" ++ offence_text bad.line (book_cause bad.why)
-fault_words (BadPayments process bad) = codes "payments " ++ decimal process ++ offence_text bad.line (payments_cause bad.why)
+fault_words (BadBook bad) = codes "book" ++ line_and_cause bad.line (book_cause bad.why)
+fault_words (BadPayments process bad) = codes "payments " ++ decimal process ++ line_and_cause bad.line (payments_cause bad.why)
 fault_words (ReadFault file) = codes "read fault: file " ++ decimal file
 fault_words WriteFault = codes "write fault"
 fault_words NoMemory = codes "no memory"
 fault_words (TooLong file) = codes "too long: file " ++ decimal file
-fault_words (BadSchedule line why) = codes "schedule" ++ offence_text line (schedule_cause why)
-fault_words (BadOrder line why) = codes "order" ++ offence_text line (order_cause why)
-fault_words (BadMessages process line why) = codes "messages " ++ decimal process ++ offence_text line (messages_cause why)
-fault_words (NotLegal line) = codes "report" ++ offence_text line (codes "not legal")
+fault_words (BadSchedule line why) = codes "schedule" ++ line_and_cause line (schedule_cause why)
+fault_words (BadOrder line why) = codes "order" ++ line_and_cause line (order_cause why)
+fault_words (BadMessages process line why) = codes "messages " ++ decimal process ++ line_and_cause line (messages_cause why)
+fault_words (NotLegal line) = codes "report" ++ line_and_cause line (codes "not legal")
 
 -- the line of a refusal, with its newline
 abbrev pub fault_line : Status → List ℕ

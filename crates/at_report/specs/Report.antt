@@ -13,8 +13,8 @@ use Rattle.at_files.specs.Names.{NameList, account_name}
 use Rattle.at_report.specs.Lines.{Words, journal_words, line_text, lines_text}
 
 -- how many lines there are, and then each
-abbrev pub journal_lines : NameList → List Line → List Words
-journal_lines names lines = (codes "journal" ∷ decimal (length lines) ∷ []) ∷ map (journal_words names) lines
+abbrev pub printed_journal : NameList → List Line → List Words
+printed_journal names lines = (codes "journal" ∷ decimal (length lines) ∷ []) ∷ map (journal_words names) lines
 
 -- the name and the balance of an account
 abbrev pub balance_words : NameList → LedgerState → ℕ → Words
@@ -32,7 +32,7 @@ audit_lines names s =
 
 -- the journal, and the audit of the state after all its lines
 abbrev pub report_text : BookTerms → NameList → List Line → List ℕ
-report_text b names lines = lines_text (journal_lines names lines ++ audit_lines names (last_state b lines))
+report_text b names lines = lines_text (printed_journal names lines ++ audit_lines names (last_state b lines))
 
 -- how many processes and accounts a book has, and how many calls its files have
 abbrev pub checked_line : BookTerms → ℕ → List ℕ

@@ -13,12 +13,12 @@ use Rattle.at_report.specs.Lines.{Words, lines_text}
 use Rattle.at_report.specs.Report.{audit_lines}
 
 -- whether the amounts were moved
-abbrev pub is_done : Reply → Bool
-is_done Done = true
-is_done Short = false
-is_done NotOwner = false
-is_done Full = false
-is_done (Balance n) = false
+abbrev pub is_done_reply : Reply → Bool
+is_done_reply Done = true
+is_done_reply Short = false
+is_done_reply NotOwner = false
+is_done_reply Full = false
+is_done_reply (Balance n) = false
 
 -- whether nothing is to be moved
 abbrev pub is_read : Call → Bool
@@ -28,7 +28,7 @@ is_read (Pay from targets) = false
 
 -- how many lines have the reply Done
 abbrev pub done_in : List Line → ℕ
-done_in lines = count_by (λ l. is_done l.reply) lines
+done_in lines = count_by (λ l. is_done_reply l.reply) lines
 
 -- how many lines are reads
 abbrev pub read_in : List Line → ℕ

@@ -1,7 +1,7 @@
 //! The one line of each refusal, which takes no memory.
 
 ghost use Rattle.std.specs.Prelude.{◌≡◌, ◌+◌, ◌≤◌, [], ◌++◌, length, decimal};
-ghost use Rattle.at_report.specs.FaultText.{fault_line, limit_text, book_cause, payments_cause, schedule_cause, order_cause, messages_cause, usage_text, offence_text, fault_words};
+ghost use Rattle.at_report.specs.FaultText.{fault_line, limit_text, book_cause, payments_cause, schedule_cause, order_cause, messages_cause, usage_text, line_and_cause, fault_words};
 
 use crate::status::{MessagesWhy, OrderWhy, ScheduleWhy, Status, UsageFault};
 use arrayvec::ArrayVec;
@@ -112,10 +112,10 @@ fn push_decimal(out: &mut FaultText, n: u64)
     push_text(out, itoa::Buffer::new().format(n));
 }
 
-fn push_offence(out: &mut FaultText, line: u32, cause: &str)
+fn push_line_and_cause(out: &mut FaultText, line: u32, cause: &str)
     requires room { length out.old.items + 60 ≤ 256 }
     requires short { length cause.now ≤ 20 }
-    ensures text { out.new.items ≡ out.old.items ++ offence_text line cause.now }
+    ensures text { out.new.items ≡ out.old.items ++ line_and_cause line cause.now }
     ensures short { length out.new.items ≤ length out.old.items + 60 }
 {
     push_text(out, ": line ");
@@ -136,21 +136,21 @@ fn push_numbered(out: &mut FaultText, text: &str, n: u64)
 fn push_bad(out: &mut FaultText, text: &str, line: u32, cause: &str)
     requires room { length out.old.items + length text.now ≤ 100 }
     requires short { length cause.now ≤ 20 }
-    ensures text { out.new.items ≡ out.old.items ++ text.now ++ offence_text line cause.now }
+    ensures text { out.new.items ≡ out.old.items ++ text.now ++ line_and_cause line cause.now }
     ensures short { length out.new.items ≤ length out.old.items + length text.now + 60 }
 {
     push_text(out, text);
-    push_offence(out, line, cause);
+    push_line_and_cause(out, line, cause);
 }
 
 fn push_bad_of(out: &mut FaultText, text: &str, process: u32, line: u32, cause: &str)
     requires room { length out.old.items + length text.now ≤ 100 }
     requires short { length cause.now ≤ 20 }
-    ensures text { out.new.items ≡ out.old.items ++ text.now ++ decimal process ++ offence_text line cause.now }
+    ensures text { out.new.items ≡ out.old.items ++ text.now ++ decimal process ++ line_and_cause line cause.now }
     ensures short { length out.new.items ≤ length out.old.items + length text.now + 80 }
 {
     push_numbered(out, text, u64::from(process));
-    push_offence(out, line, cause);
+    push_line_and_cause(out, line, cause);
 }
 
 fn push_usage(out: &mut FaultText, fault: &UsageFault)

@@ -5,7 +5,7 @@ ghost use Rattle.at_ledger.specs.Call.{IsLineOn};
 ghost use Rattle.at_ledger.specs.declared.call.Line.{Line};
 ghost use Rattle.at_files.specs.Names.{AreNamesOf};
 ghost use Rattle.at_report.specs.Lines.{lines_text};
-ghost use Rattle.at_report.specs.Report.{IsPrinted, audit_lines, balance_lines, checked_line, journal_lines, report_text};
+ghost use Rattle.at_report.specs.Report.{IsPrinted, audit_lines, balance_lines, checked_line, printed_journal, report_text};
 
 use crate::NoMemory;
 use crate::lines::{push_line, push_number, push_numbered};
@@ -50,7 +50,7 @@ pub(crate) fn push_audit(
 /// Adds how many lines there are, and then each of them.
 fn push_journal(out: &mut Vec<u8>, names: &Names, lines: &[Line]) -> Result<(), NoMemory>
     requires { All (IsLineOn (length names.now.processes) (length names.now.accounts)) lines.now }
-    ensures { OnOk result (out.new.items ≡ out.old.items ++ lines_text (journal_lines names.now lines.now)) }
+    ensures { OnOk result (out.new.items ≡ out.old.items ++ lines_text (printed_journal names.now lines.now)) }
 {
     push_numbered(out, b"journal", lines.len() as u64)?;
     for line in lines {
@@ -92,8 +92,8 @@ pub fn report(
     ensures spells { IfOk result (λ text. (others : List Line) → length others < 2 ^ 64 → All (IsPrinted book.now) lines.now → All (IsPrinted book.now) others
         → text.items ≡ report_text book.now names.now others → lines.now ≡ others) }
 {
-    let _accounts = book.accounts();
-    let _lines = lines.len();
+    let _known = book.accounts();
+    let _known = lines.len();
     let text = write_report(alloc, book, names, lines)?;
     Ok(text)
 }

@@ -3,7 +3,7 @@
 ghost use Rattle.std.specs.Prelude.{◌≡◌, ◌∷◌, [], length, All, IfOk, codes, decimal};
 ghost use Rattle.at_ledger.specs.Call.{IsLineOn};
 ghost use Rattle.at_report.specs.Lines.{line_text};
-ghost use Rattle.at_report.specs.Summary.{done_in, is_done, is_read, read_in, summary_text};
+ghost use Rattle.at_report.specs.Summary.{done_in, is_done_reply, is_read, read_in, summary_text};
 
 use crate::NoMemory;
 use crate::lines::{push_number, push_numbered};
@@ -13,8 +13,8 @@ use at_files::Names;
 use at_ledger::{Book, Call, Line, Reply};
 use std::alloc::Global;
 
-fn is_done(reply: Reply) -> bool
-    ensures { result ≡ is_done reply }
+fn is_done_reply(reply: Reply) -> bool
+    ensures { result ≡ is_done_reply reply }
 {
     match reply {
         Reply::Done => true,
@@ -35,7 +35,10 @@ fn is_read(call: &Call) -> bool
 fn done_in(lines: &[Line]) -> u64
     ensures { result ≡ done_in lines.now }
 {
-    lines.iter().filter(|line| is_done(line.reply)).count() as u64
+    lines
+        .iter()
+        .filter(|line| is_done_reply(line.reply))
+        .count() as u64
 }
 
 /// How many lines are reads.

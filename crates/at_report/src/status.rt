@@ -13,7 +13,7 @@ pub enum UsageFault {
     Files { wanted: u32, given: u64 },
 }
 
-/// The cause of a schedule's first offence.
+/// The cause of a schedule's first fault.
 #[derive(Clone, Copy, Debug, PartialEq, Eq)]
 pub enum ScheduleWhy {
     TooManyTurns,
@@ -22,7 +22,7 @@ pub enum ScheduleWhy {
     UnknownProcess,
 }
 
-/// The cause of the first offence of a file of deliveries.
+/// The cause of the first fault of a file of deliveries.
 #[derive(Clone, Copy, Debug, PartialEq, Eq)]
 pub enum OrderWhy {
     TooManyDeliveries,
@@ -32,7 +32,7 @@ pub enum OrderWhy {
     UnknownMessage,
 }
 
-/// The cause of a message file's first offence.
+/// The cause of a message file's first fault.
 #[derive(Clone, Copy, Debug, PartialEq, Eq)]
 pub enum MessagesWhy {
     TooManyMessages,

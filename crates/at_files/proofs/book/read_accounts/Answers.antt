@@ -1,6 +1,6 @@
 use Rattle.std.proofs.Common.{Err, ◌∙◌, ap, sym, arith}
 use Rattle.at_files.proofs.BookWalk.{Added-more, Added-bad, Added-end, Added-full}
-use Rattle.at_files.proofs.Offences.{Bad-same, Err-same}
+use Rattle.at_files.proofs.Faults.{Bad-same, Err-same}
 use Rattle.at_files.proofs.book.read_accounts.Goals as goal
 
 pub returns-then-not-found-clause-ok : goal.returns-then-not-found-clause-ok
@@ -15,8 +15,8 @@ returns-then-found-clause-bad c = λ b same.
 
 pub returns-in-Err-clause-bad : goal.returns-in-Err-clause-bad
 returns-in-Err-clause-bad c = λ b same.
-    Added-bad _ c.loop-account.begun _ _ _ _ _ b c.loop-account.invariant c.in-Ok.ensures.ok c.if-not-found.false (c.add_row.ensures.bad b (c.in-Err.is ∙ Err-same _ _ same))
+    Added-bad _ c.loop-account.begun _ _ _ _ _ b c.loop-account.invariant c.in-Ok.ensures.ok c.if-not-found.false (c.add_record.ensures.bad b (c.in-Err.is ∙ Err-same _ _ same))
 
 pub loop-account-preserved : goal.loop-account-preserved
 loop-account-preserved c =
-    Added-more _ c.loop-account.begun _ _ _ _ _ c.add_row.new.begun c.loop-account.invariant c.in-Ok.ensures.ok c.if-not-found.false c.in_default-add_row.ensures.ok c.in_default-add_row.ensures.names
+    Added-more _ c.loop-account.begun _ _ _ _ _ c.add_record.new.begun c.loop-account.invariant c.in-Ok.ensures.ok c.if-not-found.false c.in_default-add_record.ensures.ok c.in_default-add_record.ensures.names

@@ -1,11 +1,11 @@
 use Rattle.std.proofs.Common.{Err, ◌∙◌, ap}
 use Rattle.at_files.proofs.BookAccepted.{Spells-not_bad}
-use Rattle.at_files.proofs.BookSpelled.{Spells-book_of_rows}
+use Rattle.at_files.proofs.BookSpelled.{Spells-book_of_records}
 use Rattle.at_files.proofs.book.read_book.Goals as goal
 
 pub returns-in-Ok-clause-spelled : goal.returns-in-Ok-clause-spelled
-returns-in-Ok-clause-spelled c = Spells-book_of_rows _ c.in-Ok.read.0 c.in-Ok.read.1 (rw c.new-rows.ensures at c.in-Ok.ensures.ok) c.in-Ok.ensures.checked c.in-Ok.ensures.names
+returns-in-Ok-clause-spelled c = Spells-book_of_records _ c.in-Ok.read.0 c.in-Ok.read.1 (rw c.new-records.ensures at c.in-Ok.ensures.ok) c.in-Ok.ensures.checked c.in-Ok.ensures.names
 
 pub returns-clause-accepts : goal.returns-clause-accepts
 returns-clause-accepts c = λ b names spells.
-    Spells-not_bad b names _ c.in-Err.fault spells (λ bad same. rw c.new-rows.ensures at (c.read_terms.ensures.bad bad (c.in-Err.is ∙ ap Err same)))
+    Spells-not_bad b names _ c.in-Err.fault spells (λ bad same. rw c.new-records.ensures at (c.read_terms.ensures.bad bad (c.in-Err.is ∙ ap Err same)))

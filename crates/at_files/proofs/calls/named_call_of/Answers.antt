@@ -5,8 +5,8 @@ pub returns-then-has_shape : goal.returns-then-has_shape
 returns-then-has_shape c =
     c.named_transfer.ensures
     ∙ rw (
-      c.find.ensures.place,
-      c.find-then-has_shape.ensures.place,
+      c.find.ensures.position,
+      c.find-then-has_shape.ensures.position,
       c.number_at.ensures,
       c.field_of.ensures,
       c.field_of-then-has_shape.ensures,

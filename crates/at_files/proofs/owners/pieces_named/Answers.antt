@@ -3,7 +3,7 @@ use Rattle.std.proofs.lemmas.List.{length_push}
 use Rattle.std.proofs.lemmas.Iterator.Splits.{YieldsList-from_slice_split}
 use Rattle.std.proofs.lemmas.Iterator.Consumers.{YieldsList-at, YieldsList-turn, YieldsList-end}
 use Rattle.at_files.specs.BookFile.{at_line}
-use Rattle.at_files.proofs.Offences.{Bad-same}
+use Rattle.at_files.proofs.Faults.{Bad-same}
 use Rattle.at_files.proofs.OwnerNames.{AreNamed-more, AreNamed-bad, AreNamed-end}
 use Rattle.at_files.proofs.owners.pieces_named.Goals as goal
 
@@ -17,7 +17,7 @@ loop-piece-preserved c =
     let pushed : c.push.new.self.items ≡ c.loop-piece.owners.items ++ c.in-Ok.owner ∷ [] =
     c.push.ensures.items ∙ rw (c.is_err.ensures.negation, c.if-is_err.false) refl in
     rw (pushed, length_push c.loop-piece.yielded c.in-Some.piece)
-    (AreNamed-more _ _ _ _ _ _ c.in-Some.piece.now _ c.loop-piece.invariant turn (rw (c.len.ensures, c.loop-piece.owners.ok.0, c.place.ensures.place) at (sym c.owner_known.ensures.known ∙ c.in-Ok.is)))
+    (AreNamed-more _ _ _ _ _ _ c.in-Some.piece.now _ c.loop-piece.invariant turn (rw (c.len.ensures, c.loop-piece.owners.ok.0, c.position.ensures.position) at (sym c.owner_known.ensures.known ∙ c.in-Ok.is)))
 
 pub returns-in-Err-clause-bad : goal.returns-in-Err-clause-bad
 returns-in-Err-clause-bad c = λ b same.
@@ -26,7 +26,7 @@ returns-in-Err-clause-bad c = λ b same.
     (YieldsList-from_slice_split _ (λ byte. byte == 32) c.args.text.now c.split-piece-items.ensures.rest c.split-piece-items.ensures.done c.split-piece-items.ensures.closure
     (λ x r q k. search (rules, tests))))
     c.loop-piece.yielded _ c.loop-piece.yielded_by _ _ c.in-Some.piece c.in-Some.is c.next.ensures.steps in
-    ap (at_line (c.args.account + 4)) (AreNamed-bad _ _ _ _ _ _ c.in-Some.piece.now c.in-Err.why c.loop-piece.invariant turn (rw (c.len.ensures, c.loop-piece.owners.ok.0, c.place.ensures.place) at (sym c.owner_known.ensures.known ∙ c.in-Err.is)))
+    ap (at_line (c.args.account + 4)) (AreNamed-bad _ _ _ _ _ _ c.in-Some.piece.now c.in-Err.why c.loop-piece.invariant turn (rw (c.len.ensures, c.loop-piece.owners.ok.0, c.position.ensures.position) at (sym c.owner_known.ensures.known ∙ c.in-Err.is)))
     ∙ ap Err (Bad-same _ b (ap Err (sym c.bad_book.ensures) ∙ same))
 
 pub returns-clause-ok : goal.returns-clause-ok

@@ -6,7 +6,7 @@ use Rattle.at_files.proofs.payments.read_payments.Goals as goal
 
 pub loop-line-init : goal.loop-line-init
 loop-line-init c =
-    rw (c.new-calls.ensures.items, c.new-rows.ensures)
+    rw (c.new-calls.ensures.items, c.new-records.ensures)
     (Walked-start _ _)
 
 pub loop-line-preserved : goal.loop-line-preserved

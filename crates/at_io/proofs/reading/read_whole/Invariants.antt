@@ -1,4 +1,5 @@
 use Rattle.std.proofs.Common.{◌≡◌, ◌+◌, ◌-◌, ◌≤◌, Bool, true, List, ℕ, ◌++◌, length, Option}
+use Rattle.at_io.specs.Limits.{most_file_bytes}
 use Rattle.at_io.specs.Shelf.{SameFiles}
 use Rattle.at_io.proofs.reading.read_whole.Given as goal
 
@@ -23,7 +24,7 @@ invariant-loop-buffer g l =
     (g.F.Shelf.rest l.fn.shelf)
     l.out.items
     (g.F.Shelf.rest l.shelf)
-    8388608
+    most_file_bytes
 
 abbrev pub decreases-loop-buffer : goal.decreases-loop-buffer
-decreases-loop-buffer g l = 8388608 + 1 - length l.out.items
+decreases-loop-buffer g l = most_file_bytes + 1 - length l.out.items

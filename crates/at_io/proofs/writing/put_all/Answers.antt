@@ -8,7 +8,7 @@ use Rattle.at_io.proofs.writing.put_all.Goals as goal
 slice_range-length : (xs : List ℕ) (at : ℕ) → slice_range xs at (length xs) ≡ drop at xs
 slice_range-length xs at = grind (arith, common_steps)
 
--- a front, and then a front of the rest, are a longer front
+-- a prefix, and then a prefix of the rest, are a longer prefix
 take-further : (old mid new bytes : List ℕ) (at n : ℕ) →
     mid ≡ old ++ take at bytes →
     new ≡ mid ++ take n (slice_range bytes at (length bytes)) →
@@ -25,5 +25,5 @@ loop-at-preserved g c =
       taken = λ told.
           take-further _ _ _ _ _ _
           (c.loop-at.invariant.taken told)
-          (c.in-Ok.ensures.front (cc (c.loop-at.invariant.as_told, told)));
+          (c.in-Ok.ensures.prefix (cc (c.loop-at.invariant.as_told, told)));
     }

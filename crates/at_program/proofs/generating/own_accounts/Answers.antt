@@ -1,4 +1,4 @@
-use Rattle.at_program.proofs.GeneratedBook.{account_fault-own, with_account-book_begun}
+use Rattle.at_program.proofs.GeneratedBook.{account_fault-own, with_account-book_of_own_accounts}
 use Rattle.at_program.proofs.generating.own_accounts.Goals as goal
 
 pub add_account-requires : goal.add_account-requires
@@ -8,5 +8,5 @@ add_account-requires c =
 
 pub loop-process-preserved : goal.loop-process-preserved
 loop-process-preserved c =
-    let more = with_account-book_begun c.args.processes c.args.calls c.loop-process.process in
+    let more = with_account-book_of_own_accounts c.args.processes c.args.calls c.loop-process.process in
     rw (c.in_ok-add_account.ensures, c.loop-process.invariant, c.from-room.ensures, c.from-in-loop-process.ensures) more

@@ -15,7 +15,7 @@ loop-process-init g c =
     record {
       same = record { as_told = refl; files = refl };
       kept = refl;
-      front = λ told. rw none (files_loaded-nil (g.F.Shelf.file c.args.shelf.now) c.args.names.now);
+      prefix = λ told. rw none (files_loaded-nil (g.F.Shelf.file c.args.shelf.now) c.args.names.now);
       spelled = λ told p below. absurd (omega (arith, ap (λ (xs : List (List Call)). length xs) none));
       known = λ k d below. absurd (omega (arith, ap (λ (xs : List (List Call)). length xs) none));
       count = ap (λ (xs : List (Vec Call Global)). length xs) c.new-files.ensures.items;
@@ -31,7 +31,7 @@ returns-in-Err-clause-err g c =
     get_or-words_of c.args.payments.now c.loop-process.process c.index-payments-process.result within c.index-payments-process.is ∙ sym c.as_str.ensures.value in
     let part = rw (before.same.as_told, before.same.files, before.kept, ← name) at c.in-Err.ensures.err in
     MayRefuse-whole _ _ _ _ _ c.in-Err.refusal
-    (λ told refused. files_loaded-refused_at (g.F.Shelf.file c.args.shelf.now) c.args.names.now words c.loop-process.process _ c.in-Err.refusal within_words (before.front told) refused)
+    (λ told refused. files_loaded-refused_at (g.F.Shelf.file c.args.shelf.now) c.args.names.now words c.loop-process.process _ c.in-Err.refusal within_words (before.prefix told) refused)
     part
 
 pub loop-process-preserved : goal.loop-process-preserved
@@ -50,9 +50,9 @@ loop-process-preserved g c =
     record {
       same = record { as_told = done.files.as_told ∙ before.same.as_told; files = done.files.files ∙ before.same.files };
       kept = done.kept ∙ before.kept;
-      front = λ told. rw pushed
+      prefix = λ told. rw pushed
           (files_loaded-take_more (g.F.Shelf.file c.args.shelf.now) c.args.names.now words c.loop-process.process (calls_of c.loop-process.files.items) calls within_words
-          (before.front told) (rw (before.same.files, ← name) at (done.ok (before.same.as_told ∙ told))));
+          (before.prefix told) (rw (before.same.files, ← name) at (done.ok (before.same.as_told ∙ told))));
       spelled = λ told. rw pushed
           (EachSpells-push (g.F.Shelf.file c.args.shelf.now) words c.args.book.now c.args.names.now (calls_of c.loop-process.files.items) calls
           (before.spelled told) (rw (count, name, ← before.same.files) (done.spelled (before.same.as_told ∙ told))));

@@ -8,7 +8,7 @@ abbrev pub invariant-loop-process : goal.invariant-loop-process
 invariant-loop-process g l = record {
   same : SameFiles (g.F.Shelf.tells l.fn.shelf) (g.F.Shelf.tells l.shelf) (g.F.Shelf.file l.fn.shelf) (g.F.Shelf.file l.shelf);
   kept : g.F.Shelf.faults l.shelf ≡ g.F.Shelf.faults l.fn.shelf;
-  front : g.F.Shelf.tells l.fn.shelf ≡ true
+  prefix : g.F.Shelf.tells l.fn.shelf ≡ true
       → files_loaded (g.F.Shelf.file l.fn.shelf) l.names 0 (take l.process (words_of l.payments)) ≡ Ok (calls_of l.files.items);
   spelled : g.F.Shelf.tells l.fn.shelf ≡ true
       → EachSpells (g.F.Shelf.file l.fn.shelf) (words_of l.payments) l.book l.names (calls_of l.files.items);

@@ -34,6 +34,6 @@ returns-clause-total c =
     let opened : c.in_ok-state.state ≡ opening_state c.args.book.now = c.in_ok-state.ensures in
     let last : c.play_each.new.state ≡ state_after_files (opening_state c.args.book.now) 0 files = rw opened at c.in_ok-play_each.ensures.state in
     let book : c.play_each.new.state.book ≡ c.args.book.now = c.play_each.ensures.book ∙ ap (λ (s : LedgerState). s.book) opened in
-    let total : sum c.play_each.new.state.balances ≡ total_of c.args.book.now = sym c.total.ensures.balances ∙ c.total.ensures.openings ∙ ap total_of book in
+    let total : sum c.play_each.new.state.balances ≡ total_of c.args.book.now = sym c.total-known.ensures.balances ∙ c.total-known.ensures.openings ∙ ap total_of book in
     rw (c.in_ok-play_each.ensures.lines, c.new-lines.ensures.items, opened)
     (ap (λ (s : LedgerState). sum s.balances) (last_state-files_played c.args.book.now files ∙ sym last) ∙ total)

@@ -1,11 +1,11 @@
 use Rattle.std.proofs.Common.{not, sym, ap, ◌∙◌}
-use Rattle.at_files.proofs.NameSetLaws.{AreHeld-add, insert_key-map, has_name-map}
+use Rattle.at_files.proofs.NameSetLaws.{IsNameSet-add, insert_key-map, has_name-map}
 use Rattle.at_files.proofs.name_set.NameSet.add.Goals as goal
 
 pub invariant_of-self-2 : goal.invariant_of-self-2
 invariant_of-self-2 c =
     rw (c.in-Ok.ensures.keys, insert_key-map (λ name. name.items) c.self.inside.names.keys c.in-Some.name c.args.text.now c.in-Some.ensures.some)
-    (AreHeld-add _ c.args.text.now c.self.invariant c.requires)
+    (IsNameSet-add _ c.args.text.now c.self.invariant c.requires)
 
 pub returns-clause-added : goal.returns-clause-added
 returns-clause-added c =

@@ -5,7 +5,7 @@ use Rattle.at_ledger.proofs.builder.BookBuilder.checked.Goals as goal
 
 pub returns-clause-sums : goal.returns-clause-sums
 returns-clause-sums c =
-    let place : c.len-place.result ≡ length c.self.inside.accounts.items = search rules in
+    let position : c.len-position.result ≡ length c.self.inside.accounts.items = search rules in
     let s = rw c.in_ok-owners.ensures.ok at c.in_ok-sums.ensures in
     IsSummed-with_account c.args.self.now (terms_with c.args.opening c.args.owners.now) _ _ c.is_full.ensures.checked
-    (grind arith) (rw (← c.self.view_is, ← place) c.in_ok-owners.ensures.good) s.good s.rounds s.total
+    (grind arith) (rw (← c.self.view_is, ← position) c.in_ok-owners.ensures.good) s.good s.rounds s.total

@@ -8,20 +8,20 @@ use Rattle.at_base.specs.Numbers.{number_of}
 abbrev pub Fields : Type 0
 Fields = List (List ℕ)
 
--- what stands in front of others, if all of them are there
+-- what stands before others, if all of them are there
 abbrev pub before : {A : Type 0} → Option A → Option (List A) → Option (List A)
 before (Some x) (Some later) = Some (x ∷ later)
 before _ _ = None
 
 -- the records of a file: comma, double quote, no headers, any number of fields, and no byte order mark at its start
-abbrev pub rows_of : List ℕ → List Fields
-rows_of bytes = records default_config (strip_bom bytes)
+abbrev pub records_of : List ℕ → List Fields
+records_of bytes = records default_config (strip_bom bytes)
 
--- the field at a place, from 0, and no byte past the last field
+-- the field at a position, from 0, and no byte past the last field
 abbrev pub field_of : Fields → ℕ → List ℕ
 field_of fields i = unwrap_or (field_at fields i) []
 
--- the number that the field at a place is
+-- the number that the field at a position is
 abbrev pub number_at : Fields → ℕ → Option ℕ
 number_at fields i = number_of (field_of fields i)
 

@@ -1,6 +1,6 @@
 use Rattle.at_ledger.specs.Draft.{terms_with}
-use Rattle.at_files.proofs.AccountLaws.{length-numbered, with_plain_row-built}
-use Rattle.at_files.proofs.accounts.add_plain_row.Goals as goal
+use Rattle.at_files.proofs.AccountLaws.{length-numbered, with_plain_record-built}
+use Rattle.at_files.proofs.accounts.add_plain_record.Goals as goal
 
 pub add-requires : goal.add-requires
 add-requires c =
@@ -10,7 +10,7 @@ add-requires c =
 pub returns-clause-ok : goal.returns-clause-ok
 returns-clause-ok c =
     rw (← c.begun.view_is)
-    (with_plain_row-built _ _ (terms_with c.in-Ok-numbered_terms.terms.0 c.in-Ok-numbered_terms.terms.1.items) _ _ c.in-Ok-add._added
+    (with_plain_record-built _ _ (terms_with c.in-Ok-numbered_terms.terms.0 c.in-Ok-numbered_terms.terms.1.items) _ _ c.in-Ok-add._added
     (rw (← c.begun.view_is) at c.requires.names) (rw (← c.begun.view_is) at c.requires.version)
     (rw (c.requires.account, c.number_at.ensures, c.number_at-2.ensures, c.in-Ok.ensures, c.field_of.ensures, ← c.begun.view_is) at c.in-Ok-numbered_terms.ensures.ok)
     (rw c.deref.ensures.value at c.in_default-add_terms.ensures.ok) (rw c.field_of-2.ensures at c.in-Ok-add.ensures.added) (rw c.field_of-2.ensures at c.in-Ok-add.ensures.names))

@@ -1,7 +1,7 @@
 use Rattle.std.proofs.Common.{sym}
 use Rattle.at_files.specs.Reading.{IsBetweenRecords}
-use Rattle.at_files.proofs.RowLaws.{rows_left-read, IsBetweenRecords-read}
-use Rattle.at_files.proofs.rows.Rows.next.Goals as goal
+use Rattle.at_files.proofs.RecordLaws.{records_left-read, IsBetweenRecords-read}
+use Rattle.at_files.proofs.records.Records.next.Goals as goal
 
 pub invariant_of-self-2 : goal.invariant_of-self-2
 invariant_of-self-2 c =
@@ -11,4 +11,4 @@ invariant_of-self-2 c =
 pub returns-clause-ok : goal.returns-clause-ok
 returns-clause-ok c =
     let is : IsBetweenRecords c.self.inside.reader = c.self.invariant c.if-self.false in
-    rows_left-read _ c.self.inside.reader c.read_byte_record.new.self _ _ _ c.if-self.false (sym c.self.view_is) is (c.in-Ok.ensures.reads is.trim is.ready)
+    records_left-read _ c.self.inside.reader c.read_byte_record.new.self _ _ _ c.if-self.false (sym c.self.view_is) is (c.in-Ok.ensures.reads is.trim is.ready)

@@ -1,7 +1,7 @@
 use Rattle.std.proofs.Common.{◌∙◌, arith}
-use Rattle.at_files.proofs.Offences.{Err-same}
+use Rattle.at_files.proofs.Faults.{Err-same}
 use Rattle.at_files.proofs.ProcessLaws.{with_processes-bad, with_processes-end, with_processes-more}
-use Rattle.at_files.proofs.records.names_of_processes.Goals as goal
+use Rattle.at_files.proofs.first_records.names_of_processes.Goals as goal
 
 pub returns-in-Err-clause-bad : goal.returns-in-Err-clause-bad
 returns-in-Err-clause-bad c = λ b same.

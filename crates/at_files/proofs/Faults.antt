@@ -1,4 +1,4 @@
--- The offences that answers carry.
+-- The faults that answers carry.
 use Rattle.std.proofs.Common.{◌≡◌, Result, Err, ap}
 use Rattle.at_files.specs.declared.book_fault.BadBook.{BadBook}
 use Rattle.at_files.specs.declared.book_fault.ReadBookFault.{ReadBookFault}

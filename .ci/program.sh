@@ -1,0 +1,95 @@
+#!/bin/sh
+# Runs the built program as its users do, and looks at the status and at both streams. It prints a line for each case,
+# and last 'N passed, N failed'.
+#
+#   program.sh [PROGRAM]          the program is crates/at_program/out/at_program where none is named
+
+root=$(CDPATH='' cd -- "$(dirname -- "$0")/.." && pwd) || exit 2
+program=${1:-$root/crates/at_program/out/at_program}
+examples=$root/examples
+usual=$examples/usual
+work=$(mktemp -d) || exit 2
+trap 'rm -rf -- "$work"' EXIT
+cd -- "$work" || exit 2
+passed=0
+failed=0
+
+run() {
+    "$program" "$@" >out 2>err
+    status=$?
+}
+
+count() {
+    if [ "$1" = yes ]; then
+        passed=$((passed + 1))
+        echo "ok: $2"
+    else
+        failed=$((failed + 1))
+        echo "FAILED: $2: status $status, $(wc -c <out) bytes on the output, on the error output: $(cat err)"
+    fi
+}
+
+# All was done, and the output is that file.
+printed() {
+    [ "$status" -eq 0 ] && [ ! -s err ] && cmp -s "$2" out && good=yes || good=no
+    count "$good" "$1"
+}
+
+# It was refused with that status and line on the error output, and with nothing on the output.
+refused() {
+    printf '%s\n' "$3" >line
+    [ "$status" -eq "$2" ] && [ ! -s out ] && cmp -s line err && good=yes || good=no
+    count "$good" "$1"
+}
+
+for name in usual owners realistic; do
+    run run "$examples/$name/book.csv" "$examples/$name"/pay*.csv
+    printed "the example $name" "$examples/$name/$name.report"
+done
+run run "$examples/household/book.csv" "$examples/household/ann.csv" "$examples/household/bob.csv"
+printed 'the example household' "$examples/household/household.report"
+
+yes read,0 | head -n 16384 >reads.csv
+echo 'checked 1 2 16384' >checked
+run check "$usual/book.csv" reads.csv
+printed 'a file of many pieces' checked
+
+usage='usage: run BOOK PAY... | check BOOK PAY... | make NUMBER PROCESSES CALLS'
+run --help
+refused 'words of no form' 2 "$usage"
+run run "$(printf '\377')"
+refused 'words that are not text' 2 "$usage"
+run run "$usual/book.csv"
+refused 'too few files' 2 'files: wanted 1, given 0'
+run run "$usual/pay0.csv" "$usual/pay0.csv"
+refused 'a bad book' 3 'book: line 1: shape'
+run run "$usual/book.csv" "$usual/book.csv"
+refused 'bad payments' 4 'payments 0: line 1: shape'
+run run "$usual/book.csv" nothing
+refused 'a missing file' 5 'read fault: file 1'
+run run . "$usual/pay0.csv"
+refused 'a folder, which cannot be read' 5 'read fault: file 0'
+head -c 8388609 /dev/zero >long.csv
+run run "$usual/book.csv" long.csv
+refused 'a file that is too long' 8 'too long: file 1'
+
+: >out
+"$program" run "$usual/book.csv" "$usual/pay0.csv" >/dev/full 2>err
+status=$?
+refused 'a full device' 6 'write fault'
+{
+    "$program" run "$usual/book.csv" reads.csv 2>err
+    echo $? >ended
+} | head -c 1 >first
+status=$(cat ended)
+refused 'an output that closes early' 6 'write fault'
+"$program" run nothing 2>/dev/full >out
+status=$?
+printf 'read fault: file 0\n' >err
+refused 'an error output that is full' 5 'read fault: file 0'
+(ulimit -v 12000 && exec "$program" run "$usual/book.csv" long.csv) >out 2>err
+status=$?
+refused 'too little memory' 7 'no memory'
+
+echo "$passed passed, $failed failed"
+[ "$failed" -eq 0 ]
