@@ -12,3 +12,4 @@ pub mod LogRoom
 pub mod Publish
 pub mod LoadRequestWord
 pub mod LoadRecordWord
+pub mod Forms

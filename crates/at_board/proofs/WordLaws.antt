@@ -5,3 +5,4 @@ pub mod Slots
 pub mod Packed
 pub mod Cells
 pub mod Same
+pub mod Unpacked

@@ -63,5 +63,7 @@ pub use crate::knowledge::{
 };
 pub use crate::note::BoardNote;
 pub use crate::seat::BoardSeat;
-pub use crate::words::{RECORD_WORDS, REQUEST_WORDS, pack_targets, unpack_targets};
+pub use crate::words::{
+    RECORD_WORDS, REQUEST_WORDS, entry_of, pack_targets, record_word, targets_from, unpack_targets,
+};
 pub use at_history::{Cell, Entry, Publication, Request};

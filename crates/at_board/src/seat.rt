@@ -33,6 +33,8 @@ impl Model for BoardSeat {
 impl BoardSeat {
     ghost use Rattle.at_board.specs.Knowledge.Seats.{IsSeat};
     ghost use Rattle.at_board.specs.Knowledge.Parts.{own_part};
+    ghost use Rattle.at_board.specs.Knowledge.Records.{SeesForms};
+    ghost use Rattle.at_board.specs.Steps.Publish.{FitsNext};
 
     /// The process that the seat belongs to. The call makes no step. It tells a proof what the seat's type keeps.
     pub fn process(&self) -> u32
@@ -46,6 +48,8 @@ impl BoardSeat {
     pub fn known(&self)
         ensures seat { IsSeat self.now.knows self.now.knows.first
             (own_part self.now.knows).published }
+        ensures records { SeesForms self.now.knows }
+        ensures next { FitsNext self.now.knows }
     {
         let _ = &self.process;
     }

@@ -4,20 +4,18 @@ use Rattle.std.proofs.lemmas.Grind.{same_number_lists}
 use Rattle.std.proofs.lemmas.List.{get_or-set_other, get_or-set_same, length-set}
 use Rattle.at_ledger.specs.Book.{BookTerms, log_room_of}
 use Rattle.at_history.proofs.Laws.Fronts.{length-IsFront}
-use Rattle.at_board.proofs.StepLaws.LogRoom.{published-MayEnter}
-use Rattle.at_board.proofs.KnowledgeLaws.OwnRequests.{own_part-with_part}
 use Rattle.at_history.specs.declared.publication.Publication.{Publication}
 use Rattle.at_board.specs.declared.knowledge.Part.{Part}
 use Rattle.at_board.specs.declared.knowledge.Knowledge.{Knowledge}
-use Rattle.at_board.specs.Steps.Publish.{MayPublish}
+use Rattle.at_board.specs.Steps.Publish.{FitsNext, MayPublish}
 use Rattle.at_board.specs.Steps.StoreRecordWord.{MayStoreWord}
 use Rattle.at_board.specs.Words.Addresses.{record_width}
 use Rattle.at_board.specs.Knowledge.Seats.{IsSeat}
-use Rattle.at_board.specs.Knowledge.Parts.{with_part}
+use Rattle.at_board.specs.Knowledge.Parts.{no_part, with_part}
 use Rattle.at_board.specs.Steps.Publish.{Publishes, with_record}
 use Rattle.at_board.specs.Steps.StoreRecordWord.{StoresWord, with_word}
 use Rattle.at_board.specs.Knowledge.Parts.{own_part}
-use Rattle.at_board.specs.Words.Packed.{record_words}
+use Rattle.at_board.specs.Words.Packed.{IsForm, record_words}
 use Rattle.at_log.specs.declared.record.Record.{Record}
 use Rattle.at_log.specs.Appending.{MayAppend}
 use Rattle.at_log.specs.ClosingTerms.{published_by}
@@ -46,7 +44,7 @@ pub IsStoring-more : (v u w : Knowledge) (words : List ℕ) (j n : ℕ) → 0 < 
     → n ≡ get_or words j 0 → StoresWord u w j n → IsStoring v w words (j + 1)
 IsStoring-more v u w words j n some inside storing word told =
     let q : Part = own_part v in
-    let own : own_part u ≡ with_stored q storing.stored = ap own_part storing.same ∙ own_part-with_part v (with_stored q storing.stored) some in
+    let own : own_part u ≡ with_stored q storing.stored = ap own_part storing.same ∙ get_or-set_same v.parts 0 (with_stored q storing.stored) no_part some in
     record {
       stored = set storing.stored j n;
       sized = length-set storing.stored j n ∙ storing.sized;
@@ -57,11 +55,12 @@ IsStoring-more v u w words j n some inside storing word told =
           (get_or-set_same storing.stored j n 0 (omega (arith, inside, storing.sized)) ∙ word);
     }
 
--- the log has room for the record
-pub published-MayAppend : (b : BookTerms) (v : Knowledge) (x : Record) (process published : ℕ) → v.book ≡ b → IsSeat v process published
-    → MayAppend b v x → (own_part v).published < log_room_of b v.first
-published-MayAppend b v x process published book seat may =
-    published-MayEnter b v (published_by v.first x) process published book seat refl may.view may.entry
+-- the log has room for the record, and its numbers fit its words
+pub FitsNext-MayAppend : (b : BookTerms) (v : Knowledge) (x : Record) → v.book ≡ b → FitsNext v → MayAppend b v x
+    → ((own_part v).published < log_room_of b v.first) × IsForm x.entry
+FitsNext-MayAppend b v x book fits may =
+    let law : MayAppend v.book v x = subst (λ (t : BookTerms). MayAppend t v x) (sym book) may in
+    subst (λ (t : BookTerms). ((own_part v).published < log_room_of t v.first) × IsForm x.entry) book (fits x.view x.entry law.view law.entry)
 
 -- all that a store asks
 pub MayStoreWord-IsStoring : (b : BookTerms) (v u : Knowledge) (words : List ℕ) (j k : ℕ) → 0 < length v.parts
@@ -69,7 +68,7 @@ pub MayStoreWord-IsStoring : (b : BookTerms) (v u : Knowledge) (words : List ℕ
 MayStoreWord-IsStoring b v u words j k some room storing inside =
     subst (λ t. MayStoreWord b t j) (sym storing.same)
     (record {
-      room = subst (λ (q : Part). q.published < log_room_of b v.first) (sym (own_part-with_part v (with_stored (own_part v) storing.stored) some)) room;
+      room = subst (λ (q : Part). q.published < log_room_of b v.first) (sym (get_or-set_same v.parts 0 (with_stored (own_part v) storing.stored) no_part some)) room;
       word = inside;
     })
 
@@ -82,7 +81,7 @@ pub MayPublish-IsStoring : (b : BookTerms) (v u : Knowledge) (x : Record) (j : �
 MayPublish-IsStoring b v u x j book process published seat may storing all =
     let some : 0 < length v.parts = omega (arith, seat.one_part) in
     let y : Publication = published_by v.first x in
-    let own = own_part-with_part v (with_stored (own_part v) storing.stored) some in
+    let own = get_or-set_same v.parts 0 (with_stored (own_part v) storing.stored) no_part some in
     let size : length storing.stored ≡ record_width b = storing.sized ∙ (seat.words ∙ ap record_width book) in
     let words : storing.stored ≡ record_words y = same_number_lists storing.stored (record_words y)
     (size ∙ sym (length-record_words b v x may)) (λ k within. storing.words_so_far k (omega (arith, within, size, all))) in
@@ -99,7 +98,7 @@ pub Publishes-IsStoring : (b : BookTerms) (v u w : Knowledge) (x : Publication) 
     → Publishes b u w x → Publishes b v w x
 Publishes-IsStoring b v u w x words j some storing told =
     let q : Part = own_part v in
-    let own = own_part-with_part v (with_stored q storing.stored) some in
+    let own = get_or-set_same v.parts 0 (with_stored q storing.stored) no_part some in
     let here : Publishes b (with_part v (with_stored q storing.stored)) w x = subst (λ t. Publishes b t w x) storing.same told in
     record {
       between = here.between;

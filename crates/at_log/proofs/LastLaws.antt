@@ -1,23 +1,22 @@
 -- The last record of a process's log.
 use Rattle.std.proofs.Common.{◌≡◌, ◌<◌, List, [], ◌∷◌, ◌++◌, length, sym, ap, subst, ◌∙◌, arith, length-append}
-use Rattle.std.proofs.lemmas.List.{get_or_at}
+use Rattle.std.proofs.lemmas.List.{get_or-set_same, get_or_at}
 use Rattle.at_ledger.specs.Book.{BookTerms}
 use Rattle.at_history.proofs.Laws.Counts.{publications_of-append, publications_of-nil, publications_of-own}
-use Rattle.at_board.proofs.KnowledgeLaws.OwnRequests.{own_part-with_part}
 use Rattle.at_history.specs.declared.publication.Publication.{Publication}
 use Rattle.at_board.specs.declared.knowledge.Part.{Part}
 use Rattle.at_board.specs.declared.knowledge.Knowledge.{Knowledge}
 use Rattle.at_history.specs.BoardState.{publication_at}
 use Rattle.at_history.specs.Publications.{count_of, no_publication, publications_of}
 use Rattle.at_board.specs.Steps.Publish.{Publishes, with_record}
-use Rattle.at_board.specs.Knowledge.Parts.{own_part}
+use Rattle.at_board.specs.Knowledge.Parts.{no_part, own_part}
 use Rattle.at_log.specs.LastRecord.{IsLast}
 
 -- what was published is the last of its process
 pub IsLast-Publishes : (b : BookTerms) (v w : Knowledge) (x : Publication) → 0 < length v.parts → x.process ≡ v.first → Publishes b v w x → IsLast v w x
 IsLast-Publishes b v w x part ours told =
     let first : v.first ≡ w.first = sym (ap (λ (t : Knowledge). t.first) told.same) in
-    let own = ap own_part told.same ∙ own_part-with_part (record v { seen = w.seen }) (with_record b (own_part v) x) part in
+    let own = ap own_part told.same ∙ get_or-set_same v.parts 0 (with_record b (own_part v) x) no_part part in
     let earlier : List Publication = publications_of v.first (v.seen ++ told.between) in
     let one : publications_of v.first (x ∷ []) ≡ x ∷ [] =
     subst (λ p. publications_of p (x ∷ []) ≡ x ∷ []) ours (publications_of-own x [] ∙ ap (λ ys. x ∷ ys) (publications_of-nil x.process)) in

@@ -7,8 +7,6 @@ pub mod FirstLaws
 pub mod OrderRounds
 pub mod OrderRuns
 pub mod OrderHasRuns
-pub mod FormFacts
 pub mod AppendLaws
 pub mod LastLaws
 pub mod SeenLaws
-pub mod EntryLaws

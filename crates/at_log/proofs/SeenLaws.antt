@@ -1,5 +1,5 @@
 -- What the words of a record that a seat has seen tell of it.
-use Rattle.std.proofs.Common.{◌≡◌, ℕ, ◌+◌, ◌-◌, ◌^◌, ◌<◌, ◌≤◌, List, ◌∷◌, length, get_or, set, take, refl, sym, ap, subst, ◌∙◌, arith, below_more}
+use Rattle.std.proofs.Common.{◌≡◌, ℕ, ◌+◌, ◌-◌, ◌^◌, ◌<◌, ◌≤◌, List, length, get_or, set, take, refl, sym, ap, subst, ◌∙◌, arith, below_more}
 use Rattle.std.proofs.lemmas.Grind.{same_number_lists}
 use Rattle.std.proofs.lemmas.List.{get_or-append_right, get_or-set_other, get_or-set_same}
 use Rattle.at_ledger.specs.Book.{BookTerms, IsBegun}
@@ -9,21 +9,17 @@ use Rattle.at_history.proofs.Laws.Rooms.{log_room_of-le}
 use Rattle.at_history.specs.declared.publication.Publication.{Publication}
 use Rattle.at_board.specs.declared.knowledge.Knowledge.{Knowledge}
 use Rattle.at_history.specs.BoardState.{publication_at}
-use Rattle.at_history.specs.Entries.{targets_of}
-use Rattle.at_board.specs.Words.Packed.{IsForm}
 use Rattle.at_history.specs.Fronts.{place}
 use Rattle.at_history.specs.Publications.{count_of, no_publication, publications_of}
 use Rattle.at_board.specs.Knowledge.Records.{IsRecordWord, SeesRecord}
 use Rattle.at_history.specs.Sound.{HasView}
 use Rattle.at_history.specs.Histories.{IsHistory}
-use Rattle.at_board.specs.Words.Targets.{accounts_of, targets_word}
-use Rattle.at_board.specs.Words.Packed.{amount_words, decision_word, head_of, record_words}
-use Rattle.at_log.proofs.FormFacts.{IsForm-IsHistory}
+use Rattle.at_board.specs.Words.Packed.{entry_words, record_words}
+use Rattle.at_board.specs.declared.words.TheConstants.{RECORD_WORDS}
 use Rattle.at_log.specs.Loading.{IsViewOf}
 
--- a record of a history: its numbers fit its words
-pub record IsShownRecord (b : BookTerms) (x : Publication) : Type 0 where
-  pub form : IsForm x.entry
+-- the view of a record of a history
+record IsShownRecord (b : BookTerms) (x : Publication) : Type 0 where
   pub sized : length x.view ≡ b.processes
   pub small : (q : ℕ) → q < b.processes → get_or x.view q 0 ≤ 131072
 
@@ -33,7 +29,6 @@ IsShownRecord-at b list m begun history within =
     let x : Publication = publication_at list m in
     let view : HasView b (take m list) x = history.views m within in
     record {
-      form = IsForm-IsHistory b list m begun history within;
       sized = length-IsFront b.processes x.view (take m list) view.front;
       small = λ q known. omega (
         arith,
@@ -46,7 +41,7 @@ IsShownRecord-at b list m begun history within =
     }
 
 -- record i of a process
-pub IsShownRecord-IsHistory : (b : BookTerms) (list : List Publication) (p i : ℕ) → IsBegun b → IsHistory b list → i < count_of p list
+IsShownRecord-IsHistory : (b : BookTerms) (list : List Publication) (p i : ℕ) → IsBegun b → IsHistory b list → i < count_of p list
     → IsShownRecord b (publication_at (publications_of p list) i)
 IsShownRecord-IsHistory b list p i begun history within =
     let at = position_of p i list within in
@@ -55,18 +50,17 @@ IsShownRecord-IsHistory b list p i begun history within =
     ∙ get_or-publications_of p at.0 list no_publication at.1.within (at.1.own no_publication) in
     subst (IsShownRecord b) (sym same) (IsShownRecord-at b list at.0 begun history at.1.within)
 
--- the words behind the first seven are the view's
-pub get_or-record_words : (x : Publication) (q : ℕ) → get_or (record_words x) (7 + q) 0 ≡ get_or x.view q 0
+-- the words behind the entry's are the view's
+pub get_or-record_words : (x : Publication) (q : ℕ) → get_or (record_words x) (RECORD_WORDS + q) 0 ≡ get_or x.view q 0
 get_or-record_words x q =
-    let xs : List ℕ = head_of x.entry ∷ targets_word (accounts_of (targets_of x.entry)) ∷ decision_word x.entry ∷ amount_words (targets_of x.entry) in
-    let e : 7 + q - 7 ≡ q = omega arith in
-    get_or-append_right xs x.view 7 (7 + q) 0 refl (omega arith) ∙ ap (λ k. get_or x.view k 0) e
+    let e : RECORD_WORDS + q - RECORD_WORDS ≡ q = omega arith in
+    get_or-append_right (entry_words x.entry) x.view RECORD_WORDS (RECORD_WORDS + q) 0 refl (omega arith) ∙ ap (λ k. get_or x.view k 0) e
 
 -- the first q counts of a view are those of record i of the process
 abbrev pub IsLoaded : Knowledge → ℕ → ℕ → List ℕ → ℕ → Type 0
 IsLoaded v p i view q = (k : ℕ) → k < q → get_or view k 0 ≡ get_or (publication_at (publications_of p v.seen) i).view k 0
 
-pub IsLoaded-more : (v : Knowledge) (p i : ℕ) (view : List ℕ) (q w : ℕ) → q < length view → IsLoaded v p i view q → IsRecordWord v p i (7 + q) w
+pub IsLoaded-more : (v : Knowledge) (p i : ℕ) (view : List ℕ) (q w : ℕ) → q < length view → IsLoaded v p i view q → IsRecordWord v p i (RECORD_WORDS + q) w
     → IsLoaded v p i (set view q w) (q + 1)
 IsLoaded-more v p i view q w inside loaded word =
     let x : Publication = publication_at (publications_of p v.seen) i in
@@ -83,7 +77,7 @@ IsViewOf-IsLoaded b v p i view q begun history sees sized all loaded =
 
 -- a count of a view is small
 pub small-IsRecordWord : (b : BookTerms) (v : Knowledge) (p i q w : ℕ) → IsBegun b → IsHistory b v.seen → SeesRecord v p i → q < b.processes
-    → IsRecordWord v p i (7 + q) w → w < 2 ^ 32
+    → IsRecordWord v p i (RECORD_WORDS + q) w → w < 2 ^ 32
 small-IsRecordWord b v p i q w begun history sees known word =
     let x : Publication = publication_at (publications_of p v.seen) i in
     let shown = IsShownRecord-IsHistory b v.seen p i begun history sees in

@@ -5,20 +5,21 @@
 //! them.
 #![tactic(auto)]
 
+mod append_record;
 mod closing;
-mod loading;
-mod log;
+mod load_entry_words;
+mod load_view_words;
 #[cfg(test)]
 mod log_tests;
 mod receipt;
 mod record;
 #[cfg(test)]
 mod tests;
-mod words;
 
+pub use crate::append_record::{append, room};
 pub use crate::closing::Closing;
-pub use crate::loading::{load_entry, load_view};
-pub use crate::log::{append, room};
+pub use crate::load_entry_words::load_entry;
+pub use crate::load_view_words::load_view;
 pub use crate::receipt::{At, Receipt};
 pub use crate::record::Record;
 pub use at_board::Entry;

@@ -4,7 +4,6 @@ use Rattle.std.proofs.lemmas.Bool.{cases_eq}
 use Rattle.std.proofs.lemmas.List.{get_or-set_other, get_or-set_same, length-set}
 use Rattle.std.proofs.lemmas.List.Elements.{All-weaker}
 use Rattle.std.specs.List.{All, Contains}
-use Rattle.at_ledger.specs.Account.{slot_in}
 use Rattle.at_ledger.specs.Book.{BookTerms, HasSlot}
 use Rattle.at_history.proofs.Laws.Prefixes.{IsPrefix-refl, IsPrefix-count_of}
 use Rattle.at_history.proofs.Laws.Rounds.{rounds-IsPrefix}

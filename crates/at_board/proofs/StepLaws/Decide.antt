@@ -1,5 +1,5 @@
 -- An exchange on a cell keeps the rule.
-use Rattle.std.proofs.Common.{◌≡◌, ℕ, ◌+◌, ◌<◌, ◌⊎◌, ◌==◌, List, [], ◌∷◌, length, get_or, set, Option, Some, None, refl, sym, ap, subst, ◌∙◌, arith, inl, inr, ◌-◌, ◌≢◌, ◌≤◌, Bool, cond, zero, ◌++◌, ◌↔◌, true, false, take}
+use Rattle.std.proofs.Common.{◌≡◌, ℕ, ◌+◌, ◌<◌, ◌⊎◌, ◌==◌, List, [], ◌∷◌, length, get_or, set, Option, Some, None, refl, sym, ap, subst, ◌∙◌, arith, inl, inr, ◌≢◌, ◌≤◌, Bool, cond, zero, ◌++◌, ◌↔◌, true, false, take}
 use lib.ListN.{get_elem?}
 use mathlib.Core.Option.{none, some}
 use prog.Atomic.{either}
@@ -22,10 +22,9 @@ use Rattle.at_history.proofs.Laws.Histories.{IsHistory-Sound}
 use Rattle.at_history.proofs.Steps.Decide.{cell, decided, Sound-decided, cells-own, cells-other, KeptCells-push, KeptCells-decided, held-other, held-own, IsNextDecision}
 use Rattle.at_history.specs.Balances.{IsCovered}
 use Rattle.at_history.specs.BoardState.{BoardState, decision_at, request_at}
-use Rattle.at_history.specs.Fronts.{place}
 use Rattle.at_history.specs.Histories.{IsHistory}
 use Rattle.at_history.specs.Publications.{IsPrefix, count_of}
-use Rattle.at_history.specs.Rounds.{named, is_settled, rounds}
+use Rattle.at_history.specs.Rounds.{is_settled, rounds}
 use Rattle.at_history.specs.Sound.{IsSoundDecision, Sound}
 use Rattle.at_history.specs.declared.cell.Cell.{Cell}
 use Rattle.at_history.specs.declared.request.Request.{Request}

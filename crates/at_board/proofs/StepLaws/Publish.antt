@@ -21,7 +21,7 @@ use Rattle.at_history.proofs.Laws.Histories.{IsHistory-Sound}
 use Rattle.at_history.proofs.Laws.Sums.{get_or-zeros}
 use Rattle.at_history.proofs.Steps.Publish.{IsNextPublication, Sound-pushed, pushed}
 use Rattle.at_history.specs.BoardState.{BoardState, publication_at, request_at}
-use Rattle.at_history.specs.Fronts.{place, prefix_of}
+use Rattle.at_history.specs.Fronts.{prefix_of}
 use Rattle.at_history.specs.HeldCells.{held_after}
 use Rattle.at_history.specs.Histories.{IsHistory}
 use Rattle.at_history.specs.Publications.{IsPrefix, count_of, no_publication, publications_of}

@@ -8,7 +8,7 @@ use Rattle.at_base.specs.Decision.{InRange, word_of}
 use Rattle.at_base.specs.declared.decision.Decision.{Decision}
 use Rattle.at_ledger.specs.Account.{no_account, rounds_room}
 use Rattle.at_ledger.specs.Book.{BookTerms, IsBegun}
-use Rattle.at_ledger.specs.Call.{TargetPair}
+use Rattle.at_ledger.specs.Call.{AreTargetsOn, TargetPair}
 use Rattle.at_history.specs.BoardState.{BoardState}
 use Rattle.at_history.specs.Entries.{targets_of}
 use Rattle.at_history.specs.Sound.{AreTargets, IsSoundDecision, IsSoundEntry, Sound}
@@ -171,3 +171,17 @@ request_words-injective r q one other same =
     let since : r.since ≡ q.since = cc same in
     let targets = same_targets r.targets q.targets one other word amounts in
     λ t. record { targets = targets t; since = since t }
+
+-- the targets of an entry that fits its words
+pub ArePacked-IsForm : (e : Entry) → IsForm e → ArePacked (accounts_of (targets_of e))
+ArePacked-IsForm (Own from targets) form = form.1
+ArePacked-IsForm (Round a r d targets) form = form.3
+
+pub AreTargetsOn-ArePacked : (ts : List TargetPair) → ArePacked (accounts_of ts) → AreTargetsOn 1024 ts
+AreTargetsOn-ArePacked ts packed = All-from_get_or (λ (t : TargetPair). t.0 < 1024) ts (0, 0) (λ i within.
+    let inside : i < length (accounts_of ts) = omega (arith, within, length-map ts (λ (t : TargetPair). t.0)) in
+    omega (
+      arith,
+      get_or-map (λ (t : TargetPair). t.0) ts i (0, 0) 0 within,
+      All-get_or (λ account. account < 1024) (accounts_of ts) i 0 inside packed.small,
+    ))

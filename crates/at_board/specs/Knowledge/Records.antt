@@ -2,7 +2,7 @@
 use Rattle.std.specs.Prelude.{◌≡◌, ℕ, ◌<◌, slice_index}
 use Rattle.at_history.specs.BoardState.{publication_at}
 use Rattle.at_history.specs.Publications.{count_of, publications_of}
-use Rattle.at_board.specs.Words.Packed.{record_words}
+use Rattle.at_board.specs.Words.Packed.{IsForm, record_words}
 use Rattle.at_board.specs.declared.knowledge.Knowledge.{Knowledge}
 
 -- the seat has seen record i of the process
@@ -12,3 +12,7 @@ SeesRecord v p i = i < count_of p v.seen
 -- the number is word j of record i of the process
 abbrev pub IsRecordWord : Knowledge → ℕ → ℕ → ℕ → ℕ → Type 0
 IsRecordWord v p i j w = w ≡ slice_index (record_words (publication_at (publications_of p v.seen) i)) j
+
+-- the numbers of each record that the view has seen fit their words
+abbrev pub SeesForms : Knowledge → Type 0
+SeesForms v = (p i : ℕ) → SeesRecord v p i → IsForm (publication_at (publications_of p v.seen) i).entry

@@ -1,7 +1,7 @@
 -- Publishing the seat's next record.
 use Rattle.std.specs.Prelude.{◌≡◌, ℕ, ◌<◌, ◌⊎◌, List, Contains, ◌+◌, ◌++◌, [], ◌∷◌, replicate}
 use Rattle.at_base.specs.declared.decision.Decision.{Decision}
-use Rattle.at_ledger.specs.Book.{BookTerms}
+use Rattle.at_ledger.specs.Book.{BookTerms, log_room_of}
 use Rattle.at_ledger.specs.Call.{TargetPair}
 use Rattle.at_history.specs.Fronts.{prefix_of}
 use Rattle.at_history.specs.HeldCells.{held_after}
@@ -17,7 +17,7 @@ use Rattle.at_board.specs.Knowledge.Agreement.{AgreesWithSeen}
 use Rattle.at_board.specs.Knowledge.Knows.{SeesAll}
 use Rattle.at_board.specs.Knowledge.Parts.{SeesDecision, SeesRequest, own_part, with_part}
 use Rattle.at_board.specs.Words.Addresses.{record_width}
-use Rattle.at_board.specs.Words.Packed.{record_words}
+use Rattle.at_board.specs.Words.Packed.{IsForm, record_words}
 use Rattle.at_board.specs.declared.knowledge.Part.{Part}
 use Rattle.at_board.specs.declared.knowledge.Knowledge.{Knowledge}
 
@@ -34,6 +34,11 @@ abbrev pub MayEnter : BookTerms → Knowledge → List Publication → Entry →
 MayEnter b v prefix (Own from targets) = IsSoundOwn b v.first prefix from targets × (owns_of v.first v.seen < b.own_room)
 MayEnter b v prefix (Round account round decision targets) =
     IsSoundRound b v.first prefix account round × KnowsRound v account round decision targets
+
+-- whatever record the seat may publish next, its process's log has room for it, and its numbers fit their words
+abbrev pub FitsNext : Knowledge → Type 0
+FitsNext v = (view : List ℕ) (e : Entry) → HasView v.book v.seen (record { process = v.first; view = view; entry = e }) →
+    MayEnter v.book v (prefix_of view v.seen) e → ((own_part v).published < log_room_of v.book v.first) × IsForm e
 
 -- the seat may publish this record: its words are stored, and it keeps the laws after all that the seat has seen
 pub record MayPublish (b : BookTerms) (v : Knowledge) (x : Publication) : Type 0 where

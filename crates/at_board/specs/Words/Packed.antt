@@ -33,10 +33,13 @@ abbrev pub amount_words : List TargetPair → List ℕ
 amount_words targets =
     (target_at targets 0).1 ∷ (target_at targets 1).1 ∷ (target_at targets 2).1 ∷ (target_at targets 3).1 ∷ []
 
+-- the words of an entry, which are RECORD_WORDS: its head, its targets word, its decision and its amounts
+abbrev pub entry_words : Entry → List ℕ
+entry_words e = head_of e ∷ targets_word (accounts_of (targets_of e)) ∷ decision_word e ∷ amount_words (targets_of e)
+
+-- those of a record: its entry's, and then its view
 abbrev pub record_words : Publication → List ℕ
-record_words x =
-    head_of x.entry ∷ targets_word (accounts_of (targets_of x.entry)) ∷ decision_word x.entry
-    ∷ amount_words (targets_of x.entry) ++ x.view
+record_words x = entry_words x.entry ++ x.view
 
 abbrev pub request_words : Request → List ℕ
 request_words r = targets_word (accounts_of r.targets) ∷ amount_words r.targets ++ r.since ∷ []

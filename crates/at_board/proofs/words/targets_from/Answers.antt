@@ -2,8 +2,8 @@ use Rattle.std.proofs.Common.{◌≡◌, length, get_or, sym, ap, ◌∙◌, ari
 use Rattle.std.proofs.lemmas.List.{length-map}
 use Rattle.at_ledger.specs.Call.{TargetPair}
 use Rattle.at_board.specs.Words.Targets.{accounts_of}
-use Rattle.at_log.proofs.EntryLaws.{same_targets-get_or}
-use Rattle.at_log.proofs.loading.targets_from.Goals as goal
+use Rattle.at_board.proofs.WordLaws.Unpacked.{same_targets-get_or}
+use Rattle.at_board.proofs.words.targets_from.Goals as goal
 
 pub returns : goal.returns
 returns c = λ ts packed word amounts.

@@ -1,12 +1,11 @@
--- The numbers of entries that a seat may append, or has seen, fit their words.
-use Rattle.std.proofs.Common.{◌≡◌, ℕ, ◌+◌, ◌<◌, ◌≤◌, List, [], ◌∷◌, ◌++◌, length, fold, cond, sym, subst, arith, inl, inr}
+-- The numbers of entries that a seat may publish, or has seen, fit their words.
+use Rattle.std.proofs.Common.{◌≡◌, ℕ, ◌+◌, ◌<◌, ◌≤◌, List, [], ◌∷◌, ◌++◌, length, fold, cond, refl, sym, ap, subst, ◌∙◌, arith, inl, inr}
 use Rattle.std.proofs.lemmas.Bool.{cases_Bool}
-use Rattle.std.proofs.lemmas.List.{get_or-map, length-map, length_push, length-take}
-use Rattle.std.proofs.lemmas.List.Elements.{All-from_get_or, All-get_or}
+use Rattle.std.proofs.lemmas.List.{length_push, length-take}
+use Rattle.std.proofs.lemmas.List.Elements.{All-from_get_or}
 use Rattle.std.proofs.lemmas.List.Sums.{count_by-le-length, get_or-le-sum_by}
 use Rattle.at_ledger.specs.Account.{no_account, rounds_room}
 use Rattle.at_ledger.specs.Book.{BookTerms, IsBegun}
-use Rattle.at_ledger.specs.Call.{AreTargetsOn, TargetPair}
 use Rattle.at_board.proofs.WordLaws.Packed.{ArePacked-AreTargets}
 use Rattle.at_history.proofs.Laws.Sums.{All-Contains}
 use Rattle.at_history.specs.declared.publication.Entry.{Entry}
@@ -17,32 +16,20 @@ use Rattle.at_board.specs.declared.knowledge.SeenRequest.{SeenRequest}
 use Rattle.at_board.specs.declared.knowledge.Knowledge.{Knowledge}
 use Rattle.at_history.specs.BoardState.{publication_at}
 use Rattle.at_board.specs.Steps.Publish.{MayEnter}
-use Rattle.at_history.specs.Entries.{is_round_on, targets_of}
+use Rattle.at_history.specs.Entries.{is_round_on}
 use Rattle.at_board.specs.Words.Packed.{IsForm}
 use Rattle.at_history.specs.Fronts.{place, places_max, prefix_of}
-use Rattle.at_history.specs.Publications.{no_publication}
+use Rattle.at_history.proofs.Laws.Counts.{get_or-publications_of, position_of}
+use Rattle.at_board.proofs.StepLaws.LogRoom.{published-MayEnter}
+use Rattle.at_board.specs.Knowledge.Records.{SeesForms}
+use Rattle.at_board.specs.Knowledge.Seats.{IsSeat}
+use Rattle.at_board.specs.Steps.Publish.{FitsNext}
+use Rattle.at_history.specs.Publications.{no_publication, publications_of}
 use Rattle.at_history.specs.Rounds.{firsts, repeats, rounds, with_first}
 use Rattle.at_board.specs.Knowledge.Agreement.{DecisionInRange, RequestInRange, SeesInRange}
 use Rattle.at_history.specs.Histories.{IsShownDecision}
 use Rattle.at_history.specs.Sound.{AreTargets}
 use Rattle.at_history.specs.Histories.{IsHistory, IsShownEntry}
-use Rattle.at_board.specs.Words.Targets.{ArePacked, accounts_of}
-use Rattle.at_log.specs.declared.record.Record.{Record}
-use Rattle.at_log.specs.Appending.{MayAppend}
-
--- the targets of an entry that fits its words
-pub ArePacked-IsForm : (e : Entry) → IsForm e → ArePacked (accounts_of (targets_of e))
-ArePacked-IsForm (Own from targets) form = form.1
-ArePacked-IsForm (Round a r d targets) form = form.3
-
-pub AreTargetsOn-ArePacked : (ts : List TargetPair) → ArePacked (accounts_of ts) → AreTargetsOn 1024 ts
-AreTargetsOn-ArePacked ts packed = All-from_get_or (λ (t : TargetPair). t.0 < 1024) ts (0, 0) (λ i within.
-    let inside : i < length (accounts_of ts) = omega (arith, within, length-map ts (λ (t : TargetPair). t.0)) in
-    omega (
-      arith,
-      get_or-map (λ (t : TargetPair). t.0) ts i (0, 0) 0 within,
-      All-get_or (λ account. account < 1024) (accounts_of ts) i 0 inside packed.small,
-    ))
 
 -- no more rounds than publications
 length-with_first : (acc : List Publication) (x : Publication) → length (with_first acc x) ≤ length acc + 1
@@ -72,7 +59,7 @@ IsForm-IsShownEntry b p prefix list (Round a r d targets) begun law decided = (
   ArePacked-AreTargets b targets begun law.1,
 )
 
-pub IsForm-IsHistory : (b : BookTerms) (list : List Publication) (m : ℕ) → IsBegun b → IsHistory b list → m < length list
+IsForm-IsHistory : (b : BookTerms) (list : List Publication) (m : ℕ) → IsBegun b → IsHistory b list → m < length list
     → IsForm (publication_at list m).entry
 IsForm-IsHistory b list m begun history within =
     let x : Publication = publication_at list m in
@@ -96,8 +83,19 @@ IsForm-MayEnter b v prefix (Round a r d targets) begun book history few sees (so
     let P : Publication → Type 0 = λ y. IsForm y.entry in
     subst IsForm says (All-Contains P v.seen x (All-from_get_or P v.seen no_publication (λ m within. IsForm-IsHistory b v.seen m begun history within)) seen)
 
-pub IsForm-MayAppend : (b : BookTerms) (v : Knowledge) (x : Record) → IsBegun b → v.book ≡ b → IsHistory b v.seen → SeesInRange v → MayAppend b v x
-    → IsForm x.entry
-IsForm-MayAppend b v x begun book history sees may =
-    IsForm-MayEnter b v (prefix_of x.view v.seen) x.entry begun book history
-    (omega (arith, length-take (place x.view) v.seen, history.few)) sees may.entry
+-- each record that a seat has seen
+pub SeesForms-IsSeat : (v : Knowledge) (process published : ℕ) → IsSeat v process published → SeesForms v
+SeesForms-IsSeat v process published seat p i sees =
+    let at = position_of p i v.seen sees in
+    let same : publication_at (publications_of p v.seen) i ≡ publication_at v.seen at.0 =
+    ap (publication_at (publications_of p v.seen)) (sym at.1.before)
+    ∙ get_or-publications_of p at.0 v.seen no_publication at.1.within (at.1.own no_publication) in
+    subst (λ (x : Publication). IsForm x.entry) (sym same) (IsForm-IsHistory v.book v.seen at.0 seat.book.begun seat.history at.1.within)
+
+-- and each that it may publish next
+pub FitsNext-IsSeat : (v : Knowledge) (process published : ℕ) → IsSeat v process published → FitsNext v
+FitsNext-IsSeat v process published seat view e has law =
+    let few : length (prefix_of view v.seen) ≤ places_max = omega (arith, length-take (place view) v.seen, seat.history.few) in (
+      published-MayEnter v.book v (record { process = v.first; view = view; entry = e }) process published refl seat refl has law,
+      IsForm-MayEnter v.book v (prefix_of view v.seen) e seat.book.begun refl seat.history few seat.in_range law,
+    )

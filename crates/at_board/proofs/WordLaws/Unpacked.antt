@@ -1,4 +1,4 @@
--- The entry of a record from its words.
+-- Targets from the words that they were packed into.
 use Rattle.std.proofs.Common.{◌≡◌, ℕ, ◌<◌, zero, suc, List, length, get_or, refl, ◌∙◌, arith}
 use Rattle.std.proofs.lemmas.List.{get_or-map, get_or_default, length-map, same_lists}
 use Rattle.at_ledger.specs.Call.{TargetPair}

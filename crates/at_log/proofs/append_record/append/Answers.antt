@@ -1,40 +1,33 @@
-use Rattle.std.proofs.Common.{◌≡◌, ◌<◌, length, refl, ap, subst, ◌∙◌, arith}
-use Rattle.at_ledger.specs.Book.{BookTerms, IsBook}
+use Rattle.std.proofs.Common.{◌≡◌, ◌<◌, length, refl, ap, ◌∙◌, arith}
+use Rattle.at_ledger.specs.Book.{BookTerms}
 use Rattle.at_history.proofs.Laws.Fronts.{length-IsFront}
 use Rattle.at_board.specs.declared.knowledge.Knowledge.{Knowledge}
 use Rattle.at_board.specs.Words.Addresses.{record_width}
-use Rattle.at_history.specs.Histories.{IsHistory}
 use Rattle.at_board.specs.Knowledge.Parts.{own_part}
 use Rattle.at_board.specs.Words.Packed.{record_words}
-use Rattle.at_log.proofs.AppendLaws.{IsStoring-more, MayPublish-IsStoring, MayStoreWord-IsStoring, Publishes-IsStoring, published-MayAppend}
-use Rattle.at_log.proofs.FormFacts.{IsForm-MayAppend}
+use Rattle.at_log.proofs.AppendLaws.{FitsNext-MayAppend, IsStoring-more, MayPublish-IsStoring, MayStoreWord-IsStoring, Publishes-IsStoring}
 use Rattle.at_log.proofs.LastLaws.{IsLast-Publishes}
 use Rattle.at_log.specs.declared.record.Record.{Record}
 use Rattle.at_log.specs.ClosingTerms.{published_by}
-use Rattle.at_log.proofs.log.append.Given as given
-use Rattle.at_log.proofs.log.append.Goals.{After-processes-width}
-use Rattle.at_log.proofs.log.append.Goals as goal
+use Rattle.at_log.proofs.append_record.append.Given as given
+use Rattle.at_log.proofs.append_record.append.Goals.{After-processes-width}
+use Rattle.at_log.proofs.append_record.append.Goals as goal
 
 -- the count of processes that the width was made of
 processes : (g : given.Over) (c : After-processes-width g) → c.processes-width.result ≡ c.args.board.now.book.processes
 processes g c = c.processes-width.ensures ∙ ap (λ (t : BookTerms). t.processes) c.book-2.ensures
 
-pub record_word-requires-clause-entry : goal.record_word-requires-clause-entry
-record_word-requires-clause-entry g c =
-    let b : BookTerms = c.args.board.now.book in
-    let v : Knowledge = c.args.seat.now.knows in
-    let book : IsBook b = subst IsBook c.book.ensures c.known.ensures.checked in
-    IsForm-MayAppend b v c.args.rec.now book.begun c.requires.board.book
-    (subst (λ t. IsHistory t v.seen) c.requires.board.book c.known-2.ensures.seat.history) c.known-2.ensures.seat.in_range
-    c.requires.record
+pub record_word-word-requires-clause-form : goal.record_word-word-requires-clause-form
+record_word-word-requires-clause-form g c =
+    (FitsNext-MayAppend c.args.board.now.book c.args.seat.now.knows c.args.rec.now c.requires.board.book c.known-2.ensures.next c.requires.record).1
 
-pub record_word-requires-clause-word : goal.record_word-requires-clause-word
-record_word-requires-clause-word g c =
+pub record_word-word-requires-clause-word : goal.record_word-word-requires-clause-word
+record_word-word-requires-clause-word g c =
     let x : Record = c.args.rec.now in
     omega (
       arith,
       c.loop-j-test.true,
-      processes g (goal.at.record_word-requires-clause-word g c).After-processes-width,
+      processes g (goal.at.record_word-word-requires-clause-word g c).After-processes-width,
       length-IsFront c.args.board.now.book.processes x.view c.args.seat.now.knows.seen c.requires.record.view.front,
     )
 
@@ -44,7 +37,7 @@ store_record_word-requires-clause-word g c =
     let v : Knowledge = c.args.seat.now.knows in
     let told = c.known-2.ensures in
     let count = processes g (goal.at.store_record_word-requires-clause-word g c).After-processes-width in
-    let room = published-MayAppend b v c.args.rec.now c.args.seat.now.knows.first (own_part v).published c.requires.board.book told.seat c.requires.record in
+    let room = (FitsNext-MayAppend b v c.args.rec.now c.requires.board.book told.next c.requires.record).0 in
     MayStoreWord-IsStoring b v c.loop-j.seat.knows (record_words (published_by v.first c.args.rec.now)) c.loop-j.j c.loop-j.j (omega (arith, told.seat.one_part)) room
     c.loop-j.invariant.storing (omega (arith, c.loop-j-test.true, count))
 
@@ -57,7 +50,7 @@ loop-j-preserved g c =
     record {
       board = c.store_record_word.ensures.board ∙ c.loop-j.invariant.board;
       storing = IsStoring-more v c.loop-j.seat.knows c.store_record_word.new.seat.knows (record_words (published_by v.first c.args.rec.now)) c.loop-j.j
-          c.record_word.result (omega (arith, seat.one_part)) inside c.loop-j.invariant.storing c.record_word.ensures
+          c.record_word-word.result (omega (arith, seat.one_part)) inside c.loop-j.invariant.storing c.record_word-word.ensures
           c.store_record_word.ensures.stored;
       steps = omega (arith, c.store_record_word.ensures.steps, c.loop-j.invariant.steps);
       exchanges = c.store_record_word.ensures.exchanges ∙ c.loop-j.invariant.exchanges;

@@ -4,10 +4,11 @@ use Rattle.at_ledger.specs.Book.{BookTerms, IsBook}
 use Rattle.at_board.specs.Knowledge.Records.{IsRecordWord}
 use Rattle.at_board.specs.Knowledge.Seats.{SeatTerms}
 use Rattle.at_history.specs.Histories.{IsHistory}
+use Rattle.at_board.specs.declared.words.TheConstants.{RECORD_WORDS}
 use Rattle.at_log.proofs.SeenLaws.{IsLoaded, IsLoaded-more, IsViewOf-IsLoaded, small-IsRecordWord}
-use Rattle.at_log.proofs.loading.load_view.Given as given
-use Rattle.at_log.proofs.loading.load_view.Goals.{After-load_record_word-count, After-processes-processes}
-use Rattle.at_log.proofs.loading.load_view.Goals as goal
+use Rattle.at_log.proofs.load_view_words.load_view.Given as given
+use Rattle.at_log.proofs.load_view_words.load_view.Goals.{After-load_record_word-count, After-processes-processes}
+use Rattle.at_log.proofs.load_view_words.load_view.Goals as goal
 
 book : (g : given.Over) (c : After-processes-processes g) → IsBook c.args.board.now.book
 book g c = subst IsBook c.book.ensures c.known.ensures.checked
@@ -19,9 +20,9 @@ count : (g : given.Over) (c : After-processes-processes g) → c.processes-proce
 count g c = c.processes-processes.ensures ∙ ap (λ (t : BookTerms). t.processes) c.book-2.ensures
 
 word : (g : given.Over) (c : After-load_record_word-count g)
-    → IsRecordWord c.args.seat.now.knows c.args.p c.args.i (7 + c.loop-q.q) c.load_record_word-count.result
+    → IsRecordWord c.args.seat.now.knows c.args.p c.args.i (RECORD_WORDS + c.loop-q.q) c.load_record_word-count.result
 word g c =
-    subst (λ (s : SeatTerms). IsRecordWord s.knows c.args.p c.args.i (7 + c.loop-q.q) c.load_record_word-count.result) c.loop-q.invariant.same
+    subst (λ (s : SeatTerms). IsRecordWord s.knows c.args.p c.args.i (RECORD_WORDS + c.loop-q.q) c.load_record_word-count.result) c.loop-q.invariant.same
     c.load_record_word-count.ensures.word
 
 pub overflow_cast-count : goal.overflow_cast-count

@@ -1,10 +1,10 @@
 use Rattle.std.proofs.Common.{sym, subst}
 use Rattle.at_ledger.specs.Call.{AreTargetsOn}
-use Rattle.at_log.proofs.FormFacts.{ArePacked-IsForm, AreTargetsOn-ArePacked}
 use Rattle.at_history.specs.Entries.{targets_of}
-use Rattle.at_log.proofs.words.record_word.Goals as goal
+use Rattle.at_board.proofs.WordLaws.Packed.{ArePacked-IsForm, AreTargetsOn-ArePacked}
+use Rattle.at_board.proofs.words.record_word.Goals as goal
 
 pub pack_targets-requires : goal.pack_targets-requires
 pack_targets-requires c =
     subst (AreTargetsOn 1024) (sym c.targets-targets.ensures)
-    (AreTargetsOn-ArePacked (targets_of c.args.rec.now.entry) (ArePacked-IsForm c.args.rec.now.entry c.requires.entry))
+    (AreTargetsOn-ArePacked (targets_of c.args.entry.now) (ArePacked-IsForm c.args.entry.now c.requires.form))

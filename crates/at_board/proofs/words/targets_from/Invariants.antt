@@ -1,5 +1,5 @@
 use Rattle.std.proofs.Common.{◌≡◌, ℕ, ◌<◌, get_or, length}
-use Rattle.at_log.proofs.loading.targets_from.Given as goal
+use Rattle.at_board.proofs.words.targets_from.Given as goal
 
 -- so many targets are made
 abbrev pub invariant-loop-k : goal.invariant-loop-k

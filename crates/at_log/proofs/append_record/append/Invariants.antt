@@ -2,7 +2,7 @@ use Rattle.std.proofs.Common.{◌≡◌, ◌+◌}
 use Rattle.at_board.specs.Words.Packed.{record_words}
 use Rattle.at_log.proofs.AppendLaws.{IsStoring}
 use Rattle.at_log.specs.ClosingTerms.{published_by}
-use Rattle.at_log.proofs.log.append.Given as goal
+use Rattle.at_log.proofs.append_record.append.Given as goal
 
 -- so many words are stored, a step for each
 abbrev pub invariant-loop-j : goal.invariant-loop-j

@@ -1,15 +1,15 @@
-use Rattle.std.proofs.Common.{ℕ, ◌<◌, [], ◌∷◌, get_or, set, sym, subst, ◌∙◌, arith, below_more}
-use Rattle.std.proofs.lemmas.List.{get_or-set_other, get_or-set_same, length-set}
-use Rattle.at_ledger.specs.Book.{BookTerms, IsBook}
+use Rattle.std.proofs.Common.{◌≡◌, get_or, set, sym, subst, ◌∙◌, arith, below_more}
+use Rattle.std.proofs.lemmas.Grind.{same_number_lists}
+use Rattle.std.proofs.lemmas.List.{get_or_append_left, get_or-set_other, get_or-set_same, length-set}
 use Rattle.at_history.specs.declared.publication.Publication.{Publication}
 use Rattle.at_board.specs.declared.knowledge.Knowledge.{Knowledge}
 use Rattle.at_history.specs.BoardState.{publication_at}
 use Rattle.at_history.specs.Publications.{publications_of}
 use Rattle.at_board.specs.Knowledge.Records.{IsRecordWord}
 use Rattle.at_board.specs.Knowledge.Seats.{SeatTerms}
-use Rattle.at_history.specs.Histories.{IsHistory}
-use Rattle.at_log.proofs.SeenLaws.{IsShownRecord-IsHistory}
-use Rattle.at_log.proofs.loading.load_entry.Goals as goal
+use Rattle.at_board.specs.Words.Packed.{entry_words}
+use Rattle.at_board.specs.declared.words.TheConstants.{RECORD_WORDS}
+use Rattle.at_log.proofs.load_entry_words.load_entry.Goals as goal
 
 pub loop-j-preserved : goal.loop-j-preserved
 loop-j-preserved g c =
@@ -32,15 +32,10 @@ loop-j-preserved g c =
 
 pub returns-clause-entry : goal.returns-clause-entry
 returns-clause-entry g c =
-    let b : BookTerms = c.args.board.now.book in
     let v : Knowledge = c.args.seat.now.knows in
     let x : Publication = publication_at (publications_of c.args.p v.seen) c.args.i in
-    let book : IsBook b = subst IsBook c.book.ensures c.known.ensures.checked in
-    let history : IsHistory b v.seen = subst (λ t. IsHistory t v.seen) c.requires.board.book c.known-2.ensures.seat.history in
-    let word = λ (k : ℕ) (small : k < 7). c.loop-j.invariant.loaded k (omega (arith, small, c.loop-j-test.false)) in
-    let third = word 3 (omega arith) in
-    let fourth = word 4 (omega arith) in
-    let fifth = word 5 (omega arith) in
-    let sixth = word 6 (omega arith) in
-    c.entry_of.ensures x.entry (IsShownRecord-IsHistory b v.seen c.args.p c.args.i book.begun history c.requires.record).form
-    (word 0 (omega arith)) (word 1 (omega arith)) (word 2 (omega arith)) (λ t. third t ∷ fourth t ∷ fifth t ∷ sixth t ∷ [])
+    let all : c.loop-j.j ≡ RECORD_WORDS = omega (arith, c.loop-j-test.false, c.loop-j.auto.j-end) in
+    let same : c.loop-j.words ≡ entry_words x.entry = same_number_lists c.loop-j.words (entry_words x.entry) c.loop-j.invariant.sized (λ k within.
+    c.loop-j.invariant.loaded k (omega (arith, within, c.loop-j.invariant.sized, all))
+    ∙ get_or_append_left (entry_words x.entry) x.view 0 k (omega (arith, within, c.loop-j.invariant.sized))) in
+    c.entry_of.ensures x.entry (c.known-2.ensures.records c.args.p c.args.i c.requires.record) same

@@ -1,6 +1,6 @@
 use Rattle.std.proofs.Common.{◌≡◌, ◌+◌, length}
 use Rattle.at_log.proofs.SeenLaws.{IsLoaded}
-use Rattle.at_log.proofs.loading.load_view.Given as goal
+use Rattle.at_log.proofs.load_view_words.load_view.Given as goal
 
 -- so many counts are loaded, a step for each
 abbrev pub invariant-loop-q : goal.invariant-loop-q

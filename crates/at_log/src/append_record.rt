@@ -1,17 +1,17 @@
-//! Logs: records are appended to the board one after another.
+//! An append: records are published on the board one after another.
 
 ghost use Rattle.std.specs.Prelude.{◌≡◌, ◌+◌, ◌-◌};
 ghost use Rattle.at_board.specs.Knowledge.Seats.{IsOf};
 ghost use Rattle.at_board.specs.Steps.Publish.{Publishes};
 ghost use Rattle.at_board.specs.Knowledge.Parts.{own_part};
+ghost use Rattle.at_board.specs.declared.words.TheConstants.{RECORD_WORDS};
 ghost use Rattle.at_ledger.specs.Book.{log_room_of};
 ghost use Rattle.at_log.specs.Appending.{MayAppend};
 ghost use Rattle.at_log.specs.ClosingTerms.{published_by};
 ghost use Rattle.at_log.specs.LastRecord.{IsLast};
 
 use crate::record::Record;
-use crate::words::record_word;
-use at_board::{Board, BoardSeat, RECORD_WORDS, Steps};
+use at_board::{Board, BoardSeat, RECORD_WORDS, Steps, record_word};
 use std::sync::ledger::Ledger;
 
 /// How many records the log of the seat's process still takes. It makes no step.
@@ -24,7 +24,7 @@ pub fn room(board: &Board, seat: &BoardSeat) -> u32
         .saturating_sub(seat.published())
 }
 
-/// Stores the words of a record, which are seven and one for each process, and publishes it. Takes no memory.
+/// Stores the words of a record, those of its entry and one for each process, and publishes it. Takes no memory.
 pub fn append<L: Ledger, X: Ledger>(
     board: &Board,
     seat: &mut BoardSeat,
@@ -37,14 +37,15 @@ pub fn append<L: Ledger, X: Ledger>(
     ensures published { Publishes board.now.book seat.old.knows seat.new.knows (published_by seat.old.knows.first rec.now) }
     ensures last { IsLast seat.old.knows seat.new.knows (published_by seat.old.knows.first rec.now) }
     ensures board { seat.new.board ≡ seat.old.board }
-    ensures steps { steps.new ≡ steps.old + (board.now.book.processes + 8) }
+    ensures steps { steps.new ≡ steps.old + (RECORD_WORDS + board.now.book.processes + 1) }
     ensures exchanges { exchanges.new ≡ exchanges.old }
 {
     board.book().known();
     seat.known();
     let width = RECORD_WORDS + board.book().processes();
     for j in 0..width {
-        board.store_record_word(seat, j, record_word(rec, j), steps, exchanges);
+        let word = record_word(&rec.entry, &rec.view, j);
+        board.store_record_word(seat, j, word, steps, exchanges);
     }
     board.publish(seat, steps, exchanges);
 }
