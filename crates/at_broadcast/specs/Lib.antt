@@ -1,0 +1,5 @@
+pub mod Messages
+pub mod Credits
+pub mod Sender
+pub mod Validated
+pub mod Node
