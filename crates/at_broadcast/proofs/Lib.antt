@@ -1,1 +1,5 @@
 pub mod CreditLaws
+pub mod RangeLaws
+pub mod SumLaws
+pub mod BalanceLaws
+pub mod ReachedLaws

@@ -5,11 +5,17 @@ use Rattle.at_ledger.specs.Book.{BookTerms, account_of}
 use Rattle.at_broadcast.specs.Messages.{MessageList, credit_of, debit_of, message_of, sum_of_first}
 use Rattle.at_broadcast.specs.declared.message.Message.{Message}
 
--- what the first messages of each sender, as many as `counts` says, leave on an account. It is below zero where they
--- spend a credit that isn't among them
+-- what came to an account, with its opening, by the first messages of each sender, as many as `counts` says
+abbrev pub came : BookTerms → List MessageList → List ℕ → ℕ → ℕ
+came b messages counts account = (account_of b account).opening + sum_of_first (credit_of account) messages counts
+
+-- what went from it by them
+abbrev pub went : List MessageList → List ℕ → ℕ → ℕ
+went messages counts account = sum_of_first (debit_of account) messages counts
+
+-- what they leave there: it is below zero where they spend a credit that isn't among them
 unfoldable pub balance_at : BookTerms → List MessageList → List ℕ → ℕ → ℤ
-balance_at b messages counts account =
-    pos ((account_of b account).opening + sum_of_first (credit_of account) messages counts) -ℤ pos (sum_of_first (debit_of account) messages counts)
+balance_at b messages counts account = pos (came b messages counts account) -ℤ pos (went messages counts account)
 
 -- the next message of a process after those that are counted is this one and is valid there: the process is the one
 -- owner of its source, its `deps` count all of its own before it and no others than are counted, and the balance at `deps`
