@@ -3,3 +3,5 @@ pub mod RangeLaws
 pub mod SumLaws
 pub mod BalanceLaws
 pub mod ReachedLaws
+pub mod SenderLaws
+pub mod MessageLaws

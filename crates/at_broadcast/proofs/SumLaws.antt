@@ -14,9 +14,9 @@ part weight messages counts p = sum_by weight (take (get_or counts p 0) (list_of
 
 -- counts that agree
 pub sum_of_first-same : (weight : Option Message → ℕ) (messages : List MessageList) (counts others : List ℕ)
-    → ((p : ℕ) → part weight messages counts p ≡ part weight messages others p) → sum_of_first weight messages counts ≡ sum_of_first weight messages others
+    → ((p : ℕ) → p < length messages → part weight messages counts p ≡ part weight messages others p) → sum_of_first weight messages counts ≡ sum_of_first weight messages others
 sum_of_first-same weight messages counts others same =
-    range-same (part weight messages counts) (part weight messages others) 0 (length messages) (λ p low high. same p)
+    range-same (part weight messages counts) (part weight messages others) 0 (length messages) (λ p low high. same p (omega arith))
 
 -- larger counts
 pub sum_of_first-le : (weight : Option Message → ℕ) (messages : List MessageList) (counts others : List ℕ) → weight None ≡ 0

@@ -3,3 +3,4 @@ pub mod Credits
 pub mod Sender
 pub mod Validated
 pub mod Node
+pub mod Progress

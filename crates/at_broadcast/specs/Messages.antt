@@ -1,5 +1,5 @@
 -- The messages that were delivered, and what they move.
-use Rattle.std.specs.Prelude.{◌≡◌, ℕ, ◌+◌, ◌==◌, ◌<◌, Bool, false, List, [], length, take, map, sum_by, slice_index, slice_index_or, slice_set, Option, Some, None, if◌then◌else◌}
+use Rattle.std.specs.Prelude.{◌≡◌, ℕ, ◌+◌, ◌==◌, ◌<◌, List, [], length, take, map, sum_by, slice_index, slice_index_or, slice_set, Option, Some, None, if◌then◌else◌}
 use Rattle.std.specs.List.{range_with_len}
 use Rattle.at_ledger.specs.Book.{BookTerms, account_of}
 use Rattle.at_broadcast.specs.declared.message.Message.{Message}
@@ -39,10 +39,10 @@ abbrev pub sum_of_first : (Option Message → ℕ) → List MessageList → List
 sum_of_first weight messages counts =
     sum_by (λ p. sum_by weight (take (slice_index counts p) (list_of messages p))) (range_with_len 0 (length messages))
 
--- whether a message is for the account
-abbrev pub is_to : ℕ → Option Message → Bool
-is_to account None = false
-is_to account (Some m) = m.to == account
+-- one for a message to the account
+abbrev pub one_to : ℕ → Option Message → ℕ
+one_to account None = 0
+one_to account (Some m) = if m.to == account then 1 else 0
 
 -- the message names accounts of the book, and has an entry of `deps` for each process
 pub record IsMessageOn (b : BookTerms) (m : Message) : Type 0 where

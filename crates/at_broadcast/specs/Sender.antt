@@ -1,7 +1,7 @@
 -- What a node has of one sender.
-use Rattle.std.specs.Prelude.{◌≡◌, ℕ, ◌+◌, ◌-◌, ◌<◌, ◌≤◌, ◌++◌, List, [], ◌∷◌, length, take, drop, count_by, sum_by, slice_index_or, slice_set, All, Some}
+use Rattle.std.specs.Prelude.{◌≡◌, ℕ, ◌+◌, ◌-◌, ◌<◌, ◌≤◌, ◌++◌, List, [], ◌∷◌, length, take, drop, sum_by, slice_index_or, slice_set, All, Some}
 use Rattle.at_broadcast.specs.Credits.{CreditList, amount_since, credit_after}
-use Rattle.at_broadcast.specs.Messages.{MessageList, credit_of, is_to}
+use Rattle.at_broadcast.specs.Messages.{MessageList, credit_of, one_to}
 use Rattle.at_broadcast.specs.declared.message.Message.{Message}
 use Rattle.at_broadcast.specs.declared.message.TheConstants.{MESSAGES_MAX}
 
@@ -46,7 +46,7 @@ pub record AreCreditsTo (messages : MessageList) (validated account : ℕ) (c : 
   pub few : length c.list ≤ validated
   pub since : (count : ℕ) → count ≤ validated
       → amount_since count c.list + brought messages account count ≡ brought messages account validated
-  pub room : c.room ≡ count_by (is_to account) (drop validated messages)
+  pub room : c.room ≡ sum_by (one_to account) (drop validated messages)
 
 -- what holds of a sender of whom so many messages are validated
 pub record IsSender (accounts validated : ℕ) (s : SenderState) : Type 0 where

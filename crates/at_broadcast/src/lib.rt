@@ -7,6 +7,7 @@
 
 mod credits;
 mod message;
+mod progress;
 mod sender;
 
 
