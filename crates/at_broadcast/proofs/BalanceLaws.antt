@@ -1,5 +1,5 @@
 -- Balances as natural numbers.
-use Rattle.std.proofs.Common.{◌≡◌, ℕ, ◌+◌, ◌≤◌, ℤ, pos, ◌-ℤ◌, ◌≤ℤ◌, List, arith}
+use Rattle.std.proofs.Common.{◌≡◌, ℕ, ◌+◌, ◌≤◌, pos, ◌-ℤ◌, ◌≤ℤ◌, List, arith}
 use Rattle.std.proofs.lemmas.Int.{ints}
 use Rattle.at_ledger.specs.Book.{BookTerms}
 use Rattle.at_broadcast.specs.Messages.{MessageList}

@@ -1,9 +1,8 @@
 -- Sums of credits by their numbers.
-use Rattle.std.proofs.Common.{◌≡◌, ℕ, suc, ◌+◌, ◌-◌, ◌<◌, ◌≤◌, List, [], ◌∷◌, ◌++◌, length, get_or, take, drop, refl, ap, sym, ◌∙◌, true, false, leb, cond, le-leb, arith, length-take, length-drop}
-use Rattle.std.specs.List.{All, sum_by}
+use Rattle.std.proofs.Common.{◌≡◌, ℕ, suc, ◌+◌, ◌-◌, ◌<◌, ◌≤◌, List, [], ◌∷◌, length, get_or, take, drop, refl, ap, ◌∙◌, leb, cond, le-leb, arith, length-take, length-drop}
+use Rattle.std.specs.List.{All}
 use Rattle.std.proofs.lemmas.Bool.{lt-leb}
 use Rattle.std.proofs.lemmas.List.{take-append-drop, get_or-drop, get_or-take}
-use Rattle.std.proofs.lemmas.List.Elements.{All-from_get_or}
 use Rattle.std.proofs.lemmas.List.Sums.{sum_by-append, sum_by-cons}
 use Rattle.at_broadcast.specs.declared.credits.Credit.{Credit}
 use Rattle.at_broadcast.specs.Credits.{AreCredits, amount_of, amount_since}
@@ -30,13 +29,19 @@ amount_since-none number (c ∷ list) all =
 pub amount_since-drop : (number : ℕ) (list : List Credit) (i : ℕ) → i ≤ length list
     → ((k : ℕ) (d : Credit) → k < i → (get_or list k d).number < number) → ((k : ℕ) (d : Credit) → i ≤ k → k < length list → number ≤ (get_or list k d).number)
     → amount_since number list + amount_of (take i list) ≡ amount_of list
-amount_since-drop number list i within below above = 
+amount_since-drop number list i within below above =
     let front = amount_since-none number (take i list) (λ k d h. let lt : k < i = omega (arith, length-take i list) in rw get_or-take (below k d lt)) in
     let back = amount_since-all number (drop i list) (λ k d h. rw get_or-drop (above (i + k) d (omega arith) (omega (arith, length-drop i list)))) in
     let whole = take-append-drop i list in
-    omega (arith, front, back, ap (amount_since number) whole, ap amount_of whole,
+    omega (
+      arith,
+      front,
+      back,
+      ap (amount_since number) whole,
+      ap amount_of whole,
       sum_by-append (λ (c : Credit). cond (leb number c.number) c.amount 0) (take i list) (drop i list),
-      sum_by-append (λ (c : Credit). c.amount) (take i list) (drop i list))
+      sum_by-append (λ (c : Credit). c.amount) (take i list) (drop i list),
+    )
 
 -- the same of the credits as they are kept: the sum of all less that before the first such credit
 pub amount_since-first : (number total : ℕ) (list : List Credit) (i : ℕ) (c : Credit) → AreCredits list total → i < length list

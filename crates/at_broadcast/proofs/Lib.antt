@@ -5,3 +5,8 @@ pub mod BalanceLaws
 pub mod ReachedLaws
 pub mod SenderLaws
 pub mod MessageLaws
+pub mod MoveLaws
+pub mod ProgressLaws
+pub mod LeftLaws
+pub mod StartLaws
+pub mod NodeLaws

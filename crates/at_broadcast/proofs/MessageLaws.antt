@@ -1,10 +1,10 @@
 -- One more delivery: what was counted before stays as it is.
-use Rattle.std.proofs.Common.{◌≡◌, ◌≢◌, ℕ, ◌+◌, ◌<◌, ◌≤◌, ◌⊎◌, ℤ, pos, ◌-ℤ◌, ◌≤ℤ◌, List, [], ◌∷◌, length, get_or, set, Option, None, Some, refl, ap, sym, subst, ◌∙◌, inl, inr, arith, get_or-set_same, get_or-set_other}
+use Rattle.std.proofs.Common.{◌≡◌, ◌≢◌, ℕ, ◌+◌, ◌<◌, ◌≤◌, ℤ, pos, ◌-ℤ◌, ◌≤ℤ◌, List, length, get_or, None, Some, ap, sym, subst, ◌∙◌, inl, inr, arith, get_or-set_same, get_or-set_other}
 use Rattle.std.proofs.lemmas.Bool.{cases_eq}
 use Rattle.at_ledger.specs.Book.{BookTerms, account_of}
 use Rattle.at_broadcast.specs.declared.message.Message.{Message}
 use Rattle.at_broadcast.specs.Messages.{MessageList, credit_of, debit_of, list_of, message_at, message_of, with_message}
-use Rattle.at_broadcast.specs.Validated.{IsValid, Reached, balance_at, came, went, raised}
+use Rattle.at_broadcast.specs.Validated.{IsValid, Reached, balance_at, came, went}
 use Rattle.at_broadcast.specs.Validated.Reached.{zeros, raise}
 use Rattle.at_broadcast.proofs.ReachedLaws.{after-Reached, length-Reached}
 use Rattle.at_broadcast.proofs.SumLaws.{list_of-other, list_of-same, sum_of_first-with_message}
@@ -52,11 +52,11 @@ IsValid-with_message b messages counts p number q new m known counted none after
   balance = subst (λ (z : ℤ). pos m.amount ≤ℤ z)
       (sym (balance_at-with_message b messages m.deps p number m.from new known (omega (arith, valid.covered p counted, after)))) valid.balance;
 } where
-    taken : q ≡ p → get_or counts q 0 ≡ number → ⊥
-    taken same e =
-        let there : message_of messages p number ≡ Some m =
-            ap (λ (i : ℕ). message_of messages i number) (sym same) ∙ (ap (λ (k : ℕ). message_of messages q k) (sym e) ∙ valid.delivered) in
-        cc (none, there)
+  taken : q ≡ p → get_or counts q 0 ≡ number → ⊥
+  taken same e =
+      let there : message_of messages p number ≡ Some m =
+      ap (λ (i : ℕ). message_of messages i number) (sym same) ∙ (ap (λ (k : ℕ). message_of messages q k) (sym e) ∙ valid.delivered) in
+      cc (none, there)
 
 -- and what was reached
 pub Reached-with_message : (b : BookTerms) (messages : List MessageList) (counts : List ℕ) (p number : ℕ) (new : Message)

@@ -1,14 +1,11 @@
 -- Counts that are reached by raising, and why there is one end of it.
-use Rattle.std.proofs.Common.{◌≡◌, ◌≢◌, ℕ, zero, suc, ◌+◌, ◌<◌, ◌≤◌, List, [], ◌∷◌, length, get_or, set, replicate, take, Option, None, Some, IsSome, refl, ap, sym, subst, ◌∙◌, inl, inr, arith, length-set, get_or-set_same, get_or-set_other}
-use Rattle.std.specs.Option.{is_some}
+use Rattle.std.proofs.Common.{◌≡◌, ℕ, zero, suc, ◌+◌, ◌<◌, ◌≤◌, List, [], ◌∷◌, length, get_or, replicate, None, Some, refl, ap, sym, subst, ◌∙◌, inl, inr, arith, length-set, get_or-set_other}
 use Rattle.std.proofs.lemmas.Bool.{cases_eq, cases_lt}
 use Rattle.std.proofs.lemmas.List.{length-replicate}
-use Rattle.std.proofs.lemmas.Grind.{same_number_lists}
-use Rattle.at_base.specs.Counts.{Covers}
 use Rattle.at_ledger.specs.Book.{BookTerms, account_of}
 use Rattle.at_broadcast.specs.declared.message.Message.{Message}
-use Rattle.at_broadcast.specs.Messages.{MessageList, credit_of, debit_of, list_of, message_at, message_of, sum_of_first, with_message}
-use Rattle.at_broadcast.specs.Validated.{IsClosed, IsValid, Reached, raised, balance_at}
+use Rattle.at_broadcast.specs.Messages.{MessageList, message_of}
+use Rattle.at_broadcast.specs.Validated.{IsValid, Reached, raised}
 use Rattle.at_broadcast.specs.Validated.Reached.{zeros, raise}
 
 pub length-Reached : (b : BookTerms) (messages : List MessageList) (counts : List ℕ) → Reached b messages counts → length counts ≡ b.processes
@@ -16,7 +13,7 @@ length-Reached b messages _ zeros = length-replicate b.processes 0
 length-Reached b messages _ (raise counts p m before valid) = length-set counts p (get_or counts p 0 + 1) ∙ length-Reached b messages counts before
 
 -- zeros count nothing
-get_or-zeros : (n p : ℕ) → get_or {A = ℕ} (replicate n 0) p 0 ≡ 0
+pub get_or-zeros : (n p : ℕ) → get_or {A = ℕ} (replicate n 0) p 0 ≡ 0
 get_or-zeros zero p = refl
 get_or-zeros (suc n) zero = refl
 get_or-zeros (suc n) (suc p) = get_or-zeros n p
@@ -41,10 +38,10 @@ IsCounted-Reached b messages _ (raise counts p m before valid) q number below =
       | inl same ↦
           elim (cases_eq number (get_or counts p 0)) as (λ _. IsCounted b messages q number) [
             | inl last ↦ record {
-                message = m;
-                delivered = ap (λ (i : ℕ). message_of messages i number) same ∙ (ap (λ (i : ℕ). message_of messages p i) last ∙ valid.delivered);
-                owner = valid.owner ∙ ap (λ (i : ℕ). i ∷ []) (sym same);
-              }
+              message = m;
+              delivered = ap (λ (i : ℕ). message_of messages i number) same ∙ (ap (λ (i : ℕ). message_of messages p i) last ∙ valid.delivered);
+              owner = valid.owner ∙ ap (λ (i : ℕ). i ∷ []) (sym same);
+            }
             | inr apart ↦
                 let here : get_or (raised counts p) q 0 ≡ get_or (raised counts p) p 0 = ap (λ (i : ℕ). get_or (raised counts p) i 0) same in
                 let was : get_or counts q 0 ≡ get_or counts p 0 = ap (λ (i : ℕ). get_or counts i 0) same in
@@ -63,8 +60,8 @@ after-Reached b messages counts reached p number none =
       | inl below ↦ absurd (missing (IsCounted-Reached b messages counts reached p number below))
       | inr above ↦ above
     ] where
-    missing : IsCounted b messages p number → ⊥
-    missing c = cc (none, c.delivered)
+      missing : IsCounted b messages p number → ⊥
+      missing c = cc (none, c.delivered)
 
 -- every reached list of counts is at most one at which no next message is valid: so there is one alone
 pub below-Reached : (b : BookTerms) (messages : List MessageList) (counts stuck : List ℕ) → Reached b messages counts

@@ -1,13 +1,14 @@
 -- What is kept of one sender, after one more delivery and after one more validation.
-use Rattle.std.proofs.Common.{◌≡◌, ◌≢◌, ℕ, zero, suc, ◌+◌, ◌-◌, ◌<◌, ◌≤◌, List, [], ◌∷◌, ◌++◌, length, get_or, set, take, drop, replicate, Option, None, Some, true, false, leb, cond, eqb, refl, ap, sym, subst, ◌∙◌, inl, inr, add-one, arith, eq-eqb, le-leb, length-append, length-set, length-drop, get_or-drop, get_or-set_same, get_or-set_other}
+use Rattle.std.proofs.Common.{◌≡◌, ℕ, zero, suc, ◌+◌, ◌-◌, ◌<◌, ◌≤◌, List, [], ◌∷◌, ◌++◌, length, get_or, set, drop, Option, None, Some, Bool, true, false, leb, cond, eqb, refl, ap, sym, subst, ◌∙◌, inl, inr, add-one, arith, eq-eqb, le-leb, length-append, length-set, length-drop, get_or-drop, get_or-set_same, get_or-set_other}
 use Rattle.std.specs.List.{All, sum_by}
-use Rattle.std.proofs.lemmas.Bool.{cases_eq, lt-leb}
+use Rattle.std.proofs.lemmas.Bool.{cases_eq}
 use Rattle.std.proofs.lemmas.Bool.Decides.{nat_tests}
 use Rattle.std.proofs.lemmas.List.{drop-set-add, take-set-le}
 use Rattle.std.proofs.lemmas.List.Elements.{All-append}
-use Rattle.std.proofs.lemmas.List.Sums.{sum_by-append, sum_by-cons, sum_by-drop_more, sum_by-set}
+use Rattle.std.proofs.lemmas.List.Sums.{sum_by-append, sum_by-cons, sum_by-drop_more, sum_by-le, sum_by-set}
 use Rattle.at_broadcast.specs.declared.credits.Credit.{Credit}
 use Rattle.at_broadcast.specs.declared.message.Message.{Message}
+use Rattle.at_broadcast.specs.declared.message.TheConstants.{MESSAGES_MAX}
 use Rattle.at_broadcast.specs.Credits.{CreditList, amount_since, credit_after}
 use Rattle.at_broadcast.specs.Messages.{MessageList, credit_of, message_at, one_to}
 use Rattle.at_broadcast.specs.Sender.{AreCreditsTo, IsSender, SenderState, brought, credited, credits_to, no_credits, stored, with_credit, with_room}
@@ -26,7 +27,7 @@ AreCreditsTo-stored messages validated account c number room m are after within 
     let inside : i < length rest = omega (arith, length-drop validated messages) in
     let empty : get_or rest i None ≡ None = get_or-drop validated messages i None ∙ (ap (λ k. get_or messages k None) place ∙ none) in
     let dropped : drop validated (set messages number (Some m)) ≡ set rest i (Some m) =
-        ap (λ k. drop validated (set messages k (Some m))) (sym place) ∙ drop-set-add validated messages i (Some m) in
+    ap (λ k. drop validated (set messages k (Some m))) (sym place) ∙ drop-set-add validated messages i (Some m) in
     let summed = sum_by-set (one_to account) rest i (Some m) None inside in
     record {
       earlier = are.earlier;
@@ -50,8 +51,8 @@ IsSender-stored accounts validated s number m is after within none known = recor
             let place : m.to < length s.credits = omega (arith, is.sized, known) in
             let one : one_to a (Some m) ≡ 1 = ap (λ t. cond t 1 0) (eq-eqb m.to a (sym same)) in
             let e : get_or (set s.credits m.to (with_room (credits_to s m.to))) a no_credits ≡ with_room (credits_to s a) =
-                ap (λ k. get_or (set s.credits m.to (with_room (credits_to s m.to))) k no_credits) same
-                ∙ (get_or-set_same s.credits m.to (with_room (credits_to s m.to)) no_credits place ∙ ap (λ k. with_room (credits_to s k)) (sym same)) in
+            ap (λ k. get_or (set s.credits m.to (with_room (credits_to s m.to))) k no_credits) same
+            ∙ (get_or-set_same s.credits m.to (with_room (credits_to s m.to)) no_credits place ∙ ap (λ k. with_room (credits_to s k)) (sym same)) in
             subst (AreCreditsTo (set s.messages number (Some m)) validated a) (sym e)
             (AreCreditsTo-stored s.messages validated a (credits_to s a) number ((credits_to s a).room + 1) m (is.credits a a_in) after within none (omega (arith, one)))
         | inr apart ↦
@@ -72,7 +73,7 @@ AreCreditsTo-other : (messages : MessageList) (validated account : ℕ) (c : Cre
     → AreCreditsTo messages (validated + 1) account c
 AreCreditsTo-other messages validated account c are within nothing none =
     let more : brought messages account (validated + 1) ≡ brought messages account validated =
-        ap (λ k. brought messages account k) (add-one validated) ∙ omega (arith, sum_by-take_more (credit_of account) messages validated refl, nothing) in
+    ap (λ k. brought messages account k) (add-one validated) ∙ omega (arith, sum_by-take_more (credit_of account) messages validated refl, nothing) in
     record {
       earlier = earlier-more c.list validated are.earlier;
       few = omega (arith, are.few);
@@ -108,9 +109,9 @@ AreCreditsTo-credited : (messages : MessageList) (validated account amount : ℕ
 AreCreditsTo-credited messages validated account amount c are within credit one =
     let last : Credit = credit_after c.list validated amount in
     let more : brought messages account (validated + 1) ≡ brought messages account validated + amount =
-        ap (λ k. brought messages account k) (add-one validated) ∙ omega (arith, sum_by-take_more (credit_of account) messages validated refl, credit) in
+    ap (λ k. brought messages account k) (add-one validated) ∙ omega (arith, sum_by-take_more (credit_of account) messages validated refl, credit) in
     let earlier : All (λ (c : Credit). c.number < validated + 1) (c.list ++ last ∷ []) =
-        All-append (λ (c : Credit). c.number < validated + 1) c.list (last ∷ []) (earlier-more c.list validated are.earlier) (All-one (validated + 1) last (omega arith)) in
+    All-append (λ (c : Credit). c.number < validated + 1) c.list (last ∷ []) (earlier-more c.list validated are.earlier) (All-one (validated + 1) last (omega arith)) in
     record {
       earlier = earlier;
       few = omega (arith, are.few, length-append c.list (last ∷ []));
@@ -138,9 +139,9 @@ IsSender-credited accounts validated s m is within here known = record {
             let place : m.to < length s.credits = omega (arith, is.sized, known) in
             let test = eq-eqb m.to a (sym same) in
             let e : get_or (set s.credits m.to (with_credit (credits_to s m.to) validated m.amount)) a no_credits ≡ with_credit (credits_to s a) validated m.amount =
-                ap (λ k. get_or (set s.credits m.to (with_credit (credits_to s m.to) validated m.amount)) k no_credits) same
-                ∙ (get_or-set_same s.credits m.to (with_credit (credits_to s m.to) validated m.amount) no_credits place
-                ∙ ap (λ k. with_credit (credits_to s k) validated m.amount) (sym same)) in
+            ap (λ k. get_or (set s.credits m.to (with_credit (credits_to s m.to) validated m.amount)) k no_credits) same
+            ∙ (get_or-set_same s.credits m.to (with_credit (credits_to s m.to) validated m.amount) no_credits place
+            ∙ ap (λ k. with_credit (credits_to s k) validated m.amount) (sym same)) in
             subst (AreCreditsTo s.messages (validated + 1) a) (sym e)
             (AreCreditsTo-credited s.messages validated a m.amount (credits_to s a) (is.credits a a_in) within
             (ap (credit_of a) here ∙ ap (λ t. cond t m.amount 0) test) (ap (one_to a) here ∙ ap (λ t. cond t 1 0) test))
@@ -152,3 +153,24 @@ IsSender-credited accounts validated s m is within here known = record {
             (AreCreditsTo-other s.messages validated a (credits_to s a) (is.credits a a_in) within (ap (credit_of a) here ∙ nothing) (ap (one_to a) here ∙ none_to))
       ];
 }
+
+one_to-le : (account : ℕ) (x : Option Message) → one_to account x ≤ 1
+one_to-le account None = omega arith
+one_to-le account (Some m) = cond-le (eqb m.to account) where
+  cond-le : (t : Bool) → cond t 1 0 ≤ 1
+  cond-le true = omega arith
+  cond-le false = omega arith
+
+-- there is never room for more than all
+pub room-le : (accounts validated account : ℕ) (s : SenderState) → IsSender accounts validated s → account < accounts → (credits_to s account).room ≤ MESSAGES_MAX
+room-le accounts validated account s is known =
+    let rest : MessageList = drop validated s.messages in
+    let most = sum_by-le (one_to account) 1 rest (λ k d h. one_to-le account (get_or rest k d)) in
+    omega (arith, most, (is.credits account known).room, length-drop validated s.messages, is.messages)
+
+-- and there is room for the next
+pub room-next : (accounts validated : ℕ) (s : SenderState) (m : Message) → IsSender accounts validated s → m.to < accounts
+    → validated < length s.messages → message_at s.messages validated ≡ Some m → 0 < (credits_to s m.to).room
+room-next accounts validated s m is known within here =
+    let one : one_to m.to (Some m) ≡ 1 = ap (λ t. cond t 1 0) (eq-eqb m.to m.to refl) in
+    omega (arith, one, ap (one_to m.to) here, (is.credits m.to known).room, sum_by-drop_more (one_to m.to) s.messages validated None within)

@@ -1,10 +1,10 @@
 -- Sums over the first messages of each sender.
-use Rattle.std.proofs.Common.{◌≡◌, ◌≢◌, ℕ, suc, ◌+◌, ◌<◌, ◌≤◌, List, [], ◌∷◌, length, get_or, set, take, Option, None, Some, true, false, cond, eqb, refl, ap, sym, subst, ◌∙◌, inl, inr, add-one, arith, length-set, get_or-set_same, get_or-set_other}
+use Rattle.std.proofs.Common.{◌≡◌, ◌≢◌, ℕ, ◌+◌, ◌<◌, ◌≤◌, List, [], length, get_or, set, take, Option, None, Some, ap, sym, subst, ◌∙◌, inl, inr, add-one, arith, length-set, get_or-set_same, get_or-set_other}
 use Rattle.std.specs.List.{range_with_len, sum_by}
 use Rattle.std.proofs.lemmas.Bool.{cases_eq}
 use Rattle.std.proofs.lemmas.List.{take-set-le}
 use Rattle.at_broadcast.specs.declared.message.Message.{Message}
-use Rattle.at_broadcast.specs.Messages.{MessageList, credit_of, debit_of, list_of, message_of, sum_of_first, with_message}
+use Rattle.at_broadcast.specs.Messages.{MessageList, list_of, message_of, sum_of_first, with_message}
 use Rattle.at_broadcast.specs.Validated.{raised}
 use Rattle.at_broadcast.proofs.RangeLaws.{range-le, range-one, range-same, sum_by-take_le, sum_by-take_more}
 
@@ -33,7 +33,7 @@ sum_of_first-raised weight messages counts p none known counted =
     let c : ℕ = get_or counts p 0 in
     let same : get_or (raised counts p) p 0 ≡ c + 1 = get_or-set_same counts p (c + 1) 0 counted in
     let here : part weight messages (raised counts p) p ≡ part weight messages counts p + weight (message_of messages p c) =
-        ap (λ k. sum_by weight (take k (list_of messages p))) (same ∙ add-one c) ∙ sum_by-take_more weight (list_of messages p) c none in
+    ap (λ k. sum_by weight (take k (list_of messages p))) (same ∙ add-one c) ∙ sum_by-take_more weight (list_of messages p) c none in
     range-one (part weight messages counts) (part weight messages (raised counts p)) 0 (length messages) p (weight (message_of messages p c))
     (omega arith) (omega (arith, known)) here
     (λ q apart. ap (λ k. sum_by weight (take k (list_of messages q))) (get_or-set_other counts p q (c + 1) 0 apart))

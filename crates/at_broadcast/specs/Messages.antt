@@ -1,12 +1,17 @@
 -- The messages that were delivered, and what they move.
-use Rattle.std.specs.Prelude.{◌≡◌, ℕ, ◌+◌, ◌==◌, ◌<◌, List, [], length, take, map, sum_by, slice_index, slice_index_or, slice_set, Option, Some, None, if◌then◌else◌}
+use Rattle.std.specs.Prelude.{◌≡◌, ℕ, ◌==◌, ◌<◌, List, [], length, take, replicate, sum_by, slice_index, slice_index_or, slice_set, Option, Some, None, if◌then◌else◌}
 use Rattle.std.specs.List.{range_with_len}
-use Rattle.at_ledger.specs.Book.{BookTerms, account_of}
+use Rattle.at_ledger.specs.Book.{BookTerms}
 use Rattle.at_broadcast.specs.declared.message.Message.{Message}
+use Rattle.at_broadcast.specs.declared.message.TheConstants.{MESSAGES_MAX}
 
 -- the messages of one sender by number, as far as they were delivered
 abbrev pub MessageList : Type 0
 MessageList = List (Option Message)
+
+-- none was delivered
+unfoldable pub no_messages : MessageList
+no_messages = replicate MESSAGES_MAX None
 
 -- the list of a sender
 abbrev pub list_of : List MessageList → ℕ → MessageList

@@ -1,5 +1,5 @@
 -- Which of the delivered messages are validated.
-use Rattle.std.specs.Prelude.{◌≡◌, ℕ, ◌+◌, ◌<◌, ℤ, pos, ◌-ℤ◌, ◌≤ℤ◌, List, [], ◌∷◌, replicate, slice_index, slice_set, Some}
+use Rattle.std.specs.Prelude.{◌≡◌, ℕ, ◌+◌, ℤ, pos, ◌-ℤ◌, ◌≤ℤ◌, List, [], ◌∷◌, replicate, slice_index, slice_set, Some}
 use Rattle.at_base.specs.Counts.{Covers}
 use Rattle.at_ledger.specs.Book.{BookTerms, account_of}
 use Rattle.at_broadcast.specs.Messages.{MessageList, credit_of, debit_of, message_of, sum_of_first}

@@ -7,9 +7,10 @@
 
 mod credits;
 mod message;
+mod node;
 mod progress;
 mod sender;
 
-
 pub use crate::message::{MESSAGES_MAX, Message};
+pub use crate::node::Node;
 pub use at_base::NoMemory;

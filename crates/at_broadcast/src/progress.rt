@@ -1,6 +1,6 @@
 //! How far a node is.
 
-ghost use Rattle.std.specs.Prelude.{◌≡◌, ◌+◌, ◌≤◌, ◌<◌, ◌^◌, ◌↔◌, ℕ, [], ◌∷◌, length, replicate, slice_index, None, Some, IsTrue, IfOk, OnOk, OnErr, IfSome, IfNone, is_some};
+ghost use Rattle.std.specs.Prelude.{◌≡◌, ◌+◌, ◌≤◌, ◌<◌, ◌^◌, ◌↔◌, ℕ, pos, ◌≤ℤ◌, [], ◌∷◌, length, replicate, slice_index, None, Some, IsTrue, IfOk, OnOk, OnErr, IfSome, IfNone, is_some};
 ghost use Rattle.at_base.specs.Counts.{Covers};
 ghost use Rattle.at_ledger.specs.Book.{account_of};
 ghost use Rattle.at_broadcast.specs.Messages.{IsMessageOn, credit_of, message_of, sum_of_first, with_message};
@@ -46,7 +46,45 @@ impl Model for Progress {
 }
 
 impl Progress {
-    ghost use Rattle.at_broadcast.specs.Node.{IsValidNext};
+    ghost use Rattle.at_broadcast.specs.Node.{IsSteady, IsValidNext, left, starting_state};
+
+    /// Nothing delivered, and the openings.
+    pub(crate) fn new(alloc: Global, book: &Book) -> Result<Progress, NoMemory>
+        ensures start { IfOk result (λ p. p ≡ starting_state book.now) }
+        ensures steady { IfOk result IsSteady }
+    {
+        let accounts = book.accounts();
+        let mut senders = Vec::new(alloc);
+        for _process in 0..book.processes() {
+            senders.push(Sender::new(alloc, accounts)?)?;
+        }
+        let mut balances = Vec::new(alloc);
+        for account in 0..accounts {
+            balances.push(book.opening(account))?;
+        }
+        Ok(Progress {
+            book: book.copy(alloc)?,
+            validated: Counts::zeros(book.processes()),
+            senders,
+            balances,
+        })
+    }
+
+    /// How many messages of the process are validated.
+    pub(crate) fn validated(&self, p: u32) -> u32
+        requires { p < self.now.book.processes }
+        ensures { result ≡ slice_index self.now.validated p }
+    {
+        self.validated.get(p)
+    }
+
+    /// The balance of the account.
+    pub(crate) fn balance(&self, account: u32) -> u64
+        requires { account < length self.now.book.accounts }
+        ensures { result ≡ slice_index self.now.balances account }
+    {
+        self.balances[account as usize]
+    }
 
     /// Whether the message of this sender and number was delivered.
     pub(crate) fn is_delivered(&self, sender: u32, number: u32) -> bool
@@ -57,7 +95,12 @@ impl Progress {
     }
 
     /// Keeps a message. What its validation takes memory for is made room for here.
-    pub(crate) fn store(&mut self, sender: u32, number: u32, message: &Message) -> Result<(), NoMemory>
+    pub(crate) fn store(
+        &mut self,
+        sender: u32,
+        number: u32,
+        message: &Message,
+    ) -> Result<(), NoMemory>
         requires sender_in { sender < self.old.book.processes }
         requires number_in { number < MESSAGES_MAX }
         requires undelivered { message_of self.old.messages sender number ≡ None }
@@ -74,12 +117,82 @@ impl Progress {
         ensures book { self.new.book ≡ self.old.book }
         ensures messages { self.new.messages ≡ self.old.messages }
         ensures validated { self.new.validated ≡ raised self.old.validated transfer.sender }
+        ensures left { left self.new.validated + 1 ≡ left self.old.validated }
     {
         let number = self.validated.get(transfer.sender);
         self.senders[transfer.sender as usize].credit(number, transfer.to, transfer.amount);
         self.validated.set(transfer.sender, number + 1);
         self.balances[transfer.from as usize] -= transfer.amount;
         self.balances[transfer.to as usize] += transfer.amount;
+    }
+
+    /// Validates messages until no next one is valid. Takes no memory.
+    pub(crate) fn settle(&mut self)
+        ensures book { self.new.book ≡ self.old.book }
+        ensures messages { self.new.messages ≡ self.old.messages }
+        ensures steady { IsSteady self.new }
+        ensures done { (p : ℕ) (m : Message) → ¬ IsValid self.new.book self.new.messages self.new.validated p m }
+    {
+        while let Some(transfer) = self.first_valid() {
+            self.raise(transfer);
+        }
+    }
+
+    /// What a valid message moves, of the lowest process whose next one is.
+    fn first_valid(&self) -> Option<Transfer>
+        ensures some { IfSome result (IsValidNext self.now) }
+        ensures none { IfNone result ((p : ℕ) (m : Message) → ¬ IsValid self.now.book self.now.messages self.now.validated p m) }
+        ensures steady { IsSteady self.now }
+    {
+        for p in 0..self.book.processes() {
+            if let Some(transfer) = self.valid_of(p) {
+                return Some(transfer);
+            }
+        }
+        None
+    }
+
+    /// What the next message of the process moves, if it is valid.
+    fn valid_of(&self, p: u32) -> Option<Transfer>
+        requires { p < self.now.book.processes }
+        ensures some { IfSome result (IsValidNext self.now) }
+        ensures none { IfNone result ((m : Message) → ¬ IsValid self.now.book self.now.messages self.now.validated p m) }
+    {
+        let message = self.senders[p as usize].message(self.validated.get(p))?;
+        if !self.is_valid(p, message) {
+            return None;
+        }
+        Some(Transfer {
+            sender: p,
+            from: message.from,
+            to: message.to,
+            amount: message.amount,
+        })
+    }
+
+    /// Whether the next message of the process is valid.
+    fn is_valid(&self, p: u32, message: &Message) -> bool
+        requires process_in { p < self.now.book.processes }
+        requires message_in { IsMessageOn self.now.book message.now }
+        requires next { message_of self.now.messages p (slice_index self.now.validated p) ≡ Some message.now }
+        ensures { IsTrue result ↔ IsValid self.now.book self.now.messages self.now.validated p message.now }
+    {
+        self.is_one_owner(p, message.from)
+            && message.deps.get(p) == self.validated.get(p)
+            && self.validated.covers(&message.deps)
+            && self.covers_amount(message)
+    }
+
+    /// Whether the balance at `deps` covers the amount: the balance less what came since. A balance below zero covers nothing.
+    fn covers_amount(&self, message: &Message) -> bool
+        requires message_in { IsMessageOn self.now.book message.now }
+        requires covered { Covers self.now.validated message.now.deps }
+        ensures { (p : ℕ) → (account_of self.now.book message.now.from).owners ≡ p ∷ []
+            → slice_index message.now.deps p ≡ slice_index self.now.validated p
+            → (IsTrue result ↔ (pos message.now.amount ≤ℤ balance_at self.now.book self.now.messages message.now.deps message.now.from)) }
+    {
+        let left_out = self.left_out(message.from, &message.deps);
+        u128::from(message.amount) + left_out <= u128::from(self.balances[message.from as usize])
     }
 
     /// What came to the account by validated messages that `deps` leaves out.

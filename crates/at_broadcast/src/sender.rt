@@ -1,6 +1,6 @@
 //! What a node has of one sender.
 
-ghost use Rattle.std.specs.Prelude.{◌≡◌, ◌+◌, ◌*◌, ◌^◌, ◌<◌, ◌≤◌, length, replicate, None, All, IfOk, OnOk, OnErr, option_copied};
+ghost use Rattle.std.specs.Prelude.{◌≡◌, ◌+◌, ◌*◌, ◌^◌, ◌<◌, ◌≤◌, length, replicate, All, IfOk, OnOk, OnErr, option_copied};
 ghost use Rattle.at_broadcast.specs.Credits.{amount_since};
 
 use crate::NoMemory;
@@ -25,12 +25,13 @@ impl Model for Sender {
 }
 
 impl Sender {
-    ghost use Rattle.at_broadcast.specs.Messages.{message_at};
+    ghost use Rattle.at_broadcast.specs.Messages.{message_at, no_messages};
     ghost use Rattle.at_broadcast.specs.Sender.{credited, credits_to, no_credits, stored};
 
     /// Nothing delivered.
+    #[tactic(auto, unfolding(crate::specs::Messages::no_messages))]
     pub(crate) fn new(alloc: Global, accounts: u32) -> Result<Sender, NoMemory>
-        ensures { IfOk result (λ s. s ≡ record { messages = replicate MESSAGES_MAX None; credits = replicate accounts no_credits }) }
+        ensures { IfOk result (λ s. s ≡ record { messages = no_messages; credits = replicate accounts no_credits }) }
     {
         let mut messages = Vec::new(alloc);
         for _number in 0..MESSAGES_MAX {

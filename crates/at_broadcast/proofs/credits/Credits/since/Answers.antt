@@ -1,4 +1,4 @@
-use Rattle.std.proofs.Common.{◌≡◌, ℕ, ◌+◌, ◌-◌, ◌<◌, ◌≤◌, List, length, get_or, ap, sym, ◌∙◌, ltb, ltb-true, ltb-false, arith, rules}
+use Rattle.std.proofs.Common.{ℕ, ◌<◌, List, length, ap, sym, ◌∙◌, ltb, ltb-true, ltb-false, arith, rules}
 use Rattle.std.proofs.lemmas.List.Sorted.{IsPartitionPoint-from_clause, IsPartitionedBy-ltb}
 use Rattle.at_broadcast.specs.declared.credits.Credit.{Credit}
 use Rattle.at_broadcast.specs.Credits.{CreditList, amount_since}
@@ -6,7 +6,7 @@ use Rattle.at_broadcast.proofs.CreditLaws.{amount_since-first, amount_since-none
 use Rattle.at_broadcast.proofs.credits.Credits.since.Goals as goal
 
 pub returns-in-Some-clause-sum : goal.returns-in-Some-clause-sum
-returns-in-Some-clause-sum c = 
+returns-in-Some-clause-sum c =
     let list : List Credit = c.self.inside.list.items in
     let number : ℕ = c.args.number in
     let i : ℕ = c.partition_point-first.result in
@@ -20,7 +20,7 @@ returns-in-Some-clause-sum c =
     ∙ ap (λ (v : CreditList). amount_since number v.list) c.self.view_is
 
 pub returns-in-None-clause-sum : goal.returns-in-None-clause-sum
-returns-in-None-clause-sum c = 
+returns-in-None-clause-sum c =
     let list : List Credit = c.self.inside.list.items in
     let number : ℕ = c.args.number in
     let i : ℕ = c.partition_point-first.result in
