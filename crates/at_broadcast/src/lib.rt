@@ -10,6 +10,8 @@ mod message;
 mod node;
 mod progress;
 mod sender;
+#[cfg(test)]
+mod tests;
 
 pub use crate::message::{MESSAGES_MAX, Message};
 pub use crate::node::Node;

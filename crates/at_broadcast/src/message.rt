@@ -18,7 +18,7 @@ pub struct Message {
 
 impl Message {
     /// An equal message. It takes no memory.
-    pub fn copy(&self) -> Message
+    pub(crate) fn copy(&self) -> Message
         ensures { result ≡ self.now }
     {
         Message {

@@ -12,7 +12,7 @@ use Rattle.at_broadcast.specs.Progress.{IsProgress, messages_of, no_sender, send
 use Rattle.at_broadcast.specs.Sender.{SenderState, credits_to, stored}
 use Rattle.at_broadcast.proofs.ProgressLaws.{IsProgress-stored, messages_of-stored}
 use Rattle.at_broadcast.proofs.SenderLaws.{room-le}
-use Rattle.at_broadcast.proofs.progress.Progress.store.Goals.{After-index_mut, After-self-1}
+use Rattle.at_broadcast.proofs.progress.Progress.store.Goals.{After-index_mut}
 use Rattle.at_broadcast.proofs.progress.Progress.store.Goals as goal
 
 -- the sender that was read
