@@ -30,13 +30,13 @@ pub amount_since-drop : (number : ℕ) (list : List Credit) (i : ℕ) → i ≤ 
     → ((k : ℕ) (d : Credit) → k < i → (get_or list k d).number < number) → ((k : ℕ) (d : Credit) → i ≤ k → k < length list → number ≤ (get_or list k d).number)
     → amount_since number list + amount_of (take i list) ≡ amount_of list
 amount_since-drop number list i within below above =
-    let front = amount_since-none number (take i list) (λ k d h. let lt : k < i = omega (arith, length-take i list) in rw get_or-take (below k d lt)) in
-    let back = amount_since-all number (drop i list) (λ k d h. rw get_or-drop (above (i + k) d (omega arith) (omega (arith, length-drop i list)))) in
+    let earlier = amount_since-none number (take i list) (λ k d h. let lt : k < i = omega (arith, length-take i list) in rw get_or-take (below k d lt)) in
+    let later = amount_since-all number (drop i list) (λ k d h. rw get_or-drop (above (i + k) d (omega arith) (omega (arith, length-drop i list)))) in
     let whole = take-append-drop i list in
     omega (
       arith,
-      front,
-      back,
+      earlier,
+      later,
       ap (amount_since number) whole,
       ap amount_of whole,
       sum_by-append (λ (c : Credit). cond (leb number c.number) c.amount 0) (take i list) (drop i list),

@@ -3,14 +3,16 @@ use Rattle.std.proofs.Common.{◌≡◌, ℕ, ◌<◌, ◌≤◌, List, length, 
 use Rattle.std.specs.Prelude.{is_some}
 use Rattle.std.proofs.Math.Bridge.{le_prop}
 use Rattle.std.proofs.Math.Bool.{Bool-set}
+use Rattle.std.proofs.Math.Nat.{ℕ_set}
 use Rattle.std.proofs.Math.Logic.{∥∥₁_elim}
 use Rattle.std.proofs.lemmas.Grind.{same_number_lists}
 use Rattle.at_ledger.specs.Book.{BookTerms}
+use Rattle.at_broadcast.specs.declared.message.Message.{Message}
 use Rattle.at_broadcast.specs.Messages.{MessageList, message_of}
 use Rattle.at_broadcast.specs.Node.{AgreesWithAll, HasPrefixes, IsNode, IsSolvent, NodeState, ShowsBalances}
-use Rattle.at_broadcast.specs.Validated.{IsClosed, Reached, came, went}
+use Rattle.at_broadcast.specs.Validated.{IsClosed, IsOnlyClosed, IsValid, Reached, came, went}
 use Rattle.at_broadcast.proofs.BalanceLaws.{balance_at-covers, balance_at-is}
-use Rattle.at_broadcast.proofs.ReachedLaws.{IsCounted, IsCounted-Reached, below-Reached}
+use Rattle.at_broadcast.proofs.ReachedLaws.{IsCounted, IsCounted-Reached, below-Reached, length-Reached}
 
 pub IsClosed-IsNode : (s : NodeState) → IsNode s → IsClosed s.book s.messages s.validated
 IsClosed-IsNode s node = record { reached = node.steady.reached; done = node.done }
@@ -34,6 +36,22 @@ validated-below s t one two book messages p =
     below-Reached t.book t.messages s.validated t.validated
     (subst (λ (b : BookTerms). Reached b t.messages s.validated) book (subst (λ (l : List MessageList). Reached s.book l s.validated) messages r))
     two.steady.counted two.done p)
+
+-- closed counts are at most any counts at which no next message is valid
+closed-below : (b : BookTerms) (messages : List MessageList) (counts stuck : List ℕ) → IsClosed b messages counts → length stuck ≡ b.processes
+    → ((p : ℕ) (m : Message) → ¬ IsValid b messages stuck p m) → (p : ℕ) → get_or counts p 0 ≤ get_or stuck p 0
+closed-below b messages counts stuck closed sized done p =
+    ∥∥₁_elim closed.reached le_prop (λ r. below-Reached b messages counts stuck r sized done p)
+
+pub IsOnlyClosed-IsNode : (s : NodeState) → IsNode s → IsOnlyClosed s.book s.messages s.validated
+IsOnlyClosed-IsNode s node others closed =
+    let sized : length others ≡ s.book.processes = ∥∥₁_elim closed.reached (ℕ_set _ _) (λ r. length-Reached s.book s.messages others r) in
+    same_number_lists others s.validated (omega (arith, sized, node.steady.counted)) (λ p within.
+    omega (
+      arith,
+      closed-below s.book s.messages others s.validated closed node.steady.counted node.done p,
+      closed-below s.book s.messages s.validated others (IsClosed-IsNode s node) sized closed.done p,
+    ))
 
 -- the same parts
 pub same_state : (s t : NodeState) → s.book ≡ t.book → s.messages ≡ t.messages → s.validated ≡ t.validated → s.balances ≡ t.balances → s ≡ t

@@ -76,8 +76,8 @@ pub IsProgress-stored : (b : BookTerms) (counts : List ℕ) (senders : List Send
 IsProgress-stored b counts senders balances p number m is process within none known =
     let messages : List MessageList = messages_of senders in
     let new : SenderState = stored (sender_of senders p) number m in
-    let place : p < length senders = omega (arith, is.sized, process) in
-    let listed : p < length messages = omega (arith, place, length-messages_of senders) in
+    let inside_senders : p < length senders = omega (arith, is.sized, process) in
+    let listed : p < length messages = omega (arith, inside_senders, length-messages_of senders) in
     let after = validated-le b counts senders balances p number is none in
     let here : message_at (sender_of senders p).messages number ≡ None = ap (λ (l : MessageList). message_at l number) (sym (list_of-messages_of senders p)) ∙ none in
     let inside : number < length (sender_of senders p).messages = omega (arith, (is.credits p process).messages, within) in
@@ -88,7 +88,7 @@ IsProgress-stored b counts senders balances p number m is process within none kn
       sized = length-set senders p new ∙ is.sized;
       credits = λ q q_in. elim (cases_eq q p) as (λ _. IsSender (length b.accounts) (get_or counts q 0) (sender_of (set senders p new) q)) [
         | inl e ↦ subst (λ (q : ℕ). IsSender (length b.accounts) (get_or counts q 0) (sender_of (set senders p new) q)) (sym e)
-            (subst (IsSender (length b.accounts) (get_or counts p 0)) (sym (get_or-set_same senders p new no_sender place))
+            (subst (IsSender (length b.accounts) (get_or counts p 0)) (sym (get_or-set_same senders p new no_sender inside_senders))
             (IsSender-stored (length b.accounts) (get_or counts p 0) (sender_of senders p) number m (is.credits p process) after inside here known.target))
         | inr apart ↦ subst (IsSender (length b.accounts) (get_or counts q 0)) (sym (get_or-set_other senders p q new no_sender apart)) (is.credits q q_in)
       ];
@@ -179,16 +179,16 @@ covered-valid b counts senders balances p m is valid =
     ))
 
 -- where a valid message stands
-pub record IsPlaced (b : BookTerms) (counts : List ℕ) (senders : List SenderState) (p : ℕ) (m : Message) : Type 0 where
+pub record Stands (b : BookTerms) (counts : List ℕ) (senders : List SenderState) (p : ℕ) (m : Message) : Type 0 where
   pub process : p < b.processes
   pub sender : p < length senders
   pub number : get_or counts p 0 < length (sender_of senders p).messages
   pub message : message_at (sender_of senders p).messages (get_or counts p 0) ≡ Some m
   pub known : IsMessageOn b m
 
-pub IsPlaced-valid : (b : BookTerms) (counts : List ℕ) (senders : List SenderState) (balances : List ℕ) (p : ℕ) (m : Message)
-    → IsProgress b counts senders balances → IsValid b (messages_of senders) counts p m → IsPlaced b counts senders p m
-IsPlaced-valid b counts senders balances p m is valid =
+pub Stands-valid : (b : BookTerms) (counts : List ℕ) (senders : List SenderState) (balances : List ℕ) (p : ℕ) (m : Message)
+    → IsProgress b counts senders balances → IsValid b (messages_of senders) counts p m → Stands b counts senders p m
+Stands-valid b counts senders balances p m is valid =
     let messages : List MessageList = messages_of senders in
     let listed = delivered-process messages p (get_or counts p 0) m valid.delivered in
     let here : message_at (sender_of senders p).messages (get_or counts p 0) ≡ Some m =
@@ -208,12 +208,12 @@ IsProgress-raised b counts senders balances p m is valid =
     let messages : List MessageList = messages_of senders in
     let number : ℕ = get_or counts p 0 in
     let new : SenderState = credited (sender_of senders p) number m.to m.amount in
-    let placed = IsPlaced-valid b counts senders balances p m is valid in
+    let stands = Stands-valid b counts senders balances p m is valid in
     let same = messages_of-credited senders p number m.to m.amount in
-    let counted : p < length counts = omega (arith, placed.process, is.counted) in
-    let listed : p < length messages = omega (arith, placed.sender, length-messages_of senders) in
-    let from_in : m.from < length balances = omega (arith, placed.known.source, is.balanced) in
-    let to_in : m.to < length balances = omega (arith, placed.known.target, is.balanced) in
+    let counted : p < length counts = omega (arith, stands.process, is.counted) in
+    let listed : p < length messages = omega (arith, stands.sender, length-messages_of senders) in
+    let from_in : m.from < length balances = omega (arith, stands.known.source, is.balanced) in
+    let to_in : m.to < length balances = omega (arith, stands.known.target, is.balanced) in
     let covered = covered-valid b counts senders balances p m is valid in
     record {
       book = is.book;
@@ -221,9 +221,9 @@ IsProgress-raised b counts senders balances p m is valid =
       sized = length-set senders p new ∙ is.sized;
       credits = λ q q_in. elim (cases_eq q p) as (λ _. IsSender (length b.accounts) (get_or (raised counts p) q 0) (sender_of (set senders p new) q)) [
         | inl e ↦ subst (λ (q : ℕ). IsSender (length b.accounts) (get_or (raised counts p) q 0) (sender_of (set senders p new) q)) (sym e)
-            (subst (IsSender (length b.accounts) (get_or (raised counts p) p 0)) (sym (get_or-set_same senders p new no_sender placed.sender))
+            (subst (IsSender (length b.accounts) (get_or (raised counts p) p 0)) (sym (get_or-set_same senders p new no_sender stands.sender))
             (subst (λ (n : ℕ). IsSender (length b.accounts) n new) (sym (get_or-set_same counts p (number + 1) 0 counted))
-            (IsSender-credited (length b.accounts) number (sender_of senders p) m (is.credits p placed.process) placed.number placed.message placed.known.target)))
+            (IsSender-credited (length b.accounts) number (sender_of senders p) m (is.credits p stands.process) stands.number stands.message stands.known.target)))
         | inr apart ↦
             subst (λ (n : ℕ). IsSender (length b.accounts) n (sender_of (set senders p new) q)) (sym (get_or-set_other counts p q (number + 1) 0 apart))
             (subst (IsSender (length b.accounts) (get_or counts q 0)) (sym (get_or-set_other senders p q new no_sender apart)) (is.credits q q_in))
@@ -253,11 +253,11 @@ IsProgress-raised_to b counts senders balances p m is valid new counts_new balan
     (IsProgress-raised b counts senders balances p m is valid)))
 
 -- the credit that is added
-pub credited-same : (sender read : SenderState) (number place to to_m amount amount_m : ℕ) → read ≡ sender → number ≡ place → to ≡ to_m → amount ≡ amount_m
-    → credited read number to amount ≡ credited sender place to_m amount_m
-credited-same sender read number place to to_m amount amount_m read_is number_is to_is amount_is =
+pub credited-same : (sender read : SenderState) (number number_m to to_m amount amount_m : ℕ) → read ≡ sender → number ≡ number_m → to ≡ to_m → amount ≡ amount_m
+    → credited read number to amount ≡ credited sender number_m to_m amount_m
+credited-same sender read number number_m to to_m amount amount_m read_is number_is to_is amount_is =
     ap (λ s. credited s number to amount) read_is
-    ∙ (ap (λ n. credited sender n to amount) number_is ∙ (ap (λ t. credited sender place t amount) to_is ∙ ap (λ x. credited sender place to_m x) amount_is))
+    ∙ (ap (λ n. credited sender n to amount) number_is ∙ (ap (λ t. credited sender number_m t amount) to_is ∙ ap (λ x. credited sender number_m to_m x) amount_is))
 
 -- the balances that are written
 pub moved-same : (balances : List ℕ) (from from_m to to_m amount amount_m was then : ℕ) → from ≡ from_m → to ≡ to_m → amount ≡ amount_m

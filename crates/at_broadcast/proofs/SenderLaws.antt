@@ -22,20 +22,20 @@ AreCreditsTo-stored : (messages : MessageList) (validated account : ℕ) (c : Cr
     → AreCreditsTo (set messages number (Some m)) validated account (record { list = c.list; room = room })
 AreCreditsTo-stored messages validated account c number room m are after within none more =
     let i : ℕ = number - validated in
-    let place : validated + i ≡ number = omega arith in
+    let split : validated + i ≡ number = omega arith in
     let rest : MessageList = drop validated messages in
     let inside : i < length rest = omega (arith, length-drop validated messages) in
-    let empty : get_or rest i None ≡ None = get_or-drop validated messages i None ∙ (ap (λ k. get_or messages k None) place ∙ none) in
+    let empty : get_or rest i None ≡ None = get_or-drop validated messages i None ∙ (ap (λ k. get_or messages k None) split ∙ none) in
     let dropped : drop validated (set messages number (Some m)) ≡ set rest i (Some m) =
-    ap (λ k. drop validated (set messages k (Some m))) (sym place) ∙ drop-set-add validated messages i (Some m) in
+    ap (λ k. drop validated (set messages k (Some m))) (sym split) ∙ drop-set-add validated messages i (Some m) in
     let summed = sum_by-set (one_to account) rest i (Some m) None inside in
     record {
       earlier = are.earlier;
       few = are.few;
       since = λ count below.
-          let front = take-set-le count messages number (Some m) (omega arith) in
+          let first = take-set-le count messages number (Some m) (omega arith) in
           let whole = take-set-le validated messages number (Some m) after in
-          omega (arith, are.since count below, ap (λ l. sum_by (credit_of account) l) front, ap (λ l. sum_by (credit_of account) l) whole);
+          omega (arith, are.since count below, ap (λ l. sum_by (credit_of account) l) first, ap (λ l. sum_by (credit_of account) l) whole);
       room = omega (arith, more, are.room, summed, ap (one_to account) empty, ap (λ l. sum_by (one_to account) l) dropped);
     }
 
@@ -48,11 +48,11 @@ IsSender-stored accounts validated s number m is after within none known = recor
   credits = λ a a_in.
       elim (cases_eq a m.to) as (λ _. AreCreditsTo (set s.messages number (Some m)) validated a (credits_to (stored s number m) a)) [
         | inl same ↦
-            let place : m.to < length s.credits = omega (arith, is.sized, known) in
+            let account_in : m.to < length s.credits = omega (arith, is.sized, known) in
             let one : one_to a (Some m) ≡ 1 = ap (λ t. cond t 1 0) (eq-eqb m.to a (sym same)) in
             let e : get_or (set s.credits m.to (with_room (credits_to s m.to))) a no_credits ≡ with_room (credits_to s a) =
             ap (λ k. get_or (set s.credits m.to (with_room (credits_to s m.to))) k no_credits) same
-            ∙ (get_or-set_same s.credits m.to (with_room (credits_to s m.to)) no_credits place ∙ ap (λ k. with_room (credits_to s k)) (sym same)) in
+            ∙ (get_or-set_same s.credits m.to (with_room (credits_to s m.to)) no_credits account_in ∙ ap (λ k. with_room (credits_to s k)) (sym same)) in
             subst (AreCreditsTo (set s.messages number (Some m)) validated a) (sym e)
             (AreCreditsTo-stored s.messages validated a (credits_to s a) number ((credits_to s a).room + 1) m (is.credits a a_in) after within none (omega (arith, one)))
         | inr apart ↦
@@ -136,11 +136,11 @@ IsSender-credited accounts validated s m is within here known = record {
   credits = λ a a_in.
       elim (cases_eq a m.to) as (λ _. AreCreditsTo s.messages (validated + 1) a (credits_to (credited s validated m.to m.amount) a)) [
         | inl same ↦
-            let place : m.to < length s.credits = omega (arith, is.sized, known) in
+            let account_in : m.to < length s.credits = omega (arith, is.sized, known) in
             let test = eq-eqb m.to a (sym same) in
             let e : get_or (set s.credits m.to (with_credit (credits_to s m.to) validated m.amount)) a no_credits ≡ with_credit (credits_to s a) validated m.amount =
             ap (λ k. get_or (set s.credits m.to (with_credit (credits_to s m.to) validated m.amount)) k no_credits) same
-            ∙ (get_or-set_same s.credits m.to (with_credit (credits_to s m.to) validated m.amount) no_credits place
+            ∙ (get_or-set_same s.credits m.to (with_credit (credits_to s m.to) validated m.amount) no_credits account_in
             ∙ ap (λ k. with_credit (credits_to s k) validated m.amount) (sym same)) in
             subst (AreCreditsTo s.messages (validated + 1) a) (sym e)
             (AreCreditsTo-credited s.messages validated a m.amount (credits_to s a) (is.credits a a_in) within

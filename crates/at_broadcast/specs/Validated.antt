@@ -41,3 +41,7 @@ pub data Reached (b : BookTerms) (messages : List MessageList) : List ℕ → Ty
 pub record IsClosed (b : BookTerms) (messages : List MessageList) (counts : List ℕ) : Type 0 where
   pub reached : ∥ Reached b messages counts ∥₁
   pub done : (p : ℕ) (m : Message) → ¬ IsValid b messages counts p m
+
+-- no others are
+abbrev pub IsOnlyClosed : BookTerms → List MessageList → List ℕ → Type 0
+IsOnlyClosed b messages counts = (others : List ℕ) → IsClosed b messages others → others ≡ counts

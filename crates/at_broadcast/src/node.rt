@@ -3,7 +3,7 @@
 ghost use Rattle.std.specs.Prelude.{◌≡◌, ◌<◌, ◌↔◌, length, pos, slice_index, sum, true, false, None, Ok, IsTrue, IfOk, OnErr};
 ghost use Rattle.at_ledger.specs.Book.{total_of};
 ghost use Rattle.at_broadcast.specs.Messages.{IsMessageOn, message_of, with_message};
-ghost use Rattle.at_broadcast.specs.Validated.{IsClosed, balance_at};
+ghost use Rattle.at_broadcast.specs.Validated.{IsClosed, IsOnlyClosed, balance_at};
 ghost use Rattle.at_broadcast.specs.declared.message.TheConstants.{MESSAGES_MAX};
 
 use crate::NoMemory;
@@ -61,8 +61,9 @@ impl Node {
         ensures book { self.new.book ≡ self.old.book }
         ensures err { OnErr result (self.new ≡ self.old) }
 
-        // The validated counts are where raising ends, and the balances are those there.
+        // The validated counts are where raising ends, in whatever order it is done, and the balances are those there.
         ensures closed { IsClosed self.new.book self.new.messages self.new.validated }
+        ensures only { IsOnlyClosed self.new.book self.new.messages self.new.validated }
         ensures balances { ShowsBalances self.new }
 
         // So these hold after each delivery.

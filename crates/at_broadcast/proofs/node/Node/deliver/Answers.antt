@@ -1,6 +1,6 @@
 use Rattle.std.proofs.Common.{subst, sym}
 use Rattle.at_broadcast.specs.Node.{IsNode}
-use Rattle.at_broadcast.proofs.NodeLaws.{AgreesWithAll-IsNode, HasPrefixes-IsNode, IsSolvent-IsNode, ShowsBalances-IsNode}
+use Rattle.at_broadcast.proofs.NodeLaws.{AgreesWithAll-IsNode, HasPrefixes-IsNode, IsOnlyClosed-IsNode, IsSolvent-IsNode, ShowsBalances-IsNode}
 use Rattle.at_broadcast.proofs.node.Node.deliver.Goals.{Then-is_delivered, After-from_residual, After-settle}
 use Rattle.at_broadcast.proofs.node.Node.deliver.Goals as goal
 
@@ -51,3 +51,12 @@ returns-clause-agree c = AgreesWithAll-IsNode c.settle.new.self (settled c)
 
 pub returns-clause-solvent : goal.returns-clause-solvent
 returns-clause-solvent c = IsSolvent-IsNode c.settle.new.self (settled c)
+
+pub returns-then-is_delivered-clause-only : goal.returns-then-is_delivered-clause-only
+returns-then-is_delivered-clause-only c = IsOnlyClosed-IsNode (c.args.self.now) (same c)
+
+pub returns-in_err-store-clause-only : goal.returns-in_err-store-clause-only
+returns-in_err-store-clause-only c = IsOnlyClosed-IsNode (c.store.new.self) (kept c)
+
+pub returns-clause-only : goal.returns-clause-only
+returns-clause-only c = IsOnlyClosed-IsNode (c.settle.new.self) (settled c)

@@ -7,7 +7,7 @@ use Rattle.at_broadcast.specs.Progress.{messages_of, no_sender, sender_of}
 use Rattle.at_broadcast.specs.Sender.{SenderState, credited, credits_to}
 use Rattle.at_broadcast.specs.Validated.{IsValid, raised}
 use Rattle.at_broadcast.proofs.MoveLaws.{moved-le}
-use Rattle.at_broadcast.proofs.ProgressLaws.{IsPlaced, IsPlaced-valid, IsProgress-raised_to, covered-valid, credited-same, left-raised, messages_of-credited, moved-same}
+use Rattle.at_broadcast.proofs.ProgressLaws.{Stands, Stands-valid, IsProgress-raised_to, covered-valid, credited-same, left-raised, messages_of-credited, moved-same}
 use Rattle.at_broadcast.proofs.SenderLaws.{room-next}
 use Rattle.at_broadcast.proofs.progress.Progress.raise.Goals.{After-index_mut, After-index_mut-2, After-index_mut-3}
 use Rattle.at_broadcast.proofs.progress.Progress.raise.Goals as goal
@@ -16,16 +16,16 @@ use Rattle.at_broadcast.proofs.progress.Progress.raise.Goals as goal
 valid : (c : After-index_mut) → IsValid c.self.inside.book (messages_of c.self.inside.senders.items) c.self.inside.validated c.args.transfer.sender c.requires.message
 valid c = subst (λ (s : NodeState). IsValid s.book s.messages s.validated c.args.transfer.sender c.requires.message) (sym c.self.view_is) c.requires.valid
 
-placed : (c : After-index_mut) → IsPlaced c.self.inside.book c.self.inside.validated c.self.inside.senders.items c.args.transfer.sender c.requires.message
-placed c = IsPlaced-valid c.self.inside.book c.self.inside.validated c.self.inside.senders.items c.self.inside.balances.items c.args.transfer.sender c.requires.message c.self.invariant (valid c)
+stands : (c : After-index_mut) → Stands c.self.inside.book c.self.inside.validated c.self.inside.senders.items c.args.transfer.sender c.requires.message
+stands c = Stands-valid c.self.inside.book c.self.inside.validated c.self.inside.senders.items c.self.inside.balances.items c.args.transfer.sender c.requires.message c.self.invariant (valid c)
 
 -- the sender that was read
 read : (c : After-index_mut) → c.index_mut.result.now ≡ sender_of c.self.inside.senders.items c.args.transfer.sender
-read c = get_or_read c.self.inside.senders.items c.args.transfer.sender c.index_mut.result.now (placed c).sender c.index_mut.ensures.value no_sender
+read c = get_or_read c.self.inside.senders.items c.args.transfer.sender c.index_mut.result.now (stands c).sender c.index_mut.ensures.value no_sender
 
 pub credit-requires-clause-room : goal.credit-requires-clause-room
 credit-requires-clause-room c =
-    let here = placed c in
+    let here = stands c in
     let m : Message = c.requires.message in
     let next = room-next (length c.self.inside.book.accounts) (get_or c.self.inside.validated c.args.transfer.sender 0)
     (sender_of c.self.inside.senders.items c.args.transfer.sender) m
@@ -39,10 +39,10 @@ credit-requires-clause-room c =
 
 -- where its accounts stand
 source_in : (c : After-index_mut) → c.args.transfer.from < length c.self.inside.balances.items
-source_in c = omega (arith, c.requires.source, (placed c).known.source, c.self.invariant.balanced)
+source_in c = omega (arith, c.requires.source, (stands c).known.source, c.self.invariant.balanced)
 
 target_in : (c : After-index_mut) → c.args.transfer.to < length c.self.inside.balances.items
-target_in c = omega (arith, c.requires.target, (placed c).known.target, c.self.invariant.balanced)
+target_in c = omega (arith, c.requires.target, (stands c).known.target, c.self.invariant.balanced)
 
 -- the balance of the source covers the amount
 covered : (c : After-index_mut) → c.args.transfer.amount ≤ get_or c.self.inside.balances.items c.args.transfer.from 0
@@ -109,7 +109,7 @@ returns-clause-messages c =
 pub returns-clause-left : goal.returns-clause-left
 returns-clause-left c =
     let at = goal.at.returns-clause-left c in
-    let here = placed at.After-index_mut in
+    let here = stands at.After-index_mut in
     let counts : List ℕ = c.self.inside.validated in
     let p : ℕ = c.args.transfer.sender in
     let raised_is : c.set.new.self ≡ raised counts p = c.set.ensures ∙ ap (λ n. set counts p (n + 1)) c.get-number.ensures in
