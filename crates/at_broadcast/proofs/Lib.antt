@@ -1,0 +1,12 @@
+pub mod CreditLaws
+pub mod RangeLaws
+pub mod SumLaws
+pub mod BalanceLaws
+pub mod ReachedLaws
+pub mod SenderLaws
+pub mod MessageLaws
+pub mod MoveLaws
+pub mod ProgressLaws
+pub mod LeftLaws
+pub mod StartLaws
+pub mod NodeLaws

@@ -1,0 +1,92 @@
+-- Counts that are reached by raising, and why there is one end of it.
+use Rattle.std.proofs.Common.{◌≡◌, ℕ, zero, suc, ◌+◌, ◌<◌, ◌≤◌, List, [], ◌∷◌, length, get_or, replicate, None, Some, refl, ap, sym, subst, ◌∙◌, inl, inr, arith, length-set, get_or-set_other}
+use Rattle.std.proofs.lemmas.Bool.{cases_eq, cases_lt}
+use Rattle.std.proofs.lemmas.List.{length-replicate}
+use Rattle.at_ledger.specs.Book.{BookTerms, account_of}
+use Rattle.at_broadcast.specs.declared.message.Message.{Message}
+use Rattle.at_broadcast.specs.Messages.{MessageList, message_of}
+use Rattle.at_broadcast.specs.Validated.{IsValid, Reached, raised}
+use Rattle.at_broadcast.specs.Validated.Reached.{zeros, raise}
+
+pub length-Reached : (b : BookTerms) (messages : List MessageList) (counts : List ℕ) → Reached b messages counts → length counts ≡ b.processes
+length-Reached b messages _ zeros = length-replicate b.processes 0
+length-Reached b messages _ (raise counts p m before valid) = length-set counts p (get_or counts p 0 + 1) ∙ length-Reached b messages counts before
+
+-- zeros count nothing
+pub get_or-zeros : (n p : ℕ) → get_or {A = ℕ} (replicate n 0) p 0 ≡ 0
+get_or-zeros zero p = refl
+get_or-zeros (suc n) zero = refl
+get_or-zeros (suc n) (suc p) = get_or-zeros n p
+
+-- raising an entry leaves it where it was or one above
+raised-le : (counts : List ℕ) (p : ℕ) → get_or (raised counts p) p 0 ≤ get_or counts p 0 + 1
+raised-le [] p = omega arith
+raised-le (c ∷ counts) zero = omega arith
+raised-le (c ∷ counts) (suc p) = raised-le counts p
+
+-- a counted message: it was delivered, and its sender is the one owner of its source
+pub record IsCounted (b : BookTerms) (messages : List MessageList) (p number : ℕ) : Type 0 where
+  pub message : Message
+  pub delivered : message_of messages p number ≡ Some message
+  pub owner : (account_of b message.from).owners ≡ p ∷ []
+
+pub IsCounted-Reached : (b : BookTerms) (messages : List MessageList) (counts : List ℕ) → Reached b messages counts
+    → (p number : ℕ) → number < get_or counts p 0 → IsCounted b messages p number
+IsCounted-Reached b messages _ zeros p number below = absurd (omega (arith, get_or-zeros b.processes p))
+IsCounted-Reached b messages _ (raise counts p m before valid) q number below =
+    elim (cases_eq q p) as (λ _. IsCounted b messages q number) [
+      | inl same ↦
+          elim (cases_eq number (get_or counts p 0)) as (λ _. IsCounted b messages q number) [
+            | inl last ↦ record {
+              message = m;
+              delivered = ap (λ (i : ℕ). message_of messages i number) same ∙ (ap (λ (i : ℕ). message_of messages p i) last ∙ valid.delivered);
+              owner = valid.owner ∙ ap (λ (i : ℕ). i ∷ []) (sym same);
+            }
+            | inr apart ↦
+                let here : get_or (raised counts p) q 0 ≡ get_or (raised counts p) p 0 = ap (λ (i : ℕ). get_or (raised counts p) i 0) same in
+                let was : get_or counts q 0 ≡ get_or counts p 0 = ap (λ (i : ℕ). get_or counts i 0) same in
+                IsCounted-Reached b messages counts before q number (omega (arith, raised-le counts p, here, was, apart, below))
+          ]
+      | inr apart ↦
+          let same = get_or-set_other counts p q (get_or counts p 0 + 1) 0 apart in
+          IsCounted-Reached b messages counts before q number (omega (arith, same, below))
+    ]
+
+-- what is delivered isn't counted before it
+pub after-Reached : (b : BookTerms) (messages : List MessageList) (counts : List ℕ) → Reached b messages counts
+    → (p number : ℕ) → message_of messages p number ≡ None → get_or counts p 0 ≤ number
+after-Reached b messages counts reached p number none =
+    elim (cases_lt number (get_or counts p 0)) as (λ _. get_or counts p 0 ≤ number) [
+      | inl below ↦ absurd (missing (IsCounted-Reached b messages counts reached p number below))
+      | inr above ↦ above
+    ] where
+      missing : IsCounted b messages p number → ⊥
+      missing c = cc (none, c.delivered)
+
+-- every reached list of counts is at most one at which no next message is valid: so there is one alone
+pub below-Reached : (b : BookTerms) (messages : List MessageList) (counts stuck : List ℕ) → Reached b messages counts
+    → length stuck ≡ b.processes → ((p : ℕ) (m : Message) → ¬ IsValid b messages stuck p m) → (p : ℕ) → get_or counts p 0 ≤ get_or stuck p 0
+below-Reached b messages _ stuck zeros sized none q = omega (arith, get_or-zeros b.processes q)
+below-Reached b messages _ stuck (raise counts p m before valid) sized none q =
+    elim (cases_eq q p) as (λ _. get_or (raised counts p) q 0 ≤ get_or stuck q 0) [
+      | inl same ↦
+          subst (λ (q : ℕ). get_or (raised counts p) q 0 ≤ get_or stuck q 0) (sym same)
+          (elim (cases_lt (get_or counts p 0) (get_or stuck p 0)) as (λ _. get_or (raised counts p) p 0 ≤ get_or stuck p 0) [
+            | inl more ↦ omega (arith, raised-le counts p)
+            | inr most ↦
+                let level : get_or counts p 0 ≡ get_or stuck p 0 = omega (arith, below-Reached b messages counts stuck before sized none p) in
+                absurd (none p m (record {
+                  delivered = ap (λ (i : ℕ). message_of messages p i) (sym level) ∙ valid.delivered;
+                  owner = valid.owner;
+                  own = valid.own ∙ level;
+                  covered = λ i within. omega (
+                    arith,
+                    valid.covered i (omega (arith, within, sized, length-Reached b messages counts before)),
+                    below-Reached b messages counts stuck before sized none i,
+                  );
+                  balance = valid.balance;
+                }))
+          ])
+      | inr apart ↦
+          omega (arith, get_or-set_other counts p q (get_or counts p 0 + 1) 0 apart, below-Reached b messages counts stuck before sized none q)
+    ]

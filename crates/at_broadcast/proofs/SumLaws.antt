@@ -1,0 +1,61 @@
+-- Sums over the first messages of each sender.
+use Rattle.std.proofs.Common.{◌≡◌, ◌≢◌, ℕ, ◌+◌, ◌<◌, ◌≤◌, List, [], length, get_or, set, take, Option, None, Some, ap, sym, subst, ◌∙◌, inl, inr, add-one, arith, length-set, get_or-set_same, get_or-set_other}
+use Rattle.std.specs.List.{range_with_len, sum_by}
+use Rattle.std.proofs.lemmas.Bool.{cases_eq}
+use Rattle.std.proofs.lemmas.List.{take-set-le}
+use Rattle.at_broadcast.specs.declared.message.Message.{Message}
+use Rattle.at_broadcast.specs.Messages.{MessageList, list_of, message_of, sum_of_first, with_message}
+use Rattle.at_broadcast.specs.Validated.{raised}
+use Rattle.at_broadcast.proofs.RangeLaws.{range-le, range-one, range-same, sum_by-take_le, sum_by-take_more}
+
+-- the sum over the first messages of one sender
+abbrev pub part : (Option Message → ℕ) → List MessageList → List ℕ → ℕ → ℕ
+part weight messages counts p = sum_by weight (take (get_or counts p 0) (list_of messages p))
+
+-- counts that agree
+pub sum_of_first-same : (weight : Option Message → ℕ) (messages : List MessageList) (counts others : List ℕ)
+    → ((p : ℕ) → p < length messages → part weight messages counts p ≡ part weight messages others p) → sum_of_first weight messages counts ≡ sum_of_first weight messages others
+sum_of_first-same weight messages counts others same =
+    range-same (part weight messages counts) (part weight messages others) 0 (length messages) (λ p low high. same p (omega arith))
+
+-- larger counts
+pub sum_of_first-le : (weight : Option Message → ℕ) (messages : List MessageList) (counts others : List ℕ) → weight None ≡ 0
+    → ((p : ℕ) → p < length messages → get_or counts p 0 ≤ get_or others p 0) → sum_of_first weight messages counts ≤ sum_of_first weight messages others
+sum_of_first-le weight messages counts others none less =
+    range-le (part weight messages counts) (part weight messages others) 0 (length messages)
+    (λ p low high. sum_by-take_le weight (list_of messages p) (get_or counts p 0) (get_or others p 0) none (less p (omega arith)))
+
+-- one more message of one sender
+pub sum_of_first-raised : (weight : Option Message → ℕ) (messages : List MessageList) (counts : List ℕ) (p : ℕ) → weight None ≡ 0
+    → p < length messages → p < length counts
+    → sum_of_first weight messages (raised counts p) ≡ sum_of_first weight messages counts + weight (message_of messages p (get_or counts p 0))
+sum_of_first-raised weight messages counts p none known counted =
+    let c : ℕ = get_or counts p 0 in
+    let same : get_or (raised counts p) p 0 ≡ c + 1 = get_or-set_same counts p (c + 1) 0 counted in
+    let here : part weight messages (raised counts p) p ≡ part weight messages counts p + weight (message_of messages p c) =
+    ap (λ k. sum_by weight (take k (list_of messages p))) (same ∙ add-one c) ∙ sum_by-take_more weight (list_of messages p) c none in
+    range-one (part weight messages counts) (part weight messages (raised counts p)) 0 (length messages) p (weight (message_of messages p c))
+    (omega arith) (omega (arith, known)) here
+    (λ q apart. ap (λ k. sum_by weight (take k (list_of messages q))) (get_or-set_other counts p q (c + 1) 0 apart))
+
+-- the list of a sender after one more delivery
+pub list_of-other : (messages : List MessageList) (p number q : ℕ) (m : Message) → q ≢ p → list_of (with_message messages p number m) q ≡ list_of messages q
+list_of-other messages p number q m apart = get_or-set_other messages p q (set (list_of messages p) number (Some m)) [] apart
+
+pub list_of-same : (messages : List MessageList) (p number : ℕ) (m : Message) → p < length messages
+    → list_of (with_message messages p number m) p ≡ set (list_of messages p) number (Some m)
+list_of-same messages p number m known = get_or-set_same messages p (set (list_of messages p) number (Some m)) [] known
+
+-- a delivery after the counted messages
+pub sum_of_first-with_message : (weight : Option Message → ℕ) (messages : List MessageList) (counts : List ℕ) (p number : ℕ) (m : Message)
+    → p < length messages → get_or counts p 0 ≤ number → sum_of_first weight (with_message messages p number m) counts ≡ sum_of_first weight messages counts
+sum_of_first-with_message weight messages counts p number m known after =
+    ap (λ n. sum_by (part weight (with_message messages p number m) counts) (range_with_len 0 n)) (length-set messages p (set (list_of messages p) number (Some m)))
+    ∙ range-same (part weight (with_message messages p number m) counts) (part weight messages counts) 0 (length messages)
+    (λ q low high. elim (cases_eq q p) as (λ _. part weight (with_message messages p number m) counts q ≡ part weight messages counts q) [
+      | inl same ↦
+          subst (λ (q : ℕ). part weight (with_message messages p number m) counts q ≡ part weight messages counts q) (sym same)
+          (ap (λ (l : MessageList). sum_by weight (take (get_or counts p 0) l)) (list_of-same messages p number m known)
+          ∙ ap (λ (l : MessageList). sum_by weight l) (take-set-le (get_or counts p 0) (list_of messages p) number (Some m) after))
+      | inr apart ↦ ap (λ (l : MessageList). sum_by weight (take (get_or counts q 0) l)) (list_of-other messages p number q m apart)
+    ])

@@ -1,0 +1,220 @@
+//! Worked rows, orders of delivery, and messages that never become valid.
+
+ghost use Rattle.std.specs.Prelude.{◌≡◌, length, IfOk};
+
+use crate::{MESSAGES_MAX, Message, Node};
+use at_base::Counts;
+use at_ledger::{Book, BookBuilder};
+use std::alloc::{AllocError, Global};
+use std::process::Abort;
+use std::test::Fail;
+
+/// A message of two processes: its sender and number, then source, target and amount, then `deps`.
+type Sent = (u32, u32, (u32, u32, u64), [u32; 2]);
+
+/// Delivers the message, if it names processes, accounts and a number that are there.
+fn deliver(node: &mut Node, sent: &Sent) -> Result<bool, AllocError>
+    requires processes { node.old.book.processes ≡ 2 }
+    requires accounts { length node.old.book.accounts ≡ 4 }
+    ensures { node.new.book ≡ node.old.book }
+{
+    let (sender, number, (from, to, amount), [first, second]) = *sent;
+    if sender >= 2 || number >= MESSAGES_MAX || from >= 4 || to >= 4 {
+        return Ok(false);
+    }
+    let mut deps = Counts::zeros(2);
+    deps.set(0, first);
+    deps.set(1, second);
+    let message = Message {
+        from,
+        to,
+        amount,
+        deps,
+    };
+    node.deliver(sender, number, &message)
+}
+
+/// What a node shows: the validated counts and the balances.
+type Shown = ([u32; 2], [u64; 4]);
+
+fn shown_by(node: &Node) -> Shown
+    requires processes { node.now.book.processes ≡ 2 }
+    requires accounts { length node.now.book.accounts ≡ 4 }
+{
+    (
+        [node.validated(0), node.validated(1)],
+        [
+            node.balance(0),
+            node.balance(1),
+            node.balance(2),
+            node.balance(3),
+        ],
+    )
+}
+
+/// A node of two processes. Account 0 is process 0's and account 1 process 1's, account 2 has no owner, and account 3 both.
+fn new_node<R: Abort>(rt: &R, alloc: Global) -> Result<Node, Fail>
+    ensures processes { IfOk result (λ n. n.book.processes ≡ 2) }
+    ensures accounts { IfOk result (λ n. length n.book.accounts ≡ 4) }
+{
+    let mut builder = BookBuilder::new(alloc, 2, 1, 1)?;
+    builder.add(100, &[0])?;
+    builder.add(0, &[1])?;
+    builder.add(50, &[])?;
+    builder.add(50, &[0, 1])?;
+    let book = builder.finish()?;
+    assert!(rt; book.processes() == 2 && book.accounts() == 4);
+    Ok(Node::new(alloc, &book)?)
+}
+
+/// Delivers all messages in turn.
+fn deliver_all(node: &mut Node, messages: &[Sent]) -> Result<Shown, AllocError>
+    requires processes { node.old.book.processes ≡ 2 }
+    requires accounts { length node.old.book.accounts ≡ 4 }
+{
+    for message in messages {
+        deliver(node, message)?;
+    }
+    Ok(shown_by(node))
+}
+
+const FIRST: Sent = (0, 0, (0, 1, 60), [0, 0]);
+
+const NEEDS: Sent = (1, 0, (1, 0, 50), [1, 0]);
+
+const OPENINGS: Shown = ([0, 0], [100, 0, 50, 50]);
+
+const BOTH: Shown = ([1, 1], [90, 10, 50, 50]);
+
+/// The messages in the order of their delivery, and what the node shows then.
+const CASES: [(&str, &[Sent], Shown); 12] = [
+    (
+        "a message before the one that it needs",
+        &[NEEDS, FIRST],
+        BOTH,
+    ),
+    (
+        "a message without the one that it needs",
+        &[NEEDS],
+        OPENINGS,
+    ),
+    (
+        "deliveries that are repeated",
+        &[FIRST, FIRST, NEEDS, FIRST, NEEDS],
+        BOTH,
+    ),
+    (
+        "the balance at deps is too small",
+        &[NEEDS, FIRST, (0, 1, (0, 1, 41), [1, 0])],
+        BOTH,
+    ),
+    (
+        "the balance at deps is enough",
+        &[NEEDS, FIRST, (0, 1, (0, 1, 40), [1, 0])],
+        ([2, 1], [50, 50, 50, 50]),
+    ),
+    (
+        "the second number before the first",
+        &[(0, 1, (0, 1, 1), [1, 0]), FIRST],
+        ([2, 0], [39, 61, 50, 50]),
+    ),
+    (
+        "a source without an owner",
+        &[(0, 0, (2, 0, 1), [0, 0]), (0, 1, (0, 1, 1), [1, 0])],
+        OPENINGS,
+    ),
+    (
+        "a shared source",
+        &[(0, 0, (3, 0, 1), [0, 0]), (0, 1, (0, 1, 1), [1, 0])],
+        OPENINGS,
+    ),
+    (
+        "the source of another process",
+        &[(1, 0, (0, 1, 1), [0, 0])],
+        OPENINGS,
+    ),
+    (
+        "messages that wait for each other",
+        &[(0, 0, (0, 1, 1), [0, 1]), (1, 0, (1, 0, 0), [1, 0])],
+        OPENINGS,
+    ),
+    (
+        "deps leave out a credit that was spent",
+        &[
+            (0, 0, (0, 1, 100), [0, 0]),
+            (1, 0, (1, 0, 100), [1, 0]),
+            (0, 1, (0, 2, 50), [1, 1]),
+            (0, 2, (0, 1, 0), [2, 0]),
+        ],
+        ([2, 1], [50, 0, 100, 50]),
+    ),
+    (
+        "deps have the credit that was spent",
+        &[
+            (0, 0, (0, 1, 100), [0, 0]),
+            (1, 0, (1, 0, 100), [1, 0]),
+            (0, 1, (0, 2, 50), [1, 1]),
+            (0, 2, (0, 1, 0), [2, 1]),
+        ],
+        ([3, 1], [50, 0, 100, 50]),
+    ),
+];
+
+#[test]
+fn worked_rows(rt: HostRuntime) -> Result<(), Fail> {
+    for (name, messages, shown) in &CASES {
+        let mut node = new_node(&rt, rt.alloc())?;
+        let got = deliver_all(&mut node, messages)?;
+        assert!(rt; got == *shown, "{name}");
+    }
+    Ok(())
+}
+
+/// Six messages. The last is never valid: account 1 holds 5 at its `deps`.
+const SIX: [Sent; 6] = [
+    FIRST,
+    NEEDS,
+    (0, 1, (0, 1, 40), [1, 0]),
+    (1, 1, (1, 2, 45), [2, 1]),
+    (0, 2, (0, 3, 50), [2, 1]),
+    (1, 2, (1, 0, 6), [3, 2]),
+];
+
+/// Delivers the six messages in one of their 720 orders.
+fn deliver_in_order(node: &mut Node, alloc: Global, order: usize) -> Result<Shown, AllocError>
+    requires processes { node.old.book.processes ≡ 2 }
+    requires accounts { length node.old.book.accounts ≡ 4 }
+{
+    let mut left = Vec::from_slice(alloc, &SIX)?;
+    let mut order = order;
+    while !left.is_empty() {
+        let count = left.len();
+        let message = left.remove(order % count);
+        order /= count;
+        deliver(node, &message)?;
+    }
+    Ok(shown_by(node))
+}
+
+#[test]
+fn all_orders_end_alike(rt: HostRuntime) -> Result<(), Fail> {
+    for order in 0..720 {
+        let mut node = new_node(&rt, rt.alloc())?;
+        let got = deliver_in_order(&mut node, rt.alloc(), order)?;
+        assert!(rt; got == ([3, 2], [0, 5, 95, 100]), "{order}");
+    }
+    Ok(())
+}
+
+#[test]
+fn tells_new_from_repeated(rt: HostRuntime) -> Result<(), Fail> {
+    let mut node = new_node(&rt, rt.alloc())?;
+    let told = [
+        deliver(&mut node, &NEEDS)?,
+        deliver(&mut node, &FIRST)?,
+        deliver(&mut node, &NEEDS)?,
+        deliver(&mut node, &(0, 0, (0, 1, 1), [0, 0]))?,
+    ];
+    assert!(rt; told == [true, true, false, false] && shown_by(&node) == BOTH);
+    Ok(())
+}
