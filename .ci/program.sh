@@ -77,6 +77,9 @@ refused 'a file that is too long' 8 'too long: file 1'
 "$program" run "$usual/book.csv" "$usual/pay0.csv" >/dev/full 2>err
 status=$?
 refused 'a full device' 6 'write fault'
+"$program" make 7 1 2 >/dev/full 2>err
+status=$?
+refused 'a full device for make' 6 'write fault'
 {
     "$program" run "$usual/book.csv" reads.csv 2>err
     echo $? >ended
