@@ -63,7 +63,11 @@ impl Credits {
         requires room { 0 < self.old.room }
         requires later { All (λ c. c.number < number) self.old.list }
         requires few { length self.old.list < 2 ^ 32 }
-        ensures { self.new ≡ record { list = self.old.list ++ credit_after self.old.list number amount ∷ []; room = self.old.room - 1 } }
+        ensures { self.new ≡ record {
+          list = self.old.list ++ credit_after self.old.list number amount ∷ [];
+          room =
+              self.old.room - 1;
+        } }
     {
         self.list.push_reserved(Credit {
             number,

@@ -55,9 +55,11 @@ impl Node {
         requires sender_in { sender < self.old.book.processes }
         requires number_in { number < MESSAGES_MAX }
         requires message_in { IsMessageOn self.old.book message.now }
-        ensures fresh { IfOk result (λ new. IsTrue new ↔ (message_of self.old.messages sender number ≡ None)) }
+        ensures fresh { IfOk result (λ new. IsTrue new
+            ↔ (message_of self.old.messages sender number ≡ None)) }
         ensures again { result ≡ Ok false → self.new ≡ self.old }
-        ensures delivered { result ≡ Ok true → self.new.messages ≡ with_message self.old.messages sender number message.now }
+        ensures delivered { result ≡ Ok true
+            → self.new.messages ≡ with_message self.old.messages sender number message.now }
         ensures book { self.new.book ≡ self.old.book }
         ensures err { OnErr result (self.new ≡ self.old) }
 
@@ -93,7 +95,8 @@ impl Node {
     pub fn balance(&self, account: u32) -> u64
         requires { account < length self.now.book.accounts }
         ensures kept { result ≡ slice_index self.now.balances account }
-        ensures balance { pos result ≡ balance_at self.now.book self.now.messages self.now.validated account }
+        ensures balance { pos result
+            ≡ balance_at self.now.book self.now.messages self.now.validated account }
         ensures node { IsNode self.now }
     {
         self.progress.balance(account)

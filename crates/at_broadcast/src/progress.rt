@@ -105,7 +105,9 @@ impl Progress {
         requires number_in { number < MESSAGES_MAX }
         requires undelivered { message_of self.old.messages sender number ≡ None }
         requires message_in { IsMessageOn self.old.book message.now }
-        ensures ok { OnOk result (self.new ≡ record self.old { messages = with_message self.old.messages sender number message.now }) }
+        ensures ok { OnOk result
+            (self.new ≡ record self.old
+            { messages = with_message self.old.messages sender number message.now }) }
         ensures err { OnErr result (self.new ≡ self.old) }
     {
         self.senders[sender as usize].store(number, message)
@@ -131,7 +133,8 @@ impl Progress {
         ensures book { self.new.book ≡ self.old.book }
         ensures messages { self.new.messages ≡ self.old.messages }
         ensures steady { IsSteady self.new }
-        ensures done { (p : ℕ) (m : Message) → ¬ IsValid self.new.book self.new.messages self.new.validated p m }
+        ensures done { (p : ℕ) (m : Message)
+            → ¬ IsValid self.new.book self.new.messages self.new.validated p m }
     {
         while let Some(transfer) = self.first_valid() {
             self.raise(transfer);
@@ -141,7 +144,8 @@ impl Progress {
     /// What a valid message moves, of the lowest process whose next one is.
     fn first_valid(&self) -> Option<Transfer>
         ensures some { IfSome result (IsValidNext self.now) }
-        ensures none { IfNone result ((p : ℕ) (m : Message) → ¬ IsValid self.now.book self.now.messages self.now.validated p m) }
+        ensures none { IfNone result ((p : ℕ) (m : Message)
+            → ¬ IsValid self.now.book self.now.messages self.now.validated p m) }
         ensures steady { IsSteady self.now }
     {
         for p in 0..self.book.processes() {
@@ -156,7 +160,8 @@ impl Progress {
     fn valid_of(&self, p: u32) -> Option<Transfer>
         requires { p < self.now.book.processes }
         ensures some { IfSome result (IsValidNext self.now) }
-        ensures none { IfNone result ((m : Message) → ¬ IsValid self.now.book self.now.messages self.now.validated p m) }
+        ensures none { IfNone result ((m : Message)
+            → ¬ IsValid self.now.book self.now.messages self.now.validated p m) }
     {
         let message = self.senders[p as usize].message(self.validated.get(p))?;
         if !self.is_valid(p, message) {
@@ -174,8 +179,10 @@ impl Progress {
     fn is_valid(&self, p: u32, message: &Message) -> bool
         requires process_in { p < self.now.book.processes }
         requires message_in { IsMessageOn self.now.book message.now }
-        requires next { message_of self.now.messages p (slice_index self.now.validated p) ≡ Some message.now }
-        ensures { IsTrue result ↔ IsValid self.now.book self.now.messages self.now.validated p message.now }
+        requires next { message_of self.now.messages p (slice_index self.now.validated p)
+            ≡ Some message.now }
+        ensures { IsTrue result
+            ↔ IsValid self.now.book self.now.messages self.now.validated p message.now }
     {
         self.is_one_owner(p, message.from)
             && message.deps.get(p) == self.validated.get(p)
@@ -200,7 +207,8 @@ impl Progress {
         requires account_in { account < length self.now.book.accounts }
         requires sized { length deps.now ≡ self.now.book.processes }
         requires covered { Covers self.now.validated deps.now }
-        ensures sum { result + sum_of_first (credit_of account) self.now.messages deps.now ≡ sum_of_first (credit_of account) self.now.messages self.now.validated }
+        ensures sum { result + sum_of_first (credit_of account) self.now.messages deps.now
+            ≡ sum_of_first (credit_of account) self.now.messages self.now.validated }
         ensures small { result ≤ 2 ^ 76 }
     {
         let mut sum = 0u128;

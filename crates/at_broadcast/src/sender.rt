@@ -31,7 +31,8 @@ impl Sender {
     /// Nothing delivered.
     #[tactic(auto, unfolding(crate::specs::Messages::no_messages))]
     pub(crate) fn new(alloc: Global, accounts: u32) -> Result<Sender, NoMemory>
-        ensures { IfOk result (λ s. s ≡ record { messages = no_messages; credits = replicate accounts no_credits }) }
+        ensures { IfOk result
+            (λ s. s ≡ record { messages = no_messages; credits = replicate accounts no_credits }) }
     {
         let mut messages = Vec::new(alloc);
         for _number in 0..MESSAGES_MAX {

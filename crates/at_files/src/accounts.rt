@@ -89,7 +89,9 @@ fn add_terms(
     owners: &[u64],
 ) -> Result<(), ReadBookFault>
     requires { account < most_accounts }
-    ensures ok { OnOk result (within_limits (account_fault builder.old (terms_with opening owners.now)) (with_account builder.old (terms_with opening owners.now)) ≡ Ok builder.new) }
+    ensures ok { OnOk result
+        (within_limits (account_fault builder.old (terms_with opening owners.now))
+        (with_account builder.old (terms_with opening owners.now)) ≡ Ok builder.new) }
     ensures bad { (b : BadBook) → result ≡ Err (ReadBookFault.Bad b)
         → at_line (account + 4) (within_limits (account_fault builder.old (terms_with opening owners.now)) (with_account builder.old (terms_with opening owners.now))) ≡ Err b }
 {
@@ -107,8 +109,11 @@ fn numbered_terms(
     opening: Option<u64>,
     owners: Option<Vec<u64>>,
 ) -> Result<(u64, Vec<u64>), BookWhy>
-    ensures ok { IfOk result (λ t. numbered_terms account id opening (option_map (λ list. list.items) owners) ≡ Ok (terms_with t.0 t.1.items)) }
-    ensures bad { IfErr result (λ w. numbered_terms account id opening (option_map (λ list. list.items) owners) ≡ Err w) }
+    ensures ok { IfOk result
+        (λ t. numbered_terms account id opening (option_map (λ list. list.items) owners) ≡ Ok
+        (terms_with t.0 t.1.items)) }
+    ensures bad { IfErr result
+        (λ w. numbered_terms account id opening (option_map (λ list. list.items) owners) ≡ Err w) }
 {
     let (Some(id), Some(opening), Some(owners)) = (id, opening, owners) else {
         return Err(BookWhy::Number);
@@ -129,8 +134,10 @@ fn named_terms(
     text: &[u8],
 ) -> Result<(u64, Vec<u64>), ReadBookFault>
     requires { account < most_accounts }
-    ensures ok { IfOk result (λ t. named_terms processes.now account opening text.now ≡ Ok (terms_with t.0 t.1.items)) }
-    ensures bad { (b : BadBook) → result ≡ Err (ReadBookFault.Bad b) → at_line (account + 4) (named_terms processes.now account opening text.now) ≡ Err b }
+    ensures ok { IfOk result
+        (λ t. named_terms processes.now account opening text.now ≡ Ok (terms_with t.0 t.1.items)) }
+    ensures bad { (b : BadBook) → result ≡ Err (ReadBookFault.Bad b)
+        → at_line (account + 4) (named_terms processes.now account opening text.now) ≡ Err b }
 {
     let Some(opening) = opening else {
         return Err(bad_book(account + 4, BookWhy::Number));
@@ -153,7 +160,8 @@ fn add_plain_record(
     requires version { begun.old.names.version ≡ 1 }
     requires names { AreNamesOf begun.old.book begun.old.names }
     ensures ok { OnOk result (with_plain_record begun.old (fields_of fields.now) ≡ Ok begun.new) }
-    ensures bad { (b : BadBook) → result ≡ Err (ReadBookFault.Bad b) → at_line (account + 4) (with_plain_record begun.old (fields_of fields.now)) ≡ Err b }
+    ensures bad { (b : BadBook) → result ≡ Err (ReadBookFault.Bad b)
+        → at_line (account + 4) (with_plain_record begun.old (fields_of fields.now)) ≡ Err b }
 {
     let Ok(owners) = read_owners(alloc, field_of(fields, 3)) else {
         return Err(ReadBookFault::NoMemory);
@@ -186,7 +194,8 @@ fn add_named_record(
     requires account { account ≡ length begun.old.book.accounts }
     requires room { account < most_accounts }
     ensures ok { OnOk result (with_named_record begun.old (fields_of fields.now) ≡ Ok begun.new) }
-    ensures bad { (b : BadBook) → result ≡ Err (ReadBookFault.Bad b) → at_line (account + 4) (with_named_record begun.old (fields_of fields.now)) ≡ Err b }
+    ensures bad { (b : BadBook) → result ≡ Err (ReadBookFault.Bad b)
+        → at_line (account + 4) (with_named_record begun.old (fields_of fields.now)) ≡ Err b }
 {
     if let Err(fault) = add_name(&mut begun.accounts, account + 4, field_of(fields, 1)) {
         return Err(fault);
@@ -216,7 +225,8 @@ pub(crate) fn add_record(
     requires names { AreNamesOf begun.old.book begun.old.names }
     ensures ok { OnOk result (with_account_record begun.old (fields_of fields.now) ≡ Ok begun.new) }
     ensures names { OnOk result (AreNamesOf begun.new.book begun.new.names) }
-    ensures bad { (b : BadBook) → result ≡ Err (ReadBookFault.Bad b) → at_line (account + 4) (with_account_record begun.old (fields_of fields.now)) ≡ Err b }
+    ensures bad { (b : BadBook) → result ≡ Err (ReadBookFault.Bad b)
+        → at_line (account + 4) (with_account_record begun.old (fields_of fields.now)) ≡ Err b }
 {
     if !has_shape(fields, b"account", 4) {
         return Err(bad_book(account + 4, BookWhy::Shape));

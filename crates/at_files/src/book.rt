@@ -18,9 +18,11 @@ use std::alloc::Global;
 
 /// Reads record 1.
 fn read_title(records: &mut Records<'_>, fields: &mut ByteRecord) -> Result<u32, ReadBookFault>
-    ensures ok { IfOk result (λ version. book_of_records records.old ≡ processes_from version records.new) }
+    ensures ok { IfOk result
+        (λ version. book_of_records records.old ≡ processes_from version records.new) }
     ensures known { IfOk result (λ version. (version ≡ 1) ⊎ (version ≡ 2)) }
-    ensures bad { (b : BadBook) → result ≡ Err (ReadBookFault.Bad b) → book_of_records records.old ≡ Err b }
+    ensures bad { (b : BadBook) → result ≡ Err (ReadBookFault.Bad b)
+        → book_of_records records.old ≡ Err b }
 {
     let Ok(found) = records.next(fields) else {
         return Err(ReadBookFault::NoMemory);
@@ -41,9 +43,12 @@ fn read_processes(
     records: &mut Records<'_>,
     fields: &mut ByteRecord,
 ) -> Result<NameSet, ReadBookFault>
-    ensures ok { IfOk result (λ processes. processes_from version records.old ≡ limits_from version processes records.new) }
+    ensures ok { IfOk result
+        (λ processes. processes_from version records.old ≡ limits_from
+        version processes records.new) }
     ensures names { (version ≡ 1) ⊎ (version ≡ 2) → IfOk result (AreNames version) }
-    ensures bad { (b : BadBook) → result ≡ Err (ReadBookFault.Bad b) → processes_from version records.old ≡ Err b }
+    ensures bad { (b : BadBook) → result ≡ Err (ReadBookFault.Bad b)
+        → processes_from version records.old ≡ Err b }
 {
     let Ok(found) = records.next(fields) else {
         return Err(ReadBookFault::NoMemory);
@@ -66,10 +71,12 @@ fn read_limits(
     fields: &mut ByteRecord,
 ) -> Result<Begun, ReadBookFault>
     requires { AreNames version processes }
-    ensures ok { IfOk result (λ b. limits_from version processes records.old ≡ accounts_from b records.new) }
+    ensures ok { IfOk result
+        (λ b. limits_from version processes records.old ≡ accounts_from b records.new) }
     ensures empty { IfOk result (λ b. b.book.accounts ≡ []) }
     ensures names { IfOk result (λ b. AreNamesOf b.book b.names) }
-    ensures bad { (b : BadBook) → result ≡ Err (ReadBookFault.Bad b) → limits_from version processes records.old ≡ Err b }
+    ensures bad { (b : BadBook) → result ≡ Err (ReadBookFault.Bad b)
+        → limits_from version processes records.old ≡ Err b }
 {
     let Ok(found) = records.next(fields) else {
         return Err(ReadBookFault::NoMemory);
@@ -94,7 +101,8 @@ fn read_accounts(
     requires names { AreNamesOf begun.book begun.names }
     ensures ok { IfOk result (λ b. accounts_from begun records.old ≡ book_at_end b) }
     ensures names { IfOk result (λ b. AreNamesOf b.book b.names) }
-    ensures bad { (b : BadBook) → result ≡ Err (ReadBookFault.Bad b) → accounts_from begun records.old ≡ Err b }
+    ensures bad { (b : BadBook) → result ≡ Err (ReadBookFault.Bad b)
+        → accounts_from begun records.old ≡ Err b }
 {
     let mut begun = begun;
     for account in 0..ACCOUNTS_MAX {
@@ -143,10 +151,12 @@ fn read_terms(
     records: &mut Records<'_>,
     fields: &mut ByteRecord,
 ) -> Result<(Book, Names), ReadBookFault>
-    ensures ok { IfOk result (λ r. book_of_records records.old ≡ Ok (record { book = r.0; names = r.1 })) }
+    ensures ok { IfOk result
+        (λ r. book_of_records records.old ≡ Ok (record { book = r.0; names = r.1 })) }
     ensures checked { IfOk result (λ r. IsBook r.0) }
     ensures names { IfOk result (λ r. AreNamesOf r.0 r.1) }
-    ensures bad { (b : BadBook) → result ≡ Err (ReadBookFault.Bad b) → book_of_records records.old ≡ Err b }
+    ensures bad { (b : BadBook) → result ≡ Err (ReadBookFault.Bad b)
+        → book_of_records records.old ≡ Err b }
 {
     let version = match read_title(records, fields) {
         Ok(version) => version,
@@ -171,11 +181,14 @@ fn read_terms(
 ///
 /// Only one record is held at a time, and each name is looked up by its hash.
 pub fn read_book(alloc: Global, bytes: &[u8]) -> Result<(Book, Names), ReadBookFault>
-    ensures ok { IfOk result (λ r. book_of_records (records_of bytes.now) ≡ Ok (record { book = r.0; names = r.1 })) }
+    ensures ok { IfOk result
+        (λ r. book_of_records (records_of bytes.now) ≡ Ok (record { book = r.0; names = r.1 })) }
     ensures spelled { IfOk result (λ r. Spells (records_of bytes.now) r.0 r.1) }
     ensures names { IfOk result (λ r. AreNamesOf r.0 r.1) }
-    ensures accepts { (b : BookTerms) (names : NameList) → Spells (records_of bytes.now) b names → IfErr result (λ fault. fault ≡ ReadBookFault.NoMemory) }
-    ensures bad { (b : BadBook) → result ≡ Err (ReadBookFault.Bad b) → book_of_records (records_of bytes.now) ≡ Err b }
+    ensures accepts { (b : BookTerms) (names : NameList) → Spells (records_of bytes.now) b names
+        → IfErr result (λ fault. fault ≡ ReadBookFault.NoMemory) }
+    ensures bad { (b : BadBook) → result ≡ Err (ReadBookFault.Bad b)
+        → book_of_records (records_of bytes.now) ≡ Err b }
 {
     let mut records = Records::new(alloc, bytes);
     let mut fields = ByteRecord::new(alloc);

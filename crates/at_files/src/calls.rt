@@ -133,7 +133,9 @@ fn has_amounts(fields: &ByteRecord) -> bool
 /// A target of a pay-out, from 0, if its account and its amount are there.
 fn target_of(names: &Names, fields: &ByteRecord, i: usize) -> Option<(u32, u64)>
     requires { i < most_targets }
-    ensures { result ≡ target_of (position_of names.now.accounts (field_of (fields_of fields.now) (2 * i + 2))) (number_at (fields_of fields.now) (2 * i + 3)) }
+    ensures { result ≡ target_of
+        (position_of names.now.accounts (field_of (fields_of fields.now) (2 * i + 2)))
+        (number_at (fields_of fields.now) (2 * i + 3)) }
 {
     match (
         names.find(field_of(fields, 2 * i + 2)),
@@ -166,7 +168,10 @@ fn targets_spelled(names: &Names, fields: &ByteRecord) -> Option<Targets>
 /// A pay-out between accounts that are given by their names.
 fn named_pay(names: &Names, fields: &ByteRecord) -> Result<Call, PaymentsWhy>
     requires { is_pay (fields_of fields.now) ≡ true }
-    ensures { result ≡ named_pay (position_of names.now.accounts (field_of (fields_of fields.now) 1)) (has_amounts (drop 2 (fields_of fields.now))) (targets_spelled names.now.accounts (drop 2 (fields_of fields.now))) }
+    ensures { result ≡ named_pay
+        (position_of names.now.accounts (field_of (fields_of fields.now) 1))
+        (has_amounts (drop 2 (fields_of fields.now)))
+        (targets_spelled names.now.accounts (drop 2 (fields_of fields.now))) }
 {
     if !has_amounts(fields) {
         return Err(PaymentsWhy::Number);

@@ -40,7 +40,8 @@ pub(crate) fn version_of(fields: &ByteRecord) -> Result<u32, BookWhy>
 /// Adds a name, which has to have the form of one and to be new.
 pub(crate) fn add_name(names: &mut NameSet, line: u32, name: &[u8]) -> Result<(), ReadBookFault>
     ensures ok { OnOk result (with_name names.old name.now ≡ Ok names.new) }
-    ensures bad { (b : BadBook) → result ≡ Err (ReadBookFault.Bad b) → at_line line (with_name names.old name.now) ≡ Err b }
+    ensures bad { (b : BadBook) → result ≡ Err (ReadBookFault.Bad b)
+        → at_line line (with_name names.old name.now) ≡ Err b }
 {
     if !is_name(name) {
         return Err(bad_book(line, BookWhy::Name));
@@ -58,7 +59,8 @@ pub(crate) fn add_name(names: &mut NameSet, line: u32, name: &[u8]) -> Result<()
 /// Adds a process of record 2.
 fn add_process(names: &mut NameSet, name: &[u8]) -> Result<(), ReadBookFault>
     ensures ok { OnOk result (with_process names.old name.now ≡ Ok names.new) }
-    ensures bad { (b : BadBook) → result ≡ Err (ReadBookFault.Bad b) → at_line 2 (with_process names.old name.now) ≡ Err b }
+    ensures bad { (b : BadBook) → result ≡ Err (ReadBookFault.Bad b)
+        → at_line 2 (with_process names.old name.now) ≡ Err b }
 {
     if names.len() >= PROCESSES_MAX as usize {
         return Err(bad_book(2, BookWhy::Book(BookError::TooManyProcesses)));
@@ -68,8 +70,10 @@ fn add_process(names: &mut NameSet, name: &[u8]) -> Result<(), ReadBookFault>
 
 /// The processes that the fields after the first name.
 fn names_of_processes(alloc: Global, fields: &ByteRecord) -> Result<NameSet, ReadBookFault>
-    ensures ok { IfOk result (λ names. with_processes [] (drop 1 (fields_of fields.now)) ≡ Ok names) }
-    ensures bad { (b : BadBook) → result ≡ Err (ReadBookFault.Bad b) → at_line 2 (with_processes [] (drop 1 (fields_of fields.now))) ≡ Err b }
+    ensures ok { IfOk result
+        (λ names. with_processes [] (drop 1 (fields_of fields.now)) ≡ Ok names) }
+    ensures bad { (b : BadBook) → result ≡ Err (ReadBookFault.Bad b)
+        → at_line 2 (with_processes [] (drop 1 (fields_of fields.now))) ≡ Err b }
 {
     let mut names = NameSet::new(alloc);
     for i in 1..fields.len() {
@@ -83,7 +87,8 @@ fn names_of_processes(alloc: Global, fields: &ByteRecord) -> Result<NameSet, Rea
 /// The processes of record 2 in version 2.
 fn named_processes(alloc: Global, fields: &ByteRecord) -> Result<NameSet, ReadBookFault>
     ensures ok { IfOk result (λ names. named_processes (fields_of fields.now) ≡ Ok names) }
-    ensures bad { (b : BadBook) → result ≡ Err (ReadBookFault.Bad b) → at_line 2 (named_processes (fields_of fields.now)) ≡ Err b }
+    ensures bad { (b : BadBook) → result ≡ Err (ReadBookFault.Bad b)
+        → at_line 2 (named_processes (fields_of fields.now)) ≡ Err b }
 {
     if !is_word(field_of(fields, 0), b"processes") {
         return Err(bad_book(2, BookWhy::Shape));
@@ -111,7 +116,8 @@ fn process_count(alloc: Global, processes: Option<u64>) -> Result<u64, BookWhy>
 /// The processes of record 2 in version 1.
 fn counted_processes(alloc: Global, fields: &ByteRecord) -> Result<NameSet, ReadBookFault>
     ensures ok { IfOk result (λ names. counted_processes (fields_of fields.now) ≡ Ok names) }
-    ensures bad { (b : BadBook) → result ≡ Err (ReadBookFault.Bad b) → at_line 2 (counted_processes (fields_of fields.now)) ≡ Err b }
+    ensures bad { (b : BadBook) → result ≡ Err (ReadBookFault.Bad b)
+        → at_line 2 (counted_processes (fields_of fields.now)) ≡ Err b }
 {
     if !has_shape(fields, b"processes", 2) {
         return Err(bad_book(2, BookWhy::Shape));
@@ -133,7 +139,8 @@ pub(crate) fn processes_of(
     fields: &ByteRecord,
 ) -> Result<NameSet, ReadBookFault>
     ensures ok { IfOk result (λ names. processes_of version (fields_of fields.now) ≡ Ok names) }
-    ensures bad { (b : BadBook) → result ≡ Err (ReadBookFault.Bad b) → at_line 2 (processes_of version (fields_of fields.now)) ≡ Err b }
+    ensures bad { (b : BadBook) → result ≡ Err (ReadBookFault.Bad b)
+        → at_line 2 (processes_of version (fields_of fields.now)) ≡ Err b }
 {
     if version == 2 {
         named_processes(alloc, fields)

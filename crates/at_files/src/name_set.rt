@@ -76,7 +76,8 @@ impl NameSet {
     pub(crate) fn add(&mut self, text: &[u8]) -> Result<bool, NoMemory>
         requires { length text.now ≤ most_name_bytes }
         ensures added { IfOk result (λ added. added ≡ not (has_name self.old text.now)) }
-        ensures names { IfOk result (λ added. self.new ≡ (if added then self.old ++ text.now ∷ [] else self.old)) }
+        ensures names { IfOk result
+            (λ added. self.new ≡ (if added then self.old ++ text.now ∷ [] else self.old)) }
     {
         let Some(name) = held(text) else {
             unreachable!()

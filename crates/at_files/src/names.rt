@@ -31,8 +31,10 @@ impl Model for Names {
 impl Names {
     /// Names that were read with a book of this version.
     pub(crate) fn new(version: u32, processes: NameSet, accounts: NameSet) -> Names
-        requires { IsNameList (record { version = version; processes = processes; accounts = accounts }) }
-        ensures { result ≡ record { version = version; processes = processes; accounts = accounts } }
+        requires { IsNameList (record
+            { version = version; processes = processes; accounts = accounts }) }
+        ensures { result ≡ record
+            { version = version; processes = processes; accounts = accounts } }
     {
         Names {
             version,
@@ -89,7 +91,8 @@ impl Names {
     /// The account with this name, which is looked up by its hash.
     pub fn find(&self, name: &[u8]) -> Option<u32>
         ensures position { result ≡ position_of self.now.accounts name.now }
-        ensures found { IfSome result (λ account. slice_get self.now.accounts account ≡ Some name.now) }
+        ensures found { IfSome result
+            (λ account. slice_get self.now.accounts account ≡ Some name.now) }
         ensures none { IfNone result (¬ (Contains self.now.accounts name.now)) }
     {
         match self.accounts.position(name) {

@@ -16,7 +16,8 @@ use std::alloc::{AllocError, Global};
 
 /// The numbers of an owners field, or `None` where a piece is no number.
 pub(crate) fn read_owners(alloc: Global, text: &[u8]) -> Result<Option<Vec<u64>>, NoMemory>
-    ensures { IfOk result (λ owners. option_map (λ list. list.items) owners ≡ numbers_of (pieces_of text.now)) }
+    ensures { IfOk result
+        (λ owners. option_map (λ list. list.items) owners ≡ numbers_of (pieces_of text.now)) }
 {
     if text.is_empty() {
         Ok(Some(Vec::new(alloc)))
@@ -27,7 +28,9 @@ pub(crate) fn read_owners(alloc: Global, text: &[u8]) -> Result<Option<Vec<u64>>
 
 /// The numbers of the pieces between spaces.
 fn read_numbers(alloc: Global, text: &[u8]) -> Result<Option<Vec<u64>>, NoMemory>
-    ensures { IfOk result (λ owners. option_map (λ list. list.items) owners ≡ numbers_of (slice_split (λ byte. byte == 32) text.now)) }
+    ensures { IfOk result
+        (λ owners. option_map (λ list. list.items) owners ≡ numbers_of
+        (slice_split (λ byte. byte == 32) text.now)) }
 {
     let mut numbers = Vec::new(alloc);
     for piece in text.split(|byte| *byte == b' ') {
@@ -72,8 +75,11 @@ pub(crate) fn owners_named(
     text: &[u8],
 ) -> Result<Vec<u64>, ReadBookFault>
     requires { account < most_accounts }
-    ensures ok { IfOk result (λ owners. owners_named processes.now account 0 0 (pieces_of text.now) ≡ Ok owners.items) }
-    ensures bad { (b : BadBook) → result ≡ Err (ReadBookFault.Bad b) → at_line (account + 4) (owners_named processes.now account 0 0 (pieces_of text.now)) ≡ Err b }
+    ensures ok { IfOk result
+        (λ owners. owners_named processes.now account 0 0 (pieces_of text.now) ≡ Ok owners.items) }
+    ensures bad { (b : BadBook) → result ≡ Err (ReadBookFault.Bad b)
+        → at_line (account + 4) (owners_named processes.now account 0 0 (pieces_of text.now))
+        ≡ Err b }
 {
     if text.is_empty() {
         Ok(Vec::new(alloc))
@@ -90,7 +96,9 @@ fn pieces_named(
     text: &[u8],
 ) -> Result<Vec<u64>, ReadBookFault>
     requires { account < most_accounts }
-    ensures ok { IfOk result (λ owners. owners_named processes.now account 0 0 (slice_split (λ byte. byte == 32) text.now) ≡ Ok owners.items) }
+    ensures ok { IfOk result
+        (λ owners. owners_named processes.now account 0 0
+        (slice_split (λ byte. byte == 32) text.now) ≡ Ok owners.items) }
     ensures bad { (b : BadBook) → result ≡ Err (ReadBookFault.Bad b)
         → at_line (account + 4) (owners_named processes.now account 0 0 (slice_split (λ byte. byte == 32) text.now)) ≡ Err b }
 {

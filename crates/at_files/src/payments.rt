@@ -23,10 +23,14 @@ pub fn read_payments(
     bytes: &[u8],
 ) -> Result<Vec<Call>, ReadPaymentsFault>
     requires { AreNamesOf book.now names.now }
-    ensures ok { IfOk result (λ calls. payments_of names.now (records_of bytes.now) ≡ Ok calls.items) }
-    ensures pays { IfOk result (λ calls. Pays book.now names.now (records_of bytes.now) calls.items) }
-    ensures accepts { (calls : List Call) → Pays book.now names.now (records_of bytes.now) calls → IfErr result (λ fault. fault ≡ ReadPaymentsFault.NoMemory) }
-    ensures bad { (b : BadPayments) → result ≡ Err (ReadPaymentsFault.Bad b) → payments_of names.now (records_of bytes.now) ≡ Err b }
+    ensures ok { IfOk result
+        (λ calls. payments_of names.now (records_of bytes.now) ≡ Ok calls.items) }
+    ensures pays { IfOk result
+        (λ calls. Pays book.now names.now (records_of bytes.now) calls.items) }
+    ensures accepts { (calls : List Call) → Pays book.now names.now (records_of bytes.now) calls
+        → IfErr result (λ fault. fault ≡ ReadPaymentsFault.NoMemory) }
+    ensures bad { (b : BadPayments) → result ≡ Err (ReadPaymentsFault.Bad b)
+        → payments_of names.now (records_of bytes.now) ≡ Err b }
 {
     let accounts = book.accounts();
     let mut records = Records::new(alloc, bytes);

@@ -46,7 +46,8 @@ impl<'a> Records<'a> {
     /// Reads the next record into `record`, and answers whether there was one. An error ends the records, and each
     /// one is answered as want of memory: no clause of `csv` rules out another over bytes that are there.
     pub(crate) fn next(&mut self, fields: &mut ByteRecord) -> Result<bool, NoMemory>
-        ensures ok { IfOk result (λ found. self.old ≡ (if found then fields_of fields.new ∷ self.new else [])) }
+        ensures ok { IfOk result
+            (λ found. self.old ≡ (if found then fields_of fields.new ∷ self.new else [])) }
         ensures err { OnErr result (self.new ≡ []) }
     {
         if self.ended {

@@ -40,7 +40,8 @@ impl Book {
     pub fn new(alloc: Global, draft: &Draft) -> Result<Book, BookFault>
         ensures ok { IfOk result (λ b. b ≡ book_of draft.now) }
         ensures good { OnOk result (book_fault draft.now ≡ None) }
-        ensures bad { (e : BookError) → result ≡ Err (BookFault.Bad e) → book_fault draft.now ≡ Some e }
+        ensures bad { (e : BookError) → result ≡ Err (BookFault.Bad e)
+            → book_fault draft.now ≡ Some e }
     {
         let mut builder = match BookBuilder::new(
             alloc,
@@ -137,8 +138,10 @@ impl Book {
     pub fn slot_of(&self, account: u32, process: u32) -> Option<u32>
         requires { account < length self.now.accounts }
         ensures slot { result ≡ slot_in (account_of self.now account) process }
-        ensures within { IfSome result (λ slot. slot < length (account_of self.now account).owners) }
-        ensures owner { IfSome result (λ slot. slice_index (account_of self.now account).owners slot ≡ process) }
+        ensures within { IfSome result
+            (λ slot. slot < length (account_of self.now account).owners) }
+        ensures owner { IfSome result
+            (λ slot. slice_index (account_of self.now account).owners slot ≡ process) }
     {
         self.accounts[account as usize].slot_in(process)
     }

@@ -77,7 +77,8 @@ impl BookBuilder {
 
     /// Adds an account after the others. Memory is asked for only where the account has no fault.
     pub fn add(&mut self, opening: u64, owners: &[u64]) -> Result<(), BookFault>
-        ensures ok { OnOk result (self.new ≡ with_account self.old (terms_with opening owners.now)) }
+        ensures ok { OnOk result
+            (self.new ≡ with_account self.old (terms_with opening owners.now)) }
         ensures good { OnOk result (account_fault self.old (terms_with opening owners.now) ≡ None) }
         ensures bad { (e : BookError) → result ≡ Err (BookFault.Bad e)
             → account_fault self.old (terms_with opening owners.now) ≡ Some e }
@@ -111,9 +112,12 @@ impl BookBuilder {
     /// The account with the sums that it leads to, or its first fault.
     fn checked(&self, opening: u64, owners: &[u64]) -> Result<(Account, Sums), BookError>
         ensures ok { IfOk result (λ p. p.0 ≡ terms_with opening owners.now) }
-        ensures sums { IfOk result (λ p. IsSummed (with_account self.now (terms_with opening owners.now)) p.1.rounds p.1.total) }
+        ensures sums { IfOk result
+            (λ p. IsSummed
+            (with_account self.now (terms_with opening owners.now)) p.1.rounds p.1.total) }
         ensures good { OnOk result (account_fault self.now (terms_with opening owners.now) ≡ None) }
-        ensures bad { IfErr result (λ e. account_fault self.now (terms_with opening owners.now) ≡ Some e) }
+        ensures bad { IfErr result
+            (λ e. account_fault self.now (terms_with opening owners.now) ≡ Some e) }
     {
         if self.is_full() {
             return Err(BookError::TooManyAccounts);
@@ -128,7 +132,8 @@ impl BookBuilder {
     /// The sums with one more account, or why they pass a limit.
     fn sums_with(&self, account: &Account) -> Result<Sums, BookError>
         requires { length self.now.accounts < most_accounts }
-        ensures rounds { IfOk result (λ s. s.rounds ≡ rounds_of self.now + rounds_room self.now.request_room account.now) }
+        ensures rounds { IfOk result
+            (λ s. s.rounds ≡ rounds_of self.now + rounds_room self.now.request_room account.now) }
         ensures total { IfOk result (λ s. s.total ≡ total_of self.now + account.now.opening) }
         ensures good { OnOk result (sums_fault self.now account.now ≡ None) }
         ensures bad { IfErr result (λ e. sums_fault self.now account.now ≡ Some e) }

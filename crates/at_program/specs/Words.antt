@@ -1,5 +1,5 @@
 -- The forms of the words of the command line.
-use Rattle.std.specs.Prelude.{ℕ, List, [], ◌∷◌, map, codes, bytes_eq, Option, Some, None, option_map, if◌then◌else◌, String, string_bytes}
+use Rattle.std.specs.Prelude.{◌≡◌, ℕ, List, [], ◌∷◌, map, codes, bytes_eq, Option, Some, None, option_map, if◌then◌else◌, String, string_bytes}
 use Rattle.std.specs.Global.{Global}
 use Rattle.at_base.specs.Numbers.{number_of}
 use Rattle.at_ledger.specs.Draft.{is_within}
@@ -31,6 +31,10 @@ form_of (word ∷ book ∷ payments) = option_map (λ command. record { command 
 abbrev pub words_of : List (String Global) → List Word
 words_of words = map string_bytes words
 
+-- the words have this form
+abbrev pub HaveForm : List (String Global) → Form → Type 0
+HaveForm words form = form_of (words_of words) ≡ Some form
+
 -- the same words, as the program holds them
 abbrev pub form_shown : words.Form → Form
 form_shown form = record { command = form.command; book = form.book.now; payments = words_of form.payments.now }
@@ -53,3 +57,7 @@ make_of (word ∷ first ∷ processes ∷ calls ∷ []) =
     if bytes_eq word (codes "make") then making_of (number_of first) (within most_made_processes (number_of processes)) (within most_made_calls (number_of calls))
     else None
 make_of words = None
+
+-- the words ask `make` for these numbers
+abbrev pub AskToMake : List (String Global) → Making → Type 0
+AskToMake words making = make_of (words_of words) ≡ Some making

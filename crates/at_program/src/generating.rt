@@ -67,7 +67,8 @@ impl Draws {
         calls: u32,
     ) -> Result<Vec<Call>, AllocError>
         requires { processes ≤ most_made_processes }
-        ensures calls { IfOk result (λ file. file.items ≡ calls_drawn processes process calls self.old.state) }
+        ensures calls { IfOk result
+            (λ file. file.items ≡ calls_drawn processes process calls self.old.state) }
         ensures state { OnOk result (self.new.state ≡ state_after_calls self.old.state calls) }
     {
         let mut file = Vec::new(alloc);
@@ -158,9 +159,11 @@ pub fn generate(alloc: Global, first: u64, processes: u32, calls: u32) -> Result
     ensures book { IfOk result (λ m. m.book ≡ book_made processes calls) }
     ensures files { IfOk result (λ m. calls_of m.files.items ≡ files_made first processes calls) }
     ensures count { IfOk result (λ m. length m.files.items ≡ m.book.processes) }
-    ensures known { IfOk result (λ m. All (IsFileOn (length m.book.accounts)) (calls_of m.files.items)) }
+    ensures known { IfOk result
+        (λ m. All (IsFileOn (length m.book.accounts)) (calls_of m.files.items)) }
     ensures all_done { IfOk result (λ m. AllDone m.book (calls_of m.files.items)) }
-    ensures all_sum { IfOk result (λ m. AllSum m.book (calls_of m.files.items) first calls (made first processes calls)) }
+    ensures all_sum { IfOk result
+        (λ m. AllSum m.book (calls_of m.files.items) first calls (made first processes calls)) }
 {
     let book = make_book(alloc, processes, calls)?;
     let files = draw_files(alloc, first, processes, calls)?;

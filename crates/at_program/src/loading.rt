@@ -29,12 +29,17 @@ fn fetch_file<F: Shelf>(
     name: &str,
     number: u32,
 ) -> Result<Vec<u8>, Status>
-    ensures files { SameFiles (F.tells shelf.old) (F.tells shelf.new) (F.file shelf.old) (F.file shelf.new) }
+    ensures files { SameFiles (F.tells shelf.old) (F.tells shelf.new) (F.file shelf.old)
+        (F.file shelf.new) }
     ensures later { F.faults shelf.old ≤ F.faults shelf.new }
     ensures kept { OnOk result (F.faults shelf.new ≡ F.faults shelf.old) }
-    ensures ok { F.tells shelf.old ≡ true → IfOk result (λ bytes. fetched (F.file shelf.old name.now) number ≡ Ok bytes.items) }
-    ensures held { F.tells shelf.old ≡ true → IfOk result (λ bytes. HoldsFile (F.file shelf.old) name.now bytes.items) }
-    ensures err { IfErr result (λ refusal. MayRefuse (F.tells shelf.old) (fetched (F.file shelf.old name.now) number) (F.faults shelf.old) (F.faults shelf.new) refusal) }
+    ensures ok { F.tells shelf.old ≡ true
+        → IfOk result (λ bytes. fetched (F.file shelf.old name.now) number ≡ Ok bytes.items) }
+    ensures held { F.tells shelf.old ≡ true
+        → IfOk result (λ bytes. HoldsFile (F.file shelf.old) name.now bytes.items) }
+    ensures err { IfErr result
+        (λ refusal. MayRefuse (F.tells shelf.old) (fetched (F.file shelf.old name.now) number)
+        (F.faults shelf.old) (F.faults shelf.new) refusal) }
     ensures file { (file : ℕ) → result ≡ Err (Status.ReadFault file) → file ≡ number }
     ensures numbered { (files : ℕ) → number ≤ files → IfErr result (HasFileNumbers files) }
 {
@@ -49,13 +54,19 @@ fn fetch_file<F: Shelf>(
 
 /// The book of file 0, with its names.
 fn load_book<F: Shelf>(alloc: Global, shelf: &mut F, name: &str) -> Result<(Book, Names), Status>
-    ensures files { SameFiles (F.tells shelf.old) (F.tells shelf.new) (F.file shelf.old) (F.file shelf.new) }
+    ensures files { SameFiles (F.tells shelf.old) (F.tells shelf.new) (F.file shelf.old)
+        (F.file shelf.new) }
     ensures later { F.faults shelf.old ≤ F.faults shelf.new }
     ensures kept { OnOk result (F.faults shelf.new ≡ F.faults shelf.old) }
-    ensures ok { F.tells shelf.old ≡ true → IfOk result (λ l. book_loaded (F.file shelf.old) name.now ≡ Ok (record { book = l.0; names = l.1 })) }
-    ensures spelled { F.tells shelf.old ≡ true → IfOk result (λ l. SpellsBook (F.file shelf.old) name.now l.0 l.1) }
+    ensures ok { F.tells shelf.old ≡ true
+        → IfOk result
+        (λ l. book_loaded (F.file shelf.old) name.now ≡ Ok (record { book = l.0; names = l.1 })) }
+    ensures spelled { F.tells shelf.old ≡ true
+        → IfOk result (λ l. SpellsBook (F.file shelf.old) name.now l.0 l.1) }
     ensures names { IfOk result (λ l. AreNamesOf l.0 l.1) }
-    ensures err { IfErr result (λ refusal. MayRefuse (F.tells shelf.old) (book_loaded (F.file shelf.old) name.now) (F.faults shelf.old) (F.faults shelf.new) refusal) }
+    ensures err { IfErr result
+        (λ refusal. MayRefuse (F.tells shelf.old) (book_loaded (F.file shelf.old) name.now)
+        (F.faults shelf.old) (F.faults shelf.new) refusal) }
     ensures file { (file : ℕ) → result ≡ Err (Status.ReadFault file) → file ≡ 0 }
     ensures numbered { (files : ℕ) → IfErr result (HasFileNumbers files) }
 {
@@ -81,13 +92,21 @@ fn load_calls<F: Shelf>(
 ) -> Result<Vec<Call>, Status>
     requires names { AreNamesOf book.now names.now }
     requires process { process < 2 ^ 31 }
-    ensures files { SameFiles (F.tells shelf.old) (F.tells shelf.new) (F.file shelf.old) (F.file shelf.new) }
+    ensures files { SameFiles (F.tells shelf.old) (F.tells shelf.new) (F.file shelf.old)
+        (F.file shelf.new) }
     ensures later { F.faults shelf.old ≤ F.faults shelf.new }
     ensures kept { OnOk result (F.faults shelf.new ≡ F.faults shelf.old) }
-    ensures ok { F.tells shelf.old ≡ true → IfOk result (λ calls. calls_loaded (F.file shelf.old) names.now process name.now ≡ Ok calls.items) }
-    ensures spelled { F.tells shelf.old ≡ true → IfOk result (λ calls. SpellsCalls (F.file shelf.old) name.now book.now names.now calls.items) }
+    ensures ok { F.tells shelf.old ≡ true
+        → IfOk result
+        (λ calls. calls_loaded (F.file shelf.old) names.now process name.now ≡ Ok calls.items) }
+    ensures spelled { F.tells shelf.old ≡ true
+        → IfOk result
+        (λ calls. SpellsCalls (F.file shelf.old) name.now book.now names.now calls.items) }
     ensures known { IfOk result (λ calls. IsFileOn (length book.now.accounts) calls.items) }
-    ensures err { IfErr result (λ refusal. MayRefuse (F.tells shelf.old) (calls_loaded (F.file shelf.old) names.now process name.now) (F.faults shelf.old) (F.faults shelf.new) refusal) }
+    ensures err { IfErr result
+        (λ refusal. MayRefuse (F.tells shelf.old)
+        (calls_loaded (F.file shelf.old) names.now process name.now) (F.faults shelf.old)
+        (F.faults shelf.new) refusal) }
     ensures file { (file : ℕ) → result ≡ Err (Status.ReadFault file) → file ≡ process + 1 }
     ensures numbered { (files : ℕ) → process < files → IfErr result (HasFileNumbers files) }
 {
@@ -112,15 +131,28 @@ fn load_files<F: Shelf>(
 ) -> Result<Vec<Vec<Call>>, Status>
     requires names { AreNamesOf book.now names.now }
     requires few { length payments.now < 2 ^ 31 }
-    ensures files { SameFiles (F.tells shelf.old) (F.tells shelf.new) (F.file shelf.old) (F.file shelf.new) }
+    ensures files { SameFiles (F.tells shelf.old) (F.tells shelf.new) (F.file shelf.old)
+        (F.file shelf.new) }
     ensures later { F.faults shelf.old ≤ F.faults shelf.new }
     ensures kept { OnOk result (F.faults shelf.new ≡ F.faults shelf.old) }
-    ensures ok { F.tells shelf.old ≡ true → IfOk result (λ files. files_loaded (F.file shelf.old) names.now 0 (words_of payments.now) ≡ Ok (calls_of files.items)) }
+    ensures ok { F.tells shelf.old ≡ true
+        → IfOk result
+        (λ files. files_loaded (F.file shelf.old) names.now 0 (words_of payments.now) ≡ Ok
+        (calls_of files.items)) }
     ensures count { IfOk result (λ files. length files.items ≡ length payments.now) }
-    ensures spelled { F.tells shelf.old ≡ true → IfOk result (λ files. EachSpells (F.file shelf.old) (words_of payments.now) book.now names.now (calls_of files.items)) }
-    ensures known { IfOk result (λ files. All (IsFileOn (length book.now.accounts)) (calls_of files.items)) }
-    ensures err { IfErr result (λ refusal. MayRefuse (F.tells shelf.old) (files_loaded (F.file shelf.old) names.now 0 (words_of payments.now)) (F.faults shelf.old) (F.faults shelf.new) refusal) }
-    ensures file { (file : ℕ) → result ≡ Err (Status.ReadFault file) → IsFileReached (F.tells shelf.old) (F.file shelf.old) names.now (words_of payments.now) file }
+    ensures spelled { F.tells shelf.old ≡ true
+        → IfOk result
+        (λ files. EachSpells (F.file shelf.old) (words_of payments.now) book.now names.now
+        (calls_of files.items)) }
+    ensures known { IfOk result
+        (λ files. All (IsFileOn (length book.now.accounts)) (calls_of files.items)) }
+    ensures err { IfErr result
+        (λ refusal. MayRefuse (F.tells shelf.old)
+        (files_loaded (F.file shelf.old) names.now 0 (words_of payments.now)) (F.faults shelf.old)
+        (F.faults shelf.new) refusal) }
+    ensures file { (file : ℕ) → result ≡ Err (Status.ReadFault file)
+        → IsFileReached (F.tells shelf.old) (F.file shelf.old)
+        names.now (words_of payments.now) file }
     ensures numbered { IfErr result (HasFileNumbers (length payments.now)) }
 {
     let mut files = Vec::new(alloc);
@@ -139,16 +171,23 @@ fn load_files<F: Shelf>(
 /// What the files of the form spell, or the first refusal: the book's, that of the number of files, or that of
 /// each payment file in turn. Each file is read before the next is fetched.
 pub fn load<F: Shelf>(alloc: Global, shelf: &mut F, form: &Form<'_>) -> Result<Loaded, Status>
-    ensures files { SameFiles (F.tells shelf.old) (F.tells shelf.new) (F.file shelf.old) (F.file shelf.new) }
+    ensures files { SameFiles (F.tells shelf.old) (F.tells shelf.new) (F.file shelf.old)
+        (F.file shelf.new) }
     ensures later { F.faults shelf.old ≤ F.faults shelf.new }
     ensures kept { OnOk result (F.faults shelf.new ≡ F.faults shelf.old) }
-    ensures ok { F.tells shelf.old ≡ true → IfOk result (λ l. loaded (F.file shelf.old) (form_shown form.now) ≡ Ok (loaded_shown l)) }
-    ensures spelled { F.tells shelf.old ≡ true → IfOk result (λ l. Spelled (F.file shelf.old) (form_shown form.now) (loaded_shown l)) }
+    ensures ok { F.tells shelf.old ≡ true
+        → IfOk result (λ l. loaded (F.file shelf.old) (form_shown form.now) ≡ Ok (loaded_shown l)) }
+    ensures spelled { F.tells shelf.old ≡ true
+        → IfOk result (λ l. Spelled (F.file shelf.old) (form_shown form.now) (loaded_shown l)) }
     ensures names { IfOk result (λ l. AreNamesOf l.book l.names) }
-    ensures known { IfOk result (λ l. All (IsFileOn (length l.book.accounts)) (calls_of l.files.items)) }
+    ensures known { IfOk result
+        (λ l. All (IsFileOn (length l.book.accounts)) (calls_of l.files.items)) }
     ensures count { IfOk result (λ l. length l.files.items ≡ l.book.processes) }
-    ensures err { IfErr result (λ refusal. MayRefuse (F.tells shelf.old) (loaded (F.file shelf.old) (form_shown form.now)) (F.faults shelf.old) (F.faults shelf.new) refusal) }
-    ensures reached { (file : ℕ) → result ≡ Err (Status.ReadFault file) → MayReach (F.tells shelf.old) (F.file shelf.old) (form_shown form.now) file }
+    ensures err { IfErr result
+        (λ refusal. MayRefuse (F.tells shelf.old) (loaded (F.file shelf.old) (form_shown form.now))
+        (F.faults shelf.old) (F.faults shelf.new) refusal) }
+    ensures reached { (file : ℕ) → result ≡ Err (Status.ReadFault file)
+        → MayReach (F.tells shelf.old) (F.file shelf.old) (form_shown form.now) file }
     ensures numbered { IfErr result (HasFileNumbers (length form.now.payments.now)) }
 {
     let (book, names) = match load_book(alloc, shelf, form.book) {

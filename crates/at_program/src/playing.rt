@@ -19,7 +19,8 @@ fn play_file(
 ) -> Result<(), AllocError>
     requires process { process < state.old.book.processes }
     requires calls { IsFileOn (length state.old.book.accounts) calls.now }
-    ensures lines { OnOk result (lines.new.items ≡ lines.old.items ++ played state.old process 1 calls.now) }
+    ensures lines { OnOk result
+        (lines.new.items ≡ lines.old.items ++ played state.old process 1 calls.now) }
     ensures state { OnOk result (state.new ≡ state_after state.old process calls.now) }
     ensures book { state.new.book ≡ state.old.book }
 {
@@ -44,7 +45,8 @@ fn play_each(
     requires processes { length files.now ≤ state.old.book.processes }
     requires few { state.old.book.processes < 2 ^ 32 }
     requires files { All (IsFileOn (length state.old.book.accounts)) (calls_of files.now) }
-    ensures lines { OnOk result (lines.new.items ≡ lines.old.items ++ files_played state.old 0 (calls_of files.now)) }
+    ensures lines { OnOk result
+        (lines.new.items ≡ lines.old.items ++ files_played state.old 0 (calls_of files.now)) }
     ensures state { OnOk result (state.new ≡ state_after_files state.old 0 (calls_of files.now)) }
     ensures book { state.new.book ≡ state.old.book }
 {
@@ -61,8 +63,10 @@ pub fn play(alloc: Global, book: &Book, files: &[Vec<Call>]) -> Result<Vec<Line>
     requires files { All (IsFileOn (length book.now.accounts)) (calls_of files.now) }
     ensures whole { IfOk result (λ lines. Whole (calls_of files.now) lines.items) }
     ensures legal { IfOk result (λ lines. Legal book.now lines.items) }
-    ensures known { IfOk result (λ lines. All (IsLineOn book.now.processes (length book.now.accounts)) lines.items) }
-    ensures total { IfOk result (λ lines. sum (last_state book.now lines.items).balances ≡ total_of book.now) }
+    ensures known { IfOk result
+        (λ lines. All (IsLineOn book.now.processes (length book.now.accounts)) lines.items) }
+    ensures total { IfOk result
+        (λ lines. sum (last_state book.now lines.items).balances ≡ total_of book.now) }
 {
     let _known = book.processes();
     let mut state = State::new(alloc, book)?;

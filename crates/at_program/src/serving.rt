@@ -5,7 +5,7 @@ ghost use Rattle.at_files.specs.Names.{AreNamesOf};
 ghost use Rattle.at_io.specs.Faults.{Rose};
 ghost use Rattle.at_io.specs.Shelf.{SameFiles};
 ghost use Rattle.at_io.specs.Sink.{TakesPrefix};
-ghost use Rattle.at_program.specs.Words.{Form, form_of, form_shown, make_of, words_of};
+ghost use Rattle.at_program.specs.Words.{AskToMake, HaveForm, Form, form_of, form_shown, make_of, words_of};
 ghost use Rattle.at_program.specs.Generator.{MayMake};
 ghost use Rattle.at_program.specs.Made.{IsMade, made};
 ghost use Rattle.at_program.specs.declared.words.Making.{Making};
@@ -26,7 +26,8 @@ use std::thread::Threads;
 fn run_text(alloc: Global, loaded: &loading::Loaded) -> Result<Vec<u8>, AllocError>
     requires names { AreNamesOf loaded.now.book loaded.now.names }
     requires count { length loaded.now.files.items ≡ loaded.now.book.processes }
-    requires known { All (IsFileOn (length loaded.now.book.accounts)) (calls_of loaded.now.files.items) }
+    requires known { All (IsFileOn (length loaded.now.book.accounts))
+        (calls_of loaded.now.files.items) }
     ensures { IfOk result (λ text. Prints Command.Run (loaded_shown loaded.now) text.items) }
 {
     let lines = play(alloc, &loaded.book, loaded.files.as_slice())?;
@@ -36,7 +37,8 @@ fn run_text(alloc: Global, loaded: &loading::Loaded) -> Result<Vec<u8>, AllocErr
 /// How many calls the files have together.
 fn count_calls(loaded: &loading::Loaded) -> u32
     requires count { length loaded.now.files.items ≡ loaded.now.book.processes }
-    requires known { All (IsFileOn (length loaded.now.book.accounts)) (calls_of loaded.now.files.items) }
+    requires known { All (IsFileOn (length loaded.now.book.accounts))
+        (calls_of loaded.now.files.items) }
     ensures { result ≡ sum_by length (calls_of loaded.now.files.items) }
 {
     let _known = loaded.book.accounts();
@@ -51,7 +53,8 @@ fn count_calls(loaded: &loading::Loaded) -> u32
 fn text_of(alloc: Global, command: Command, loaded: &loading::Loaded) -> Result<Vec<u8>, AllocError>
     requires names { AreNamesOf loaded.now.book loaded.now.names }
     requires count { length loaded.now.files.items ≡ loaded.now.book.processes }
-    requires known { All (IsFileOn (length loaded.now.book.accounts)) (calls_of loaded.now.files.items) }
+    requires known { All (IsFileOn (length loaded.now.book.accounts))
+        (calls_of loaded.now.files.items) }
     ensures { IfOk result (λ text. Prints command (loaded_shown loaded.now) text.items) }
 {
     match command {
@@ -66,12 +69,17 @@ fn files_text<F: Shelf>(
     shelf: &mut F,
     form: &words::Form<'_>,
 ) -> Result<Vec<u8>, Status>
-    ensures files { SameFiles (F.tells shelf.old) (F.tells shelf.new) (F.file shelf.old) (F.file shelf.new) }
+    ensures files { SameFiles (F.tells shelf.old) (F.tells shelf.new) (F.file shelf.old)
+        (F.file shelf.new) }
     ensures later { F.faults shelf.old ≤ F.faults shelf.new }
     ensures kept { OnOk result (F.faults shelf.new ≡ F.faults shelf.old) }
-    ensures printed { F.tells shelf.old ≡ true → IfOk result (λ text. PrintsSpelled (F.file shelf.old) (form_shown form.now) text.items) }
-    ensures err { IfErr result (λ refusal. MayRefuse (F.tells shelf.old) (loaded (F.file shelf.old) (form_shown form.now)) (F.faults shelf.old) (F.faults shelf.new) refusal) }
-    ensures reached { (file : ℕ) → result ≡ Err (Status.ReadFault file) → MayReach (F.tells shelf.old) (F.file shelf.old) (form_shown form.now) file }
+    ensures printed { F.tells shelf.old ≡ true
+        → IfOk result (λ text. PrintsSpelled (F.file shelf.old) (form_shown form.now) text.items) }
+    ensures err { IfErr result
+        (λ refusal. MayRefuse (F.tells shelf.old) (loaded (F.file shelf.old) (form_shown form.now))
+        (F.faults shelf.old) (F.faults shelf.new) refusal) }
+    ensures reached { (file : ℕ) → result ≡ Err (Status.ReadFault file)
+        → MayReach (F.tells shelf.old) (F.file shelf.old) (form_shown form.now) file }
     ensures numbered { IfErr result (HasFileNumbers (length form.now.payments.now)) }
 {
     let loaded = match load(alloc, shelf, form) {
@@ -89,7 +97,9 @@ pub fn tell<E: Sink>(err: &mut E, status: &Status)
     requires { status.now ≢ Status.Done }
     ensures later { E.faults err.old ≤ E.faults err.new }
     ensures as_told { E.tells err.new ≡ E.tells err.old }
-    ensures told { E.tells err.old ≡ true → TookLine status.now (E.faults err.old) (E.faults err.new) (E.taken err.old) (E.taken err.new) }
+    ensures told { E.tells err.old ≡ true
+        → TookLine status.now (E.faults err.old) (E.faults err.new) (E.taken err.old)
+        (E.taken err.new) }
 {
     let _ = put_all(err, fault_text(status).as_slice());
 }
@@ -101,18 +111,28 @@ fn answer<F: Shelf, O: Sink>(
     out: &mut O,
     form: &words::Form<'_>,
 ) -> Status
-    ensures files { SameFiles (F.tells shelf.old) (F.tells shelf.new) (F.file shelf.old) (F.file shelf.new) }
-    ensures later { (F.faults shelf.old ≤ F.faults shelf.new) × (O.faults out.old ≤ O.faults out.new) }
+    ensures files { SameFiles (F.tells shelf.old) (F.tells shelf.new) (F.file shelf.old)
+        (F.file shelf.new) }
+    ensures later { (F.faults shelf.old ≤ F.faults shelf.new)
+        × (O.faults out.old ≤ O.faults out.new) }
     ensures as_told { O.tells out.new ≡ O.tells out.old }
     ensures form { result ≢ Status.Usage UsageFault.Words }
-    ensures done { result ≡ Status.Done → F.tells shelf.old ≡ true → O.tells out.old ≡ true → TookAll (F.file shelf.old) (form_shown form.now) (O.taken out.old) (O.taken out.new) }
-    ensures done_kept { result ≡ Status.Done → (F.faults shelf.new ≡ F.faults shelf.old) × (O.faults out.new ≡ O.faults out.old) }
-    ensures write_fault { result ≡ Status.WriteFault → Rose (O.faults out.old) (O.faults out.new) × (F.faults shelf.new ≡ F.faults shelf.old) }
-    ensures prefix { result ≡ Status.WriteFault → F.tells shelf.old ≡ true → O.tells out.old ≡ true → TookPrefix (F.file shelf.old) (form_shown form.now) (O.taken out.old) (O.taken out.new) }
-    ensures refusal { result ≢ Status.Done → result ≢ Status.WriteFault → MayRefuse (F.tells shelf.old) (loaded (F.file shelf.old) (form_shown form.now)) (F.faults shelf.old) (F.faults shelf.new) result }
-    ensures reached { (file : ℕ) → result ≡ Status.ReadFault file → MayReach (F.tells shelf.old) (F.file shelf.old) (form_shown form.now) file }
+    ensures done { result ≡ Status.Done → F.tells shelf.old ≡ true → O.tells out.old ≡ true
+        → TookAll (F.file shelf.old) (form_shown form.now) (O.taken out.old) (O.taken out.new) }
+    ensures done_kept { result ≡ Status.Done
+        → (F.faults shelf.new ≡ F.faults shelf.old) × (O.faults out.new ≡ O.faults out.old) }
+    ensures write_fault { result ≡ Status.WriteFault
+        → Rose (O.faults out.old) (O.faults out.new) × (F.faults shelf.new ≡ F.faults shelf.old) }
+    ensures prefix { result ≡ Status.WriteFault → F.tells shelf.old ≡ true → O.tells out.old ≡ true
+        → TookPrefix (F.file shelf.old) (form_shown form.now) (O.taken out.old) (O.taken out.new) }
+    ensures refusal { result ≢ Status.Done → result ≢ Status.WriteFault
+        → MayRefuse (F.tells shelf.old) (loaded (F.file shelf.old) (form_shown form.now))
+        (F.faults shelf.old) (F.faults shelf.new) result }
+    ensures reached { (file : ℕ) → result ≡ Status.ReadFault file
+        → MayReach (F.tells shelf.old) (F.file shelf.old) (form_shown form.now) file }
     ensures numbered { HasFileNumbers (length form.now.payments.now) result }
-    ensures loads { F.tells shelf.old ≡ true → (result ≡ Status.Done) ⊎ (result ≡ Status.WriteFault) → (l : Loaded) × (loaded (F.file shelf.old) (form_shown form.now) ≡ Ok l) }
+    ensures loads { F.tells shelf.old ≡ true → (result ≡ Status.Done) ⊎ (result ≡ Status.WriteFault)
+        → (l : Loaded) × (loaded (F.file shelf.old) (form_shown form.now) ≡ Ok l) }
     ensures untouched { result ≢ Status.Done → result ≢ Status.WriteFault → out.new ≡ out.old }
 {
     let text = match files_text(alloc, shelf, form) {
@@ -128,8 +148,10 @@ fn answer<F: Shelf, O: Sink>(
 /// The summary of a run of the calls that a number gives.
 fn made_text(alloc: Global, making: Making) -> Result<Vec<u8>, AllocError>
     requires { MayMake making.processes making.calls }
-    ensures text { IfOk result (λ text. text.items ≡ made making.first making.processes making.calls) }
-    ensures all { IfOk result (λ text. IsMade making.first making.processes making.calls text.items) }
+    ensures text { IfOk result
+        (λ text. text.items ≡ made making.first making.processes making.calls) }
+    ensures all { IfOk result
+        (λ text. IsMade making.first making.processes making.calls text.items) }
 {
     let made = generate(alloc, making.first, making.processes, making.calls)?;
     let lines = play(alloc, &made.book, made.files.as_slice())?;
@@ -146,13 +168,20 @@ fn made_text(alloc: Global, making: Making) -> Result<Vec<u8>, AllocError>
 fn answer_made<O: Sink>(alloc: Global, words: &[String], out: &mut O) -> Status
     ensures later { O.faults out.old ≤ O.faults out.new }
     ensures as_told { O.tells out.new ≡ O.tells out.old }
-    ensures words { (result ≡ Status.Usage UsageFault.Words) ↔ (make_of (words_of words.now) ≡ None) }
-    ensures done { (m : Making) → make_of (words_of words.now) ≡ Some m → result ≡ Status.Done → O.tells out.old ≡ true → O.taken out.new ≡ O.taken out.old ++ made m.first m.processes m.calls }
-    ensures all { (m : Making) → make_of (words_of words.now) ≡ Some m → result ≡ Status.Done → IsMade m.first m.processes m.calls (made m.first m.processes m.calls) }
+    ensures words { (result ≡ Status.Usage UsageFault.Words)
+        ↔ (make_of (words_of words.now) ≡ None) }
+    ensures done { (m : Making) → AskToMake words.now m → result ≡ Status.Done
+        → O.tells out.old ≡ true
+        → O.taken out.new ≡ O.taken out.old ++ made m.first m.processes m.calls }
+    ensures all { (m : Making) → AskToMake words.now m → result ≡ Status.Done
+        → IsMade m.first m.processes m.calls (made m.first m.processes m.calls) }
     ensures done_kept { result ≡ Status.Done → O.faults out.new ≡ O.faults out.old }
     ensures write_fault { result ≡ Status.WriteFault → Rose (O.faults out.old) (O.faults out.new) }
-    ensures prefix { (m : Making) → make_of (words_of words.now) ≡ Some m → result ≡ Status.WriteFault → O.tells out.old ≡ true → TakesPrefix (O.taken out.old) (O.taken out.new) (made m.first m.processes m.calls) }
-    ensures answers { (m : Making) → make_of (words_of words.now) ≡ Some m → (result ≡ Status.Done) ⊎ ((result ≡ Status.WriteFault) ⊎ (result ≡ Status.NoMemory)) }
+    ensures prefix { (m : Making) → AskToMake words.now m → result ≡ Status.WriteFault
+        → O.tells out.old ≡ true
+        → TakesPrefix (O.taken out.old) (O.taken out.new) (made m.first m.processes m.calls) }
+    ensures answers { (m : Making) → AskToMake words.now m
+        → (result ≡ Status.Done) ⊎ ((result ≡ Status.WriteFault) ⊎ (result ≡ Status.NoMemory)) }
     ensures untouched { result ≢ Status.Done → result ≢ Status.WriteFault → out.new ≡ out.old }
 {
     let Some(making) = what_to_make(words) else {
@@ -179,46 +208,77 @@ pub fn serve<R: Threads + Sync, F: Shelf, O: Sink, E: Sink>(
     out: &mut O,
     err: &mut E,
 ) -> Status
-    ensures files { SameFiles (F.tells shelf.old) (F.tells shelf.new) (F.file shelf.old) (F.file shelf.new) }
-    ensures later { (F.faults shelf.old ≤ F.faults shelf.new) × (O.faults out.old ≤ O.faults out.new) × (E.faults err.old ≤ E.faults err.new) }
+    ensures files { SameFiles (F.tells shelf.old) (F.tells shelf.new) (F.file shelf.old)
+        (F.file shelf.new) }
+    ensures later { (F.faults shelf.old ≤ F.faults shelf.new)
+        × (O.faults out.old ≤ O.faults out.new) × (E.faults err.old ≤ E.faults err.new) }
     ensures as_told { (O.tells out.new ≡ O.tells out.old) × (E.tells err.new ≡ E.tells err.old) }
 
     // The words have a form exactly where they are not refused, and every other answer is about that form: one of
     // files, or that of `make`, which reads none.
-    ensures words { (result ≡ Status.Usage UsageFault.Words) ↔ ((form_of (words_of words.now) ≡ None) × (make_of (words_of words.now) ≡ None)) }
+    ensures words { (result ≡ Status.Usage UsageFault.Words)
+        ↔ ((form_of (words_of words.now) ≡ None) × (make_of (words_of words.now) ≡ None)) }
 
     ensures unread { result ≡ Status.Usage UsageFault.Words → shelf.new ≡ shelf.old }
 
     // The theorem: all bytes that were taken are the text of the command for what the files' bytes spell.
-    ensures done { (form : Form) → form_of (words_of words.now) ≡ Some form → result ≡ Status.Done → F.tells shelf.old ≡ true → O.tells out.old ≡ true → TookAll (F.file shelf.old) form (O.taken out.old) (O.taken out.new) }
-    ensures done_kept { result ≡ Status.Done → (F.faults shelf.new ≡ F.faults shelf.old) × (O.faults out.new ≡ O.faults out.old) }
-    ensures loads { (form : Form) → form_of (words_of words.now) ≡ Some form → F.tells shelf.old ≡ true → (result ≡ Status.Done) ⊎ (result ≡ Status.WriteFault) → (l : Loaded) × (loaded (F.file shelf.old) form ≡ Ok l) }
+    ensures done { (form : Form) → HaveForm words.now form → result ≡ Status.Done
+        → F.tells shelf.old ≡ true → O.tells out.old ≡ true
+        → TookAll (F.file shelf.old) form (O.taken out.old) (O.taken out.new) }
+    ensures done_kept { result ≡ Status.Done
+        → (F.faults shelf.new ≡ F.faults shelf.old) × (O.faults out.new ≡ O.faults out.old) }
+    ensures loads { (form : Form) → HaveForm words.now form → F.tells shelf.old ≡ true
+        → (result ≡ Status.Done) ⊎ (result ≡ Status.WriteFault)
+        → (l : Loaded) × (loaded (F.file shelf.old) form ≡ Ok l) }
 
     // Of the words of `make`, all bytes that were taken are the text of the three numbers. It is the summary of every
     // legal run of their calls, whatever its order, and in each of these every transfer is done.
-    ensures made { (m : Making) → make_of (words_of words.now) ≡ Some m → result ≡ Status.Done → O.tells out.old ≡ true → O.taken out.new ≡ O.taken out.old ++ made m.first m.processes m.calls }
-    ensures made_all { (m : Making) → make_of (words_of words.now) ≡ Some m → result ≡ Status.Done → IsMade m.first m.processes m.calls (made m.first m.processes m.calls) }
-    ensures made_prefix { (m : Making) → make_of (words_of words.now) ≡ Some m → result ≡ Status.WriteFault → O.tells out.old ≡ true → TakesPrefix (O.taken out.old) (O.taken out.new) (made m.first m.processes m.calls) }
-    ensures made_answers { (m : Making) → make_of (words_of words.now) ≡ Some m → (result ≡ Status.Done) ⊎ ((result ≡ Status.WriteFault) ⊎ (result ≡ Status.NoMemory)) }
-    ensures made_unread { (m : Making) → make_of (words_of words.now) ≡ Some m → shelf.new ≡ shelf.old }
+    ensures made { (m : Making) → AskToMake words.now m → result ≡ Status.Done
+        → O.tells out.old ≡ true
+        → O.taken out.new ≡ O.taken out.old ++ made m.first m.processes m.calls }
+    ensures made_all { (m : Making) → AskToMake words.now m → result ≡ Status.Done
+        → IsMade m.first m.processes m.calls (made m.first m.processes m.calls) }
+    ensures made_prefix { (m : Making) → AskToMake words.now m → result ≡ Status.WriteFault
+        → O.tells out.old ≡ true
+        → TakesPrefix (O.taken out.old) (O.taken out.new) (made m.first m.processes m.calls) }
+    ensures made_answers { (m : Making) → AskToMake words.now m
+        → (result ≡ Status.Done) ⊎ ((result ≡ Status.WriteFault) ⊎ (result ≡ Status.NoMemory)) }
+    ensures made_unread { (m : Making) → AskToMake words.now m → shelf.new ≡ shelf.old }
 
     // What could not be written whole was written as a prefix.
-    ensures write_fault { result ≡ Status.WriteFault → Rose (O.faults out.old) (O.faults out.new) × (F.faults shelf.new ≡ F.faults shelf.old) }
-    ensures prefix { (form : Form) → form_of (words_of words.now) ≡ Some form → result ≡ Status.WriteFault → F.tells shelf.old ≡ true → O.tells out.old ≡ true → TookPrefix (F.file shelf.old) form (O.taken out.old) (O.taken out.new) }
+    ensures write_fault { result ≡ Status.WriteFault
+        → Rose (O.faults out.old) (O.faults out.new) × (F.faults shelf.new ≡ F.faults shelf.old) }
+    ensures prefix { (form : Form) → HaveForm words.now form → result ≡ Status.WriteFault
+        → F.tells shelf.old ≡ true → O.tells out.old ≡ true
+        → TookPrefix (F.file shelf.old) form (O.taken out.old) (O.taken out.new) }
 
     // When each refusal comes: only so, and where no fault is counted exactly so, but for want of memory.
-    ensures refusal { (form : Form) → form_of (words_of words.now) ≡ Some form → result ≢ Status.Done → result ≢ Status.WriteFault → MayRefuse (F.tells shelf.old) (loaded (F.file shelf.old) form) (F.faults shelf.old) (F.faults shelf.new) result }
-    ensures reached { (form : Form) (file : ℕ) → form_of (words_of words.now) ≡ Some form → result ≡ Status.ReadFault file → MayReach (F.tells shelf.old) (F.file shelf.old) form file }
-    ensures numbered { (form : Form) → form_of (words_of words.now) ≡ Some form → HasFileNumbers (length form.payments) result }
-    ensures exact { (form : Form) → form_of (words_of words.now) ≡ Some form → F.tells shelf.old ≡ true → IsFaultless (F.faults shelf.old) (F.faults shelf.new) → (result ≡ Status.NoMemory) ⊎ Answers (loaded (F.file shelf.old) form) result }
+    ensures refusal { (form : Form) → HaveForm words.now form → result ≢ Status.Done
+        → result ≢ Status.WriteFault
+        → MayRefuse (F.tells shelf.old) (loaded (F.file shelf.old) form) (F.faults shelf.old)
+        (F.faults shelf.new) result }
+    ensures reached { (form : Form) (file : ℕ) → HaveForm words.now form
+        → result ≡ Status.ReadFault file
+        → MayReach (F.tells shelf.old) (F.file shelf.old) form file }
+    ensures numbered { (form : Form) → HaveForm words.now form
+        → HasFileNumbers (length form.payments) result }
+    ensures exact { (form : Form) → HaveForm words.now form → F.tells shelf.old ≡ true
+        → IsFaultless (F.faults shelf.old) (F.faults shelf.new)
+        → (result ≡ Status.NoMemory) ⊎ Answers (loaded (F.file shelf.old) form) result }
     ensures untouched { result ≢ Status.Done → result ≢ Status.WriteFault → out.new ≡ out.old }
 
     // Where the files spell a book and its calls and no fault is counted, all is done, but for want of memory.
-    ensures complete { (form : Form) (l : Loaded) → form_of (words_of words.now) ≡ Some form → F.tells shelf.old ≡ true → Spelled (F.file shelf.old) form l → IsFaultless (F.faults shelf.old) (F.faults shelf.new) → IsFaultless (O.faults out.old) (O.faults out.new) → (result ≡ Status.Done) ⊎ (result ≡ Status.NoMemory) }
+    ensures complete { (form : Form) (l : Loaded) → HaveForm words.now form
+        → F.tells shelf.old ≡ true → Spelled (F.file shelf.old) form l
+        → IsFaultless (F.faults shelf.old) (F.faults shelf.new)
+        → IsFaultless (O.faults out.old) (O.faults out.new)
+        → (result ≡ Status.Done) ⊎ (result ≡ Status.NoMemory) }
 
     // What was said of a refusal.
     ensures silent { result ≡ Status.Done → err.new ≡ err.old }
-    ensures told { result ≢ Status.Done → E.tells err.old ≡ true → TookLine result (E.faults err.old) (E.faults err.new) (E.taken err.old) (E.taken err.new) }
+    ensures told { result ≢ Status.Done → E.tells err.old ≡ true
+        → TookLine result (E.faults err.old) (E.faults err.new) (E.taken err.old)
+        (E.taken err.new) }
 {
     let status = match form_of(words) {
         Some(form) => answer(alloc, shelf, out, &form),

@@ -81,7 +81,9 @@ fn number_within(most: u32, word: &str) -> Option<u32>
 
 /// What calls the three words ask for.
 fn making_of(first: &str, processes: &str, calls: &str) -> Option<Making>
-    ensures asked { result ≡ making_of (number_of first.now) (within most_made_processes (number_of processes.now)) (within most_made_calls (number_of calls.now)) }
+    ensures asked { result ≡ making_of (number_of first.now)
+        (within most_made_processes (number_of processes.now))
+        (within most_made_calls (number_of calls.now)) }
     ensures may { IfSome result (λ m. MayMake m.processes m.calls) }
 {
     let first = parse_number(first.as_bytes())?;

@@ -37,7 +37,9 @@ pub(crate) fn push_numbered(out: &mut Vec<u8>, word: &[u8], n: u64) -> Result<()
 fn push_target(out: &mut Vec<u8>, names: &Names, targets: &Targets, i: u32) -> Result<(), NoMemory>
     requires target { i < length targets.now }
     requires accounts { AreTargetsOn (length names.now.accounts) targets.now }
-    ensures { OnOk result (out.new.items ≡ out.old.items ++ spaced (targets_words names.now (target_at targets.now i ∷ []))) }
+    ensures { OnOk result
+        (out.new.items ≡ out.old.items ++ spaced
+        (targets_words names.now (target_at targets.now i ∷ []))) }
 {
     push_word(out, names.account(targets.to(i)))?;
     push_number(out, targets.amount(i))
@@ -45,7 +47,8 @@ fn push_target(out: &mut Vec<u8>, names: &Names, targets: &Targets, i: u32) -> R
 
 fn push_targets(out: &mut Vec<u8>, names: &Names, targets: &Targets) -> Result<(), NoMemory>
     requires { AreTargetsOn (length names.now.accounts) targets.now }
-    ensures { OnOk result (out.new.items ≡ out.old.items ++ spaced (targets_words names.now targets.now)) }
+    ensures { OnOk result
+        (out.new.items ≡ out.old.items ++ spaced (targets_words names.now targets.now)) }
 {
     for i in 0..targets.len() {
         push_target(out, names, targets, i)?;
@@ -55,7 +58,8 @@ fn push_targets(out: &mut Vec<u8>, names: &Names, targets: &Targets) -> Result<(
 
 fn push_call(out: &mut Vec<u8>, names: &Names, call: &Call) -> Result<(), NoMemory>
     requires { IsCallOn (length names.now.accounts) call.now }
-    ensures { OnOk result (out.new.items ≡ out.old.items ++ spaced (call_words names.now call.now)) }
+    ensures { OnOk result
+        (out.new.items ≡ out.old.items ++ spaced (call_words names.now call.now)) }
 {
     match call {
         Call::Transfer { from, to, amount } => push_transfer(out, names, *from, *to, *amount),
@@ -80,7 +84,9 @@ fn push_transfer(
 ) -> Result<(), NoMemory>
     requires source { from < length names.now.accounts }
     requires target { to < length names.now.accounts }
-    ensures { OnOk result (out.new.items ≡ out.old.items ++ spaced (call_words names.now (Call.Transfer from to amount))) }
+    ensures { OnOk result
+        (out.new.items ≡ out.old.items ++ spaced
+        (call_words names.now (Call.Transfer from to amount))) }
 {
     push_word(out, b"transfer")?;
     push_word(out, names.account(from))?;
@@ -103,7 +109,8 @@ fn push_reply(out: &mut Vec<u8>, reply: Reply) -> Result<(), NoMemory>
 /// Adds a line of the journal.
 pub(crate) fn push_line(out: &mut Vec<u8>, names: &Names, line: &Line) -> Result<(), NoMemory>
     requires { IsLineOn (length names.now.processes) (length names.now.accounts) line.now }
-    ensures { OnOk result (out.new.items ≡ out.old.items ++ line_text (journal_words names.now line.now)) }
+    ensures { OnOk result
+        (out.new.items ≡ out.old.items ++ line_text (journal_words names.now line.now)) }
 {
     out.extend_from_slice(names.process(line.process))?;
     push_number(out, u64::from(line.number))?;

@@ -146,7 +146,8 @@ fn push_bad(out: &mut FaultText, text: &str, line: u32, cause: &str)
 fn push_bad_of(out: &mut FaultText, text: &str, process: u32, line: u32, cause: &str)
     requires room { length out.old.items + length text.now ≤ 100 }
     requires short { length cause.now ≤ 20 }
-    ensures text { out.new.items ≡ out.old.items ++ text.now ++ decimal process ++ line_and_cause line cause.now }
+    ensures text { out.new.items ≡ out.old.items ++ text.now ++ decimal process
+        ++ line_and_cause line cause.now }
     ensures short { length out.new.items ≤ length out.old.items + length text.now + 80 }
 {
     push_numbered(out, text, u64::from(process));

@@ -23,7 +23,8 @@ fn push_balances(
 ) -> Result<(), NoMemory>
     requires book { state.now.book ≡ book.now }
     requires names { length names.now.accounts ≡ length book.now.accounts }
-    ensures { OnOk result (out.new.items ≡ out.old.items ++ lines_text (balance_lines names.now state.now)) }
+    ensures { OnOk result
+        (out.new.items ≡ out.old.items ++ lines_text (balance_lines names.now state.now)) }
 {
     for account in 0..book.accounts() {
         push_numbered(out, names.account(account), state.balance(account))?;
@@ -40,7 +41,8 @@ pub(crate) fn push_audit(
 ) -> Result<(), NoMemory>
     requires book { state.now.book ≡ book.now }
     requires names { length names.now.accounts ≡ length book.now.accounts }
-    ensures { OnOk result (out.new.items ≡ out.old.items ++ lines_text (audit_lines names.now state.now)) }
+    ensures { OnOk result
+        (out.new.items ≡ out.old.items ++ lines_text (audit_lines names.now state.now)) }
 {
     push_numbered(out, b"balances", u64::from(book.accounts()))?;
     push_balances(out, book, names, state)?;
@@ -50,7 +52,8 @@ pub(crate) fn push_audit(
 /// Adds how many lines there are, and then each of them.
 fn push_journal(out: &mut Vec<u8>, names: &Names, lines: &[Line]) -> Result<(), NoMemory>
     requires { All (IsLineOn (length names.now.processes) (length names.now.accounts)) lines.now }
-    ensures { OnOk result (out.new.items ≡ out.old.items ++ lines_text (printed_journal names.now lines.now)) }
+    ensures { OnOk result
+        (out.new.items ≡ out.old.items ++ lines_text (printed_journal names.now lines.now)) }
 {
     push_numbered(out, b"journal", lines.len() as u64)?;
     for line in lines {

@@ -50,7 +50,9 @@ fn read_in(lines: &[Line]) -> u64
 
 /// The line that says what was made.
 fn made_line(alloc: Global, first: u64, processes: u32, calls: u32) -> Result<Vec<u8>, NoMemory>
-    ensures { IfOk result (λ text. text.items ≡ line_text (codes "made" ∷ decimal first ∷ decimal processes ∷ decimal calls ∷ [])) }
+    ensures { IfOk result
+        (λ text. text.items ≡ line_text
+        (codes "made" ∷ decimal first ∷ decimal processes ∷ decimal calls ∷ [])) }
 {
     let mut out = Vec::from_slice(alloc, b"made")?;
     push_number(&mut out, first)?;
