@@ -1,0 +1,14 @@
+pub mod Buckets
+pub mod FirstRecords
+pub mod KeyBounds
+pub mod Keys
+pub mod Order
+pub mod OrderHasRuns
+pub mod OrderPremises
+pub mod OrderRounds
+pub mod OrderRuns
+pub mod Picks
+pub mod Positions
+pub mod PublicationKeys
+pub mod Replies
+pub mod Views
