@@ -1,4 +1,4 @@
-pub mod AppendLaws
-pub mod LastLaws
-pub mod SeenLaws
 pub mod Laws
+pub mod StoredWords
+pub mod LastRecord
+pub mod SeenRecords

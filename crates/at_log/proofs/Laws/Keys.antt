@@ -1,4 +1,4 @@
--- What the key of a line says: an even one that it moved nothing, an odd one which publication it moved.
+-- The keys of the lines of a process: each is that of its receipt, they don't fall, and an odd one says which publication the line moved.
 use Rattle.std.proofs.Common.{◌≡◌, ℕ, ◌+◌, ◌*◌, ◌<◌, ◌≤◌, ◌⊎◌, Bool, false, cond, List, ◌∷◌, length, get_or, refl, ap, arith, inl, inr, zero, suc, [], true}
 use Rattle.std.proofs.lemmas.Bool.{cases_Bool}
 use Rattle.at_ledger.specs.Book.{BookTerms}

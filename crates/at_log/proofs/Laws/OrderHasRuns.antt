@@ -24,7 +24,7 @@ use Rattle.at_history.specs.declared.request.Request.{Request}
 use Rattle.at_log.proofs.Laws.OrderPremises.{HasRounds, HasRounds-Coherent, HasViews-Coherent}
 use Rattle.at_log.proofs.Laws.Order.{ArePublishedBy-journal_order, publications_of-journal_order}
 use Rattle.at_log.proofs.Laws.OrderRounds.{AreFirsts-journal_order, IsCoherentEntry-journal_order, IsFirst, IsFirst-journal_order, first_law, round_entry}
-use Rattle.at_log.proofs.Laws.OrderRuns.{IsInState, IsInState-first, count_by-decisions, count_by-requests, decision_in, decision_in-some, named_before, order_state, request_in, request_in-some}
+use Rattle.at_log.proofs.Laws.OrderState.{IsInState, IsInState-first, count_by-decisions, count_by-requests, decision_in, decision_in-some, named_before, order_state, request_in, request_in-some}
 use Rattle.at_log.proofs.Laws.Picks.{count_by-filter_both, filter_map-from}
 use Rattle.at_log.proofs.Laws.Views.{HasView-journal_order}
 use Rattle.at_log.specs.ClosingTerms.{ClosingTerms, log_published}
