@@ -11,7 +11,6 @@ use Rattle.at_ledger.specs.Call.{TargetPair}
 use Rattle.at_history.proofs.Laws.Counts.{get_or-counts, length-counts, publications_of-append, publications_of-nil, publications_of-own}
 use Rattle.at_history.proofs.Laws.Fronts.{IsFront-counts}
 use Rattle.at_history.proofs.Laws.Sums.{get_or-zeros}
-use Rattle.at_board.proofs.KnowledgeLaws.OwnRequests.{own_part-with_part}
 use Rattle.at_history.specs.declared.publication.Entry.{Entry}
 use Rattle.at_history.specs.declared.publication.Entry.TheVariants.{Own}
 use Rattle.at_history.specs.declared.publication.Publication.{Publication}
@@ -23,12 +22,12 @@ use Rattle.at_history.specs.Publications.{count_of, counts, longer, publications
 use Rattle.at_history.specs.Sound.{IsSoundOwn}
 use Rattle.at_history.specs.Histories.{IsHistory}
 use Rattle.at_board.specs.Steps.Publish.{Publishes, with_record}
-use Rattle.at_board.specs.Knowledge.Parts.{own_part}
+use Rattle.at_board.specs.Knowledge.Parts.{no_part, own_part}
 use Rattle.at_log.specs.declared.record.Record.{Record}
 use Rattle.at_log.specs.Appending.{MayAppend}
 use Rattle.at_log.specs.ClosingTerms.{published_by}
-use Rattle.at_fold.proofs.CatchLaws.{sum-caught}
-use Rattle.at_fold.proofs.FrontLaws.{ArePublishedBy-IsHistory}
+use Rattle.at_fold.proofs.LoadedRecords.{sum-caught}
+use Rattle.at_fold.proofs.CountedPrefix.{ArePublishedBy-IsHistory}
 use Rattle.at_fold.specs.HasCounted.{HasCounted, HasRecords}
 use Rattle.at_fold.specs.SmallFold.{CountsAll, HasOnlyFirst, HasPaid}
 use Rattle.at_fold.specs.Sums.{TotalSums}
@@ -65,7 +64,7 @@ HasPaid-first b v w p x new part told =
     let y : Publication = published_by v.first x in
     let same : w.first ≡ v.first = ap (λ (t : Knowledge). t.first) told.same in
     let none : (own_part v).published ≡ 0 = ap (λ (t : Knowledge). (own_part t).published) new in
-    let own = ap own_part told.same ∙ own_part-with_part (record v { seen = w.seen }) (with_record b (own_part v) y) part in
+    let own = ap own_part told.same ∙ get_or-set_same v.parts 0 (with_record b (own_part v) y) no_part part in
     let earlier : List Publication = v.seen ++ told.between in
     let last : publications_of v.first (y ∷ []) ≡ y ∷ [] = publications_of-own y [] ∙ ap (λ ys. y ∷ ys) (publications_of-nil v.first) in
     let split = ap (publications_of v.first) told.seen ∙ publications_of-append v.first earlier (y ∷ []) in

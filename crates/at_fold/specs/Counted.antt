@@ -9,8 +9,8 @@ use Rattle.at_history.specs.Publications.{publications_of}
 use Rattle.at_history.specs.Rounds.{is_settled}
 
 -- the first records of each process, as many as its count says, process by process
-unfoldable pub counted : List ℕ → List Publication → List Publication
-counted upto list = flat_map (λ p. take (slice_index upto p) (publications_of p list)) (range_with_len 0 (length upto))
+unfoldable pub counted_records : List ℕ → List Publication → List Publication
+counted_records upto list = flat_map (λ p. take (slice_index upto p) (publications_of p list)) (range_with_len 0 (length upto))
 
 -- a record of the list says that the request was decided in this round
 pub record IsDecidedIn (list : List Publication) (a s n r : ℕ) (d : Decision) : Type 0 where

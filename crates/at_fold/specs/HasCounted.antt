@@ -14,7 +14,7 @@ use Rattle.at_history.specs.Publications.{IsPrefix, count_of, counts, publicatio
 use Rattle.at_history.specs.Rounds.{named, rounds}
 use Rattle.at_history.specs.Histories.{IsHistory}
 use Rattle.std.specs.List.{list_any}
-use Rattle.at_fold.specs.Counted.{IsSettledSo, counted}
+use Rattle.at_fold.specs.Counted.{IsSettledSo, counted_records}
 use Rattle.at_fold.specs.Sums.{AccountSums, SlotSums, TotalSums, answer_at, is_counted, sums_at, slot_at}
 
 -- the sums of a slot are those of the list
@@ -47,7 +47,7 @@ pub record HasCounted (t : TotalSums) (b : BookTerms) (seen : List Publication) 
   pub book : IsBook b
   pub processes : length t.upto ≡ b.processes
   pub within : Covers (counts b.processes seen) t.upto
-  pub sums : AreSumsOf b (counted t.upto seen) t.accounts
+  pub sums : AreSumsOf b (counted_records t.upto seen) t.accounts
 
 -- and so they have when more is published
 abbrev pub StaysCounted : TotalSums → BookTerms → List Publication → Type 0

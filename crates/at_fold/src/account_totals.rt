@@ -1,8 +1,6 @@
 //! What is counted of one account.
 
 ghost use Rattle.std.specs.Prelude.{◌≡◌, ◌+◌, ◌-◌, ◌*◌, ◌<◌, ◌≤◌, ◌^◌, false, length, IfOk};
-ghost use Rattle.at_ledger.specs.Book.{account_of};
-ghost use Rattle.at_ledger.specs.Account.{slots_of};
 ghost use Rattle.at_fold.specs.Sums.{answer_at, is_counted, slot_at, starting_sums, with_credit, with_debit, with_round};
 
 use crate::NoMemory;
@@ -39,7 +37,7 @@ impl AccountTotals {
         ensures { IfOk result (λ a. a ≡ starting_sums book.now account) }
     {
         book.known();
-        let slot_count = slots_of(book, account);
+        let slot_count = book.slot_count(account);
         let rounds_room = slot_count * book.request_room();
         let is_counted = vec![in alloc; false; rounds_room as usize]?;
         let mut slots = Vec::new(alloc);
@@ -123,14 +121,4 @@ impl AccountTotals {
         self.is_counted[round as usize] = true;
         self.slots[decision.slot as usize].settle(round, decision);
     }
-}
-
-/// How many owners of the account have slots: none where no two share it.
-fn slots_of(book: &Book, account: u32) -> u32
-    requires { account < length book.now.accounts }
-    ensures slots { result ≡ slots_of (account_of book.now account) }
-    ensures few { result ≤ 8 }
-{
-    let owners = book.owner_count(account);
-    if owners < 2 { 0 } else { owners }
 }

@@ -2,7 +2,7 @@
 #![tactic(auto)]
 
 mod account_totals;
-mod catching;
+mod catch_up;
 mod crossing;
 #[cfg(test)]
 mod fold_tests;

@@ -8,7 +8,7 @@ ghost use Rattle.at_history.specs.Balances.{amount_for, balance_after, credit_of
 ghost use Rattle.at_history.specs.Fronts.{prefix_of};
 ghost use Rattle.at_history.specs.Rounds.{named, rounds};
 ghost use Rattle.at_board.specs.Knowledge.Parts.{own_part};
-ghost use Rattle.at_fold.specs.Counted.{IsSettledSo, counted};
+ghost use Rattle.at_fold.specs.Counted.{IsSettledSo, counted_records};
 ghost use Rattle.at_fold.specs.HasCounted.{CountsAccount, CountsFront, CountsSlot, HasCounted, IsNext, MayCount, StaysCounted};
 ghost use Rattle.at_fold.specs.Sums.{FitsMore, FitsRound, HasSums, after_entry, is_new_to, sums_at, with_amounts, with_credit, with_decided_round};
 
@@ -70,7 +70,7 @@ impl Totals {
     /// How many distinct rounds of the account are counted. By look-up.
     pub fn rounds(&self, account: u32) -> u32
         requires { (b : BookTerms) × (seen : List Publication) × CountsAccount self.now b seen account }
-        ensures counted { (b : BookTerms) (seen : List Publication) → CountsAccount self.now b seen account → result ≡ rounds account (counted self.now.upto seen) }
+        ensures counted { (b : BookTerms) (seen : List Publication) → CountsAccount self.now b seen account → result ≡ rounds account (counted_records self.now.upto seen) }
         ensures front { (b : BookTerms) (seen : List Publication) → CountsAccount self.now b seen account → CountsFront self.now b seen → result ≡ rounds account (prefix_of self.now.upto seen) }
     {
         self.accounts[account as usize].rounds()
@@ -79,7 +79,7 @@ impl Totals {
     /// How many requests of an owner of the account are decided in the records counted. By look-up.
     pub fn done(&self, account: u32, slot: u32) -> u32
         requires { (b : BookTerms) × (seen : List Publication) × CountsSlot self.now b seen account slot }
-        ensures counted { (b : BookTerms) (seen : List Publication) → CountsSlot self.now b seen account slot → result ≡ named account slot (counted self.now.upto seen) }
+        ensures counted { (b : BookTerms) (seen : List Publication) → CountsSlot self.now b seen account slot → result ≡ named account slot (counted_records self.now.upto seen) }
         ensures front { (b : BookTerms) (seen : List Publication) → CountsSlot self.now b seen account slot → CountsFront self.now b seen → result ≡ named account slot (prefix_of self.now.upto seen) }
     {
         self.accounts[account as usize].done(slot)
@@ -88,7 +88,7 @@ impl Totals {
     /// The round and the decision of a request, if a record counted names it. By look-up.
     pub fn settled(&self, account: u32, slot: u32, number: u32) -> Option<(u32, Decision)>
         requires { (b : BookTerms) × (seen : List Publication) × CountsSlot self.now b seen account slot × (number < b.request_room) }
-        ensures counted { (b : BookTerms) (seen : List Publication) → CountsSlot self.now b seen account slot → number < b.request_room → IsSettledSo (counted self.now.upto seen) account slot number result }
+        ensures counted { (b : BookTerms) (seen : List Publication) → CountsSlot self.now b seen account slot → number < b.request_room → IsSettledSo (counted_records self.now.upto seen) account slot number result }
         ensures front { (b : BookTerms) (seen : List Publication) → CountsSlot self.now b seen account slot → number < b.request_room → CountsFront self.now b seen → IsSettledSo (prefix_of self.now.upto seen) account slot number result }
     {
         self.accounts[account as usize].settled(slot, number)
@@ -208,7 +208,7 @@ impl Totals {
         ensures small { amount_of targets.now ≤ 2 ^ 66 }
         ensures upto { self.new.upto ≡ self.old.upto }
     {
-        self.accounts[from as usize].debit(sum_of(targets));
+        self.accounts[from as usize].debit(targets.sum());
         self.credit(targets);
     }
 
@@ -224,16 +224,4 @@ impl Totals {
             self.accounts[targets.to(i) as usize].credit(targets.amount(i));
         }
     }
-}
-
-/// The sum of the amounts.
-fn sum_of(targets: &Targets) -> u128
-    ensures sum { result ≡ amount_of targets.now }
-    ensures small { result ≤ 2 ^ 66 }
-{
-    let mut sum = 0u128;
-    for i in 0..targets.len() {
-        sum += u128::from(targets.amount(i));
-    }
-    sum
 }

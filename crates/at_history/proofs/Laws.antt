@@ -14,3 +14,5 @@ pub mod DecisionNumbers
 pub mod Balances
 pub mod Lengths
 pub mod HasRuns
+pub mod RoundSums
+pub mod Shuffles

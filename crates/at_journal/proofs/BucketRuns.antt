@@ -10,12 +10,15 @@ use Rattle.at_log.specs.Placed.{IsPlaced, read, not_owner, full, short, done, ro
 use Rattle.at_log.specs.Receipts.{is_success, receipt_at}
 use Rattle.at_log.specs.Told.{round_position}
 use Rattle.at_journal.proofs.KeepLaws.{Keeps, with_count, with_count-other, with_count-own}
-use Rattle.at_journal.proofs.KeyCases.{key_at-even, key_at-odd, line_key-receipt, line_key-sorted, previous_key}
+use Rattle.at_log.proofs.Laws.Keys.{key_at-even, key_at-odd, line_key-receipt, line_key-sorted, previous_key}
 use Rattle.at_journal.proofs.LineKeys.{filter-key, reach, reach-above, reach-below, reach-le, reach_mono}
 use Rattle.at_journal.proofs.LineRuns.{IsCounted, Ran, Ran-cons, Ran-still, Ran-weaken, line}
 use Rattle.at_journal.proofs.MoveLaws.{own-answered, round-answered}
-use Rattle.at_journal.proofs.SameMove.{IsMove, IsMove-own, IsMove-round, IsMove-same, first_account-payout, moves_at}
-use Rattle.at_journal.proofs.StillLaws.{Answered, still_at}
+use Rattle.at_log.proofs.Laws.Keys.{moves_at}
+use Rattle.at_log.proofs.Laws.Replies.{first_account-payout}
+use Rattle.at_journal.proofs.SameMove.{IsMove, IsMove-own, IsMove-round, IsMove-same}
+use Rattle.at_log.proofs.Laws.Keys.{still_at}
+use Rattle.at_journal.proofs.StillLaws.{Answered}
 
 -- how many lines of a process have smaller keys
 abbrev pub reached : ClosingTerms → ℕ → ℕ → ℕ

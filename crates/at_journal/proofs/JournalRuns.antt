@@ -16,12 +16,12 @@ use Rattle.at_history.proofs.Laws.Sums.{get_or-zeros}
 use Rattle.at_log.specs.ClosingTerms.{ClosingTerms, log_lengths, log_of, published_by, receipts_of}
 use Rattle.at_log.specs.Coherent.{Coherent}
 use Rattle.at_log.specs.JournalOrder.{journal_lines, journal_order, line_key, process_lines_at}
-use Rattle.at_log.proofs.BucketLaws.{range_with_len-more}
-use Rattle.at_log.proofs.KeyLaws.{get_or-log_lengths}
-use Rattle.at_log.proofs.OrderLaws.{ArePublishedBy-journal_order, publications_of-journal_order}
+use Rattle.at_log.proofs.Laws.Buckets.{range_with_len-more}
+use Rattle.at_log.proofs.Laws.PublicationKeys.{get_or-log_lengths}
+use Rattle.at_log.proofs.Laws.Order.{ArePublishedBy-journal_order, publications_of-journal_order}
 use Rattle.at_journal.proofs.BucketRuns.{reached}
 use Rattle.at_journal.proofs.KeepLaws.{Keeps}
-use Rattle.at_journal.proofs.KeyCases.{line_key-sorted}
+use Rattle.at_log.proofs.Laws.Keys.{line_key-sorted}
 use Rattle.at_journal.proofs.KeyRuns.{CountsAt, Ran-even_all, Ran-odd_all}
 use Rattle.at_journal.proofs.LineKeys.{reach-below}
 use Rattle.at_journal.proofs.LineRuns.{Ran, Ran-append, Ran-nil, Ran-weaken}

@@ -15,13 +15,14 @@ use Rattle.at_history.specs.BoardState.{publication_at}
 use Rattle.at_history.specs.Entries.{is_own, is_same_round}
 use Rattle.at_history.specs.Rounds.{firsts, repeats, rounds}
 use Rattle.std.specs.List.{list_any}
+use Rattle.at_log.proofs.Laws.OrderPremises.{HasRounds-Coherent}
 use Rattle.at_log.specs.ClosingTerms.{ClosingTerms, receipts_of}
 use Rattle.at_log.specs.Coherent.{Coherent}
 use Rattle.at_log.specs.JournalOrder.{journal_order, line_key, process_lines_at}
-use Rattle.at_log.proofs.OrderRounds.{IsInitial-journal_order, IsNextAtMost-journal_order}
+use Rattle.at_log.proofs.Laws.OrderRounds.{IsInitial-journal_order, IsNextAtMost-journal_order}
 use Rattle.at_journal.proofs.BucketRuns.{Ran-even, Ran-odd, first_moves, move_of, no_lines, reached, reached-mono, within-reached}
 use Rattle.at_journal.proofs.KeepLaws.{Keeps}
-use Rattle.at_journal.proofs.KeyCases.{line_key-sorted}
+use Rattle.at_log.proofs.Laws.Keys.{line_key-sorted}
 use Rattle.at_journal.proofs.LineKeys.{reach-above, reach-below}
 use Rattle.at_journal.proofs.LineRuns.{IsCounted, Ran, Ran-append, Ran-nil, Ran-weaken}
 use Rattle.at_journal.proofs.MoveLaws.{IsNewRound}
@@ -135,8 +136,8 @@ unmoved b c m balances (Entry.Round a r d targets) coherent begun within none is
       | inr fresh ↦
           elim (cases_Bool d.ok) as (λ _. BalancesFollow b (xs ++ x ∷ []) balances) [
             | inl ok ↦
-                let at_most : r ≤ rounds a xs = subst (λ t. IsNextAtMost xs t) is (IsNextAtMost-journal_order b c m coherent within) in
-                let initial = IsInitial-journal_order b c m coherent (omega (arith, within)) a in
+                let at_most : r ≤ rounds a xs = subst (λ t. IsNextAtMost xs t) is (IsNextAtMost-journal_order b c m (HasRounds-Coherent b c coherent) within) in
+                let initial = IsInitial-journal_order b c m (HasRounds-Coherent b c coherent) (omega (arith, within)) a in
                 let absent = sym (ap (λ t. list_any (λ (y : Publication). is_same_round t y.entry) (firsts xs)) is) ∙ fresh in
                 let new : IsNewRound c m a r d targets = record {
                   within = within;

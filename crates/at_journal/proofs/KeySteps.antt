@@ -1,19 +1,17 @@
 -- The keys of a process's publications, front by front.
-use Rattle.std.proofs.Common.{◌≡◌, ℕ, ◌+◌, ◌-◌, ◌<◌, ◌≤◌, zero, suc, List, [], ◌∷◌, ◌++◌, length, map, get_or, replicate, sum, refl, sym, ap, subst, ◌∙◌, arith, inl, inr}
+use Rattle.std.proofs.Common.{◌≡◌, ℕ, ◌+◌, ◌-◌, ◌<◌, ◌≤◌, List, [], ◌∷◌, ◌++◌, length, map, get_or, replicate, sum, refl, sym, ap, subst, ◌∙◌, arith, inl, inr}
 use Rattle.std.specs.List.{Contains, range_with_len}
 use Rattle.std.proofs.lemmas.Bool.{cases_lt}
 use Rattle.std.proofs.lemmas.List.{get_or-append_right, get_or_append_left, get_or-map, get_or-replicate, get_or_default, length-append, length-map, length-replicate}
 use Rattle.std.proofs.lemmas.List.FromFn.{fill_by_all}
-use Rattle.std.proofs.lemmas.List.Sums.{sum_by-cons}
-use Rattle.at_base.specs.Counts.{Covers}
 use Rattle.at_history.specs.Fronts.{place}
 use Rattle.at_history.proofs.Laws.Fronts.{sum-Covers-le}
 use Rattle.at_log.specs.ClosingTerms.{ClosingTerms, log_lengths, log_of}
 use Rattle.at_log.specs.HeldFronts.{held_fronts}
 use Rattle.at_log.specs.JournalOrder.{publication_key}
-use Rattle.at_log.proofs.KeyLaws.{get_or-log_lengths, publication_key-at_least, publication_key-le, publication_key-le_all}
+use Rattle.at_log.proofs.Laws.PublicationKeys.{get_or-log_lengths, publication_key-at_least, publication_key-le, publication_key-le_all}
 use Rattle.at_journal.specs.Held.{AreHeld}
-use Rattle.at_journal.specs.Keys.{AreGiven, AreOrdered, AreWithin, IsRepeated, log_keys}
+use Rattle.at_journal.specs.Keys.{AreGiven, AreWithin, log_keys}
 use Rattle.at_journal.specs.declared.fronts.HeldFront.{HeldFront}
 
 -- the first keys, given by so many fronts
@@ -147,57 +145,3 @@ keys-HaveKeys c fronts old new held all given so =
     fill_by_all (log_keys c) new (length c.logs) [] (given.size ∙ so.size)
     (λ p known. given.given p (omega (arith, known, so.size)) (omega (arith, known, so.size))
     ∙ keys-HasKeys c fronts p (get_or old p []) held all known (so.each p known))
-
--- counts that cover others of the same sum are the same
-same-Covers : (view other : List ℕ) (p : ℕ) → length view ≡ length other → Covers view other → sum view ≡ sum other → p < length view
-    → get_or view p 0 ≡ get_or other p 0
-same-Covers [] other p same covers sums within = absurd (omega (arith, within))
-same-Covers (x ∷ xs) [] p same covers sums within = absurd (omega (arith, same))
-same-Covers (x ∷ xs) (y ∷ ys) p same covers sums within =
-    let first : y ≤ x = covers 0 (omega arith) in
-    let rest : Covers xs ys = λ q inside. covers (suc q) (omega (arith, inside)) in
-    let long : length xs ≡ length ys = omega (arith, same) in
-    let less = sum-Covers-le xs ys long rest in
-    let one = sum_by-cons (λ n. n) x xs in
-    let two = sum_by-cons (λ n. n) y ys in
-    next p (omega (arith, first, less, one, two, sums)) (λ q inside. same-Covers xs ys q long rest (omega (arith, first, less, one, two, sums)) inside) within
-  where
-    next : (q : ℕ) → x ≡ y → ((k : ℕ) → k < length xs → get_or xs k 0 ≡ get_or ys k 0) → q < length (x ∷ xs) → get_or (x ∷ xs) q 0 ≡ get_or (y ∷ ys) q 0
-    next zero e each inside = e
-    next (suc q) e each inside = each q (omega (arith, inside))
-
--- two held fronts of one place are the same
-same_counts : (c : ClosingTerms) (view other : List ℕ) (p : ℕ) → AreWithin c → AreOrdered c → Contains (held_fronts c) view → Contains (held_fronts c) other
-    → place view ≡ place other → p < length c.logs → get_or view p 0 ≡ get_or other p 0
-same_counts c view other p all ordered there also starts known =
-    let long = (all view there).0 in
-    let size = (all other also).0 in
-    elim (ordered view other there also) as (λ _. get_or view p 0 ≡ get_or other p 0) [
-      | inl over ↦ same-Covers view other p (long ∙ sym size) over starts (omega (arith, long, known))
-      | inr under ↦ sym (same-Covers other view p (size ∙ sym long) under (sym starts) (omega (arith, size, known)))
-    ]
-
--- a front of the place of the one before it counts nothing more
-pub HaveKeys-same : (c : ClosingTerms) (fronts : List HeldFront) (k : ℕ) (lists : List (List ℕ)) → AreHeld c fronts → AreWithin c → AreOrdered c
-    → k < length fronts → IsRepeated fronts k → HaveKeys c fronts k lists → HaveKeys c fronts (k + 1) lists
-HaveKeys-same c fronts k lists held all ordered within repeated so = record {
-  size = so.size;
-  each = λ p known.
-      let has = so.each p known in
-      record {
-        few = has.few;
-        are = has.are;
-        counted = λ j d before inside.
-            elim (cases_lt j k) as (λ _. get_or (get_or fronts j d).counts.now p 0 ≤ length (get_or lists p [])) [
-              | inl early ↦ has.counted j d early inside
-              | inr late ↦
-                  let at : j ≡ k = omega (arith, late, before) in
-                  let last : k - 1 < length fronts = omega (arith, within) in
-                  let starts : place (get_or fronts k d).counts.now ≡ place (get_or fronts (k - 1) d).counts.now =
-                  sym (index_of c fronts k d held within) ∙ (sym (repeated d).1 ∙ index_of c fronts (k - 1) d held last) in
-                  let same = same_counts c (get_or fronts k d).counts.now (get_or fronts (k - 1) d).counts.now p all ordered
-                  (held_at c fronts k d held within) (held_at c fronts (k - 1) d held last) starts known in
-                  omega (arith, ap (λ m. get_or (get_or fronts m d).counts.now p 0) at, same, has.counted (k - 1) d (omega (arith, (repeated d).0)) last)
-            ];
-      };
-}

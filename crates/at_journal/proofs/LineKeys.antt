@@ -1,30 +1,10 @@
 -- The keys of a process's lines, and which of its lines have a key.
-use Rattle.std.proofs.Common.{◌≡◌, ℕ, ◌+◌, ◌-◌, ◌<◌, ◌≤◌, ◌==◌, zero, suc, Bool, true, false, cond, List, [], ◌∷◌, length, get_or, filter, refl, sym, ap, subst, ◌∙◌, arith, inl, inr}
+use Rattle.std.proofs.Common.{◌≡◌, ℕ, ◌+◌, ◌-◌, ◌<◌, ◌≤◌, ◌==◌, zero, suc, Bool, true, false, cond, ◌∷◌, get_or, filter, sym, ap, subst, ◌∙◌, arith, inl, inr}
 use Rattle.std.specs.Prelude.{nat_lt}
-use Rattle.std.specs.List.{range_with_len}
-use Rattle.std.proofs.lemmas.List.FromFn.{get_or-range_with_len, length-range_with_len}
-use Rattle.at_log.proofs.BucketLaws.{filter-none}
 use Rattle.std.proofs.lemmas.Bool.{cases_lt, cases_eq, eq-eqb, lt-ltb, le-ltb, ne_eqb}
-use Rattle.at_history.specs.declared.publication.Publication.{Publication}
-use Rattle.at_log.specs.declared.receipt.Receipt.{Receipt}
-use Rattle.at_log.specs.Receipts.{receipt_at}
-use Rattle.at_log.specs.Told.{key_of, keys_from}
-
-pub length-keys_from : (process : ℕ) (list : List Publication) (previous : ℕ) (receipts : List Receipt)
-    → length (keys_from process list previous receipts) ≡ length receipts
-unfolding keys_from
-length-keys_from process list previous [] = refl
-length-keys_from process list previous (r ∷ rs) = ap suc (length-keys_from process list (key_of process list previous r) rs)
-
--- a key is that of its receipt after the key before it
-pub get_or-keys_from : (process : ℕ) (list : List Publication) (previous : ℕ) (receipts : List Receipt) (i : ℕ) → i < length receipts
-    → get_or (keys_from process list previous receipts) i 0
-    ≡ key_of process list (get_or (previous ∷ keys_from process list previous receipts) i 0) (receipt_at receipts i)
-unfolding keys_from
-get_or-keys_from process list previous [] i within = absurd (omega arith)
-get_or-keys_from process list previous (r ∷ rs) zero within = refl
-get_or-keys_from process list previous (r ∷ rs) (suc i) within =
-    get_or-keys_from process list (key_of process list previous r) rs i (omega arith)
+use Rattle.std.proofs.lemmas.List.FromFn.{get_or-range_with_len, length-range_with_len}
+use Rattle.std.specs.List.{range_with_len}
+use Rattle.at_log.proofs.Laws.Buckets.{filter-none}
 
 -- how many numbers from 0 have a value below a limit, where values don't fall
 pub reach : (ℕ → ℕ) → ℕ → ℕ → ℕ

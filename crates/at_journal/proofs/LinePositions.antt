@@ -16,7 +16,8 @@ use Rattle.at_history.specs.Publications.{no_publication}
 use Rattle.at_history.specs.Rounds.{firsts, rounds}
 use Rattle.at_history.specs.declared.publication.Entry.{Entry}
 use Rattle.at_history.specs.declared.publication.Publication.{Publication}
-use Rattle.at_log.proofs.OrderRounds.{AreFirsts-journal_order, IsCoherentEntry-journal_order, IsInitial-journal_order, round_entry}
+use Rattle.at_log.proofs.Laws.OrderPremises.{HasRounds-Coherent}
+use Rattle.at_log.proofs.Laws.OrderRounds.{AreFirsts-journal_order, IsCoherentEntry-journal_order, IsInitial-journal_order, round_entry}
 use Rattle.at_log.specs.ClosingTerms.{ClosingTerms, receipts_of}
 use Rattle.at_log.specs.Coherent.{Coherent}
 use Rattle.at_log.specs.JournalOrder.{journal_order}
@@ -26,8 +27,8 @@ use Rattle.at_log.specs.Told.{first_account, key_of, keys_from, round_position}
 use Rattle.at_log.specs.declared.receipt.At.{At}
 use Rattle.at_log.specs.declared.receipt.Receipt.{Receipt}
 use Rattle.at_journal.proofs.KeepLaws.{no_receipt}
-use Rattle.at_journal.proofs.PositionLaws.{own_position-at, round_position-at}
-use Rattle.at_journal.proofs.SameMove.{first_account-payout}
+use Rattle.at_log.proofs.Laws.Positions.{own_position-at, round_position-at}
+use Rattle.at_log.proofs.Laws.Replies.{first_account-payout}
 use Rattle.at_journal.specs.Positions.{HasOwnPositions, HasStarts, HasRoundPositions}
 
 -- a round with a record is one of the rounds
@@ -35,10 +36,10 @@ round-below : (b : BookTerms) (c : ClosingTerms) (m a r : ℕ) (d : Decision) (t
     → m < length (journal_order c) → (publication_at (journal_order c) m).entry ≡ Entry.Round a r d targets → r < rounds a (journal_order c)
 round-below b c m a r d targets coherent within is =
     let order = journal_order c in
-    let found = (AreFirsts-journal_order b c coherent).has m a r d targets within is in
+    let found = (AreFirsts-journal_order b c (HasRounds-Coherent b c coherent)).has m a r d targets within is in
     let has = list_any_at (λ (y : Publication). is_round a r y.entry) (firsts order) found.0 no_publication found.1 found.2 in
     let initial : IsInitial a order =
-    subst (IsInitial a) (take_all (length order) order (omega arith)) (IsInitial-journal_order b c (length order) coherent (omega arith) a) in
+    subst (IsInitial a) (take_all (length order) order (omega arith)) (IsInitial-journal_order b c (length order) (HasRounds-Coherent b c coherent) (omega arith) a) in
     ltb-true r (rounds a order) (sym (initial.has r) ∙ has)
 
 module _ (b : BookTerms) (c : ClosingTerms) (p : ℕ) (own : List ℕ) (starts : List (List ℕ)) (coherent : Coherent b c)

@@ -15,7 +15,8 @@ use Rattle.at_log.specs.Coherent.{Coherent}
 use Rattle.at_log.specs.JournalOrder.{line_of}
 use Rattle.at_log.specs.Receipts.{is_success, receipt_at}
 use Rattle.at_journal.proofs.KeepLaws.{Keeps, with_count, with_count-other, with_count-own}
-use Rattle.at_journal.proofs.StillLaws.{Answered, still-answered, still_at}
+use Rattle.at_log.proofs.Laws.Keys.{still_at}
+use Rattle.at_journal.proofs.StillLaws.{Answered, still-answered}
 
 -- the line of a process's receipt
 abbrev pub line : ClosingTerms → ℕ → ℕ → Line

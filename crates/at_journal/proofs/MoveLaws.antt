@@ -26,19 +26,20 @@ use Rattle.at_history.specs.Fronts.{prefix_of}
 use Rattle.at_history.specs.Publications.{no_publication, publications_of}
 use Rattle.at_history.specs.Rounds.{firsts, repeats, rounds}
 use Rattle.at_history.specs.Sound.{IsSoundEntry}
+use Rattle.at_log.proofs.Laws.OrderPremises.{HasRounds-Coherent}
 use Rattle.at_log.specs.ClosingTerms.{ClosingTerms, receipts_of}
 use Rattle.at_log.specs.Coherent.{Coherent}
 use Rattle.at_log.specs.JournalOrder.{journal_order}
 use Rattle.at_log.specs.Placed.{IsAtOwn, IsAtRound, MayPay}
 use Rattle.at_log.specs.Receipts.{is_at_own, is_at_round, is_payout_from, receipt_at}
 use Rattle.at_log.specs.Told.{own_position, round_position}
-use Rattle.at_log.proofs.FirstLaws.{is_round-true}
-use Rattle.at_log.proofs.OrderHasRuns.{HasRuns-journal_order}
-use Rattle.at_log.proofs.OrderRounds.{AreFirsts-take, IsCoherentEntry-journal_order, IsInitial-journal_order, IsNextAtMost-journal_order, round_entry}
-use Rattle.at_log.proofs.OrderRuns.{order_state}
+use Rattle.at_log.proofs.Laws.FirstRecords.{is_round-true}
+use Rattle.at_log.proofs.Laws.OrderHasRuns.{HasRuns-journal_order}
+use Rattle.at_log.proofs.Laws.OrderRounds.{AreFirsts-take, IsCoherentEntry-journal_order, IsInitial-journal_order, IsNextAtMost-journal_order, round_entry}
+use Rattle.at_log.proofs.Laws.OrderState.{order_state}
 use Rattle.at_journal.proofs.KeepLaws.{Keeps, Keeps-next, is_full-Keeps}
-use Rattle.at_journal.proofs.PositionLaws.{IsOwnAt, IsRoundAt, own_position-at, round_position-at}
-use Rattle.at_journal.proofs.ReplyLaws.{is_payout_from-payout, step-payout}
+use Rattle.at_log.proofs.Laws.Positions.{IsOwnAt, IsRoundAt, own_position-at, round_position-at}
+use Rattle.at_log.proofs.Laws.Replies.{is_payout_from-payout, step-payout}
 use Rattle.at_journal.proofs.StillLaws.{Answered, asked-set}
 
 no_ask : (s t : Bool) → t ≡ false → one_if (s && t) ≡ 0
@@ -141,7 +142,7 @@ IsNewRound-first b c m a r k d targets coherent inside is at =
     let law = round_entry b c y.process (prefix_of y.view order) y.entry a r d targets (IsCoherentEntry-journal_order b c k coherent inside) is in
     let same = law.2 x one.0 one.1 (m, at.within, get_or_default order m x no_publication at.within) one.2 in
     let entry : x.entry ≡ Entry.Round a r d targets = one.2 ∙ (λ t. Entry.Round a r (same.0 t) (same.1 t)) in
-    let so = AreFirsts-take b c m coherent (omega (arith, at.within)) in
+    let so = AreFirsts-take b c m (HasRounds-Coherent b c coherent) (omega (arith, at.within)) in
     let absent : list_any (λ (z : Publication). is_round a r z.entry) (firsts (take m order)) ≡ false =
     elim (cases_Bool (list_any (λ (z : Publication). is_round a r z.entry) (firsts (take m order)))) as (λ _. list_any (λ (z : Publication). is_round a r z.entry) (firsts (take m order)) ≡ false) [
       | inl some ↦
@@ -156,8 +157,8 @@ IsNewRound-first b c m a r k d targets coherent inside is at =
     ] in
     let new : repeats x (firsts (take m order)) ≡ false =
     ap (λ e. list_any (λ (z : Publication). is_same_round e z.entry) (firsts (take m order))) entry ∙ absent in
-    let at_most : r ≤ rounds a (take m order) = subst (λ e. IsNextAtMost (take m order) e) entry (IsNextAtMost-journal_order b c m coherent at.within) in
-    let initial = IsInitial-journal_order b c m coherent (omega (arith, at.within)) a in
+    let at_most : r ≤ rounds a (take m order) = subst (λ e. IsNextAtMost (take m order) e) entry (IsNextAtMost-journal_order b c m (HasRounds-Coherent b c coherent) at.within) in
+    let initial = IsInitial-journal_order b c m (HasRounds-Coherent b c coherent) (omega (arith, at.within)) a in
     record {
       within = at.within;
       entry = entry;

@@ -20,6 +20,7 @@ use Rattle.at_history.specs.Rounds.{firsts, owns_of, repeats}
 use Rattle.at_history.proofs.Laws.Counts.{count_of-take_mono, count_of-take_more_own, count_of-take-le, get_or-publications_of}
 use Rattle.at_history.proofs.Laws.Runs.{owner-slot}
 use Rattle.at_history.specs.Entries.{names}
+use Rattle.at_log.proofs.Laws.OrderPremises.{HasRounds-Coherent, HasViews-Coherent}
 use Rattle.at_log.specs.declared.receipt.Receipt.{Receipt}
 use Rattle.at_log.specs.ClosingTerms.{ClosingTerms, receipts_of}
 use Rattle.at_log.specs.Coherent.{Coherent}
@@ -27,17 +28,17 @@ use Rattle.at_log.specs.JournalOrder.{journal_order, line_key}
 use Rattle.at_log.specs.Placed.{IsAtOwn, IsAtRound, IsPlaced, MayPay, read, not_owner, full, short, done, round}
 use Rattle.at_log.specs.Receipts.{asks_in, is_at_own, is_at_round, is_payout_from, is_success, owns_in, receipt_at}
 use Rattle.at_log.specs.Told.{first_account, key_at, own_position, round_position}
-use Rattle.at_log.proofs.FirstLaws.{is_round-true}
-use Rattle.at_log.proofs.OrderRounds.{AreFirsts-take, IsCoherentEntry-journal_order, IsFirst, IsFirst-journal_order, round_entry}
-use Rattle.at_log.proofs.OrderRuns.{named_before}
-use Rattle.at_log.proofs.ViewLaws.{HasView-journal_order}
+use Rattle.at_log.proofs.Laws.FirstRecords.{is_round-true}
+use Rattle.at_log.proofs.Laws.OrderRounds.{AreFirsts-take, IsCoherentEntry-journal_order, IsFirst, IsFirst-journal_order, round_entry}
+use Rattle.at_log.proofs.Laws.OrderState.{named_before}
+use Rattle.at_log.proofs.Laws.Views.{HasView-journal_order}
 use Rattle.at_journal.proofs.CountingLaws.{IsPassing-from_count, count_by-filter_and, count_by-past, same_passing}
 use Rattle.at_journal.proofs.KeepLaws.{no_receipt}
-use Rattle.at_journal.proofs.KeyCases.{line_key-receipt, previous_key}
+use Rattle.at_log.proofs.Laws.Keys.{line_key-receipt, previous_key}
 use Rattle.at_journal.proofs.MoveLaws.{IsNewRound}
-use Rattle.at_journal.proofs.PositionLaws.{IsOwnAt, own_position-at, round_position-at}
-use Rattle.at_journal.proofs.ReplyLaws.{is_payout_from-payout}
-use Rattle.at_journal.proofs.SameMove.{first_account-payout}
+use Rattle.at_log.proofs.Laws.Positions.{IsOwnAt, own_position-at, round_position-at}
+use Rattle.at_log.proofs.Laws.Replies.{is_payout_from-payout}
+use Rattle.at_log.proofs.Laws.Replies.{first_account-payout}
 
 -- some line has this key
 pub record HasLine (b : BookTerms) (c : ClosingTerms) (key : ℕ) : Type 0 where
@@ -81,7 +82,7 @@ pub HasLine-own : (b : BookTerms) (c : ClosingTerms) (m source : ℕ) (targets :
 HasLine-own b c m source targets coherent within is =
     let order = journal_order c in
     let p = (publication_at order m).process in
-    let known = (HasView-journal_order b c m coherent within).process in
+    let known = (HasView-journal_order b c m (HasViews-Coherent b c coherent) within).process in
     let pubs = publications_of p order in
     let number = count_of p (take m order) in
     let own : Publication → Bool = λ x. is_own x.entry in
@@ -144,7 +145,7 @@ place_of_round b c m a r d targets coherent new =
           let one = is_round-true a r (publication_at order k).entry at.here in
           let size = length-take-le m order (omega (arith, new.within)) in
           let in_prefix : publication_at (take m order) k ≡ publication_at order k = get_or-take m order k no_publication earlier in
-          let found = (AreFirsts-take b c m coherent (omega (arith, new.within))).has k a r one.0 one.1 (omega (arith, earlier, size))
+          let found = (AreFirsts-take b c m (HasRounds-Coherent b c coherent) (omega (arith, new.within))).has k a r one.0 one.1 (omega (arith, earlier, size))
           (ap (λ (x : Publication). x.entry) in_prefix ∙ one.2) in
           let some : list_any (λ (x : Publication). is_round a r x.entry) (firsts (take m order)) ≡ true =
           list_any_at (λ (x : Publication). is_round a r x.entry) (firsts (take m order)) found.0 no_publication found.1 found.2 in
@@ -189,8 +190,8 @@ HasLine-round b c m a r d targets coherent begun new ok =
     let q = get_or (account_of b a).owners d.slot 0 in
     let has = owner.1 in
     let named : Publication → Bool = λ y. names a d.slot y.entry in
-    let first = IsFirst-journal_order b c m a r d targets coherent new.within new.entry in
-    let number_is : count_by named (take first.number ys) ≡ d.number = sym (named_before b c a r d.slot d targets coherent first) ∙ law.4.next in
+    let first = IsFirst-journal_order b c m a r d targets (HasRounds-Coherent b c coherent) law.2 new.within new.entry in
+    let number_is : count_by named (take first.number ys) ≡ d.number = sym (named_before b c a r d.slot d targets (HasRounds-Coherent b c coherent) first) ∙ law.4.next in
     let passes : named (publication_at ys first.number) ≡ true = ap (names a d.slot) first.entry ∙ (λ t. eq-eqb a a refl t && eq-eqb d.slot d.slot refl t) in
     let total : count_by named ys ≡ asks_in a (receipts_of c q) = (coherent.told q owner.0).asks a d.slot has in
     let some : d.number < asks_in a (receipts_of c q) =
@@ -207,12 +208,12 @@ HasLine-round b c m a r d targets coherent begun new ok =
     let slots : Some theirs.decision.slot ≡ Some d.slot = sym theirs.slot ∙ ((λ t. slot_in (account_of b (source_is t)) q) ∙ has.owner) in
     let slot_is : theirs.decision.slot ≡ d.slot = same_slot theirs.decision.slot d.slot slots in
     let number_too : theirs.decision.number ≡ d.number = theirs.next ∙ ((λ t. asks_in (source_is t) (take i (receipts_of c q))) ∙ found.before) in
-    let other = IsFirst-journal_order b c theirs.position a theirs.round theirs.decision so.1 coherent theirs.within entry in
     let y : Publication = publication_at order theirs.position in
     let other_law = round_entry b c y.process (prefix_of y.view order) y.entry a theirs.round theirs.decision so.1 (IsCoherentEntry-journal_order b c theirs.position coherent theirs.within) entry in
+    let other = IsFirst-journal_order b c theirs.position a theirs.round theirs.decision so.1 (HasRounds-Coherent b c coherent) other_law.2 theirs.within entry in
     let other_number : count_by named (take other.number ys) ≡ d.number =
     (λ t. count_by (λ (z : Publication). names a (sym slot_is t) z.entry) (take other.number ys))
-    ∙ (sym (named_before b c a theirs.round theirs.decision.slot theirs.decision so.1 coherent other) ∙ (other_law.4.next ∙ number_too)) in
+    ∙ (sym (named_before b c a theirs.round theirs.decision.slot theirs.decision so.1 (HasRounds-Coherent b c coherent) other) ∙ (other_law.4.next ∙ number_too)) in
     let same = same_decision b c a r theirs.round d.slot d theirs.decision targets so.1 coherent first other refl slot_is (number_is ∙ sym other_number) in
     let parts = same_round a r theirs.round d theirs.decision targets so.1 same in
     let round_is : theirs.round ≡ r = sym parts.0 in

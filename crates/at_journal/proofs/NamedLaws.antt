@@ -8,8 +8,8 @@ use Rattle.at_history.specs.Publications.{no_publication}
 use Rattle.at_log.specs.ClosingTerms.{ClosingTerms, log_lengths, log_of, log_published, published_by}
 use Rattle.at_log.specs.JournalOrder.{journal_order, publication_key}
 use Rattle.at_log.specs.declared.record.Record.{Record}
-use Rattle.at_log.proofs.KeyLaws.{publication_key-le_all}
-use Rattle.at_log.proofs.OrderLaws.{own_log}
+use Rattle.at_log.proofs.Laws.PublicationKeys.{publication_key-le_all}
+use Rattle.at_log.proofs.Laws.Order.{own_log}
 use Rattle.at_journal.specs.Keys.{log_keys}
 use Rattle.at_journal.specs.Ordered.{AreInOrder}
 use Rattle.at_journal.specs.Positions.{AreRecords, no_keyed, published_in}

@@ -8,11 +8,11 @@ use Rattle.at_history.proofs.Laws.Counts.{count_of-push_other, count_of-take_mor
 use Rattle.at_history.specs.BoardState.{publication_at}
 use Rattle.at_history.specs.Publications.{count_of, no_publication}
 use Rattle.at_history.specs.declared.publication.Publication.{Publication}
-use Rattle.at_log.proofs.BucketLaws.{range_with_len-more}
+use Rattle.at_log.proofs.Laws.Buckets.{range_with_len-more}
 use Rattle.at_log.specs.ClosingTerms.{ClosingTerms, log_published}
 use Rattle.at_log.specs.Told.{own_position}
 use Rattle.at_journal.proofs.NamedLaws.{process-published_in}
-use Rattle.at_journal.proofs.PositionLaws.{own_position-at}
+use Rattle.at_log.proofs.Laws.Positions.{own_position-at}
 use Rattle.at_journal.specs.Positions.{AreRecords, HasOwnPositions, no_keyed, positions_of, published_in}
 use Rattle.at_journal.specs.declared.keyed.Keyed.{Keyed}
 

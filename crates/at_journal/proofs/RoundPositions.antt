@@ -18,13 +18,14 @@ use Rattle.at_history.specs.Rounds.{firsts, repeats, rounds}
 use Rattle.at_history.specs.declared.publication.Entry.{Entry}
 use Rattle.at_history.specs.declared.publication.Entry.TheVariants.{Own, Round}
 use Rattle.at_history.specs.declared.publication.Publication.{Publication}
-use Rattle.at_log.proofs.FirstLaws.{is_round-true}
-use Rattle.at_log.proofs.OrderRounds.{AreFirsts-take, IsCoherentEntry-journal_order, IsInitial-journal_order, IsNextAtMost-journal_order, round_entry}
+use Rattle.at_log.proofs.Laws.OrderPremises.{HasRounds-Coherent}
+use Rattle.at_log.proofs.Laws.FirstRecords.{is_round-true}
+use Rattle.at_log.proofs.Laws.OrderRounds.{AreFirsts-take, IsCoherentEntry-journal_order, IsInitial-journal_order, IsNextAtMost-journal_order, round_entry}
 use Rattle.at_log.specs.ClosingTerms.{ClosingTerms}
 use Rattle.at_log.specs.Coherent.{Coherent}
 use Rattle.at_log.specs.JournalOrder.{journal_order}
 use Rattle.at_log.specs.Told.{round_position}
-use Rattle.at_journal.proofs.PositionLaws.{round_position-at}
+use Rattle.at_log.proofs.Laws.Positions.{round_position-at}
 use Rattle.at_journal.specs.Positions.{HasRoundPositions, IsOnAccount, with_position}
 
 pub HasRoundPositions-none : (accounts : ℕ) (list : List Publication) → HasRoundPositions accounts [] list (replicate accounts [])
@@ -69,10 +70,10 @@ module _ (b : BookTerms) (c : ClosingTerms) (k : ℕ) (coherent : Coherent b c) 
         | inl some ↦
             let is = is_round-true a r x.entry some in
             let same : publication_at before m ≡ x = get_or-take k order m no_publication early in
-            let found = (AreFirsts-take b c k coherent (omega (arith, within))).has m a r is.0 is.1 (omega (arith, early, within, length-take-le k order (omega (arith, within))))
+            let found = (AreFirsts-take b c k (HasRounds-Coherent b c coherent) (omega (arith, within))).has m a r is.0 is.1 (omega (arith, early, within, length-take-le k order (omega (arith, within))))
             (ap (λ (y : Publication). y.entry) same ∙ is.2) in
             let has = list_any_at (λ (y : Publication). is_round a r y.entry) (firsts before) found.0 no_publication found.1 found.2 in
-            let less = ltb-true r (rounds a before) (sym ((IsInitial-journal_order b c k coherent (omega (arith, within)) a).has r) ∙ has) in
+            let less = ltb-true r (rounds a before) (sym ((IsInitial-journal_order b c k (HasRounds-Coherent b c coherent) (omega (arith, within)) a).has r) ∙ has) in
             absurd (omega (arith, less, next))
         | inr none ↦ none
       ]
@@ -111,7 +112,7 @@ module _ (b : BookTerms) (c : ClosingTerms) (k : ℕ) (coherent : Coherent b c) 
       let more : rounds account (take (k + 1) order) ≡ rounds account before + 1 =
       ap (rounds account) (take-publication_at order k within)
       ∙ (ap (λ e. rounds account (before ++ published here.process here.view e ∷ [])) is
-      ∙ rounds-push_next here.process here.view account r d targets before (IsInitial-journal_order b c k coherent (omega (arith, within)) account) count) in
+      ∙ rounds-push_next here.process here.view account r d targets before (IsInitial-journal_order b c k (HasRounds-Coherent b c coherent) (omega (arith, within)) account) count) in
       let place : round_position account r order ≡ k =
       round_position-new account r order k within
       (ap (is_round account r) is ∙ (λ t. eq-eqb account account refl t && eq-eqb r r refl t)) (none_before account r count) in
@@ -156,10 +157,10 @@ module _ (b : BookTerms) (c : ClosingTerms) (k : ℕ) (coherent : Coherent b c) 
             subst (HasRoundPositions (length b.accounts) (take (k + 1) order) order) (sym (ap (λ t. cond t new starts) (eq-eqb (length (get_or starts account [])) r next)))
             (HasRoundPositions-next starts account r d targets is known next so)
         | inr apart ↦
-            let at_most : r ≤ rounds account before = subst (IsNextAtMost before) is (IsNextAtMost-journal_order b c k coherent within) in
+            let at_most : r ≤ rounds account before = subst (IsNextAtMost before) is (IsNextAtMost-journal_order b c k (HasRounds-Coherent b c coherent) within) in
             let again : repeats here (firsts before) ≡ true =
             ap (λ e. repeats (published here.process here.view e) (firsts before)) is
-            ∙ (repeats-round here.process here.view account r d targets before (IsInitial-journal_order b c k coherent (omega (arith, within)) account)
+            ∙ (repeats-round here.process here.view account r d targets before (IsInitial-journal_order b c k (HasRounds-Coherent b c coherent) (omega (arith, within)) account)
             ∙ lt-ltb r (rounds account before) (omega (arith, at_most, apart, so.counted account known))) in
             subst (HasRoundPositions (length b.accounts) (take (k + 1) order) order) (sym (ap (λ t. cond t new starts) (ne_eqb (length (get_or starts account [])) r apart)))
             (HasRoundPositions-same starts (λ a. inl again) so)

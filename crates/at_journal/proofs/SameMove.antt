@@ -1,42 +1,31 @@
 -- Which line moves a publication of the order: no two do.
-use Rattle.std.proofs.Common.{◌≡◌, ℕ, ◌<◌, ◌==◌, ◌&&◌, Bool, true, List, [], ◌∷◌, length, get_or, take, refl, sym, ap, subst, ◌∙◌, arith}
+use Rattle.std.proofs.Common.{◌≡◌, ℕ, ◌<◌, ◌==◌, ◌&&◌, true, List, length, get_or, take, refl, sym, ap, subst, ◌∙◌, arith}
 use Rattle.std.specs.Prelude.{Some}
-use Rattle.std.specs.List.{count_by}
 use Rattle.std.proofs.lemmas.Bool.{eq-eqb, eqb-true}
 use Rattle.std.proofs.lemmas.List.Quantifiers.{position-Some}
+use Rattle.std.specs.List.{count_by}
 use Rattle.at_base.specs.declared.decision.Decision.{Decision}
 use Rattle.at_ledger.specs.Account.{AccountTerms, slot_in}
 use Rattle.at_ledger.specs.Book.{BookTerms, account_of}
 use Rattle.at_ledger.specs.Call.{TargetPair}
-use Rattle.at_ledger.specs.declared.call.Call.{Call}
-use Rattle.at_ledger.specs.declared.call.Call.TheVariants.{Transfer, Read, Pay}
-use Rattle.at_history.specs.declared.publication.Entry.{Entry}
-use Rattle.at_history.specs.declared.publication.Publication.{Publication}
+use Rattle.at_history.proofs.Laws.Counts.{publications_of-take}
 use Rattle.at_history.specs.BoardState.{publication_at}
 use Rattle.at_history.specs.Entries.{is_own, is_round}
 use Rattle.at_history.specs.Publications.{publications_of}
-use Rattle.at_history.proofs.Laws.Counts.{publications_of-take}
-use Rattle.at_log.specs.declared.receipt.At.{At}
-use Rattle.at_log.specs.declared.receipt.At.TheVariants.{Front, Own, Round, Previous}
-use Rattle.at_log.specs.declared.receipt.Receipt.{Receipt}
+use Rattle.at_history.specs.declared.publication.Entry.{Entry}
+use Rattle.at_history.specs.declared.publication.Publication.{Publication}
+use Rattle.at_log.proofs.Laws.Positions.{IsOwnAt, IsRoundAt, own_position-at, round_position-at}
+use Rattle.at_log.proofs.Laws.Replies.{is_payout_from-payout}
 use Rattle.at_log.specs.ClosingTerms.{ClosingTerms, receipts_of}
 use Rattle.at_log.specs.Coherent.{Coherent}
 use Rattle.at_log.specs.JournalOrder.{journal_order}
 use Rattle.at_log.specs.Placed.{IsAtOwn, IsAtRound, MayPay}
-use Rattle.at_log.specs.Receipts.{asks_in, is_at_own, is_at_round, is_payout_from, owns_in, payout_of, receipt_at}
-use Rattle.at_log.specs.Told.{first_account, own_position, round_position}
+use Rattle.at_log.specs.Receipts.{asks_in, is_at_own, is_at_round, is_payout_from, owns_in, receipt_at}
+use Rattle.at_log.specs.Told.{own_position, round_position}
+use Rattle.at_log.specs.declared.receipt.Receipt.{Receipt}
 use Rattle.at_journal.proofs.CountingLaws.{count_by-past}
 use Rattle.at_journal.proofs.KeepLaws.{no_receipt}
 use Rattle.at_journal.proofs.MoveLaws.{IsNewRound-first, own_entry}
-use Rattle.at_journal.proofs.PositionLaws.{IsOwnAt, IsRoundAt, own_position-at, round_position-at}
-use Rattle.at_journal.proofs.ReplyLaws.{is_payout_from-payout, same_payout}
-
--- the key of a receipt that moved
-abbrev pub moves_at : ℕ → ℕ → List Publication → Call → Bool → At → Type 0
-moves_at m process list call moved (Front view) = ⊥
-moves_at m process list call moved (Own number) = own_position process number list ≡ m
-moves_at m process list call moved (Round number at) = (moved ≡ true) × (round_position (first_account call) number list ≡ m)
-moves_at m process list call moved Previous = ⊥
 
 -- a line that moves the publication at a position, by what its process has before it
 pub data IsMove (b : BookTerms) (c : ClosingTerms) (p i m : ℕ) : Type 0 where
@@ -59,12 +48,6 @@ IsMove-own b c p i m source targets own at_m =
     let before : publications_of p (take m order) ≡ take own.number (publications_of p order) =
     publications_of-take p m order ∙ ap (λ k. take k (publications_of p order)) at.before in
     of_own at.own (ap is_own entry) (ap is_at_own own.at) (sym own.next ∙ ap (count_by (λ (x : Publication). is_own x.entry)) (sym before))
-
--- the source of a pay-out is the account that it names first
-pub first_account-payout : (source : ℕ) (targets : List TargetPair) (call : Call) → payout_of call ≡ Some (source, targets) → first_account call ≡ source
-first_account-payout source targets (Transfer from to amount) is = ap (λ (x : ℕ × List TargetPair). x.0) (same_payout (from, (to, amount) ∷ []) (source, targets) is)
-first_account-payout source targets (Read account) is = absurd (cc is)
-first_account-payout source targets (Pay from amounts) is = ap (λ (x : ℕ × List TargetPair). x.0) (same_payout (from, amounts) (source, targets) is)
 
 -- what a receipt of a round moves, where it succeeded
 pub IsMove-round : (b : BookTerms) (c : ClosingTerms) (p i m source : ℕ) (targets : List TargetPair) → Coherent b c

@@ -1,47 +1,40 @@
 -- Lines that move nothing: the ledger answers them as their receipts say, where the balances are those of their place.
 use Rattle.std.proofs.Common.{◌≡◌, ℕ, ◌+◌, ◌*◌, ◌<◌, ◌≤◌, ◌==◌, ◌&&◌, zero, suc, Bool, true, false, cond, List, [], ◌∷◌, length, get_or, set, take, refl, sym, ap, subst, ◌∙◌, arith, inl, inr}
-use Rattle.std.specs.List.{sum_by}
+use Rattle.std.proofs.Math.ListN.{get_or-eq_default}
 use Rattle.std.proofs.lemmas.Bool.{cases_Bool, cases_eq, cases_lt, eq-eqb, ne_eqb}
 use Rattle.std.proofs.lemmas.List.{get_or-set_same, get_or-set_other, get_or_default, length-set, take_all}
-use Rattle.std.proofs.Math.ListN.{get_or-eq_default}
 use Rattle.std.proofs.lemmas.List.Sums.{sum_by-cons}
 use Rattle.std.proofs.lemmas.Nat.{mul-add-lt, same_from_place}
+use Rattle.std.specs.List.{sum_by}
 use Rattle.at_ledger.specs.Account.{AccountTerms, is_owner_in, no_account}
 use Rattle.at_ledger.specs.Book.{BookTerms, account_of, is_owner}
 use Rattle.at_ledger.specs.Call.{AreTargetsOn, TargetPair, amount_of}
 use Rattle.at_ledger.specs.State.{LedgerState, Step, asked_position, step}
 use Rattle.at_ledger.specs.declared.call.Reply.TheVariants.{Balance, Done, Short}
 use Rattle.at_history.proofs.Laws.Balances.{ledger}
-use Rattle.at_history.proofs.Laws.Runs.{is_shared-single}
-use Rattle.at_history.proofs.Laws.Rounds.{one_if, sum_by-firsts-take_mono}
-use Rattle.at_history.specs.declared.publication.Entry.{Entry}
-use Rattle.at_history.specs.Publications.{no_publication}
 use Rattle.at_history.proofs.Laws.HasRuns.{IsRunDecision}
-use Rattle.at_history.specs.declared.publication.Publication.{Publication}
-use Rattle.at_history.specs.declared.request.Request.{Request}
+use Rattle.at_history.proofs.Laws.Rounds.{one_if, sum_by-firsts-take_mono}
+use Rattle.at_history.proofs.Laws.Runs.{is_shared-single}
 use Rattle.at_history.specs.Balances.{IsCovered, amount_for, balance_after, credit_of, credits}
 use Rattle.at_history.specs.BoardState.{publication_at, request_at}
 use Rattle.at_history.specs.Fronts.{place, prefix_of}
+use Rattle.at_history.specs.Publications.{no_publication}
 use Rattle.at_history.specs.Rounds.{firsts}
-use Rattle.at_log.specs.declared.receipt.At.{At}
-use Rattle.at_log.specs.declared.receipt.At.TheVariants.{Front, Own, Round, Previous}
+use Rattle.at_history.specs.declared.publication.Entry.{Entry}
+use Rattle.at_history.specs.declared.publication.Publication.{Publication}
+use Rattle.at_history.specs.declared.request.Request.{Request}
+use Rattle.at_log.proofs.Laws.OrderPremises.{HasRounds-Coherent}
+use Rattle.at_log.proofs.Laws.Keys.{still_at}
+use Rattle.at_log.proofs.Laws.Replies.{after_short-shared, after_short-single, is_payout_from-payout, pay-full, pay-not_owner, pay-short, step-payout}
+use Rattle.at_log.proofs.Laws.OrderHasRuns.{HasRuns-journal_order, IsInState-record}
+use Rattle.at_log.proofs.Laws.OrderRounds.{AreFirsts-journal_order, IsCoherentEntry-journal_order}
+use Rattle.at_log.proofs.Laws.OrderState.{order_state}
 use Rattle.at_log.specs.ClosingTerms.{ClosingTerms, receipts_of}
 use Rattle.at_log.specs.Coherent.{Coherent, IsCoherentEntry}
-use Rattle.at_log.proofs.OrderRounds.{AreFirsts-journal_order, IsCoherentEntry-journal_order}
 use Rattle.at_log.specs.JournalOrder.{journal_order}
 use Rattle.at_log.specs.Placed.{IsPlaced, read, not_owner, full, short, done, round}
 use Rattle.at_log.specs.Receipts.{is_at_own, is_at_round, is_payout_from, is_success, receipt_at}
-use Rattle.at_log.proofs.OrderHasRuns.{HasRuns-journal_order, IsInState-record}
-use Rattle.at_log.proofs.OrderRuns.{order_state}
 use Rattle.at_journal.proofs.KeepLaws.{Keeps, Keeps-next, is_full-Keeps, with_count}
-use Rattle.at_journal.proofs.ReplyLaws.{after_short-shared, after_short-single, is_payout_from-payout, pay-full, pay-not_owner, pay-short, step-payout}
-
--- the receipt moved nothing, and stands at the prefix of this length, or with the one before it
-abbrev pub still_at : ℕ → Bool → At → Type 0
-still_at m moved (Front view) = place view ≡ m
-still_at m moved (Own number) = ⊥
-still_at m moved (Round number at) = (moved ≡ false) × (at ≡ m)
-still_at m moved Previous = Unit {0}
 
 -- an owner's account is there
 pub owner_within : (b : BookTerms) (p a : ℕ) → is_owner b p a ≡ true → a < length b.accounts
@@ -137,7 +130,7 @@ credits-beyond b c m a coherent beyond =
     let weight : Publication → ℕ = λ x. credit_of a x.entry in
     let whole : credits a order ≡ 0 =
     sum_by-nothing weight (firsts order) (λ j d within.
-    let there = (AreFirsts-journal_order b c coherent).stands j within in
+    let there = (AreFirsts-journal_order b c (HasRounds-Coherent b c coherent)).stands j within in
     let x : Publication = publication_at order there.0 in
     let same : get_or (firsts order) j d ≡ x = get_or_default (firsts order) j d no_publication within ∙ sym there.2 in
     ap weight same ∙ credit-beyond b c x.process a (prefix_of x.view order) x.entry (IsCoherentEntry-journal_order b c there.0 coherent there.1) beyond) in

@@ -13,12 +13,12 @@ use Rattle.at_ledger.specs.declared.call.Line.{Line}
 use Rattle.at_log.specs.ClosingTerms.{ClosingTerms, log_lengths, receipts_of}
 use Rattle.at_log.specs.Coherent.{Coherent}
 use Rattle.at_log.specs.JournalOrder.{journal_lines, line_key, process_lines_at}
-use Rattle.at_log.proofs.BucketLaws.{flat_map-buckets}
-use Rattle.at_log.proofs.OrderLaws.{All-flat_map, filter-first, flat_map-values}
+use Rattle.at_log.proofs.Laws.Buckets.{flat_map-buckets}
+use Rattle.at_log.proofs.Laws.Order.{All-flat_map, filter-first, flat_map-values}
 use Rattle.at_journal.proofs.JournalRuns.{length-journal_order}
 use Rattle.at_journal.proofs.KeepLaws.{no_receipt}
-use Rattle.at_journal.proofs.KeyBounds.{line_key-le}
-use Rattle.at_journal.proofs.KeyCases.{line_key-sorted}
+use Rattle.at_log.proofs.Laws.KeyBounds.{line_key-le}
+use Rattle.at_log.proofs.Laws.Keys.{line_key-sorted}
 use Rattle.at_journal.proofs.KeyRuns.{flat_map-only}
 use Rattle.at_journal.proofs.LineRuns.{line}
 use Rattle.at_journal.proofs.OrderedLaws.{filter-flat_map}

@@ -1,24 +1,15 @@
 -- The keys of a closing's publications and of its calls, process by process.
-use Rattle.std.specs.Prelude.{◌≡◌, ℕ, ◌-◌, ◌<◌, ◌≤◌, ◌⊎◌, ◌++◌, List, [], length, map, replicate, slice_index, slice_index_or, Contains}
+use Rattle.std.specs.Prelude.{◌≡◌, ℕ, ◌-◌, ◌<◌, ◌≤◌, ◌++◌, List, [], length, map, replicate, slice_index, slice_index_or, Contains}
 use Rattle.std.specs.List.{range_with_len}
 use Rattle.at_base.specs.Counts.{Covers}
 use Rattle.at_history.specs.BoardState.{publication_at}
 use Rattle.at_log.specs.ClosingTerms.{ClosingTerms, log_lengths, log_of, log_published}
 use Rattle.at_log.specs.HeldFronts.{held_fronts}
 use Rattle.at_log.specs.JournalOrder.{publication_key}
-use Rattle.at_journal.specs.declared.fronts.HeldFront.{HeldFront}
 
 -- each held front has a count for each process, and the lengths of the logs cover it
 abbrev pub AreWithin : ClosingTerms → Type 0
 AreWithin c = (view : List ℕ) → Contains (held_fronts c) view → length view ≡ length c.logs × Covers (log_lengths c) view
-
--- of two held fronts one covers the other
-abbrev pub AreOrdered : ClosingTerms → Type 0
-AreOrdered c = (view other : List ℕ) → Contains (held_fronts c) view → Contains (held_fronts c) other → Covers view other ⊎ Covers other view
-
--- the front before this one has the same place
-abbrev pub IsRepeated : List HeldFront → ℕ → Type 0
-IsRepeated fronts k = (d : HeldFront) → (0 < k) × ((slice_index_or fronts (k - 1) d).place ≡ (slice_index_or fronts k d).place)
 
 -- the view of each record has how many records its process published before it
 abbrev pub AreNumbered : ClosingTerms → Type 0

@@ -1,10 +1,10 @@
 //! The keys of a closing's publications.
 
-ghost use Rattle.std.specs.Prelude.{◌≡◌, ◌^◌, ◌<◌, ◌≤◌, [], length, map, slice_index, slice_index_or, slice_set, sum, IsFalse, OnOk, IfOk};
+ghost use Rattle.std.specs.Prelude.{◌≡◌, ◌^◌, ◌<◌, ◌≤◌, [], length, map, slice_index, slice_index_or, slice_set, sum, OnOk, IfOk};
 ghost use Rattle.std.specs.List.{range_with_len};
 ghost use Rattle.at_log.specs.ClosingTerms.{log_lengths, log_of};
 ghost use Rattle.at_journal.specs.Held.{AreHeld};
-ghost use Rattle.at_journal.specs.Keys.{AreGiven, AreNumbered, AreOrdered, AreWithin, IsRepeated, log_keys, with_key};
+ghost use Rattle.at_journal.specs.Keys.{AreGiven, AreNumbered, AreWithin, log_keys, with_key};
 
 use crate::NoMemory;
 use crate::fronts::HeldFront;
@@ -82,14 +82,6 @@ fn push_last_keys(keys: &mut Vec<Vec<u64>>, closing: &Closing, total: u64) -> Re
     Ok(())
 }
 
-/// Whether no front before it has the place of this one. Held fronts of one place are the same.
-fn is_new(fronts: &[HeldFront<'_>], k: usize) -> bool
-    requires { k < length fronts.now }
-    ensures { IsFalse result → IsRepeated fronts.now k }
-{
-    k == 0 || fronts[k - 1].place != fronts[k].place
-}
-
 /// The keys of all publications, process by process: each is the least place of a front that counts it.
 pub(crate) fn publication_keys(
     alloc: Global,
@@ -99,16 +91,13 @@ pub(crate) fn publication_keys(
 ) -> Result<Vec<Vec<u64>>, NoMemory>
     requires held { AreHeld closing.now fronts.now }
     requires within { AreWithin closing.now }
-    requires ordered { AreOrdered closing.now }
     requires total { total ≡ sum (log_lengths closing.now) }
     ensures keys { IfOk result (λ keys. map (λ v. v.items) keys.items ≡ map (log_keys closing.now) (range_with_len 0 (length closing.now.logs))) }
     ensures few { IfOk result (λ keys. length keys.items ≤ 16) }
 {
     let mut keys = empty_lists(alloc, closing.processes())?;
     for k in 0..fronts.len() {
-        if is_new(fronts, k) {
-            push_front_keys(&mut keys, &fronts[k])?;
-        }
+        push_front_keys(&mut keys, &fronts[k])?;
     }
     push_last_keys(&mut keys, closing, total)?;
     Ok(keys)

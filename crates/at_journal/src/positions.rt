@@ -6,7 +6,7 @@ ghost use Rattle.at_log.specs.ClosingTerms.{log_lengths};
 ghost use Rattle.at_log.specs.Coherent.{Coherent};
 ghost use Rattle.at_log.specs.JournalOrder.{journal_order};
 ghost use Rattle.at_journal.specs.Held.{AreHeld};
-ghost use Rattle.at_journal.specs.Keys.{AreOrdered, AreWithin};
+ghost use Rattle.at_journal.specs.Keys.{AreWithin};
 ghost use Rattle.at_journal.specs.Positions.{AreRecords, HasRoundPositions, IsOnAccount, positions_of, published_in, with_position};
 
 use crate::NoMemory;
@@ -26,7 +26,6 @@ pub(crate) fn order_of(
 ) -> Result<Vec<Keyed>, NoMemory>
     requires held { AreHeld closing.now fronts.now }
     requires within { AreWithin closing.now }
-    requires ordered { AreOrdered closing.now }
     requires total { total ≡ sum (log_lengths closing.now) }
     ensures order { IfOk result (λ order. published_in closing.now order.items ≡ journal_order closing.now) }
     ensures records { IfOk result (λ order. AreRecords closing.now order.items) }

@@ -1,6 +1,6 @@
 //! The targets of a pay-out.
 
-ghost use Rattle.std.specs.Prelude.{◌≡◌, ◌<◌, ◌≤◌, ◌++◌, [], ◌∷◌, length};
+ghost use Rattle.std.specs.Prelude.{◌≡◌, ◌<◌, ◌≤◌, ◌^◌, ◌++◌, [], ◌∷◌, length};
 ghost use Rattle.at_ledger.specs.Limits.{most_targets};
 
 use arrayvec::ArrayVec;
@@ -74,7 +74,8 @@ impl Targets {
 
     /// The sum of the amounts, which may not fit 64 bits.
     pub fn sum(&self) -> u128
-        ensures { result ≡ amount_of self.now }
+        ensures sum { result ≡ amount_of self.now }
+        ensures small { result ≤ 2 ^ 66 }
     {
         let mut sum = 0u128;
         for target in self.list.as_slice() {

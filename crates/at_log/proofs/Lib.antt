@@ -1,12 +1,4 @@
-pub mod KeyLaws
-pub mod BucketLaws
-pub mod OrderLaws
-pub mod ViewLaws
-pub mod PickLaws
-pub mod FirstLaws
-pub mod OrderRounds
-pub mod OrderRuns
-pub mod OrderHasRuns
-pub mod AppendLaws
-pub mod LastLaws
-pub mod SeenLaws
+pub mod Laws
+pub mod StoredWords
+pub mod LastRecord
+pub mod SeenRecords

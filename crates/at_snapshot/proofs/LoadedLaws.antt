@@ -3,12 +3,11 @@ use Rattle.std.proofs.Common.{◌≡◌, ◌≢◌, ℕ, ◌+◌, ◌<◌, List,
 use Rattle.std.proofs.lemmas.List.{get_or-set_other, get_or-set_same, length-set, set-set}
 use Rattle.at_ledger.specs.Book.{BookTerms}
 use Rattle.at_history.proofs.Laws.Prefixes.{IsPrefix-trans}
-use Rattle.at_board.proofs.KnowledgeLaws.OwnRequests.{own_part-with_part}
 use Rattle.at_board.specs.declared.knowledge.Loads.{Loads}
 use Rattle.at_board.specs.declared.knowledge.Part.{Part}
 use Rattle.at_board.specs.declared.knowledge.Knowledge.{Knowledge}
 use Rattle.at_history.specs.Publications.{count_of}
-use Rattle.at_board.specs.Knowledge.Parts.{with_part}
+use Rattle.at_board.specs.Knowledge.Parts.{no_part, with_part}
 use Rattle.at_board.specs.Steps.LoadLength.{LoadsLength, with_load}
 use Rattle.at_board.specs.Knowledge.Parts.{loads_of, own_part}
 use Rattle.at_snapshot.specs.Collected.{HasLoaded}
@@ -19,7 +18,7 @@ with_loads q loads = record q { loads = loads }
 
 pub own_part-HasLoaded : (b : BookTerms) (v w : Knowledge) → 0 < length v.parts → HasLoaded b v w → own_part w ≡ with_loads (own_part v) (own_part w).loads
 own_part-HasLoaded b v w part told =
-    ap own_part told.same ∙ own_part-with_part (record v { seen = w.seen }) (with_loads (own_part v) (own_part w).loads) part
+    ap own_part told.same ∙ get_or-set_same v.parts 0 (with_loads (own_part v) (own_part w).loads) no_part part
 
 pub parts-HasLoaded : (b : BookTerms) (v w : Knowledge) → HasLoaded b v w → length w.parts ≡ length v.parts
 parts-HasLoaded b v w told = ap (λ (t : Knowledge). length t.parts) told.same ∙ length-set v.parts 0 (with_loads (own_part v) (own_part w).loads)
@@ -32,7 +31,7 @@ first-HasLoaded b v w told = ap (λ (t : Knowledge). t.first) told.same
 
 -- the own part after a load of a length
 pub own_part-LoadsLength : (b : BookTerms) (v w : Knowledge) (p n : ℕ) → 0 < length v.parts → LoadsLength b v w p n → own_part w ≡ with_load (own_part v) p n
-own_part-LoadsLength b v w p n part told = ap own_part told.same ∙ own_part-with_part (record v { seen = w.seen }) (with_load (own_part v) p n) part
+own_part-LoadsLength b v w p n part told = ap own_part told.same ∙ get_or-set_same v.parts 0 (with_load (own_part v) p n) no_part part
 
 pub HasLoaded-LoadsLength : (b : BookTerms) (v w : Knowledge) (p n : ℕ) → 0 < length v.parts → LoadsLength b v w p n → HasLoaded b v w
 HasLoaded-LoadsLength b v w p n part told =

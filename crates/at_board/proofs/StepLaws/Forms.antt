@@ -1,51 +1,31 @@
 -- The numbers of entries that a seat may publish, or has seen, fit their words.
-use Rattle.std.proofs.Common.{◌≡◌, ℕ, ◌+◌, ◌<◌, ◌≤◌, List, [], ◌∷◌, ◌++◌, length, fold, cond, refl, sym, ap, subst, ◌∙◌, arith, inl, inr}
-use Rattle.std.proofs.lemmas.Bool.{cases_Bool}
-use Rattle.std.proofs.lemmas.List.{length_push, length-take}
+use Rattle.std.proofs.Common.{◌≡◌, ℕ, ◌<◌, ◌≤◌, List, length, refl, sym, ap, subst, ◌∙◌, arith, inl, inr}
+use Rattle.std.proofs.lemmas.List.{length-take}
 use Rattle.std.proofs.lemmas.List.Elements.{All-from_get_or}
-use Rattle.std.proofs.lemmas.List.Sums.{count_by-le-length, get_or-le-sum_by}
+use Rattle.std.proofs.lemmas.List.Sums.{get_or-le-sum_by}
 use Rattle.at_ledger.specs.Account.{no_account, rounds_room}
 use Rattle.at_ledger.specs.Book.{BookTerms, IsBegun}
-use Rattle.at_board.proofs.WordLaws.Packed.{ArePacked-AreTargets}
+use Rattle.at_history.proofs.Laws.Counts.{get_or-publications_of, position_of}
+use Rattle.at_history.proofs.Laws.RoundSums.{rounds-le-length}
 use Rattle.at_history.proofs.Laws.Sums.{All-Contains}
+use Rattle.at_history.specs.BoardState.{publication_at}
+use Rattle.at_history.specs.Fronts.{place, places_max, prefix_of}
+use Rattle.at_history.specs.Histories.{IsShownDecision, IsHistory, IsShownEntry}
+use Rattle.at_history.specs.Publications.{no_publication, publications_of}
+use Rattle.at_history.specs.Sound.{AreTargets}
 use Rattle.at_history.specs.declared.publication.Entry.{Entry}
 use Rattle.at_history.specs.declared.publication.Entry.TheVariants.{Own, Round}
 use Rattle.at_history.specs.declared.publication.Publication.{Publication}
-use Rattle.at_board.specs.declared.knowledge.SeenDecision.{SeenDecision}
-use Rattle.at_board.specs.declared.knowledge.SeenRequest.{SeenRequest}
-use Rattle.at_board.specs.declared.knowledge.Knowledge.{Knowledge}
-use Rattle.at_history.specs.BoardState.{publication_at}
-use Rattle.at_board.specs.Steps.Publish.{MayEnter}
-use Rattle.at_history.specs.Entries.{is_round_on}
-use Rattle.at_board.specs.Words.Packed.{IsForm}
-use Rattle.at_history.specs.Fronts.{place, places_max, prefix_of}
-use Rattle.at_history.proofs.Laws.Counts.{get_or-publications_of, position_of}
 use Rattle.at_board.proofs.StepLaws.LogRoom.{published-MayEnter}
+use Rattle.at_board.proofs.WordLaws.Packed.{ArePacked-AreTargets}
+use Rattle.at_board.specs.Knowledge.Agreement.{DecisionInRange, RequestInRange, SeesInRange}
 use Rattle.at_board.specs.Knowledge.Records.{SeesForms}
 use Rattle.at_board.specs.Knowledge.Seats.{IsSeat}
-use Rattle.at_board.specs.Steps.Publish.{FitsNext}
-use Rattle.at_history.specs.Publications.{no_publication, publications_of}
-use Rattle.at_history.specs.Rounds.{firsts, repeats, rounds, with_first}
-use Rattle.at_board.specs.Knowledge.Agreement.{DecisionInRange, RequestInRange, SeesInRange}
-use Rattle.at_history.specs.Histories.{IsShownDecision}
-use Rattle.at_history.specs.Sound.{AreTargets}
-use Rattle.at_history.specs.Histories.{IsHistory, IsShownEntry}
-
--- no more rounds than publications
-length-with_first : (acc : List Publication) (x : Publication) → length (with_first acc x) ≤ length acc + 1
-length-with_first acc x =
-    elim (cases_Bool (repeats x acc)) as (λ _. length (with_first acc x) ≤ length acc + 1) [
-      | inl again ↦ subst (λ t. length (cond t acc (acc ++ x ∷ [])) ≤ length acc + 1) (sym again) (omega arith)
-      | inr new ↦ subst (λ t. length (cond t acc (acc ++ x ∷ [])) ≤ length acc + 1) (sym new) (omega (arith, length_push acc x))
-    ]
-
-length-fold : (xs acc : List Publication) → length (fold with_first acc xs) ≤ length acc + length xs
-length-fold [] acc = omega arith
-length-fold (x ∷ xs) acc = omega (arith, length-fold xs (with_first acc x), length-with_first acc x)
-
-rounds-le-length : (a : ℕ) (xs : List Publication) → rounds a xs ≤ length xs
-unfolding firsts
-rounds-le-length a xs = omega (arith, count_by-le-length (λ (x : Publication). is_round_on a x.entry) (firsts xs), length-fold xs [])
+use Rattle.at_board.specs.Steps.Publish.{MayEnter, FitsNext}
+use Rattle.at_board.specs.Words.Packed.{IsForm}
+use Rattle.at_board.specs.declared.knowledge.Knowledge.{Knowledge}
+use Rattle.at_board.specs.declared.knowledge.SeenDecision.{SeenDecision}
+use Rattle.at_board.specs.declared.knowledge.SeenRequest.{SeenRequest}
 
 -- an entry of a history
 IsForm-IsShownEntry : (b : BookTerms) (p : ℕ) (prefix list : List Publication) (e : Entry) → IsBegun b → IsShownEntry b p prefix e

@@ -8,7 +8,7 @@ use Rattle.at_ledger.specs.Book.{BookTerms}
 use Rattle.at_history.proofs.Laws.DecisionNumbers.{no_decision, number_is_next}
 use Rattle.at_history.specs.BoardState.{BoardState, decision_at, publication_at, request_at}
 use Rattle.at_history.specs.Fronts.{prefix_of}
-use Rattle.at_history.specs.Rounds.{is_settled, rounds}
+use Rattle.at_history.specs.Rounds.{is_settled}
 use Rattle.at_history.specs.Sound.{IsHeld, IsPublished, IsSoundDecision, IsSoundEntry, IsSoundRequest, Sound}
 use Rattle.at_history.specs.declared.cell.Cell.{Cell}
 use Rattle.at_history.specs.declared.publication.Entry.{Entry}

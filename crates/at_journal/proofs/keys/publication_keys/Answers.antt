@@ -1,29 +1,18 @@
-use Rattle.std.proofs.Common.{◌≡◌, ◌+◌, length, map, get_or, sum, ap, arith, subst, sym}
+use Rattle.std.proofs.Common.{◌≡◌, length, map, get_or, sum, arith, subst, sym}
 use Rattle.std.proofs.lemmas.List.{length-map}
 use Rattle.at_log.specs.ClosingTerms.{log_lengths, log_of}
 use Rattle.at_journal.specs.Keys.{AreGiven}
-use Rattle.at_journal.proofs.KeySteps.{HaveKeys, HaveKeys-more, HaveKeys-same, keys-HaveKeys}
+use Rattle.at_journal.proofs.KeySteps.{HaveKeys, HaveKeys-more, keys-HaveKeys}
 use Rattle.at_journal.proofs.keys.publication_keys.Goals as goal
-use Rattle.at_journal.proofs.keys.publication_keys.Goals.{then-is_new+in_ok-push_front_keys, else-is_new}
 
 pub loop-k-preserved : goal.loop-k-preserved
 loop-k-preserved c =
-    let closing = c.args.closing.now in
-    let fronts = c.args.fronts.now in
-    let k = c.loop-k.k in
     let keys = c.loop-k.keys.items in
+    let front = c.index-fronts-k.result in
     let old = map (λ v. v.items) keys in
-    elim c.if-is_new.branch as (λ _. HaveKeys closing fronts (k + 1) (map (λ v. v.items) c.if-is_new.keys.items)) [
-      | then-is_new+in_ok-push_front_keys w ↦
-          let front = w.index-fronts-k.result in
-          let new = map (λ v. v.items) w.push_front_keys.new.keys.items in
-          let given = subst (λ n. AreGiven (λ p. get_or front.counts.now p 0) front.place n old new) (sym (length-map keys (λ v. v.items))) w.in_ok-push_front_keys.ensures in
-          subst (HaveKeys closing fronts (k + 1)) (ap (λ v. map (λ u. u.items) v.items) (sym w.keys-is))
-          (HaveKeys-more closing fronts k old new front c.requires.held c.requires.within c.loop-k-test.true (sym w.index-fronts-k.is) given c.loop-k.invariant)
-      | else-is_new w ↦
-          subst (HaveKeys closing fronts (k + 1)) (ap (λ v. map (λ u. u.items) v.items) (sym w.keys-is))
-          (HaveKeys-same closing fronts k old c.requires.held c.requires.within c.requires.ordered c.loop-k-test.true (c.is_new.ensures w.if-is_new.false) c.loop-k.invariant)
-    ]
+    let new = map (λ v. v.items) c.push_front_keys.new.keys.items in
+    let given = subst (λ n. AreGiven (λ p. get_or front.counts.now p 0) front.place n old new) (sym (length-map keys (λ v. v.items))) c.in_ok-push_front_keys.ensures in
+    HaveKeys-more c.args.closing.now c.args.fronts.now c.loop-k.k old new front c.requires.held c.requires.within c.loop-k-test.true (sym c.index-fronts-k.is) given c.loop-k.invariant
 
 pub returns-clause-keys : goal.returns-clause-keys
 returns-clause-keys c =

@@ -2,7 +2,7 @@ use Rattle.std.proofs.Common.{arith, ◌<◌, length}
 use Rattle.std.proofs.lemmas.List.{length-map}
 use Rattle.std.proofs.lemmas.List.Sums.{sum_by_more}
 use Rattle.at_log.specs.ClosingTerms.{log_lengths}
-use Rattle.at_log.proofs.KeyLaws.{get_or-log_lengths}
+use Rattle.at_log.proofs.Laws.PublicationKeys.{get_or-log_lengths}
 use Rattle.at_journal.proofs.keys.total_of.Goals as goal
 
 pub loop-p-preserved : goal.loop-p-preserved

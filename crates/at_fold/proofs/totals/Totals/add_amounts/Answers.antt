@@ -1,6 +1,6 @@
 use Rattle.std.proofs.Common.{◌==◌, arith}
 use Rattle.at_ledger.specs.Call.{amount_of}
-use Rattle.at_fold.proofs.AmountLaws.{amount_for-le, cond-le}
+use Rattle.at_fold.proofs.Amounts.{amount_for-le, cond-le}
 use Rattle.at_fold.proofs.totals.Totals.add_amounts.Goals as goal
 
 pub returns-in-Own-clause-small : goal.returns-in-Own-clause-small

@@ -6,8 +6,8 @@ use Rattle.at_history.specs.Publications.{count_of}
 use Rattle.at_board.specs.Knowledge.Seats.{SeatTerms}
 use Rattle.at_history.proofs.Laws.Counts.{get_or-counts, length-counts}
 use Rattle.at_fold.specs.Sums.{TotalSums}
-use Rattle.at_fold.proofs.CatchLaws.{sum-caught}
-use Rattle.at_fold.proofs.GrowLaws.{StaysCounted-HasCounted}
+use Rattle.at_fold.proofs.LoadedRecords.{sum-caught}
+use Rattle.at_fold.proofs.MorePublished.{StaysCounted-HasCounted}
 use Rattle.at_fold.proofs.totals.Totals.catch_up.Goals as goal
 
 pub loop-p-preserved : goal.loop-p-preserved

@@ -1,4 +1,5 @@
 use Rattle.std.proofs.Common.{◌≡◌, ◌+◌, ◌-◌, ◌*◌, set}
+use Rattle.at_board.specs.declared.words.TheConstants.{RECORD_WORDS}
 use Rattle.at_fold.specs.HasCounted.{HasCounted}
 use Rattle.at_fold.proofs.totals.Totals.catch_up_with.Given as goal
 
@@ -7,6 +8,6 @@ invariant-loop-i g l = record {
   counted : HasCounted l.self l.board.book l.seat.knows.seen;
   upto : l.self.upto ≡ set l.initial.self.upto l.p l.i;
   same : l.seat ≡ l.initial.seat;
-  steps : l.steps ≡ l.initial.steps + 7 * (l.i - l.start);
+  steps : l.steps ≡ l.initial.steps + RECORD_WORDS * (l.i - l.start);
   exchanges : l.exchanges ≡ l.initial.exchanges;
 }

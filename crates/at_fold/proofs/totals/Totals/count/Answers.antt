@@ -3,7 +3,7 @@ use Rattle.at_ledger.specs.Book.{BookTerms}
 use Rattle.at_history.specs.declared.publication.Publication.{Publication}
 use Rattle.at_fold.specs.HasCounted.{HasCounted}
 use Rattle.at_fold.specs.Sums.{AccountSums, TotalSums}
-use Rattle.at_fold.proofs.StepLaws.{FitsMore-MayCount, FitsRound-MayCount, HasCounted-new, HasCounted-repeat, HasSums-MayCount}
+use Rattle.at_fold.proofs.NextRecord.{FitsMore-MayCount, FitsRound-MayCount, HasCounted-new, HasCounted-repeat, HasSums-MayCount}
 use Rattle.at_fold.proofs.totals.Totals.count.Goals as goal
 use Rattle.at_fold.proofs.totals.Totals.count.Goals.{then-is_new, else-is_new}
 

@@ -1,6 +1,6 @@
 use Rattle.std.proofs.Common.{◌≡◌, ℕ, ◌*◌, ◌^◌, ◌≤◌, length, take}
 use Rattle.at_history.specs.Balances.{amount_for}
-use Rattle.at_fold.proofs.AmountLaws.{AreCredited}
+use Rattle.at_fold.proofs.Amounts.{AreCredited}
 use Rattle.at_fold.proofs.totals.Totals.credit.Given as goal
 
 abbrev pub invariant-loop-i : goal.invariant-loop-i

@@ -12,4 +12,4 @@ debit-requires c =
     c.index_mut.ensures.value
     ∙ (get_or_default c.self.inside.accounts.items c.args.from c.index_mut.result.now no_sums within
     ∙ ap (λ (r : List AccountSums). sums_at r c.args.from) all_sums) in
-    omega (arith, fits, ap (λ (r : AccountSums). r.debits) account_sums, c.sum_of.ensures.small)
+    omega (arith, fits, ap (λ (r : AccountSums). r.debits) account_sums, c.sum.ensures.small)

@@ -2,7 +2,7 @@ use Rattle.std.proofs.Common.{◌≡◌, length, map, replicate, ap, ◌∙◌, 
 use Rattle.std.specs.List.{range_with_len}
 use Rattle.std.proofs.lemmas.List.FromFn.{map-range_with_len_more}
 use Rattle.at_fold.specs.Sums.{starting_sums}
-use Rattle.at_fold.proofs.StartLaws.{HasCounted-starting}
+use Rattle.at_fold.proofs.NothingCounted.{HasCounted-starting}
 use Rattle.at_fold.proofs.totals.Totals.new.Goals as goal
 
 pub loop-account-preserved : goal.loop-account-preserved

@@ -1,30 +1,29 @@
 -- What holds where a record may be counted next, and after it is.
 use Rattle.std.proofs.Common.{◌≡◌, ℕ, ◌+◌, ◌^◌, ◌<◌, ◌≤◌, ◌==◌, zero, suc, Bool, true, false, not, List, [], ◌∷◌, ◌++◌, length, get_or, take, set, refl, sym, ap, subst, ◌∙◌, arith, inl, inr, get_or-set_other, get_or-set_same, length-set}
-use Rattle.std.specs.List.{Contains, sum_by}
 use Rattle.std.proofs.lemmas.Bool.{cases_Bool, cases_eq}
 use Rattle.std.proofs.lemmas.List.{get_or_default, take_all, take_more}
 use Rattle.std.proofs.lemmas.List.Elements.{All-append, All-contains_itself, All-filter, All-get_or}
+use Rattle.std.specs.List.{Contains, sum_by}
 use Rattle.at_ledger.specs.Book.{BookTerms}
 use Rattle.at_ledger.specs.Call.{AreTargetsOn}
-use Rattle.at_history.specs.declared.publication.Entry.{Entry}
-use Rattle.at_history.specs.declared.publication.Entry.TheVariants.{Own, Round}
-use Rattle.at_history.specs.declared.publication.Publication.{Publication}
+use Rattle.at_history.proofs.Laws.Counts.{get_or-counts, length-counts}
+use Rattle.at_history.proofs.Laws.RoundSums.{repeats-firsts}
+use Rattle.at_history.proofs.Laws.Rounds.{firsts-nil, one_if, published, repeats-own, sum_by-firsts_new, sum_by-firsts_repeat}
 use Rattle.at_history.specs.Balances.{credit_of, debit_of}
 use Rattle.at_history.specs.BoardState.{publication_at}
 use Rattle.at_history.specs.Entries.{is_round_on, names}
 use Rattle.at_history.specs.Fronts.{prefix_of}
+use Rattle.at_history.specs.Histories.{IsShownDecision, IsHistory, IsShownEntry}
 use Rattle.at_history.specs.Publications.{count_of, counts, no_publication, publications_of}
 use Rattle.at_history.specs.Rounds.{firsts, repeats}
-use Rattle.at_history.specs.Histories.{IsShownDecision}
-use Rattle.at_history.specs.Histories.{IsHistory, IsShownEntry}
-use Rattle.at_history.proofs.Laws.Counts.{get_or-counts, length-counts}
-use Rattle.at_history.proofs.Laws.Rounds.{firsts-nil, one_if, published, repeats-own, sum_by-firsts_new, sum_by-firsts_repeat}
-use Rattle.at_fold.proofs.CountedLaws.{All-counted, HasSameRecords-more, length-counted-le}
-use Rattle.at_fold.proofs.NewRoundLaws.{AreSumsOf-new}
-use Rattle.at_fold.proofs.PushLaws.{AreSumsOf-repeat}
-use Rattle.at_fold.proofs.RoundSums.{repeats-firsts}
-use Rattle.at_fold.proofs.SumsLaws.{AreSumsOf-same}
-use Rattle.at_fold.specs.Counted.{counted}
+use Rattle.at_history.specs.declared.publication.Entry.{Entry}
+use Rattle.at_history.specs.declared.publication.Entry.TheVariants.{Own, Round}
+use Rattle.at_history.specs.declared.publication.Publication.{Publication}
+use Rattle.at_fold.proofs.CountedRecords.{All-counted_records, HasSameRecords-more, length-counted_records-le}
+use Rattle.at_fold.proofs.NewRound.{AreSumsOf-new}
+use Rattle.at_fold.proofs.OneMoreRecord.{AreSumsOf-repeat}
+use Rattle.at_fold.proofs.SumsOfLists.{AreSumsOf-same}
+use Rattle.at_fold.specs.Counted.{counted_records}
 use Rattle.at_fold.specs.HasCounted.{AreSumsOf, HasCounted, MayCount}
 use Rattle.at_fold.specs.Sums.{AccountSums, FitsMore, FitsRound, HasSums, TotalSums, after_entry, is_new_to, sums_at}
 
@@ -109,13 +108,13 @@ module _ (t : TotalSums) (b : BookTerms) (seen : List Publication) (p : ℕ) (e 
   shown : IsShown b seen x
   shown = IsShown-IsHistory b seen x may.history listed
 
-  few : length (counted t.upto seen) ≤ 131072
-  few = length-counted-le b t.upto seen may.counts.book may.history may.counts.processes
+  few : length (counted_records t.upto seen) ≤ 131072
+  few = length-counted_records-le b t.upto seen may.counts.book may.history may.counts.processes
 
   pub HasSums-MayCount : HasSums t.accounts e
   HasSums-MayCount =
       subst (HasSums t.accounts) (sym may.next.entry)
-      (HasSums-IsShown b seen (counted t.upto seen) (prefix_of x.view seen) x.process x.entry t.accounts may.counts.sums shown.0 shown.1)
+      (HasSums-IsShown b seen (counted_records t.upto seen) (prefix_of x.view seen) x.process x.entry t.accounts may.counts.sums shown.0 shown.1)
 
   pub FitsMore-MayCount : FitsMore t.accounts
   FitsMore-MayCount a within =
@@ -125,15 +124,15 @@ module _ (t : TotalSums) (b : BookTerms) (seen : List Publication) (p : ℕ) (e 
   pub FitsRound-MayCount : FitsRound t.accounts e
   FitsRound-MayCount =
       subst (FitsRound t.accounts) (sym may.next.entry)
-      (FitsRound-IsShown b seen (counted t.upto seen) (prefix_of x.view seen) x.process x.entry t.accounts may.counts.sums few shown.0)
+      (FitsRound-IsShown b seen (counted_records t.upto seen) (prefix_of x.view seen) x.process x.entry t.accounts may.counts.sums few shown.0)
 
-  is_new : is_new_to t.accounts e ≡ not (repeats x (firsts (counted t.upto seen)))
+  is_new : is_new_to t.accounts e ≡ not (repeats x (firsts (counted_records t.upto seen)))
   is_new =
       ap (is_new_to t.accounts) may.next.entry
-      ∙ is_new_to-IsShown b seen (counted t.upto seen) (prefix_of x.view seen) x.process x.view x.entry t.accounts may.counts.sums shown.0 shown.1
+      ∙ is_new_to-IsShown b seen (counted_records t.upto seen) (prefix_of x.view seen) x.process x.view x.entry t.accounts may.counts.sums shown.0 shown.1
 
   -- with these sums the record is counted
-  HasCounted-more : (after : List AccountSums) → AreSumsOf b (counted t.upto seen ++ x ∷ []) after
+  HasCounted-more : (after : List AccountSums) → AreSumsOf b (counted_records t.upto seen ++ x ∷ []) after
       → HasCounted (record { upto = set t.upto p (get_or t.upto p 0 + 1); accounts = after }) b seen
   HasCounted-more after so =
       let upto = set t.upto p (get_or t.upto p 0 + 1) in
@@ -156,11 +155,11 @@ module _ (t : TotalSums) (b : BookTerms) (seen : List Publication) (p : ℕ) (e 
                   )
               | inr apart ↦ omega (arith, get_or-set_other t.upto p q (get_or t.upto p 0 + 1) 0 apart, may.counts.within q below)
             ];
-        sums = AreSumsOf-same b seen may.history (counted t.upto seen ++ x ∷ []) (counted upto seen) after
+        sums = AreSumsOf-same b seen may.history (counted_records t.upto seen ++ x ∷ []) (counted_records upto seen) after
             (HasSameRecords-more t.upto seen p inside may.next.within)
-            (All-append (Contains seen) (counted t.upto seen) (x ∷ []) (All-counted t.upto seen)
+            (All-append (Contains seen) (counted_records t.upto seen) (x ∷ []) (All-counted_records t.upto seen)
             (λ k d within. subst (Contains seen) (only k d within) listed))
-            (All-counted upto seen) so;
+            (All-counted_records upto seen) so;
       }
     where
       only : (k : ℕ) (d : Publication) → k < length (x ∷ []) → x ≡ get_or (x ∷ []) k d
@@ -182,7 +181,7 @@ module _ (t : TotalSums) (b : BookTerms) (seen : List Publication) (p : ℕ) (e 
       → HasCounted (record { upto = set t.upto p (get_or t.upto p 0 + 1); accounts = after }) b seen
   HasCounted-new after new small same so =
       HasCounted-more after
-      (AreSumsOf-new b (counted t.upto seen) x t.accounts after (not_true (repeats x (firsts (counted t.upto seen))) (sym is_new ∙ new))
+      (AreSumsOf-new b (counted_records t.upto seen) x t.accounts after (not_true (repeats x (firsts (counted_records t.upto seen))) (sym is_new ∙ new))
       (subst (HasSums t.accounts) may.next.entry HasSums-MayCount)
       (λ a. subst (λ (f : Entry). (credit_of a f ≤ 2 ^ 66) × (debit_of a f ≤ 2 ^ 66)) may.next.entry (small a)) same
       (λ a within. so a within ∙ ap (λ f. after_entry a f (sums_at t.accounts a)) may.next.entry) may.counts.sums)
@@ -192,5 +191,5 @@ module _ (t : TotalSums) (b : BookTerms) (seen : List Publication) (p : ℕ) (e 
       → HasCounted (record { upto = set t.upto p (get_or t.upto p 0 + 1); accounts = t.accounts }) b seen
   HasCounted-repeat again =
       HasCounted-more t.accounts
-      (AreSumsOf-repeat b seen (counted t.upto seen) x t.accounts may.history (All-counted t.upto seen) listed
-      (not_false (repeats x (firsts (counted t.upto seen))) (sym is_new ∙ again)) may.counts.sums)
+      (AreSumsOf-repeat b seen (counted_records t.upto seen) x t.accounts may.history (All-counted_records t.upto seen) listed
+      (not_false (repeats x (firsts (counted_records t.upto seen))) (sym is_new ∙ again)) may.counts.sums)

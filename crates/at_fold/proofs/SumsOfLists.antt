@@ -1,25 +1,24 @@
 -- Sums of a list: they are those of each list with the same records, and one more record changes them so.
 use Rattle.std.proofs.Common.{◌≡◌, ℕ, ◌*◌, ◌^◌, ◌<◌, ◌&&◌, zero, suc, eqb, Bool, true, false, List, [], ◌∷◌, ◌++◌, length, get_or, refl, sym, ap, subst, ◌∙◌, arith, inl, inr}
 use Rattle.std.specs.Prelude.{Option, Some, None}
-use Rattle.std.specs.List.{All, Contains, sum_by}
 use Rattle.std.proofs.lemmas.Bool.{eqb-true}
 use Rattle.std.proofs.lemmas.List.{get_or_default}
 use Rattle.std.proofs.lemmas.List.Elements.{All-append, All-contains, All-weaker, Contains-append_cases, Contains-append_left, Contains-append_right}
+use Rattle.std.specs.List.{All, Contains, sum_by}
 use Rattle.at_base.specs.declared.decision.Decision.{Decision}
 use Rattle.at_ledger.specs.Book.{BookTerms}
-use Rattle.at_history.specs.declared.publication.Entry.{Entry}
-use Rattle.at_history.specs.declared.publication.Entry.TheVariants.{Own, Round}
-use Rattle.at_history.specs.declared.publication.Publication.{Publication}
+use Rattle.at_history.proofs.Laws.RoundSums.{sum_by-firsts-same}
+use Rattle.at_history.proofs.Laws.Rounds.{one_if}
+use Rattle.at_history.proofs.Laws.Shuffles.{HasSameRecords, IsShuffle, IsShuffle-HasSameRecords, length-IsShuffle, list_any-IsShuffle}
 use Rattle.at_history.specs.Balances.{credit_of, debit_of}
 use Rattle.at_history.specs.BoardState.{publication_at}
 use Rattle.at_history.specs.Entries.{is_round, is_round_on, is_same_round, names, settles}
+use Rattle.at_history.specs.Histories.{AgreeOnRound, IsHistory}
 use Rattle.at_history.specs.Publications.{no_publication}
 use Rattle.at_history.specs.Rounds.{firsts}
-use Rattle.at_history.specs.Histories.{AgreeOnRound}
-use Rattle.at_history.specs.Histories.{IsHistory}
-use Rattle.at_history.proofs.Laws.Rounds.{one_if}
-use Rattle.at_fold.proofs.RoundSums.{sum_by-firsts-same}
-use Rattle.at_fold.proofs.Shuffles.{HasSameRecords, IsShuffle, IsShuffle-HasSameRecords, length-IsShuffle, list_any-IsShuffle}
+use Rattle.at_history.specs.declared.publication.Entry.{Entry}
+use Rattle.at_history.specs.declared.publication.Entry.TheVariants.{Own, Round}
+use Rattle.at_history.specs.declared.publication.Publication.{Publication}
 use Rattle.at_fold.specs.Counted.{IsSettledSo}
 use Rattle.at_fold.specs.HasCounted.{AreSumsOf, IsAccountOf, IsSlotOf}
 use Rattle.at_fold.specs.Sums.{AccountSums, SlotSums, answer_at, sums_at, slot_at}

@@ -1,18 +1,18 @@
 -- The keys of a closing's publications: a held front counts those whose keys are at most its place.
 use Rattle.std.proofs.Common.{◌≡◌, ℕ, ◌<◌, ◌≤◌, zero, suc, Bool, true, false, List, [], ◌∷◌, length, get_or, sum, map, filter, min, nat_lt, cond, sym, ap, subst, ◌∙◌, arith, inl, inr}
-use Rattle.std.specs.List.{Contains, fold}
 use Rattle.std.proofs.lemmas.Bool.{cases_Bool, lt-ltb, ltb-true}
 use Rattle.std.proofs.lemmas.List.{get_or-map, get_or_default, length-map}
 use Rattle.std.proofs.lemmas.List.Elements.{All-contains, Contains-get_or}
 use Rattle.std.proofs.lemmas.List.Sums.{sum_by-cons}
+use Rattle.std.specs.List.{Contains, fold}
 use Rattle.at_base.specs.Counts.{Covers}
 use Rattle.at_ledger.specs.Book.{BookTerms}
-use Rattle.at_history.specs.Fronts.{place}
 use Rattle.at_history.proofs.Laws.Fronts.{sum-Covers-le}
+use Rattle.at_history.specs.Fronts.{place}
 use Rattle.at_log.specs.ClosingTerms.{ClosingTerms, log_lengths, log_of}
+use Rattle.at_log.specs.Coherent.{AreChained}
 use Rattle.at_log.specs.HeldFronts.{held_fronts}
 use Rattle.at_log.specs.JournalOrder.{publication_key}
-use Rattle.at_log.specs.Coherent.{AreChained}
 
 -- the least of a bound and some numbers is at most the bound
 fold-min-le : (bound : ℕ) (xs : List ℕ) → fold min bound xs ≤ bound

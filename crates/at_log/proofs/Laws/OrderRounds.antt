@@ -1,29 +1,28 @@
 -- The rounds of the journal's order: each record is of a round that is at most the next, and says what its round decided.
 use Rattle.std.proofs.Common.{◌≡◌, ℕ, ◌+◌, ◌<◌, ◌≤◌, zero, suc, List, [], length, take, sym, ap, subst, ◌∙◌, arith}
-use Rattle.std.specs.List.{count_by}
 use Rattle.std.proofs.lemmas.List.{get_or_default, length-take-le, take_all}
+use Rattle.std.specs.List.{count_by}
 use Rattle.at_base.specs.declared.decision.Decision.{Decision}
 use Rattle.at_ledger.specs.Book.{BookTerms}
 use Rattle.at_ledger.specs.Call.{TargetPair}
-use Rattle.at_history.specs.declared.publication.Entry.{Entry}
-use Rattle.at_history.specs.declared.publication.Entry.TheVariants.{Own, Round}
-use Rattle.at_history.specs.declared.publication.Publication.{Publication}
+use Rattle.at_history.proofs.Laws.Fronts.{place-IsFront-le}
+use Rattle.at_history.proofs.Laws.Prefixes.{ArePublishedBy-take, take-publication_at}
+use Rattle.at_history.proofs.Laws.Rounds.{IsInitial, IsInitial-nil, IsInitial-push, IsNextAtMost, firsts-nil, rounds-take_mono}
 use Rattle.at_history.specs.BoardState.{publication_at}
 use Rattle.at_history.specs.Entries.{is_round_on}
 use Rattle.at_history.specs.Fronts.{place, prefix_of}
 use Rattle.at_history.specs.Publications.{ArePublishedBy, count_of, no_publication}
 use Rattle.at_history.specs.Rounds.{firsts, rounds}
-use Rattle.at_history.proofs.Laws.Fronts.{place-IsFront-le}
-use Rattle.at_history.proofs.Laws.Prefixes.{ArePublishedBy-take}
-use Rattle.at_history.proofs.Laws.Rounds.{IsInitial, IsInitial-nil, IsInitial-push, IsNextAtMost, firsts-nil}
-use Rattle.at_history.proofs.Laws.Prefixes.{take-publication_at}
-use Rattle.at_history.proofs.Laws.Rounds.{rounds-take_mono}
+use Rattle.at_history.specs.declared.publication.Entry.{Entry}
+use Rattle.at_history.specs.declared.publication.Entry.TheVariants.{Own, Round}
+use Rattle.at_history.specs.declared.publication.Publication.{Publication}
+use Rattle.at_log.proofs.Laws.OrderPremises.{HasRounds, HasRounds-Coherent, HasViews}
+use Rattle.at_log.proofs.Laws.FirstRecords.{AreFirsts, AreFirsts-nil, AreFirsts-push, is_round-true}
+use Rattle.at_log.proofs.Laws.Order.{ArePublishedBy-journal_order}
+use Rattle.at_log.proofs.Laws.Views.{HasView-journal_order, count_of-journal_order, publication-journal_order}
 use Rattle.at_log.specs.ClosingTerms.{ClosingTerms}
-use Rattle.at_log.specs.Coherent.{Coherent, IsCoherentEntry}
+use Rattle.at_log.specs.Coherent.{Coherent, IsAgreed, IsCoherentEntry}
 use Rattle.at_log.specs.JournalOrder.{journal_order}
-use Rattle.at_log.proofs.FirstLaws.{AreFirsts, AreFirsts-nil, AreFirsts-push, is_round-true}
-use Rattle.at_log.proofs.OrderLaws.{ArePublishedBy-journal_order}
-use Rattle.at_log.proofs.ViewLaws.{HasView-journal_order, count_of-journal_order, publication-journal_order}
 
 -- what a closing says of the entry at a position of its order
 pub IsCoherentEntry-journal_order : (b : BookTerms) (c : ClosingTerms) (m : ℕ) → Coherent b c → m < length (journal_order c)
@@ -36,58 +35,59 @@ IsCoherentEntry-journal_order b c m coherent within =
     (coherent.entries p i (count_of-journal_order c m within))
 
 -- a view stands before its record
-pub place-view-journal_order : (b : BookTerms) (c : ClosingTerms) (m : ℕ) → Coherent b c → m < length (journal_order c)
+pub place-view-journal_order : (b : BookTerms) (c : ClosingTerms) (m : ℕ) → HasViews b c → m < length (journal_order c)
     → place (publication_at (journal_order c) m).view ≤ m
-place-view-journal_order b c m coherent within =
+place-view-journal_order b c m has within =
     let order = journal_order c in
-    let view = HasView-journal_order b c m coherent within in
-    let ours = subst (λ n. ArePublishedBy n order) coherent.logs (ArePublishedBy-journal_order c) in
+    let view = HasView-journal_order b c m has within in
+    let ours = subst (λ n. ArePublishedBy n order) has.logs (ArePublishedBy-journal_order c) in
     omega (
       arith,
       place-IsFront-le b.processes (publication_at order m).view (take m order) view.front (ArePublishedBy-take b.processes m order ours),
       length-take-le m order (omega (arith, within)),
     )
 
-next_entry : (b : BookTerms) (c : ClosingTerms) (p : ℕ) (prefix xs : List Publication) (e : Entry) → IsCoherentEntry b c p prefix e
-    → ((a : ℕ) → rounds a prefix ≤ rounds a xs) → IsNextAtMost xs e
-next_entry b c p prefix xs (Own from targets) law more = tt
-next_entry b c p prefix xs (Round a r d targets) law more = omega (arith, more a, law.0.next)
+IsNextAtMost-more : (prefix xs : List Publication) (e : Entry) → ((a : ℕ) → rounds a prefix ≤ rounds a xs) → IsNextAtMost prefix e → IsNextAtMost xs e
+IsNextAtMost-more prefix xs (Own from targets) more law = tt
+IsNextAtMost-more prefix xs (Round a r d targets) more law = omega (arith, more a, law)
 
-pub IsNextAtMost-journal_order : (b : BookTerms) (c : ClosingTerms) (m : ℕ) → Coherent b c → m < length (journal_order c)
+pub IsNextAtMost-journal_order : (b : BookTerms) (c : ClosingTerms) (m : ℕ) → HasRounds b c → m < length (journal_order c)
     → IsNextAtMost (take m (journal_order c)) (publication_at (journal_order c) m).entry
-IsNextAtMost-journal_order b c m coherent within =
+IsNextAtMost-journal_order b c m has within =
     let order = journal_order c in
     let x : Publication = publication_at order m in
-    next_entry b c x.process (prefix_of x.view order) (take m order) x.entry (IsCoherentEntry-journal_order b c m coherent within)
-    (λ a. rounds-take_mono a (place x.view) m order (place-view-journal_order b c m coherent within))
+    let own = has.next x.process (count_of x.process (take m order)) (count_of-journal_order c m within) in
+    IsNextAtMost-more (prefix_of x.view order) (take m order) x.entry
+    (λ a. rounds-take_mono a (place x.view) m order (place-view-journal_order b c m has.views within))
+    (subst (λ (y : Publication). IsNextAtMost (prefix_of y.view order) y.entry) (publication-journal_order c m within) own)
 
-pub IsInitial-journal_order : (b : BookTerms) (c : ClosingTerms) (m : ℕ) → Coherent b c → m ≤ length (journal_order c)
+pub IsInitial-journal_order : (b : BookTerms) (c : ClosingTerms) (m : ℕ) → HasRounds b c → m ≤ length (journal_order c)
     → (a : ℕ) → IsInitial a (take m (journal_order c))
-IsInitial-journal_order b c zero coherent within a = IsInitial-nil a
-IsInitial-journal_order b c (suc m) coherent within a =
+IsInitial-journal_order b c zero has within a = IsInitial-nil a
+IsInitial-journal_order b c (suc m) has within a =
     let order = journal_order c in
     let x : Publication = publication_at order m in
-    let more = IsInitial-push a (take m order) x.process x.view x.entry (IsInitial-journal_order b c m coherent (omega arith))
-    (IsNextAtMost-journal_order b c m coherent (omega arith)) in
+    let more = IsInitial-push a (take m order) x.process x.view x.entry (IsInitial-journal_order b c m has (omega arith))
+    (IsNextAtMost-journal_order b c m has (omega arith)) in
     let e : m + 1 ≡ suc m = omega arith in
     subst (IsInitial a) (sym (take-publication_at order m (omega arith)) ∙ ap (λ k. take k order) e) more
 
-pub AreFirsts-take : (b : BookTerms) (c : ClosingTerms) (m : ℕ) → Coherent b c → m ≤ length (journal_order c)
+pub AreFirsts-take : (b : BookTerms) (c : ClosingTerms) (m : ℕ) → HasRounds b c → m ≤ length (journal_order c)
     → AreFirsts (take m (journal_order c)) (firsts (take m (journal_order c)))
-AreFirsts-take b c zero coherent within = subst (AreFirsts []) (sym firsts-nil) AreFirsts-nil
-AreFirsts-take b c (suc m) coherent within =
+AreFirsts-take b c zero has within = subst (AreFirsts []) (sym firsts-nil) AreFirsts-nil
+AreFirsts-take b c (suc m) has within =
     let order = journal_order c in
     let x : Publication = publication_at order m in
-    let more = AreFirsts-push (take m order) x.process x.view x.entry (IsInitial-journal_order b c m coherent (omega arith))
-    (IsNextAtMost-journal_order b c m coherent (omega arith)) (AreFirsts-take b c m coherent (omega arith)) in
+    let more = AreFirsts-push (take m order) x.process x.view x.entry (IsInitial-journal_order b c m has (omega arith))
+    (IsNextAtMost-journal_order b c m has (omega arith)) (AreFirsts-take b c m has (omega arith)) in
     let e : m + 1 ≡ suc m = omega arith in
     subst (λ xs. AreFirsts xs (firsts xs)) (sym (take-publication_at order m (omega arith)) ∙ ap (λ k. take k order) e) more
 
 -- the first records of the rounds of the order
-pub AreFirsts-journal_order : (b : BookTerms) (c : ClosingTerms) → Coherent b c → AreFirsts (journal_order c) (firsts (journal_order c))
-AreFirsts-journal_order b c coherent =
+pub AreFirsts-journal_order : (b : BookTerms) (c : ClosingTerms) → HasRounds b c → AreFirsts (journal_order c) (firsts (journal_order c))
+AreFirsts-journal_order b c has =
     let order = journal_order c in
-    subst (λ xs. AreFirsts xs (firsts xs)) (take_all (length order) order (omega arith)) (AreFirsts-take b c (length order) coherent (omega arith))
+    subst (λ xs. AreFirsts xs (firsts xs)) (take_all (length order) order (omega arith)) (AreFirsts-take b c (length order) has (omega arith))
 
 -- what a round's entry says
 pub round_entry : (b : BookTerms) (c : ClosingTerms) (p : ℕ) (prefix : List Publication) (e : Entry) (a r : ℕ) (d : Decision) (targets : List TargetPair)
@@ -102,18 +102,16 @@ pub record IsFirst (list : List Publication) (a r : ℕ) (d : Decision) (targets
   pub before : count_by (λ x. is_round_on a x.entry) (take number (firsts list)) ≡ r
 
 -- each record of a round agrees with the first one
-pub IsFirst-journal_order : (b : BookTerms) (c : ClosingTerms) (m a r : ℕ) (d : Decision) (targets : List TargetPair) → Coherent b c
-    → m < length (journal_order c) → (publication_at (journal_order c) m).entry ≡ Round a r d targets → IsFirst (journal_order c) a r d targets
-IsFirst-journal_order b c m a r d targets coherent within is =
+pub IsFirst-journal_order : (b : BookTerms) (c : ClosingTerms) (m a r : ℕ) (d : Decision) (targets : List TargetPair) → HasRounds b c
+    → IsAgreed c a r d targets → m < length (journal_order c) → (publication_at (journal_order c) m).entry ≡ Round a r d targets → IsFirst (journal_order c) a r d targets
+IsFirst-journal_order b c m a r d targets has agreed within is =
     let order = journal_order c in
-    let so = AreFirsts-journal_order b c coherent in
+    let so = AreFirsts-journal_order b c has in
     let found = so.has m a r d targets within is in
     let j = found.0 in
     let one = is_round-true a r (publication_at (firsts order) j).entry found.2 in
     let there = so.stands j found.1 in
-    let x : Publication = publication_at order m in
-    let law = round_entry b c x.process (prefix_of x.view order) x.entry a r d targets (IsCoherentEntry-journal_order b c m coherent within) is in
-    let same = law.2 (publication_at order there.0) one.0 one.1 (there.0, there.1, get_or_default order there.0 (publication_at order there.0) no_publication there.1)
+    let same = agreed (publication_at order there.0) one.0 one.1 (there.0, there.1, get_or_default order there.0 (publication_at order there.0) no_publication there.1)
     (ap (λ (y : Publication). y.entry) there.2 ∙ one.2) in
     record {
       number = j;
@@ -129,7 +127,7 @@ pub first_law : (b : BookTerms) (c : ClosingTerms) (j a r : ℕ) (d : Decision) 
     × IsCoherentEntry b c (publication_at (journal_order c) m).process (prefix_of (publication_at (journal_order c) m).view (journal_order c)) (Round a r d targets)
 first_law b c j a r d targets coherent within is =
     let order = journal_order c in
-    let there = (AreFirsts-journal_order b c coherent).stands j within in
+    let there = (AreFirsts-journal_order b c (HasRounds-Coherent b c coherent)).stands j within in
     let x : Publication = publication_at order there.0 in
     let entry : x.entry ≡ Round a r d targets = ap (λ (y : Publication). y.entry) there.2 ∙ is in (
       there.0,

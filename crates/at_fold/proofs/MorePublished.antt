@@ -4,7 +4,7 @@ use Rattle.at_ledger.specs.Book.{BookTerms}
 use Rattle.at_history.proofs.Laws.Counts.{get_or-counts, length-counts}
 use Rattle.at_history.proofs.Laws.Prefixes.{IsPrefix-count_of}
 use Rattle.at_history.specs.declared.publication.Publication.{Publication}
-use Rattle.at_fold.proofs.CountedLaws.{counted-IsPrefix}
+use Rattle.at_fold.proofs.CountedRecords.{counted_records-IsPrefix}
 use Rattle.at_fold.specs.HasCounted.{AreSumsOf, HasCounted, StaysCounted}
 use Rattle.at_fold.specs.Sums.{TotalSums}
 
@@ -21,5 +21,5 @@ StaysCounted-HasCounted t b seen counts more longer = record {
         get_or-counts b.processes more q 0 known,
         IsPrefix-count_of q seen more longer,
       );
-  sums = subst (λ list. AreSumsOf b list t.accounts) (sym (counted-IsPrefix b.processes t.upto seen more counts.processes counts.within longer)) counts.sums;
+  sums = subst (λ list. AreSumsOf b list t.accounts) (sym (counted_records-IsPrefix b.processes t.upto seen more counts.processes counts.within longer)) counts.sums;
 }

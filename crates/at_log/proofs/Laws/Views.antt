@@ -1,22 +1,22 @@
 -- The views of records, in the journal's order: each stands before its record.
 use Rattle.std.proofs.Common.{◌≡◌, ℕ, ◌+◌, ◌<◌, ◌≤◌, zero, suc, List, [], ◌∷◌, length, get_or, map, take, refl, sym, ap, subst, ◌∙◌, arith, inl, inr}
-use Rattle.std.specs.List.{Contains, flat_map}
 use Rattle.std.proofs.lemmas.Bool.{cases_lt}
 use Rattle.std.proofs.lemmas.List.{get_or-map, get_or_default, length-map}
 use Rattle.std.proofs.lemmas.List.Elements.{Contains-append_left, Contains-append_right}
+use Rattle.std.specs.List.{Contains, flat_map}
 use Rattle.at_ledger.specs.Book.{BookTerms}
-use Rattle.at_history.specs.declared.publication.Publication.{Publication}
+use Rattle.at_history.proofs.Laws.Counts.{IsPosition, count_of-take_more_own, count_of-take-le, get_or-publications_of}
+use Rattle.at_history.proofs.Laws.Fronts.{IsFront-take, position-IsFront}
 use Rattle.at_history.specs.BoardState.{publication_at}
 use Rattle.at_history.specs.Fronts.{place}
 use Rattle.at_history.specs.Publications.{count_of, no_publication}
 use Rattle.at_history.specs.Sound.{HasView}
-use Rattle.at_history.proofs.Laws.Counts.{IsPosition, count_of-take_more_own, count_of-take-le, get_or-publications_of}
-use Rattle.at_history.proofs.Laws.Fronts.{IsFront-take, position-IsFront}
+use Rattle.at_history.specs.declared.publication.Publication.{Publication}
+use Rattle.at_log.proofs.Laws.OrderPremises.{HasViews}
+use Rattle.at_log.proofs.Laws.Order.{ArePublishedBy-journal_order, IsFront-held, no_record, publications_of-journal_order}
 use Rattle.at_log.specs.ClosingTerms.{ClosingTerms, log_of, log_published, published_by}
-use Rattle.at_log.specs.Coherent.{Coherent}
 use Rattle.at_log.specs.HeldFronts.{held_fronts}
 use Rattle.at_log.specs.JournalOrder.{journal_order}
-use Rattle.at_log.proofs.OrderLaws.{ArePublishedBy-journal_order, IsFront-held, no_record, publications_of-journal_order}
 
 -- an element of one of some lists is in all of them together
 Contains-flat_map : {X Y : Type 0} (g : X → List Y) (ks : List X) (i : ℕ) (d : X) (y : Y) → i < length ks → Contains (g (get_or ks i d)) y
@@ -70,21 +70,21 @@ count_of-journal_order c m within =
     )
 
 -- each publication stands behind its view
-pub HasView-journal_order : (b : BookTerms) (c : ClosingTerms) (m : ℕ) → Coherent b c → m < length (journal_order c)
+pub HasView-journal_order : (b : BookTerms) (c : ClosingTerms) (m : ℕ) → HasViews b c → m < length (journal_order c)
     → HasView b (take m (journal_order c)) (publication_at (journal_order c) m)
-HasView-journal_order b c m coherent within =
+HasView-journal_order b c m has within =
     let order = journal_order c in
     let x : Publication = publication_at order m in
     let p = x.process in
     let i = count_of p (take m order) in
     let known : p < length c.logs = ArePublishedBy-journal_order c m no_publication within in
-    let process : p < b.processes = omega (arith, known, coherent.logs) in
+    let process : p < b.processes = omega (arith, known, has.logs) in
     let is = publication-journal_order c m within in
     let counted = count_of-journal_order c m within in
     let held : Contains (held_fronts c) x.view =
     subst (λ (y : Publication). Contains (held_fronts c) y.view) is (Contains-view c p i known counted) in
-    let own : get_or x.view p 0 ≡ i = ap (λ (y : Publication). get_or y.view p 0) (sym is) ∙ coherent.views p i counted in
-    let front = IsFront-held b c x.view coherent.fronts coherent.logs held in
+    let own : get_or x.view p 0 ≡ i = ap (λ (y : Publication). get_or y.view p 0) (sym is) ∙ has.views p i counted in
+    let front = IsFront-held b c x.view has.fronts has.logs held in
     let position : IsPosition p i order m = record {
       within = within;
       own = λ d. ap (λ (y : Publication). y.process) (get_or_default order m d no_publication within);

@@ -4,6 +4,7 @@ ghost use Rattle.std.specs.Prelude.{◌≡◌, ◌+◌, ◌-◌, ◌*◌, ◌<�
 ghost use Rattle.at_base.specs.Counts.{Covers};
 ghost use Rattle.at_history.specs.Publications.{count_of};
 ghost use Rattle.at_board.specs.Knowledge.Seats.{IsOf};
+ghost use Rattle.at_board.specs.declared.words.TheConstants.{RECORD_WORDS};
 ghost use Rattle.at_fold.specs.HasCounted.{HasCounted, HasRecords, StaysCounted};
 
 use crate::totals::Totals;
@@ -13,7 +14,8 @@ use at_log::load_entry;
 use std::sync::ledger::Ledger;
 
 impl Totals {
-    /// Counts all records that `counts` counts, which the seat has seen. Loads those alone that weren't counted before, in seven steps each.
+    /// Counts all records that `counts` counts, which the seat has seen. Loads the entries of those alone that weren't counted
+    /// before, in a step for each word.
     pub fn catch_up<L: Ledger, X: Ledger>(
         &mut self,
         board: &Board,
@@ -30,7 +32,7 @@ impl Totals {
         ensures stays { StaysCounted self.new board.now.book seat.new.knows.seen }
         ensures upto { self.new.upto ≡ counts.now }
         ensures same { seat.new ≡ seat.old }
-        ensures steps { steps.new ≡ steps.old + 7 * (sum counts.now - sum self.old.upto) }
+        ensures steps { steps.new ≡ steps.old + RECORD_WORDS * (sum counts.now - sum self.old.upto) }
         ensures exchanges { exchanges.new ≡ exchanges.old }
     {
         for p in 0..counts.len() {
@@ -56,7 +58,7 @@ impl Totals {
         ensures counted { HasCounted self.new board.now.book seat.new.knows.seen }
         ensures upto { self.new.upto ≡ slice_set self.old.upto p end }
         ensures same { seat.new ≡ seat.old }
-        ensures steps { steps.new ≡ steps.old + 7 * (end - slice_index self.old.upto p) }
+        ensures steps { steps.new ≡ steps.old + RECORD_WORDS * (end - slice_index self.old.upto p) }
         ensures exchanges { exchanges.new ≡ exchanges.old }
     {
         seat.known();

@@ -6,15 +6,15 @@ use Rattle.at_ledger.specs.Book.{BookTerms, IsBegun}
 use Rattle.at_history.proofs.Laws.Counts.{count_of-take-le, get_or-publications_of, position_of}
 use Rattle.at_history.proofs.Laws.Fronts.{get_or-IsFront, length-IsFront}
 use Rattle.at_history.proofs.Laws.Rooms.{log_room_of-le}
-use Rattle.at_history.specs.declared.publication.Publication.{Publication}
-use Rattle.at_board.specs.declared.knowledge.Knowledge.{Knowledge}
 use Rattle.at_history.specs.BoardState.{publication_at}
 use Rattle.at_history.specs.Fronts.{place}
-use Rattle.at_history.specs.Publications.{count_of, no_publication, publications_of}
-use Rattle.at_board.specs.Knowledge.Records.{IsRecordWord, SeesRecord}
-use Rattle.at_history.specs.Sound.{HasView}
 use Rattle.at_history.specs.Histories.{IsHistory}
+use Rattle.at_history.specs.Publications.{count_of, no_publication, publications_of}
+use Rattle.at_history.specs.Sound.{HasView}
+use Rattle.at_history.specs.declared.publication.Publication.{Publication}
+use Rattle.at_board.specs.Knowledge.Records.{IsRecordWord, SeesRecord}
 use Rattle.at_board.specs.Words.Packed.{entry_words, record_words}
+use Rattle.at_board.specs.declared.knowledge.Knowledge.{Knowledge}
 use Rattle.at_board.specs.declared.words.TheConstants.{RECORD_WORDS}
 use Rattle.at_log.specs.Loading.{IsViewOf}
 

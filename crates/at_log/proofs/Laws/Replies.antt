@@ -10,6 +10,7 @@ use Rattle.at_ledger.specs.declared.call.Call.{Call}
 use Rattle.at_ledger.specs.declared.call.Call.TheVariants.{Transfer, Read, Pay}
 use Rattle.at_ledger.specs.declared.call.Reply.TheVariants.{Done, Full, NotOwner, Short}
 use Rattle.at_log.specs.Receipts.{is_payout_from, payout_of}
+use Rattle.at_log.specs.Told.{first_account}
 
 -- a pay-out has one source and one list of targets
 pub same_payout : (x y : ℕ × List TargetPair) → Some x ≡ Some y → x ≡ y
@@ -76,3 +77,9 @@ module _ (s : LedgerState) (process source : ℕ) (targets : List TargetPair) wh
   after_short-shared shared =
       let one : LedgerState = with_asked s process source in
       ap (λ t. cond t one s) shared
+
+-- the source of a pay-out is the account that it names first
+pub first_account-payout : (source : ℕ) (targets : List TargetPair) (call : Call) → payout_of call ≡ Some (source, targets) → first_account call ≡ source
+first_account-payout source targets (Transfer from to amount) is = ap (λ (x : ℕ × List TargetPair). x.0) (same_payout (from, (to, amount) ∷ []) (source, targets) is)
+first_account-payout source targets (Read account) is = absurd (cc is)
+first_account-payout source targets (Pay from amounts) is = ap (λ (x : ℕ × List TargetPair). x.0) (same_payout (from, amounts) (source, targets) is)

@@ -5,20 +5,17 @@ use Rattle.std.proofs.lemmas.List.{get_or-set_other, get_or-set_same, length-set
 use Rattle.at_ledger.specs.Book.{BookTerms, log_room_of}
 use Rattle.at_history.proofs.Laws.Fronts.{length-IsFront}
 use Rattle.at_history.specs.declared.publication.Publication.{Publication}
-use Rattle.at_board.specs.declared.knowledge.Part.{Part}
-use Rattle.at_board.specs.declared.knowledge.Knowledge.{Knowledge}
-use Rattle.at_board.specs.Steps.Publish.{FitsNext, MayPublish}
-use Rattle.at_board.specs.Steps.StoreRecordWord.{MayStoreWord}
-use Rattle.at_board.specs.Words.Addresses.{record_width}
+use Rattle.at_board.specs.Knowledge.Parts.{no_part, with_part, own_part}
 use Rattle.at_board.specs.Knowledge.Seats.{IsSeat}
-use Rattle.at_board.specs.Knowledge.Parts.{no_part, with_part}
-use Rattle.at_board.specs.Steps.Publish.{Publishes, with_record}
-use Rattle.at_board.specs.Steps.StoreRecordWord.{StoresWord, with_word}
-use Rattle.at_board.specs.Knowledge.Parts.{own_part}
+use Rattle.at_board.specs.Steps.Publish.{FitsNext, MayPublish, Publishes, with_record}
+use Rattle.at_board.specs.Steps.StoreRecordWord.{MayStoreWord, StoresWord, with_word}
+use Rattle.at_board.specs.Words.Addresses.{record_width}
 use Rattle.at_board.specs.Words.Packed.{IsForm, record_words}
-use Rattle.at_log.specs.declared.record.Record.{Record}
+use Rattle.at_board.specs.declared.knowledge.Knowledge.{Knowledge}
+use Rattle.at_board.specs.declared.knowledge.Part.{Part}
 use Rattle.at_log.specs.Appending.{MayAppend}
 use Rattle.at_log.specs.ClosingTerms.{published_by}
+use Rattle.at_log.specs.declared.record.Record.{Record}
 
 -- the part with these words in place of those stored
 abbrev pub with_stored : Part → List ℕ → Part

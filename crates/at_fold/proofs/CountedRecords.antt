@@ -1,23 +1,23 @@
 -- The records that are counted: which of each process, and how they change.
 use Rattle.std.proofs.Common.{◌≡◌, ℕ, ◌+◌, ◌<◌, ◌≤◌, ◌==◌, zero, suc, true, List, [], ◌∷◌, ◌++◌, length, get_or, take, set, refl, sym, ap, subst, ◌∙◌, arith, inl, inr, ◌⊎◌, get_or-set_other, get_or-set_same, length-set}
-use Rattle.std.specs.List.{All, Contains, flat_map, range_with_len, sum_by}
 use Rattle.std.proofs.lemmas.Bool.{cases_eq, cases_lt, eqb-true}
 use Rattle.std.proofs.lemmas.List.{append-nil, length-take, take-append-le, take_more}
 use Rattle.std.proofs.lemmas.List.Concat.{length-flat_map}
 use Rattle.std.proofs.lemmas.List.Elements.{All-append, All-contains_itself, All-filter, All-get_or, All-head, All-tail, All-take, All-weaker, filter_passes}
 use Rattle.std.proofs.lemmas.List.Sums.{sum_by-cons}
+use Rattle.std.specs.List.{All, Contains, flat_map, range_with_len, sum_by}
 use Rattle.at_base.specs.Counts.{Covers}
 use Rattle.at_ledger.specs.Book.{BookTerms, IsBook, log_room_of}
-use Rattle.at_history.specs.declared.publication.Publication.{Publication}
-use Rattle.at_history.specs.BoardState.{publication_at}
-use Rattle.at_history.specs.Fronts.{IsFront, prefix_of, place}
-use Rattle.at_history.specs.Publications.{ArePublishedBy, IsPrefix, count_of, counts, no_publication, publications_of}
-use Rattle.at_history.specs.Histories.{IsHistory}
 use Rattle.at_history.proofs.Laws.Counts.{get_or-counts, length-counts, publications_of-append, publications_of-nil, publications_of-other, publications_of-own, publications_of-take}
 use Rattle.at_history.proofs.Laws.Fronts.{get_or-IsFront, length-IsFront}
 use Rattle.at_history.proofs.Laws.Rooms.{sum-log_room_of}
-use Rattle.at_fold.proofs.Shuffles.{HasSameRecords}
-use Rattle.at_fold.specs.Counted.{counted}
+use Rattle.at_history.proofs.Laws.Shuffles.{HasSameRecords}
+use Rattle.at_history.specs.BoardState.{publication_at}
+use Rattle.at_history.specs.Fronts.{IsFront, prefix_of, place}
+use Rattle.at_history.specs.Histories.{IsHistory}
+use Rattle.at_history.specs.Publications.{ArePublishedBy, IsPrefix, count_of, counts, no_publication, publications_of}
+use Rattle.at_history.specs.declared.publication.Publication.{Publication}
+use Rattle.at_fold.specs.Counted.{counted_records}
 
 -- each of them is the process's
 pub publications_of-process : (p : ℕ) (xs : List Publication) → All (λ x. x.process ≡ p) (publications_of p xs)
@@ -76,67 +76,67 @@ parts-inside upto list p a (suc n) above below =
     ]
 
 -- the counted records of a process are its first ones
-pub publications_of-counted : (p : ℕ) (upto : List ℕ) (list : List Publication) → p < length upto
-    → publications_of p (counted upto list) ≡ take (get_or upto p 0) (publications_of p list)
-unfolding counted
-publications_of-counted p upto list within = parts-inside upto list p 0 (length upto) (omega arith) (omega arith)
+pub publications_of-counted_records : (p : ℕ) (upto : List ℕ) (list : List Publication) → p < length upto
+    → publications_of p (counted_records upto list) ≡ take (get_or upto p 0) (publications_of p list)
+unfolding counted_records
+publications_of-counted_records p upto list within = parts-inside upto list p 0 (length upto) (omega arith) (omega arith)
 
-pub publications_of-counted_past : (p : ℕ) (upto : List ℕ) (list : List Publication) → length upto ≤ p
-    → publications_of p (counted upto list) ≡ []
-unfolding counted
-publications_of-counted_past p upto list past = parts-outside upto list p 0 (length upto) (inr (omega arith))
+pub publications_of-counted_records_past : (p : ℕ) (upto : List ℕ) (list : List Publication) → length upto ≤ p
+    → publications_of p (counted_records upto list) ≡ []
+unfolding counted_records
+publications_of-counted_records_past p upto list past = parts-outside upto list p 0 (length upto) (inr (omega arith))
 
 -- lists with the counted records of each process have the same records
-pub HasSameRecords-counted : (upto : List ℕ) (list xs : List Publication)
+pub HasSameRecords-counted_records : (upto : List ℕ) (list xs : List Publication)
     → ((p : ℕ) → p < length upto → publications_of p xs ≡ take (get_or upto p 0) (publications_of p list))
     → ((p : ℕ) → length upto ≤ p → publications_of p xs ≡ [])
-    → HasSameRecords xs (counted upto list)
-HasSameRecords-counted upto list xs known past p =
-    elim (cases_lt p (length upto)) as (λ _. publications_of p xs ≡ publications_of p (counted upto list)) [
-      | inl below ↦ known p below ∙ sym (publications_of-counted p upto list below)
-      | inr above ↦ past p above ∙ sym (publications_of-counted_past p upto list above)
+    → HasSameRecords xs (counted_records upto list)
+HasSameRecords-counted_records upto list xs known past p =
+    elim (cases_lt p (length upto)) as (λ _. publications_of p xs ≡ publications_of p (counted_records upto list)) [
+      | inl below ↦ known p below ∙ sym (publications_of-counted_records p upto list below)
+      | inr above ↦ past p above ∙ sym (publications_of-counted_records_past p upto list above)
     ]
 
 -- one more record of a process
 pub HasSameRecords-more : (upto : List ℕ) (list : List Publication) (p : ℕ) → p < length upto → get_or upto p 0 < count_of p list
-    → HasSameRecords (counted upto list ++ publication_at (publications_of p list) (get_or upto p 0) ∷ [])
-    (counted (set upto p (get_or upto p 0 + 1)) list)
+    → HasSameRecords (counted_records upto list ++ publication_at (publications_of p list) (get_or upto p 0) ∷ [])
+    (counted_records (set upto p (get_or upto p 0 + 1)) list)
 HasSameRecords-more upto list p inside within =
     let u : ℕ = get_or upto p 0 in
     let x : Publication = publication_at (publications_of p list) u in
     let own : x.process ≡ p = All-get_or (λ (y : Publication). y.process ≡ p) (publications_of p list) u no_publication within (publications_of-process p list) in
     let sized : length (set upto p (u + 1)) ≡ length upto = length-set upto p (u + 1) in
-    let split = λ (q : ℕ). publications_of-append q (counted upto list) (x ∷ []) in
+    let split = λ (q : ℕ). publications_of-append q (counted_records upto list) (x ∷ []) in
     let other = λ (q : ℕ) (apart : q ≡ p → ⊥). publications_of-other q x [] (λ e. apart (sym e ∙ own)) ∙ publications_of-nil q in
-    HasSameRecords-counted (set upto p (u + 1)) list (counted upto list ++ x ∷ [])
-    (λ q known. elim (cases_eq q p) as (λ _. publications_of q (counted upto list ++ x ∷ []) ≡ take (get_or (set upto p (u + 1)) q 0) (publications_of q list)) [
+    HasSameRecords-counted_records (set upto p (u + 1)) list (counted_records upto list ++ x ∷ [])
+    (λ q known. elim (cases_eq q p) as (λ _. publications_of q (counted_records upto list ++ x ∷ []) ≡ take (get_or (set upto p (u + 1)) q 0) (publications_of q list)) [
       | inl same ↦
-          subst (λ k. publications_of k (counted upto list ++ x ∷ []) ≡ take (get_or (set upto p (u + 1)) k 0) (publications_of k list)) (sym same)
+          subst (λ k. publications_of k (counted_records upto list ++ x ∷ []) ≡ take (get_or (set upto p (u + 1)) k 0) (publications_of k list)) (sym same)
           (split p
-          ∙ (ap (λ t. t ++ publications_of p (x ∷ [])) (publications_of-counted p upto list inside)
+          ∙ (ap (λ t. t ++ publications_of p (x ∷ [])) (publications_of-counted_records p upto list inside)
           ∙ (ap (λ t. take u (publications_of p list) ++ t)
           (subst (λ k. publications_of k (x ∷ []) ≡ x ∷ publications_of k []) own (publications_of-own x []) ∙ ap (λ t. x ∷ t) (publications_of-nil p))
           ∙ (sym (take_more (publications_of p list) u no_publication within)
           ∙ ap (λ k. take k (publications_of p list)) (sym (get_or-set_same upto p (u + 1) 0 inside))))))
       | inr apart ↦
           split q
-          ∙ (ap (λ t. publications_of q (counted upto list) ++ t) (other q apart)
-          ∙ (append-nil (publications_of q (counted upto list))
-          ∙ (publications_of-counted q upto list (omega (arith, known, sized))
+          ∙ (ap (λ t. publications_of q (counted_records upto list) ++ t) (other q apart)
+          ∙ (append-nil (publications_of q (counted_records upto list))
+          ∙ (publications_of-counted_records q upto list (omega (arith, known, sized))
           ∙ ap (λ k. take k (publications_of q list)) (sym (get_or-set_other upto p q (u + 1) 0 apart)))))
     ])
     (λ q past.
     let apart : q ≡ p → ⊥ = λ e. omega (arith, e, past, sized, inside) in
     split q
-    ∙ (ap (λ t. publications_of q (counted upto list) ++ t) (other q apart)
-    ∙ (append-nil (publications_of q (counted upto list)) ∙ publications_of-counted_past q upto list (omega (arith, past, sized)))))
+    ∙ (ap (λ t. publications_of q (counted_records upto list) ++ t) (other q apart)
+    ∙ (append-nil (publications_of q (counted_records upto list)) ∙ publications_of-counted_records_past q upto list (omega (arith, past, sized)))))
 
 -- a front's prefix has the records that the front counts
 pub HasSameRecords-prefix_of : (n : ℕ) (view : List ℕ) (list : List Publication) → IsFront n view list → ArePublishedBy n list
-    → HasSameRecords (prefix_of view list) (counted view list)
+    → HasSameRecords (prefix_of view list) (counted_records view list)
 HasSameRecords-prefix_of n view list front known =
     let sized = length-IsFront n view list front in
-    HasSameRecords-counted view list (prefix_of view list)
+    HasSameRecords-counted_records view list (prefix_of view list)
     (λ p within.
     publications_of-take p (place view) list
     ∙ ap (λ i. take i (publications_of p list)) (sym (get_or-IsFront n view list p front (omega (arith, within, sized)))))
@@ -149,10 +149,10 @@ HasSameRecords-prefix_of n view list front known =
         publications_of-other p x xs (λ e. omega (arith, e, here, past)) ∙ nothing p xs (All-tail (λ (y : Publication). y.process < n) x xs all) past
 
 -- a longer list has the same records there
-pub counted-IsPrefix : (n : ℕ) (upto : List ℕ) (list more : List Publication) → length upto ≡ n → Covers (counts n list) upto → IsPrefix list more
-    → counted upto more ≡ counted upto list
-unfolding counted
-counted-IsPrefix n upto list more sized covered (rest, longer) = parts_same 0 (length upto) (omega (arith, sized))
+pub counted_records-IsPrefix : (n : ℕ) (upto : List ℕ) (list more : List Publication) → length upto ≡ n → Covers (counts n list) upto → IsPrefix list more
+    → counted_records upto more ≡ counted_records upto list
+unfolding counted_records
+counted_records-IsPrefix n upto list more sized covered (rest, longer) = parts_same 0 (length upto) (omega (arith, sized))
   where
     parts_same : (a k : ℕ) → a + k ≤ n → flat_map (part upto more) (range_with_len a k) ≡ flat_map (part upto list) (range_with_len a k)
     parts_same a zero within = refl
@@ -165,9 +165,9 @@ counted-IsPrefix n upto list more sized covered (rest, longer) = parts_same 0 (l
         ∙ ap (λ t. part upto list a ++ t) (parts_same (a + 1) k (omega (arith, within)))
 
 -- the counted records are in the list
-pub All-counted : (upto : List ℕ) (list : List Publication) → All (Contains list) (counted upto list)
-unfolding counted publications_of
-All-counted upto list = all_parts 0 (length upto)
+pub All-counted_records : (upto : List ℕ) (list : List Publication) → All (Contains list) (counted_records upto list)
+unfolding counted_records publications_of
+All-counted_records upto list = all_parts 0 (length upto)
   where
     all_parts : (a k : ℕ) → All (Contains list) (flat_map (part upto list) (range_with_len a k))
     all_parts a zero = λ i d within. absurd (omega (arith, within))
@@ -178,10 +178,10 @@ All-counted upto list = all_parts 0 (length upto)
         (all_parts (a + 1) k)
 
 -- there are no more of them than all logs have room for
-pub length-counted-le : (b : BookTerms) (upto : List ℕ) (list : List Publication) → IsBook b → IsHistory b list → length upto ≡ b.processes
-    → length (counted upto list) ≤ 131072
-unfolding counted
-length-counted-le b upto list book history sized =
+pub length-counted_records-le : (b : BookTerms) (upto : List ℕ) (list : List Publication) → IsBook b → IsHistory b list → length upto ≡ b.processes
+    → length (counted_records upto list) ≤ 131072
+unfolding counted_records
+length-counted_records-le b upto list book history sized =
     let fewer = terms_le 0 (length upto) (omega (arith, sized)) in
     omega (
       arith,

@@ -1,29 +1,29 @@
--- The journal's order as the publications of a board: each of its prefixes is a run of the ledger.
+-- The journal's order as the state of a board: what it says of each round, and in which order a slot's requests were decided.
 use Rattle.std.proofs.Common.{◌≡◌, ℕ, ◌+◌, ◌<◌, ◌≤◌, ◌==◌, ◌&&◌, Bool, true, false, cond, List, [], length, get_or, take, refl, sym, ap, ◌∙◌, arith, inl, inr}
 use Rattle.std.specs.Prelude.{Option, Some, None, nat_lt}
-use Rattle.std.specs.List.{count_by, filter_map}
-use Rattle.std.specs.Option.{is_some}
 use Rattle.std.proofs.lemmas.Bool.{cases_Bool, cases_eq, eq-eqb, eqb-true, le-ltb, lt-ltb, ne_eqb}
 use Rattle.std.proofs.lemmas.List.{get_or_default, take-take}
 use Rattle.std.proofs.lemmas.List.Sums.{count_by_more_yes, sum_by-take-le}
+use Rattle.std.specs.List.{count_by, filter_map}
+use Rattle.std.specs.Option.{is_some}
 use Rattle.at_base.specs.declared.decision.Decision.{Decision}
 use Rattle.at_ledger.specs.Book.{BookTerms}
 use Rattle.at_ledger.specs.Call.{TargetPair}
+use Rattle.at_history.proofs.Laws.Rounds.{one_if}
+use Rattle.at_history.specs.BoardState.{BoardState, decision_at, publication_at, request_at}
+use Rattle.at_history.specs.Entries.{is_round_on, names}
+use Rattle.at_history.specs.Publications.{no_publication}
+use Rattle.at_history.specs.Rounds.{firsts}
 use Rattle.at_history.specs.declared.publication.Entry.{Entry}
 use Rattle.at_history.specs.declared.publication.Entry.TheVariants.{Own, Round}
 use Rattle.at_history.specs.declared.publication.Publication.{Publication}
 use Rattle.at_history.specs.declared.request.Request.{Request}
-use Rattle.at_history.specs.BoardState.{BoardState, decision_at, publication_at, request_at}
-use Rattle.at_history.specs.Entries.{is_round_on}
-use Rattle.at_history.specs.Publications.{no_publication}
-use Rattle.at_history.specs.Rounds.{firsts}
-use Rattle.at_history.proofs.Laws.Rounds.{one_if}
-use Rattle.at_history.specs.Entries.{names}
+use Rattle.at_log.proofs.Laws.OrderPremises.{HasRounds}
+use Rattle.at_log.proofs.Laws.OrderRounds.{AreFirsts-journal_order, IsFirst}
+use Rattle.at_log.proofs.Laws.Picks.{count_by-before, count_by-filter_map, filter_map-at, picks, take-filter_map}
 use Rattle.at_log.specs.ClosingTerms.{ClosingTerms}
-use Rattle.at_log.specs.Coherent.{Coherent, IsNumbered, is_earlier_for}
+use Rattle.at_log.specs.Coherent.{IsNumbered, is_earlier_for}
 use Rattle.at_log.specs.JournalOrder.{journal_order}
-use Rattle.at_log.proofs.OrderRounds.{AreFirsts-journal_order, IsFirst}
-use Rattle.at_log.proofs.PickLaws.{count_by-before, count_by-filter_map, filter_map-at, picks, take-filter_map}
 
 -- the decision of a round of an account
 abbrev pub decision_in : ℕ → Entry → Option Decision
@@ -129,15 +129,15 @@ count_by-take_mono test m k xs few =
     omega (arith, ap (count_by test) (take-take m k xs few), sum_by-take-le (λ x. one_if (test x)) (take k xs) m)
 
 -- the requests of a slot that were decided before a round are those that the first records before it name
-pub named_before : (b : BookTerms) (c : ClosingTerms) (a r slot : ℕ) (d : Decision) (targets : List TargetPair) → Coherent b c
+pub named_before : (b : BookTerms) (c : ClosingTerms) (a r slot : ℕ) (d : Decision) (targets : List TargetPair) → HasRounds b c
     → (first : IsFirst (journal_order c) a r d targets)
     → count_by (λ x. is_earlier_for a r slot x.entry) (firsts (journal_order c))
     ≡ count_by (λ x. names a slot x.entry) (take first.number (firsts (journal_order c)))
-named_before b c a r slot d targets coherent first =
+named_before b c a r slot d targets has first =
     let ys = firsts (journal_order c) in
     let j = first.number in
     let on : Publication → Bool = λ x. is_round_on a x.entry in
-    let so = AreFirsts-journal_order b c coherent in
+    let so = AreFirsts-journal_order b c has in
     count_by-before (λ x. is_earlier_for a r slot x.entry) (λ x. names a slot x.entry) ys j
     (λ i e within below.
     earlier-yes a r slot (get_or ys i e).entry (λ k dk ts is.
@@ -158,16 +158,16 @@ pub record IsInState (c : ClosingTerms) (a r : ℕ) (d : Decision) (targets : Li
   pub request : request_at ((order_state c).rows a d.slot) d.number ≡ record { targets = targets; since = d.place }
   pub numbered : count_by (λ e. e.slot == d.slot) (take r ((order_state c).cells a)) ≡ d.number
 
-pub IsInState-first : (b : BookTerms) (c : ClosingTerms) (a r : ℕ) (d : Decision) (targets : List TargetPair) → Coherent b c
+pub IsInState-first : (b : BookTerms) (c : ClosingTerms) (a r : ℕ) (d : Decision) (targets : List TargetPair) → HasRounds b c
     → IsNumbered b c a r d → IsFirst (journal_order c) a r d targets → IsInState c a r d targets
-IsInState-first b c a r d targets coherent numbered first =
+IsInState-first b c a r d targets has numbered first =
     let ys = firsts (journal_order c) in
     let j = first.number in
     let pick : Publication → Option Decision = λ x. decision_in a x.entry in
     let ask : Publication → Option Request = λ x. request_in a d.slot x.entry in
     let q : Request = record { targets = targets; since = d.place } in
     let named : count_by (λ x. names a d.slot x.entry) (take j ys) ≡ d.number =
-    sym (named_before b c a r d.slot d targets coherent first) ∙ numbered.next in
+    sym (named_before b c a r d.slot d targets has first) ∙ numbered.next in
     let at_round : count_by (picks pick) (take j ys) ≡ r = count_by-decisions a (take j ys) ∙ first.before in
     let at_number : count_by (picks ask) (take j ys) ≡ d.number = count_by-requests a d.slot (take j ys) ∙ named in
     let picked : pick (publication_at ys j) ≡ Some d =

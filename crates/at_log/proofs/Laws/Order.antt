@@ -1,28 +1,28 @@
 -- The journal's order of publications: each log in its order, and each held front a front of it.
 use Rattle.std.proofs.Common.{◌≡◌, ℕ, ◌+◌, ◌-◌, ◌<◌, ◌≤◌, ◌==◌, zero, suc, Bool, true, false, List, [], ◌∷◌, ◌++◌, length, get_or, map, filter, nat_lt, sum, take, cond, refl, sym, ap, subst, append-nil, append_assoc, ◌∙◌, arith, inl, inr}
-use Rattle.std.specs.List.{All, Contains, flat_map, range_with_len}
-use Rattle.std.specs.List.Sorted.{IsNonDecreasingBy}
 use Rattle.std.proofs.lemmas.Bool.{cases_eq, lt-ltb, le-ltb}
 use Rattle.std.proofs.lemmas.Grind.{flat_map-append}
 use Rattle.std.proofs.lemmas.List.{ext_get_or, get_or-map, get_or-take, length-map, take_all, length-take-le, map-append}
 use Rattle.std.proofs.lemmas.List.Elements.{All-append, All-contains, All-filter}
 use Rattle.std.proofs.lemmas.List.FromFn.{get_or-range_with_len, length-range_with_len, length-map-range_with_len, get_or-map-range_with_len}
+use Rattle.std.specs.List.{All, Contains, flat_map, range_with_len}
+use Rattle.std.specs.List.Sorted.{IsNonDecreasingBy}
 use Rattle.at_ledger.specs.Book.{BookTerms}
-use Rattle.at_history.specs.declared.publication.Entry.{Entry}
-use Rattle.at_history.specs.declared.publication.Publication.{Publication}
+use Rattle.at_history.proofs.Laws.Counts.{get_or-counts, length-counts, publications_of-append, publications_of-nil, publications_of-other, publications_of-own, sum-counts}
+use Rattle.at_history.proofs.Laws.Fronts.{sum-Covers-le}
+use Rattle.at_history.proofs.Laws.Prefixes.{take-IsPrefix}
 use Rattle.at_history.specs.BoardState.{publication_at}
 use Rattle.at_history.specs.Fronts.{IsFront, place, prefix_of}
 use Rattle.at_history.specs.Publications.{ArePublishedBy, IsPrefix, count_of, counts, no_publication, publications_of}
-use Rattle.at_history.proofs.Laws.Counts.{get_or-counts, length-counts, publications_of-append, publications_of-nil, publications_of-other, publications_of-own, sum-counts}
+use Rattle.at_history.specs.declared.publication.Entry.{Entry}
+use Rattle.at_history.specs.declared.publication.Publication.{Publication}
+use Rattle.at_log.proofs.Laws.Buckets.{filter-none, flat_map-buckets, range_with_len-more}
+use Rattle.at_log.proofs.Laws.PublicationKeys.{get_or-log_lengths, publication_key-above, publication_key-le, publication_key-le_all, publication_key-mono}
 use Rattle.at_log.specs.ClosingTerms.{ClosingTerms, log_lengths, log_of, log_published, published_by}
-use Rattle.at_log.specs.declared.record.Record.{Record}
 use Rattle.at_log.specs.Coherent.{AreChained}
 use Rattle.at_log.specs.HeldFronts.{held_fronts}
 use Rattle.at_log.specs.JournalOrder.{journal_order, numbers_at, publication_key, published_at}
-use Rattle.at_log.proofs.BucketLaws.{filter-none, flat_map-buckets, range_with_len-more}
-use Rattle.at_history.proofs.Laws.Fronts.{sum-Covers-le}
-use Rattle.at_history.proofs.Laws.Prefixes.{take-IsPrefix}
-use Rattle.at_log.proofs.KeyLaws.{get_or-log_lengths, publication_key-above, publication_key-le, publication_key-le_all, publication_key-mono}
+use Rattle.at_log.specs.declared.record.Record.{Record}
 
 -- a record that no log has
 pub no_record : Record

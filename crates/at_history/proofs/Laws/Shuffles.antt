@@ -1,13 +1,14 @@
 -- Lists with the same records of each process: what doesn't depend on the order between processes.
 use Rattle.std.proofs.Common.{◌≡◌, ℕ, ◌+◌, ◌||◌, Bool, true, false, List, [], ◌∷◌, ◌++◌, length, get_or, take, drop, refl, sym, ap, subst, ◌∙◌, arith, inl, inr}
-use Rattle.std.specs.List.{All, list_any}
 use Rattle.std.proofs.lemmas.Bool.{cases_eq}
 use Rattle.std.proofs.lemmas.List.{drop_more, length-append, take-append-drop, take_at}
 use Rattle.std.proofs.lemmas.List.Elements.{All-append, All-head, All-tail, All-take}
 use Rattle.std.proofs.lemmas.List.Folds.{list_any-append}
-use Rattle.at_history.specs.declared.publication.Publication.{Publication}
-use Rattle.at_history.specs.Publications.{no_publication, publications_of}
+use Rattle.std.specs.List.{All, list_any}
+use Rattle.std.proofs.lemmas.List.{nil_from_length}
 use Rattle.at_history.proofs.Laws.Counts.{IsPosition, get_or-publications_of, position_of, publications_of-append, publications_of-nil, publications_of-other, publications_of-own}
+use Rattle.at_history.specs.Publications.{no_publication, publications_of}
+use Rattle.at_history.specs.declared.publication.Publication.{Publication}
 
 -- the same records of each process, in the same order
 abbrev pub HasSameRecords : List Publication → List Publication → Type 0
@@ -45,10 +46,6 @@ HasSameRecords-without x xs front back same none p =
   where
     own_case : (us vs : List Publication) → x ∷ us ≡ x ∷ vs → us ≡ vs
     own_case us vs e = cc
-
-nil_from_length : (xs : List Publication) → length xs ≡ 0 → xs ≡ []
-nil_from_length [] none = refl
-nil_from_length (x ∷ xs) none = absurd (omega (arith, none))
 
 pub IsShuffle-HasSameRecords : (xs ys : List Publication) → HasSameRecords xs ys → IsShuffle xs ys
 IsShuffle-HasSameRecords [] ys same = empty_from_none ys same

@@ -1,19 +1,19 @@
 -- Totals that have counted the records of a prefix.
 use Rattle.std.proofs.Common.{◌≡◌, ℕ, ◌+◌, ◌-◌, ◌^◌, ◌<◌, ◌≤◌, List, length, get_or, sym, ap, ◌∙◌, arith}
-use Rattle.std.specs.List.{Contains}
 use Rattle.std.proofs.lemmas.List.{get_or_default}
 use Rattle.std.proofs.lemmas.List.Elements.{All-contains_itself, All-from_get_or, All-take}
+use Rattle.std.specs.List.{Contains}
 use Rattle.at_ledger.specs.Book.{BookTerms}
-use Rattle.at_history.specs.declared.publication.Publication.{Publication}
+use Rattle.at_history.proofs.Laws.Fronts.{place-IsFront-le}
 use Rattle.at_history.specs.Balances.{balance_after}
 use Rattle.at_history.specs.Fronts.{prefix_of, place}
+use Rattle.at_history.specs.Histories.{IsHistory}
 use Rattle.at_history.specs.Moves.{IsRun}
 use Rattle.at_history.specs.Publications.{ArePublishedBy, no_publication}
-use Rattle.at_history.specs.Histories.{IsHistory}
-use Rattle.at_history.proofs.Laws.Fronts.{place-IsFront-le}
-use Rattle.at_fold.proofs.CountedLaws.{All-counted, HasSameRecords-prefix_of, length-counted-le}
-use Rattle.at_fold.proofs.SumsLaws.{AreSumsOf-same}
-use Rattle.at_fold.specs.Counted.{counted}
+use Rattle.at_history.specs.declared.publication.Publication.{Publication}
+use Rattle.at_fold.proofs.CountedRecords.{All-counted_records, HasSameRecords-prefix_of, length-counted_records-le}
+use Rattle.at_fold.proofs.SumsOfLists.{AreSumsOf-same}
+use Rattle.at_fold.specs.Counted.{counted_records}
 use Rattle.at_fold.specs.HasCounted.{AreSumsOf, CountsAccount, CountsFront, HasCounted}
 use Rattle.at_fold.specs.Sums.{AccountSums, TotalSums, no_sums, sums_at}
 
@@ -25,9 +25,9 @@ ArePublishedBy-IsHistory b seen history =
 pub AreSumsOf-front : (t : TotalSums) (b : BookTerms) (seen : List Publication) → HasCounted t b seen → CountsFront t b seen
     → AreSumsOf b (prefix_of t.upto seen) t.accounts
 AreSumsOf-front t b seen counts at =
-    AreSumsOf-same b seen at.history (counted t.upto seen) (prefix_of t.upto seen) t.accounts
+    AreSumsOf-same b seen at.history (counted_records t.upto seen) (prefix_of t.upto seen) t.accounts
     (λ p. sym (HasSameRecords-prefix_of b.processes t.upto seen at.front (ArePublishedBy-IsHistory b seen at.history) p))
-    (All-counted t.upto seen) (All-take (Contains seen) (place t.upto) seen (All-contains_itself seen)) counts.sums
+    (All-counted_records t.upto seen) (All-take (Contains seen) (place t.upto) seen (All-contains_itself seen)) counts.sums
 
 -- the sums of an account give this balance
 pub record IsBalanced (account_sums : AccountSums) (balance : ℕ) : Type 0 where
@@ -43,7 +43,7 @@ IsBalanced-front t b seen a counts at =
     let before = counts.counted.sums.accounts a counts.account_in in
     let run : IsRun b (prefix_of t.upto seen) =
     at.history.runs (place t.upto) (place-IsFront-le b.processes t.upto seen at.front (ArePublishedBy-IsHistory b seen at.history)) in
-    let few = length-counted-le b t.upto seen counts.counted.book at.history counts.counted.processes in
+    let few = length-counted_records-le b t.upto seen counts.counted.book at.history counts.counted.processes in
     record {
       room = omega (arith, before.small_credits, few);
       covered = omega (arith, account_sums.opening, account_sums.credits, account_sums.debits, run.covered a counts.account_in);

@@ -3,23 +3,24 @@ use Rattle.std.proofs.Common.{◌≡◌, ℕ, ◌+◌, ◌*◌, ◌<◌, ◌≤�
 use Rattle.std.proofs.lemmas.Bool.{cases_Bool, eq-eqb}
 use Rattle.std.proofs.lemmas.List.{get_or_default}
 use Rattle.at_ledger.specs.Book.{BookTerms}
-use Rattle.at_history.specs.declared.publication.Publication.{Publication}
+use Rattle.at_history.proofs.Laws.Fronts.{place-IsFront-le}
 use Rattle.at_history.specs.BoardState.{publication_at}
 use Rattle.at_history.specs.Entries.{is_round}
 use Rattle.at_history.specs.Fronts.{IsFront, place, prefix_of}
 use Rattle.at_history.specs.Publications.{ArePublishedBy, no_publication}
-use Rattle.at_history.proofs.Laws.Fronts.{place-IsFront-le}
+use Rattle.at_history.specs.declared.publication.Publication.{Publication}
+use Rattle.at_log.proofs.Laws.OrderPremises.{HasViews-Coherent}
+use Rattle.at_log.proofs.Laws.Keys.{line_key-receipt}
+use Rattle.at_log.proofs.Laws.Positions.{own_position-at, round_position-at}
+use Rattle.at_log.proofs.Laws.Replies.{first_account-payout}
+use Rattle.at_log.proofs.Laws.Order.{ArePublishedBy-journal_order}
+use Rattle.at_log.proofs.Laws.OrderRounds.{IsCoherentEntry-journal_order, place-view-journal_order, round_entry}
 use Rattle.at_log.specs.ClosingTerms.{ClosingTerms, receipts_of}
 use Rattle.at_log.specs.Coherent.{Coherent}
 use Rattle.at_log.specs.JournalOrder.{journal_order, line_key}
 use Rattle.at_log.specs.Placed.{IsPlaced, read, not_owner, full, short, done, round}
 use Rattle.at_log.specs.Receipts.{is_success, receipt_at}
 use Rattle.at_log.specs.Told.{first_account, key_at, key_of, round_position}
-use Rattle.at_log.proofs.OrderLaws.{ArePublishedBy-journal_order}
-use Rattle.at_log.proofs.OrderRounds.{IsCoherentEntry-journal_order, place-view-journal_order, round_entry}
-use Rattle.at_journal.proofs.KeyCases.{line_key-receipt}
-use Rattle.at_journal.proofs.PositionLaws.{own_position-at, round_position-at}
-use Rattle.at_journal.proofs.SameMove.{first_account-payout}
 
 -- a front of the order is of some of its publications
 front-le : (b : BookTerms) (c : ClosingTerms) (view : List ℕ) → Coherent b c → IsFront b.processes view (journal_order c) → place view ≤ length (journal_order c)
@@ -63,7 +64,7 @@ key-le b c p i previous coherent before (round source targets may shared so) =
     let k = proposed.published.0 in
     let winner_is : publication_at order k ≡ proposed.winner = get_or_default order k no_publication proposed.winner proposed.published.1 ∙ proposed.published.2 in
     let small : so.decision.place < length order =
-    omega (arith, place-view-journal_order b c k coherent proposed.published.1, proposed.published.1, ap (λ (y : Publication). place y.view) winner_is, proposed.place) in
+    omega (arith, place-view-journal_order b c k (HasViews-Coherent b c coherent) proposed.published.1, proposed.published.1, ap (λ (y : Publication). place y.view) winner_is, proposed.place) in
     elim (cases_Bool (is_success r.reply)) as (λ _. key_of p order previous r ≤ 2 * length order) [
       | inl moved ↦ omega (arith, here, ap (λ t. cond t (2 * pos + 1) (2 * so.decision.place)) moved, at_source, first.within)
       | inr refused ↦ omega (arith, here, ap (λ t. cond t (2 * pos + 1) (2 * so.decision.place)) refused, small)

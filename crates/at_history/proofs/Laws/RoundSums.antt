@@ -1,17 +1,18 @@
 -- Sums over a list that count each round once: they depend only on which records of each process the list has.
-use Rattle.std.proofs.Common.{◌≡◌, ℕ, ◌+◌, ◌≤◌, ◌&&◌, ◌||◌, zero, suc, eqb, Bool, true, false, cond, List, [], ◌∷◌, ◌++◌, length, get_or, take, refl, sym, ap, subst, ◌∙◌, arith, inl, inr}
-use Rattle.std.specs.List.{All, list_any, sum_by}
+use Rattle.std.proofs.Common.{◌≡◌, ℕ, ◌+◌, ◌≤◌, ◌&&◌, ◌||◌, zero, suc, eqb, Bool, true, false, cond, List, [], ◌∷◌, ◌++◌, length, get_or, take, refl, sym, ap, subst, ◌∙◌, arith, inl, inr, fold}
 use Rattle.std.proofs.lemmas.Bool.{cases_Bool, cases_eq, eq-eqb, eqb-true, ne_eqb}
-use Rattle.std.proofs.lemmas.List.{append-nil, take_all, take_more}
+use Rattle.std.proofs.lemmas.List.{append-nil, take_all, take_more, length_push}
 use Rattle.std.proofs.lemmas.List.Elements.{All-get_or, All-take}
+use Rattle.std.proofs.lemmas.List.Sums.{count_by-le-length}
+use Rattle.std.specs.List.{All, list_any, sum_by}
+use Rattle.at_history.proofs.Laws.Rounds.{firsts-new, firsts-nil, firsts-repeat, sum_by-firsts_new, sum_by-firsts_repeat}
+use Rattle.at_history.proofs.Laws.Shuffles.{All-before, All-middle, All-without, HasSameRecords, IsShuffle, IsShuffle-HasSameRecords, list_any-IsShuffle, list_any-middle}
+use Rattle.at_history.specs.Entries.{is_round, is_same_round, is_round_on}
+use Rattle.at_history.specs.Publications.{no_publication}
+use Rattle.at_history.specs.Rounds.{firsts, repeats, rounds, with_first}
 use Rattle.at_history.specs.declared.publication.Entry.{Entry}
 use Rattle.at_history.specs.declared.publication.Entry.TheVariants.{Own, Round}
 use Rattle.at_history.specs.declared.publication.Publication.{Publication}
-use Rattle.at_history.specs.Entries.{is_round, is_same_round}
-use Rattle.at_history.specs.Publications.{no_publication}
-use Rattle.at_history.specs.Rounds.{firsts, repeats}
-use Rattle.at_history.proofs.Laws.Rounds.{firsts-new, firsts-nil, firsts-repeat, sum_by-firsts_new, sum_by-firsts_repeat}
-use Rattle.at_fold.proofs.Shuffles.{All-before, All-middle, All-without, HasSameRecords, IsShuffle, IsShuffle-HasSameRecords, list_any-IsShuffle, list_any-middle}
 
 -- being of one round goes both ways
 is_same_round-sym : (d e : Entry) → is_same_round d e ≡ is_same_round e d
@@ -153,3 +154,19 @@ module _ (P : Publication → Type 0) (f : Publication → ℕ)
       ∙ (ap (lasts_sum f) (sym (take_all (length ys) ys (omega arith)))
       ∙ (sym (sum_by-firsts-take (length ys) ys (omega arith) all_too)
       ∙ ap (λ t. sum_by f (firsts t)) (take_all (length ys) ys (omega arith)))))))
+
+-- no more rounds than publications
+length-with_first : (acc : List Publication) (x : Publication) → length (with_first acc x) ≤ length acc + 1
+length-with_first acc x =
+    elim (cases_Bool (repeats x acc)) as (λ _. length (with_first acc x) ≤ length acc + 1) [
+      | inl again ↦ subst (λ t. length (cond t acc (acc ++ x ∷ [])) ≤ length acc + 1) (sym again) (omega arith)
+      | inr new ↦ subst (λ t. length (cond t acc (acc ++ x ∷ [])) ≤ length acc + 1) (sym new) (omega (arith, length_push acc x))
+    ]
+
+length-fold : (xs acc : List Publication) → length (fold with_first acc xs) ≤ length acc + length xs
+length-fold [] acc = omega arith
+length-fold (x ∷ xs) acc = omega (arith, length-fold xs (with_first acc x), length-with_first acc x)
+
+pub rounds-le-length : (a : ℕ) (xs : List Publication) → rounds a xs ≤ length xs
+unfolding firsts
+rounds-le-length a xs = omega (arith, count_by-le-length (λ (x : Publication). is_round_on a x.entry) (firsts xs), length-fold xs [])

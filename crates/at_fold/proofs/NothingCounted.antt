@@ -1,26 +1,25 @@
 -- Totals that have counted nothing.
 use Rattle.std.proofs.Common.{◌≡◌, ℕ, ◌+◌, zero, suc, false, List, [], ◌++◌, length, map, replicate, take, refl, sym, ap, subst, ◌∙◌, arith}
 use Rattle.std.specs.Prelude.{None}
-use Rattle.std.specs.List.{flat_map, range_with_len, sum_by}
 use Rattle.std.proofs.lemmas.List.{get_or-replicate, length-replicate}
 use Rattle.std.proofs.lemmas.List.FromFn.{get_or-map-range_with_len, length-map-range_with_len}
-use Rattle.at_ledger.specs.Account.{rounds_room}
+use Rattle.std.specs.List.{flat_map, range_with_len, sum_by}
+use Rattle.at_ledger.specs.Account.{rounds_room, slots_of}
 use Rattle.at_ledger.specs.Book.{BookTerms, IsBook, account_of}
-use Rattle.at_history.specs.declared.publication.Publication.{Publication}
+use Rattle.at_history.proofs.Laws.Rounds.{firsts-nil, one_if}
+use Rattle.at_history.proofs.Laws.Sums.{get_or-zeros}
 use Rattle.at_history.specs.Balances.{credit_of, debit_of}
 use Rattle.at_history.specs.Entries.{is_round_on, names}
-use Rattle.at_ledger.specs.Account.{slots_of}
 use Rattle.at_history.specs.Publications.{publications_of}
-use Rattle.at_history.proofs.Laws.Sums.{get_or-zeros}
-use Rattle.at_history.proofs.Laws.Rounds.{firsts-nil, one_if}
-use Rattle.at_fold.proofs.CountedLaws.{part}
-use Rattle.at_fold.specs.Counted.{IsSettledSo, counted}
+use Rattle.at_history.specs.declared.publication.Publication.{Publication}
+use Rattle.at_fold.proofs.CountedRecords.{part}
+use Rattle.at_fold.specs.Counted.{IsSettledSo, counted_records}
 use Rattle.at_fold.specs.HasCounted.{AreSumsOf, HasCounted, IsAccountOf, IsSlotOf}
 use Rattle.at_fold.specs.Sums.{no_sums, no_slot, starting_sums, starting_slot}
 
-counted-zeros : (n : ℕ) (list : List Publication) → counted (replicate n 0) list ≡ []
-unfolding counted
-counted-zeros n list = nothing 0 (length (replicate n 0))
+counted_records-zeros : (n : ℕ) (list : List Publication) → counted_records (replicate n 0) list ≡ []
+unfolding counted_records
+counted_records-zeros n list = nothing 0 (length (replicate n 0))
   where
     nothing : (a k : ℕ) → flat_map (part (replicate n 0) list) (range_with_len a k) ≡ []
     nothing a zero = refl
@@ -67,5 +66,5 @@ HasCounted-starting b seen book =
       book = book;
       processes = length-replicate b.processes 0;
       within = λ p below. omega (arith, get_or-zeros b.processes p);
-      sums = subst (λ list. AreSumsOf b list all_sums) (sym (counted-zeros b.processes seen)) sums;
+      sums = subst (λ list. AreSumsOf b list all_sums) (sym (counted_records-zeros b.processes seen)) sums;
     }

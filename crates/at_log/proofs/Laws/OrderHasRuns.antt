@@ -1,35 +1,35 @@
 -- The journal's order has the laws that runs rest on: each of its prefixes is a run of the ledger.
 use Rattle.std.proofs.Common.{◌≡◌, ℕ, ◌<◌, ◌≤◌, ◌==◌, ◌&&◌, ◌↔◌, zero, suc, Bool, true, false, List, [], ◌∷◌, length, take, refl, sym, ap, subst, ◌∙◌, arith, inl, inr}
 use Rattle.std.specs.Prelude.{Option}
-use Rattle.std.specs.List.{All, count_by}
 use Rattle.std.proofs.lemmas.Bool.{cases_lt, ne_eqb}
 use Rattle.std.proofs.lemmas.List.{get_or_default}
 use Rattle.std.proofs.lemmas.List.Sums.{sum_by-cons}
+use Rattle.std.specs.List.{All, count_by}
 use Rattle.at_base.specs.declared.decision.Decision.{Decision}
 use Rattle.at_ledger.specs.Book.{BookTerms}
 use Rattle.at_ledger.specs.Call.{TargetPair, amount_of}
-use Rattle.at_history.specs.declared.publication.Entry.{Entry}
-use Rattle.at_history.specs.declared.publication.Entry.TheVariants.{Own, Round}
-use Rattle.at_history.specs.declared.publication.Publication.{Publication}
-use Rattle.at_history.specs.declared.request.Request.{Request}
-use Rattle.at_history.specs.BoardState.{decision_at, publication_at, request_at}
+use Rattle.at_history.proofs.Laws.HasRuns.{HasRuns}
+use Rattle.at_history.proofs.Laws.Rounds.{one_if}
 use Rattle.at_history.specs.Balances.{IsCovered}
-use Rattle.at_history.specs.Entries.{is_own}
+use Rattle.at_history.specs.BoardState.{decision_at, publication_at, request_at}
+use Rattle.at_history.specs.Entries.{is_own, names}
 use Rattle.at_history.specs.Fronts.{place, prefix_of}
 use Rattle.at_history.specs.Publications.{no_publication, publications_of}
 use Rattle.at_history.specs.Rounds.{firsts, owns_of, rounds}
 use Rattle.at_history.specs.Sound.{IsSoundEntry}
-use Rattle.at_history.proofs.Laws.Rounds.{one_if}
-use Rattle.at_history.specs.Entries.{names}
-use Rattle.at_history.proofs.Laws.HasRuns.{HasRuns}
+use Rattle.at_history.specs.declared.publication.Entry.{Entry}
+use Rattle.at_history.specs.declared.publication.Entry.TheVariants.{Own, Round}
+use Rattle.at_history.specs.declared.publication.Publication.{Publication}
+use Rattle.at_history.specs.declared.request.Request.{Request}
+use Rattle.at_log.proofs.Laws.OrderPremises.{HasRounds, HasRounds-Coherent, HasViews-Coherent}
+use Rattle.at_log.proofs.Laws.Order.{ArePublishedBy-journal_order, publications_of-journal_order}
+use Rattle.at_log.proofs.Laws.OrderRounds.{AreFirsts-journal_order, IsCoherentEntry-journal_order, IsFirst, IsFirst-journal_order, first_law, round_entry}
+use Rattle.at_log.proofs.Laws.OrderState.{IsInState, IsInState-first, count_by-decisions, count_by-requests, decision_in, decision_in-some, named_before, order_state, request_in, request_in-some}
+use Rattle.at_log.proofs.Laws.Picks.{count_by-filter_both, filter_map-from}
+use Rattle.at_log.proofs.Laws.Views.{HasView-journal_order}
 use Rattle.at_log.specs.ClosingTerms.{ClosingTerms, log_published}
 use Rattle.at_log.specs.Coherent.{Coherent, IsCoherentEntry}
 use Rattle.at_log.specs.JournalOrder.{journal_order}
-use Rattle.at_log.proofs.OrderLaws.{ArePublishedBy-journal_order, publications_of-journal_order}
-use Rattle.at_log.proofs.OrderRounds.{AreFirsts-journal_order, IsCoherentEntry-journal_order, IsFirst, IsFirst-journal_order, first_law, round_entry}
-use Rattle.at_log.proofs.OrderRuns.{IsInState, IsInState-first, count_by-decisions, count_by-requests, decision_in, decision_in-some, named_before, order_state, request_in, request_in-some}
-use Rattle.at_log.proofs.PickLaws.{count_by-filter_both, filter_map-from}
-use Rattle.at_log.proofs.ViewLaws.{HasView-journal_order}
 
 -- what the state says of a record of the order
 pub IsInState-record : (b : BookTerms) (c : ClosingTerms) (m a r : ℕ) (d : Decision) (targets : List TargetPair) → Coherent b c
@@ -38,7 +38,7 @@ IsInState-record b c m a r d targets coherent within is =
     let order = journal_order c in
     let x : Publication = publication_at order m in
     let law = round_entry b c x.process (prefix_of x.view order) x.entry a r d targets (IsCoherentEntry-journal_order b c m coherent within) is in
-    IsInState-first b c a r d targets coherent law.4 (IsFirst-journal_order b c m a r d targets coherent within is)
+    IsInState-first b c a r d targets (HasRounds-Coherent b c coherent) law.4 (IsFirst-journal_order b c m a r d targets (HasRounds-Coherent b c coherent) law.2 within is)
 
 sound_entry : (b : BookTerms) (c : ClosingTerms) (p : ℕ) (prefix : List Publication) (e : Entry) → IsCoherentEntry b c p prefix e
     → ((a r : ℕ) (d : Decision) (targets : List TargetPair) → e ≡ Round a r d targets → IsInState c a r d targets)
@@ -49,16 +49,16 @@ sound_entry b c p prefix (Round a r d targets) law so =
     (law.0, record { decided = state.decided; decision = state.decision; same_targets = ap (λ (q : Request). q.targets) state.request })
 
 -- a decision of the state is that of a first record, with all that the closing says of it
-decided_by : (b : BookTerms) (c : ClosingTerms) (a r : ℕ) → Coherent b c → r < length ((order_state c).cells a)
+decided_by : (b : BookTerms) (c : ClosingTerms) (a r : ℕ) → HasRounds b c → r < length ((order_state c).cells a)
     → (targets : List TargetPair) × IsFirst (journal_order c) a r (decision_at ((order_state c).cells a) r) targets
-decided_by b c a r coherent within =
+decided_by b c a r has within =
     let ys = firsts (journal_order c) in
     let pick : Publication → Option Decision = λ x. decision_in a x.entry in
     let d : Decision = decision_at ((order_state c).cells a) r in
     let from = filter_map-from pick ys r no_publication (record { ok = false; slot = 0; number = 0; place = 0 }) within in
     let j = from.0 in
     let one = decision_in-some a (publication_at ys j).entry d from.2 in
-    let here = (AreFirsts-journal_order b c coherent).order j a one.0 d one.1 from.1 one.2 in
+    let here = (AreFirsts-journal_order b c has).order j a one.0 d one.1 from.1 one.2 in
     let round_is : one.0 ≡ r = sym here ∙ (sym (count_by-decisions a (take j ys)) ∙ from.3) in (
       one.1,
       record {
@@ -84,11 +84,11 @@ asked_by b c a slot i coherent within =
       number = j;
       within = from.1;
       entry = one.2;
-      before = (AreFirsts-journal_order b c coherent).order j a one.0 one.1 q.targets from.1 one.2;
+      before = (AreFirsts-journal_order b c (HasRounds-Coherent b c coherent)).order j a one.0 one.1 q.targets from.1 one.2;
     } in
     let law = first_law b c j a one.0 one.1 q.targets coherent from.1 one.2 in
     let numbered = law.3.4.next in
-    let before = named_before b c a one.0 one.1.slot one.1 q.targets coherent first in
+    let before = named_before b c a one.0 one.1.slot one.1 q.targets (HasRounds-Coherent b c coherent) first in
     let slot_is : count_by (λ x. names a one.1.slot x.entry) (take j ys) ≡ count_by (λ x. names a slot x.entry) (take j ys) =
     ap (λ s. count_by (λ (x : Publication). names a s x.entry) (take j ys)) one.3 in
     (one.0, one.1, first, one.3, sym numbered ∙ (before ∙ (slot_is ∙ (sym (count_by-requests a slot (take j ys)) ∙ from.3))))
@@ -121,7 +121,7 @@ pub HasRuns-journal_order : (b : BookTerms) (c : ClosingTerms) → Coherent b c 
 HasRuns-journal_order b c coherent =
     let order = journal_order c in
     record {
-      views = λ m within. HasView-journal_order b c m coherent within;
+      views = λ m within. HasView-journal_order b c m (HasViews-Coherent b c coherent) within;
       entries = λ m within.
           let x : Publication = publication_at order m in
           sound_entry b c x.process (prefix_of x.view order) x.entry (IsCoherentEntry-journal_order b c m coherent within)
@@ -133,10 +133,10 @@ HasRuns-journal_order b c coherent =
           ];
       decisions = λ a r within.
           let d : Decision = decision_at ((order_state c).cells a) r in
-          let found = decided_by b c a r coherent within in
+          let found = decided_by b c a r (HasRounds-Coherent b c coherent) within in
           let first = found.1 in
           let law = first_law b c first.number a r d found.0 coherent first.within first.entry in
-          let state = IsInState-first b c a r d found.0 coherent law.3.4 first in
+          let state = IsInState-first b c a r d found.0 (HasRounds-Coherent b c coherent) law.3.4 first in
           let proposed = law.3.3 in
           let k = proposed.published.0 in
           let winner_is : publication_at order k ≡ proposed.winner =
@@ -154,9 +154,9 @@ HasRuns-journal_order b c coherent =
           };
       numbers = λ a r within.
           let d : Decision = decision_at ((order_state c).cells a) r in
-          let found = decided_by b c a r coherent within in
+          let found = decided_by b c a r (HasRounds-Coherent b c coherent) within in
           let law = first_law b c found.1.number a r d found.0 coherent found.1.within found.1.entry in
-          (IsInState-first b c a r d found.0 coherent law.3.4 found.1).numbered;
+          (IsInState-first b c a r d found.0 (HasRounds-Coherent b c coherent) law.3.4 found.1).numbered;
       row_room = λ a slot. row_room a slot (length ((order_state c).rows a slot)) refl;
       targets = λ a slot i within.
           let found = asked_by b c a slot i coherent within in
