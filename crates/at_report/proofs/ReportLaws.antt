@@ -19,9 +19,9 @@ use Rattle.std.proofs.lemmas.Grind.{flat_map-append}
 use Rattle.at_files.specs.Names.{AreFormed, AreNames, AreNamesOf, NameList, account_name, is_name_byte, position_of, process_name}
 use Rattle.at_files.specs.Payments.{HasAmounts}
 use Rattle.at_files.proofs.NameLaws.{decimal-AreNames, name-bytes, name_byte-above, position_of-at}
-use Rattle.at_report.specs.Lines.{Words, call_words, journal_words, line_text, lines_text, reply_word, targets_words}
+use Rattle.at_report.specs.Lines.{IsFirstWord, IsWord, Words, call_words, journal_words, line_text, lines_text, reply_word, targets_words}
 use Rattle.at_report.specs.Report.{HasBalance, IsPrinted, balance_lines, report_text}
-use Rattle.at_report.proofs.WordLaws.{AreWords, AreWords-append, IsLineOfWords, IsWord, IsWord-decimal, IsWord-from, split_line}
+use Rattle.at_report.proofs.WordLaws.{AreWords, AreWords-append, IsLineOfWords, IsWord-decimal, IsWord-from, first_word-only, split_line}
 
 decimal-injective : (n m : ℕ) → n < 2 ^ 64 → m < 2 ^ 64 → decimal n ≡ decimal m → n ≡ m
 decimal-injective n m hn hm e =
@@ -121,6 +121,16 @@ AreToldApart-AreNamesOf b names is are =
       one_process = λ p q hp hq. same_position names.processes p q are.formed.processes.distinct (omega arith) (omega arith);
       one_account = λ a c ha hc. same_position names.accounts a c are.formed.accounts.distinct (omega arith) (omega arith);
     }
+
+-- the name of a process is a word, and no two processes have one first word
+pub IsWord-process_name : (b : BookTerms) (names : NameList) (p : ℕ) → IsBook b → AreNamesOf b names → p < b.processes → IsWord (process_name names p)
+IsWord-process_name b names p is are within = (AreToldApart-AreNamesOf b names is are).process p within
+
+pub one_process : (b : BookTerms) (names : NameList) (text : List ℕ) (p q : ℕ) → IsBook b → AreNamesOf b names → p < b.processes → q < b.processes
+    → IsFirstWord (process_name names p) text → IsFirstWord (process_name names q) text → p ≡ q
+one_process b names text p q is are hp hq first other =
+    let apart = AreToldApart-AreNamesOf b names is are in
+    apart.one_process p q hp hq (first_word-only (process_name names p) (process_name names q) text (apart.process p hp) (apart.process q hq) first other)
 
 -- the targets and the reply that end a line are told apart
 record AreSame {X : Type 0} (x y : X) (r s : List ℕ) : Type 0 where

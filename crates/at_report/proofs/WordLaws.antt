@@ -5,13 +5,8 @@ use borrow.Author.Tests.{ltb-true}
 use Rattle.std.proofs.lemmas.Bool.{and_parts}
 use Rattle.std.proofs.lemmas.Fmt.{digits_decimal}
 use Rattle.at_base.proofs.NumberLaws.{AreDigits, own, tells_digits}
-use Rattle.at_report.specs.Lines.{Words, spaced, line_text}
+use Rattle.at_report.specs.Lines.{IsFirstWord, IsWord, Words, spaced, line_text}
 use Rattle.at_report.proofs.LineLaws.{line_text-spaced}
-
--- each byte is above a space, as those of every word are
-abbrev pub IsWord : List ℕ → Type 0
-IsWord [] = Unit {0}
-IsWord (c ∷ cs) = (32 < c) × IsWord cs
 
 abbrev pub AreWords : Words → Type 0
 AreWords [] = Unit {0}
@@ -57,6 +52,10 @@ cut (c ∷ a) (d ∷ b) x y r s wa wb hx hy e =
     let tails : a ++ x ∷ r ≡ b ++ y ∷ s = cc in
     let later = cut a b x y r s wa.1 wb.1 hx hy tails in
     record { word = let words = later.word in cc; first = later.first; rest = later.rest }
+
+-- a text has one first word
+pub first_word-only : (a b text : List ℕ) → IsWord a → IsWord b → IsFirstWord a text → IsFirstWord b text → a ≡ b
+first_word-only a b text is_a is_b (r, begins) (s, starts) = (cut a b 32 32 r s is_a is_b (omega arith) (omega arith) (sym begins ∙ starts)).word
 
 -- what follows a word on its line begins with a space or a newline
 record Follows (ws : Words) (after : List ℕ) : Type 0 where

@@ -1,5 +1,5 @@
 -- Lines of printed texts, word by word.
-use Rattle.std.specs.Prelude.{ℕ, List, [], ◌∷◌, ◌++◌, codes, decimal, flat_map}
+use Rattle.std.specs.Prelude.{◌≡◌, ℕ, ◌<◌, List, [], ◌∷◌, ◌++◌, codes, decimal, flat_map}
 use Rattle.std.specs.List.{join_with_byte}
 use Rattle.at_ledger.specs.Call.{TargetPair}
 use Rattle.at_ledger.specs.declared.call.Call.{Call}
@@ -15,6 +15,15 @@ Word = List ℕ
 
 abbrev pub Words : Type 0
 Words = List Word
+
+-- each byte of the word is above a space
+abbrev pub IsWord : Word → Type 0
+IsWord [] = Unit {0}
+IsWord (c ∷ cs) = (32 < c) × IsWord cs
+
+-- the text begins with the word and a space
+abbrev pub IsFirstWord : Word → List ℕ → Type 0
+IsFirstWord word text = (rest : List ℕ) × (text ≡ word ++ 32 ∷ rest)
 
 -- the words parted by one space each, and a newline
 abbrev pub line_text : Words → List ℕ

@@ -12,9 +12,13 @@ use Rattle.at_files.specs.Payments.{HasAmounts}
 use Rattle.at_files.specs.Names.{NameList, account_name}
 use Rattle.at_report.specs.Lines.{Words, journal_words, line_text, lines_text}
 
+-- how many lines a journal has
+abbrev pub heading_words : ℕ → Words
+heading_words count = codes "journal" ∷ decimal count ∷ []
+
 -- how many lines there are, and then each
 abbrev pub printed_journal : NameList → List Line → List Words
-printed_journal names lines = (codes "journal" ∷ decimal (length lines) ∷ []) ∷ map (journal_words names) lines
+printed_journal names lines = heading_words (length lines) ∷ map (journal_words names) lines
 
 -- the name and the balance of an account
 abbrev pub balance_words : NameList → LedgerState → ℕ → Words

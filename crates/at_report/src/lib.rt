@@ -1,8 +1,12 @@
 //! Printed texts: the report and the summary of a run, the line of a check, and the one line of each refusal, with the exit status.
 //!
+//! Whoever reads a report line by line has the calls for its parts: `push_heading`, `push_line` and `push_audit`, and
+//! `process_of`, which tells whose line a text begins with.
+//!
 //! Each call answers exactly the bytes that the definitions of the texts give. The text of a refusal takes no memory.
 #![tactic(auto)]
 
+mod first_word;
 mod lines;
 mod refusal;
 mod replaying;
@@ -15,7 +19,9 @@ mod tests;
 /// What a call answers that found no memory.
 pub type NoMemory = std::alloc::AllocError;
 
+pub use crate::first_word::process_of;
+pub use crate::lines::push_line;
 pub use crate::refusal::{FaultText, fault_text};
-pub use crate::run_report::{checked_text, report};
+pub use crate::run_report::{checked_text, push_audit, push_heading, report};
 pub use crate::run_summary::summary;
 pub use crate::status::{MessagesWhy, OrderWhy, ScheduleWhy, Status, UsageFault};

@@ -106,8 +106,8 @@ fn push_reply(out: &mut Vec<u8>, reply: Reply) -> Result<(), NoMemory>
     }
 }
 
-/// Adds a line of the journal.
-pub(crate) fn push_line(out: &mut Vec<u8>, names: &Names, line: &Line) -> Result<(), NoMemory>
+/// Adds a line of the journal, with its newline.
+pub fn push_line(out: &mut Vec<u8>, names: &Names, line: &Line) -> Result<(), NoMemory>
     requires { IsLineOn (length names.now.processes) (length names.now.accounts) line.now }
     ensures { OnOk result
         (out.new.items ≡ out.old.items ++ line_text (journal_words names.now line.now)) }

@@ -4,8 +4,8 @@ ghost use Rattle.std.specs.Prelude.{◌≡◌, ◌^◌, ◌<◌, ◌++◌, List,
 ghost use Rattle.at_ledger.specs.Call.{IsLineOn};
 ghost use Rattle.at_ledger.specs.declared.call.Line.{Line};
 ghost use Rattle.at_files.specs.Names.{AreNamesOf};
-ghost use Rattle.at_report.specs.Lines.{lines_text};
-ghost use Rattle.at_report.specs.Report.{IsPrinted, audit_lines, balance_lines, checked_line, printed_journal, report_text};
+ghost use Rattle.at_report.specs.Lines.{line_text, lines_text};
+ghost use Rattle.at_report.specs.Report.{IsPrinted, audit_lines, balance_lines, checked_line, heading_words, printed_journal, report_text};
 
 use crate::NoMemory;
 use crate::lines::{push_line, push_number, push_numbered};
@@ -32,8 +32,8 @@ fn push_balances(
     Ok(())
 }
 
-/// Adds how many accounts there are, the balance of each, and their total.
-pub(crate) fn push_audit(
+/// Adds the end of a report: how many accounts there are, the balance of each, and their total.
+pub fn push_audit(
     out: &mut Vec<u8>,
     book: &Book,
     names: &Names,
@@ -49,13 +49,20 @@ pub(crate) fn push_audit(
     push_numbered(out, b"total", state.total())
 }
 
+/// Adds the first line of a report: how many lines its journal has.
+pub fn push_heading(out: &mut Vec<u8>, lines: u64) -> Result<(), NoMemory>
+    ensures { OnOk result (out.new.items ≡ out.old.items ++ line_text (heading_words lines)) }
+{
+    push_numbered(out, b"journal", lines)
+}
+
 /// Adds how many lines there are, and then each of them.
 fn push_journal(out: &mut Vec<u8>, names: &Names, lines: &[Line]) -> Result<(), NoMemory>
     requires { All (IsLineOn (length names.now.processes) (length names.now.accounts)) lines.now }
     ensures { OnOk result
         (out.new.items ≡ out.old.items ++ lines_text (printed_journal names.now lines.now)) }
 {
-    push_numbered(out, b"journal", lines.len() as u64)?;
+    push_heading(out, lines.len() as u64)?;
     for line in lines {
         push_line(out, names, line)?;
     }

@@ -7,4 +7,4 @@ pub loop-line-preserved : goal.loop-line-preserved
 loop-line-preserved c =
     let within : c.loop-line.line-index < length c.args.lines.now = omega arith in
     rw (c.in_ok-push_line.ensures, c.loop-line.invariant)
-    (lines_text-take_more (journal_words c.args.names.now) c.push_numbered.new.out.items c.args.lines.now c.loop-line.line-index c.line-item.result within c.line-item.is)
+    (lines_text-take_more (journal_words c.args.names.now) c.push_heading.new.out.items c.args.lines.now c.loop-line.line-index c.line-item.result within c.line-item.is)

@@ -1,0 +1,7 @@
+use Rattle.std.proofs.Common.{ℕ, ◌<◌}
+use Rattle.at_files.specs.Names.{process_name}
+use Rattle.at_report.specs.Lines.{IsFirstWord}
+use Rattle.at_report.proofs.first_word.process_of.Given as goal
+
+abbrev pub invariant-loop-process : goal.invariant-loop-process
+invariant-loop-process l = (p : ℕ) → p < l.process → IsFirstWord (process_name l.names p) l.text → ⊥

@@ -1,0 +1,4 @@
+pub mod FirstLines
+pub mod Made
+pub mod Continuing
+pub mod Walking

@@ -1,0 +1,159 @@
+-- How many calls each process has made, and how many the files have.
+use Rattle.std.proofs.Common.{◌≡◌, ℕ, zero, suc, ◌+◌, ◌<◌, ◌≤◌, ◌==◌, Bool, true, false, ◌⊎◌, ⊎_elim, List, [], ◌∷◌, length, take, get_or, set, sum, sum_by, map, All, Some, Vec, refl, sym, ap, subst, ◌∙◌, arith}
+use Rattle.std.specs.Prelude.{slice_get}
+use Rattle.std.specs.Global.{Global}
+use Rattle.std.proofs.lemmas.List.{get_or-map, get_or-set_other, get_or-set_same, length-map, length-set}
+use Rattle.std.proofs.lemmas.List.Sums.{sum_by-cons, sum_by-set, sum_by_more}
+use Rattle.std.proofs.lemmas.Bool.Decides.{Decides-eqb}
+use Rattle.std.proofs.lemmas.Option.{get_or_from_slice_get, slice_get_within}
+use Rattle.at_ledger.specs.Call.{IsCallOn}
+use Rattle.at_ledger.specs.declared.call.Call.{Call}
+use Rattle.at_ledger.specs.declared.call.Line.{Line}
+use Rattle.at_ledger.specs.State.{LedgerState}
+use Rattle.at_verify.specs.Right.{IsPlayable, files_in}
+use Rattle.at_verify.specs.Walk.{AreMade, IsNext, with_made}
+
+-- a file as the program holds it
+pub get_or-files_in : (files : List (Vec Call Global)) (i : ℕ) (file : Vec Call Global) → i < length files → file ≡ get_or files i file
+    → file.items ≡ get_or (files_in files) i []
+get_or-files_in files i file within is =
+    ap (λ (f : Vec Call Global). f.items) is ∙ sym (get_or-map (λ (f : Vec Call Global). f.items) files i file [] within)
+
+pub length-files_in : (files : List (Vec Call Global)) → length (files_in files) ≡ length files
+length-files_in files = rw length-map refl
+
+-- a file has not too many calls
+pub few_calls : (files : List (Vec Call Global)) (i : ℕ) (file : Vec Call Global) → i < length files → file ≡ get_or files i file
+    → All (λ (calls : List Call). length calls ≤ 16384) (files_in files) → length file.items ≤ 16384
+few_calls files i file within is few =
+    let inside : i < length (files_in files) = rw length-map within in
+    rw (get_or-files_in files i file within is) (few i [] inside)
+
+pub sum_by-files_in_more : (files : List (Vec Call Global)) (i : ℕ) (file : Vec Call Global) → i < length files → file ≡ get_or files i file
+    → sum_by (length {A = Call}) (take i (files_in files)) + length file.items ≡ sum_by (length {A = Call}) (take (i + 1) (files_in files))
+sum_by-files_in_more files i file within is =
+    let inside : i < length (files_in files) = rw length-map within in
+    ap (λ (n : ℕ). sum_by (length {A = Call}) (take i (files_in files)) + n) (ap (length {A = Call}) (get_or-files_in files i file within is))
+    ∙ sym (sum_by_more (length {A = Call}) (files_in files) i [] inside)
+
+-- the first file, and the others
+AreMade-tail : (file : List Call) (files : List (List Call)) (n : ℕ) (made : List ℕ) → AreMade (file ∷ files) (n ∷ made) → AreMade files made
+AreMade-tail file files n made are = record {
+  each = let same = are.each in omega arith;
+  within = λ p h. are.within (suc p) (omega arith);
+}
+
+sum-cons : (n : ℕ) (ns : List ℕ) → sum (n ∷ ns) ≡ n + sum ns
+sum-cons n ns = sum_by-cons (λ (k : ℕ). k) n ns
+
+sum_by-files-cons : (file : List Call) (files : List (List Call)) → sum_by (length {A = Call}) (file ∷ files) ≡ length file + sum_by (length {A = Call}) files
+sum_by-files-cons file files = sum_by-cons (length {A = Call}) file files
+
+-- no more calls are made than there are
+pub sum-le : (files : List (List Call)) (made : List ℕ) → AreMade files made → sum made ≤ sum_by (length {A = Call}) files
+sum-le [] [] are = omega arith
+sum-le [] (n ∷ made) are = let same = are.each in absurd (omega arith)
+sum-le (file ∷ files) [] are = let same = are.each in absurd (omega arith)
+sum-le (file ∷ files) (n ∷ made) are =
+    let first : n ≤ length file = are.within 0 (omega arith) in
+    let rest = sum-le files made (AreMade-tail file files n made are) in
+    let a = sum-cons n made in
+    let b = sum_by-files-cons file files in
+    omega arith
+
+-- every call of every file is made
+abbrev pub AreAllMade : List (List Call) → List ℕ → Type 0
+AreAllMade files made = (p : ℕ) → p < length files → length (get_or files p []) ≤ get_or made p 0
+
+-- where as many are made as there are, all are
+pub all_made : (files : List (List Call)) (made : List ℕ) → AreMade files made → sum made ≡ sum_by (length {A = Call}) files → (p : ℕ) → p < length files
+    → length (get_or files p []) ≤ get_or made p 0
+all_made [] made are same p within = absurd (omega arith)
+all_made (file ∷ files) [] are same p within = let each = are.each in absurd (omega arith)
+all_made (file ∷ files) (n ∷ made) are same zero within =
+    let rest = sum-le files made (AreMade-tail file files n made are) in
+    let a = sum-cons n made in
+    let b = sum_by-files-cons file files in
+    omega arith
+all_made (file ∷ files) (n ∷ made) are same (suc p) within =
+    let tail = AreMade-tail file files n made are in
+    let first : n ≤ length file = are.within 0 (omega arith) in
+    let rest = sum-le files made tail in
+    let a = sum-cons n made in
+    let b = sum_by-files-cons file files in
+    all_made files made tail (omega arith) p (omega arith)
+
+-- where all are made, they are as many as there are
+pub sum-all_made : (files : List (List Call)) (made : List ℕ) → AreMade files made → AreAllMade files made → sum made ≡ sum_by (length {A = Call}) files
+sum-all_made [] [] are all = refl
+sum-all_made [] (n ∷ made) are all = let each = are.each in absurd (omega arith)
+sum-all_made (file ∷ files) [] are all = let each = are.each in absurd (omega arith)
+sum-all_made (file ∷ files) (n ∷ made) are all =
+    let first : n ≤ length file = are.within 0 (omega arith) in
+    let last : length file ≤ n = all 0 (omega arith) in
+    let rest = sum-all_made files made (AreMade-tail file files n made are) (λ p h. all (suc p) (omega arith)) in
+    let a = sum-cons n made in
+    let b = sum_by-files-cons file files in
+    omega arith
+
+-- a process that has a call left
+pub record HasLeft (files : List (List Call)) (made : List ℕ) : Type 0 where
+  pub process : ℕ
+  pub is : process < length files
+  pub left : get_or made process 0 < length (get_or files process [])
+
+-- where fewer are made than there are, some process has a call left
+pub some_left : (files : List (List Call)) (made : List ℕ) → AreMade files made → sum made < sum_by (length {A = Call}) files → HasLeft files made
+some_left [] [] are fewer = absurd (omega arith)
+some_left [] (n ∷ made) are fewer = let each = are.each in absurd (omega arith)
+some_left (file ∷ files) [] are fewer = let each = are.each in absurd (omega arith)
+some_left (file ∷ files) (n ∷ made) are fewer =
+    let first : n ≤ length file = are.within 0 (omega arith) in
+    let a = sum-cons n made in
+    let b = sum_by-files-cons file files in
+    let split : (n < length file) ⊎ (n ≡ length file) = grind arith in
+    ⊎_elim
+    (λ less. record { process = 0; is = omega arith; left = less })
+    (λ same.
+        let later = some_left files made (AreMade-tail file files n made are) (omega arith) in
+        record { process = suc later.process; is = let h = later.is in omega arith; left = later.left })
+    split
+
+-- one more call of a process
+pub get_or-with_made : (made : List ℕ) (q : ℕ) → q < length made → get_or (with_made made q) q 0 ≡ get_or made q 0 + 1
+get_or-with_made made q within = get_or-set_same made q (get_or made q 0 + 1) 0 within
+
+pub get_or-with_made_other : (made : List ℕ) (q p : ℕ) → (q ≡ p → ⊥) → get_or (with_made made q) p 0 ≡ get_or made p 0
+get_or-with_made_other made q p differ = get_or-set_other made q p (get_or made q 0 + 1) 0 (λ same. differ (sym same))
+
+pub sum-with_made : (made : List ℕ) (q : ℕ) → q < length made → sum (with_made made q) ≡ sum made + 1
+sum-with_made made q within = let more = sum_by-set (λ (n : ℕ). n) made q (get_or made q 0 + 1) 0 within in omega arith
+
+pub AreMade-next : (files : List (List Call)) (s : LedgerState) (made : List ℕ) (l : Line) → AreMade files made → IsNext files s made l → AreMade files (with_made made l.process)
+AreMade-next files s made l are next =
+    let q : ℕ = l.process in
+    let each = are.each in
+    let within : q < length made = let h = next.process in omega arith in
+    let left : get_or made q 0 < length (get_or files q []) = slice_get_within (get_or files q []) (get_or made q 0) l.call next.call in
+    record {
+      each = length-set made q (get_or made q 0 + 1) ∙ each;
+      within = λ p h. by p h q within left (q == p) refl;
+    }
+  where
+    by : (p : ℕ) → p < length files → (q : ℕ) → q < length made → get_or made q 0 < length (get_or files q []) → (t : Bool) → (q == p) ≡ t → get_or (with_made made q) p 0 ≤ length (get_or files p [])
+    by p h q within left true is =
+        let same : q ≡ p = (Decides-eqb q p).0 is in
+        rw (← same) (let one = get_or-with_made made q within in omega arith)
+    by p h q within left false is =
+        let other = get_or-with_made_other made q p (λ same. let wrong = (Decides-eqb q p).1 same in cc) in
+        let old = are.within p h in
+        omega arith
+
+-- the call of a next line names accounts that are there
+pub call_known : (accounts : ℕ) (files : List (List Call)) (s : LedgerState) (made : List ℕ) (l : Line) → All (IsPlayable accounts) files → IsNext files s made l
+    → IsCallOn accounts l.call
+call_known accounts files s made l playable next =
+    let file = playable l.process [] next.process in
+    let within = slice_get_within (get_or files l.process []) (get_or made l.process 0) l.call next.call in
+    subst (IsCallOn accounts) (get_or_from_slice_get (get_or files l.process []) (get_or made l.process 0) l.call l.call next.call)
+    (file.known (get_or made l.process 0) l.call within)

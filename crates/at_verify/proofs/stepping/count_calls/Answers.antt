@@ -1,0 +1,26 @@
+use Rattle.std.proofs.Common.{◌≡◌, ◌<◌, ◌≤◌, List, [], length, get_or, arith}
+use Rattle.std.proofs.lemmas.List.{length-map}
+use Rattle.at_ledger.specs.declared.call.Call.{Call}
+use Rattle.at_verify.specs.Right.{files_in}
+use Rattle.at_verify.proofs.Made.{few_calls, sum_by-files_in_more}
+use Rattle.at_verify.proofs.stepping.count_calls.Goals as goal
+
+pub overflow_cast-calls : goal.overflow_cast-calls
+overflow_cast-calls c =
+    let few : length c.file-item.result.items ≤ 16384 = few_calls c.args.files.now c.loop-file.file-index c.file-item.result (omega arith) c.file-item.is c.requires.calls in
+    omega (arith, few, c.len.ensures)
+
+pub overflow_add-calls : goal.overflow_add-calls
+overflow_add-calls c =
+    let few : length c.file-item.result.items ≤ 16384 = few_calls c.args.files.now c.loop-file.file-index c.file-item.result (omega arith) c.file-item.is c.requires.calls in
+    omega (arith, few, c.len.ensures, c.loop-file.invariant.bound)
+
+pub loop-file-preserved : goal.loop-file-preserved
+loop-file-preserved c =
+    let within : c.loop-file.file-index < length c.args.files.now = omega arith in
+    let few : length c.file-item.result.items ≤ 16384 = few_calls c.args.files.now c.loop-file.file-index c.file-item.result within c.file-item.is c.requires.calls in
+    let more = sum_by-files_in_more c.args.files.now c.loop-file.file-index c.file-item.result within c.file-item.is in
+    record {
+      counted = omega (arith, more, c.len.ensures, c.loop-file.invariant.counted);
+      bound = omega (arith, few, c.len.ensures, c.loop-file.invariant.bound);
+    }

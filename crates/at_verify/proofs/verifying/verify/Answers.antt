@@ -1,0 +1,18 @@
+use Rattle.std.proofs.Common.{◌≡◌, ℕ, ◌+◌, Ok, take, refl, sym, ap, ◌∙◌, arith}
+use Rattle.std.proofs.lemmas.List.{length-take-le}
+use Rattle.at_verify.specs.Right.{files_in, newlines}
+use Rattle.at_verify.proofs.Walking.{first_wrong, not_report}
+use Rattle.at_verify.proofs.verifying.verify.Goals as goal
+
+pub slice_bounds-newlines-end : goal.slice_bounds-newlines-end
+slice_bounds-newlines-end c = let parts = c.in_ok-parts.ensures.parts c.in-Some.at (ap Ok c.in-Some.is) in sym (length-take-le c.in-Some.at c.args.text.now parts.within)
+
+pub returns-in-Some-clause-complete : goal.returns-in-Some-clause-complete
+returns-in-Some-clause-complete c report line is =
+    not_report c.args.book.now c.args.names.now (files_in c.args.files.now) c.args.text.now c.in-Some.at (c.in_ok-parts.ensures.parts c.in-Some.at (ap Ok c.in-Some.is)) report
+
+pub returns-in-Some-clause-first : goal.returns-in-Some-clause-first
+returns-in-Some-clause-first c line is =
+    let same : c.newlines.result + 1 ≡ line = cc in
+    first_wrong c.args.book.now c.args.names.now (files_in c.args.files.now) c.args.text.now c.in-Some.at line (c.in_ok-parts.ensures.parts c.in-Some.at (ap Ok c.in-Some.is))
+    (sym same ∙ ap (λ (n : ℕ). n + 1) c.newlines.ensures)

@@ -1,0 +1,48 @@
+-- Which texts are reports of a run of some files, and up to which line another text is right.
+use Rattle.std.specs.Prelude.{◌≡◌, ℕ, zero, suc, ◌<◌, ◌≤◌, ◌==◌, List, [], ◌++◌, length, count_by, map, All, Vec}
+use Rattle.std.specs.Global.{Global}
+use Rattle.std.specs.Io.BufRead.{drop_through, take_through}
+use Rattle.at_ledger.specs.Book.{BookTerms}
+use Rattle.at_ledger.specs.Call.{IsCallOn}
+use Rattle.at_ledger.specs.Run.{Legal, Whole}
+use Rattle.at_ledger.specs.declared.call.Call.{Call}
+use Rattle.at_ledger.specs.declared.call.Line.{Line}
+use Rattle.at_files.specs.Names.{NameList}
+use Rattle.at_files.specs.declared.payments_fault.TheConstants.{CALLS_MAX}
+use Rattle.at_report.specs.Report.{report_text}
+
+-- the calls of each process, as the program holds them
+abbrev pub files_in : List (Vec Call Global) → List (List Call)
+files_in files = map (λ (file : Vec Call Global). file.items) files
+
+-- the calls of one process name accounts that are there, and are not too many
+pub record IsPlayable (accounts : ℕ) (calls : List Call) : Type 0 where
+  pub known : All (IsCallOn accounts) calls
+  pub few : length calls ≤ CALLS_MAX
+
+-- the first lines of a text: a line is its bytes up to and with a newline, and the bytes after the last one are a line too
+unfoldable pub first_lines : ℕ → List ℕ → List ℕ
+first_lines zero text = []
+first_lines (suc m) text = take_through 10 text ++ first_lines m (drop_through 10 text)
+
+-- how many lines of the text end
+abbrev pub newlines : List ℕ → ℕ
+newlines text = count_by (λ byte. byte == 10) text
+
+-- the text is the report of a run of the files: the ledger gives these replies, and each process makes its own calls in order
+pub record IsReport (b : BookTerms) (names : NameList) (files : List (List Call)) (text : List ℕ) : Type 0 where
+  pub lines : List Line
+  pub legal : Legal b lines
+  pub whole : Whole files lines
+  pub spelled : text ≡ report_text b names lines
+
+-- some report has the same first lines
+pub record IsRightUpTo (b : BookTerms) (names : NameList) (files : List (List Call)) (text : List ℕ) (line : ℕ) : Type 0 where
+  pub report : List ℕ
+  pub is : IsReport b names files report
+  pub same : first_lines line text ≡ first_lines line report
+
+-- the least line up to which the text isn't right
+pub record IsFirstWrong (b : BookTerms) (names : NameList) (files : List (List Call)) (text : List ℕ) (line : ℕ) : Type 0 where
+  pub right : (m : ℕ) → m < line → IsRightUpTo b names files text m
+  pub wrong : IsRightUpTo b names files text line → ⊥

@@ -1,0 +1,40 @@
+-- The walk over a text: which line of the journal can come next, and where no report goes on as the text does.
+use Rattle.std.specs.Prelude.{◌≡◌, ℕ, ◌+◌, ◌<◌, ◌≤◌, ◌≢◌, List, [], length, take, drop, Some, slice_get, slice_index, slice_index_or, slice_set}
+use Rattle.at_ledger.specs.Book.{BookTerms}
+use Rattle.at_ledger.specs.State.{LedgerState, step}
+use Rattle.at_ledger.specs.declared.call.Call.{Call}
+use Rattle.at_ledger.specs.declared.call.Line.{Line}
+use Rattle.at_files.specs.Names.{NameList}
+use Rattle.at_verify.specs.Right.{IsReport, first_lines, newlines}
+
+-- the line is the next one of its process, which has made so many of its calls: the call of its file, with the ledger's reply
+pub record IsNext (files : List (List Call)) (s : LedgerState) (made : List ℕ) (l : Line) : Type 0 where
+  pub process : l.process < length files
+  pub number : l.number ≡ slice_index made l.process + 1
+  pub call : slice_get (slice_index_or files l.process []) (slice_index made l.process) ≡ Some l.call
+  pub reply : l.reply ≡ (step s l.process l.call).reply
+
+-- the process has made one more call
+abbrev pub with_made : List ℕ → ℕ → List ℕ
+with_made made process = slice_set made process (slice_index made process + 1)
+
+-- no process has made more calls than its file has
+pub record AreMade (files : List (List Call)) (made : List ℕ) : Type 0 where
+  pub each : length made ≡ length files
+  pub within : (p : ℕ) → p < length files → slice_index made p ≤ length (slice_index_or files p [])
+
+-- the two texts have the first bytes in common, and there they part
+pub record ArePartedAt (x y : List ℕ) (n : ℕ) : Type 0 where
+  pub left : n ≤ length x
+  pub right : n ≤ length y
+  pub same : take n x ≡ take n y
+  pub part : n < length x → n < length y → slice_index x n ≢ slice_index y n
+
+-- some report has the text's first bytes, and each report differs from the text in the line after them
+pub record PartsAt (b : BookTerms) (names : NameList) (files : List (List Call)) (text : List ℕ) (n : ℕ) : Type 0 where
+  pub within : n ≤ length text
+  pub report : List ℕ
+  pub is : IsReport b names files report
+  pub same : take n report ≡ take n text
+  pub only : (other : List ℕ) → IsReport b names files other
+      → first_lines (newlines (take n text) + 1) text ≡ first_lines (newlines (take n text) + 1) other → ⊥

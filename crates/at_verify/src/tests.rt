@@ -1,0 +1,150 @@
+ghost use Rattle.std.specs.Prelude.{◌≡◌, All, IfSome, length};
+ghost use Rattle.at_files.specs.Names.{AreNamesOf};
+ghost use Rattle.at_verify.specs.Right.{IsPlayable, files_in};
+
+use crate::{TEXT_MAX, Verdict, verify};
+use at_files::{Names, read_book, read_payments};
+use at_ledger::{Book, Call};
+use std::alloc::Global;
+use std::test::Fail;
+
+const ONE: &[u8] = b"book,1\nprocesses,1\nlimits,4,4\naccount,0,100,0\naccount,1,0,\n";
+
+const TWO: &[u8] = b"book,1\nprocesses,2\nlimits,4,4\naccount,0,0,0\naccount,1,10,1\n";
+
+const NAMED: &[u8] =
+    b"book,2\nprocesses,ann,bob\nlimits,10,10\naccount,ann-cash,100,ann\naccount,joint,50,ann bob\naccount,shop,0,\n";
+
+/// A joint account, of which each owner has one request.
+const JOINT: &[u8] = b"book,1\nprocesses,2\nlimits,4,1\naccount,0,10,0 1\naccount,1,0,\n";
+
+const USUAL: &[u8] = b"transfer,0,1,30\nread,0\nread,1\n";
+
+const REPORT: &[u8] =
+    b"journal 3\n0 1 transfer 0 1 30 done\n0 2 read 0 70\n0 3 read 1 30\nbalances 2\n0 70\n1 30\ntotal 100\n";
+
+/// The calls of the processes: the first text is the file of process 0, and the second of each other one.
+fn files_of(
+    alloc: Global,
+    book: &Book,
+    names: &Names,
+    first: &[u8],
+    others: &[u8],
+) -> Option<Vec<Vec<Call>>>
+    requires { AreNamesOf book.now names.now }
+    ensures processes { IfSome result (λ files. length files.items ≡ book.now.processes) }
+    ensures files { IfSome result (λ files. All (IsPlayable (length book.now.accounts)) (files_in files.items)) }
+{
+    let mut files = Vec::new(alloc);
+    for process in 0..book.processes() {
+        let payments = if process == 0 { first } else { others };
+        let Ok(calls) = read_payments(alloc, book, names, payments) else {
+            return None;
+        };
+        let Ok(()) = files.push(calls) else {
+            return None;
+        };
+    }
+    Some(files)
+}
+
+/// What is said of a report beside a book and the files of its processes.
+fn said(
+    alloc: Global,
+    book: &[u8],
+    first: &[u8],
+    others: &[u8],
+    report: &[u8],
+) -> Option<Verdict> {
+    let Ok((book, names)) = read_book(alloc, book) else {
+        return None;
+    };
+    let files = files_of(alloc, &book, &names, first, others)?;
+    if report.len() > TEXT_MAX {
+        return None;
+    }
+    verify(alloc, &book, &names, files.as_slice(), report).ok()
+}
+
+/// What is said of a report of the usual calls.
+fn said_of_usual(alloc: Global, report: &[u8]) -> Option<Verdict> {
+    said(alloc, ONE, USUAL, USUAL, report)
+}
+
+#[test]
+fn reports_of_usual_calls(rt: HostRuntime) {
+    let table = [
+        (REPORT, Verdict::Yes),
+        (
+            b"journal 3\n0 1 transfer 0 1 30 done\n0 2 read 0 71\n0 3 read 1 30\nbalances 2\n0 70\n1 30\ntotal 100\n",
+            Verdict::No { line: 3 },
+        ),
+        (&REPORT[..93], Verdict::No { line: 8 }),
+        (b"", Verdict::No { line: 1 }),
+        (b"journal 3\n", Verdict::No { line: 2 }),
+        (b"balances 2\n0 70\n1 30\ntotal 100\n", Verdict::No { line: 1 }),
+    ];
+    for row in &table {
+        assert_eq!(rt; said_of_usual(rt.alloc(), row.0), Some(row.1), "{:?}", row.0);
+    }
+}
+
+#[test]
+fn reports_of_two_processes(rt: HostRuntime) {
+    let alloc = rt.alloc();
+    let right = said(
+        alloc,
+        TWO,
+        b"transfer,0,1,10\n",
+        b"transfer,1,0,10\n",
+        b"journal 2\n1 1 transfer 1 0 10 done\n0 1 transfer 0 1 10 done\nbalances 2\n0 0\n1 10\ntotal 10\n",
+    );
+    let exchanged = said(
+        alloc,
+        TWO,
+        b"transfer,0,1,10\n",
+        b"transfer,1,0,10\n",
+        b"journal 2\n0 1 transfer 0 1 10 done\n1 1 transfer 1 0 10 done\nbalances 2\n0 0\n1 10\ntotal 10\n",
+    );
+    let other_file = said(
+        alloc,
+        TWO,
+        b"read,0\n",
+        b"read,1\n",
+        b"journal 2\n0 1 read 1 10\n1 1 read 1 10\nbalances 2\n0 0\n1 10\ntotal 10\n",
+    );
+    assert_eq!(rt;
+        (right, exchanged, other_file),
+        (Some(Verdict::Yes), Some(Verdict::No { line: 2 }), Some(Verdict::No { line: 2 }))
+    );
+}
+
+#[test]
+fn reports_with_names_and_requests(rt: HostRuntime) {
+    let alloc = rt.alloc();
+    let named = said(
+        alloc,
+        NAMED,
+        b"pay,ann-cash,shop,30,joint,20\nread,shop\n",
+        b"",
+        b"journal 2\nann 1 pay ann-cash shop 30 joint 20 done\nann 2 read shop 30\nbalances 3\nann-cash 50\njoint 70\nshop 30\ntotal 150\n",
+    );
+    let full = said(
+        alloc,
+        JOINT,
+        b"transfer,0,1,11\ntransfer,0,1,1\n",
+        b"",
+        b"journal 2\n0 1 transfer 0 1 11 short\n0 2 transfer 0 1 1 full\nbalances 2\n0 10\n1 0\ntotal 10\n",
+    );
+    let forgotten = said(
+        alloc,
+        JOINT,
+        b"transfer,0,1,11\ntransfer,0,1,1\n",
+        b"",
+        b"journal 2\n0 1 transfer 0 1 11 short\n0 2 transfer 0 1 1 done\nbalances 2\n0 9\n1 1\ntotal 10\n",
+    );
+    assert_eq!(rt;
+        (named, full, forgotten),
+        (Some(Verdict::Yes), Some(Verdict::Yes), Some(Verdict::No { line: 3 }))
+    );
+}

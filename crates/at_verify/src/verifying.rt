@@ -1,0 +1,100 @@
+//! Whether a text is the report of a run.
+
+ghost use Rattle.std.specs.Prelude.{◌≡◌, ◌≤◌, ℕ, All, IfOk, Ok, Some, None, length};
+ghost use Rattle.at_files.specs.Names.{AreNamesOf};
+ghost use Rattle.at_verify.specs.Right.{IsFirstWrong, IsPlayable, IsReport, files_in};
+ghost use Rattle.at_verify.specs.Walk.{AreMade, PartsAt};
+
+use crate::NoMemory;
+use crate::comparing::{common, newlines};
+use crate::stepping::{count_calls, next_line};
+use at_base::Counts;
+use at_files::Names;
+use at_ledger::{Book, Call, State};
+use at_report::{push_audit, push_heading, push_line};
+use std::alloc::Global;
+
+/// The most bytes of a text that is verified.
+pub const TEXT_MAX: usize = 8_388_608;
+
+/// What is said of a text.
+#[derive(Clone, Copy, Debug, PartialEq, Eq)]
+pub enum Verdict {
+    /// It is the report of a run of the files.
+    Yes,
+    /// It isn't, and this is its first wrong line, counted from 1. Where the text ends and every report goes on, that
+    /// is the line after its last one.
+    No { line: u32 },
+}
+
+/// Where no report goes on as the text does, or nothing where the text is a report.
+fn parting(
+    alloc: Global,
+    book: &Book,
+    names: &Names,
+    files: &[Vec<Call>],
+    text: &[u8],
+) -> Result<Option<usize>, NoMemory>
+    requires names { AreNamesOf book.now names.now }
+    requires processes { length files.now ≡ book.now.processes }
+    requires files { All (IsPlayable (length book.now.accounts)) (files_in files.now) }
+    ensures report { result ≡ Ok None → IsReport book.now names.now (files_in files.now) text.now }
+    ensures parts { (n : ℕ) → result ≡ Ok (Some n) → PartsAt book.now names.now (files_in files.now) text.now n }
+{
+    let mut state = State::new(alloc, book)?;
+    let mut made = Counts::zeros(book.processes());
+    let mut expected = Vec::new(alloc);
+    let calls = count_calls(files);
+    push_heading(&mut expected, u64::from(calls))?;
+    let mut at = common(text, &expected);
+    if at < expected.len() {
+        return Ok(Some(at));
+    }
+    for _turn in 0..calls {
+        let Some(line) = next_line(book, names, files, &mut state, &mut made, &text[at..]) else {
+            return Ok(Some(at));
+        };
+        expected.clear();
+        push_line(&mut expected, names, &line)?;
+        let same = common(&text[at..], &expected);
+        at += same;
+        if same < expected.len() {
+            return Ok(Some(at));
+        }
+    }
+    expected.clear();
+    push_audit(&mut expected, book, names, &state)?;
+    let same = common(&text[at..], &expected);
+    at += same;
+    if same < expected.len() || at < text.len() {
+        return Ok(Some(at));
+    }
+    Ok(None)
+}
+
+/// Whether the text is the report of a run of the files, and if it isn't its first wrong line. `names` are the book's,
+/// and there is a file for each process. The work grows with the bytes and the calls alone, and the memory with the
+/// book.
+pub fn verify(
+    alloc: Global,
+    book: &Book,
+    names: &Names,
+    files: &[Vec<Call>],
+    text: &[u8],
+) -> Result<Verdict, NoMemory>
+    requires names { AreNamesOf book.now names.now }
+    requires processes { length files.now ≡ book.now.processes }
+    requires files { All (IsPlayable (length book.now.accounts)) (files_in files.now) }
+    requires size { length text.now ≤ TEXT_MAX }
+    ensures sound { result ≡ Ok Verdict.Yes → IsReport book.now names.now (files_in files.now) text.now }
+    ensures complete { IsReport book.now names.now (files_in files.now) text.now → (line : ℕ) → result ≡ Ok (Verdict.No line) → ⊥ }
+    ensures first { (line : ℕ) → result ≡ Ok (Verdict.No line) → IsFirstWrong book.now names.now (files_in files.now) text.now line }
+{
+    let parts = parting(alloc, book, names, files, text)?;
+    match parts {
+        None => Ok(Verdict::Yes),
+        Some(at) => Ok(Verdict::No {
+            line: newlines(&text[..at]) + 1,
+        }),
+    }
+}
