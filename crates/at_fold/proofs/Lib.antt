@@ -10,4 +10,3 @@ pub mod StepLaws
 pub mod StartLaws
 pub mod FrontLaws
 pub mod CatchLaws
-pub mod FirstRecord

@@ -8,8 +8,6 @@
 mod closing;
 mod loading;
 mod log;
-#[cfg(test)]
-mod log_tests;
 mod receipt;
 mod record;
 #[cfg(test)]
