@@ -2,5 +2,4 @@ pub mod Knowledge
 pub mod Steps
 pub mod Words
 pub mod Ends
-pub mod SmallBoard
 pub mod Rule

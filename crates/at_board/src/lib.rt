@@ -25,8 +25,6 @@ mod crossing;
 mod deal;
 mod decide;
 mod knowledge;
-#[cfg(test)]
-mod later_round_tests;
 mod load_announced;
 mod load_length;
 mod load_record_word;
@@ -35,18 +33,10 @@ mod meet;
 mod note;
 mod plays;
 mod publish;
-#[cfg(test)]
-mod record_tests;
-#[cfg(test)]
-mod request_tests;
-#[cfg(test)]
-mod round_tests;
 mod rule;
 mod seat;
 mod store_record_word;
 mod store_request_word;
-#[cfg(test)]
-mod stress_tests;
 #[cfg(test)]
 mod tests;
 mod words;

@@ -1,4 +1,3 @@
-pub mod FirstRecord
 pub mod Amounts
 pub mod LoadedRecords
 pub mod CountedRecords

@@ -1,4 +1,3 @@
 pub mod Sums
 pub mod Counted
 pub mod HasCounted
-pub mod SmallFold

@@ -1,7 +1,7 @@
 //! The journals of small closings. Each closing is proved to be coherent, and each journal is held against its text and
 //! against the slow order.
 
-ghost use Rattle.std.specs.Prelude.{◌≡◌, ◌<◌, ◌≤◌, ◌^◌, [], ◌∷◌, map, length, All, IfOk};
+ghost use Rattle.std.specs.Prelude.{◌≡◌, ◌<◌, ◌^◌, [], ◌∷◌, map, length, All, IfOk};
 ghost use Rattle.at_log.specs.Coherent.{Coherent};
 ghost use Rattle.at_journal.specs.SmallClosings.{account, agreed, decision_of_first, helped, little_room, no_calls, one_shared, own_record, paid_at_once, paid_back, paid_twice, receipt, refused_first, round_record, two_singles};
 
@@ -139,36 +139,49 @@ fn read(account: u32) -> Call
     Call::Read { account }
 }
 
-/// A closing of these lists.
-fn closing(logs: Vec<Vec<Record>>, receipts: Vec<Vec<Receipt>>) -> Closing
-    requires some { 1 ≤ length logs.items }
-    requires few { length logs.items ≤ 16 }
-    requires receipts { length receipts.items ≡ length logs.items }
-    ensures { result ≡ record { logs = map (λ v. v.items) logs.items; receipts = map (λ v. v.items) receipts.items } }
+/// A closing of two processes, of their records and their receipts.
+fn closing_of_two(
+    alloc: Global,
+    first: Vec<Record>,
+    second: Vec<Record>,
+    calls: Vec<Receipt>,
+    others: Vec<Receipt>,
+) -> Result<Closing, NoMemory>
+    ensures { IfOk result (λ c. c ≡ record { logs = first.items ∷ second.items ∷ []; receipts = calls.items ∷ others.items ∷ [] }) }
 {
-    Closing::new(logs, receipts)
+    let logs = vec![in alloc; first, second]?;
+    let receipts = vec![in alloc; calls, others]?;
+    Ok(Closing::new(logs, receipts))
 }
 
 /// No process has a call.
 fn no_calls(alloc: Global) -> Result<Closing, NoMemory>
     ensures { IfOk result (λ c. c ≡ no_calls) }
 {
-    let logs = vec![in alloc; vec![in alloc]?, vec![in alloc]?]?;
-    let receipts = vec![in alloc; vec![in alloc]?, vec![in alloc]?]?;
-    Ok(closing(logs, receipts))
+    closing_of_two(
+        alloc,
+        Vec::new(alloc),
+        Vec::new(alloc),
+        Vec::new(alloc),
+        Vec::new(alloc),
+    )
 }
 
 /// Process 0 isn't the owner, and then reads; process 1 has no calls.
 fn refused_first(alloc: Global) -> Result<Closing, NoMemory>
     ensures { IfOk result (λ c. c ≡ refused_first) }
 {
-    let logs = vec![in alloc; vec![in alloc]?, vec![in alloc]?]?;
-    let first = vec![in alloc;
+    let calls = vec![in alloc;
         receipt(transfer(1, 0, 5), Reply::NotOwner, At::Previous),
         receipt(read(1), Reply::Balance(10), At::Front(counts_of_two(0, 0))),
     ]?;
-    let receipts = vec![in alloc; first, vec![in alloc]?]?;
-    Ok(closing(logs, receipts))
+    closing_of_two(
+        alloc,
+        Vec::new(alloc),
+        Vec::new(alloc),
+        calls,
+        Vec::new(alloc),
+    )
 }
 
 /// Process 1 pays, and process 0 pays it back.
@@ -179,10 +192,7 @@ fn paid_back(alloc: Global) -> Result<Closing, NoMemory>
     let second = vec![in alloc; own_record(1, Targets::one(0, 10), counts_of_two(0, 0))]?;
     let calls = vec![in alloc; receipt(transfer(0, 1, 10), Reply::Done, At::Own(0))]?;
     let others = vec![in alloc; receipt(transfer(1, 0, 10), Reply::Done, At::Own(0))]?;
-    Ok(closing(
-        vec![in alloc; first, second]?,
-        vec![in alloc; calls, others]?,
-    ))
+    closing_of_two(alloc, first, second, calls, others)
 }
 
 /// Process 0 is short, process 1 pays twice, and process 0 pays all back.
@@ -211,10 +221,7 @@ fn paid_twice(alloc: Global) -> Result<Closing, NoMemory>
             At::Front(counts_of_two(1, 2))
         ),
     ]?;
-    Ok(closing(
-        vec![in alloc; first, second]?,
-        vec![in alloc; calls, others]?,
-    ))
+    closing_of_two(alloc, first, second, calls, others)
 }
 
 /// Both processes ask for 60, and the second request is short.
@@ -239,10 +246,7 @@ fn agreed(alloc: Global) -> Result<Closing, NoMemory>
         ),
         receipt(read(0), Reply::Balance(40), At::Front(counts_of_two(1, 1))),
     ]?;
-    Ok(closing(
-        vec![in alloc; first, second]?,
-        vec![in alloc; calls, others]?,
-    ))
+    closing_of_two(alloc, first, second, calls, others)
 }
 
 /// The same, where process 1 has published the first round too.
@@ -270,10 +274,7 @@ fn helped(alloc: Global) -> Result<Closing, NoMemory>
         ),
         receipt(read(1), Reply::Balance(60), At::Front(counts_of_two(1, 2))),
     ]?;
-    Ok(closing(
-        vec![in alloc; first, second]?,
-        vec![in alloc; calls, others]?,
-    ))
+    closing_of_two(alloc, first, second, calls, others)
 }
 
 /// The two targets of process 0.
@@ -308,14 +309,22 @@ fn receipts_at_once(alloc: Global) -> Result<Vec<Vec<Receipt>>, NoMemory>
     Ok(vec![in alloc; first, second, third]?)
 }
 
+/// The logs of `paid_at_once`.
+fn logs_at_once(alloc: Global) -> Result<Vec<Vec<Record>>, NoMemory>
+    ensures { IfOk result (λ v. map (λ w. w.items) v.items ≡ paid_at_once.logs) }
+{
+    let first = vec![in alloc; own_record(0, two_targets(), counts_of_three(0, 0))]?;
+    let second = vec![in alloc; own_record(1, Targets::one(2, 5), counts_of_three(0, 0))]?;
+    Ok(vec![in alloc; first, second, Vec::new(alloc)]?)
+}
+
 /// Two processes pay at once; one has no room then, and the other wasn't the owner before.
 fn paid_at_once(alloc: Global) -> Result<Closing, NoMemory>
     ensures { IfOk result (λ c. c ≡ paid_at_once) }
 {
-    let first = vec![in alloc; own_record(0, two_targets(), counts_of_three(0, 0))]?;
-    let second = vec![in alloc; own_record(1, Targets::one(2, 5), counts_of_three(0, 0))]?;
-    let logs = vec![in alloc; first, second, vec![in alloc]?]?;
-    Ok(closing(logs, receipts_at_once(alloc)?))
+    let logs = logs_at_once(alloc)?;
+    let receipts = receipts_at_once(alloc)?;
+    Ok(Closing::new(logs, receipts))
 }
 
 /// The text of a call.

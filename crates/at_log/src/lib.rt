@@ -9,8 +9,6 @@ mod append_record;
 mod closing;
 mod load_entry_words;
 mod load_view_words;
-#[cfg(test)]
-mod log_tests;
 mod receipt;
 mod record;
 #[cfg(test)]

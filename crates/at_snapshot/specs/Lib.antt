@@ -2,4 +2,3 @@ pub mod Collected
 pub mod Scans
 pub mod Turns
 pub mod Snapshots
-pub mod SmallScan

@@ -8,11 +8,7 @@
 
 mod collects;
 mod scan;
-#[cfg(test)]
-mod scan_tests;
 mod snapshots;
-#[cfg(test)]
-mod traffic_tests;
 
 pub use crate::scan::{Scan, Turn};
 pub use crate::snapshots::snapshot;

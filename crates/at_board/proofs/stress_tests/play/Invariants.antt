@@ -1,6 +1,0 @@
-use Rattle.std.proofs.Common.{◌≡◌}
-use Rattle.at_board.specs.SmallBoard.{IsIdle}
-use Rattle.at_board.proofs.stress_tests.play.Given as goal
-
-abbrev pub invariant-loop-look : goal.invariant-loop-look
-invariant-loop-look g l = IsIdle l.board l.seat × (l.seat.knows.first ≡ l.fn.seat.knows.first)

@@ -1,9 +1,0 @@
-use Rattle.std.proofs.Common.{subst}
-use Rattle.at_ledger.specs.Book.{BookTerms}
-use Rattle.at_fold.specs.HasCounted.{HasCounted}
-use Rattle.at_fold.proofs.fold_tests.counts_what_was_told.Goals as goal
-
-pub catches_up-requires-clause-counted : goal.catches_up-requires-clause-counted
-catches_up-requires-clause-counted g c =
-    subst (λ (b : BookTerms). HasCounted c.in_ok-totals.totals b c.pays_and_tells.new.other.knows.seen) c.book-4.ensures
-    (c.in_ok-totals.ensures.counted c.pays_and_tells.new.other.knows.seen)

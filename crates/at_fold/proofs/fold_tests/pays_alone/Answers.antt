@@ -1,6 +1,0 @@
-use Rattle.at_fold.proofs.FirstRecord.{HasOnlyFirst-alone}
-use Rattle.at_fold.proofs.fold_tests.pays_alone.Goals as goal
-
-pub returns-clause-one : goal.returns-clause-one
-returns-clause-one g c =
-    HasOnlyFirst-alone c.args.board.now.book c.pay-entry.new.seat.knows c.pay-entry.result c.pay-entry.ensures.process c.pay-entry.ensures.paid c.requires.alone

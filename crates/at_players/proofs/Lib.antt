@@ -1,0 +1,2 @@
+pub mod SmallBoardLaws
+pub mod LaterRoundLaws

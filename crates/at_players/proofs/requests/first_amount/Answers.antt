@@ -1,0 +1,15 @@
+use Rattle.std.proofs.Common.{inl, arith}
+use Rattle.at_board.proofs.KnowledgeLaws.Announced.{SeesRequest-LoadsAnnounced}
+use Rattle.at_history.specs.BoardState.{request_at}
+use Rattle.at_players.proofs.requests.first_amount.Goals as goal
+
+pub load_request_word-requires-clause-request : goal.load_request_word-requires-clause-request
+load_request_word-requires-clause-request g c =
+    let told = c.load_announced-count.ensures.told in
+    record {
+      known = inl (
+        request_at told.row 0,
+        SeesRequest-LoadsAnnounced c.args.board.now.book c.args.seat.now.knows c.load_announced-count.new.seat.knows 0 c.args.slot c.load_announced-count.result 0 told (omega arith),
+      );
+      word = omega arith;
+    }

@@ -1,0 +1,13 @@
+//! Players on small boards, for the tests of the crates that share a board.
+//!
+//! `boards` makes a book and a new board with its seats, and closes it. The players then ask, decide, publish and pay: each is a
+//! function with a small contract, so that a test proves little of its own. Nothing but tests stands on this crate.
+#![tactic(auto)]
+
+pub mod boards;
+pub mod crowd;
+pub mod later_rounds;
+pub mod records;
+pub mod requests;
+pub mod rounds;
+pub mod words;

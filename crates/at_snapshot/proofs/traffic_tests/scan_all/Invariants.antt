@@ -1,5 +1,0 @@
-use Rattle.at_board.specs.Knowledge.Seats.{IsOf}
-use Rattle.at_snapshot.proofs.traffic_tests.scan_all.Given as goal
-
-abbrev pub invariant-loop-scan : goal.invariant-loop-scan
-invariant-loop-scan g l = IsOf l.seat l.board

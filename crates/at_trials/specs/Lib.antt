@@ -1,0 +1,2 @@
+pub mod SmallFold
+pub mod SmallScan

@@ -1,0 +1,353 @@
+//! Small boards on which processes ask, decide, publish and tell, and what they end with.
+
+ghost use Rattle.std.specs.Prelude.{◌≡◌, ◌<◌, length, IfSome, IsTrue};
+ghost use Rattle.at_players.specs.SmallBoard.{AreNewPair, IsIdle, new_seat};
+
+use at_base::{Decision, pack_decision};
+use at_board::{Board, BoardEnd, BoardSeat, Steps, pack_targets};
+use at_ledger::Targets;
+use at_players::boards::{close_one, close_two, has_record, new_pair, new_single, slot_on};
+use at_players::later_rounds::{has_two_owners, settle_both};
+use at_players::records::{may_pay, pay, told_words};
+use at_players::requests::{ask, first_amount};
+use at_players::rounds::settle;
+use at_players::words::{TO_ACCOUNT_0, TO_ACCOUNT_1};
+use std::alloc::Global;
+use std::marker::Brand;
+use std::process::Abort;
+use std::sync::ledger::{Blank, Ledger};
+
+/// The words that players store, made by the packing that they stand for.
+#[test]
+fn words_of_players(rt: HostRuntime) {
+    assert!(rt;
+        pack_targets(&Targets::one(0, 7)) == TO_ACCOUNT_0
+            && pack_targets(&Targets::one(1, 30)) == TO_ACCOUNT_1
+    );
+}
+
+/// Whether the second process sees the first request of the other, which asks for 7.
+fn asks_and_sees<L: Ledger, X: Ledger>(
+    board: &Board,
+    second: &mut BoardSeat,
+    seat: &mut BoardSeat,
+    steps: &mut Steps<L>,
+    exchanges: &mut Steps<X>,
+) -> bool
+    requires { AreNewPair board.now second.old seat.old }
+{
+    let Some(slot) = slot_on(board.book(), 0, seat.process()) else {
+        return false;
+    };
+    if board.book().request_room() != 4 || seat.published() != 0 || slot != 1 {
+        return false;
+    }
+    if board.announced(seat, 0) != 0 {
+        return false;
+    }
+    ask(board, seat, steps, exchanges);
+    board.announced(seat, 0) == 1
+        && board.load_length(second, 0, steps, exchanges) == 0
+        && first_amount(board, second, slot, steps, exchanges) == Some(7)
+}
+
+/// One process asks, and the other sees what.
+fn requests<L: Ledger, X: Ledger, R: Abort>(rt: &R, alloc: Global, one: Blank, another: Blank)
+    requires names { (one.name ≡ L.name) × (another.name ≡ X.name) }
+    requires parts { (one.parts ≡ L.parts) × (another.parts ≡ X.parts) }
+    requires some { (0 < one.parts) × (0 < another.parts) }
+{
+    let (steps, exchanges) = (&mut Steps::<L>::new(one), &mut Steps::<X>::new(another));
+    let accounts = [(100, [0, 1].as_slice())];
+    let (board, mut second, mut seat) = new_pair(alloc, 65, accounts.as_slice()).expect(
+        rt, "a board",
+    );
+    assert!(rt; asks_and_sees(&board, &mut second, &mut seat, steps, exchanges));
+}
+
+#[test]
+fn a_request_is_seen(rt: HostRuntime) {
+    requests::<Brand, Brand, _>(&rt, rt.alloc(), Blank::new(1), Blank::new(1));
+}
+
+/// Whether process 1 settles the first round of the account that it shares with process 0.
+fn settles_first<L: Ledger, X: Ledger>(
+    board: &Board,
+    seat: &mut BoardSeat,
+    steps: &mut Steps<L>,
+    exchanges: &mut Steps<X>,
+) -> bool
+    requires { seat.old ≡ new_seat board.now 1 }
+    ensures { IsTrue result → IsIdle board.now seat.new × (seat.new.knows.first ≡ 1) }
+{
+    let Some(slot) = slot_on(board.book(), 0, seat.process()) else {
+        return false;
+    };
+    if 8 <= slot || board.book().opening(0) < 7 {
+        return false;
+    }
+    settle(board, seat, slot, steps, exchanges) == first_of_slot(1)
+}
+
+/// The word of the decision that the first request of a slot succeeds, before anything is published.
+fn first_of_slot(slot: u32) -> u64
+    requires { slot < 8 }
+{
+    let decision = Decision {
+        ok: true,
+        slot,
+        number: 0,
+        place: 0,
+    };
+    pack_decision(&decision)
+}
+
+/// The board's end, where process 1 has settled the first round.
+fn end_of_first<L: Ledger, X: Ledger>(
+    board: Board,
+    alloc: Global,
+    first: BoardSeat,
+    second: BoardSeat,
+    steps: &mut Steps<L>,
+    exchanges: &mut Steps<X>,
+) -> Option<BoardEnd>
+    requires { AreNewPair board first second }
+    ensures { IfSome result (λ end. end.book.processes ≡ 2) }
+{
+    let mut second = second;
+    if settles_first(&board, &mut second, steps, exchanges) {
+        close_two(board, alloc, first, second)
+    } else {
+        None
+    }
+}
+
+/// Whether the closed board has the record of the first round alone, which process 1 has published.
+fn has_first_round(end: &BoardEnd) -> bool
+    requires two { end.now.book.processes ≡ 2 }
+{
+    let words = [1, TO_ACCOUNT_0, first_of_slot(1), 7, 0, 0, 0, 0, 0];
+    end.length(0) == 0 && end.length(1) == 1 && has_record(end, 1, 0, words.as_slice())
+}
+
+/// One process settles a round of the account that it shares with another. The closed board has the words of its record.
+fn settles<L: Ledger, X: Ledger, R: Abort>(rt: &R, alloc: Global, one: Blank, another: Blank)
+    requires names { (one.name ≡ L.name) × (another.name ≡ X.name) }
+    requires parts { (one.parts ≡ L.parts) × (another.parts ≡ X.parts) }
+    requires some { (0 < one.parts) × (0 < another.parts) }
+{
+    let (steps, exchanges) = (&mut Steps::<L>::new(one), &mut Steps::<X>::new(another));
+    let accounts = [(100, [0, 1].as_slice())];
+    let (board, first, second) = new_pair(alloc, 65, accounts.as_slice()).expect(rt, "a board");
+    let end = end_of_first(board, alloc, first, second, steps, exchanges).expect(rt, "an end");
+    assert!(rt; has_first_round(&end));
+}
+
+#[test]
+fn a_round_is_settled(rt: HostRuntime) {
+    settles::<Brand, Brand, _>(&rt, rt.alloc(), Blank::new(1), Blank::new(1));
+}
+
+/// Whether one process pays, and the other reads what, through notes alone.
+fn pays_and_tells<L: Ledger, X: Ledger>(
+    board: &Board,
+    seat: &mut BoardSeat,
+    other: &mut BoardSeat,
+    steps: &mut Steps<L>,
+    exchanges: &mut Steps<X>,
+) -> bool
+    requires { AreNewPair board.now seat.old other.old }
+    ensures seat { IsTrue result → IsIdle board.now seat.new × (seat.new.knows.first ≡ 0) }
+    ensures other { IsTrue result → IsIdle board.now other.new × (other.new.knows.first ≡ 1) }
+{
+    if !may_pay(board.book(), seat.process()) {
+        return false;
+    }
+    pay(board, seat, steps, exchanges);
+    let told = told_words(board, seat, other, steps, exchanges);
+    seat.published() == 1 && told == (TO_ACCOUNT_1, 30)
+}
+
+/// The board's end, where process 0 has paid and told process 1 of it.
+fn end_of_told<L: Ledger, X: Ledger>(
+    board: Board,
+    alloc: Global,
+    seat: BoardSeat,
+    other: BoardSeat,
+    steps: &mut Steps<L>,
+    exchanges: &mut Steps<X>,
+) -> Option<BoardEnd>
+    requires { AreNewPair board seat other }
+    ensures { IfSome result (λ end. end.book.processes ≡ 2) }
+{
+    let (mut seat, mut other) = (seat, other);
+    if pays_and_tells(&board, &mut seat, &mut other, steps, exchanges) {
+        close_two(board, alloc, seat, other)
+    } else {
+        None
+    }
+}
+
+/// Whether the closed board has process 0's record alone, with the words of its payment.
+fn has_payment(end: &BoardEnd) -> bool
+    requires two { end.now.book.processes ≡ 2 }
+{
+    let words = [0, TO_ACCOUNT_1, 0, 30, 0, 0, 0, 0, 0];
+    end.length(0) == 1 && end.length(1) == 0 && has_record(end, 0, 0, words.as_slice())
+}
+
+/// One process pays, and the other reads what. The closed board has the words of the record.
+fn tells<L: Ledger, X: Ledger, R: Abort>(rt: &R, alloc: Global, one: Blank, another: Blank)
+    requires names { (one.name ≡ L.name) × (another.name ≡ X.name) }
+    requires parts { (one.parts ≡ L.parts) × (another.parts ≡ X.parts) }
+    requires some { (0 < one.parts) × (0 < another.parts) }
+{
+    let (steps, exchanges) = (&mut Steps::<L>::new(one), &mut Steps::<X>::new(another));
+    let accounts = [(100, [0].as_slice()), (100, [1].as_slice())];
+    let (board, seat, other) = new_pair(alloc, 65, accounts.as_slice()).expect(rt, "a board");
+    let end = end_of_told(board, alloc, seat, other, steps, exchanges).expect(rt, "an end");
+    assert!(rt; has_payment(&end));
+}
+
+#[test]
+fn a_record_is_told(rt: HostRuntime) {
+    tells::<Brand, Brand, _>(&rt, rt.alloc(), Blank::new(1), Blank::new(1));
+}
+
+/// The end of the board of one process, where that has paid.
+fn end_of_single<L: Ledger, X: Ledger>(
+    board: Board,
+    alloc: Global,
+    seat: BoardSeat,
+    steps: &mut Steps<L>,
+    exchanges: &mut Steps<X>,
+) -> Option<BoardEnd>
+    requires alone { board.book.processes ≡ 1 }
+    requires seat { seat ≡ new_seat board 0 }
+    ensures { IfSome result (λ end. end.book.processes ≡ 1) }
+{
+    let mut seat = seat;
+    if may_pay(board.book(), seat.process()) {
+        pay(&board, &mut seat, steps, exchanges);
+        close_one(board, alloc, seat)
+    } else {
+        None
+    }
+}
+
+/// Whether the closed board of one process has the record of its payment alone.
+fn has_single_payment(end: &BoardEnd) -> bool
+    requires alone { end.now.book.processes ≡ 1 }
+{
+    let words = [0, TO_ACCOUNT_1, 0, 30, 0, 0, 0, 0];
+    end.length(0) == 1 && has_record(end, 0, 0, words.as_slice())
+}
+
+/// The only process pays an account without an owner. The closed board has the words of the record.
+fn pays_alone<L: Ledger, X: Ledger, R: Abort>(rt: &R, alloc: Global, one: Blank, another: Blank)
+    requires names { (one.name ≡ L.name) × (another.name ≡ X.name) }
+    requires parts { (one.parts ≡ L.parts) × (another.parts ≡ X.parts) }
+    requires some { (0 < one.parts) × (0 < another.parts) }
+{
+    let (steps, exchanges) = (&mut Steps::<L>::new(one), &mut Steps::<X>::new(another));
+    let accounts = [(100, [0].as_slice()), (0, [].as_slice())];
+    let (board, seat) = new_single(alloc, 65, accounts.as_slice()).expect(rt, "a board");
+    let end = end_of_single(board, alloc, seat, steps, exchanges).expect(rt, "an end");
+    assert!(rt; has_single_payment(&end));
+}
+
+#[test]
+fn a_lone_process_pays(rt: HostRuntime) {
+    pays_alone::<Brand, Brand, _>(&rt, rt.alloc(), Blank::new(1), Blank::new(1));
+}
+
+/// Whether both processes publish the first round of account 0, and process 0 the second.
+fn settles_twice<L: Ledger, X: Ledger>(
+    board: &Board,
+    zero: &mut BoardSeat,
+    one: &mut BoardSeat,
+    steps: &mut Steps<L>,
+    exchanges: &mut Steps<X>,
+) -> bool
+    requires { AreNewPair board.now zero.old one.old }
+    ensures zero { IsTrue result → IsIdle board.now zero.new × (zero.new.knows.first ≡ 0) }
+    ensures one { IsTrue result → IsIdle board.now one.new × (one.new.knows.first ≡ 1) }
+{
+    if has_two_owners(board.book()) {
+        settle_both(board, zero, one, steps, exchanges)
+    } else {
+        false
+    }
+}
+
+/// The board's end, where two rounds are settled.
+fn end_of_rounds<L: Ledger, X: Ledger>(
+    board: Board,
+    alloc: Global,
+    zero: BoardSeat,
+    one: BoardSeat,
+    steps: &mut Steps<L>,
+    exchanges: &mut Steps<X>,
+) -> Option<BoardEnd>
+    requires { AreNewPair board zero one }
+    ensures { IfSome result (λ end. end.book.processes ≡ 2) }
+{
+    let (mut zero, mut one) = (zero, one);
+    if settles_twice(&board, &mut zero, &mut one, steps, exchanges) {
+        close_two(board, alloc, zero, one)
+    } else {
+        None
+    }
+}
+
+/// Whether the closed board has the two records of the first round, that of the second with its view, and no others.
+fn has_three_records(end: &BoardEnd) -> bool
+    requires two { end.now.book.processes ≡ 2 }
+{
+    let second = Decision {
+        ok: true,
+        slot: 0,
+        number: 1,
+        place: 2,
+    };
+    let first = [1, TO_ACCOUNT_1, first_of_slot(0), 60, 0, 0, 0, 0, 0];
+    let later = [
+        1 + (1 << 33),
+        TO_ACCOUNT_1,
+        pack_decision(&second),
+        30,
+        0,
+        0,
+        0,
+        1,
+        1,
+    ];
+    end.length(0) == 2
+        && end.length(1) == 1
+        && has_record(end, 0, 0, first.as_slice())
+        && has_record(end, 0, 1, later.as_slice())
+        && has_record(end, 1, 0, first.as_slice())
+}
+
+/// Two rounds are settled on a board of two processes that share account 0, of which one has account 2 alone. The closed board has
+/// their words.
+fn settles_both<L: Ledger, X: Ledger, R: Abort>(rt: &R, alloc: Global, one: Blank, another: Blank)
+    requires names { (one.name ≡ L.name) × (another.name ≡ X.name) }
+    requires parts { (one.parts ≡ L.parts) × (another.parts ≡ X.parts) }
+    requires some { (0 < one.parts) × (0 < another.parts) }
+{
+    let (steps, exchanges) = (&mut Steps::<L>::new(one), &mut Steps::<X>::new(another));
+    let accounts = [
+        (100, [0, 1].as_slice()),
+        (0, [].as_slice()),
+        (100, [1].as_slice()),
+    ];
+    let (board, first, second) = new_pair(alloc, 65, accounts.as_slice()).expect(rt, "a board");
+    let end = end_of_rounds(board, alloc, first, second, steps, exchanges).expect(rt, "an end");
+    assert!(rt; has_three_records(&end));
+}
+
+#[test]
+fn a_later_round_is_published(rt: HostRuntime) {
+    settles_both::<Brand, Brand, _>(&rt, rt.alloc(), Blank::new(1), Blank::new(1));
+}

@@ -1,0 +1,360 @@
+//! Records are appended on a small board, and totals of their process, or of one that has learned of them, count them.
+
+ghost use Rattle.std.specs.Prelude.{◌≡◌, ◌+◌, ◌<◌, [], IsTrue, length, replicate, slice_set, ◌∷◌};
+ghost use Rattle.at_board.specs.Ends.Opening.{starting_seat};
+ghost use Rattle.at_board.specs.Knowledge.Seats.{IsOf};
+ghost use Rattle.at_fold.specs.HasCounted.{HasCounted};
+ghost use Rattle.at_history.specs.Sound.{IsSoundOwn};
+ghost use Rattle.at_players.specs.SmallBoard.{AreNewPair, new_seat};
+ghost use Rattle.at_trials.specs.SmallFold.{CountsAll, HasOnlyFirst, HasOnlyRecord, IsNewTotals};
+
+use crate::payers::{may_pay, pay};
+use at_base::{Counts, Decision};
+use at_board::{Board, BoardSeat, Steps, pack_targets};
+use at_fold::Totals;
+use at_ledger::Targets;
+use at_log::Entry;
+use at_players::boards::{new_pair, new_single};
+use at_players::later_rounds::{begin, has_two_owners};
+use std::alloc::Global;
+use std::marker::Brand;
+use std::process::Abort;
+use std::sync::ledger::{Blank, Ledger};
+
+/// The only process pays, in nine steps.
+fn pays_alone<L: Ledger, X: Ledger>(
+    board: &Board,
+    seat: &mut BoardSeat,
+    targets: Targets,
+    steps: &mut Steps<L>,
+    exchanges: &mut Steps<X>,
+)
+    requires board { seat.old.board ≡ board.now.id }
+    requires new { seat.old.knows ≡ starting_seat board.now.book 0 }
+    requires pays { IsSoundOwn board.now.book 0 [] 0 targets }
+    requires alone { board.now.book.processes ≡ 1 }
+    ensures board { IsOf seat.new board.now }
+    ensures one { HasOnlyFirst board.now.book seat.new.knows.seen }
+    ensures steps { steps.new ≡ steps.old + 9 }
+    ensures exchanges { exchanges.new ≡ exchanges.old }
+{
+    let _entry = pay(board, seat, targets, steps, exchanges);
+}
+
+/// The words of the first record of the only process.
+fn first_words<L: Ledger, X: Ledger>(
+    board: &Board,
+    seat: &mut BoardSeat,
+    steps: &mut Steps<L>,
+    exchanges: &mut Steps<X>,
+) -> [u64; 8]
+    requires board { IsOf seat.old board.now }
+    requires alone { board.now.book.processes ≡ 1 }
+    requires one { HasOnlyFirst board.now.book seat.old.knows.seen }
+    ensures same { seat.new ≡ seat.old }
+{
+    let mut words = [0u64; 8];
+    for j in 0..8u32 {
+        words[j as usize] = board.load_record_word(seat, 0, 0, j, steps, exchanges);
+    }
+    words
+}
+
+/// New totals catch up with the only record, in seven steps.
+fn catches_up<L: Ledger, X: Ledger>(
+    board: &Board,
+    seat: &mut BoardSeat,
+    totals: &mut Totals,
+    steps: &mut Steps<L>,
+    exchanges: &mut Steps<X>,
+)
+    requires board { IsOf seat.old board.now }
+    requires one { HasOnlyFirst board.now.book seat.old.knows.seen }
+    requires counted { HasCounted totals.old board.now.book seat.old.knows.seen }
+    requires new { totals.old.upto ≡ replicate board.now.book.processes 0 }
+    ensures all { CountsAll totals.new board.now.book seat.new.knows.seen }
+    ensures same { seat.new ≡ seat.old }
+    ensures steps { steps.new ≡ steps.old + 7 }
+    ensures exchanges { exchanges.new ≡ exchanges.old }
+{
+    board.book().known();
+    seat.known();
+    let mut counts = Counts::zeros(board.book().processes());
+    counts.set(0, 1);
+    totals.catch_up(board, seat, &counts, steps, exchanges);
+}
+
+/// The balance of an account after all that was seen.
+fn balance(totals: &Totals, board: &Board, seat: &BoardSeat, account: u32) -> u64
+    requires all { CountsAll totals.now board.now.book seat.now.knows.seen }
+    requires account { account < length board.now.book.accounts }
+{
+    totals.balance(account)
+}
+
+/// Process 0 pays and tells process 1 of it, by a note alone. False where process 1 published something.
+fn pays_and_tells<L: Ledger, X: Ledger>(
+    board: &Board,
+    seat: &mut BoardSeat,
+    other: &mut BoardSeat,
+    targets: Targets,
+    steps: &mut Steps<L>,
+    exchanges: &mut Steps<X>,
+) -> bool
+    requires board { (seat.old.board ≡ board.now.id) × (other.old.board ≡ board.now.id) }
+    requires new { seat.old.knows ≡ starting_seat board.now.book 0 }
+    requires other { other.old.knows ≡ starting_seat board.now.book 1 }
+    requires pays { IsSoundOwn board.now.book 0 [] 0 targets }
+    requires two { board.now.book.processes ≡ 2 }
+    ensures board { IsOf other.new board.now }
+    ensures told { IsTrue result → HasOnlyFirst board.now.book other.new.knows.seen }
+{
+    let _entry = pay(board, seat, targets, steps, exchanges);
+    let found = board.load_length(seat, 1, steps, exchanges);
+    let note = board.note(seat, steps, exchanges);
+    board.learn(other, note, steps, exchanges);
+    found == 0
+}
+
+/// New totals count the first record of the seat's process.
+fn counts_first(totals: &mut Totals, seat: &BoardSeat, entry: &Entry)
+    requires counted { HasCounted totals.old seat.now.knows.book seat.now.knows.seen }
+    requires new { totals.old.upto ≡ replicate seat.now.knows.book.processes 0 }
+    requires paid { HasOnlyRecord seat.now.knows entry.now }
+    ensures counted { HasCounted totals.new seat.now.knows.book seat.now.knows.seen }
+    ensures upto { totals.new.upto ≡ slice_set totals.old.upto seat.now.knows.first 1 }
+{
+    seat.known();
+    totals.count_own(seat, entry);
+}
+
+/// What totals say of an account: its rounds, and of its first owner how many requests are decided, and how the first was.
+type Said = Option<(u32, u32, Option<(u32, Decision)>)>;
+
+/// What totals say of an account, if it is shared.
+fn said_of_shared(totals: &Totals, board: &Board, seat: &BoardSeat, account: u32) -> Said
+    requires counted { HasCounted totals.now board.now.book seat.now.knows.seen }
+{
+    let book = board.book();
+    if book.accounts() <= account || book.owner_count(account) < 2 || book.request_room() == 0 {
+        return None;
+    }
+    Some((
+        totals.rounds(account),
+        totals.done(account, 0),
+        totals.settled(account, 0, 0),
+    ))
+}
+
+/// 60 to account 1 and 40 to account 2.
+fn sixty_and_forty() -> Targets
+    ensures { result ≡ (1, 60) ∷ (2, 40) ∷ [] }
+{
+    let mut targets = Targets::one(1, 60);
+    targets.push(2, 40);
+    targets
+}
+
+/// Whether the only process pays 60 and 40, its record has these words, and totals that catch up tell the balances.
+fn counts_a_pay_out<L: Ledger, X: Ledger>(
+    board: &Board,
+    seat: &mut BoardSeat,
+    totals: &mut Totals,
+    steps: &mut Steps<L>,
+    exchanges: &mut Steps<X>,
+) -> bool
+    requires alone { board.now.book.processes ≡ 1 }
+    requires seat { seat.old ≡ new_seat board.now 0 }
+    requires new { IsNewTotals totals.old board.now.book }
+{
+    let targets = sixty_and_forty();
+    let word = pack_targets(&targets);
+    if !may_pay(board.book(), seat.process(), 3, &targets) {
+        return false;
+    }
+    pays_alone(board, seat, targets, steps, exchanges);
+    let words = first_words(board, seat, steps, exchanges);
+    catches_up(board, seat, totals, steps, exchanges);
+    words == [0, word, 0, 60, 40, 0, 0, 0]
+        && balance(totals, board, seat, 0) == 0
+        && balance(totals, board, seat, 1) == 60
+        && balance(totals, board, seat, 2) == 40
+}
+
+/// The only process of a board pays two targets, and new totals catch up.
+fn pays_out<L: Ledger, X: Ledger, R: Abort>(rt: &R, alloc: Global, one: Blank, another: Blank)
+    requires names { (one.name ≡ L.name) × (another.name ≡ X.name) }
+    requires parts { (one.parts ≡ L.parts) × (another.parts ≡ X.parts) }
+    requires some { (0 < one.parts) × (0 < another.parts) }
+{
+    let (steps, exchanges) = (&mut Steps::<L>::new(one), &mut Steps::<X>::new(another));
+    let accounts = [
+        (100, [0].as_slice()),
+        (0, [].as_slice()),
+        (0, [].as_slice()),
+    ];
+    let (board, mut seat) = new_single(alloc, 4, accounts.as_slice()).expect(rt, "a board");
+    let mut totals = Totals::new(alloc, board.book()).expect(rt, "totals");
+    assert!(rt; counts_a_pay_out(&board, &mut seat, &mut totals, steps, exchanges));
+}
+
+#[test]
+fn a_pay_out_is_counted(rt: HostRuntime) {
+    pays_out::<Brand, Brand, _>(&rt, rt.alloc(), Blank::new(1), Blank::new(1));
+}
+
+/// Whether totals have counted one record of process 0, and none of process 1.
+fn counts_one(totals: &Totals) -> bool {
+    let upto = totals.upto();
+    upto.len() == 2 && upto.get(0) == 1 && upto.get(1) == 0
+}
+
+/// Whether process 0 pays 40 and tells process 1, whose totals then tell the balances.
+fn counts_what_was_told<L: Ledger, X: Ledger>(
+    board: &Board,
+    seat: &mut BoardSeat,
+    other: &mut BoardSeat,
+    totals: &mut Totals,
+    steps: &mut Steps<L>,
+    exchanges: &mut Steps<X>,
+) -> bool
+    requires pair { AreNewPair board.now seat.old other.old }
+    requires new { IsNewTotals totals.old board.now.book }
+{
+    let targets = Targets::one(1, 40);
+    if !may_pay(board.book(), seat.process(), 2, &targets) {
+        return false;
+    }
+    if !pays_and_tells(board, seat, other, targets, steps, exchanges) {
+        return false;
+    }
+    catches_up(board, other, totals, steps, exchanges);
+    counts_one(totals)
+        && balance(totals, board, other, 0) == 60
+        && balance(totals, board, other, 1) == 40
+}
+
+/// One process pays, and new totals of the other catch up.
+fn tells<L: Ledger, X: Ledger, R: Abort>(rt: &R, alloc: Global, one: Blank, another: Blank)
+    requires names { (one.name ≡ L.name) × (another.name ≡ X.name) }
+    requires parts { (one.parts ≡ L.parts) × (another.parts ≡ X.parts) }
+    requires some { (0 < one.parts) × (0 < another.parts) }
+{
+    let (steps, exchanges) = (&mut Steps::<L>::new(one), &mut Steps::<X>::new(another));
+    let accounts = [(100, [0].as_slice()), (0, [1].as_slice())];
+    let (board, mut seat, mut other) = new_pair(alloc, 4, accounts.as_slice()).expect(
+        rt, "a board",
+    );
+    let mut totals = Totals::new(alloc, board.book()).expect(rt, "totals");
+    assert!(rt; counts_what_was_told(&board, &mut seat, &mut other, &mut totals, steps, exchanges));
+}
+
+#[test]
+fn a_told_record_is_counted(rt: HostRuntime) {
+    tells::<Brand, Brand, _>(&rt, rt.alloc(), Blank::new(1), Blank::new(1));
+}
+
+/// Whether process 0 counts its own record as it publishes it, and has no round of account 1, which it shares.
+fn counts_own<L: Ledger, X: Ledger>(
+    board: &Board,
+    seat: &mut BoardSeat,
+    totals: &mut Totals,
+    steps: &mut Steps<L>,
+    exchanges: &mut Steps<X>,
+) -> bool
+    requires seat { seat.old ≡ new_seat board.now 0 }
+    requires new { IsNewTotals totals.old board.now.book }
+{
+    let targets = Targets::one(1, 40);
+    if !may_pay(board.book(), seat.process(), 2, &targets) {
+        return false;
+    }
+    let entry = pay(board, seat, targets, steps, exchanges);
+    counts_first(totals, seat, &entry);
+    counts_one(totals) && said_of_shared(totals, board, seat, 1) == Some((0, 0, None))
+}
+
+/// A process counts its own record.
+fn counts<L: Ledger, X: Ledger, R: Abort>(rt: &R, alloc: Global, one: Blank, another: Blank)
+    requires names { (one.name ≡ L.name) × (another.name ≡ X.name) }
+    requires parts { (one.parts ≡ L.parts) × (another.parts ≡ X.parts) }
+    requires some { (0 < one.parts) × (0 < another.parts) }
+{
+    let (steps, exchanges) = (&mut Steps::<L>::new(one), &mut Steps::<X>::new(another));
+    let accounts = [(100, [0].as_slice()), (0, [0, 1].as_slice())];
+    let (board, mut seat, _) = new_pair(alloc, 4, accounts.as_slice()).expect(rt, "a board");
+    let mut totals = Totals::new(alloc, board.book()).expect(rt, "totals");
+    assert!(rt; counts_own(&board, &mut seat, &mut totals, steps, exchanges));
+}
+
+#[test]
+fn an_own_record_is_counted(rt: HostRuntime) {
+    counts::<Brand, Brand, _>(&rt, rt.alloc(), Blank::new(1), Blank::new(1));
+}
+
+/// The decision that process 0's first request succeeds, before anything is published.
+const FIRST: Decision = Decision {
+    ok: true,
+    slot: 0,
+    number: 0,
+    place: 0,
+};
+
+/// Whether process 0 asks to pay 60 to account 1, decides it in the first round of account 0 and publishes that as the only record.
+fn begins<L: Ledger, X: Ledger>(
+    board: &Board,
+    seat: &mut BoardSeat,
+    steps: &mut Steps<L>,
+    exchanges: &mut Steps<X>,
+) -> bool
+    requires two { board.now.book.processes ≡ 2 }
+    requires seat { seat.old ≡ new_seat board.now 0 }
+    ensures accounts { IsTrue result → 1 < length board.now.book.accounts }
+    ensures board { IsTrue result → IsOf seat.new board.now }
+    ensures one { IsTrue result → HasOnlyFirst board.now.book seat.new.knows.seen }
+{
+    if !has_two_owners(board.book()) {
+        return false;
+    }
+    begin(board, seat, steps, exchanges)
+}
+
+/// Whether totals that catch up with the record of a round tell what it has decided, and the balances after it.
+fn counts_a_round<L: Ledger, X: Ledger>(
+    board: &Board,
+    seat: &mut BoardSeat,
+    totals: &mut Totals,
+    steps: &mut Steps<L>,
+    exchanges: &mut Steps<X>,
+) -> bool
+    requires two { board.now.book.processes ≡ 2 }
+    requires seat { seat.old ≡ new_seat board.now 0 }
+    requires new { IsNewTotals totals.old board.now.book }
+{
+    if !begins(board, seat, steps, exchanges) {
+        return false;
+    }
+    catches_up(board, seat, totals, steps, exchanges);
+    counts_one(totals)
+        && said_of_shared(totals, board, seat, 0) == Some((1, 1, Some((0, FIRST))))
+        && balance(totals, board, seat, 0) == 40
+        && balance(totals, board, seat, 1) == 60
+}
+
+/// A round is decided and published on the account that two processes share, and new totals catch up.
+fn decides<L: Ledger, X: Ledger, R: Abort>(rt: &R, alloc: Global, one: Blank, another: Blank)
+    requires names { (one.name ≡ L.name) × (another.name ≡ X.name) }
+    requires parts { (one.parts ≡ L.parts) × (another.parts ≡ X.parts) }
+    requires some { (0 < one.parts) × (0 < another.parts) }
+{
+    let (steps, exchanges) = (&mut Steps::<L>::new(one), &mut Steps::<X>::new(another));
+    let accounts = [(100, [0, 1].as_slice()), (0, [].as_slice())];
+    let (board, mut seat, _) = new_pair(alloc, 4, accounts.as_slice()).expect(rt, "a board");
+    let mut totals = Totals::new(alloc, board.book()).expect(rt, "totals");
+    assert!(rt; counts_a_round(&board, &mut seat, &mut totals, steps, exchanges));
+}
+
+#[test]
+fn a_published_round_is_counted(rt: HostRuntime) {
+    decides::<Brand, Brand, _>(&rt, rt.alloc(), Blank::new(1), Blank::new(1));
+}

@@ -1,0 +1,17 @@
+//! Tests of the crates that share a board, over the players of at_players. There is nothing else here.
+#![tactic(auto)]
+
+#[cfg(test)]
+mod board_trials;
+#[cfg(test)]
+mod crowd_trials;
+#[cfg(test)]
+mod fold_trials;
+#[cfg(test)]
+mod log_trials;
+#[cfg(test)]
+mod payers;
+#[cfg(test)]
+mod scan_trials;
+#[cfg(test)]
+mod traffic_trials;

@@ -1,0 +1,236 @@
+//! Scans of a small board of three processes, while one of them publishes.
+
+ghost use Rattle.std.specs.Prelude.{◌≡◌, ◌<◌, [], ◌∷◌, IsTrue};
+ghost use Rattle.at_board.specs.Ends.Opening.{starting_seat};
+ghost use Rattle.at_board.specs.Knowledge.Seats.{IsOf};
+ghost use Rattle.at_players.specs.SmallBoard.{new_seat};
+ghost use Rattle.at_trials.specs.SmallScan.{HasPaid, MayPayTwice, one_from_1};
+
+use at_base::Counts;
+use at_board::{Board, BoardSeat, Steps};
+use at_ledger::{Book, Targets};
+use at_log::{Entry, Record, append};
+use at_players::boards::new_three;
+use at_snapshot::{Scan, Turn, snapshot};
+use std::alloc::Global;
+use std::marker::Brand;
+use std::process::Abort;
+use std::sync::ledger::{Blank, Ledger};
+
+/// The counts of three processes.
+fn three(counts: &Counts) -> Option<(u32, u32, u32)> {
+    if counts.len() != 3 {
+        return None;
+    }
+    Some((counts.get(0), counts.get(1), counts.get(2)))
+}
+
+/// The counts of a clean turn.
+fn clean(turn: &Turn) -> Option<(u32, u32, u32)> {
+    match turn {
+        Turn::Clean(counts) => three(counts),
+        _ => None,
+    }
+}
+
+/// Whether the scan goes on.
+fn is_again(turn: &Turn) -> bool {
+    matches!(turn, Turn::Again)
+}
+
+/// The counts of a turn that borrows a view.
+fn borrowed(turn: &Turn) -> Option<(u32, u32, u32)> {
+    match turn {
+        Turn::Borrowed(counts) => three(counts),
+        _ => None,
+    }
+}
+
+/// Whether these are the counts 0, 1 and 0.
+fn counts_the_first(counts: &Counts) -> bool
+    ensures { IsTrue result → counts.now ≡ 0 ∷ 1 ∷ 0 ∷ [] }
+{
+    counts.len() == 3 && counts.get(0) == 0 && counts.get(1) == 1 && counts.get(2) == 0
+}
+
+/// Whether a process may pay 1 from account 1 to account 0, and once more.
+#[tactic(auto, unfolding(at_history::specs::Rounds::firsts))]
+fn may_pay_twice(book: &Book, process: u32) -> bool
+    ensures { IsTrue result → MayPayTwice book.now process }
+{
+    if book.accounts() < 2 {
+        return false;
+    }
+    if book.owner_count(1) != 1 {
+        return false;
+    }
+    if book.slot_of(1, process).is_none() {
+        return false;
+    }
+    2 <= book.opening(1) && 2 <= book.own_room()
+}
+
+/// The payment with a view.
+fn paid(view: Counts) -> Record
+    ensures { result ≡ record { entry = one_from_1; view = view } }
+{
+    Record {
+        entry: Entry::Own {
+            from: 1,
+            targets: Targets::one(0, 1),
+        },
+        view,
+    }
+}
+
+/// Pays by the first record of the seat's process.
+fn pay<L: Ledger, X: Ledger>(
+    board: &Board,
+    seat: &mut BoardSeat,
+    steps: &mut Steps<L>,
+    exchanges: &mut Steps<X>,
+)
+    requires board { seat.old.board ≡ board.now.id }
+    requires new { seat.old.knows ≡ starting_seat board.now.book seat.old.knows.first }
+    requires pays { MayPayTwice board.now.book seat.old.knows.first }
+    ensures board { IsOf seat.new board.now }
+    ensures process { seat.new.knows.first ≡ seat.old.knows.first }
+    ensures paid { HasPaid seat.new.knows }
+{
+    board.book().known();
+    seat.known();
+    let record = paid(Counts::zeros(board.book().processes()));
+    append(board, seat, &record, steps, exchanges);
+}
+
+/// Pays once more with the view of a snapshot, where that counts the first payment alone.
+fn pay_again<L: Ledger, X: Ledger>(
+    board: &Board,
+    seat: &mut BoardSeat,
+    steps: &mut Steps<L>,
+    exchanges: &mut Steps<X>,
+) -> bool
+    requires board { IsOf seat.old board.now }
+    requires process { seat.old.knows.first ≡ 1 }
+    requires paid { HasPaid seat.old.knows }
+    requires pays { MayPayTwice board.now.book 1 }
+{
+    seat.known();
+    let view = snapshot(board, seat, steps, exchanges);
+    if !counts_the_first(&view) {
+        return false;
+    }
+    append(board, seat, &paid(view), steps, exchanges);
+    true
+}
+
+/// An account that opens with 10 for each of three processes.
+const ACCOUNTS: [(u64, &[u64]); 3] = [(10, &[0]), (10, &[1]), (10, &[2])];
+
+/// Whether the second collect equals the first, where nobody publishes, and a snapshot counts nothing.
+fn scans_alone<L: Ledger, X: Ledger>(
+    board: &Board,
+    seat: &mut BoardSeat,
+    steps: &mut Steps<L>,
+    exchanges: &mut Steps<X>,
+) -> bool
+    requires { seat.old ≡ new_seat board.now 2 }
+{
+    let mut scan = Scan::start(seat);
+    let first = scan.turn(board, seat, steps, exchanges);
+    let second = scan.turn(board, seat, steps, exchanges);
+    let counts = snapshot(board, seat, steps, exchanges);
+    is_again(&first) && clean(&second) == Some((0, 0, 0)) && three(&counts) == Some((0, 0, 0))
+}
+
+/// What a scan answers in its third turn, where another process publishes once after the first collect, and maybe again after the
+/// second. None where it is not turned away twice before.
+fn scans_beside<L: Ledger, X: Ledger>(
+    board: &Board,
+    seat: &mut BoardSeat,
+    other: &mut BoardSeat,
+    again: bool,
+    steps: &mut Steps<L>,
+    exchanges: &mut Steps<X>,
+) -> Option<Turn>
+    requires seat { seat.old ≡ new_seat board.now 0 }
+    requires other { other.old ≡ new_seat board.now 1 }
+{
+    if !may_pay_twice(board.book(), other.process()) {
+        return None;
+    }
+    let mut scan = Scan::start(seat);
+    let first = scan.turn(board, seat, steps, exchanges);
+    pay(board, other, steps, exchanges);
+    let second = scan.turn(board, seat, steps, exchanges);
+    if again && !pay_again(board, other, steps, exchanges) {
+        return None;
+    }
+    let third = scan.turn(board, seat, steps, exchanges);
+    if is_again(&first) && is_again(&second) {
+        Some(third)
+    } else {
+        None
+    }
+}
+
+/// Nobody publishes.
+fn scans<L: Ledger, X: Ledger, R: Abort>(rt: &R, alloc: Global, one: Blank, another: Blank)
+    requires names { (one.name ≡ L.name) × (another.name ≡ X.name) }
+    requires parts { (one.parts ≡ L.parts) × (another.parts ≡ X.parts) }
+    requires some { (0 < one.parts) × (0 < another.parts) }
+{
+    let (steps, exchanges) = (&mut Steps::<L>::new(one), &mut Steps::<X>::new(another));
+    let (board, (_, _, mut seat)) = new_three(alloc, 4, ACCOUNTS.as_slice()).expect(rt, "a board");
+    assert!(rt; scans_alone(&board, &mut seat, steps, exchanges));
+}
+
+/// Another process publishes, once or twice. Whether the scan answers these counts, its own or borrowed.
+fn meets<L: Ledger, X: Ledger, R: Abort>(
+    rt: &R,
+    alloc: Global,
+    one: Blank,
+    another: Blank,
+    again: bool,
+)
+    requires names { (one.name ≡ L.name) × (another.name ≡ X.name) }
+    requires parts { (one.parts ≡ L.parts) × (another.parts ≡ X.parts) }
+    requires some { (0 < one.parts) × (0 < another.parts) }
+{
+    let (steps, exchanges) = (&mut Steps::<L>::new(one), &mut Steps::<X>::new(another));
+    let (board, (mut seat, mut other, _)) = new_three(alloc, 4, ACCOUNTS.as_slice()).expect(
+        rt, "a board",
+    );
+    let third = scans_beside(&board, &mut seat, &mut other, again, steps, exchanges);
+    assert!(rt; counts_one(&third, again));
+}
+
+/// Whether a scan answered the counts 0, 1 and 0, borrowed or its own.
+fn counts_one(third: &Option<Turn>, is_borrowed: bool) -> bool {
+    match third {
+        Some(turn) => {
+            let answer = if is_borrowed {
+                borrowed(turn)
+            } else {
+                clean(turn)
+            };
+            answer == Some((0, 1, 0))
+        }
+        None => false,
+    }
+}
+
+#[test]
+fn a_scan_ends(rt: HostRuntime) {
+    scans::<Brand, Brand, _>(&rt, rt.alloc(), Blank::new(1), Blank::new(1));
+}
+
+#[test]
+fn a_scan_meets_a_record(rt: HostRuntime) {
+    meets::<Brand, Brand, _>(&rt, rt.alloc(), Blank::new(1), Blank::new(1), false);
+}
+
+#[test]
+fn a_scan_borrows_a_view(rt: HostRuntime) {
+    meets::<Brand, Brand, _>(&rt, rt.alloc(), Blank::new(1), Blank::new(1), true);
+}
