@@ -30,8 +30,9 @@ fn pays_alone<L: Ledger, X: Ledger>(
     exchanges: &mut Steps<X>,
 )
     requires board { seat.old.board ≡ board.now.id }
-    requires new { seat.old.knows ≡ starting_seat board.now.book 0 }
-    requires pays { IsSoundOwn board.now.book 0 [] 0 targets }
+    requires new { seat.old.knows ≡ starting_seat board.now.book seat.old.knows.first }
+    requires process { seat.old.knows.first ≡ 0 }
+    requires pays { IsSoundOwn board.now.book seat.old.knows.first [] 0 targets }
     requires alone { board.now.book.processes ≡ 1 }
     ensures board { IsOf seat.new board.now }
     ensures one { HasOnlyFirst board.now.book seat.new.knows.seen }
@@ -102,9 +103,10 @@ fn pays_and_tells<L: Ledger, X: Ledger>(
     exchanges: &mut Steps<X>,
 ) -> bool
     requires board { (seat.old.board ≡ board.now.id) × (other.old.board ≡ board.now.id) }
-    requires new { seat.old.knows ≡ starting_seat board.now.book 0 }
+    requires new { seat.old.knows ≡ starting_seat board.now.book seat.old.knows.first }
+    requires process { seat.old.knows.first ≡ 0 }
     requires other { other.old.knows ≡ starting_seat board.now.book 1 }
-    requires pays { IsSoundOwn board.now.book 0 [] 0 targets }
+    requires pays { IsSoundOwn board.now.book seat.old.knows.first [] 0 targets }
     requires two { board.now.book.processes ≡ 2 }
     ensures board { IsOf other.new board.now }
     ensures told { IsTrue result → HasOnlyFirst board.now.book other.new.knows.seen }

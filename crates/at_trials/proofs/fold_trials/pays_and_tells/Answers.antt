@@ -16,7 +16,7 @@ returns-clause-told g c = λ zero_found.
     let after : Knowledge = c.learn.new.seat.knows in
     let told = c.load_length-found.ensures.told in
     let first : count_of 0 looked.seen ≡ 1 =
-    ap (λ k. count_of k looked.seen) (sym c.pay-entry.ensures.process) ∙ (told.own ∙ c.pay-entry.ensures.paid.published) in
+    ap (λ k. count_of k looked.seen) (sym (c.pay-entry.ensures.process ∙ c.requires.process)) ∙ (told.own ∙ c.pay-entry.ensures.paid.published) in
     let second : count_of 1 looked.seen ≡ 0 = told.counted ∙ eqb-true c.load_length-found.result 0 zero_found in
     let noted : note.seen ≡ looked.seen = ap (λ (t : Knowledge). t.seen) c.note-note.ensures.noted in
     let taken : after.seen ≡ note.seen =
