@@ -1,4 +1,3 @@
-pub mod Announced
 pub mod OwnRequests
 pub mod Kept
 pub mod Asking

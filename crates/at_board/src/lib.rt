@@ -11,8 +11,7 @@
 //!
 //! The definitions read best in this order. Where the words lie, what they hold, and what they stand for: `Words`. What a seat
 //! knows: `Knowledge`, with `Parts` first. The rule: `Rule`. What each call asks and tells: `Steps`, a file for each. How a board
-//! begins and ends: `Ends`. `Steps/Plays` and `Steps/Meetings` tie the steps to the table, `Knowledge/Fresh` is for the crates above,
-//! and `SmallBoard` for the tests.
+//! begins and ends: `Ends`. `Steps/Plays` and `Steps/Meetings` tie the steps to the table, and `Knowledge/Fresh` is for the crates above.
 #![tactic(auto)]
 
 mod addresses;

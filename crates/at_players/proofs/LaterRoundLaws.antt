@@ -1,9 +1,12 @@
 -- Two rounds of a shared account that the tests publish, of which the first has two records.
-use Rattle.std.proofs.Common.{◌≡◌, ℕ, ◌+◌, ◌*◌, ◌<◌, ◌≤◌, ◌||◌, true, List, [], ◌∷◌, ◌++◌, length, get_or, sum, replicate, set, take, drop, None, is_some, refl, sym, ap, subst, ◌∙◌, arith, inl, set-set, length-append, length-set}
-use Rattle.std.proofs.lemmas.List.{take-append-drop}
+use Rattle.std.proofs.Common.{◌≡◌, ℕ, ◌+◌, ◌*◌, ◌<◌, ◌≤◌, ◌||◌, true, List, [], ◌∷◌, ◌++◌, length, get_or, sum, replicate, set, take, drop, None, is_some, refl, sym, ap, subst, ◌∙◌, arith, inl, set-set, length-append, length-set, ◌⊎◌, Some, inr}
+use mathlib.Core.Option.{none}
+use Rattle.std.proofs.lemmas.Bool.{cases_lt}
+use Rattle.std.proofs.lemmas.List.{take-append-drop, get_or-set_same}
 use Rattle.std.proofs.lemmas.List.Elements.{All-cons, All-nil, Contains-append_right}
 use Rattle.std.proofs.lemmas.List.Folds.{list_any-append}
 use Rattle.std.specs.List.{Contains, count_by, sum_by}
+use Rattle.at_base.proofs.DecisionLaws.{same_decision}
 use Rattle.at_base.specs.Decision.{InRange, word_of}
 use Rattle.at_base.specs.declared.decision.Decision.{Decision}
 use Rattle.at_ledger.specs.Book.{BookTerms, account_of, HasSlot}
@@ -13,6 +16,7 @@ use Rattle.at_history.proofs.Laws.Histories.{ArePublishedBy-IsHistory}
 use Rattle.at_history.proofs.Laws.Prefixes.{IsPrefix-length, IsPrefix-trans, take-IsPrefix}
 use Rattle.at_history.proofs.Laws.Rounds.{firsts-nil}
 use Rattle.at_history.proofs.Laws.Sums.{get_or-zeros}
+use Rattle.at_history.proofs.Steps.Decide.{cell, decided}
 use Rattle.at_history.specs.Balances.{IsCovered, credit_of, debit_of}
 use Rattle.at_history.specs.Entries.{is_round_on, settles}
 use Rattle.at_history.specs.Fronts.{prefix_of}
@@ -23,12 +27,7 @@ use Rattle.at_history.specs.Sound.{HasView, IsSoundRound}
 use Rattle.at_history.specs.declared.publication.Entry.TheVariants.{Round}
 use Rattle.at_history.specs.declared.publication.Publication.{Publication}
 use Rattle.at_history.specs.declared.request.Request.{Request}
-use Rattle.at_board.proofs.KnowledgeLaws.Announced.{HasOwnPart, asking_on-with_asking}
-use Rattle.at_board.proofs.KnowledgeLaws.OwnRequests.{own_part-with_part}
-use Rattle.at_players.proofs.SmallBoardLaws.{Stores, Stores-more, Stores-none, shared-HasSlot}
-use Rattle.at_board.proofs.WordLaws.Packed.{same_decision}
-use Rattle.at_board.specs.Knowledge.Parts.{part_asking, seen_as, with_asking, with_part, SeesDecision, SeesRequest, asking_on, own_part}
-use Rattle.at_players.specs.SmallBoard.{HasTwoOwners, MayAskIn, MayRecord, decision_in, first_twice, payment_in, record_in}
+use Rattle.at_board.specs.Knowledge.Parts.{part_asking, seen_as, with_asking, with_part, SeesDecision, SeesRequest, asking_on, own_part, no_part}
 use Rattle.at_board.specs.Steps.Announce.{MayAnnounce, Announces, with_request}
 use Rattle.at_board.specs.Steps.Decide.{MayPropose, Decides, with_decide, with_decision}
 use Rattle.at_board.specs.Steps.Publish.{MayEnter, MayPublish, Publishes, with_record}
@@ -36,9 +35,12 @@ use Rattle.at_board.specs.Steps.StoreRecordWord.{StoresWord, with_word}
 use Rattle.at_board.specs.Steps.StoreRequestWord.{MayAsk, StoresRequestWord, with_request_word}
 use Rattle.at_board.specs.Words.Packed.{head_of}
 use Rattle.at_board.specs.declared.knowledge.Asking.{Asking}
+use Rattle.at_board.specs.declared.knowledge.Knowledge.{Knowledge}
 use Rattle.at_board.specs.declared.knowledge.Part.{Part}
 use Rattle.at_board.specs.declared.knowledge.SeenDecision.{SeenDecision}
-use Rattle.at_board.specs.declared.knowledge.Knowledge.{Knowledge}
+use Rattle.at_players.proofs.Announced.{HasOwnPart, asking_on-with_asking}
+use Rattle.at_players.proofs.SmallBoardLaws.{Stores, Stores-more, Stores-none, shared-HasSlot}
+use Rattle.at_players.specs.SmallBoard.{HasTwoOwners, MayAskIn, MayRecord, decision_in, first_twice, payment_in, record_in}
 
 -- one part is put in place of another
 set_one : (xs : List Part) (q : Part) → length xs ≡ 1 → set xs 0 q ≡ q ∷ []
@@ -110,7 +112,7 @@ may_publish_in b v u round m h d k two may head word count told =
 with_asking-again : (v : Knowledge) (s t : Asking) → 0 < length v.parts → with_asking (with_asking v 0 s) 0 t ≡ with_asking v 0 t
 with_asking-again v s t part =
     let q : Part = part_asking (own_part v) 0 s in
-    ap (λ (p : Part). with_part (with_part v q) (part_asking p 0 t)) (own_part-with_part v q part)
+    ap (λ (p : Part). with_part (with_part v q) (part_asking p 0 t)) (get_or-set_same v.parts 0 q no_part part)
     ∙ (ap (λ xs. with_part (with_part v q) (record (own_part v) { asking = xs })) (set-set (own_part v).asking 0 s t)
     ∙ ap (λ ps. record v { parts = ps }) (set-set v.parts 0 q (part_asking (own_part v) 0 t)))
 
@@ -173,7 +175,7 @@ Announces-stored b v u w t r has within before kept told =
     let s : Asking = asking_on (own_part v) 0 in
     let seen : u.seen ≡ v.seen = ap (λ (x : Knowledge). x.seen) before in
     let published : (own_part u).published ≡ (own_part v).published =
-    ap (λ (x : Knowledge). (own_part x).published) before ∙ ap (λ (p : Part). p.published) (own_part-with_part v (part_asking (own_part v) 0 t) part) in
+    ap (λ (x : Knowledge). (own_part x).published) before ∙ ap (λ (p : Part). p.published) (get_or-set_same v.parts 0 (part_asking (own_part v) 0 t) no_part part) in
     let last : Asking = with_request s r (rounds 0 w.seen) in
     let old : Knowledge = record v { seen = w.seen; requests = v.requests ++ seen_as 0 0 (length s.announced) r ∷ [] } in
     record {
@@ -195,16 +197,15 @@ pub part-Announces : (b : BookTerms) (v w : Knowledge) (r : Request) → 0 < len
 part-Announces b v w r part told =
     let t : Asking = asking_on (own_part v) 0 in
     ap own_part told.same
-    ∙ own_part-with_part (record v { seen = w.seen; requests = v.requests ++ seen_as 0 0 (length t.announced) r ∷ [] })
-    (part_asking (own_part v) 0 (with_request t r (rounds 0 w.seen))) part
+    ∙ get_or-set_same (record v { seen = w.seen; requests = v.requests ++ seen_as 0 0 (length t.announced) r ∷ [] }).parts 0 (part_asking (own_part v) 0 (with_request t r (rounds 0 w.seen))) no_part part
 
 pub part-Decides : (b : BookTerms) (v w : Knowledge) (round n : ℕ) (d : Decision) → 0 < length v.parts → (told : Decides b v w 0 round d n)
     → own_part w ≡ with_decide (own_part v) 0 told.held
 part-Decides b v w round n d part told =
-    ap own_part told.same ∙ own_part-with_part (with_decision v w.seen 0 round told.decision) (with_decide (own_part v) 0 told.held) part
+    ap own_part told.same ∙ get_or-set_same (with_decision v w.seen 0 round told.decision).parts 0 (with_decide (own_part v) 0 told.held) no_part part
 
 pub part-Publishes : (b : BookTerms) (v w : Knowledge) (x : Publication) → 0 < length v.parts → Publishes b v w x → own_part w ≡ with_record b (own_part v) x
-part-Publishes b v w x part told = ap own_part told.same ∙ own_part-with_part (record v { seen = w.seen }) (with_record b (own_part v) x) part
+part-Publishes b v w x part told = ap own_part told.same ∙ get_or-set_same (record v { seen = w.seen }).parts 0 (with_record b (own_part v) x) no_part part
 
 -- and its parts are as many
 pub parts-Announces : (b : BookTerms) (v w : Knowledge) (r : Request) → Announces b v w 0 0 r → length w.parts ≡ length v.parts
@@ -387,3 +388,14 @@ seen_twice b v w u x y two before told more history zero one =
     more.1 ∙ (ap (λ xs. xs ++ more.0) told.seen ∙ ap (λ xs. ((xs ++ told.between) ++ y ∷ []) ++ more.0) before.1) in
     is ∙ ap (λ ys. x ∷ ys)
     (only_one (before.0 ++ told.between) more.0 rest y (omega (arith, length_two b u.seen two history, zero, one, ap length is)) refl)
+
+-- the seat holds the cell where its proposal is decided, or none
+pub held-Decides : (b : BookTerms) (v w : Knowledge) (a round : ℕ) (d : Decision) (n : ℕ) → (told : Decides b v w a round d n)
+    → (told.held ≡ None) ⊎ (told.held ≡ Some (record { account = a; round = round })) × (told.decision ≡ d)
+held-Decides b v w a round d n told =
+    elim (cases_lt round (length (told.met.state.cells a))) as (λ _. (told.held ≡ None) ⊎ (told.held ≡ Some (record { account = a; round = round })) × (told.decision ≡ d)) [
+      | inl within ↦ inl (told.met.stood within).1
+      | inr past ↦
+          let won = told.met.undecided (omega (arith, past, told.met.within)) in
+          inr (won.1, won.0)
+    ]

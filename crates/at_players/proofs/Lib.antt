@@ -1,2 +1,3 @@
 pub mod SmallBoardLaws
 pub mod LaterRoundLaws
+pub mod Announced

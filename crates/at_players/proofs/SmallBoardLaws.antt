@@ -1,7 +1,7 @@
 -- Seats of a small board between two records, for the tests.
 use Rattle.std.proofs.Common.{◌≡◌, ℕ, ◌+◌, ◌*◌, ◌^◌, ◌<◌, true, cond, List, [], ◌∷◌, length, get_or, replicate, take, None, is_some, refl, sym, ap, subst, ◌∙◌, arith, inl, inr}
 use Rattle.std.proofs.lemmas.Bool.{cases_Bool}
-use Rattle.std.proofs.lemmas.List.{length-set, replicate-append-replicate}
+use Rattle.std.proofs.lemmas.List.{length-set, replicate-append-replicate, get_or-set_same}
 use Rattle.std.proofs.lemmas.List.Elements.{All-cons, All-nil}
 use Rattle.std.specs.List.{count_by}
 use Rattle.at_base.specs.Decision.{word_of}
@@ -23,8 +23,7 @@ use Rattle.at_history.specs.Rounds.{owns_of, rounds}
 use Rattle.at_history.specs.Sound.{HasView, IsSoundOwn, IsSoundRound}
 use Rattle.at_history.specs.declared.publication.Entry.TheVariants.{Own, Round}
 use Rattle.at_history.specs.declared.publication.Publication.{Publication}
-use Rattle.at_board.proofs.KnowledgeLaws.OwnRequests.{own_part-with_part}
-use Rattle.at_board.specs.Knowledge.Parts.{SeesDecision, SeesRequest, own_part}
+use Rattle.at_board.specs.Knowledge.Parts.{SeesDecision, SeesRequest, own_part, no_part}
 use Rattle.at_board.specs.Knowledge.Seats.{BoardTerms, IsOf, SeatTerms}
 use Rattle.at_players.specs.SmallBoard.{HasOwnAccount, HasWon, IsIdle, IsOwnFront, first_decision, payment}
 use Rattle.at_board.specs.Steps.Publish.{MayPublish, Publishes, with_record}
@@ -35,7 +34,7 @@ use Rattle.at_board.specs.declared.knowledge.Knowledge.{Knowledge}
 
 -- the part of a seat that has stored a word
 pub own_part-StoresWord : (v w : Knowledge) (j n : ℕ) → 0 < length v.parts → StoresWord v w j n → own_part w ≡ with_word (own_part v) j n
-own_part-StoresWord v w j n part told = ap own_part told ∙ own_part-with_part v (with_word (own_part v) j n) part
+own_part-StoresWord v w j n part told = ap own_part told ∙ get_or-set_same v.parts 0 (with_word (own_part v) j n) no_part part
 
 -- a list of four is its elements
 pub list_of_four : (xs : List ℕ) → length xs ≡ 4 → xs ≡ get_or xs 0 0 ∷ get_or xs 1 0 ∷ get_or xs 2 0 ∷ get_or xs 3 0 ∷ []
@@ -166,7 +165,7 @@ IsIdle-published board v w u q x of_board one_part stored free told id =
     let one : length w.knows.parts ≡ 1 = stored.parts ∙ one_part in
     let part : Part = with_record board.book (own_part w.knows) x in
     let own : own_part u.knows ≡ part =
-    ap own_part told.same ∙ own_part-with_part (record w.knows { seen = u.knows.seen }) part (omega (arith, one)) in
+    ap own_part told.same ∙ get_or-set_same (record w.knows { seen = u.knows.seen }).parts 0 part no_part (omega (arith, one)) in
     record {
       of_board = record {
         id = id ∙ of_board.id;

@@ -1,5 +1,5 @@
 -- An exchange on a cell keeps the rule.
-use Rattle.std.proofs.Common.{◌≡◌, ℕ, ◌+◌, ◌<◌, ◌⊎◌, ◌==◌, List, [], ◌∷◌, length, get_or, set, Option, Some, None, refl, sym, ap, subst, ◌∙◌, arith, inl, inr, ◌≢◌, ◌≤◌, Bool, cond, zero, ◌++◌, ◌↔◌, true, false, take}
+use Rattle.std.proofs.Common.{◌≡◌, ℕ, ◌+◌, ◌<◌, ◌==◌, List, [], ◌∷◌, length, get_or, set, Option, Some, None, refl, sym, ap, subst, ◌∙◌, arith, inl, inr, ◌≢◌, ◌≤◌, Bool, cond, zero, ◌++◌, ◌↔◌, true, false, take}
 use lib.ListN.{get_elem?}
 use mathlib.Core.Option.{none, some}
 use prog.Atomic.{either}
@@ -7,18 +7,18 @@ use Rattle.std.proofs.lemmas.Bool.{cases_eq, cases_lt, eq-eqb, ne_eqb, le-ltb, l
 use Rattle.std.proofs.lemmas.List.{get_or-set_other, get_or-set_same, length-set, set-get_or, get_or_push, length_push}
 use Rattle.std.proofs.lemmas.List.Elements.{All-append, All-cons, All-nil, All-contains}
 use Rattle.std.specs.List.{All, Contains}
+use Rattle.at_base.proofs.DecisionLaws.{same_decision}
 use Rattle.at_base.specs.Decision.{word_of}
 use Rattle.at_base.specs.declared.decision.Decision.{Decision}
 use Rattle.atomic_table.specs.Table.{Allows, Me, keeps, step}
 use Rattle.at_ledger.specs.Book.{BookTerms, IsBegun}
 use Rattle.at_ledger.specs.Call.{amount_of}
-use Rattle.at_history.proofs.Laws.RoundsDecided.{AreDecided-take}
 use Rattle.at_history.proofs.Laws.DecisionNumbers.{no_decision}
-use Rattle.at_history.proofs.Laws.Histories.{rounds-unsettled}
+use Rattle.at_history.proofs.Laws.HasRuns.{HasRuns-Sound}
+use Rattle.at_history.proofs.Laws.Histories.{rounds-unsettled, IsHistory-Sound}
 use Rattle.at_history.proofs.Laws.Prefixes.{IsPrefix-refl, IsPrefix-length, take-IsPrefix-le}
 use Rattle.at_history.proofs.Laws.Rounds.{rounds-IsPrefix}
-use Rattle.at_history.proofs.Laws.HasRuns.{HasRuns-Sound}
-use Rattle.at_history.proofs.Laws.Histories.{IsHistory-Sound}
+use Rattle.at_history.proofs.Laws.RoundsDecided.{AreDecided-take}
 use Rattle.at_history.proofs.Steps.Decide.{cell, decided, Sound-decided, cells-own, cells-other, KeptCells-push, KeptCells-decided, held-other, held-own, IsNextDecision}
 use Rattle.at_history.specs.Balances.{IsCovered}
 use Rattle.at_history.specs.BoardState.{BoardState, decision_at, request_at}
@@ -35,10 +35,9 @@ use Rattle.at_board.proofs.KnowledgeLaws.OwnRequests.{asking_on-part_asking, See
 use Rattle.at_board.proofs.KnowledgeLaws.Seats.{AreSeated-set, knows_after}
 use Rattle.at_board.proofs.StepLaws.LoadLength.{parts_after}
 use Rattle.at_board.proofs.StepLaws.StoreRecordWord.{other_process}
-use Rattle.at_board.proofs.WordLaws.Same.{SameRecordWords, SameRequestWords}
 use Rattle.at_board.proofs.StepLaws.Table.{IsSeatOf}
 use Rattle.at_board.proofs.WordLaws.Addresses.{index_of-injective, word_at-set_other, word_at-set_same}
-use Rattle.at_board.proofs.WordLaws.Packed.{same_decision}
+use Rattle.at_board.proofs.WordLaws.Same.{SameRecordWords, SameRequestWords}
 use Rattle.at_board.specs.Knowledge.Agreement.{DecisionInRange, SeesInRange, AgreesWithSeen, RequestInRange}
 use Rattle.at_board.specs.Knowledge.Knows.{HasPart, Knows, HasAsking, IsDecided, IsAnnounced}
 use Rattle.at_board.specs.Knowledge.Parts.{with_part, asking_on, no_asking, own_part, SeesDecision, part_at}
@@ -49,10 +48,10 @@ use Rattle.at_board.specs.Words.Addresses.{IsAddress, cell_of, index_of, record_
 use Rattle.at_board.specs.Words.Packed.{cell_word}
 use Rattle.at_board.specs.Words.Shown.{Shown}
 use Rattle.at_board.specs.declared.knowledge.Asking.{Asking}
+use Rattle.at_board.specs.declared.knowledge.Knowledge.{Knowledge}
 use Rattle.at_board.specs.declared.knowledge.Part.{Part}
 use Rattle.at_board.specs.declared.knowledge.SeenDecision.{SeenDecision}
 use Rattle.at_board.specs.declared.knowledge.SeenRequest.{SeenRequest}
-use Rattle.at_board.specs.declared.knowledge.Knowledge.{Knowledge}
 
 -- the same at an equal book and knowledge
 MayPropose-same : (b c : BookTerms) (v u : Knowledge) (a round : ℕ) (d : Decision) (r : Request) → b ≡ c → v ≡ u → MayPropose b v a round d r
@@ -583,16 +582,5 @@ HasCounts-decided b v w a round d n counts part sized told has =
     subst (λ t. HasCounts t counts) (sym told.same)
     (HasCounts-with_part u (with_decide q a told.held) counts part
     (λ k within. announced-decide q a k told.held (omega (arith, within, sized))) before)
-
--- the seat holds the cell where its proposal is decided, or none
-pub held-Decides : (b : BookTerms) (v w : Knowledge) (a round : ℕ) (d : Decision) (n : ℕ) → (told : Decides b v w a round d n)
-    → (told.held ≡ None) ⊎ (told.held ≡ Some (record { account = a; round = round })) × (told.decision ≡ d)
-held-Decides b v w a round d n told =
-    elim (cases_lt round (length (told.met.state.cells a))) as (λ _. (told.held ≡ None) ⊎ (told.held ≡ Some (record { account = a; round = round })) × (told.decision ≡ d)) [
-      | inl within ↦ inl (told.met.stood within).1
-      | inr past ↦
-          let won = told.met.undecided (omega (arith, past, told.met.within)) in
-          inr (won.1, won.0)
-    ]
 
 -- one more decision is made

@@ -1,11 +1,10 @@
 -- Words that are packed from two records or requests are the same only if these are.
-use Rattle.std.proofs.Common.{◌≡◌, ℕ, ◌+◌, ◌*◌, ◌<◌, ◌≤◌, zero, suc, Bool, true, false, cond, List, length, get_or, refl, sym, subst, ◌∙◌, arith, inl, inr}
+use Rattle.std.proofs.Common.{◌≡◌, ℕ, ◌+◌, ◌*◌, ◌<◌, ◌≤◌, zero, suc, List, length, get_or, sym, subst, ◌∙◌, arith, inl, inr}
 use Rattle.std.proofs.lemmas.Bool.{cases_lt}
 use Rattle.std.proofs.lemmas.List.{get_or-map, get_or_default, get_or_past, length-map, same_lists}
 use Rattle.std.proofs.lemmas.List.Elements.{All-from_get_or, All-get_or}
 use Rattle.std.proofs.lemmas.List.Sums.{get_or-le-sum_by}
-use Rattle.at_base.specs.Decision.{InRange, word_of}
-use Rattle.at_base.specs.declared.decision.Decision.{Decision}
+use Rattle.at_base.proofs.DecisionLaws.{same_decision}
 use Rattle.at_ledger.specs.Account.{no_account, rounds_room}
 use Rattle.at_ledger.specs.Book.{BookTerms, IsBegun}
 use Rattle.at_ledger.specs.Call.{AreTargetsOn, TargetPair}
@@ -106,28 +105,6 @@ same_targets xs ys one other word amounts =
     let account : (k : ℕ) → k < 4 → get_or (accounts_of xs) k 0 ≡ get_or (accounts_of ys) k 0 =
     below_four (λ k. get_or (accounts_of xs) k 0 ≡ get_or (accounts_of ys) k 0) same.first same.second same.third same.fourth in
     same_lists xs ys sized (λ k d within. same_target xs ys k sized (account k (omega arith)) (amount k (omega arith)) within d)
-
--- a decision by its word
-same_bit : (x y : Bool) → cond x 1 0 ≡ cond {A = ℕ} y 1 0 → x ≡ y
-same_bit true true e = refl
-same_bit false false e = refl
-same_bit true false e = absurd (omega arith)
-same_bit false true e = absurd (omega arith)
-
-small_bit : (x : Bool) → cond x 1 0 < 2
-small_bit true = omega arith
-small_bit false = omega arith
-
-same_fields : (a b c d a' b' c' d' : ℕ) → a < 2 → b < 8 → c < 1024 → a' < 2 → b' < 8 → c' < 1024
-    → 1 + a + 2 * b + 16 * c + 262144 * d ≡ 1 + a' + 2 * b' + 16 * c' + 262144 * d' → (a ≡ a') × (b ≡ b') × (c ≡ c') × (d ≡ d')
-same_fields a b c d a' b' c' d' p0 p1 p2 q0 q1 q2 e = (omega arith, omega arith, omega arith, omega arith)
-
-pub same_decision : (d e : Decision) → InRange d → InRange e → word_of d ≡ word_of e → d ≡ e
-same_decision d e one other same =
-    let fields = same_fields (cond d.ok 1 0) d.slot d.number d.place (cond e.ok 1 0) e.slot e.number e.place
-    (small_bit d.ok) one.slot one.number (small_bit e.ok) other.slot other.number same in
-    let ok = same_bit d.ok e.ok fields.0 in
-    λ t. record { ok = ok t; slot = fields.1 t; number = fields.2 t; place = fields.3 t }
 
 same_head : (a r a' r' : ℕ) → a < 65536 → a' < 65536 → 1 + 2 * a + 8589934592 * r ≡ 1 + 2 * a' + 8589934592 * r' → (a ≡ a') × (r ≡ r')
 same_head a r a' r' one other same = (omega arith, omega arith)

@@ -1,9 +1,9 @@
 use Rattle.std.proofs.Common.{◌≡◌, ℕ, ◌<◌, List, [], ◌∷◌, length, get_or, refl, sym, ap, subst, ◌∙◌, arith}
 use Rattle.at_ledger.specs.Book.{BookTerms}
+use Rattle.std.proofs.lemmas.List.{get_or-set_same}
 use Rattle.at_history.proofs.Laws.Counts.{get_or-counts}
 use Rattle.at_history.proofs.Laws.Fronts.{IsFront-IsPrefix, IsFront-counts}
 use Rattle.at_history.proofs.Laws.Prefixes.{IsPrefix-count_of, IsPrefix-trans}
-use Rattle.at_board.proofs.KnowledgeLaws.OwnRequests.{own_part-with_part}
 use Rattle.at_history.proofs.Laws.Histories.{ArePublishedBy-IsHistory}
 use Rattle.at_history.specs.declared.publication.Publication.{Publication}
 use Rattle.at_board.specs.declared.knowledge.Part.{Part}
@@ -12,7 +12,7 @@ use Rattle.at_history.specs.Fronts.{IsFront}
 use Rattle.at_history.specs.Publications.{IsPrefix, count_of, counts}
 use Rattle.at_players.specs.SmallBoard.{IsOwnFront}
 use Rattle.at_board.specs.Steps.LoadLength.{LoadsLength, with_load}
-use Rattle.at_board.specs.Knowledge.Parts.{own_part}
+use Rattle.at_board.specs.Knowledge.Parts.{own_part, no_part}
 use Rattle.at_players.proofs.crowd.front.Goals as goal
 
 counts-four : (xs : List Publication) → counts 4 xs ≡ count_of 0 xs ∷ count_of 1 xs ∷ count_of 2 xs ∷ count_of 3 xs ∷ []
@@ -23,7 +23,7 @@ counts-four xs = refl
 published-load : (b : BookTerms) (v w : Knowledge) (p n : ℕ) → length v.parts ≡ 1 → LoadsLength b v w p n → (own_part w).published ≡ (own_part v).published
 published-load b v w p n one told =
     ap (λ (t : Knowledge). (own_part t).published) told.same
-    ∙ ap (λ (q : Part). q.published) (own_part-with_part (record v { seen = w.seen }) (with_load (own_part v) p n) (omega (arith, one)))
+    ∙ ap (λ (q : Part). q.published) (get_or-set_same (record v { seen = w.seen }).parts 0 (with_load (own_part v) p n) no_part (omega (arith, one)))
 
 first-load : (b : BookTerms) (v w : Knowledge) (p n : ℕ) → LoadsLength b v w p n → w.first ≡ v.first
 first-load b v w p n told = ap (λ (t : Knowledge). t.first) told.same

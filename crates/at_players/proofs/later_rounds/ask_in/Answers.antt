@@ -1,6 +1,6 @@
 use Rattle.std.proofs.Common.{◌≡◌, ℕ, ◌*◌, ◌<◌, length, refl, ap, ◌∙◌, arith}
 use Rattle.at_ledger.specs.Book.{BookTerms}
-use Rattle.at_board.proofs.KnowledgeLaws.Announced.{HasOwnPart, HasOwnPart-IsSeat, HasOwnPart-StoresRequestWord, MayAsk-StoresRequestWord}
+use Rattle.at_players.proofs.Announced.{HasOwnPart, HasOwnPart-IsSeat, HasOwnPart-StoresRequestWord, MayAsk-StoresRequestWord}
 use Rattle.at_players.proofs.LaterRoundLaws.{Announces-stored, may_announce_in, may_ask_in, stored_more, with_payment}
 use Rattle.at_board.specs.declared.knowledge.Asking.{Asking}
 use Rattle.at_board.specs.declared.knowledge.Knowledge.{Knowledge}

@@ -1,18 +1,17 @@
 use Rattle.std.proofs.Common.{◌≡◌, ℕ, ◌<◌, ◌^◌, [], ◌∷◌, ◌++◌, length, refl, sym, ap, subst, ◌∙◌, arith}
 use Rattle.std.specs.List.{Contains}
-use Rattle.std.proofs.lemmas.List.{get_or-replicate}
+use Rattle.std.proofs.lemmas.List.{get_or-replicate, get_or-set_same}
 use Rattle.std.proofs.lemmas.List.Elements.{All-cons, All-nil, Contains-append_right}
 use Rattle.at_ledger.specs.Book.{BookTerms, IsBook}
 use Rattle.at_ledger.specs.Call.{TargetPair}
-use Rattle.at_board.proofs.KnowledgeLaws.Announced.{HasOwnPart, HasOwnPart-IsSeat, HasOwnPart-StoresRequestWord, MayAsk-StoresRequestWord, asking-StoresRequestWord}
-use Rattle.at_board.proofs.KnowledgeLaws.OwnRequests.{own_part-with_part}
+use Rattle.at_players.proofs.Announced.{HasOwnPart, HasOwnPart-IsSeat, HasOwnPart-StoresRequestWord, MayAsk-StoresRequestWord, asking-StoresRequestWord}
 use Rattle.at_board.specs.declared.knowledge.Asking.{Asking}
 use Rattle.at_board.specs.declared.knowledge.Part.{Part}
 use Rattle.at_board.specs.declared.knowledge.Knowledge.{Knowledge}
 use Rattle.at_board.specs.Steps.Announce.{MayAnnounce}
 use Rattle.at_board.specs.Steps.StoreRequestWord.{MayAsk}
 use Rattle.at_board.specs.Ends.Opening.{starting_seat}
-use Rattle.at_board.specs.Knowledge.Parts.{part_asking, seen_as, with_asking}
+use Rattle.at_board.specs.Knowledge.Parts.{part_asking, seen_as, with_asking, no_part}
 use Rattle.at_board.specs.Steps.Announce.{Announces, with_request}
 use Rattle.at_board.specs.Steps.StoreRequestWord.{StoresRequestWord, with_request_word}
 use Rattle.at_history.specs.Rounds.{rounds}
@@ -83,7 +82,7 @@ part-with_asking : (v u w : Knowledge) (a : ℕ) (t : Asking) → 0 < length v.p
     → own_part w ≡ record (own_part u) { asking = (own_part w).asking }
 part-with_asking v u w a t part start told =
     let q : Part = own_part v in
-    let own : own_part w ≡ part_asking q a t = ap own_part told ∙ own_part-with_part v (part_asking q a t) part in
+    let own : own_part w ≡ part_asking q a t = ap own_part told ∙ get_or-set_same v.parts 0 (part_asking q a t) no_part part in
     own ∙ (ap (λ xs. record q { asking = xs }) (sym (ap (λ (p : Part). p.asking) own)) ∙ ap (λ (p : Part). record p { asking = (own_part w).asking }) start)
 
 part-after : (u v w : Knowledge) → own_part v ≡ record (own_part u) { asking = (own_part v).asking } → own_part w ≡ record (own_part v) { asking = (own_part w).asking }

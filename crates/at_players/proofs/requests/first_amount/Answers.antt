@@ -1,5 +1,5 @@
 use Rattle.std.proofs.Common.{inl, arith}
-use Rattle.at_board.proofs.KnowledgeLaws.Announced.{SeesRequest-LoadsAnnounced}
+use Rattle.at_players.proofs.Announced.{SeesRequest-LoadsAnnounced}
 use Rattle.at_history.specs.BoardState.{request_at}
 use Rattle.at_players.proofs.requests.first_amount.Goals as goal
 

@@ -1,11 +1,11 @@
 use Rattle.std.proofs.Common.{◌≡◌, ℕ, ◌⊎◌, [], ◌∷◌, length, Option, Some, None, refl, sym, ap, subst, ◌∙◌, arith, inl, inr}
 use Rattle.std.specs.List.{Contains}
+use Rattle.std.proofs.lemmas.List.{get_or-set_same}
 use Rattle.std.proofs.lemmas.List.Elements.{Contains-append_right}
 use Rattle.at_base.specs.Decision.{InRange, word_of}
 use Rattle.at_base.specs.declared.decision.Decision.{Decision}
 use Rattle.at_ledger.specs.Book.{BookTerms}
-use Rattle.at_board.proofs.StepLaws.Decide.{held-Decides}
-use Rattle.at_board.proofs.KnowledgeLaws.OwnRequests.{own_part-with_part}
+use Rattle.at_players.proofs.LaterRoundLaws.{held-Decides}
 use Rattle.at_board.specs.declared.knowledge.Part.{Part}
 use Rattle.at_board.specs.declared.knowledge.SeenDecision.{SeenDecision}
 use Rattle.at_board.specs.declared.knowledge.Knowledge.{Knowledge}
@@ -13,7 +13,7 @@ use Rattle.at_board.specs.Ends.Opening.{starting_seat}
 use Rattle.at_board.specs.Steps.Decide.{Decides, with_decide, with_decision}
 use Rattle.at_history.specs.Publications.{count_of}
 use Rattle.at_players.specs.SmallBoard.{HasWon, first_decision, payment}
-use Rattle.at_board.specs.Knowledge.Parts.{SeesDecision, SeesRequest, own_part}
+use Rattle.at_board.specs.Knowledge.Parts.{SeesDecision, SeesRequest, own_part, no_part}
 use Rattle.at_players.proofs.rounds.settle.Goals as goal
 
 -- the decision of a word that has one
@@ -28,7 +28,7 @@ part_after : (b : BookTerms) (v u w : Knowledge) (slot word : ℕ) → v ≡ sta
 part_after b v u w slot word new asked one told =
     let q : Part = with_decide (own_part u) 0 told.held in
     ap own_part told.same
-    ∙ (own_part-with_part (with_decision u w.seen 0 0 told.decision) q (omega (arith, one))
+    ∙ (get_or-set_same (with_decision u w.seen 0 0 told.decision).parts 0 q no_part (omega (arith, one))
     ∙ ap (λ (p : Part). with_decide p 0 told.held) (asked ∙ ap (λ (t : Knowledge). record (own_part t) { asking = (own_part u).asking }) new))
 
 -- the seat has won the round where its word is that of its proposal

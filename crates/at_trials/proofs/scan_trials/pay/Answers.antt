@@ -1,11 +1,10 @@
 use Rattle.std.proofs.Common.{◌≡◌, ℕ, ◌<◌, List, [], ◌∷◌, ◌++◌, length, get_or, replicate, sym, ap, subst, ◌∙◌, arith}
 use Rattle.std.proofs.Math.Seq.{take-nil}
 use Rattle.std.proofs.lemmas.Grind.{same_number_lists}
-use Rattle.std.proofs.lemmas.List.{length-replicate}
+use Rattle.std.proofs.lemmas.List.{length-replicate, get_or-set_same}
 use Rattle.at_ledger.specs.Book.{BookTerms}
 use Rattle.at_history.proofs.Laws.Counts.{get_or-counts, length-counts, publications_of-nil}
 use Rattle.at_history.proofs.Laws.Sums.{get_or-zeros}
-use Rattle.at_board.proofs.KnowledgeLaws.OwnRequests.{own_part-with_part}
 use Rattle.at_board.specs.declared.knowledge.Part.{Part}
 use Rattle.at_board.specs.declared.knowledge.Knowledge.{Knowledge}
 use Rattle.at_board.specs.Ends.Opening.{starting_seat}
@@ -14,7 +13,7 @@ use Rattle.at_history.specs.Publications.{counts}
 use Rattle.at_history.specs.Rounds.{owns_of}
 use Rattle.at_history.specs.Sound.{HasView, IsSoundOwn}
 use Rattle.at_board.specs.Steps.Publish.{Publishes, with_record}
-use Rattle.at_board.specs.Knowledge.Parts.{own_part}
+use Rattle.at_board.specs.Knowledge.Parts.{own_part, no_part}
 use Rattle.at_log.specs.declared.record.Record.{Record}
 use Rattle.at_log.specs.Appending.{MayAppend}
 use Rattle.at_log.specs.ClosingTerms.{published_by}
@@ -56,7 +55,7 @@ has_paid : (b : BookTerms) (v w : Knowledge) (view : List ℕ) → v ≡ startin
 has_paid b v w view new part told =
     let x = published_by v.first (with_view view) in
     let first : v.first ≡ w.first = sym (ap (λ (t : Knowledge). t.first) told.same) in
-    let own = ap own_part told.same ∙ own_part-with_part (record v { seen = w.seen }) (with_record b (own_part v) x) part in
+    let own = ap own_part told.same ∙ get_or-set_same (record v { seen = w.seen }).parts 0 (with_record b (own_part v) x) no_part part in
     record {
       earlier = v.seen ++ told.between;
       view = view;

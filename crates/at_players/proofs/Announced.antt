@@ -7,15 +7,14 @@ use Rattle.std.specs.List.{Contains, range_with_len}
 use Rattle.at_ledger.specs.Book.{BookTerms, HasSlot}
 use Rattle.at_history.specs.BoardState.{request_at}
 use Rattle.at_history.specs.Rounds.{is_settled}
-use Rattle.at_board.proofs.KnowledgeLaws.OwnRequests.{own_part-with_part}
-use Rattle.at_board.specs.Knowledge.Parts.{part_asking, seen_as, with_asking, SeesRequest, asking_on, no_asking, own_part}
+use Rattle.at_board.specs.Knowledge.Parts.{part_asking, seen_as, with_asking, SeesRequest, asking_on, no_asking, own_part, no_part}
 use Rattle.at_board.specs.Knowledge.Seats.{IsSeat}
 use Rattle.at_board.specs.Steps.LoadAnnounced.{LoadsAnnounced, all_of}
 use Rattle.at_board.specs.Steps.StoreRequestWord.{MayAsk, StoresRequestWord, with_request_word}
 use Rattle.at_board.specs.declared.knowledge.Asking.{Asking}
+use Rattle.at_board.specs.declared.knowledge.Knowledge.{Knowledge}
 use Rattle.at_board.specs.declared.knowledge.Part.{Part}
 use Rattle.at_board.specs.declared.knowledge.SeenRequest.{SeenRequest}
-use Rattle.at_board.specs.declared.knowledge.Knowledge.{Knowledge}
 
 -- the seat has one part, which has something on each account
 pub record HasOwnPart (view : Knowledge) : Type 0 where
@@ -30,7 +29,7 @@ pub asking_on-with_asking : (v : Knowledge) (a : ℕ) (w : Asking) → HasOwnPar
     → asking_on (own_part (with_asking v a w)) a ≡ w
 asking_on-with_asking v a w has within =
     let q : Part = own_part v in
-    ap (λ (t : Part). asking_on t a) (own_part-with_part v (part_asking q a w) (omega (arith, has.one_part)))
+    ap (λ (t : Part). asking_on t a) (get_or-set_same v.parts 0 (part_asking q a w) no_part (omega (arith, has.one_part)))
     ∙ get_or-set_same q.asking a w no_asking (omega (arith, within, has.accounts))
 
 pub HasOwnPart-with_asking : (v : Knowledge) (a : ℕ) (w : Asking) → HasOwnPart v → HasOwnPart (with_asking v a w)
@@ -38,7 +37,7 @@ HasOwnPart-with_asking v a w has =
     let q : Part = own_part v in
     record {
       one_part = length-set v.parts 0 (part_asking q a w) ∙ has.one_part;
-      accounts = ap (λ (t : Part). length t.asking) (own_part-with_part v (part_asking q a w) (omega (arith, has.one_part))) ∙ (length-set q.asking a w ∙ has.accounts);
+      accounts = ap (λ (t : Part). length t.asking) (get_or-set_same v.parts 0 (part_asking q a w) no_part (omega (arith, has.one_part))) ∙ (length-set q.asking a w ∙ has.accounts);
     }
 
 pub asking-StoresRequestWord : (v u : Knowledge) (a j n : ℕ) → HasOwnPart v → a < length v.book.accounts → StoresRequestWord v u a j n
