@@ -109,24 +109,24 @@ left-tail files made l lines each inside are = record {
   within = λ k d below. are.within (suc k) d (omega arith);
   calls = λ p h. on_process l.process p
       (λ own.
-          let same : l.process ≡ p = (Decides-eqb l.process p).0 own in
-          let mine = rw (lines_of-own l lines p own) at (are.calls p h) in
-          let left = left-from (get_or files p []) (get_or made p 0) l.call (map (λ (m : Line). m.call) (lines_of p lines)) mine in
-          let count : get_or (with_made made l.process) p 0 ≡ get_or made p 0 + 1 = rw same (get_or-with_made made p (omega arith)) in
-          left.later ∙ ap (λ (n : ℕ). drop n (get_or files p [])) (sym count))
+      let same : l.process ≡ p = (Decides-eqb l.process p).0 own in
+      let mine = rw (lines_of-own l lines p own) at (are.calls p h) in
+      let left = left-from (get_or files p []) (get_or made p 0) l.call (map (λ (m : Line). m.call) (lines_of p lines)) mine in
+      let count : get_or (with_made made l.process) p 0 ≡ get_or made p 0 + 1 = rw same (get_or-with_made made p (omega arith)) in
+      left.later ∙ ap (λ (n : ℕ). drop n (get_or files p [])) (sym count))
       (λ other.
-          let mine = rw (lines_of-other l lines p other) at (are.calls p h) in
-          mine ∙ ap (λ (n : ℕ). drop n (get_or files p [])) (sym (get_or-with_made_other made l.process p (not_same l.process p other))));
+      let mine = rw (lines_of-other l lines p other) at (are.calls p h) in
+      mine ∙ ap (λ (n : ℕ). drop n (get_or files p [])) (sym (get_or-with_made_other made l.process p (not_same l.process p other))));
   numbers = λ p h. on_process l.process p
       (λ own.
-          let same : l.process ≡ p = (Decides-eqb l.process p).0 own in
-          let mine = rw (lines_of-own l lines p own) at (are.numbers p h) in
-          let count : get_or (with_made made l.process) p 0 ≡ get_or made p 0 + 1 = rw same (get_or-with_made made p (omega arith)) in
-          let rest : map (λ (m : Line). m.number) (lines_of p lines) ≡ range_with_len (get_or made p 0 + 1 + 1) (length (lines_of p lines)) = cc in
-          rest ∙ ap (λ (n : ℕ). range_with_len n (length (lines_of p lines))) (let up : get_or made p 0 + 1 + 1 ≡ get_or (with_made made l.process) p 0 + 1 = omega arith in up))
+      let same : l.process ≡ p = (Decides-eqb l.process p).0 own in
+      let mine = rw (lines_of-own l lines p own) at (are.numbers p h) in
+      let count : get_or (with_made made l.process) p 0 ≡ get_or made p 0 + 1 = rw same (get_or-with_made made p (omega arith)) in
+      let rest : map (λ (m : Line). m.number) (lines_of p lines) ≡ range_with_len (get_or made p 0 + 1 + 1) (length (lines_of p lines)) = cc in
+      rest ∙ ap (λ (n : ℕ). range_with_len n (length (lines_of p lines))) (let up : get_or made p 0 + 1 + 1 ≡ get_or (with_made made l.process) p 0 + 1 = omega arith in up))
       (λ other.
-          let mine = rw (lines_of-other l lines p other) at (are.numbers p h) in
-          mine ∙ ap (λ (n : ℕ). range_with_len (n + 1) (length (lines_of p lines))) (sym (get_or-with_made_other made l.process p (not_same l.process p other))));
+      let mine = rw (lines_of-other l lines p other) at (are.numbers p h) in
+      mine ∙ ap (λ (n : ℕ). range_with_len (n + 1) (length (lines_of p lines))) (sym (get_or-with_made_other made l.process p (not_same l.process p other))));
 }
 
 next-left : (files : List (List Call)) (s : LedgerState) (made : List ℕ) (l : Line) (lines : List Line) → l.process < length files → l.reply ≡ (step s l.process l.call).reply
@@ -160,27 +160,27 @@ left-cons files s made l lines each next left = record {
   within = All-cons (λ (m : Line). m.process < length files) l lines next.process left.within;
   calls = λ p h. on_process l.process p
       (λ own.
-          let same : l.process ≡ p = (Decides-eqb l.process p).0 own in
-          let inside : p < length made = omega arith in
-          let here : slice_get (get_or files p []) (get_or made p 0) ≡ Some l.call = rw same at next.call in
-          let count : get_or (with_made made l.process) p 0 ≡ get_or made p 0 + 1 = rw same (get_or-with_made made p inside) in
-          let rest : map (λ (m : Line). m.call) (lines_of p lines) ≡ drop (get_or made p 0 + 1) (get_or files p []) = left.calls p h ∙ ap (λ (n : ℕ). drop n (get_or files p [])) count in
-          rw (lines_of-own l lines p own) (ap (λ (cs : List Call). l.call ∷ cs) rest ∙ left-drop (get_or files p []) (get_or made p 0) l.call here))
+      let same : l.process ≡ p = (Decides-eqb l.process p).0 own in
+      let inside : p < length made = omega arith in
+      let here : slice_get (get_or files p []) (get_or made p 0) ≡ Some l.call = rw same at next.call in
+      let count : get_or (with_made made l.process) p 0 ≡ get_or made p 0 + 1 = rw same (get_or-with_made made p inside) in
+      let rest : map (λ (m : Line). m.call) (lines_of p lines) ≡ drop (get_or made p 0 + 1) (get_or files p []) = left.calls p h ∙ ap (λ (n : ℕ). drop n (get_or files p [])) count in
+      rw (lines_of-own l lines p own) (ap (λ (cs : List Call). l.call ∷ cs) rest ∙ left-drop (get_or files p []) (get_or made p 0) l.call here))
       (λ other.
-          rw (lines_of-other l lines p other)
-          (left.calls p h ∙ ap (λ (n : ℕ). drop n (get_or files p [])) (get_or-with_made_other made l.process p (not_same l.process p other))));
+      rw (lines_of-other l lines p other)
+      (left.calls p h ∙ ap (λ (n : ℕ). drop n (get_or files p [])) (get_or-with_made_other made l.process p (not_same l.process p other))));
   numbers = λ p h. on_process l.process p
       (λ own.
-          let same : l.process ≡ p = (Decides-eqb l.process p).0 own in
-          let inside : p < length made = omega arith in
-          let number : l.number ≡ get_or made p 0 + 1 = rw same at next.number in
-          let count : get_or (with_made made l.process) p 0 + 1 ≡ get_or made p 0 + 1 + 1 = let one : get_or (with_made made l.process) p 0 ≡ get_or made p 0 + 1 = rw same (get_or-with_made made p inside) in omega arith in
-          let rest : map (λ (m : Line). m.number) (lines_of p lines) ≡ range_with_len (get_or made p 0 + 1 + 1) (length (lines_of p lines)) =
-          left.numbers p h ∙ ap (λ (n : ℕ). range_with_len n (length (lines_of p lines))) count in
-          rw (lines_of-own l lines p own) (let both : l.number ∷ map (λ (m : Line). m.number) (lines_of p lines) ≡ (get_or made p 0 + 1) ∷ range_with_len (get_or made p 0 + 1 + 1) (length (lines_of p lines)) = cc in both))
+      let same : l.process ≡ p = (Decides-eqb l.process p).0 own in
+      let inside : p < length made = omega arith in
+      let number : l.number ≡ get_or made p 0 + 1 = rw same at next.number in
+      let count : get_or (with_made made l.process) p 0 + 1 ≡ get_or made p 0 + 1 + 1 = let one : get_or (with_made made l.process) p 0 ≡ get_or made p 0 + 1 = rw same (get_or-with_made made p inside) in omega arith in
+      let rest : map (λ (m : Line). m.number) (lines_of p lines) ≡ range_with_len (get_or made p 0 + 1 + 1) (length (lines_of p lines)) =
+      left.numbers p h ∙ ap (λ (n : ℕ). range_with_len n (length (lines_of p lines))) count in
+      rw (lines_of-own l lines p own) (let both : l.number ∷ map (λ (m : Line). m.number) (lines_of p lines) ≡ (get_or made p 0 + 1) ∷ range_with_len (get_or made p 0 + 1 + 1) (length (lines_of p lines)) = cc in both))
       (λ other.
-          rw (lines_of-other l lines p other)
-          (left.numbers p h ∙ ap (λ (n : ℕ). range_with_len (n + 1) (length (lines_of p lines))) (get_or-with_made_other made l.process p (not_same l.process p other))));
+      rw (lines_of-other l lines p other)
+      (left.numbers p h ∙ ap (λ (n : ℕ). range_with_len (n + 1) (length (lines_of p lines))) (get_or-with_made_other made l.process p (not_same l.process p other))));
 }
 
 goes_on : (files : List (List Call)) (s : LedgerState) (made : List ℕ) (lines : List Line) → length made ≡ length files → Continues files s made lines → GoesOn files s made lines
@@ -226,8 +226,7 @@ continues-whole b files lines legal whole =
 
 pub whole-continues : (b : BookTerms) (files : List (List Call)) (lines : List Line) → Continues files (opening_state b) (none_made files) lines → Legal b lines × Whole files lines
 whole-continues b files lines continues =
-    let on = goes_on files (opening_state b) (none_made files) lines (length-replicate (length files) 0) continues in
-    (
+    let on = goes_on files (opening_state b) (none_made files) lines (length-replicate (length files) 0) continues in (
       on.answered.is,
       record {
         within = on.left.within;

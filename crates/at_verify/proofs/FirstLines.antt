@@ -48,11 +48,11 @@ after_bytes (byte ∷ c) x m zero is = absurd (omega arith)
 after_bytes (byte ∷ c) x m (suc n) is =
     on_byte byte
     (λ ends.
-        let count = newlines-newline byte c ends in
-        first_lines-newline n byte (c ++ x) ends ∙ ap (λ (t : List ℕ). byte ∷ t) (after_bytes c x m n (omega arith)))
+    let count = newlines-newline byte c ends in
+    first_lines-newline n byte (c ++ x) ends ∙ ap (λ (t : List ℕ). byte ∷ t) (after_bytes c x m n (omega arith)))
     (λ on.
-        let count = newlines-other byte c on in
-        first_lines-other n byte (c ++ x) on ∙ ap (λ (t : List ℕ). byte ∷ t) (after_bytes c x m (suc n) (omega arith)))
+    let count = newlines-other byte c on in
+    first_lines-other n byte (c ++ x) on ∙ ap (λ (t : List ℕ). byte ∷ t) (after_bytes c x m (suc n) (omega arith)))
 
 pub first_lines-after : (c x : List ℕ) → first_lines (newlines c + 1) (c ++ x) ≡ c ++ first_lines 1 x
 first_lines-after c x = after_bytes c x 0 (newlines c + 1) (omega arith)
@@ -64,11 +64,11 @@ first_lines-within [] x (suc m) few = absurd (omega arith)
 first_lines-within (byte ∷ c) x (suc m) few =
     on_byte byte
     (λ ends.
-        let count = newlines-newline byte c ends in
-        first_lines-newline m byte (c ++ x) ends ∙ ap (λ (t : List ℕ). byte ∷ t) (first_lines-within c x m (omega arith)) ∙ sym (first_lines-newline m byte c ends))
+    let count = newlines-newline byte c ends in
+    first_lines-newline m byte (c ++ x) ends ∙ ap (λ (t : List ℕ). byte ∷ t) (first_lines-within c x m (omega arith)) ∙ sym (first_lines-newline m byte c ends))
     (λ on.
-        let count = newlines-other byte c on in
-        first_lines-other m byte (c ++ x) on ∙ ap (λ (t : List ℕ). byte ∷ t) (first_lines-within c x (suc m) (omega arith)) ∙ sym (first_lines-other m byte c on))
+    let count = newlines-other byte c on in
+    first_lines-other m byte (c ++ x) on ∙ ap (λ (t : List ℕ). byte ∷ t) (first_lines-within c x (suc m) (omega arith)) ∙ sym (first_lines-other m byte c on))
 
 -- fewer lines are those of more lines
 first_lines-first_lines : (text : List ℕ) (m k : ℕ) → m ≤ k → first_lines m (first_lines k text) ≡ first_lines m text
@@ -78,11 +78,11 @@ first_lines-first_lines [] (suc m) (suc k) few = ap (first_lines (suc m)) (first
 first_lines-first_lines (byte ∷ text) (suc m) (suc k) few =
     on_byte byte
     (λ ends.
-        ap (first_lines (suc m)) (first_lines-newline k byte text ends) ∙ first_lines-newline m byte (first_lines k text) ends
-        ∙ ap (λ (t : List ℕ). byte ∷ t) (first_lines-first_lines text m k (omega arith)) ∙ sym (first_lines-newline m byte text ends))
+    ap (first_lines (suc m)) (first_lines-newline k byte text ends) ∙ first_lines-newline m byte (first_lines k text) ends
+    ∙ ap (λ (t : List ℕ). byte ∷ t) (first_lines-first_lines text m k (omega arith)) ∙ sym (first_lines-newline m byte text ends))
     (λ on.
-        ap (first_lines (suc m)) (first_lines-other k byte text on) ∙ first_lines-other m byte (first_lines (suc k) text) on
-        ∙ ap (λ (t : List ℕ). byte ∷ t) (first_lines-first_lines text (suc m) (suc k) few) ∙ sym (first_lines-other m byte text on))
+    ap (first_lines (suc m)) (first_lines-other k byte text on) ∙ first_lines-other m byte (first_lines (suc k) text) on
+    ∙ ap (λ (t : List ℕ). byte ∷ t) (first_lines-first_lines text (suc m) (suc k) few) ∙ sym (first_lines-other m byte text on))
 
 pub first_lines-fewer : (m k : ℕ) (x y : List ℕ) → m ≤ k → first_lines k x ≡ first_lines k y → first_lines m x ≡ first_lines m y
 first_lines-fewer m k x y few same =

@@ -115,8 +115,8 @@ some_left (file ∷ files) (n ∷ made) are fewer =
     ⊎_elim
     (λ less. record { process = 0; is = omega arith; left = less })
     (λ same.
-        let later = some_left files made (AreMade-tail file files n made are) (omega arith) in
-        record { process = suc later.process; is = let h = later.is in omega arith; left = later.left })
+    let later = some_left files made (AreMade-tail file files n made are) (omega arith) in
+    record { process = suc later.process; is = let h = later.is in omega arith; left = later.left })
     split
 
 -- one more call of a process

@@ -59,9 +59,10 @@ report-parts b names lines =
 -- a line of a journal has the name of its process first
 journal-word : (names : NameList) (l : Line) (after : List ℕ) → IsFirstWord (process_name names l.process) (line_text (journal_words names l) ++ after)
 journal-word names l after =
-    let number : List ℕ = join_with_byte 32 (decimal l.number ∷ (call_words names l.call ++ reply_word l.reply ∷ [])) in
-    ((number ++ 10 ∷ []) ++ after,
-      ap (λ (t : List ℕ). t ++ after) (append_assoc (process_name names l.process) (32 ∷ number) (10 ∷ [])) ∙ append_assoc (process_name names l.process) (32 ∷ (number ++ 10 ∷ [])) after)
+    let number : List ℕ = join_with_byte 32 (decimal l.number ∷ (call_words names l.call ++ reply_word l.reply ∷ [])) in (
+      (number ++ 10 ∷ []) ++ after,
+      ap (λ (t : List ℕ). t ++ after) (append_assoc (process_name names l.process) (32 ∷ number) (10 ∷ [])) ∙ append_assoc (process_name names l.process) (32 ∷ (number ++ 10 ∷ [])) after,
+    )
 
 -- where a text parts from what a report goes on with
 
@@ -70,8 +71,10 @@ parted x y n are some same = by (split (length x)) (split (length y))
   where
     split : (most : ℕ) → (n < most) ⊎ (most ≤ n)
     split most = grind arith
+
     first : take 1 (drop n x) ≡ take 1 (drop n y)
     first = first_byte (drop n x) (drop n y) same
+
     by : (n < length x) ⊎ (length x ≤ n) → (n < length y) ⊎ (length y ≤ n) → ⊥
     by (inl hx) (inl hy) =
         let ex = drop-cons x n 0 hx in
@@ -117,7 +120,7 @@ after_more c rest after other n is same =
 parts : (b : BookTerms) (names : NameList) (files : List (List Call)) (text : List ℕ) (at n : ℕ) → at ≤ length text → n ≤ length (drop at text)
     → (report : List ℕ) → IsReport b names files report → GoesOn (take at text) (drop at text) n report
     → ((other : List ℕ) → IsReport b names files other → first_lines (newlines (take at text) + 1) text ≡ first_lines (newlines (take at text) + 1) other
-        → GoesOn (take at text) (drop at text) n other)
+    → GoesOn (take at text) (drop at text) n other)
     → PartsAt b names files text (at + n)
 parts b names files text at n within few report is goes only =
     let c : List ℕ = take at text in
@@ -136,7 +139,7 @@ parts b names files text at n within few report is goes only =
   where
     differs : (b : BookTerms) (names : NameList) (files : List (List Call)) (text : List ℕ) (at n : ℕ)
         → ((other : List ℕ) → IsReport b names files other → first_lines (newlines (take at text) + 1) text ≡ first_lines (newlines (take at text) + 1) other
-            → GoesOn (take at text) (drop at text) n other)
+        → GoesOn (take at text) (drop at text) n other)
         → (more : List ℕ) → more ≡ take at text ++ take n (drop at text)
         → (other : List ℕ) → IsReport b names files other
         → first_lines (newlines (take at text ++ take n (drop at text)) + 1) text ≡ first_lines (newlines (take at text ++ take n (drop at text)) + 1) other → ⊥
@@ -151,7 +154,7 @@ parts b names files text at n within few report is goes only =
         let there = first_lines-after (take at text ++ take n (drop at text)) (drop n goes.after) in
         goes.differ (append_cancel_left (take at text ++ take n (drop at text)) _ _
         (sym here ∙ ap (first_lines (newlines (take at text ++ take n (drop at text)) + 1)) (sym whole) ∙ agrees
-            ∙ ap (first_lines (newlines (take at text ++ take n (drop at text)) + 1)) others ∙ there))
+        ∙ ap (first_lines (newlines (take at text ++ take n (drop at text)) + 1)) others ∙ there))
 
 -- the walk so far
 
@@ -265,7 +268,7 @@ same_rest : (text other after : List ℕ) (at : ℕ) → other ≡ take at text 
 same_rest text other after at is agrees =
     append_cancel_left (take at text) _ _
     (sym (first_lines-after (take at text) (drop at text)) ∙ ap (first_lines (newlines (take at text) + 1)) (take-append-drop at text) ∙ agrees
-        ∙ ap (first_lines (newlines (take at text) + 1)) is ∙ first_lines-after (take at text) after)
+    ∙ ap (first_lines (newlines (take at text) + 1)) is ∙ first_lines-after (take at text) after)
 
 -- the text has no next line
 pub line-missing : (b : BookTerms) (names : NameList) (files : List (List Call)) (text : List ℕ) (at : ℕ) (s : LedgerState) (made : List ℕ)
@@ -326,8 +329,8 @@ line-parts b names files text expected at n s made l walked left words next only
     parts b names files text at n walked.within are.left report (walked.reports (l ∷ whole.lines) (continues-from_cons files s made l whole.lines next whole.continues))
     (goes report after (ap (λ (t : List ℕ). take at text ++ t) (tail-cons names s l whole.lines)))
     (λ other is same.
-        let this = this_line b names files text at s made l walked left words only other is same in
-        goes other (tail_text names (step s l.process l.call).ledger this.more) this.is)
+    let this = this_line b names files text at s made l walked left words only other is same in
+    goes other (tail_text names (step s l.process l.call).ledger this.more) this.is)
   where
     goes : (other after : List ℕ) → other ≡ take at text ++ (line_text (journal_words names l) ++ after) → GoesOn (take at text) (drop at text) n other
     goes other after is =
@@ -358,6 +361,7 @@ line-walked b names files text expected at n s made l walked left words next onl
         ap (λ (t : List ℕ). take at text ++ t) (tail-cons names s l more)
         ∙ sym (append_assoc (take at text) (line_text (journal_words names l)) (tail_text names (step s l.process l.call).ledger more))
         ∙ ap (λ (t : List ℕ). t ++ tail_text names (step s l.process l.call).ledger more) (sym front)
+
     tail : (other : List ℕ) → IsReport b names files other
         → first_lines (newlines (take at text ++ line_text (journal_words names l)) + 1) text ≡ first_lines (newlines (take at text ++ line_text (journal_words names l)) + 1) other
         → IsTail names files (step s l.process l.call).ledger (with_made made l.process) (take at text ++ line_text (journal_words names l)) other
@@ -388,8 +392,8 @@ audit-parts b names files text audit at n s made walked all audit_is are some =
     parts b names files text at n walked.within are.left report (walked.reports [] continues)
     (goes report (audit_only names files s made (take at text) report audit walked.are all audit_is [] continues refl))
     (λ other is same.
-        let tail = walked.only other is same in
-        goes other (audit_only names files s made (take at text) other audit walked.are all audit_is tail.more tail.continues tail.is))
+    let tail = walked.only other is same in
+    goes other (audit_only names files s made (take at text) other audit walked.are all audit_is tail.more tail.continues tail.is))
   where
     goes : (other : List ℕ) → other ≡ take at text ++ audit → GoesOn (take at text) (drop at text) n other
     goes other is = goes_on-parted (take at text) (drop at text) audit other n is are some

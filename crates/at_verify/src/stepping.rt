@@ -43,7 +43,8 @@ pub(crate) fn next_line(
     ensures next { IfSome result (λ l. IsNext (files_in files.now) state.old made.old l) }
     ensures state { IfSome result (λ l. state.new ≡ (step state.old l.process l.call).ledger) }
     ensures made { IfSome result (λ l. made.new ≡ with_made made.old l.process) }
-    ensures only { (l : Line) → IsNext (files_in files.now) state.old made.old l → IsFirstWord (process_name names.now l.process) text.now → result ≡ Some l }
+    ensures only { (l : Line) → IsNext (files_in files.now) state.old made.old l
+        → IsFirstWord (process_name names.now l.process) text.now → result ≡ Some l }
     ensures words { (p : ℕ) → p < length files.now → IsWord (process_name names.now p) }
     ensures book { state.new.book ≡ book.now }
 {

@@ -1,3 +1,5 @@
+//! Reports, right ones and forged ones, with what is said of them.
+
 ghost use Rattle.std.specs.Prelude.{◌≡◌, All, IfSome, length};
 ghost use Rattle.at_files.specs.Names.{AreNamesOf};
 ghost use Rattle.at_verify.specs.Right.{IsPlayable, files_in};
@@ -49,13 +51,7 @@ fn files_of(
 }
 
 /// What is said of a report beside a book and the files of its processes.
-fn said(
-    alloc: Global,
-    book: &[u8],
-    first: &[u8],
-    others: &[u8],
-    report: &[u8],
-) -> Option<Verdict> {
+fn said(alloc: Global, book: &[u8], first: &[u8], others: &[u8], report: &[u8]) -> Option<Verdict> {
     let Ok((book, names)) = read_book(alloc, book) else {
         return None;
     };
@@ -82,10 +78,18 @@ fn reports_of_usual_calls(rt: HostRuntime) {
         (&REPORT[..93], Verdict::No { line: 8 }),
         (b"", Verdict::No { line: 1 }),
         (b"journal 3\n", Verdict::No { line: 2 }),
-        (b"balances 2\n0 70\n1 30\ntotal 100\n", Verdict::No { line: 1 }),
+        (
+            b"balances 2\n0 70\n1 30\ntotal 100\n",
+            Verdict::No { line: 1 },
+        ),
     ];
     for row in &table {
-        assert_eq!(rt; said_of_usual(rt.alloc(), row.0), Some(row.1), "{:?}", row.0);
+        assert_eq!(rt;
+            said_of_usual(rt.alloc(), row.0),
+            Some(row.1),
+            "{:?}",
+            row.0
+        );
     }
 }
 
@@ -115,7 +119,11 @@ fn reports_of_two_processes(rt: HostRuntime) {
     );
     assert_eq!(rt;
         (right, exchanged, other_file),
-        (Some(Verdict::Yes), Some(Verdict::No { line: 2 }), Some(Verdict::No { line: 2 }))
+        (
+            Some(Verdict::Yes),
+            Some(Verdict::No { line: 2 }),
+            Some(Verdict::No { line: 2 })
+        )
     );
 }
 
@@ -145,6 +153,44 @@ fn reports_with_names_and_requests(rt: HostRuntime) {
     );
     assert_eq!(rt;
         (named, full, forgotten),
-        (Some(Verdict::Yes), Some(Verdict::Yes), Some(Verdict::No { line: 3 }))
+        (
+            Some(Verdict::Yes),
+            Some(Verdict::Yes),
+            Some(Verdict::No { line: 3 })
+        )
     );
+}
+
+/// Whether the usual report is refused at this line where these bytes stand in place of the one at a position.
+fn is_told(alloc: Global, at: usize, bytes: &[u8], line: u32) -> bool {
+    if at >= REPORT.len() {
+        return false;
+    }
+    let mut report = Vec::new(alloc);
+    let written = report.extend_from_slice(&REPORT[..at]).is_ok()
+        && report.extend_from_slice(bytes).is_ok()
+        && report.extend_from_slice(&REPORT[at + 1..]).is_ok();
+    written && said_of_usual(alloc, report.as_slice()) == Some(Verdict::No { line })
+}
+
+/// The first byte of the usual report that can be changed, left out or doubled without a refusal at its line. A newline
+/// that is doubled makes an empty line after its own.
+fn byte_that_is_not_told(alloc: Global) -> Option<usize> {
+    let mut line = 1;
+    for (at, byte) in REPORT.iter().enumerate() {
+        let next = if *byte == b'\n' { line + 1 } else { line };
+        let told = is_told(alloc, at, &[*byte ^ 1], line)
+            && is_told(alloc, at, &[], line)
+            && is_told(alloc, at, &[*byte, *byte], next);
+        if !told {
+            return Some(at);
+        }
+        line = next;
+    }
+    None
+}
+
+#[test]
+fn each_byte_counts(rt: HostRuntime) {
+    assert_eq!(rt; byte_that_is_not_told(rt.alloc()), None);
 }

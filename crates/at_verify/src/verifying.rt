@@ -39,7 +39,8 @@ fn parting(
     requires processes { length files.now ≡ book.now.processes }
     requires files { All (IsPlayable (length book.now.accounts)) (files_in files.now) }
     ensures report { result ≡ Ok None → IsReport book.now names.now (files_in files.now) text.now }
-    ensures parts { (n : ℕ) → result ≡ Ok (Some n) → PartsAt book.now names.now (files_in files.now) text.now n }
+    ensures parts { (n : ℕ) → result ≡ Ok (Some n)
+        → PartsAt book.now names.now (files_in files.now) text.now n }
 {
     let mut state = State::new(alloc, book)?;
     let mut made = Counts::zeros(book.processes());
@@ -86,9 +87,12 @@ pub fn verify(
     requires processes { length files.now ≡ book.now.processes }
     requires files { All (IsPlayable (length book.now.accounts)) (files_in files.now) }
     requires size { length text.now ≤ TEXT_MAX }
-    ensures sound { result ≡ Ok Verdict.Yes → IsReport book.now names.now (files_in files.now) text.now }
-    ensures complete { IsReport book.now names.now (files_in files.now) text.now → (line : ℕ) → result ≡ Ok (Verdict.No line) → ⊥ }
-    ensures first { (line : ℕ) → result ≡ Ok (Verdict.No line) → IsFirstWrong book.now names.now (files_in files.now) text.now line }
+    ensures sound { result ≡ Ok Verdict.Yes
+        → IsReport book.now names.now (files_in files.now) text.now }
+    ensures complete { IsReport book.now names.now (files_in files.now) text.now → (line : ℕ)
+        → result ≡ Ok (Verdict.No line) → ⊥ }
+    ensures first { (line : ℕ) → result ≡ Ok (Verdict.No line)
+        → IsFirstWrong book.now names.now (files_in files.now) text.now line }
 {
     let parts = parting(alloc, book, names, files, text)?;
     match parts {

@@ -98,7 +98,7 @@ returns-then-same-len-2-clause-parts c n is =
     let rest = length-drop c.loop-turn.at c.args.text.now in
     let some : (c.common-same-2.result < length (drop c.loop-turn.at c.args.text.now)) ⊎ (c.common-same-2.result < length c.deref-2.result.now) =
     elim c.then-same-len-2.branch [
-      then-same-len-2-via-then-same-len-2 w ↦ inr (rw c.deref-2.ensures.value (omega (arith, c.len-2.ensures, w.if-same-len-2.true)))
+      | then-same-len-2-via-then-same-len-2 w ↦ inr (rw c.deref-2.ensures.value (omega (arith, c.len-2.ensures, w.if-same-len-2.true)))
       | then-same-len-2-via-else-same-len-2+then-at-text w ↦ inl (omega (arith, w.if-at-text.true))
     ] in
     let same : c.loop-turn.at + c.common-same-2.result ≡ n = cc in
