@@ -1,6 +1,5 @@
 -- Two rounds of a shared account that the tests publish, of which the first has two records.
 use Rattle.std.proofs.Common.{◌≡◌, ℕ, ◌+◌, ◌*◌, ◌<◌, ◌≤◌, ◌||◌, true, List, [], ◌∷◌, ◌++◌, length, get_or, sum, replicate, set, take, drop, None, is_some, refl, sym, ap, subst, ◌∙◌, arith, inl, set-set, length-append, length-set, ◌⊎◌, Some, inr}
-use mathlib.Core.Option.{none}
 use Rattle.std.proofs.lemmas.Bool.{cases_lt}
 use Rattle.std.proofs.lemmas.List.{take-append-drop, get_or-set_same}
 use Rattle.std.proofs.lemmas.List.Elements.{All-cons, All-nil, Contains-append_right}
@@ -16,7 +15,6 @@ use Rattle.at_history.proofs.Laws.Histories.{ArePublishedBy-IsHistory}
 use Rattle.at_history.proofs.Laws.Prefixes.{IsPrefix-length, IsPrefix-trans, take-IsPrefix}
 use Rattle.at_history.proofs.Laws.Rounds.{firsts-nil}
 use Rattle.at_history.proofs.Laws.Sums.{get_or-zeros}
-use Rattle.at_history.proofs.Steps.Decide.{cell, decided}
 use Rattle.at_history.specs.Balances.{IsCovered, credit_of, debit_of}
 use Rattle.at_history.specs.Entries.{is_round_on, settles}
 use Rattle.at_history.specs.Fronts.{prefix_of}

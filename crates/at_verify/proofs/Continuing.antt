@@ -1,5 +1,5 @@
 -- Lists of lines that go on from a state: they are the legal and whole ones.
-use Rattle.std.proofs.Common.{◌≡◌, ◌≢◌, ℕ, zero, suc, ◌+◌, ◌-◌, ◌<◌, ◌≤◌, ◌==◌, Bool, true, false, ⊎_elim, List, [], ◌∷◌, ◌++◌, length, drop, get_or, map, filter, replicate, sum, sum_by, All, Some, refl, sym, ap, ◌∙◌, arith, add-one, eq-eqb}
+use Rattle.std.proofs.Common.{◌≡◌, ℕ, zero, suc, ◌+◌, ◌-◌, ◌<◌, ◌==◌, true, false, ⊎_elim, List, [], ◌∷◌, length, drop, get_or, map, replicate, sum, sum_by, All, Some, refl, sym, ap, ◌∙◌, arith, add-one, eq-eqb}
 use Rattle.std.specs.Prelude.{slice_get}
 use Rattle.std.specs.List.{range_with_len}
 use Rattle.std.proofs.lemmas.Bool.{cases_Bool}
@@ -15,10 +15,9 @@ use Rattle.at_ledger.specs.Run.{Legal, Run, Whole, asked_in, lines_of, run_from}
 use Rattle.at_ledger.specs.declared.call.Call.{Call}
 use Rattle.at_ledger.specs.declared.call.Call.TheVariants.{Read}
 use Rattle.at_ledger.specs.declared.call.Line.{Line}
-use Rattle.at_ledger.specs.declared.call.Reply.{Reply}
 use Rattle.at_ledger.proofs.Run.{run_from-cons, run_from-nil}
 use Rattle.at_verify.specs.Walk.{AreMade, IsNext, with_made}
-use Rattle.at_verify.proofs.Made.{AreAllMade, AreMade-next, HasLeft, all_made, get_or-with_made, get_or-with_made_other, some_left, sum-all_made, sum-le, sum-with_made}
+use Rattle.at_verify.proofs.Made.{AreAllMade, AreMade-next, all_made, get_or-with_made, get_or-with_made_other, some_left, sum-all_made, sum-le, sum-with_made}
 
 -- each line is the next one at its state, and at the end all calls are made
 unfoldable pub Continues : List (List Call) → LedgerState → List ℕ → List Line → Type 0

@@ -1,24 +1,23 @@
 -- The walk over a text: what every report goes on with, and where the text does otherwise.
-use Rattle.std.proofs.Common.{◌≡◌, ◌≢◌, ◌==◌, cond, inl, inr, ℕ, zero, suc, ◌+◌, ◌<◌, ◌≤◌, ◌⊎◌, ⊎_elim, List, [], ◌∷◌, ◌++◌, length, take, drop, get_or, map, count_by, sum, sum_by, Some, decimal, codes, refl, sym, ap, subst, ◌∙◌, arith, append_assoc, zero-add}
+use Rattle.std.proofs.Common.{◌≡◌, ◌==◌, cond, inl, inr, ℕ, suc, ◌+◌, ◌<◌, ◌≤◌, ◌⊎◌, ⊎_elim, List, [], ◌∷◌, ◌++◌, length, take, drop, get_or, map, sum, sum_by, Some, decimal, refl, sym, ap, subst, ◌∙◌, arith, append_assoc, zero-add}
 use Rattle.std.specs.Prelude.{slice_get}
 use Rattle.std.specs.List.{join_with_byte}
 use Rattle.std.proofs.lemmas.Grind.{flat_map-append}
-use Rattle.std.proofs.lemmas.List.{append_cancel_left, append-nil, get_or_append_left, drop-append-le, length-append, length-drop, length-take-le, take-append-drop, take-append-le, take_at, take_all, drop_all}
+use Rattle.std.proofs.lemmas.List.{append_cancel_left, get_or_append_left, length-append, length-drop, length-take-le, take-append-drop, take-append-le, take_all, drop_all}
 use Rattle.std.proofs.lemmas.List.Sums.{sum_by-append}
 use Rattle.std.proofs.Math.Seq.{drop-cons, take-add, take-append-add}
 use Rattle.at_ledger.specs.Book.{BookTerms}
 use Rattle.at_ledger.specs.State.{LedgerState, opening_state, step}
-use Rattle.at_ledger.specs.Run.{Legal, Run, Whole, asked_in, last_state, run_from}
+use Rattle.at_ledger.specs.Run.{Run, asked_in, last_state, run_from}
 use Rattle.at_ledger.specs.declared.call.Call.{Call}
 use Rattle.at_ledger.specs.declared.call.Line.{Line}
-use Rattle.at_ledger.specs.declared.call.Reply.{Reply}
 use Rattle.at_ledger.proofs.Run.{run_from-cons, run_from-nil}
 use Rattle.at_files.specs.Names.{NameList, process_name}
-use Rattle.at_report.specs.Lines.{IsFirstWord, IsWord, Words, call_words, journal_words, line_text, lines_text, reply_word, spaced}
+use Rattle.at_report.specs.Lines.{IsFirstWord, IsWord, call_words, journal_words, line_text, lines_text, reply_word}
 use Rattle.at_report.specs.Report.{audit_lines, heading_words, report_text}
-use Rattle.at_verify.specs.Right.{IsReport, IsRightUpTo, IsFirstWrong, first_lines, newlines}
+use Rattle.at_verify.specs.Right.{IsReport, IsFirstWrong, first_lines, newlines}
 use Rattle.at_verify.specs.Walk.{AreMade, ArePartedAt, IsNext, PartsAt, with_made}
-use Rattle.at_verify.proofs.Continuing.{AreMade-none, Completes, Continues, completes, continues-cons, continues-from_cons, continues-from_nil, continues-nil, continues-whole, length-continues, none_made, sum-none, whole-continues}
+use Rattle.at_verify.proofs.Continuing.{AreMade-none, Continues, completes, continues-cons, continues-from_cons, continues-from_nil, continues-whole, length-continues, none_made, sum-none, whole-continues}
 use Rattle.at_verify.proofs.FirstLines.{first_byte, first_lines-after, first_lines-fewer, first_lines-within, first_word}
 use Rattle.at_verify.proofs.Made.{AreMade-next, all_made}
 

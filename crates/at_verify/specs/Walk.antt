@@ -1,5 +1,5 @@
 -- The walk over a text: which line of the journal can come next, and where no report goes on as the text does.
-use Rattle.std.specs.Prelude.{◌≡◌, ℕ, ◌+◌, ◌<◌, ◌≤◌, ◌≢◌, List, [], length, take, drop, Some, slice_get, slice_index, slice_index_or, slice_set}
+use Rattle.std.specs.Prelude.{◌≡◌, ℕ, ◌+◌, ◌<◌, ◌≤◌, ◌≢◌, List, [], length, take, Some, slice_get, slice_index, slice_index_or, slice_set}
 use Rattle.at_ledger.specs.Book.{BookTerms}
 use Rattle.at_ledger.specs.State.{LedgerState, step}
 use Rattle.at_ledger.specs.declared.call.Call.{Call}

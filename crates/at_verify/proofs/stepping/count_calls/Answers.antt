@@ -1,7 +1,4 @@
-use Rattle.std.proofs.Common.{◌≡◌, ◌<◌, ◌≤◌, List, [], length, get_or, arith}
-use Rattle.std.proofs.lemmas.List.{length-map}
-use Rattle.at_ledger.specs.declared.call.Call.{Call}
-use Rattle.at_verify.specs.Right.{files_in}
+use Rattle.std.proofs.Common.{◌<◌, ◌≤◌, length, arith}
 use Rattle.at_verify.proofs.Made.{few_calls, sum_by-files_in_more}
 use Rattle.at_verify.proofs.stepping.count_calls.Goals as goal
 

@@ -1,11 +1,8 @@
-use Rattle.std.proofs.Common.{◌≡◌, ℕ, ◌+◌, ◌<◌, true, false, nat_lt, List, [], length, get_or, Some, None, refl, sym, ap, ◌∙◌, arith}
+use Rattle.std.proofs.Common.{◌≡◌, ℕ, ◌+◌, ◌<◌, true, nat_lt, [], length, get_or, Some, sym, ap, ◌∙◌, arith}
 use Rattle.std.specs.Prelude.{slice_get}
 use Rattle.std.proofs.lemmas.Bool.Decides.{nat_tests}
 use Rattle.std.proofs.lemmas.Option.{slice_get-get_or, slice_get_within}
-use Rattle.at_ledger.specs.declared.call.Call.{Call}
-use Rattle.at_ledger.specs.declared.call.Line.{Line}
 use Rattle.at_verify.specs.Right.{files_in}
-use Rattle.at_verify.specs.Walk.{IsNext}
 use Rattle.at_verify.proofs.Made.{get_or-files_in, length-files_in}
 use Rattle.at_verify.proofs.Walking.{next_line-only}
 use Rattle.at_verify.proofs.stepping.next_line.Goals as goal

@@ -1,4 +1,4 @@
-use Rattle.std.proofs.Common.{◌≡◌, ℕ, ◌+◌, ◌<◌, ◌≤◌, List, [], ◌∷◌, ◌++◌, length, drop, take, replicate, sum, sum_by, ◌⊎◌, Some, None, Ok, inl, inr, refl, sym, ap, subst, ◌∙◌, arith}
+use Rattle.std.proofs.Common.{◌≡◌, ℕ, ◌+◌, ◌<◌, ◌≤◌, List, length, drop, replicate, sum, sum_by, ◌⊎◌, inl, inr, refl, ap, subst, ◌∙◌, arith}
 use Rattle.at_ledger.specs.State.{LedgerState, opening_state}
 use Rattle.at_ledger.specs.declared.call.Call.{Call}
 use Rattle.std.proofs.lemmas.List.{length-drop, take_rest}

@@ -1,6 +1,6 @@
-use Rattle.std.proofs.Common.{◌≡◌, ℕ, ◌+◌, Ok, take, refl, sym, ap, ◌∙◌, arith}
+use Rattle.std.proofs.Common.{◌≡◌, ℕ, ◌+◌, Ok, sym, ap, ◌∙◌}
 use Rattle.std.proofs.lemmas.List.{length-take-le}
-use Rattle.at_verify.specs.Right.{files_in, newlines}
+use Rattle.at_verify.specs.Right.{files_in}
 use Rattle.at_verify.proofs.Walking.{first_wrong, not_report}
 use Rattle.at_verify.proofs.verifying.verify.Goals as goal
 
