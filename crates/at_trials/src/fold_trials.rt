@@ -1,6 +1,6 @@
 //! Records are appended on a small board, and totals of their process, or of one that has learned of them, count them.
 
-ghost use Rattle.std.specs.Prelude.{◌≡◌, ◌+◌, ◌<◌, [], IsTrue, length, replicate, slice_set, ◌∷◌};
+ghost use Rattle.std.specs.Prelude.{◌≡◌, ◌+◌, ◌<◌, [], IfSome, IsTrue, length, replicate, slice_set, ◌∷◌};
 ghost use Rattle.at_board.specs.Ends.Opening.{starting_seat};
 ghost use Rattle.at_board.specs.Knowledge.Seats.{IsOf};
 ghost use Rattle.at_fold.specs.HasCounted.{HasCounted};
@@ -20,6 +20,16 @@ use std::alloc::Global;
 use std::marker::Brand;
 use std::process::Abort;
 use std::sync::ledger::{Blank, Ledger};
+
+/// Totals for the board that have counted nothing.
+fn new_totals(alloc: Global, board: &Board) -> Option<Totals>
+    ensures { IfSome result (λ totals. IsNewTotals totals board.now.book) }
+{
+    match Totals::new(alloc, board.book()) {
+        Ok(totals) => Some(totals),
+        Err(_) => None,
+    }
+}
 
 /// The only process pays, in nine steps.
 fn pays_alone<L: Ledger, X: Ledger>(
@@ -196,7 +206,7 @@ fn pays_out<L: Ledger, X: Ledger, R: Abort>(rt: &R, alloc: Global, one: Blank, a
         (0, [].as_slice()),
     ];
     let (board, mut seat) = new_single(alloc, 4, accounts.as_slice()).expect(rt, "a board");
-    let mut totals = Totals::new(alloc, board.book()).expect(rt, "totals");
+    let mut totals = new_totals(alloc, &board).expect(rt, "totals");
     assert!(rt; counts_a_pay_out(&board, &mut seat, &mut totals, steps, exchanges));
 }
 
@@ -247,7 +257,7 @@ fn tells<L: Ledger, X: Ledger, R: Abort>(rt: &R, alloc: Global, one: Blank, anot
     let (board, mut seat, mut other) = new_pair(alloc, 4, accounts.as_slice()).expect(
         rt, "a board",
     );
-    let mut totals = Totals::new(alloc, board.book()).expect(rt, "totals");
+    let mut totals = new_totals(alloc, &board).expect(rt, "totals");
     assert!(rt; counts_what_was_told(&board, &mut seat, &mut other, &mut totals, steps, exchanges));
 }
 
@@ -285,7 +295,7 @@ fn counts<L: Ledger, X: Ledger, R: Abort>(rt: &R, alloc: Global, one: Blank, ano
     let (steps, exchanges) = (&mut Steps::<L>::new(one), &mut Steps::<X>::new(another));
     let accounts = [(100, [0].as_slice()), (0, [0, 1].as_slice())];
     let (board, mut seat, _) = new_pair(alloc, 4, accounts.as_slice()).expect(rt, "a board");
-    let mut totals = Totals::new(alloc, board.book()).expect(rt, "totals");
+    let mut totals = new_totals(alloc, &board).expect(rt, "totals");
     assert!(rt; counts_own(&board, &mut seat, &mut totals, steps, exchanges));
 }
 
@@ -352,7 +362,7 @@ fn decides<L: Ledger, X: Ledger, R: Abort>(rt: &R, alloc: Global, one: Blank, an
     let (steps, exchanges) = (&mut Steps::<L>::new(one), &mut Steps::<X>::new(another));
     let accounts = [(100, [0, 1].as_slice()), (0, [].as_slice())];
     let (board, mut seat, _) = new_pair(alloc, 4, accounts.as_slice()).expect(rt, "a board");
-    let mut totals = Totals::new(alloc, board.book()).expect(rt, "totals");
+    let mut totals = new_totals(alloc, &board).expect(rt, "totals");
     assert!(rt; counts_a_round(&board, &mut seat, &mut totals, steps, exchanges));
 }
 
