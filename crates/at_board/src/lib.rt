@@ -40,9 +40,6 @@ mod store_request_word;
 mod tests;
 mod words;
 
-/// The answer of a call that found no memory.
-pub type NoMemory = std::alloc::AllocError;
-
 pub use crate::board::Board;
 pub use crate::board_end::BoardEnd;
 pub use crate::close::BoardRefused;
@@ -55,4 +52,5 @@ pub use crate::seat::BoardSeat;
 pub use crate::words::{
     RECORD_WORDS, REQUEST_WORDS, entry_of, pack_targets, record_word, targets_from, unpack_targets,
 };
+pub use at_base::NoMemory;
 pub use at_history::{Cell, Entry, Publication, Request};

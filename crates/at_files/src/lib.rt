@@ -18,11 +18,9 @@ mod records;
 #[cfg(test)]
 mod tests;
 
-/// What a call answers that found no memory.
-pub type NoMemory = std::alloc::AllocError;
-
 pub use crate::book::read_book;
 pub use crate::book_fault::{BadBook, BookWhy, ReadBookFault};
 pub use crate::names::Names;
 pub use crate::payments::read_payments;
 pub use crate::payments_fault::{BadPayments, CALLS_MAX, PaymentsWhy, ReadPaymentsFault};
+pub use at_base::NoMemory;

@@ -38,7 +38,7 @@ no_sums = record { opening = 0; credits = 0; debits = 0; rounds = 0; is_counted 
 abbrev pub sums_at : List AccountSums → ℕ → AccountSums
 sums_at all_sums a = slice_index_or all_sums a no_sums
 
--- the slot of an account at a place
+-- the sums of an account's slot
 abbrev pub slot_at : AccountSums → ℕ → SlotSums
 slot_at account_sums slot = slice_index_or account_sums.slots slot no_slot
 

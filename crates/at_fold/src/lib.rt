@@ -9,7 +9,5 @@ mod fold_tests;
 mod slot_totals;
 mod totals;
 
-/// What a call answers that found no memory.
-pub type NoMemory = std::alloc::AllocError;
-
 pub use crate::totals::Totals;
+pub use at_base::NoMemory;

@@ -1,4 +1,4 @@
--- A sound board: the laws that hold between any two steps of any threads.
+-- A sound state: the laws that hold between any two steps of any threads.
 use Rattle.std.specs.Prelude.{◌≡◌, ℕ, ◌+◌, ◌<◌, ◌≤◌, ◌↔◌, ◌⊎◌, ◌==◌, ◌&&◌, true, List, length, take, slice_index, count_by, Some}
 use Rattle.std.specs.List.{list_any}
 use Rattle.at_base.specs.Decision.{InRange}

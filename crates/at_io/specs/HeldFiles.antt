@@ -25,7 +25,7 @@ file_of files name =
     option_map (λ (file : NamedFile). file.1)
     (find (λ (file : NamedFile). bytes_eq file.0 name) files)
 
--- the bytes of the file at a position, from an index on
+-- the bytes of the file at a position, from an offset on
 abbrev pub unread : List KeptFile → Option ℕ → ℕ → List ℕ
 unread files None at = []
 unread files (Some position) at =

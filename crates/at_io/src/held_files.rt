@@ -70,7 +70,7 @@ impl HeldFiles {
     }
 }
 
-/// What is unread, from an index on, of the file at a position.
+/// What is unread, from an offset on, of the file at a position.
 fn rest_of(files: &[(String, Vec<u8>)], position: Option<usize>, at: usize) -> &[u8]
     ensures value { result.now ≡ unread files.now position at }
     ensures fits { at + length result.now < 2 ^ 64 }

@@ -29,17 +29,15 @@ use crate::keyed::in_order;
 use crate::keys::total_of;
 use crate::lines::{line_keys, lines};
 use crate::positions::{order_of, round_positions};
+pub use at_base::NoMemory;
 use at_ledger::{Book, Line};
 use at_log::Closing;
 use std::alloc::Global;
 
-/// What a call answers that found no memory.
-pub type NoMemory = std::alloc::AllocError;
-
 /// The receipts of a closing as lines, in one order in which the ledger answers each call as it was answered.
 ///
 /// Each line stands where its receipt stands among the publications: a read at its front, a success behind its own record or
-/// the first record of its round, and a refusal without a place with the call before it. Lines that stand at one place come
+/// the first record of its round, and a reply without a place with the call before it. Lines that stand at one place come
 /// by process, and those of a process in the order of its calls.
 pub fn journal(alloc: Global, book: &Book, closing: &Closing) -> Result<Vec<Line>, NoMemory>
     requires coherent { Coherent book.now closing.now }

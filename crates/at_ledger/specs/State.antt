@@ -76,7 +76,7 @@ counted s process source =
 abbrev pub after_done : LedgerState → ℕ → ℕ → List TargetPair → LedgerState
 after_done s process source targets = counted (moved s source targets) process source
 
--- a refusal for want of balance uses a request where the source is shared
+-- a payment short of balance uses a request where the source is shared
 abbrev pub after_short : LedgerState → ℕ → ℕ → LedgerState
 after_short s process source =
     if is_shared (account_of s.book source) then with_asked s process source else s

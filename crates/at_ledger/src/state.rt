@@ -158,7 +158,7 @@ impl State {
         credit(&mut self.balances, targets);
     }
 
-    /// Counts a refusal for want of balance.
+    /// Counts a payment that was short of balance.
     fn count_short(&mut self, process: u32, source: u32)
         requires process_in { process < self.old.book.processes }
         requires source_in { source < length self.old.book.accounts }

@@ -3,7 +3,7 @@
 //!
 //! `serve` does it all, over any shelf and sinks. Over those that tell what they hold, what `run` prints is one legal
 //! run of the calls that the files' bytes spell, what `make` prints is what every legal run of the calls that its
-//! numbers give leads to, and each refusal names the first cause.
+//! numbers give leads to, and each refusal names the first fault.
 #![tactic(auto)]
 
 ghost use Rattle.std.specs.Prelude.{◌≢◌, IfErr};

@@ -16,12 +16,10 @@ mod status;
 #[cfg(test)]
 mod tests;
 
-/// What a call answers that found no memory.
-pub type NoMemory = std::alloc::AllocError;
-
 pub use crate::first_word::process_of;
 pub use crate::lines::push_line;
 pub use crate::refusal::{FaultText, fault_text};
 pub use crate::run_report::{checked_text, push_audit, push_heading, report};
 pub use crate::run_summary::summary;
 pub use crate::status::{MessagesWhy, OrderWhy, ScheduleWhy, Status, UsageFault};
+pub use at_base::NoMemory;

@@ -10,7 +10,5 @@ mod stepping;
 mod tests;
 mod verifying;
 
-/// What a call answers that found no memory.
-pub type NoMemory = std::alloc::AllocError;
-
 pub use crate::verifying::{TEXT_MAX, Verdict, verify};
+pub use at_base::NoMemory;

@@ -13,6 +13,6 @@ SeesRecord v p i = i < count_of p v.seen
 abbrev pub IsRecordWord : Knowledge → ℕ → ℕ → ℕ → ℕ → Type 0
 IsRecordWord v p i j w = w ≡ slice_index (record_words (publication_at (publications_of p v.seen) i)) j
 
--- the numbers of each record that the view has seen fit their words
+-- the numbers of each record that is seen fit their words
 abbrev pub SeesForms : Knowledge → Type 0
 SeesForms v = (p i : ℕ) → SeesRecord v p i → IsForm (publication_at (publications_of p v.seen) i).entry

@@ -20,7 +20,7 @@ abbrev pub with_request : Asking → Request → ℕ → Asking
 with_request w r heard =
     record w { announced = w.announced ++ r ∷ []; stored = replicate REQUEST_WORDS 0; heard = heard; rows = []; loaded = [] }
 
--- an announcing step: some sound board has published just what the seat has then seen, and its row of the seat's process has the
+-- an announcing step: some sound state has published just what the seat has then seen, and its row of the seat's process has the
 -- request at the end
 pub record Announces (b : BookTerms) (before after : Knowledge) (a slot : ℕ) (r : Request) : Type 0 where
   pub more : IsPrefix before.seen after.seen

@@ -1,4 +1,4 @@
--- What each load and store on the table tells its seat (the exchange stands in `DecideSteps`). The arguments are the step, the
+-- What each load and store on the table tells its seat (the exchange stands in `Decide`). The arguments are the step, the
 -- seat before it, the number loaded or stored, and the seat after it.
 use Rattle.std.specs.Prelude.{◌≡◌, ℕ, ◌<◌, length}
 use Rattle.atomic_table.specs.Table.{Me, Step}

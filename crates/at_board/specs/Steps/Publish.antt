@@ -52,7 +52,7 @@ abbrev pub with_record : BookTerms → Part → Publication → Part
 with_record b q x =
     record q { published = q.published + 1; stored = replicate (record_width b) 0; held = held_after x q.held }
 
--- a publishing step: some sound board has published just what the seat has then seen, its own record at the end
+-- a publishing step: some sound state has published just what the seat has then seen, its own record at the end
 pub record Publishes (b : BookTerms) (before after : Knowledge) (x : Publication) : Type 0 where
   pub between : List Publication
   pub seen : after.seen ≡ (before.seen ++ between) ++ x ∷ []

@@ -1,4 +1,4 @@
--- What the runs of a list of publications rest on: a sound board has it, and so has a list that no board ever held.
+-- What the runs of a list of publications rest on: a sound state has it, and so has a list that no board ever held.
 use Rattle.std.proofs.Common.{◌≡◌, ℕ, ◌<◌, ◌≤◌, ◌↔◌, ◌==◌, true, length, take}
 use Rattle.std.specs.List.{count_by}
 use Rattle.at_base.specs.declared.decision.Decision.{Decision}

@@ -4,7 +4,7 @@ use Rattle.std.proofs.Math.Seq.{take-add}
 use Rattle.std.proofs.lemmas.Grind.{common_steps}
 use Rattle.at_io.proofs.writing.put_all.Goals as goal
 
--- from an index on, a list is its end
+-- a range up to the end is what stands from its start on
 slice_range-length : (xs : List ℕ) (at : ℕ) → slice_range xs at (length xs) ≡ drop at xs
 slice_range-length xs at = grind (arith, common_steps)
 
