@@ -3,6 +3,7 @@ pub mod Rooms
 pub mod Counts
 pub mod Sums
 pub mod Slots
+pub mod Distinct
 pub mod Histories
 pub mod Payments
 pub mod Fronts
@@ -16,3 +17,5 @@ pub mod Lengths
 pub mod HasRuns
 pub mod RoundSums
 pub mod Shuffles
+pub mod Overtaking
+pub mod Settled

@@ -8,3 +8,4 @@ pub mod Publications
 pub mod HeldCells
 pub mod Balances
 pub mod Fronts
+pub mod Overtaking

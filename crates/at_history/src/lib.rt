@@ -18,4 +18,4 @@ mod request;
 
 pub use crate::cell::Cell;
 pub use crate::publication::{Entry, Publication};
-pub use crate::request::Request;
+pub use crate::request::{Request, SeenRow};

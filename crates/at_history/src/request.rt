@@ -9,3 +9,10 @@ pub struct Request {
     pub targets: Targets,
     pub since: u32,
 }
+
+/// How many requests of a slot were announced when its word was loaded.
+#[derive(Drop)]
+pub struct SeenRow {
+    pub slot: u32,
+    pub count: u32,
+}

@@ -7,13 +7,15 @@ use Rattle.std.proofs.lemmas.List.Sums.{count_by_more_no, count_by_more_yes, sum
 use Rattle.std.specs.List.{count_by}
 use Rattle.at_base.specs.declared.decision.Decision.{Decision}
 use Rattle.at_ledger.specs.Book.{BookTerms}
+use Rattle.at_ledger.specs.Call.{TargetPair}
 use Rattle.at_history.proofs.Laws.HasRuns.{HasRuns-Sound}
 use Rattle.at_history.proofs.Laws.Prefixes.{take-publication_at}
-use Rattle.at_history.proofs.Laws.Rounds.{firsts-new, firsts-nil, firsts-repeat, has_round, one_if}
-use Rattle.at_history.proofs.Laws.RoundsDecided.{IsInitial-take}
+use Rattle.at_history.proofs.Laws.Rounds.{IsInitial, IsNextAtMost, firsts-new, firsts-nil, firsts-repeat, has_round, one_if, published, rounds-push_next, rounds-take_mono, sum_by-firsts-le}
+use Rattle.at_history.proofs.Laws.RoundsDecided.{IsInitial-take, IsNextAtMost-HasRuns}
 use Rattle.at_history.specs.BoardState.{BoardState, decision_at, publication_at}
-use Rattle.at_history.specs.Entries.{is_round, settles}
+use Rattle.at_history.specs.Entries.{is_round, is_round_on, settles}
 use Rattle.at_history.specs.Fronts.{prefix_of}
+use Rattle.at_history.specs.Overtaking.{IsUndecided}
 use Rattle.at_history.specs.Publications.{no_publication}
 use Rattle.at_history.specs.Rounds.{firsts, is_settled, repeats, rounds}
 use Rattle.at_history.specs.Sound.{IsSoundEntry, Sound}
@@ -119,6 +121,50 @@ is_settled-decided b s m a r sound within below =
     (ap (λ (y : Publication). settles a e.slot e.number y.entry) here
     ∙ settles-is_round b s x.process (prefix_of x.view xs) x.entry a r law found.1.is)
 
+-- after a record the rounds are more than its own, where that is at most the next
+round-push : (p : ℕ) (v : List ℕ) (a r : ℕ) (d : Decision) (targets : List TargetPair) (xs : List Publication) → IsInitial a xs → r ≤ rounds a xs
+    → r < rounds a (xs ++ published p v (Round a r d targets) ∷ [])
+round-push p v a r d targets xs initial next =
+    let x = published p v (Round a r d targets) in
+    elim (cases_lt r (rounds a xs)) as (λ _. r < rounds a (xs ++ x ∷ [])) [
+      | inl below ↦ omega (arith, below, sum_by-firsts-le (λ y. one_if (is_round_on a y.entry)) xs x)
+      | inr above ↦ omega (arith, next, above, rounds-push_next p v a r d targets xs initial (omega arith))
+    ]
+
+round-push_entry : (p : ℕ) (v : List ℕ) (e : Entry) (a r : ℕ) (xs : List Publication) → IsInitial a xs → IsNextAtMost xs e → is_round a r e ≡ true
+    → r < rounds a (xs ++ published p v e ∷ [])
+round-push_entry p v (Own from targets) a r xs initial next is = cc is
+round-push_entry p v (Round account round d targets) a r xs initial next is =
+    let parts = and_parts (account == a) (round == r) is in
+    let account_is : account ≡ a = eqb-true account a parts.0 in
+    let round_is : round ≡ r = eqb-true round r parts.1 in
+    let before : r ≤ rounds a xs = omega (arith, ap (λ t. rounds t xs) account_is, round_is, next) in
+    subst (λ t. r < rounds a (xs ++ published p v (Round t round d targets) ∷ [])) (sym account_is)
+    (subst (λ t. r < rounds a (xs ++ published p v (Round a t d targets) ∷ [])) (sym round_is)
+    (round-push p v a r d targets xs initial before))
+
+-- a record that stands in a prefix is of a round below the count of rounds there
+round_within : (b : BookTerms) (s : BoardState) (m i a r : ℕ) → Sound b s → i < m → i < length s.published
+    → is_round a r (publication_at s.published i).entry ≡ true → r < rounds a (take m s.published)
+round_within b s m i a r sound below within is =
+    let xs = s.published in
+    let x : Publication = publication_at xs i in
+    let here = round-push_entry x.process x.view x.entry a r (take i xs) (IsInitial-take b s i (HasRuns-Sound b s sound) (omega arith) a)
+    (IsNextAtMost-HasRuns b s i (HasRuns-Sound b s sound) within) is in
+    omega (arith, here, ap (rounds a) (take-publication_at xs i within), rounds-take_mono a (i + 1) m xs (omega arith))
+
+-- where a request is unsettled, no round that stands there names it
+pub IsUndecided-unsettled : (b : BookTerms) (s : BoardState) (m a slot number : ℕ) → Sound b s → m ≤ length s.published
+    → is_settled a slot number (take m s.published) ≡ false → IsUndecided (s.cells a) slot number (rounds a (take m s.published))
+IsUndecided-unsettled b s m a slot number sound within unsettled = λ r below slot_is number_is.
+    let e : Decision = decision_at (s.cells a) r in
+    let settled = is_settled-decided b s m a r sound within below in
+    let here : is_settled a slot number (take m s.published) ≡ true =
+    subst (λ t. is_settled a t number (take m s.published) ≡ true) slot_is
+    (subst (λ t. is_settled a e.slot t (take m s.published) ≡ true) number_is settled) in
+    let false_true : true ≡ false = sym here ∙ unsettled in
+    cc false_true
+
 -- a decision names the request
 pub record IsNamedIn (s : BoardState) (a slot number r : ℕ) : Type 0 where
   pub within : r < length (s.cells a)
@@ -126,7 +172,7 @@ pub record IsNamedIn (s : BoardState) (a slot number r : ℕ) : Type 0 where
   pub number_is : (decision_at (s.cells a) r).number ≡ number
 
 named-settles : (b : BookTerms) (s : BoardState) (p : ℕ) (prefix : List Publication) (e : Entry) (a slot number : ℕ) → IsSoundEntry b s p prefix e
-    → settles a slot number e ≡ true → (r : ℕ) × IsNamedIn s a slot number r
+    → settles a slot number e ≡ true → (r : ℕ) × IsNamedIn s a slot number r × (is_round a r e ≡ true)
 named-settles b s p prefix (Own from targets) a slot number law is = cc is
 named-settles b s p prefix (Round account round d targets) a slot number law is =
     let parts = and_parts (account == a) ((d.slot == slot) && (d.number == number)) is in
@@ -139,11 +185,12 @@ named-settles b s p prefix (Round account round d targets) a slot number law is 
         slot_is = ap (λ (t : Decision). t.slot) here ∙ eqb-true d.slot slot names.0;
         number_is = ap (λ (t : Decision). t.number) here ∙ eqb-true d.number number names.1;
       },
+      and_from (account == a) (round == round) parts.0 (eq-eqb round round refl),
     )
 
--- a request that is settled in a prefix is named by a decision
-pub named-is_settled : (b : BookTerms) (s : BoardState) (m a slot number : ℕ) → Sound b s
-    → is_settled a slot number (take m s.published) ≡ true → (r : ℕ) × IsNamedIn s a slot number r
+-- a request that is settled in a prefix is named by a decision, whose round stands there
+pub named-is_settled : (b : BookTerms) (s : BoardState) (m a slot number : ℕ) → Sound b s → is_settled a slot number (take m s.published) ≡ true
+    → (r : ℕ) × IsNamedIn s a slot number r × (r < rounds a (take m s.published))
 named-is_settled b s m a slot number sound settled =
     let xs = s.published in
     let found = Any-from_list_any (λ (y : Publication). settles a slot number y.entry) (take m xs) settled in
@@ -151,8 +198,20 @@ named-is_settled b s m a slot number sound settled =
     let inside : (i < m) × (i < length xs) = (omega (arith, found.2, length-take m xs), omega (arith, found.2, length-take m xs)) in
     let x : Publication = publication_at xs i in
     let here : found.1 ≡ x = sym found.3 ∙ (get_or-take m xs i found.1 inside.0 ∙ get_or_default xs i found.1 no_publication inside.1) in
-    named-settles b s x.process (prefix_of x.view xs) x.entry a slot number (sound.entries i inside.1)
-    (subst (λ (y : Publication). settles a slot number y.entry ≡ true) here found.4)
+    let named = named-settles b s x.process (prefix_of x.view xs) x.entry a slot number (sound.entries i inside.1)
+    (subst (λ (y : Publication). settles a slot number y.entry ≡ true) here found.4) in
+    (named.0, named.1, round_within b s m i a named.0 sound inside.0 inside.1 named.2)
+
+-- what no decision names is settled in no prefix
+pub unsettled-IsUndecided : (b : BookTerms) (s : BoardState) (m a slot number : ℕ) → Sound b s
+    → IsUndecided (s.cells a) slot number (length (s.cells a)) → is_settled a slot number (take m s.published) ≡ false
+unsettled-IsUndecided b s m a slot number sound undecided =
+    elim (cases_Bool (is_settled a slot number (take m s.published))) as (λ _. is_settled a slot number (take m s.published) ≡ false) [
+      | inl settled ↦
+          let named = named-is_settled b s m a slot number sound settled in
+          absurd (undecided named.0 named.1.within named.1.slot_is named.1.number_is)
+      | inr not ↦ not
+    ]
 
 -- the decisions of a slot that names its requests in order
 numbers_slot : (b : BookTerms) (s : BoardState) (a slot r : ℕ) → Sound b s → r < length (s.cells a) → (decision_at (s.cells a) r).slot ≡ slot
@@ -170,19 +229,35 @@ counted_before slot xs k l below within slot_is =
     ap (names_slot slot) (get_or-take l xs k no_decision below) ∙ eq-eqb (decision_at xs k).slot slot slot_is in
     omega (arith, numbered_below slot ys k inside named, ap (count_by (names_slot slot)) (take-take k l xs (omega arith)))
 
+-- the decisions of a slot have larger and larger numbers
+pub number-less : (b : BookTerms) (s : BoardState) (a slot k l : ℕ) → Sound b s → k < l → l < length (s.cells a)
+    → (decision_at (s.cells a) k).slot ≡ slot → (decision_at (s.cells a) l).slot ≡ slot
+    → (decision_at (s.cells a) k).number < (decision_at (s.cells a) l).number
+number-less b s a slot k l sound below within one other =
+    omega (
+      arith,
+      numbers_slot b s a slot k sound (omega arith) one,
+      numbers_slot b s a slot l sound within other,
+      counted_before slot (s.cells a) k l below within one,
+    )
+
+-- and a slot has had more decisions than such a number
+pub number-less-count : (b : BookTerms) (s : BoardState) (a slot r : ℕ) → Sound b s → r < length (s.cells a) → (decision_at (s.cells a) r).slot ≡ slot
+    → (decision_at (s.cells a) r).number < count_by (names_slot slot) (s.cells a)
+number-less-count b s a slot r sound within slot_is =
+    let named = eq-eqb (decision_at (s.cells a) r).slot slot slot_is in
+    omega (arith, numbers_slot b s a slot r sound within slot_is, numbered_below slot (s.cells a) r within named)
+
 -- one request is decided in one round
 pub same_round : (b : BookTerms) (s : BoardState) (a k l : ℕ) → Sound b s → k < length (s.cells a) → l < length (s.cells a)
     → (decision_at (s.cells a) k).slot ≡ (decision_at (s.cells a) l).slot
     → (decision_at (s.cells a) k).number ≡ (decision_at (s.cells a) l).number → k ≡ l
 same_round b s a k l sound one other slots numbers =
     let xs = s.cells a in
-    let slot = (decision_at xs l).slot in
-    let first = numbers_slot b s a slot k sound one slots in
-    let second = numbers_slot b s a slot l sound other refl in
     elim (cases_lt k l) as (λ _. k ≡ l) [
-      | inl below ↦ absurd (omega (arith, first, second, numbers, counted_before slot xs k l below other slots))
+      | inl below ↦ absurd (omega (arith, numbers, number-less b s a (decision_at xs l).slot k l sound below other slots refl))
       | inr above ↦ elim (cases_lt l k) as (λ _. k ≡ l) [
-        | inl over ↦ absurd (omega (arith, first, second, numbers, counted_before slot xs l k over one refl))
+        | inl over ↦ absurd (omega (arith, numbers, number-less b s a (decision_at xs l).slot l k sound over one refl slots))
         | inr not ↦ omega (arith, above, not)
       ]
     ]
@@ -200,27 +275,20 @@ not_earlier b s m a slot number sound within all unsettled =
           let r = found.0 in
           let slot_is : (decision_at xs r).slot ≡ slot = eqb-true (decision_at xs r).slot slot found.1.slot_is in
           let number_is : (decision_at xs r).number ≡ number = sym (numbers_slot b s a slot r sound found.1.within slot_is) ∙ found.1.before in
-          let settled = is_settled-decided b s m a r sound within (omega (arith, all, found.1.within)) in
-          let here : is_settled a slot number (take m s.published) ≡ true =
-          subst (λ t. is_settled a t number (take m s.published) ≡ true) slot_is
-          (subst (λ t. is_settled a (decision_at xs r).slot t (take m s.published) ≡ true) number_is settled) in
-          let false_true : true ≡ false = sym here ∙ unsettled in
-          absurd (cc false_true)
+          absurd (IsUndecided-unsettled b s m a slot number sound within unsettled r (omega (arith, all, found.1.within)) slot_is number_is)
       | inr above ↦ above
     ]
 
 -- nor a later one
-not_later : (b : BookTerms) (s : BoardState) (a slot number : ℕ) → Sound b s → number < length (s.rows a slot)
+pub not_later : (b : BookTerms) (s : BoardState) (a slot number : ℕ) → Sound b s → number < length (s.rows a slot)
     → number ≤ count_by (names_slot slot) (s.cells a)
 not_later b s a slot zero sound announced = omega arith
 not_later b s a slot (suc before) sound announced =
-    let xs = s.cells a in
     let request = sound.requests a slot (suc before) announced in
     let found = named-is_settled b s _ a slot before sound (request.follows before (omega arith)) in
     let r = found.0 in
     let named = found.1 in
-    let counted = numbers_slot b s a slot r sound named.within named.slot_is in
-    omega (arith, counted, named.number_is, numbered_below slot xs r named.within (eq-eqb (decision_at xs r).slot slot named.slot_is))
+    omega (arith, named.number_is, number-less-count b s a slot r sound named.within named.slot_is)
 
 pub number_is_next : (b : BookTerms) (s : BoardState) (m a slot number : ℕ) → Sound b s → m ≤ length s.published
     → rounds a (take m s.published) ≡ length (s.cells a) → number < length (s.rows a slot) → is_settled a slot number (take m s.published) ≡ false

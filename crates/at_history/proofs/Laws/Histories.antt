@@ -5,7 +5,7 @@ use Rattle.std.proofs.lemmas.List.{get_or-take, get_or_default, length-take}
 use Rattle.std.proofs.lemmas.List.Elements.{All-from_get_or}
 use Rattle.std.proofs.lemmas.List.Folds.{Any-from_list_any, list_any_more}
 use Rattle.std.proofs.lemmas.List.Sums.{sum_by-le}
-use Rattle.std.specs.List.{list_any, sum_by, count_by}
+use Rattle.std.specs.List.{list_any, sum_by}
 use Rattle.at_base.specs.declared.decision.Decision.{Decision}
 use Rattle.at_ledger.specs.Account.{rounds_room, slots_of}
 use Rattle.at_ledger.specs.Book.{BookTerms, account_of, IsBegun, log_room_of}
@@ -94,7 +94,7 @@ named-rounds_between a slot m k xs before within same =
     )
 
 -- where as many rounds of an account stand, as many name a slot
-named-rounds : (a slot m k : ℕ) (xs : List Publication) → m ≤ length xs → k ≤ length xs → rounds a (take m xs) ≡ rounds a (take k xs)
+pub named-rounds : (a slot m k : ℕ) (xs : List Publication) → m ≤ length xs → k ≤ length xs → rounds a (take m xs) ≡ rounds a (take k xs)
     → named a slot (take m xs) ≡ named a slot (take k xs)
 named-rounds a slot m k xs one other same =
     elim (cases_lt m k) as (λ _. named a slot (take m xs) ≡ named a slot (take k xs)) [
@@ -135,7 +135,7 @@ settles-new b xs m a slot p v (Round c r d targets) within initial next law new 
     (and_from (d.slot == slot) (d.number == n) parts.1 (eq-eqb d.number n number))
 
 -- the rounds that name a slot settle its first requests
-is_settled-named : (b : BookTerms) (xs : List Publication) (m a slot number : ℕ) → IsHistory b xs → m ≤ length xs
+pub is_settled-named : (b : BookTerms) (xs : List Publication) (m a slot number : ℕ) → IsHistory b xs → m ≤ length xs
     → number < named a slot (take m xs) → is_settled a slot number (take m xs) ≡ true
 is_settled-named b xs zero a slot number history within below =
     absurd (omega (arith, below, ap (sum_by (λ (y : Publication). one_if (names a slot y.entry))) firsts-nil))
@@ -197,7 +197,7 @@ named-le b xs m a slot history within =
     ]
 
 -- and no more than the number of a request of the slot that is unsettled
-named-unsettled : (b : BookTerms) (xs : List Publication) (m a slot number : ℕ) → IsHistory b xs → m ≤ length xs
+pub named-unsettled : (b : BookTerms) (xs : List Publication) (m a slot number : ℕ) → IsHistory b xs → m ≤ length xs
     → is_settled a slot number (take m xs) ≡ false → named a slot (take m xs) ≤ number
 named-unsettled b xs m a slot number history within unsettled =
     elim (cases_lt number (named a slot (take m xs))) as (λ _. named a slot (take m xs) ≤ number) [
@@ -302,22 +302,31 @@ IsShownEntry-Sound b s p prefix (Round a r d targets) sound law =
     let known : AreTargets b targets = subst (AreTargets b) law.1.same_targets (sound.requests a d.slot d.number decision.announced).targets in
     (law.0, known, decision.range, decision.slot_in)
 
+-- at the place of a decision as many rounds name its slot as the number that it names
+pub named-decided : (b : BookTerms) (s : BoardState) (a r : ℕ) → Sound b s → r < length (s.cells a) → let d : Decision = decision_at (s.cells a) r in
+    named a d.slot (take d.place s.published) ≡ d.number
+named-decided b s a r sound within =
+    let d : Decision = decision_at (s.cells a) r in
+    let law : IsSoundDecision b s a r d = sound.decisions a r within in
+    omega (
+      arith,
+      (AreDecided-take b s d.place (HasRuns-Sound b s sound) law.place a).named_so d.slot,
+      ap (λ n. decided_for d.slot n (s.cells a)) law.next,
+      sound.numbers a r within,
+    )
+
 IsShownDecision-Sound : (b : BookTerms) (s : BoardState) (p : ℕ) (prefix : List Publication) (e : Entry) → Sound b s
     → IsSoundEntry b s p prefix e → IsShownDecision b s.published e
 IsShownDecision-Sound b s p prefix (Own from targets) sound law = tt
 IsShownDecision-Sound b s p prefix (Round a r d targets) sound law =
     let so = law.1 in
     let decision : IsSoundDecision b s a r d = subst (IsSoundDecision b s a r) so.decision (sound.decisions a r so.decided) in
-    let numbers : count_by (λ (e : Decision). e.slot == d.slot) (take r (s.cells a)) ≡ d.number =
-    subst (λ (t : Decision). count_by (λ (e : Decision). e.slot == t.slot) (take r (s.cells a)) ≡ t.number) so.decision (sound.numbers a r so.decided) in
-    let named_so = (AreDecided-take b s d.place (HasRuns-Sound b s sound) decision.place a).named_so d.slot in
-    let at = ap (λ n. decided_for d.slot n (s.cells a)) decision.next in
     record {
       room = decision.room;
       number_in = omega (arith, decision.announced, sound.row_room a d.slot);
       place = decision.place;
       next = decision.next;
-      number = omega (arith, named_so, at, numbers);
+      number = subst (λ (t : Decision). named a t.slot (take t.place s.published) ≡ t.number) so.decision (named-decided b s a r sound so.decided);
       ok = subst (λ t. (d.ok ≡ true) ↔ IsCovered b (take d.place s.published) a (amount_of t)) so.same_targets decision.ok;
     }
 

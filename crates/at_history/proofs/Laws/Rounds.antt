@@ -9,7 +9,7 @@ use Rattle.std.specs.List.{count_by, list_any, sum_by}
 use Rattle.at_base.specs.declared.decision.Decision.{Decision}
 use Rattle.at_ledger.specs.Call.{TargetPair}
 use Rattle.at_history.proofs.Laws.Counts.{count_of-append}
-use Rattle.at_history.proofs.Laws.Prefixes.{IsPrefix-length, take-IsPrefix}
+use Rattle.at_history.proofs.Laws.Prefixes.{IsPrefix-length, IsPrefix-take, take-IsPrefix}
 use Rattle.at_history.specs.BoardState.{publication_at}
 use Rattle.at_history.specs.Entries.{is_round, is_round_on, is_own}
 use Rattle.at_history.specs.Publications.{no_publication, IsPrefix, publications_of, count_of}
@@ -91,6 +91,9 @@ rounds-IsPrefix a xs ys before =
       ap (rounds a) (take_all (length ys) ys (omega arith)),
       rounds-take_mono a (length xs) (length ys) ys (IsPrefix-length xs ys before),
     )
+
+pub rounds-take-le : (a m : ℕ) (xs : List Publication) → rounds a (take m xs) ≤ rounds a xs
+rounds-take-le a m xs = rounds-IsPrefix a (take m xs) xs (IsPrefix-take m xs)
 
 pub firsts-nil : firsts [] ≡ []
 unfolding firsts

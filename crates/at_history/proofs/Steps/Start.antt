@@ -6,7 +6,7 @@ use Rattle.at_history.specs.Sound.{Sound}
 
 -- nothing is published, decided, announced or held
 abbrev pub starting_state : BoardState
-starting_state = record { published = []; cells = λ a. []; rows = λ a slot. []; held = λ p. None }
+starting_state = record { published = []; cells = λ a. []; rows = λ a slot. []; held = λ p. None; heard = λ a slot. 0; seen_rows = λ a slot. [] }
 
 pub Sound-starting : (b : BookTerms) → Sound b starting_state
 Sound-starting b = record {
