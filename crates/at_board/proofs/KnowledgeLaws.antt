@@ -1,7 +1,7 @@
-pub mod OwnRequests
 pub mod Kept
 pub mod Asking
 pub mod Seats
 pub mod Agreement
 pub mod Records
 pub mod Counts
+pub mod Candidates

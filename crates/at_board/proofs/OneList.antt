@@ -32,10 +32,10 @@ whole-count_of xs ys m before last same =
     whole-IsPrefix xs ys before (omega (arith, last, position-below_from_count p m (length xs) ys counted))
 
 -- the seat of the process that published last has seen the whole list
-pub seen-Ruled : (b : BookTerms) (words : List ℕ) (views : List Knowledge) (ruled : Ruled b words views) (m : ℕ)
+pub seen-Ruled : (b : BookTerms) (words : List ℕ) (knowledge : List Knowledge) (ruled : Ruled b words knowledge) (m : ℕ)
     → length ruled.state.published ≡ m + 1
-    → (id : ℕ) × (v : Knowledge) × (get_elem? views id ≡ some v) × (v.seen ≡ ruled.state.published)
-seen-Ruled b words views ruled m last =
+    → (id : ℕ) × (v : Knowledge) × (get_elem? knowledge id ≡ some v) × (v.seen ≡ ruled.state.published)
+seen-Ruled b words knowledge ruled m last =
     let xs = ruled.state.published in
     let p = (publication_at xs m).process in
     let found = ruled.seated.some_seat p (ruled.sound.views m (omega (arith, last))).process in
@@ -51,22 +51,22 @@ IsPrefix-none : (xs ys : List Publication) → length xs ≡ 0 → IsPrefix xs y
 IsPrefix-none [] ys none = (ys, refl)
 IsPrefix-none (x ∷ xs) ys none = absurd (omega (arith, none))
 
-IsPrefix-Ruled : (b : BookTerms) (words : List ℕ) (views : List Knowledge) (one other : Ruled b words views)
+IsPrefix-Ruled : (b : BookTerms) (words : List ℕ) (knowledge : List Knowledge) (one other : Ruled b words knowledge)
     → IsPrefix one.state.published other.state.published
-IsPrefix-Ruled b words views one other =
+IsPrefix-Ruled b words knowledge one other =
     let xs = one.state.published in
     let ys = other.state.published in
     elim (cases_lt 0 (length xs)) as (λ _. IsPrefix xs ys) [
       | inl more ↦
-          let found = seen-Ruled b words views one (length xs - 1) (omega (arith, more)) in
+          let found = seen-Ruled b words knowledge one (length xs - 1) (omega (arith, more)) in
           subst (λ t. IsPrefix t ys) found.3 (other.knows found.0 found.1 found.2).seen
       | inr none ↦ IsPrefix-none xs ys (omega (arith, none))
     ]
 
 -- all states that the words and the seats may stand for have published one list
-pub published-Ruled : (b : BookTerms) (words : List ℕ) (views : List Knowledge) (one other : Ruled b words views)
+pub published-Ruled : (b : BookTerms) (words : List ℕ) (knowledge : List Knowledge) (one other : Ruled b words knowledge)
     → one.state.published ≡ other.state.published
-published-Ruled b words views one other =
+published-Ruled b words knowledge one other =
     let xs = one.state.published in
     let ys = other.state.published in
-    whole-IsPrefix xs ys (IsPrefix-Ruled b words views one other) (IsPrefix-length ys xs (IsPrefix-Ruled b words views other one))
+    whole-IsPrefix xs ys (IsPrefix-Ruled b words knowledge one other) (IsPrefix-length ys xs (IsPrefix-Ruled b words knowledge other one))

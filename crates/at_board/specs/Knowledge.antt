@@ -4,3 +4,4 @@ pub mod Fresh
 pub mod Parts
 pub mod Records
 pub mod Knows
+pub mod Candidates

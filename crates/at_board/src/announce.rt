@@ -1,7 +1,7 @@
 //! A step: announcing a request.
 
 ghost use Rattle.std.specs.Prelude.{◌≡◌, ◌+◌, ◌<◌, ℕ, length};
-ghost use Rattle.at_board.specs.Knowledge.Seats.{IsOf};
+ghost use Rattle.at_board.specs.Knowledge.Seats.{IsKept, IsOf};
 ghost use Rattle.at_ledger.specs.Book.{HasSlot};
 ghost use Rattle.at_history.specs.declared.request.Request.{Request};
 ghost use Rattle.at_board.specs.Steps.Announce.{MayAnnounce, Announces};
@@ -37,6 +37,7 @@ impl Board {
             × MayAnnounce self.now.book seat.old.knows account slot r }
         ensures announced { (slot : ℕ) (r : Request) → MayAnnounce self.now.book seat.old.knows account slot r
             → Announces self.now.book seat.old.knows seat.new.knows account slot r }
+        ensures seat { IsKept seat.new.knows }
         ensures board { seat.new.board ≡ seat.old.board }
         ensures steps { steps.new ≡ steps.old + 1 }
         ensures exchanges { exchanges.new ≡ exchanges.old }

@@ -1,7 +1,7 @@
 //! A step: which request of a shared account is decided next.
 
 ghost use Rattle.std.specs.Prelude.{◌≡◌, ◌+◌, ◌<◌};
-ghost use Rattle.at_board.specs.Knowledge.Seats.{IsOf};
+ghost use Rattle.at_board.specs.Knowledge.Seats.{IsKept, IsOf};
 ghost use Rattle.at_board.specs.Steps.Decide.{DecidesBy, IsProposal, word_after};
 
 use crate::board::Board;
@@ -29,6 +29,7 @@ impl Board {
         requires proposal { IsProposal self.now.book seat.old.knows account round proposal }
         ensures decided { DecidesBy self.now.book seat.old.knows seat.new.knows account round
             proposal result }
+        ensures seat { IsKept seat.new.knows }
         ensures board { seat.new.board ≡ seat.old.board }
         ensures steps { steps.new ≡ steps.old + 1 }
         ensures exchanges { exchanges.new ≡ exchanges.old + 1 }

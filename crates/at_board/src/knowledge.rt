@@ -1,7 +1,7 @@
 //! What a seat or a note knows. These types have no values when the program runs: contracts and the rule speak of them.
 
 use at_base::Decision;
-use at_history::{Cell, Publication, Request};
+use at_history::{Cell, Publication, Request, SeenRow};
 use at_ledger::Book;
 use std::collections::LinkedList;
 
@@ -83,11 +83,4 @@ pub struct Asking {
 pub struct LoadedWord {
     pub request: SeenRequest,
     pub word: u32,
-}
-
-/// How many requests of a slot were announced when its word was loaded.
-#[derive(Drop)]
-pub struct SeenRow {
-    pub slot: u32,
-    pub count: u32,
 }

@@ -36,21 +36,17 @@ mod rule;
 mod seat;
 mod store_record_word;
 mod store_request_word;
-#[cfg(test)]
-mod tests;
 mod words;
 
 pub use crate::board::Board;
 pub use crate::board_end::BoardEnd;
 pub use crate::close::BoardRefused;
 pub use crate::counter::Steps;
-pub use crate::knowledge::{
-    Asking, Knowledge, LoadedWord, Loads, Part, SeenDecision, SeenRequest, SeenRow,
-};
+pub use crate::knowledge::{Asking, Knowledge, LoadedWord, Loads, Part, SeenDecision, SeenRequest};
 pub use crate::note::BoardNote;
 pub use crate::seat::BoardSeat;
 pub use crate::words::{
     RECORD_WORDS, REQUEST_WORDS, entry_of, pack_targets, record_word, targets_from, unpack_targets,
 };
 pub use at_base::NoMemory;
-pub use at_history::{Cell, Entry, Publication, Request};
+pub use at_history::{Cell, Entry, Publication, Request, SeenRow};

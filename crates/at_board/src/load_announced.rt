@@ -1,7 +1,7 @@
 //! A step: a load of how many requests an owner has announced.
 
 ghost use Rattle.std.specs.Prelude.{◌≡◌, ◌+◌, ◌<◌, length};
-ghost use Rattle.at_board.specs.Knowledge.Seats.{IsOf};
+ghost use Rattle.at_board.specs.Knowledge.Seats.{IsKept, IsOf};
 ghost use Rattle.at_ledger.specs.Book.{account_of};
 ghost use Rattle.at_ledger.specs.Account.{slots_of};
 ghost use Rattle.at_board.specs.Steps.LoadAnnounced.{LoadsAnnounced};
@@ -27,6 +27,7 @@ impl Board {
         requires slot { slot < slots_of (account_of self.now.book account) }
         ensures told { LoadsAnnounced self.now.book seat.old.knows seat.new.knows
             account slot result }
+        ensures seat { IsKept seat.new.knows }
         ensures board { seat.new.board ≡ seat.old.board }
         ensures steps { steps.new ≡ steps.old + 1 }
         ensures exchanges { exchanges.new ≡ exchanges.old }

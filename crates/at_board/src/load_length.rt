@@ -1,7 +1,7 @@
 //! A step: a load of a length.
 
 ghost use Rattle.std.specs.Prelude.{◌≡◌, ◌+◌, ◌<◌, length};
-ghost use Rattle.at_board.specs.Knowledge.Seats.{IsOf};
+ghost use Rattle.at_board.specs.Knowledge.Seats.{IsKept, IsOf};
 ghost use Rattle.at_board.specs.Steps.LoadLength.{LoadsLength};
 
 use crate::board::Board;
@@ -22,6 +22,7 @@ impl Board {
         requires board { IsOf seat.old self.now }
         requires process { p < self.now.book.processes }
         ensures told { LoadsLength self.now.book seat.old.knows seat.new.knows p result }
+        ensures seat { IsKept seat.new.knows }
         ensures board { seat.new.board ≡ seat.old.board }
         ensures steps { steps.new ≡ steps.old + 1 }
         ensures exchanges { exchanges.new ≡ exchanges.old }

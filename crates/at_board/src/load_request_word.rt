@@ -1,7 +1,7 @@
 //! A step: a load of a word of an announced request.
 
 ghost use Rattle.std.specs.Prelude.{◌≡◌, ◌+◌, ◌<◌};
-ghost use Rattle.at_board.specs.Knowledge.Seats.{IsOf};
+ghost use Rattle.at_board.specs.Knowledge.Seats.{IsKept, IsOf};
 ghost use Rattle.at_board.specs.Steps.LoadRequestWord.{MayLoadRequest, LoadsRequestWord};
 
 use crate::board::Board;
@@ -26,6 +26,7 @@ impl Board {
         requires request { MayLoadRequest seat.old.knows account slot number j }
         ensures told { LoadsRequestWord self.now.book seat.old.knows seat.new.knows
             account slot number j result }
+        ensures seat { IsKept seat.new.knows }
         ensures board { seat.new.board ≡ seat.old.board }
         ensures steps { steps.new ≡ steps.old + 1 }
         ensures exchanges { exchanges.new ≡ exchanges.old }

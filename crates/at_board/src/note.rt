@@ -1,7 +1,7 @@
 //! Notes: what one seat has seen, handed to another in two steps.
 
 ghost use Rattle.std.specs.Prelude.{◌≡◌, ◌+◌, ◌<◌, []};
-ghost use Rattle.at_board.specs.Knowledge.Seats.{IsOf};
+ghost use Rattle.at_board.specs.Knowledge.Seats.{IsKept, IsOf};
 ghost use Rattle.at_board.specs.Steps.Learn.{Learns};
 ghost use Rattle.at_board.specs.Steps.Note.{noted};
 
@@ -69,6 +69,7 @@ impl Board {
         requires board { IsOf seat.old self.now }
         requires note { IsOf note self.now }
         ensures learned { Learns self.now.book seat.old.knows note.knows seat.new.knows }
+        ensures seat { IsKept seat.new.knows }
         ensures board { seat.new.board ≡ seat.old.board }
         ensures steps { steps.new ≡ steps.old + 1 }
         ensures exchanges { exchanges.new ≡ exchanges.old + 1 }

@@ -3,7 +3,7 @@
 ghost use Rattle.std.specs.Prelude.{◌≡◌, ◌+◌, ◌<◌, length};
 ghost use Rattle.at_history.specs.declared.publication.Publication.{Publication};
 ghost use Rattle.at_board.specs.Steps.Publish.{MayPublish, Publishes};
-ghost use Rattle.at_board.specs.Knowledge.Seats.{IsOf};
+ghost use Rattle.at_board.specs.Knowledge.Seats.{IsKept, IsOf};
 
 use crate::board::Board;
 use crate::counter::Steps;
@@ -23,6 +23,7 @@ impl Board {
         requires record { (x : Publication) × MayPublish self.now.book seat.old.knows x }
         ensures published { (x : Publication) → MayPublish self.now.book seat.old.knows x
             → Publishes self.now.book seat.old.knows seat.new.knows x }
+        ensures seat { IsKept seat.new.knows }
         ensures board { seat.new.board ≡ seat.old.board }
         ensures steps { steps.new ≡ steps.old + 1 }
         ensures exchanges { exchanges.new ≡ exchanges.old }

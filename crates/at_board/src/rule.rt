@@ -8,7 +8,8 @@ use at_ledger::Book;
 use atomic_table::TableRule;
 use std::snapshot::Snapshot;
 
-/// The words stand for a sound state of the board, and whatever a seat or a note has seen is in it.
+/// The words stand for a sound state of the board that keeps the law of overtaking, and whatever a seat or a note has seen is in
+/// it.
 pub(crate) struct BoardRule {}
 
 impl TableRule<(), Knowledge, Snapshot<Book>> for BoardRule {

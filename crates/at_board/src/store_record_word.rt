@@ -2,7 +2,7 @@
 
 ghost use Rattle.std.specs.Prelude.{◌≡◌, ◌+◌, ◌<◌};
 ghost use Rattle.at_board.specs.Steps.StoreRecordWord.{MayStoreWord, StoresWord};
-ghost use Rattle.at_board.specs.Knowledge.Seats.{IsOf};
+ghost use Rattle.at_board.specs.Knowledge.Seats.{IsKept, IsOf};
 
 use crate::addresses::record_index;
 use crate::board::Board;
@@ -25,6 +25,7 @@ impl Board {
         requires board { IsOf seat.old self.now }
         requires word { MayStoreWord self.now.book seat.old.knows j }
         ensures stored { StoresWord seat.old.knows seat.new.knows j w }
+        ensures seat { IsKept seat.new.knows }
         ensures board { seat.new.board ≡ seat.old.board }
         ensures steps { steps.new ≡ steps.old + 1 }
         ensures exchanges { exchanges.new ≡ exchanges.old }

@@ -1,8 +1,8 @@
 //! A step: a store of a word of the seat's next request.
 
 ghost use Rattle.std.specs.Prelude.{◌≡◌, ◌+◌, ◌<◌, ℕ};
-ghost use Rattle.at_board.specs.Knowledge.Seats.{IsOf};
-ghost use Rattle.at_board.specs.Steps.StoreRequestWord.{MayAsk, StoresRequestWord};
+ghost use Rattle.at_board.specs.Knowledge.Seats.{IsKept, IsOf};
+ghost use Rattle.at_board.specs.Steps.StoreRequestWord.{MayStoreRequest, StoresRequestWord};
 
 use crate::board::Board;
 use crate::counter::Steps;
@@ -24,9 +24,10 @@ impl Board {
         exchanges: &mut Steps<X>,
     )
         requires board { IsOf seat.old self.now }
-        requires asks { (slot : ℕ) × MayAsk self.now.book seat.old.knows account slot }
+        requires asks { (slot : ℕ) × MayStoreRequest self.now.book seat.old.knows account slot }
         requires word { j < REQUEST_WORDS }
         ensures stored { StoresRequestWord seat.old.knows seat.new.knows account j w }
+        ensures seat { IsKept seat.new.knows }
         ensures board { seat.new.board ≡ seat.old.board }
         ensures steps { steps.new ≡ steps.old + 1 }
         ensures exchanges { exchanges.new ≡ exchanges.old }

@@ -4,8 +4,6 @@
 mod account_totals;
 mod catch_up;
 mod crossing;
-#[cfg(test)]
-mod fold_tests;
 mod slot_totals;
 mod totals;
 

@@ -11,8 +11,6 @@ mod load_entry_words;
 mod load_view_words;
 mod receipt;
 mod record;
-#[cfg(test)]
-mod tests;
 
 pub use crate::append_record::{append, room};
 pub use crate::closing::Closing;

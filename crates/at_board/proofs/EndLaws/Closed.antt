@@ -43,18 +43,18 @@ HasAll-right : {X : Type 0} (xs ys zs : List X) → HasAll ys zs → HasAll (xs 
 HasAll-right xs ys zs has k z within = Contains-append_right xs ys (get_or zs k z) (has k z within)
 
 -- a seat knows all that it has seen
-HasAll-first : {X : Type 0} (of_view : Knowledge → List X) (seat : SeatTerms) → All (λ s. HasAll (of_view seat.knows) (of_view s.knows)) (seat ∷ [])
-HasAll-first of_view seat =
-    let P : SeatTerms → Type 0 = λ s. HasAll (of_view seat.knows) (of_view s.knows) in
-    All-cons P seat [] (HasAll-refl (of_view seat.knows)) (All-nil P)
+HasAll-first : {X : Type 0} (seen_by : Knowledge → List X) (seat : SeatTerms) → All (λ s. HasAll (seen_by seat.knows) (seen_by s.knows)) (seat ∷ [])
+HasAll-first seen_by seat =
+    let P : SeatTerms → Type 0 = λ s. HasAll (seen_by seat.knows) (seen_by s.knows) in
+    All-cons P seat [] (HasAll-refl (seen_by seat.knows)) (All-nil P)
 
 -- all that each seat has seen is known, and so is what one more seat has seen
-HasAll-push : {X : Type 0} (of_view : Knowledge → List X) (seats : List SeatTerms) (x : SeatTerms) (before after : List X)
-    → All (λ seat. HasAll before (of_view seat.knows)) seats → ((zs : List X) → HasAll before zs → HasAll after zs) → HasAll after (of_view x.knows)
-    → All (λ seat. HasAll after (of_view seat.knows)) (seats ++ x ∷ [])
-HasAll-push of_view seats x before after old more new =
-    let P : SeatTerms → Type 0 = λ seat. HasAll after (of_view seat.knows) in
-    All-append P seats (x ∷ []) (λ k d within. more (of_view (get_or seats k d).knows) (old k d within)) (All-cons P x [] new (All-nil P))
+HasAll-push : {X : Type 0} (seen_by : Knowledge → List X) (seats : List SeatTerms) (x : SeatTerms) (before after : List X)
+    → All (λ seat. HasAll before (seen_by seat.knows)) seats → ((zs : List X) → HasAll before zs → HasAll after zs) → HasAll after (seen_by x.knows)
+    → All (λ seat. HasAll after (seen_by seat.knows)) (seats ++ x ∷ [])
+HasAll-push seen_by seats x before after old more new =
+    let P : SeatTerms → Type 0 = λ seat. HasAll after (seen_by seat.knows) in
+    All-append P seats (x ∷ []) (λ k d within. more (seen_by (get_or seats k d).knows) (old k d within)) (All-cons P x [] new (All-nil P))
 
 -- the first seat
 pub Gathers-first : (board : BoardTerms) (seat : SeatTerms) → IsFreeSeat board 0 seat → length seat.knows.parts ≡ 1 → Gathers (seat ∷ []) seat.knows

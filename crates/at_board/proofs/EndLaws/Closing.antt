@@ -69,18 +69,18 @@ seat_joined-second seat id other p own = ap (λ (t : Bool). cond t id (seat p)) 
 seat_joined-else : (seat : ℕ → ℕ) (id other p : ℕ) → seat p ≢ other → seat_joined seat id other p ≡ seat p
 seat_joined-else seat id other p apart = ap (λ (t : Bool). cond t id (seat p)) (ne_eqb (seat p) other apart)
 
-AreSeated-gathered : (b : BookTerms) (seat : ℕ → ℕ) (views : List Knowledge) (id other : ℕ) (v w : Knowledge) → AreSeated b seat views
-    → get_elem? views id ≡ some v → other ≢ id → get_elem? views other ≡ some w → w.first ≡ v.first + length v.parts
-    → AreSeated b (seat_joined seat id other) (set (set views id (gathered v w)) other spent_knowledge)
-AreSeated-gathered b seat views id other v w seated found apart there next =
+AreSeated-gathered : (b : BookTerms) (seat : ℕ → ℕ) (knowledge : List Knowledge) (id other : ℕ) (v w : Knowledge) → AreSeated b seat knowledge
+    → get_elem? knowledge id ≡ some v → other ≢ id → get_elem? knowledge other ≡ some w → w.first ≡ v.first + length v.parts
+    → AreSeated b (seat_joined seat id other) (set (set knowledge id (gathered v w)) other spent_knowledge)
+AreSeated-gathered b seat knowledge id other v w seated found apart there next =
     let u : Knowledge = gathered v w in
-    let after = set (set views id u) other spent_knowledge in
+    let after = set (set knowledge id u) other spent_knowledge in
     record {
-      only = λ j p t at holds. elim (at_set (set views id u) other j spent_knowledge t at) as (λ _. seat_joined seat id other p ≡ j) [
+      only = λ j p t at holds. elim (at_set (set knowledge id u) other j spent_knowledge t at) as (λ _. seat_joined seat id other p ≡ j) [
         | inl here ↦
             let none : Holds spent_knowledge p = subst (λ x. Holds x p) (sym here.1) holds in
             absurd (omega (arith, none.0, none.1))
-        | inr off ↦ elim (at_set views id j u t off.1) as (λ _. seat_joined seat id other p ≡ j) [
+        | inr off ↦ elim (at_set knowledge id j u t off.1) as (λ _. seat_joined seat id other p ≡ j) [
           | inl here ↦ elim (Holds-gathered v w p next (subst (λ x. Holds x p) (sym here.1) holds)) as (λ _. seat_joined seat id other p ≡ j) [
             | inl mine ↦
                 let own = seated.only id p v found mine in
@@ -95,42 +95,43 @@ AreSeated-gathered b seat views id other v w seated found apart there next =
       some_seat = λ p within.
           let before = seated.some_seat p within in
           let here : get_elem? after id ≡ some u =
-          set_else (set views id u) other id spent_knowledge (λ e. apart (sym e)) ∙ set_here views id u (within_found views id v found) in
+          set_else (set knowledge id u) other id spent_knowledge (λ e. apart (sym e)) ∙ set_here knowledge id u (within_found knowledge id v found) in
           elim (cases_eq (seat p) other) as (λ _. (t : Knowledge) × (get_elem? after (seat_joined seat id other p) ≡ some t) × Holds t p) [
             | inl theirs ↦
-                let same : before.0 ≡ w = some-injective before.0 w (sym before.1 ∙ (ap (get_elem? views) theirs ∙ there)) in
+                let same : before.0 ≡ w = some-injective before.0 w (sym before.1 ∙ (ap (get_elem? knowledge) theirs ∙ there)) in
                 (u, ap (get_elem? after) (seat_joined-second seat id other p theirs) ∙ here, gathered-second v w p next (subst (λ t. Holds t p) same before.2))
             | inr beside ↦
                 let stays = seat_joined-else seat id other p beside in
                 elim (cases_eq (seat p) id) as (λ _. (t : Knowledge) × (get_elem? after (seat_joined seat id other p) ≡ some t) × Holds t p) [
                   | inl mine ↦
-                      let same : before.0 ≡ v = some-injective before.0 v (sym before.1 ∙ (ap (get_elem? views) mine ∙ found)) in
+                      let same : before.0 ≡ v = some-injective before.0 v (sym before.1 ∙ (ap (get_elem? knowledge) mine ∙ found)) in
                       (u, ap (get_elem? after) (stays ∙ mine) ∙ here, gathered-first v w p (subst (λ t. Holds t p) same before.2))
                   | inr off ↦ (
                     before.0,
                     ap (get_elem? after) stays
-                        ∙ (set_else (set views id u) other (seat p) spent_knowledge beside ∙ (set_else views id (seat p) u off ∙ before.1)),
+                        ∙ (set_else (set knowledge id u) other (seat p) spent_knowledge beside ∙ (set_else knowledge id (seat p) u off ∙ before.1)),
                     before.2,
                   )
                 ]
           ];
     }
 
-Ruled-gathered : (b : BookTerms) (words : List ℕ) (views : List Knowledge) (id other : ℕ) (v w : Knowledge) → Ruled b words views
-    → get_elem? views id ≡ some v → other ≢ id → get_elem? views other ≡ some w → w.first ≡ v.first + length v.parts
-    → Ruled b words (set (set views id (gathered v w)) other spent_knowledge)
-Ruled-gathered b words views id other v w ruled found apart there next =
+Ruled-gathered : (b : BookTerms) (words : List ℕ) (knowledge : List Knowledge) (id other : ℕ) (v w : Knowledge) → Ruled b words knowledge
+    → get_elem? knowledge id ≡ some v → other ≢ id → get_elem? knowledge other ≡ some w → w.first ≡ v.first + length v.parts
+    → Ruled b words (set (set knowledge id (gathered v w)) other spent_knowledge)
+Ruled-gathered b words knowledge id other v w ruled found apart there next =
     let s : BoardState = ruled.state in
     let u : Knowledge = gathered v w in
-    let knows = knows_after b words s views id u (Knows-gathered b words s v w next (ruled.knows id v found) (ruled.knows other w there))
+    let knows = knows_after b words s knowledge id u (Knows-gathered b words s v w next (ruled.knows id v found) (ruled.knows other w there))
     (λ j t off at. ruled.knows j t at) in
     record {
       state = s;
       seat = seat_joined ruled.seat id other;
       shown = ruled.shown;
       sound = ruled.sound;
-      knows = knows_after b words s (set views id u) other spent_knowledge (Knows-spent_knowledge b words s) (λ j t off at. knows j t at);
-      seated = AreSeated-gathered b ruled.seat views id other v w ruled.seated found apart there next;
+      overtaking = ruled.overtaking;
+      knows = knows_after b words s (set knowledge id u) other spent_knowledge (Knows-spent_knowledge b words s) (λ j t off at. knows j t at);
+      seated = AreSeated-gathered b ruled.seat knowledge id other v w ruled.seated found apart there next;
     }
 
 module _ {S : Type 0} where

@@ -7,7 +7,11 @@ use Rattle.std.proofs.lemmas.List.{drop-replicate, get_or-replicate, get_or_appe
 use Rattle.std.proofs.lemmas.List.Elements.{All-nil}
 use Rattle.atomic_table.proofs.Lists.{at_last, at_longer, at_set, set_else, set_here}
 use Rattle.atomic_table.specs.Seated.{TableId}
-use Rattle.at_ledger.specs.Book.{BookTerms, IsBegun, IsBook}
+use Rattle.std.specs.List.{sum_by}
+use Rattle.at_ledger.specs.Book.{BookTerms, HasSlot, IsBegun, IsBook}
+use Rattle.at_history.proofs.Laws.Rounds.{firsts-nil, one_if}
+use Rattle.at_history.specs.Entries.{names}
+use Rattle.at_history.specs.declared.publication.Publication.{Publication}
 use Rattle.at_history.proofs.Laws.Counts.{publications_of-nil, count_of-nil}
 use Rattle.at_history.proofs.Laws.Runs.{IsRun-nil}
 use Rattle.at_history.specs.BoardState.{BoardState}
@@ -18,7 +22,7 @@ use Rattle.at_board.proofs.StepLaws.StoreRecordWord.{HasPart-words}
 use Rattle.at_board.specs.Ends.Opening.{first_part, other_parts, starting_seat}
 use Rattle.at_board.specs.Knowledge.Agreement.{AgreesWithSeen, DecisionInRange, RequestInRange}
 use Rattle.at_board.specs.Knowledge.Knows.{HasPart, Knows}
-use Rattle.at_board.specs.Knowledge.Parts.{no_asking, no_part, part_at, starting_asking, starting_part, starting_knowledge}
+use Rattle.at_board.specs.Knowledge.Parts.{asking_on, no_asking, own_part, no_part, part_at, starting_asking, starting_part, starting_knowledge}
 use Rattle.at_board.specs.Knowledge.Seats.{IsSeat, SeatTerms}
 use Rattle.at_board.specs.Rule.{AreSeated, Holds, Ruled}
 use Rattle.at_board.specs.Words.Addresses.{record_width}
@@ -27,8 +31,8 @@ use Rattle.at_board.specs.declared.knowledge.Part.{Part}
 use Rattle.at_board.specs.declared.knowledge.Knowledge.{Knowledge}
 
 -- what is known after the cut is the first one, the new one, or another that stayed
-record CutCases (views : List Knowledge) (id j : ℕ) (v left right u : Knowledge) : Type 0 where
-  which : ((j ≡ id) × (left ≡ u)) ⊎ (((j ≡ length views) × (right ≡ u)) ⊎ ((j ≢ id) × (get_elem? views j ≡ some u)))
+record CutCases (knowledge : List Knowledge) (id j : ℕ) (v left right u : Knowledge) : Type 0 where
+  which : ((j ≡ id) × (left ≡ u)) ⊎ (((j ≡ length knowledge) × (right ≡ u)) ⊎ ((j ≢ id) × (get_elem? knowledge j ≡ some u)))
 
 -- the last of a list with one more, by its index
 last_found : (l : List Knowledge) (a u : Knowledge) (j : ℕ) → get_elem? (l ++ a ∷ []) j ≡ some u → (get_elem? l j ≡ some u) ⊎ ((j ≡ length l) × (a ≡ u))
@@ -41,16 +45,16 @@ last_found (x ∷ xs) a u (suc j) e =
       | inr last ↦ inr (ap suc last.0, last.1)
     ]
 
-cut_cases : (views : List Knowledge) (id j : ℕ) (v left right u : Knowledge) → get_elem? (set views id left ++ right ∷ []) j ≡ some u
-    → CutCases views id j v left right u
-cut_cases views id j v left right u found =
-    elim (last_found (set views id left) right u j found) as (λ _. CutCases views id j v left right u) [
+cut_cases : (knowledge : List Knowledge) (id j : ℕ) (v left right u : Knowledge) → get_elem? (set knowledge id left ++ right ∷ []) j ≡ some u
+    → CutCases knowledge id j v left right u
+cut_cases knowledge id j v left right u found =
+    elim (last_found (set knowledge id left) right u j found) as (λ _. CutCases knowledge id j v left right u) [
       | inl before ↦
-          elim (at_set views id j left u before) as (λ _. CutCases views id j v left right u) [
+          elim (at_set knowledge id j left u before) as (λ _. CutCases knowledge id j v left right u) [
             | inl here ↦ record { which = inl here }
             | inr other ↦ record { which = inr (inr other) }
           ]
-      | inr last ↦ record { which = inr (inl (last.0 ∙ length-set views id left, last.1)) }
+      | inr last ↦ record { which = inr (inl (last.0 ∙ length-set knowledge id left, last.1)) }
     ]
 
 Knows-first_part : (b : BookTerms) (words : List ℕ) (s : BoardState) (v : Knowledge) → Knows b words s v → Knows b words s (first_part v)
@@ -102,14 +106,14 @@ Holds-other_parts : (v : Knowledge) (p : ℕ) → Holds (other_parts v) p → (v
 Holds-other_parts v p holds =
     (omega (arith, holds.0), (omega (arith, holds.0), omega (arith, holds.0, holds.1, length-drop 1 v.parts)))
 
-AreSeated-cut : (b : BookTerms) (seat : ℕ → ℕ) (views : List Knowledge) (id : ℕ) (v : Knowledge) → AreSeated b seat views → get_elem? views id ≡ some v
-    → AreSeated b (seat_after seat id v.first (length views)) (set views id (first_part v) ++ other_parts v ∷ [])
-AreSeated-cut b seat views id v seated found =
-    let after = set views id (first_part v) ++ other_parts v ∷ [] in
-    let new = length views in
+AreSeated-cut : (b : BookTerms) (seat : ℕ → ℕ) (knowledge : List Knowledge) (id : ℕ) (v : Knowledge) → AreSeated b seat knowledge → get_elem? knowledge id ≡ some v
+    → AreSeated b (seat_after seat id v.first (length knowledge)) (set knowledge id (first_part v) ++ other_parts v ∷ [])
+AreSeated-cut b seat knowledge id v seated found =
+    let after = set knowledge id (first_part v) ++ other_parts v ∷ [] in
+    let new = length knowledge in
     record {
       only = λ j p u there holds.
-          elim (cut_cases views id j v (first_part v) (other_parts v) u there).which as (λ _. seat_after seat id v.first new p ≡ j) [
+          elim (cut_cases knowledge id j v (first_part v) (other_parts v) u there).which as (λ _. seat_after seat id v.first new p ≡ j) [
             | inl left ↦
                 let mine = Holds-first_part v p (subst (λ t. Holds t p) (sym left.1) holds) in
                 let own = seated.only id p v found mine.1 in
@@ -127,49 +131,50 @@ AreSeated-cut b seat views id v seated found =
           let before = seated.some_seat p within in
           elim (cases_eq (seat p) id) as (λ _. (u : Knowledge) × (get_elem? after (seat_after seat id v.first new p) ≡ some u) × Holds u p) [
             | inl own ↦
-                let same : before.0 ≡ v = some-injective before.0 v (sym before.1 ∙ (ap (get_elem? views) own ∙ found)) in
+                let same : before.0 ≡ v = some-injective before.0 v (sym before.1 ∙ (ap (get_elem? knowledge) own ∙ found)) in
                 let old : Holds v p = subst (λ t. Holds t p) same before.2 in
                 elim (cases_lt v.first p) as (λ _. (u : Knowledge) × (get_elem? after (seat_after seat id v.first new p) ≡ some u) × Holds u p) [
                   | inl above ↦ (
                     other_parts v,
                     ap (get_elem? after) (seat_after-new seat id v.first new p own above)
-                        ∙ at_last (set views id (first_part v)) (other_parts v) new (length-set views id (first_part v)),
+                        ∙ at_last (set knowledge id (first_part v)) (other_parts v) new (length-set knowledge id (first_part v)),
                     (omega arith, omega (arith, old.1, length-drop 1 v.parts)),
                   )
                   | inr low ↦ (
                     first_part v,
                     ap (get_elem? after) (seat_after-first seat id v.first new p own low ∙ own)
-                        ∙ at_longer (set views id (first_part v)) (other_parts v ∷ []) id (first_part v) (set_here views id (first_part v) (within_found views id v found)),
+                        ∙ at_longer (set knowledge id (first_part v)) (other_parts v ∷ []) id (first_part v) (set_here knowledge id (first_part v) (within_found knowledge id v found)),
                     (old.0, omega (arith, old.0, old.1, low, length-take 1 v.parts)),
                   )
                 ]
             | inr other ↦ (
               before.0,
               ap (get_elem? after) (seat_after-other seat id v.first new p other)
-                  ∙ at_longer (set views id (first_part v)) (other_parts v ∷ []) (seat p) before.0 (set_else views id (seat p) (first_part v) other ∙ before.1),
+                  ∙ at_longer (set knowledge id (first_part v)) (other_parts v ∷ []) (seat p) before.0 (set_else knowledge id (seat p) (first_part v) other ∙ before.1),
               before.2,
             )
           ];
     }
 
 -- cutting a seat keeps the rule
-pub Ruled-cut : (b : BookTerms) (words : List ℕ) (views : List Knowledge) (id : ℕ) (v : Knowledge) → Ruled b words views → get_elem? views id ≡ some v
-    → Ruled b words (set views id (first_part v) ++ other_parts v ∷ [])
-Ruled-cut b words views id v ruled found =
+pub Ruled-cut : (b : BookTerms) (words : List ℕ) (knowledge : List Knowledge) (id : ℕ) (v : Knowledge) → Ruled b words knowledge → get_elem? knowledge id ≡ some v
+    → Ruled b words (set knowledge id (first_part v) ++ other_parts v ∷ [])
+Ruled-cut b words knowledge id v ruled found =
     let knows = ruled.knows id v found in
     record {
       state = ruled.state;
-      seat = seat_after ruled.seat id v.first (length views);
+      seat = seat_after ruled.seat id v.first (length knowledge);
       shown = ruled.shown;
       sound = ruled.sound;
-      knows = λ j u there. elim (cut_cases views id j v (first_part v) (other_parts v) u there).which as (λ _. Knows b words ruled.state u) [
+      overtaking = ruled.overtaking;
+      knows = λ j u there. elim (cut_cases knowledge id j v (first_part v) (other_parts v) u there).which as (λ _. Knows b words ruled.state u) [
         | inl left ↦ subst (Knows b words ruled.state) left.1 (Knows-first_part b words ruled.state v knows)
         | inr rest ↦ elim rest as (λ _. Knows b words ruled.state u) [
           | inl right ↦ subst (Knows b words ruled.state) right.1 (Knows-other_parts b words ruled.state v knows)
           | inr other ↦ ruled.knows j u other.1
         ]
       ];
-      seated = AreSeated-cut b ruled.seat views id v ruled.seated found;
+      seated = AreSeated-cut b ruled.seat knowledge id v ruled.seated found;
     }
 
 -- the list that nobody has published to
@@ -213,24 +218,35 @@ AgreesWithSeen-starting b p = record {
   records = λ k x within. absurd (omega (arith, within));
 }
 
+-- what it has on an account that it shares
+asking_on-starting : (b : BookTerms) (p a slot : ℕ) → HasSlot b p a slot → asking_on (own_part (starting_seat b p)) a ≡ starting_asking
+asking_on-starting b p a slot has = get_or-replicate (length b.accounts) a starting_asking no_asking has.account_in
+
+-- nothing is announced
+announced-starting : (b : BookTerms) (p a slot : ℕ) → HasSlot b p a slot → length (asking_on (own_part (starting_seat b p)) a).announced ≡ 0
+announced-starting b p a slot has = ap (λ (w : Asking). length w.announced) (asking_on-starting b p a slot has)
+
 pub IsSeat-starting : (b : BookTerms) (p : ℕ) → IsBook b → p < b.processes → IsSeat (starting_seat b p) p 0
 IsSeat-starting b p book within = record {
   one_part = refl;
   accounts = length-replicate (length b.accounts) starting_asking;
   words = length-replicate (record_width b) 0;
+  next_words = λ a slot has. ap (λ (w : Asking). length w.stored) (asking_on-starting b p a slot has);
   process_is = refl;
   published_is = refl;
   own = count_of-nil p;
-  asked = λ a slot i has inside. absurd (omega (
-    arith,
-    inside,
-    ap (λ (w : Asking). length w.announced) (get_or-replicate (length b.accounts) a starting_asking no_asking has.account_in),
-  ));
+  asked = λ a slot i has inside. absurd (omega (arith, inside, announced-starting b p a slot has));
   known = within;
   book = book;
   history = IsHistory-nil b book.begun;
   in_range = record { requests = All-nil (RequestInRange b); decisions = All-nil (DecisionInRange b) };
   agrees = AgreesWithSeen-starting b p;
+  names = λ a slot has. record {
+    records = λ number settled. absurd (cc settled);
+    decisions = λ round d sees same. absurd (omega (arith, sees.1));
+    rounds = omega (arith, ap (sum_by (λ (x : Publication). one_if (names a slot x.entry))) firsts-nil);
+  };
+  overtaken = λ a slot number m has last within unsettled. absurd (omega (arith, last, announced-starting b p a slot has));
 }
 
 -- the seat of a process on a new board

@@ -1,5 +1,5 @@
 -- The rule holds of a new board.
-use Rattle.std.proofs.Common.{◌≡◌, ℕ, ◌+◌, ◌<◌, ◌≤◌, zero, suc, cond, List, [], ◌∷◌, length, replicate, refl, sym, ap, subst, ◌∙◌, arith}
+use Rattle.std.proofs.Common.{◌≡◌, ℕ, ◌+◌, ◌<◌, zero, suc, cond, List, [], ◌∷◌, length, replicate, refl, sym, ap, subst, ◌∙◌, arith}
 use lib.ListN.{get_elem?}
 use mathlib.Core.Option.{some, some-injective, some-ne-none}
 use Rattle.std.proofs.lemmas.Bool.{le-ltb}
@@ -10,6 +10,7 @@ use Rattle.at_ledger.specs.Book.{BookTerms}
 use Rattle.at_history.proofs.Laws.Counts.{count_of-nil}
 use Rattle.at_history.proofs.Laws.Prefixes.{IsPrefix-refl}
 use Rattle.at_history.proofs.Laws.Sums.{get_or-zeros}
+use Rattle.at_history.proofs.Steps.Overtaking.{Overtaking-starting}
 use Rattle.at_history.proofs.Steps.Start.{starting_state, Sound-starting}
 use Rattle.at_history.specs.BoardState.{decision_at}
 use Rattle.at_board.specs.Knowledge.Knows.{HasAsking, HasPart, IsAnnounced, IsDecided, Knows}
@@ -50,8 +51,8 @@ HasAsking-starting b a slot = record {
   seen = λ i within. absurd (omega arith);
   sized = length-replicate 6 zero;
   stored = λ j is. word_at-starting b (request_word a slot 0 j) ∙ sym (get_or-zeros 6 j);
-  heard = omega arith;
-  rows = All-nil (λ row. row.count ≤ zero);
+  heard = refl;
+  rows = refl;
   loaded = All-nil (λ (l : LoadedWord). IsAnnounced starting_state l.request);
 }
 
@@ -94,6 +95,7 @@ Ruled-starting b = record {
   seat = λ p. 0;
   shown = Shown-starting b;
   sound = Sound-starting b;
+  overtaking = Overtaking-starting;
   knows = λ id v found. subst (Knows b (starting_words b) starting_state) (only_view (starting_knowledge b) v id found).1 (Knows-starting b);
   seated = record {
     only = λ id p v found holds. sym (only_view (starting_knowledge b) v id found).0;

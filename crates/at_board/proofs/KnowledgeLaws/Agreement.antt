@@ -1,11 +1,8 @@
 -- What a seat has seen is so on the board, and agrees, since one sound state has it all.
-use Rattle.std.proofs.Common.{List, subst, ◌≡◌, ℕ, ◌<◌, ◌≤◌, length, set, sym, ap, ◌∙◌}
-use lib.ListN.{get_elem?}
-use mathlib.Core.Option.{some}
+use Rattle.std.proofs.Common.{List, subst, ◌≡◌, ℕ, ◌<◌, ◌≤◌, length, sym, ap, ◌∙◌}
 use Rattle.std.proofs.lemmas.List.Elements.{All-contains}
 use Rattle.std.specs.List.{All, Contains}
 use Rattle.at_base.specs.declared.decision.Decision.{Decision}
-use Rattle.atomic_table.proofs.Lists.{set_here}
 use Rattle.at_ledger.specs.Book.{BookTerms}
 use Rattle.at_history.proofs.Laws.DecisionNumbers.{same_round}
 use Rattle.at_history.proofs.Laws.Prefixes.{each_record}
@@ -16,11 +13,9 @@ use Rattle.at_history.specs.declared.publication.Entry.{Entry}
 use Rattle.at_history.specs.declared.publication.Entry.TheVariants.{Own, Round}
 use Rattle.at_history.specs.declared.publication.Publication.{Publication}
 use Rattle.at_history.specs.declared.request.Request.{Request}
-use Rattle.at_board.proofs.KnowledgeLaws.Seats.{within_found}
 use Rattle.at_board.specs.Knowledge.Agreement.{AgreesOnDecision, AgreesOnEntry, AgreesWithSeen}
 use Rattle.at_board.specs.Knowledge.Knows.{IsAnnounced, IsDecided, Knows}
 use Rattle.at_board.specs.Knowledge.Parts.{SeesDecision, SeesRequest}
-use Rattle.at_board.specs.Rule.{Ruled}
 use Rattle.at_board.specs.declared.knowledge.SeenDecision.{SeenDecision}
 use Rattle.at_board.specs.declared.knowledge.SeenRequest.{SeenRequest}
 use Rattle.at_board.specs.declared.knowledge.Knowledge.{Knowledge}
@@ -79,14 +74,3 @@ AgreesWithSeen-Knows b words s v sound knows = record {
       let x : Publication = publication_at s.published m in
       AgreesOnEntry-Knows b words s v x.process (prefix_of x.view s.published) x.entry sound knows (sound.entries m inside));
 }
-
--- between two steps
-pub AgreesWithSeen-Ruled : (b : BookTerms) (words : List ℕ) (views : List Knowledge) (id : ℕ) (v : Knowledge) → Ruled b words views
-    → get_elem? views id ≡ some v → AgreesWithSeen v
-AgreesWithSeen-Ruled b words views id v ruled found = AgreesWithSeen-Knows b words ruled.state v ruled.sound (ruled.knows id v found)
-
--- after a step of the seat
-pub AgreesWithSeen-set : (b : BookTerms) (words : List ℕ) (views : List Knowledge) (id : ℕ) (v w : Knowledge) → get_elem? views id ≡ some v
-    → Ruled b words (set views id w) → AgreesWithSeen w
-AgreesWithSeen-set b words views id v w found ruled =
-    AgreesWithSeen-Ruled b words (set views id w) id w ruled (set_here views id w (within_found views id v found))

@@ -6,13 +6,12 @@ use Rattle.std.proofs.lemmas.List.Elements.{All-weaker}
 use Rattle.std.specs.List.{All, Contains}
 use Rattle.at_ledger.specs.Book.{BookTerms, HasSlot}
 use Rattle.at_history.proofs.Laws.Prefixes.{IsPrefix-refl, IsPrefix-count_of}
-use Rattle.at_history.proofs.Laws.Rounds.{rounds-IsPrefix}
-use Rattle.at_history.proofs.Steps.Announce.{Rows, with_rows, Grows, length-Grows, request_at-Grows}
+use Rattle.at_history.proofs.Steps.Announce.{Asked, Grows, SameAsked, SameAsked-refl, asked_of, length-Grows, request_at-Grows, with_asked}
 use Rattle.at_history.specs.BoardState.{BoardState, request_at}
 use Rattle.at_history.specs.Publications.{IsPrefix, count_of}
 use Rattle.at_board.proofs.WordLaws.Same.{SameRecordWords}
 use Rattle.at_board.specs.Knowledge.Knows.{HasAsking, HasPart, IsAnnounced, Knows}
-use Rattle.at_board.specs.Knowledge.Parts.{part_asking, asking_on, no_asking, part_at}
+use Rattle.at_board.specs.Knowledge.Parts.{part_asking, asking_on, no_asking, own_part, part_at, with_part}
 use Rattle.at_board.specs.Words.Addresses.{IsAddress, request_word, word_at}
 use Rattle.at_board.specs.declared.knowledge.Asking.{Asking}
 use Rattle.at_board.specs.declared.knowledge.LoadedWord.{LoadedWord}
@@ -20,18 +19,18 @@ use Rattle.at_board.specs.declared.knowledge.Part.{Part}
 use Rattle.at_board.specs.declared.knowledge.SeenRequest.{SeenRequest}
 use Rattle.at_board.specs.declared.knowledge.Knowledge.{Knowledge}
 
-pub IsAnnounced-Grows : (s : BoardState) (rows : Rows) (x : SeenRequest) → Grows s.rows rows → IsAnnounced s x → IsAnnounced (with_rows s rows) x
-IsAnnounced-Grows s rows x grows is =
-    (omega (arith, is.0, length-Grows s.rows rows x.account x.slot grows), request_at-Grows s.rows rows x.account x.slot x.number grows is.0 ∙ is.1)
+pub IsAnnounced-Grows : (s : BoardState) (t : Asked) (x : SeenRequest) → Grows s.rows t.rows → IsAnnounced s x → IsAnnounced (with_asked s t) x
+IsAnnounced-Grows s t x grows is =
+    (omega (arith, is.0, length-Grows s.rows t.rows x.account x.slot grows), request_at-Grows s.rows t.rows x.account x.slot x.number grows is.0 ∙ is.1)
 
-pub all_announced : (s : BoardState) (rows : Rows) (xs : List SeenRequest) → Grows s.rows rows → All (IsAnnounced s) xs → All (IsAnnounced (with_rows s rows)) xs
-all_announced s rows xs grows is = All-weaker (IsAnnounced s) (IsAnnounced (with_rows s rows)) (λ x. IsAnnounced-Grows s rows x grows) xs is
+pub all_announced : (s : BoardState) (t : Asked) (xs : List SeenRequest) → Grows s.rows t.rows → All (IsAnnounced s) xs → All (IsAnnounced (with_asked s t)) xs
+all_announced s t xs grows is = All-weaker (IsAnnounced s) (IsAnnounced (with_asked s t)) (λ x. IsAnnounced-Grows s t x grows) xs is
 
-pub loaded_announced : (s : BoardState) (rows : Rows) (ls : List LoadedWord) → Grows s.rows rows → All (λ l. IsAnnounced s l.request) ls
-    → All (λ l. IsAnnounced (with_rows s rows) l.request) ls
-loaded_announced s rows ls grows is =
-    All-weaker (λ (l : LoadedWord). IsAnnounced s l.request) (λ (l : LoadedWord). IsAnnounced (with_rows s rows) l.request)
-    (λ l. IsAnnounced-Grows s rows l.request grows) ls is
+pub loaded-Grows : (s : BoardState) (t : Asked) (ls : List LoadedWord) → Grows s.rows t.rows → All (λ l. IsAnnounced s l.request) ls
+    → All (λ l. IsAnnounced (with_asked s t) l.request) ls
+loaded-Grows s t ls grows is =
+    All-weaker (λ (l : LoadedWord). IsAnnounced s l.request) (λ (l : LoadedWord). IsAnnounced (with_asked s t) l.request)
+    (λ l. IsAnnounced-Grows s t l.request grows) ls is
 
 -- all requests that were seen are seen after
 abbrev pub SeesMore : Knowledge → Knowledge → Type 0
@@ -42,36 +41,36 @@ abbrev pub SameRequest : BookTerms → List ℕ → List ℕ → ℕ → ℕ →
 SameRequest b words after a slot i = (j : ℕ) → IsAddress b (request_word a slot i j) →
     word_at b after (request_word a slot i j) ≡ word_at b words (request_word a slot i j)
 
--- the row of a slot and the words of its next request are the same
-abbrev pub SameAsking : BookTerms → List ℕ → List ℕ → Rows → Rows → ℕ → ℕ → Asking → Type 0
-SameAsking b words after rows longer a slot w = (longer a slot ≡ rows a slot) × SameRequest b words after a slot (length w.announced)
+-- a slot and the words of its next request are the same
+abbrev pub SameAsking : BookTerms → List ℕ → List ℕ → Asked → Asked → ℕ → ℕ → Asking → Type 0
+SameAsking b words after t u a slot w = SameAsked t u a slot × SameRequest b words after a slot (length w.announced)
 
-pub HasAsking-kept : (b : BookTerms) (words after : List ℕ) (s : BoardState) (rows : Rows) (v u : Knowledge) (a slot : ℕ) (w : Asking)
-    → Grows s.rows rows → IsPrefix v.seen u.seen → SeesMore v u → SameAsking b words after s.rows rows a slot w
-    → HasAsking b words s v a slot w → HasAsking b after (with_rows s rows) u a slot w
-HasAsking-kept b words after s rows v u a slot w grows longer more same has = record {
-  announced = has.announced ∙ sym same.0;
+pub HasAsking-kept : (b : BookTerms) (words after : List ℕ) (s : BoardState) (t : Asked) (v u : Knowledge) (a slot : ℕ) (w : Asking)
+    → Grows s.rows t.rows → IsPrefix v.seen u.seen → SeesMore v u → SameAsking b words after (asked_of s) t a slot w
+    → HasAsking b words s v a slot w → HasAsking b after (with_asked s t) u a slot w
+HasAsking-kept b words after s t v u a slot w grows longer more same has = record {
+  announced = has.announced ∙ sym same.0.row;
   seen = λ i within. more _ (has.seen i within);
   sized = has.sized;
   stored = λ j is. same.1 j is ∙ has.stored j is;
-  heard = omega (arith, has.heard, rounds-IsPrefix a v.seen u.seen longer);
-  rows = λ k d within. omega (arith, has.rows k d within, length-Grows s.rows rows a (get_or w.rows k d).slot grows);
-  loaded = loaded_announced s rows w.loaded grows has.loaded;
+  heard = has.heard ∙ sym same.0.heard;
+  rows = has.rows ∙ sym same.0.seen_rows;
+  loaded = loaded-Grows s t w.loaded grows has.loaded;
 }
 
 -- what a step leaves of a part
-pub record IsLeft (b : BookTerms) (words after : List ℕ) (rows longer : Rows) (p : ℕ) (q : Part) : Type 0 where
+pub record IsLeft (b : BookTerms) (words after : List ℕ) (t u : Asked) (p : ℕ) (q : Part) : Type 0 where
   pub record_words : SameRecordWords b words after p q.published
-  pub asking : (a slot : ℕ) → HasSlot b p a slot → SameAsking b words after rows longer a slot (asking_on q a)
+  pub asking : (a slot : ℕ) → HasSlot b p a slot → SameAsking b words after t u a slot (asking_on q a)
 
--- nothing changes where no word and no row does
-pub IsLeft-refl : (b : BookTerms) (words : List ℕ) (rows : Rows) (p : ℕ) (q : Part) → IsLeft b words words rows rows p q
-IsLeft-refl b words rows p q = record { record_words = λ j is. refl; asking = λ a slot slot_in. (refl, λ j is. refl) }
+-- nothing changes where no word and nothing of the requests does
+pub IsLeft-refl : (b : BookTerms) (words : List ℕ) (t : Asked) (p : ℕ) (q : Part) → IsLeft b words words t t p q
+IsLeft-refl b words t p q = record { record_words = λ j is. refl; asking = λ a slot slot_in. (SameAsked-refl t a slot, λ j is. refl) }
 
-pub HasPart-kept : (b : BookTerms) (words after : List ℕ) (s : BoardState) (rows : Rows) (v u : Knowledge) (p : ℕ) (q : Part)
-    → Grows s.rows rows → IsPrefix v.seen u.seen → SeesMore v u → count_of p u.seen ≡ q.published → IsLeft b words after s.rows rows p q
-    → HasPart b words s v p q → HasPart b after (with_rows s rows) u p q
-HasPart-kept b words after s rows v u p q grows longer more counted left has = record {
+pub HasPart-kept : (b : BookTerms) (words after : List ℕ) (s : BoardState) (t : Asked) (v u : Knowledge) (p : ℕ) (q : Part)
+    → Grows s.rows t.rows → IsPrefix v.seen u.seen → SeesMore v u → count_of p u.seen ≡ q.published → IsLeft b words after (asked_of s) t p q
+    → HasPart b words s v p q → HasPart b after (with_asked s t) u p q
+HasPart-kept b words after s t v u p q grows longer more counted left has = record {
   known = has.known;
   published = has.published;
   seen = counted;
@@ -80,17 +79,17 @@ HasPart-kept b words after s rows v u p q grows longer more counted left has = r
   held = has.held;
   lengths = has.lengths;
   accounts = has.accounts;
-  asking = λ a slot slot_in. HasAsking-kept b words after s rows v u a slot (asking_on q a) grows longer more (left.asking a slot slot_in) (has.asking a slot slot_in);
+  asking = λ a slot slot_in. HasAsking-kept b words after s t v u a slot (asking_on q a) grows longer more (left.asking a slot slot_in) (has.asking a slot slot_in);
 }
 
 -- the part with something new on an account
-pub HasPart-asking : (b : BookTerms) (words after : List ℕ) (s : BoardState) (rows : Rows) (v u : Knowledge) (p : ℕ) (q : Part) (a : ℕ) (w : Asking)
-    → Grows s.rows rows → IsPrefix v.seen u.seen → SeesMore v u → count_of p u.seen ≡ q.published
+pub HasPart-asking : (b : BookTerms) (words after : List ℕ) (s : BoardState) (t : Asked) (v u : Knowledge) (p : ℕ) (q : Part) (a : ℕ) (w : Asking)
+    → Grows s.rows t.rows → IsPrefix v.seen u.seen → SeesMore v u → count_of p u.seen ≡ q.published
     → SameRecordWords b words after p q.published
-    → ((c slot : ℕ) → c ≢ a → HasSlot b p c slot → SameAsking b words after s.rows rows c slot (asking_on q c))
-    → ((slot : ℕ) → HasSlot b p a slot → HasAsking b after (with_rows s rows) u a slot w)
-    → HasPart b words s v p q → HasPart b after (with_rows s rows) u p (part_asking q a w)
-HasPart-asking b words after s rows v u p q a w grows longer more counted same_records others new has = record {
+    → ((c slot : ℕ) → c ≢ a → HasSlot b p c slot → SameAsking b words after (asked_of s) t c slot (asking_on q c))
+    → ((slot : ℕ) → HasSlot b p a slot → HasAsking b after (with_asked s t) u a slot w)
+    → HasPart b words s v p q → HasPart b after (with_asked s t) u p (part_asking q a w)
+HasPart-asking b words after s t v u p q a w grows longer more counted same_records others new has = record {
   known = has.known;
   published = has.published;
   seen = counted;
@@ -100,27 +99,27 @@ HasPart-asking b words after s rows v u p q a w grows longer more counted same_r
   lengths = has.lengths;
   accounts = length-set q.asking a w ∙ has.accounts;
   asking = λ c slot slot_in.
-      elim (cases_eq c a) as (λ _. HasAsking b after (with_rows s rows) u c slot (get_or (set q.asking a w) c no_asking)) [
+      elim (cases_eq c a) as (λ _. HasAsking b after (with_asked s t) u c slot (get_or (set q.asking a w) c no_asking)) [
         | inl here ↦
             let inside : a < length q.asking = omega (arith, slot_in.account_in, has.accounts, here) in
-            let mine = new slot (subst (λ t. HasSlot b p t slot) here slot_in) in
-            subst (λ t. HasAsking b after (with_rows s rows) u t slot (get_or (set q.asking a w) t no_asking)) (sym here)
-            (subst (HasAsking b after (with_rows s rows) u a slot) (sym (get_or-set_same q.asking a w no_asking inside)) mine)
+            let mine = new slot (subst (λ k. HasSlot b p k slot) here slot_in) in
+            subst (λ k. HasAsking b after (with_asked s t) u k slot (get_or (set q.asking a w) k no_asking)) (sym here)
+            (subst (HasAsking b after (with_asked s t) u a slot) (sym (get_or-set_same q.asking a w no_asking inside)) mine)
         | inr apart ↦
-            subst (HasAsking b after (with_rows s rows) u c slot) (sym (get_or-set_other q.asking a c w no_asking apart))
-            (HasAsking-kept b words after s rows v u c slot (asking_on q c) grows longer more (others c slot apart slot_in) (has.asking c slot slot_in))
+            subst (HasAsking b after (with_asked s t) u c slot) (sym (get_or-set_other q.asking a c w no_asking apart))
+            (HasAsking-kept b words after s t v u c slot (asking_on q c) grows longer more (others c slot apart slot_in) (has.asking c slot slot_in))
       ];
 }
 
 -- what another seat knows
-pub Knows-kept : (b : BookTerms) (words after : List ℕ) (s : BoardState) (rows : Rows) (v : Knowledge) → Grows s.rows rows
-    → ((k : ℕ) → k < length v.parts → IsLeft b words after s.rows rows (v.first + k) (part_at v k))
-    → Knows b words s v → Knows b after (with_rows s rows) v
-Knows-kept b words after s rows v grows left knows = record {
+pub Knows-kept : (b : BookTerms) (words after : List ℕ) (s : BoardState) (t : Asked) (v : Knowledge) → Grows s.rows t.rows
+    → ((k : ℕ) → k < length v.parts → IsLeft b words after (asked_of s) t (v.first + k) (part_at v k))
+    → Knows b words s v → Knows b after (with_asked s t) v
+Knows-kept b words after s t v grows left knows = record {
   seen = knows.seen;
-  requests = all_announced s rows v.requests grows knows.requests;
+  requests = all_announced s t v.requests grows knows.requests;
   decisions = knows.decisions;
-  parts = λ k within. HasPart-kept b words after s rows v v (v.first + k) (part_at v k) grows (IsPrefix-refl v.seen) (λ x sees. sees) (knows.parts k within).seen (left k within) (knows.parts k within);
+  parts = λ k within. HasPart-kept b words after s t v v (v.first + k) (part_at v k) grows (IsPrefix-refl v.seen) (λ x sees. sees) (knows.parts k within).seen (left k within) (knows.parts k within);
 }
 
 -- a seat with a longer list, and the same requests
@@ -131,7 +130,7 @@ HasAsking-longer b words s v u a slot w longer same has = record {
   seen = λ i within. subst (λ (rs : List SeenRequest). Contains rs (record { account = a; slot = slot; number = i; request = request_at w.announced i })) (sym same) (has.seen i within);
   sized = has.sized;
   stored = has.stored;
-  heard = omega (arith, has.heard, rounds-IsPrefix a v.seen u.seen longer);
+  heard = has.heard;
   rows = has.rows;
   loaded = has.loaded;
 }
@@ -162,7 +161,7 @@ HasAsking-more b words s v u a slot w longer more has = record {
   seen = λ i within. more (record { account = a; slot = slot; number = i; request = request_at w.announced i }) (has.seen i within);
   sized = has.sized;
   stored = has.stored;
-  heard = omega (arith, has.heard, rounds-IsPrefix a v.seen u.seen longer);
+  heard = has.heard;
   rows = has.rows;
   loaded = has.loaded;
 }
@@ -181,6 +180,10 @@ HasPart-more b words s v u p q longer before more has = record {
   accounts = has.accounts;
   asking = λ a slot slot_in. HasAsking-more b words s v u a slot (asking_on q a) longer more (has.asking a slot slot_in);
 }
+
+-- the part that was set is the seat's own
+pub own_part-with_part : (v : Knowledge) (q : Part) → 0 < length v.parts → own_part (with_part v q) ≡ q
+own_part-with_part v q part = get_or-set_same v.parts 0 q _ part
 
 -- a process has one slot on an account
 pub same_slot : (b : BookTerms) (p a slot other : ℕ) → HasSlot b p a slot → HasSlot b p a other → slot ≡ other

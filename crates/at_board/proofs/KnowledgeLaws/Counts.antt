@@ -2,17 +2,13 @@
 use Rattle.std.proofs.Common.{◌≡◌, ℕ, ◌<◌, List, length, get_or, replicate, set, refl, sym, ap, subst, ◌∙◌, arith, inl, inr}
 use Rattle.std.proofs.lemmas.Bool.{cases_eq}
 use Rattle.std.proofs.lemmas.List.{get_or-replicate, get_or-set_other, get_or-set_same, length-replicate, length-set}
-use Rattle.std.specs.List.{All}
 use Rattle.at_ledger.specs.Book.{BookTerms}
 use Rattle.at_history.proofs.Laws.Sums.{get_or-zeros}
-use Rattle.at_history.specs.Histories.{IsHistory}
-use Rattle.at_history.specs.Publications.{count_of}
 use Rattle.at_history.specs.declared.publication.Publication.{Publication}
-use Rattle.at_board.proofs.KnowledgeLaws.OwnRequests.{own_part-with_part}
+use Rattle.at_board.proofs.KnowledgeLaws.Asking.{own_part-with_part}
 use Rattle.at_board.specs.Ends.Opening.{starting_seat}
-use Rattle.at_board.specs.Knowledge.Agreement.{AgreesWithSeen, RequestInRange}
 use Rattle.at_board.specs.Knowledge.Parts.{part_asking, with_asking, with_part, asking_on, no_asking, own_part, starting_asking}
-use Rattle.at_board.specs.Knowledge.Seats.{HasCounts, IsSeat, SeesOwnRequests}
+use Rattle.at_board.specs.Knowledge.Seats.{HasCounts}
 use Rattle.at_board.specs.Steps.LoadLength.{LoadsLength, with_load}
 use Rattle.at_board.specs.Steps.Publish.{Publishes, with_record}
 use Rattle.at_board.specs.Steps.StoreRecordWord.{StoresWord, with_word}
@@ -59,29 +55,6 @@ HasCounts-starting b p counts zeros = record {
   counted = λ a within. ap (λ l. get_or l a 0) zeros ∙ (get_or-zeros (length b.accounts) a
       ∙ sym (ap (λ (w : Asking). length w.announced) (get_or-replicate (length b.accounts) a starting_asking no_asking within)));
 }
-
--- a seat whose part has something new on an account
-pub IsSeat-asking : (v : Knowledge) (list : List Publication) (requests : List SeenRequest) (process k a : ℕ) (w : Asking) → IsSeat v process k
-    → IsHistory v.book list → count_of v.first list ≡ k → SeesOwnRequests (with_asking (record v { seen = list; requests = requests }) a w)
-    → All (RequestInRange v.book) requests → AgreesWithSeen (with_asking (record v { seen = list; requests = requests }) a w)
-    → IsSeat (with_asking (record v { seen = list; requests = requests }) a w) process k
-IsSeat-asking v list requests process k a w seat history own asked in_range agrees =
-    let q : Part = part_asking (own_part v) a w in
-    let is = own_part-with_part (record v { seen = list; requests = requests }) q (omega (arith, seat.one_part)) in
-    record {
-      one_part = length-set v.parts 0 q ∙ seat.one_part;
-      accounts = ap (λ (t : Part). length t.asking) is ∙ (length-set (own_part v).asking a w ∙ seat.accounts);
-      words = ap (λ (t : Part). length t.stored) is ∙ seat.words;
-      process_is = seat.process_is;
-      published_is = ap (λ (t : Part). t.published) is ∙ seat.published_is;
-      own = own;
-      asked = asked;
-      known = seat.known;
-      book = seat.book;
-      history = history;
-      in_range = record { requests = in_range; decisions = seat.in_range.decisions };
-      agrees = agrees;
-    }
 
 pub HasCounts-asking : (v : Knowledge) (list : List Publication) (requests : List SeenRequest) (a : ℕ) (w : Asking) (counts : List ℕ) → 0 < length v.parts
     → length (own_part v).asking ≡ length v.book.accounts → length w.announced ≡ length (asking_on (own_part v) a).announced → HasCounts v counts

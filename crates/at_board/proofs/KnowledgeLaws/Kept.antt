@@ -1,66 +1,208 @@
--- What the type of a seat keeps over a step on records.
-use Rattle.std.proofs.Common.{◌≡◌, ℕ, ◌<◌, ◌^◌, List, length, refl, sym, ap, subst, ◌∙◌, arith}
-use Rattle.std.proofs.lemmas.List.{length-set}
-use Rattle.at_ledger.specs.Book.{BookTerms, IsBegun}
+-- What the type of a seat keeps follows from the rule, whatever step was made.
+use Rattle.std.proofs.Common.{◌≡◌, ℕ, ◌+◌, ◌<◌, ◌≤◌, ◌^◌, List, [], true, false, length, take, set, refl, sym, ap, subst, ◌∙◌, arith, inl, inr}
+use lib.ListN.{get_elem?}
+use mathlib.Core.Option.{some}
+use Rattle.std.proofs.lemmas.Bool.{cases_lt}
+use Rattle.std.proofs.lemmas.List.{append-nil, get_or_past}
+use Rattle.std.proofs.lemmas.List.Elements.{All-weaker}
+use Rattle.atomic_table.proofs.Lists.{set_here}
+use Rattle.at_base.specs.declared.decision.Decision.{Decision}
+use Rattle.at_ledger.specs.Account.{no_account, slots_of}
+use Rattle.at_ledger.specs.Book.{BookTerms, IsBegun, IsBook, account_of}
+use Rattle.at_history.proofs.Laws.DecisionNumbers.{named-is_settled}
+use Rattle.at_history.proofs.Laws.Histories.{IsHistory-Sound, is_settled-named}
+use Rattle.at_history.proofs.Laws.Overtaking.{rounds-Overtaking}
+use Rattle.at_history.proofs.Laws.Prefixes.{IsPrefix-length, take-IsPrefix, take-IsPrefix-le}
 use Rattle.at_history.proofs.Laws.Rooms.{log_room_of-le}
+use Rattle.at_history.specs.BoardState.{BoardState, decision_at}
+use Rattle.at_history.specs.Fronts.{places_max}
 use Rattle.at_history.specs.Histories.{IsHistory}
+use Rattle.at_history.specs.Overtaking.{IsLastRequest, Overtaking}
 use Rattle.at_history.specs.Publications.{count_of}
+use Rattle.at_history.specs.Rounds.{is_settled, named, rounds}
+use Rattle.at_history.specs.Sound.{AreTargets, IsSoundDecision, Sound}
 use Rattle.at_history.specs.declared.publication.Publication.{Publication}
-use Rattle.at_board.proofs.KnowledgeLaws.OwnRequests.{SeesOwnRequests-with_part, own_part-with_part}
-use Rattle.at_board.specs.Knowledge.Agreement.{AgreesWithSeen}
-use Rattle.at_board.specs.Knowledge.Parts.{with_part, asking_on, own_part}
-use Rattle.at_board.specs.Knowledge.Seats.{IsSeat, SeesOwnRequests}
-use Rattle.at_board.specs.Steps.LoadLength.{LoadsLength, with_load}
-use Rattle.at_board.specs.Steps.StoreRecordWord.{StoresWord, with_word}
+use Rattle.at_history.specs.declared.request.Request.{Request}
+use Rattle.at_board.proofs.KnowledgeLaws.Agreement.{AgreesWithSeen-Knows, seen_decision}
+use Rattle.at_board.proofs.KnowledgeLaws.Asking.{own_part-with_part}
+use Rattle.at_board.proofs.KnowledgeLaws.Seats.{within_found}
+use Rattle.at_board.specs.Knowledge.Agreement.{DecisionInRange, RequestInRange, SeesInRange}
+use Rattle.at_board.specs.Knowledge.Knows.{HasPart, IsAnnounced, IsDecided, Knows}
+use Rattle.at_board.specs.Knowledge.Parts.{own_part, with_part}
+use Rattle.at_board.specs.Knowledge.Seats.{FewOvertake, IsKept, IsSeat, NamesOnlyAnnounced}
+use Rattle.at_board.specs.Rule.{Ruled}
 use Rattle.at_board.specs.Words.Addresses.{record_word}
-use Rattle.at_board.specs.declared.knowledge.Part.{Part}
 use Rattle.at_board.specs.declared.knowledge.Knowledge.{Knowledge}
+use Rattle.at_board.specs.declared.knowledge.Part.{Part}
+use Rattle.at_board.specs.declared.knowledge.SeenDecision.{SeenDecision}
+use Rattle.at_board.specs.declared.knowledge.SeenRequest.{SeenRequest}
 
--- a seat that has seen a history, with another part, all of whose records and requests it has seen
-pub IsSeat-with_part : (v : Knowledge) (list : List Publication) (q : Part) (process k : ℕ) → IsSeat v process k
-    → length q.asking ≡ length (own_part v).asking → length q.stored ≡ length (own_part v).stored
-    → (published : ℕ) → q.published ≡ published → IsHistory v.book list → count_of v.first list ≡ published
-    → SeesOwnRequests (with_part (record v { seen = list }) q) → AgreesWithSeen (with_part (record v { seen = list }) q)
-    → IsSeat (with_part (record v { seen = list }) q) process published
-IsSeat-with_part v list q process k seat sized stored published same history own asked agrees =
-    let is = own_part-with_part (record v { seen = list }) q (omega (arith, seat.one_part)) in
+-- an account that has slots is one of the book's
+account-slots_of : (b : BookTerms) (a slot : ℕ) → slot < slots_of (account_of b a) → a < length b.accounts
+account-slots_of b a slot within =
+    elim (cases_lt a (length b.accounts)) as (λ _. a < length b.accounts) [
+      | inl inside ↦ inside
+      | inr past ↦
+          let none : slots_of (account_of b a) ≡ 0 = ap slots_of (get_or_past b.accounts a no_account past) in
+          absurd (omega (arith, within, none))
+    ]
+
+-- the board has words for each request that it has
+RequestInRange-IsAnnounced : (b : BookTerms) (s : BoardState) (x : SeenRequest) → Sound b s → length s.published ≤ places_max → IsAnnounced s x → RequestInRange b x
+RequestInRange-IsAnnounced b s x sound few is =
+    let law = sound.requests x.account x.slot x.number is.0 in
     record {
-      one_part = length-set v.parts 0 q ∙ seat.one_part;
-      accounts = ap (λ (t : Part). length t.asking) is ∙ (sized ∙ seat.accounts);
-      words = ap (λ (t : Part). length t.stored) is ∙ (stored ∙ seat.words);
-      process_is = seat.process_is;
-      published_is = ap (λ (t : Part). t.published) is ∙ same;
-      own = own;
-      asked = asked;
-      known = seat.known;
-      book = seat.book;
-      history = history;
-      in_range = record { requests = seat.in_range.requests; decisions = seat.in_range.decisions };
-      agrees = agrees;
+      words = (account-slots_of b x.account x.slot law.slot_in, law.slot_in, omega (arith, is.0, sound.row_room x.account x.slot), omega arith);
+      targets = subst (λ (r : Request). AreTargets b r.targets) is.1 law.targets;
+      since = omega (arith, few, subst (λ (r : Request). r.since ≤ length s.published) is.1 law.since);
     }
 
--- a part that has announced the same
-pub same_requests : (v : Knowledge) (list : List Publication) (q : Part) (process k : ℕ) → IsSeat v process k
-    → ((a : ℕ) → (asking_on q a).announced ≡ (asking_on (own_part v) a).announced) → SeesOwnRequests (with_part (record v { seen = list }) q)
-same_requests v list q process k seat same =
-    SeesOwnRequests-with_part v list v.requests q (omega (arith, seat.one_part)) same (λ x there. there) seat.asked
+-- and for each decision
+DecisionInRange-IsDecided : (b : BookTerms) (s : BoardState) (x : SeenDecision) → Sound b s → IsDecided s x → DecisionInRange b x
+DecisionInRange-IsDecided b s x sound is =
+    let law : IsSoundDecision b s x.account x.round x.decision = subst (IsSoundDecision b s x.account x.round) is.1 (sound.decisions x.account x.round is.0) in
+    record {
+      words = (account-slots_of b x.account x.decision.slot law.slot_in, law.slot_in, omega (arith, law.announced, sound.row_room x.account x.decision.slot), omega arith);
+      range = law.range;
+      room = law.room;
+    }
 
-pub IsSeat-load : (b : BookTerms) (v w : Knowledge) (process k p n : ℕ) → v.book ≡ b → IsSeat v process k → LoadsLength b v w p n → IsSeat w process k
-IsSeat-load b v w process k p n book seat told =
-    subst (λ t. IsSeat t process k) (sym told.same)
-    (IsSeat-with_part v w.seen (with_load (own_part v) p n) process k seat refl refl k seat.published_is
-    (subst (λ t. IsHistory t w.seen) (sym book) told.history) (told.own ∙ seat.published_is)
-    (same_requests v w.seen (with_load (own_part v) p n) process k seat (λ a. refl)) (subst AgreesWithSeen told.same told.agrees))
+SeesInRange-Knows : (words : List ℕ) (s : BoardState) (v : Knowledge) → Sound v.book s → length s.published ≤ places_max → Knows v.book words s v → SeesInRange v
+SeesInRange-Knows words s v sound few knows = record {
+  requests = All-weaker (IsAnnounced s) (RequestInRange v.book) (λ x. RequestInRange-IsAnnounced v.book s x sound few) v.requests knows.requests;
+  decisions = All-weaker (IsDecided s) (DecisionInRange v.book) (λ x. DecisionInRange-IsDecided v.book s x sound) v.decisions knows.decisions;
+}
+
+-- a settled request is announced
+announced-is_settled : (b : BookTerms) (s : BoardState) (m a slot number : ℕ) → Sound b s → is_settled a slot number (take m s.published) ≡ true
+    → number < length (s.rows a slot)
+announced-is_settled b s m a slot number sound settled =
+    let found = named-is_settled b s m a slot number sound settled in
+    let r = found.0 in
+    let d : Decision = decision_at (s.cells a) r in
+    let is : d.number < length (s.rows a d.slot) = (sound.decisions a r found.1.within).announced in
+    omega (arith, is, found.1.number_is, ap (λ k. length (s.rows a k)) found.1.slot_is)
+
+NamesOnlyAnnounced-Knows : (words : List ℕ) (s : BoardState) (v : Knowledge) (a slot : ℕ) → Sound v.book s → IsHistory v.book v.seen → Knows v.book words s v
+    → NamesOnlyAnnounced v a slot (length (s.rows a slot))
+NamesOnlyAnnounced-Knows words s v a slot sound history knows =
+    let n = length (s.rows a slot) in
+    let m = length v.seen in
+    let all : take m s.published ≡ v.seen = take-IsPrefix v.seen s.published knows.seen in
+    let settled : (number : ℕ) → is_settled a slot number v.seen ≡ true → number < n =
+    λ number is. announced-is_settled v.book s m a slot number sound (subst (λ t. is_settled a slot number t ≡ true) (sym all) is) in
+    record {
+      records = settled;
+      decisions = λ round d sees slot_is.
+          let is = seen_decision s v.decisions (record { account = a; round = round; decision = d }) knows.decisions sees in
+          let law : IsSoundDecision v.book s a round d = subst (IsSoundDecision v.book s a round) is.1 (sound.decisions a round is.0) in
+          omega (arith, law.announced, ap (λ k. length (s.rows a k)) slot_is);
+      rounds = elim (cases_lt n (named a slot v.seen)) as (λ _. named a slot v.seen ≤ n) [
+        | inr few ↦ few
+        | inl more ↦
+            let whole : take m v.seen ≡ v.seen = take-IsPrefix v.seen v.seen ([], sym (append-nil v.seen)) in
+            let next = is_settled-named v.book v.seen m a slot n history (omega arith) (omega (arith, more, ap (named a slot) whole)) in
+            absurd (omega (arith, settled n (subst (λ t. is_settled a slot n t ≡ true) whole next)))
+      ];
+    }
+
+FewOvertake-Knows : (words : List ℕ) (s : BoardState) (v : Knowledge) → Sound v.book s → Overtaking s → Knows v.book words s v
+    → HasPart v.book words s v v.first (own_part v) → FewOvertake v
+FewOvertake-Knows words s v sound law knows part a slot number m slot_in last within unsettled =
+    let has = part.asking a slot slot_in in
+    let same : take m s.published ≡ take m v.seen = take-IsPrefix-le m v.seen s.published within knows.seen in
+    let few = rounds-Overtaking v.book s m a slot number sound law (subst (λ (row : List Request). IsLastRequest row number) has.announced last)
+    (omega (arith, within, IsPrefix-length v.seen s.published knows.seen)) (subst (λ t. is_settled a slot number t ≡ false) (sym same) unsettled) in
+    omega (arith, few, has.heard, ap (rounds a) same)
+
+-- what a seat keeps, where the state is sound and has all that it knows
+pub IsKept-Knows : (words : List ℕ) (s : BoardState) (v : Knowledge) → Sound v.book s → Overtaking s → length s.published ≤ places_max → IsBook v.book
+    → IsHistory v.book v.seen → Knows v.book words s v → length v.parts ≡ 1 → IsKept v
+IsKept-Knows words s v sound law few book history knows one =
+    let first : v.first + 0 ≡ v.first = omega arith in
+    let part : HasPart v.book words s v v.first (own_part v) =
+    subst (λ p. HasPart v.book words s v p (own_part v)) first (knows.parts 0 (omega (arith, one))) in
+    record {
+      one_part = one;
+      accounts = part.accounts;
+      words = part.sized;
+      next_words = λ a slot slot_in. (part.asking a slot slot_in).sized;
+      process_is = refl;
+      published_is = refl;
+      own = part.seen;
+      asked = λ a slot i slot_in within. (part.asking a slot slot_in).seen i within;
+      known = part.known;
+      book = book;
+      history = history;
+      in_range = SeesInRange-Knows words s v sound few knows;
+      agrees = AgreesWithSeen-Knows v.book words s v sound knows;
+      names = λ a slot slot_in. subst (λ (row : List Request). NamesOnlyAnnounced v a slot (length row)) (sym (part.asking a slot slot_in).announced)
+          (NamesOnlyAnnounced-Knows words s v a slot sound history knows);
+      overtaken = FewOvertake-Knows words s v sound law knows part;
+    }
+
+-- a seat of a board with a book
+pub record IsSeatOf (b : BookTerms) (v : Knowledge) : Type 0 where
+  pub book : v.book ≡ b
+  pub checked : IsBook b
+  pub one_part : length v.parts ≡ 1
+  pub known : v.first < b.processes
+  pub kept : IsKept v
+
+-- by its own numbers
+pub IsKept-IsSeat : (v : Knowledge) (process published : ℕ) → IsSeat v process published → IsKept v
+IsKept-IsSeat v process published seat =
+    subst (λ p. IsSeat v p (own_part v).published) (sym seat.process_is) (subst (IsSeat v process) (sym seat.published_is) seat)
+
+pub IsSeatOf-IsSeat : (b : BookTerms) (v : Knowledge) (process published : ℕ) → v.book ≡ b → IsSeat v process published → IsSeatOf b v
+IsSeatOf-IsSeat b v process published book seat = record {
+  book = book;
+  checked = subst IsBook book seat.book;
+  one_part = seat.one_part;
+  known = subst (λ (t : BookTerms). v.first < t.processes) book seat.known;
+  kept = IsKept-IsSeat v process published seat;
+}
+
+pub IsHistory-IsSeatOf : (b : BookTerms) (v : Knowledge) → IsSeatOf b v → IsHistory b v.seen
+IsHistory-IsSeatOf b v seat = subst (λ (t : BookTerms). IsHistory t v.seen) seat.book seat.kept.history
+
+-- the same by the book of the board
+pub IsKept-state : (b : BookTerms) (words : List ℕ) (s : BoardState) (v : Knowledge) → Sound b s → Overtaking s → length s.published ≤ places_max → IsBook b
+    → v.book ≡ b → IsHistory b v.seen → Knows b words s v → length v.parts ≡ 1 → IsKept v
+IsKept-state b words s v sound law few book same history knows one =
+    let is = sym same in
+    IsKept-Knows words s v (subst (λ (t : BookTerms). Sound t s) is sound) law few (subst IsBook is book)
+    (subst (λ (t : BookTerms). IsHistory t v.seen) is history) (subst (λ (t : BookTerms). Knows t words s v) is knows) one
+
+-- what is kept of a seat after a step of it, where what it has then seen is a history
+IsKept-set : (b : BookTerms) (words : List ℕ) (knowledge : List Knowledge) (id : ℕ) (v w : Knowledge) → get_elem? knowledge id ≡ some v → IsBook b → w.book ≡ b
+    → length w.parts ≡ 1 → IsHistory b w.seen → Ruled b words (set knowledge id w) → IsKept w
+IsKept-set b words knowledge id v w found book same one history ruled =
+    let s : BoardState = ruled.state in
+    IsKept-state b words s w ruled.sound ruled.overtaking (IsHistory-Sound b s ruled.shown.records.room ruled.sound book.begun).few book same history
+    (ruled.knows id w (set_here knowledge id w (within_found knowledge id v found))) one
+
+pub IsKept-step : (b : BookTerms) (words : List ℕ) (knowledge : List Knowledge) (id : ℕ) (v w : Knowledge) → get_elem? knowledge id ≡ some v → IsSeatOf b v
+    → w.book ≡ v.book → length w.parts ≡ length v.parts → IsHistory b w.seen → Ruled b words (set knowledge id w) → IsKept w
+IsKept-step b words knowledge id v w found seat book parts history ruled =
+    IsKept-set b words knowledge id v w found seat.checked (book ∙ seat.book) (parts ∙ seat.one_part) history ruled
+
+-- a seat of a process that has published so many records
+pub IsSeat-IsKept : (w : Knowledge) (process published : ℕ) → w.first ≡ process → (own_part w).published ≡ published → IsKept w → IsSeat w process published
+IsSeat-IsKept w process published first own kept =
+    subst (λ p. IsSeat w p published) first (subst (IsSeat w w.first) own kept)
+
+-- the seat after a step that has left it this part
+pub IsSeat-step : (v u w : Knowledge) (q : Part) (process k published : ℕ) → IsSeat v process k → u.first ≡ v.first → u.parts ≡ v.parts
+    → w ≡ with_part u q → q.published ≡ published → IsKept w → IsSeat w process published
+IsSeat-step v u w q process k published seat first parts same own kept =
+    IsSeat-IsKept w process published (ap (λ (t : Knowledge). t.first) same ∙ (first ∙ seat.process_is))
+    (ap (λ (t : Knowledge). (own_part t).published) same
+    ∙ (ap (λ (t : Part). t.published) (own_part-with_part u q (omega (arith, ap length parts, seat.one_part))) ∙ own)) kept
 
 -- a process has few records
 pub count_of-IsHistory : (b : BookTerms) (list : List Publication) (p : ℕ) → IsBegun b → p < b.processes → IsHistory b list → count_of p list < 2 ^ 32
 count_of-IsHistory b list p begun within history = omega (arith, history.room p within, log_room_of-le b p begun within)
-
-pub IsSeat-store : (v w : Knowledge) (process k j n : ℕ) → IsSeat v process k → StoresWord v w j n → AgreesWithSeen w → IsSeat w process k
-IsSeat-store v w process k j n seat told agrees =
-    subst (λ t. IsSeat t process k) (sym told)
-    (IsSeat-with_part v v.seen (with_word (own_part v) j n) process k seat refl (length-set (own_part v).stored j n) k seat.published_is seat.history seat.own
-    (same_requests v v.seen (with_word (own_part v) j n) process k seat (λ a. refl)) (subst AgreesWithSeen told agrees))
 
 -- the address of the seat's next record, by the seat's fields
 pub next_record : (v : Knowledge) (process k j : ℕ) → IsSeat v process k → record_word process k j ≡ record_word v.first (own_part v).published j

@@ -1,5 +1,5 @@
 -- Announcing keeps the rule.
-use Rattle.std.proofs.Common.{◌≡◌, ◌≢◌, ℕ, ◌+◌, ◌<◌, ◌≤◌, zero, List, [], ◌∷◌, ◌++◌, length, get_or, set, true, refl, sym, ap, subst, ◌∙◌, arith, inl, inr, All}
+use Rattle.std.proofs.Common.{◌≡◌, ◌≢◌, ℕ, ◌+◌, ◌<◌, ◌≤◌, zero, List, [], ◌∷◌, ◌++◌, length, get_or, set, true, refl, sym, ap, subst, ◌∙◌, arith, inl, inr}
 use lib.ListN.{get_elem?}
 use mathlib.Core.Option.{some, none}
 use Rattle.std.proofs.lemmas.Bool.{cases_lt}
@@ -12,29 +12,27 @@ use Rattle.at_history.proofs.Laws.Prefixes.{IsPrefix-length, IsPrefix-refl, take
 use Rattle.at_history.proofs.Laws.Histories.{IsHistory-Sound}
 use Rattle.at_history.proofs.Laws.Slots.{other_slot}
 use Rattle.at_history.proofs.Laws.Sums.{get_or-zeros}
-use Rattle.at_history.proofs.Steps.Announce.{Grows-announced, IsNextRequest, Sound-announced, announced_rows, announced_rows-here, announced_rows-other, slot_cases, length-Grows, with_rows}
+use Rattle.at_history.proofs.Steps.Announce.{Asked, Grows-announced, IsNextRequest, SameAsked-announced, Sound-announced, announced, announced_rows, announced_rows-here, announced_rows-other, asked_of, at_slot-here, length-Grows, slot_cases, with_asked}
+use Rattle.at_history.proofs.Steps.Overtaking.{Overtaking-announced}
 use Rattle.at_history.specs.BoardState.{BoardState, request_at}
-use Rattle.at_history.specs.Fronts.{places_max}
-use Rattle.at_history.specs.Histories.{IsHistory}
 use Rattle.at_history.specs.Rounds.{is_settled, rounds}
 use Rattle.at_history.specs.declared.request.Request.{Request}
 use Rattle.at_board.proofs.KnowledgeLaws.Agreement.{AgreesWithSeen-Knows}
 use Rattle.at_board.proofs.KnowledgeLaws.Asking.{HasPart-asking, HasPart-kept, IsLeft, Knows-kept, SameRequest, SeesMore, all_announced}
-use Rattle.at_board.proofs.KnowledgeLaws.Counts.{HasCounts-counted, IsSeat-asking}
-use Rattle.at_board.proofs.KnowledgeLaws.OwnRequests.{SeesOwnRequests-announce}
+use Rattle.at_board.proofs.KnowledgeLaws.Counts.{HasCounts-counted}
 use Rattle.at_board.proofs.KnowledgeLaws.Seats.{AreSeated-set, knows_after}
 use Rattle.at_board.proofs.StepLaws.LoadLength.{parts_after}
 use Rattle.at_board.proofs.StepLaws.StoreRecordWord.{other_process}
 use Rattle.at_board.proofs.WordLaws.Same.{SameRecordWords}
 use Rattle.at_board.proofs.KnowledgeLaws.Asking.{same_slot}
 use Rattle.at_board.proofs.StepLaws.StoreRequestWord.{next_number}
-use Rattle.at_board.proofs.StepLaws.Table.{IsSeatOf, store_at}
+use Rattle.at_board.proofs.KnowledgeLaws.Kept.{IsKept-step, IsSeatOf}
+use Rattle.at_board.proofs.StepLaws.Table.{store_at}
 use Rattle.at_board.proofs.WordLaws.Addresses.{word_at-set_other, word_at-set_same, index_of-injective}
 use Rattle.at_board.proofs.WordLaws.Packed.{ArePacked-AreTargets, request_words-injective}
-use Rattle.at_board.specs.Knowledge.Agreement.{RequestInRange, SeesInRange, AgreesWithSeen}
 use Rattle.at_board.specs.Knowledge.Knows.{HasAsking, HasPart, IsAnnounced, Knows}
 use Rattle.at_board.specs.Knowledge.Parts.{part_asking, seen_as, with_asking, asking_on, own_part, part_at}
-use Rattle.at_board.specs.Knowledge.Seats.{HasCounts, IsSeat}
+use Rattle.at_board.specs.Knowledge.Seats.{HasCounts}
 use Rattle.at_board.specs.Rule.{Ruled}
 use Rattle.at_board.specs.Steps.Announce.{MayAnnounce, Announces, with_request}
 use Rattle.at_board.specs.Steps.Plays.{announced_request}
@@ -45,7 +43,6 @@ use Rattle.at_board.specs.declared.knowledge.Asking.{Asking}
 use Rattle.at_board.specs.declared.knowledge.LoadedWord.{LoadedWord}
 use Rattle.at_board.specs.declared.knowledge.Part.{Part}
 use Rattle.at_board.specs.declared.knowledge.SeenRequest.{SeenRequest}
-use Rattle.at_board.specs.declared.knowledge.SeenRow.{SeenRow}
 use Rattle.at_board.specs.declared.knowledge.Knowledge.{Knowledge}
 
 -- the words after an announcing step
@@ -77,7 +74,7 @@ IsStored b words a slot n r = (j : ℕ) → IsAddress b (request_word a slot n j
 
 Shown-announced : (b : BookTerms) (words : List ℕ) (s : BoardState) (a slot : ℕ) (r : Request) → Shown b words s → IsAddress b (announced_of a slot)
     → IsStored b words a slot (length (s.rows a slot)) r
-    → Shown b (announced_words b words a slot (length (s.rows a slot) + 1)) (with_rows s (announced_rows s.rows a slot r))
+    → Shown b (announced_words b words a slot (length (s.rows a slot) + 1)) (with_asked s (announced s a slot r))
 Shown-announced b words s a slot r shown here stored =
     let n = length (s.rows a slot) + 1 in
     let after = announced_words b words a slot n in
@@ -139,11 +136,11 @@ HasAsking-announced : (b : BookTerms) (words after : List ℕ) (s : BoardState) 
     → Shown b words s → u.seen ≡ s.published → u.requests ≡ v.requests ++ seen_as a slot (length w.announced) r ∷ []
     → ((i j : ℕ) → IsAddress b (request_word a slot i j) → word_at b after (request_word a slot i j) ≡ word_at b words (request_word a slot i j))
     → HasAsking b words s v a slot w
-    → HasAsking b after (with_rows s (announced_rows s.rows a slot r)) u a slot (with_request w r (rounds a s.published))
+    → HasAsking b after (with_asked s (announced s a slot r)) u a slot (with_request w r (rounds a s.published))
 HasAsking-announced b words after s v u a slot w r shown all requests kept has =
     let row = w.announced in
     let n = length row in
-    let t : BoardState = with_rows s (announced_rows s.rows a slot r) in
+    let t : BoardState = with_asked s (announced s a slot r) in
     let x : SeenRequest = seen_as a slot n r in
     let none : Request = record { targets = []; since = 0 } in
     record {
@@ -161,8 +158,8 @@ HasAsking-announced b words after s v u a slot w r shown all requests kept has =
       sized = length-replicate 6 zero;
       stored = λ j is. kept (length (row ++ r ∷ [])) j is
           ∙ (shown.requests.blank a slot (length (row ++ r ∷ [])) j is (omega (arith, length_push row r, ap length has.announced)) ∙ sym (get_or-zeros 6 j));
-      heard = omega (arith, ap (rounds a) all);
-      rows = All-nil (λ (k : SeenRow). k.count ≤ length (t.rows a k.slot));
+      heard = sym (at_slot-here s.heard a slot (rounds a s.published));
+      rows = sym (at_slot-here s.seen_rows a slot []);
       loaded = All-nil (λ (l : LoadedWord). IsAnnounced t l.request);
     }
 
@@ -178,10 +175,10 @@ IsNextRequest-MayAnnounce b words s v a slot r knows row may = record {
       (may.follows before (last ∙ sym (ap length row)));
 }
 
-pub Announces-Ruled : (b : BookTerms) (words : List ℕ) (views : List Knowledge) (id : ℕ) (v : Knowledge) (a slot : ℕ) (r : Request) → Ruled b words views → IsBegun b
-    → get_elem? views id ≡ some v → 0 < length v.parts → MayAnnounce b v a slot r
-    → (w : Knowledge) × Ruled b (announced_words b words a slot (length (asking_on (own_part v) a).announced + 1)) (set views id w) × Announces b v w a slot r
-Announces-Ruled b words views id v a slot r ruled begun found part may =
+pub Announces-Ruled : (b : BookTerms) (words : List ℕ) (knowledge : List Knowledge) (id : ℕ) (v : Knowledge) (a slot : ℕ) (r : Request) → Ruled b words knowledge → IsBegun b
+    → get_elem? knowledge id ≡ some v → 0 < length v.parts → MayAnnounce b v a slot r
+    → (w : Knowledge) × Ruled b (announced_words b words a slot (length (asking_on (own_part v) a).announced + 1)) (set knowledge id w) × Announces b v w a slot r
+Announces-Ruled b words knowledge id v a slot r ruled begun found part may =
     let s : BoardState = ruled.state in
     let q : Part = own_part v in
     let w : Asking = asking_on q a in
@@ -192,9 +189,9 @@ Announces-Ruled b words views id v a slot r ruled begun found part may =
     let own : HasPart b words s v v.first q = subst (λ t. HasPart b words s v t q) first (knows.parts 0 part) in
     let asking = own.asking a slot mine in
     let row = ap length asking.announced in
-    let rows = announced_rows s.rows a slot r in
+    let to : Asked = announced s a slot r in
     let grows = Grows-announced s.rows a slot r in
-    let t : BoardState = with_rows s rows in
+    let t : BoardState = with_asked s to in
     let after = announced_words b words a slot (length w.announced + 1) in
     let kept = kept-announced b words a slot (length w.announced + 1) here in
     let x : SeenRequest = seen_as a slot (length w.announced) r in
@@ -207,21 +204,22 @@ Announces-Ruled b words views id v a slot r ruled begun found part may =
     subst (λ n. word_at b words (request_word a slot n j) ≡ get_or (request_words r) j 0) row
     (asking.stored j (subst (λ n. IsAddress b (request_word a slot n j)) (sym row) is) ∙ ap (λ ws. get_or ws j 0) may.stored) in
     let shown : Shown b after t = subst (λ n. Shown b (announced_words b words a slot (n + 1)) t) (sym row) (Shown-announced b words s a slot r ruled.shown here stored) in
-    let sound = Sound-announced b s a slot r ruled.sound (IsNextRequest-MayAnnounce b words s v a slot r knows asking.announced may) in
-    let left : (p : ℕ) (k : Part) → p ≢ v.first → IsLeft b words after s.rows rows p k = λ p k apart. record {
+    let next = IsNextRequest-MayAnnounce b words s v a slot r knows asking.announced may in
+    let sound = Sound-announced b s a slot r ruled.sound next in
+    let left : (p : ℕ) (k : Part) → p ≢ v.first → IsLeft b words after (asked_of s) to p k = λ p k apart. record {
       record_words = same_records p k.published;
       asking = λ c other has. (
-        announced_rows-other s.rows a slot c other r (other_slot b v.first p a c slot other mine has apart),
+        SameAsked-announced s a slot c other r (other_slot b v.first p a c slot other mine has apart),
         same_requests c other (length (asking_on k c).announced),
       );
     } in
-    let announced : (other : ℕ) → HasSlot b v.first a other → HasAsking b after t u a other new = λ other has.
+    let asks : (other : ℕ) → HasSlot b v.first a other → HasAsking b after t u a other new = λ other has.
     subst (λ k. HasAsking b after t u a k new) (same_slot b v.first a slot other mine has)
     (HasAsking-announced b words after s v u a slot w r ruled.shown refl refl (λ i j is. same_requests a slot i j is) asking) in
     let own_after : HasPart b after t u v.first (part_asking q a new) =
-    HasPart-asking b words after s rows v u v.first q a new grows knows.seen more (sym own.published) (same_records v.first q.published)
-    (λ c other apart has. (announced_rows-other s.rows a slot c other r (λ same. apart same.0), same_requests c other (length (asking_on q c).announced)))
-    announced own in
+    HasPart-asking b words after s to v u v.first q a new grows knows.seen more (sym own.published) (same_records v.first q.published)
+    (λ c other apart has. (SameAsked-announced s a slot c other r (λ same. apart same.0), same_requests c other (length (asking_on q c).announced)))
+    asks own in
     let new_is : IsAnnounced t x = (
       omega (arith, ap length (announced_rows-here s.rows a slot r), length_push (s.rows a slot) r, row),
       ap (λ l. request_at l (length w.announced)) (announced_rows-here s.rows a slot r)
@@ -229,13 +227,13 @@ Announces-Ruled b words views id v a slot r ruled begun found part may =
     ) in
     let knows_own : Knows b after t u = record {
       seen = IsPrefix-refl s.published;
-      requests = All-push (IsAnnounced t) v.requests x (all_announced s rows v.requests grows knows.requests) new_is;
+      requests = All-push (IsAnnounced t) v.requests x (all_announced s to v.requests grows knows.requests) new_is;
       decisions = knows.decisions;
       parts = parts_after (λ k p. HasPart b after t u (v.first + k) p) v.parts (part_asking q a new) part
           (subst (λ p. HasPart b after t u p (part_asking q a new)) (sym first) own_after)
           (λ k apart within.
           let has = knows.parts k within in
-          HasPart-kept b words after s rows v u (v.first + k) (part_at v k) grows knows.seen more (sym has.published)
+          HasPart-kept b words after s to v u (v.first + k) (part_at v k) grows knows.seen more (sym has.published)
           (left (v.first + k) (part_at v k) (λ e. apart (omega arith))) has);
     } in (
       u,
@@ -244,10 +242,11 @@ Announces-Ruled b words views id v a slot r ruled begun found part may =
         seat = ruled.seat;
         shown = shown;
         sound = sound;
-        knows = knows_after b after t views id u knows_own (λ k p apart there. Knows-kept b words after s rows p grows
-            (λ m within. left (p.first + m) (part_at p m) (other_process b ruled.seat views id k m v p ruled.seated found part there within apart))
+        overtaking = Overtaking-announced b s a slot r ruled.sound ruled.overtaking next;
+        knows = knows_after b after t knowledge id u knows_own (λ k p apart there. Knows-kept b words after s to p grows
+            (λ m within. left (p.first + m) (part_at p m) (other_process b ruled.seat knowledge id k m v p ruled.seated found part there within apart))
             (ruled.knows k p there));
-        seated = AreSeated-set b ruled.seat views id v u ruled.seated found refl (length-set v.parts 0 (part_asking q a new));
+        seated = AreSeated-set b ruled.seat knowledge id v u ruled.seated found refl (length-set v.parts 0 (part_asking q a new));
       },
       record {
         more = knows.seen;
@@ -286,6 +285,8 @@ module _ {S : Type 0} where
         done.1,
         (
           refl,
+          IsKept-step b (announced_words b s.words a slot (next_number me.0 a + 1)) s.views id me.0 done.0 found seat (ap (λ (t : Knowledge). t.book) done.2.same)
+              (ap (λ (t : Knowledge). length t.parts) done.2.same ∙ length-set me.0.parts 0 _) done.2.history done.1,
           λ c other q other_may at.
               let there : MayAnnounce b me.0 c other q = subst (λ (t : BookTerms). MayAnnounce t me.0 c other q) book other_may in
               let at_here = subst (λ (t : BookTerms). index_of b (announced_of a slot) ≡ index_of t (announced_of c other)) book at in
@@ -313,29 +314,8 @@ module _ {S : Type 0} where
       → Announces b me.0 after.0 a slot r
   Announces-played b slots me after a slot r i n book at may played =
       subst (λ (t : BookTerms). Announces t me.0 after.0 a slot r) book
-      (played.1 a slot r (subst (λ (t : BookTerms). MayAnnounce t me.0 a slot r) (sym book) may)
+      (played.2 a slot r (subst (λ (t : BookTerms). MayAnnounce t me.0 a slot r) (sym book) may)
       (subst (λ (t : BookTerms). i ≡ index_of t (announced_of a slot)) (sym book) at))
-
--- the board has words for the request that is announced
-requests_in_range-announce : (b : BookTerms) (v : Knowledge) (a slot : ℕ) (r : Request) → v.book ≡ b → length v.seen ≤ places_max → MayAnnounce b v a slot r
-    → SeesInRange v → All (RequestInRange v.book) (v.requests ++ seen_as a slot (next_number v a) r ∷ [])
-requests_in_range-announce b v a slot r book few may sees =
-    let x : SeenRequest = seen_as a slot (next_number v a) r in
-    let mine = may.asks.slot_in in
-    let within : IsAddress b (request_word a slot (next_number v a) 0) = (mine.account_in, mine.within, may.asks.room, omega arith) in
-    let here : RequestInRange b x = record { words = within; targets = may.targets; since = omega (arith, may.since, few) } in
-    All-push (RequestInRange v.book) v.requests x sees.requests (subst (λ (t : BookTerms). RequestInRange t x) (sym book) here)
-
--- what holds of a seat after the step
-pub IsSeat-announce : (b : BookTerms) (v w : Knowledge) (process k a slot : ℕ) (r : Request) → v.book ≡ b → length v.seen ≤ places_max
-    → MayAnnounce b v a slot r → IsSeat v process k → Announces b v w a slot r → IsSeat w process k
-IsSeat-announce b v w process k a slot r book few may seat told =
-    let after : Asking = with_request (asking_on (own_part v) a) r (rounds a w.seen) in
-    subst (λ t. IsSeat t process k) (sym told.same)
-    (IsSeat-asking v w.seen (v.requests ++ seen_as a slot (next_number v a) r ∷ []) process k a after seat
-    (subst (λ t. IsHistory t w.seen) (sym book) told.history) (told.own ∙ seat.published_is)
-    (SeesOwnRequests-announce v w.seen a slot after r (omega (arith, seat.one_part)) (subst (λ (t : BookTerms). HasSlot t v.first a slot) (sym book) may.asks.slot_in) refl
-    seat.asked) (requests_in_range-announce b v a slot r book few may seat.in_range) (subst AgreesWithSeen told.same told.agrees))
 
 pub HasCounts-announce : (b : BookTerms) (v w : Knowledge) (a slot : ℕ) (r : Request) (n : ℕ) (counts : List ℕ) → 0 < length v.parts
     → length (own_part v).asking ≡ length v.book.accounts → n ≡ next_number v a + 1 → Announces b v w a slot r → HasCounts v counts → HasCounts w (set counts a n)

@@ -15,33 +15,33 @@ use Rattle.at_ledger.specs.Book.{BookTerms, IsBegun}
 use Rattle.at_ledger.specs.Call.{amount_of}
 use Rattle.at_history.proofs.Laws.DecisionNumbers.{no_decision}
 use Rattle.at_history.proofs.Laws.HasRuns.{HasRuns-Sound}
-use Rattle.at_history.proofs.Laws.Histories.{rounds-unsettled, IsHistory-Sound}
+use Rattle.at_history.proofs.Laws.Histories.{rounds-unsettled, IsHistory-Sound, named-decided}
 use Rattle.at_history.proofs.Laws.Prefixes.{IsPrefix-refl, IsPrefix-length, take-IsPrefix-le}
-use Rattle.at_history.proofs.Laws.Rounds.{rounds-IsPrefix}
 use Rattle.at_history.proofs.Laws.RoundsDecided.{AreDecided-take}
 use Rattle.at_history.proofs.Steps.Decide.{cell, decided, Sound-decided, cells-own, cells-other, KeptCells-push, KeptCells-decided, held-other, held-own, IsNextDecision}
+use Rattle.at_history.proofs.Steps.Overtaking.{Overtaking-decided}
 use Rattle.at_history.specs.Balances.{IsCovered}
 use Rattle.at_history.specs.BoardState.{BoardState, decision_at, request_at}
 use Rattle.at_history.specs.Histories.{IsHistory}
 use Rattle.at_history.specs.Publications.{IsPrefix, count_of}
-use Rattle.at_history.specs.Rounds.{is_settled, rounds}
+use Rattle.at_history.specs.Rounds.{is_settled, named, rounds}
 use Rattle.at_history.specs.Sound.{IsSoundDecision, Sound}
 use Rattle.at_history.specs.declared.cell.Cell.{Cell}
 use Rattle.at_history.specs.declared.request.Request.{Request}
 use Rattle.at_board.proofs.KnowledgeLaws.Agreement.{seen_decision, AgreesWithSeen-Knows, seen_request}
 use Rattle.at_board.proofs.KnowledgeLaws.Asking.{HasPart-all}
+use Rattle.at_board.proofs.KnowledgeLaws.Candidates.{IsOldestRequest-MayPropose}
 use Rattle.at_board.proofs.KnowledgeLaws.Counts.{HasCounts-with_part}
-use Rattle.at_board.proofs.KnowledgeLaws.OwnRequests.{asking_on-part_asking, SeesOwnRequests-with_part, own_part-with_part}
 use Rattle.at_board.proofs.KnowledgeLaws.Seats.{AreSeated-set, knows_after}
 use Rattle.at_board.proofs.StepLaws.LoadLength.{parts_after}
 use Rattle.at_board.proofs.StepLaws.StoreRecordWord.{other_process}
-use Rattle.at_board.proofs.StepLaws.Table.{IsSeatOf}
+use Rattle.at_board.proofs.KnowledgeLaws.Kept.{IsKept-step, IsSeatOf}
 use Rattle.at_board.proofs.WordLaws.Addresses.{index_of-injective, word_at-set_other, word_at-set_same}
 use Rattle.at_board.proofs.WordLaws.Same.{SameRecordWords, SameRequestWords}
-use Rattle.at_board.specs.Knowledge.Agreement.{DecisionInRange, SeesInRange, AgreesWithSeen, RequestInRange}
+use Rattle.at_board.specs.Knowledge.Agreement.{SeesInRange, RequestInRange}
 use Rattle.at_board.specs.Knowledge.Knows.{HasPart, Knows, HasAsking, IsDecided, IsAnnounced}
 use Rattle.at_board.specs.Knowledge.Parts.{with_part, asking_on, no_asking, own_part, SeesDecision, part_at}
-use Rattle.at_board.specs.Knowledge.Seats.{HasCounts, IsSeat}
+use Rattle.at_board.specs.Knowledge.Seats.{HasCounts}
 use Rattle.at_board.specs.Rule.{Ruled}
 use Rattle.at_board.specs.Steps.Decide.{MayPropose, Decides, decided_round, with_decide, with_decision, word_after, with_count}
 use Rattle.at_board.specs.Words.Addresses.{IsAddress, cell_of, index_of, record_word, request_word, word_at, Address, announced_of, length_of}
@@ -67,8 +67,8 @@ IsAddress-MayPropose b v a round d r book history sees may =
     let asked : SeenRequest = record { account = a; slot = d.slot; number = d.number; request = r } in
     let range : RequestInRange b asked = subst (λ (t : BookTerms). RequestInRange t asked) book
     (All-contains (RequestInRange v.book) v.requests asked sees.requests may.named) in
-    let room = rounds-unsettled b v.seen d.place a d.slot d.number told may.place range.words.1 range.words.2 may.unsettled in
-    (may.owner.1.account_in, omega (arith, room, may.next))
+    let room = rounds-unsettled b v.seen d.place a d.slot d.number told may.place range.words.1 range.words.2 may.oldest.unsettled in
+    (may.asking.loaded.slot_in.account_in, omega (arith, room, may.next))
 
 -- the words after an exchange from 0
 abbrev pub exchanged_words : BookTerms → List ℕ → ℕ → ℕ → ℕ → List ℕ
@@ -76,10 +76,10 @@ exchanged_words b words a round w =
     let n = word_at b words (cell_of a round) in set words (index_of b (cell_of a round)) (either (n == 0) w n)
 
 -- what is known then, the rule with it, and what the step tells
-pub record Decided (b : BookTerms) (words : List ℕ) (views : List Knowledge) (id : ℕ) (v : Knowledge) (a round : ℕ) (d : Decision) : Type 0 where
-  pub view : Knowledge
-  pub ruled : Ruled b (exchanged_words b words a round (word_of d)) (set views id view)
-  pub told : Decides b v view a round d (word_after (word_at b words (cell_of a round)) (word_of d))
+pub record Decided (b : BookTerms) (words : List ℕ) (knowledge : List Knowledge) (id : ℕ) (v : Knowledge) (a round : ℕ) (d : Decision) : Type 0 where
+  pub after : Knowledge
+  pub ruled : Ruled b (exchanged_words b words a round (word_of d)) (set knowledge id after)
+  pub told : Decides b v after a round d (word_after (word_at b words (cell_of a round)) (word_of d))
 
 -- the word of a round that is decided, and of one that isn't
 pub cell_word-within : (xs : List Decision) (r : ℕ) → r < length xs → cell_word xs r ≡ word_of (decision_at xs r)
@@ -169,10 +169,10 @@ seen-decision s v b words a round e knows sees =
     seen_decision s v.decisions (record { account = a; round = round; decision = e }) knows.decisions sees
 
 -- the round is decided: the exchange finds it
-Decides-found : (b : BookTerms) (words : List ℕ) (views : List Knowledge) (id : ℕ) (v : Knowledge) (a round : ℕ) (d : Decision) (r : Request)
-    → (ruled : Ruled b words views) → IsBegun b → get_elem? views id ≡ some v → 0 < length v.parts → IsAddress b (cell_of a round)
-    → MayPropose b v a round d r → round < length (ruled.state.cells a) → Decided b words views id v a round d
-Decides-found b words views id v a round d r ruled begun found part here may within =
+Decides-found : (b : BookTerms) (words : List ℕ) (knowledge : List Knowledge) (id : ℕ) (v : Knowledge) (a round : ℕ) (d : Decision) (r : Request)
+    → (ruled : Ruled b words knowledge) → IsBegun b → get_elem? knowledge id ≡ some v → 0 < length v.parts → IsAddress b (cell_of a round)
+    → MayPropose b v a round d r → round < length (ruled.state.cells a) → Decided b words knowledge id v a round d
+Decides-found b words knowledge id v a round d r ruled begun found part here may within =
     let s : BoardState = ruled.state in
     let e : Decision = decision_at (s.cells a) round in
     let knows = ruled.knows id v found in
@@ -187,14 +187,15 @@ Decides-found b words views id v a round d r ruled begun found part here may wit
     let w : Knowledge = with_part (with_decision v s.published a round e) (with_decide (own_part v) a None) in
     let mine = Knows-found b words s v a round part within may.free knows in
     record {
-      view = w;
-      ruled = subst (λ ws. Ruled b ws (set views id w)) (sym same_words) (record {
+      after = w;
+      ruled = subst (λ ws. Ruled b ws (set knowledge id w)) (sym same_words) (record {
         state = s;
         seat = ruled.seat;
         shown = ruled.shown;
         sound = ruled.sound;
-        knows = knows_after b words s views id w mine (λ j u off there. ruled.knows j u there);
-        seated = AreSeated-set b ruled.seat views id v w ruled.seated found refl (length-set v.parts 0 (with_decide (own_part v) a None));
+        overtaking = ruled.overtaking;
+        knows = knows_after b words s knowledge id w mine (λ j u off there. ruled.knows j u there);
+        seated = AreSeated-set b ruled.seat knowledge id v w ruled.seated found refl (length-set v.parts 0 (with_decide (own_part v) a None));
       });
       told = record {
         decision = e;
@@ -205,6 +206,7 @@ Decides-found b words views id v a round d r ruled begun found part here may wit
         number_in = omega (arith, law.announced, ruled.sound.row_room a e.slot);
         place = law.place;
         next = law.next;
+        number = named-decided b s a round ruled.sound within;
         known = λ f sees. sym (seen-decision s v b words a round f knows sees).1;
         met = record {
           state = s;
@@ -303,7 +305,7 @@ HasAsking-decided b words after s p a d v u k slot w longer requests same has = 
   seen = λ i within. subst (λ (rs : List SeenRequest). Contains rs (record { account = k; slot = slot; number = i; request = request_at w.announced i })) (sym requests) (has.seen i within);
   sized = has.sized;
   stored = λ j is. same k slot (length w.announced) j is ∙ has.stored j is;
-  heard = omega (arith, has.heard, rounds-IsPrefix k v.seen u.seen longer);
+  heard = has.heard;
   rows = has.rows;
   loaded = has.loaded;
 }
@@ -339,6 +341,14 @@ Knows-decided b words after s p a d v same record_same apart knows = record {
       (has.held ∙ sym (held-other s p a (v.first + k) d (apart k within))) has;
 }
 
+-- the round is decided as proposed
+IsDecided-last : (s : BoardState) (p a round : ℕ) (d : Decision) → length (s.cells a) ≡ round
+    → IsDecided (decided s p a d) (record { account = a; round = round; decision = d })
+IsDecided-last s p a round d full = (
+  omega (arith, full, ap length (cells-own s p a d), length_push (s.cells a) d),
+  ap (λ t. decision_at t round) (cells-own s p a d) ∙ get_or_push (s.cells a) d no_decision round full,
+)
+
 -- what the seat knows whose proposal is decided
 pub Knows-proposed : (b : BookTerms) (words after : List ℕ) (s : BoardState) (a round : ℕ) (d : Decision) (v : Knowledge) → 0 < length v.parts
     → SameRequestWords b words after → ((k i : ℕ) → SameRecordWords b words after k i) → length (s.cells a) ≡ round → Knows b words s v
@@ -357,15 +367,11 @@ Knows-proposed b words after s a round d v part same record_same full knows =
     HasPart-decided b words after s v.first a d v u (v.first + k) (part_at v k) h knows.seen refl same
     (record_same (v.first + k) (part_at v k).published) (sym has.published) is has in
     let holds : held ≡ s'.held (v.first + 0) = sym (ap s'.held first ∙ (held-own s v.first a d ∙ ap (λ n. Some (cell a n)) full)) in
-    let last : IsDecided s' (record { account = a; round = round; decision = d }) = (
-      omega (arith, full, ap length (cells-own s v.first a d), length_push (s.cells a) d),
-      ap (λ t. decision_at t round) (cells-own s v.first a d) ∙ get_or_push (s.cells a) d no_decision round full,
-    ) in
     record {
       seen = IsPrefix-refl s.published;
       requests = knows.requests;
       decisions = All-IsDecided s' v.decisions (record { account = a; round = round; decision = d })
-          (λ k x within. IsDecided-decided s v.first a d (get_or v.decisions k x) (knows.decisions k x within)) last;
+          (λ k x within. IsDecided-decided s v.first a d (get_or v.decisions k x) (knows.decisions k x within)) (IsDecided-last s v.first a round d full);
       parts = parts_after (λ k t. HasPart b after s' u (v.first + k) t) v.parts (with_decide q a held) part
           (HasPart-count b after s' u (v.first + 0) (record q { held = held }) a (moved 0 part held holds))
           (λ k apart inside.
@@ -395,14 +401,14 @@ IsNextDecision-MayPropose b words s v a round d r sound knows here may =
             (subst (λ t. (d.ok ≡ true) ↔ IsCovered b t a (amount_of r.targets)) same may.ok);
       };
       within = omega (arith, next, (AreDecided-take b s d.place (HasRuns-Sound b s sound) place a).rounds_within);
-      unsettled = subst (λ t. is_settled a d.slot d.number t ≡ false) same may.unsettled;
+      unsettled = subst (λ t. is_settled a d.slot d.number t ≡ false) same may.oldest.unsettled;
     }
 
 -- the round is undecided: the exchange decides the proposal
-Decides-proposed : (b : BookTerms) (words : List ℕ) (views : List Knowledge) (id : ℕ) (v : Knowledge) (a round : ℕ) (d : Decision) (r : Request)
-    → (ruled : Ruled b words views) → IsBegun b → get_elem? views id ≡ some v → 0 < length v.parts → IsAddress b (cell_of a round)
-    → MayPropose b v a round d r → length (ruled.state.cells a) ≤ round → Decided b words views id v a round d
-Decides-proposed b words views id v a round d r ruled begun found part here may past =
+Decides-proposed : (b : BookTerms) (words : List ℕ) (knowledge : List Knowledge) (id : ℕ) (v : Knowledge) (a round : ℕ) (d : Decision) (r : Request)
+    → (ruled : Ruled b words knowledge) → IsBegun b → get_elem? knowledge id ≡ some v → 0 < length v.parts → IsAddress b (cell_of a round)
+    → MayPropose b v a round d r → length (ruled.state.cells a) ≤ round → Decided b words knowledge id v a round d
+Decides-proposed b words knowledge id v a round d r ruled begun found part here may past =
     let s : BoardState = ruled.state in
     let knows = ruled.knows id v found in
     let first : v.first + 0 ≡ v.first = omega arith in
@@ -422,17 +428,20 @@ Decides-proposed b words views id v a round d r ruled begun found part here may 
     let held : Option Cell = Some (cell a round) in
     let w : Knowledge = with_part (with_decision v s.published a round d) (with_decide (own_part v) a held) in
     let mine = Knows-proposed b words after s a round d v part same record_same full knows in
+    let last = IsDecided-last s v.first a round d full in
     record {
-      view = w;
-      ruled = subst (λ ws. Ruled b ws (set views id w)) (sym same_words) (record {
+      after = w;
+      ruled = subst (λ ws. Ruled b ws (set knowledge id w)) (sym same_words) (record {
         state = s';
         seat = ruled.seat;
         shown = shown;
         sound = sound;
-        knows = knows_after b after s' views id w mine
+        overtaking = Overtaking-decided b s v.first a round may.own d ruled.sound ruled.overtaking proposed full sound
+            (IsOldestRequest-MayPropose b words s v a round d r ruled.sound knows own may);
+        knows = knows_after b after s' knowledge id w mine
             (λ j u off there. Knows-decided b words after s v.first a d u same record_same
-            (λ k inside. other_process b ruled.seat views id j k v u ruled.seated found part there inside off) (ruled.knows j u there));
-        seated = AreSeated-set b ruled.seat views id v w ruled.seated found refl (length-set v.parts 0 (with_decide (own_part v) a held));
+            (λ k inside. other_process b ruled.seat knowledge id j k v u ruled.seated found part there inside off) (ruled.knows j u there));
+        seated = AreSeated-set b ruled.seat knowledge id v w ruled.seated found refl (length-set v.parts 0 (with_decide (own_part v) a held));
       });
       told = record {
         decision = d;
@@ -443,6 +452,7 @@ Decides-proposed b words views id v a round d r ruled begun found part here may 
         number_in = omega (arith, proposed.law.announced, ruled.sound.row_room a d.slot);
         place = proposed.law.place;
         next = proposed.law.next;
+        number = subst (λ (e : Decision). named a e.slot (take e.place s.published) ≡ e.number) last.1 (named-decided b s' a round sound last.0);
         known = λ f sees. absurd (omega (arith, past, (seen-decision s v b words a round f knows sees).0));
         met = record {
           state = s;
@@ -462,13 +472,13 @@ Decides-proposed b words views id v a round d r ruled begun found part here may 
       };
     }
 
-pub Decides-Ruled : (b : BookTerms) (words : List ℕ) (views : List Knowledge) (id : ℕ) (v : Knowledge) (a round : ℕ) (d : Decision) (r : Request)
-    → Ruled b words views → IsBegun b → get_elem? views id ≡ some v → 0 < length v.parts → IsAddress b (cell_of a round)
-    → MayPropose b v a round d r → Decided b words views id v a round d
-Decides-Ruled b words views id v a round d r ruled begun found part here may =
-    elim (cases_lt round (length (ruled.state.cells a))) as (λ _. Decided b words views id v a round d) [
-      | inl within ↦ Decides-found b words views id v a round d r ruled begun found part here may within
-      | inr past ↦ Decides-proposed b words views id v a round d r ruled begun found part here may past
+pub Decides-Ruled : (b : BookTerms) (words : List ℕ) (knowledge : List Knowledge) (id : ℕ) (v : Knowledge) (a round : ℕ) (d : Decision) (r : Request)
+    → Ruled b words knowledge → IsBegun b → get_elem? knowledge id ≡ some v → 0 < length v.parts → IsAddress b (cell_of a round)
+    → MayPropose b v a round d r → Decided b words knowledge id v a round d
+Decides-Ruled b words knowledge id v a round d r ruled begun found part here may =
+    elim (cases_lt round (length (ruled.state.cells a))) as (λ _. Decided b words knowledge id v a round d) [
+      | inl within ↦ Decides-found b words knowledge id v a round d r ruled begun found part here may within
+      | inr past ↦ Decides-proposed b words knowledge id v a round d r ruled begun found part here may past
     ]
 
 module _ {S : Type 0} where
@@ -481,12 +491,14 @@ module _ {S : Type 0} where
       let here = IsAddress-MayPropose b v a round d r seat.book history sees may in
       let done = Decides-Ruled b s.words s.views id v a round d r holds begun found (omega (arith, seat.one_part)) here may in
       let n = get_or s.words (index_of b (cell_of a round)) 0 in (
-        done.view,
+        done.after,
         keeps,
         tt,
         done.ruled,
         (
           refl,
+          IsKept-step b (exchanged_words b s.words a round (word_of d)) s.views id me.0 done.after found seat (ap (λ (t : Knowledge). t.book) done.told.same)
+              (ap (λ (t : Knowledge). length t.parts) done.told.same ∙ length-set me.0.parts 0 _) done.told.history done.ruled,
           λ k l e q other at word.
               let other_here : MayPropose b v k l e q = MayPropose-same v.book b v v k l e q seat.book refl other in
               let there : index_of b (cell_of a round) ≡ index_of b (cell_of k l) = subst (λ (t : BookTerms). index_of b (cell_of a round) ≡ index_of t (cell_of k l)) seat.book at in
@@ -494,10 +506,10 @@ module _ {S : Type 0} where
               let account : a ≡ k = cc same in
               let number : round ≡ l = cc same in
               let decision : d ≡ e = same_decision d e may.range other_here.range word in
-              subst (λ (t : BookTerms). Decides t v done.view k l e (word_after n (word_of d))) (sym seat.book)
-              (subst (λ t. Decides b v done.view t l e (word_after n (word_of d))) account
-              (subst (λ t. Decides b v done.view a t e (word_after n (word_of d))) number
-              (subst (λ (t : Decision). Decides b v done.view a round t (word_after n (word_of d))) decision done.told))),
+              subst (λ (t : BookTerms). Decides t v done.after k l e (word_after n (word_of d))) (sym seat.book)
+              (subst (λ t. Decides b v done.after t l e (word_after n (word_of d))) account
+              (subst (λ t. Decides b v done.after a t e (word_after n (word_of d))) number
+              (subst (λ (t : Decision). Decides b v done.after a round t (word_after n (word_of d))) decision done.told))),
         ),
       )
 
@@ -519,46 +531,8 @@ module _ {S : Type 0} where
   Decides-played b slots me after u a round d r i w n book mine at word may played =
       subst (λ (t : BookTerms). Decides t u after.0 a round d (word_after n w)) book
       (subst (λ (t : Knowledge). Decides me.0.book t after.0 a round d (word_after n w)) mine
-      (played.1 a round d r (MayPropose-same b me.0.book u me.0 a round d r (sym book) (sym mine) may)
+      (played.2 a round d r (MayPropose-same b me.0.book u me.0 a round d r (sym book) (sym mine) may)
       (subst (λ (t : BookTerms). i ≡ index_of t (cell_of a round)) (sym book) at) word))
-
--- the decision that the step has told is in range
-SeesInRange-decided : (b : BookTerms) (v w : Knowledge) (a round : ℕ) (d : Decision) (n : ℕ) → v.book ≡ b → IsAddress b (cell_of a round)
-    → Decides b v w a round d n → SeesInRange v → SeesInRange w
-SeesInRange-decided b v w a round d n book here told sees =
-    let seen : SeenDecision = record { account = a; round = round; decision = told.decision } in
-    let P : SeenDecision → Type 0 = DecisionInRange v.book in
-    let new : P seen = subst (λ (t : BookTerms). DecisionInRange t seen) (sym book)
-    (record { words = (here.0, told.slot_in, told.number_in, omega arith); range = told.range; room = here.1 }) in
-    let after : SeesInRange (with_part (with_decision v w.seen a round told.decision) (with_decide (own_part v) a told.held)) = record {
-      requests = sees.requests;
-      decisions = All-append P v.decisions (seen ∷ []) sees.decisions (All-cons P seen [] new (All-nil P));
-    } in
-    subst SeesInRange (sym told.same) after
-
--- a seat stays one
-pub IsSeat-decided : (b : BookTerms) (v w : Knowledge) (process k a round : ℕ) (d : Decision) (n : ℕ) → v.book ≡ b → IsAddress b (cell_of a round)
-    → IsSeat v process k → Decides b v w a round d n → IsSeat w process k
-IsSeat-decided b v w process k a round d n book here seat told =
-    let u : Knowledge = with_decision v w.seen a round told.decision in
-    let q : Part = with_decide (own_part v) a told.held in
-    let counted : Asking = record (asking_on (own_part v) a) { decides = (asking_on (own_part v) a).decides + 1 } in
-    let part : 0 < length v.parts = omega (arith, seat.one_part) in
-    let is = own_part-with_part u q part in
-    subst (λ t. IsSeat t process k) (sym told.same) (record {
-      one_part = length-set v.parts 0 q ∙ seat.one_part;
-      accounts = ap (λ (t : Part). length t.asking) is ∙ (length-set (own_part v).asking a counted ∙ seat.accounts);
-      words = ap (λ (t : Part). length t.stored) is ∙ seat.words;
-      process_is = seat.process_is;
-      published_is = ap (λ (t : Part). t.published) is ∙ seat.published_is;
-      own = told.own ∙ seat.published_is;
-      asked = SeesOwnRequests-with_part v w.seen v.requests q part (λ c. asking_on-part_asking (own_part v) a c counted refl) (λ x there. there) seat.asked;
-      known = seat.known;
-      book = seat.book;
-      history = subst (λ t. IsHistory t w.seen) (sym book) told.history;
-      in_range = subst SeesInRange told.same (SeesInRange-decided b v w a round d n book here told seat.in_range);
-      agrees = subst AgreesWithSeen told.same told.agrees;
-    })
 
 -- as many requests are announced
 announced-decide : (q : Part) (a k : ℕ) (held : Option Cell) → k < length q.asking

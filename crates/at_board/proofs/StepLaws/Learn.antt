@@ -4,20 +4,21 @@ use lib.ListN.{get_elem?}
 use mathlib.Core.Option.{some, some-injective}
 use Rattle.std.proofs.lemmas.Bool.{cases_eq}
 use Rattle.std.proofs.lemmas.List.Elements.{All-append, All-nil, Contains-append_left}
-use Rattle.std.specs.List.{All}
-use Rattle.atomic_table.proofs.Lists.{at_set, set_else, set_here}
+use Rattle.atomic_table.proofs.Lists.{at_set, set_else}
 use Rattle.atomic_table.specs.Table.{Joins}
-use Rattle.at_ledger.specs.Book.{BookTerms}
+use Rattle.at_ledger.specs.Book.{BookTerms, IsBook}
+use Rattle.at_history.proofs.Laws.Histories.{IsHistory-Sound}
 use Rattle.at_history.proofs.Laws.Prefixes.{IsPrefix-count_of, IsLonger, IsLonger-longer, longer-either}
-use Rattle.at_history.specs.BoardState.{BoardState, request_at}
+use Rattle.at_history.specs.BoardState.{BoardState}
 use Rattle.at_history.specs.Histories.{IsHistory}
 use Rattle.at_history.specs.Publications.{count_of, longer}
-use Rattle.at_board.proofs.KnowledgeLaws.Agreement.{AgreesWithSeen-Ruled}
+use Rattle.at_board.proofs.KnowledgeLaws.Agreement.{AgreesWithSeen-Knows}
 use Rattle.at_board.proofs.KnowledgeLaws.Asking.{HasPart-more, HasRequests}
-use Rattle.at_board.proofs.KnowledgeLaws.Seats.{AreSeated-set, knows_after, within_found}
-use Rattle.at_board.specs.Knowledge.Agreement.{AgreesWithSeen, DecisionInRange, RequestInRange, SeesInRange}
+use Rattle.at_board.proofs.KnowledgeLaws.Kept.{IsKept-state, IsSeat-IsKept}
+use Rattle.at_board.proofs.KnowledgeLaws.Seats.{AreSeated-set, knows_after}
+use Rattle.at_board.specs.Knowledge.Agreement.{AgreesWithSeen}
 use Rattle.at_board.specs.Knowledge.Knows.{HasPart, IsAnnounced, IsDecided, Knows}
-use Rattle.at_board.specs.Knowledge.Parts.{part_at, seen_as, asking_on, own_part}
+use Rattle.at_board.specs.Knowledge.Parts.{part_at}
 use Rattle.at_board.specs.Knowledge.Seats.{HasCounts, IsSeat}
 use Rattle.at_board.specs.Rule.{Ruled, AreSeated, Holds}
 use Rattle.at_board.specs.Steps.Learn.{Learns, learned, spent_knowledge}
@@ -76,40 +77,41 @@ Holds-nothing : (v : Knowledge) (p : ℕ) → length v.parts ≡ 0 → Holds v p
 Holds-nothing v p none holds = omega (arith, holds.0, holds.1)
 
 -- a note is spent
-AreSeated-spent : (b : BookTerms) (seat : ℕ → ℕ) (views : List Knowledge) (id : ℕ) (w : Knowledge) → AreSeated b seat views
-    → get_elem? views id ≡ some w → length w.parts ≡ 0 → AreSeated b seat (set views id spent_knowledge)
-AreSeated-spent b seat views id w seated found none = record {
-  only = λ j p u there holds. elim (at_set views id j spent_knowledge u there) as (λ _. seat p ≡ j) [
+AreSeated-spent : (b : BookTerms) (seat : ℕ → ℕ) (knowledge : List Knowledge) (id : ℕ) (w : Knowledge) → AreSeated b seat knowledge
+    → get_elem? knowledge id ≡ some w → length w.parts ≡ 0 → AreSeated b seat (set knowledge id spent_knowledge)
+AreSeated-spent b seat knowledge id w seated found none = record {
+  only = λ j p u there holds. elim (at_set knowledge id j spent_knowledge u there) as (λ _. seat p ≡ j) [
     | inl here ↦ absurd (Holds-nothing spent_knowledge p refl (subst (λ t. Holds t p) (sym here.1) holds))
     | inr other ↦ seated.only j p u other.1 holds
   ];
   some_seat = λ p within.
       let before = seated.some_seat p within in
-      elim (cases_eq (seat p) id) as (λ _. (u : Knowledge) × (get_elem? (set views id spent_knowledge) (seat p) ≡ some u) × Holds u p) [
+      elim (cases_eq (seat p) id) as (λ _. (u : Knowledge) × (get_elem? (set knowledge id spent_knowledge) (seat p) ≡ some u) × Holds u p) [
         | inl mine ↦
-            let same : before.0 ≡ w = some-injective before.0 w (sym before.1 ∙ (ap (get_elem? views) mine ∙ found)) in
+            let same : before.0 ≡ w = some-injective before.0 w (sym before.1 ∙ (ap (get_elem? knowledge) mine ∙ found)) in
             absurd (Holds-nothing w p none (subst (λ t. Holds t p) same before.2))
-        | inr other ↦ (before.0, set_else views id (seat p) spent_knowledge other ∙ before.1, before.2)
+        | inr other ↦ (before.0, set_else knowledge id (seat p) spent_knowledge other ∙ before.1, before.2)
       ];
 }
 
-Ruled-learned : (b : BookTerms) (words : List ℕ) (views : List Knowledge) (id other : ℕ) (v w : Knowledge) → Ruled b words views
-    → get_elem? views id ≡ some v → other ≢ id → get_elem? views other ≡ some w → 0 < length v.parts
-    → length w.parts ≡ 0 → Ruled b words (set (set views id (learned v w)) other spent_knowledge)
-Ruled-learned b words views id other v w ruled found apart there part none =
+Ruled-learned : (b : BookTerms) (words : List ℕ) (knowledge : List Knowledge) (id other : ℕ) (v w : Knowledge) → Ruled b words knowledge
+    → get_elem? knowledge id ≡ some v → other ≢ id → get_elem? knowledge other ≡ some w → 0 < length v.parts
+    → length w.parts ≡ 0 → Ruled b words (set (set knowledge id (learned v w)) other spent_knowledge)
+Ruled-learned b words knowledge id other v w ruled found apart there part none =
     let s : BoardState = ruled.state in
     let u : Knowledge = learned v w in
-    let joined = set views id u in
-    let knows = knows_after b words s views id u (Knows-learned b words s v w part (ruled.knows id v found) (ruled.knows other w there))
+    let joined = set knowledge id u in
+    let knows = knows_after b words s knowledge id u (Knows-learned b words s v w part (ruled.knows id v found) (ruled.knows other w there))
     (λ j t off at. ruled.knows j t at) in
     record {
       state = s;
       seat = ruled.seat;
       shown = ruled.shown;
       sound = ruled.sound;
+      overtaking = ruled.overtaking;
       knows = knows_after b words s joined other spent_knowledge (Knows-spent_knowledge b words s) (λ j t off at. knows j t at);
-      seated = AreSeated-spent b ruled.seat joined other w (AreSeated-set b ruled.seat views id v u ruled.seated found refl refl)
-          (set_else views id other u apart ∙ there) none;
+      seated = AreSeated-spent b ruled.seat joined other w (AreSeated-set b ruled.seat knowledge id v u ruled.seated found refl refl)
+          (set_else knowledge id other u apart ∙ there) none;
     }
 
 module _ {S : Type 0} where
@@ -122,14 +124,12 @@ module _ {S : Type 0} where
 
 module _ {S : Type 0} where
   -- where the rule holds of a seat and a note, all that the seat has seen with the note agrees
-  learned_agrees : (b : BookTerms) (id other : ℕ) (v w : Knowledge) → 0 < length v.parts → length w.parts ≡ 0
+  learned_agrees : (b : BookTerms) (id other : ℕ) (v w : Knowledge) → 0 < length v.parts
       → AreSeen {S = S} (λ s. Ruled b s.words s.views) id v other w → AgreesWithSeen (learned v w)
-  learned_agrees b id other v w part none met =
-      let views = set (set met.0.views id (learned v w)) other spent_knowledge in
-      let after = Ruled-learned b met.0.words met.0.views id other v w met.1 met.3 met.2 met.4 part none in
-      let here = set_else (set met.0.views id (learned v w)) other id spent_knowledge (λ e. met.2 (sym e))
-      ∙ set_here met.0.views id (learned v w) (within_found met.0.views id v met.3) in
-      AgreesWithSeen-Ruled b met.0.words views id (learned v w) after here
+  learned_agrees b id other v w part met =
+      let ruled = met.1 in
+      AgreesWithSeen-Knows b met.0.words ruled.state (learned v w) ruled.sound
+      (Knows-learned b met.0.words ruled.state v w part (ruled.knows id v met.3) (ruled.knows other w met.4))
 
 -- what the seat has then seen
 pub Learns-learned : {S : Type 0} (b : BookTerms) (id other : ℕ) (v w : Knowledge) (process published : ℕ) → v.book ≡ b → w.book ≡ b → IsSeat v process published → IsNote w
@@ -141,37 +141,22 @@ Learns-learned b id other v w process published book note_book seat note met =
       own = count_of-longer b id other v w (omega (arith, seat.one_part)) met;
       told = long.second;
       history = longer-either (IsHistory b) v.seen w.seen (subst (λ t. IsHistory t v.seen) book seat.history) (subst (λ t. IsHistory t w.seen) note_book note.history);
-      agrees = learned_agrees b id other v w (omega (arith, seat.one_part)) note.no_part met;
+      agrees = learned_agrees b id other v w (omega (arith, seat.one_part)) met;
       same = refl;
     }
 
-SeesInRange-learned : (v w : Knowledge) → w.book ≡ v.book → SeesInRange v → SeesInRange w → SeesInRange (learned v w)
-SeesInRange-learned v w same mine theirs = record {
-  requests = All-append (RequestInRange v.book) v.requests w.requests mine.requests
-      (subst (λ t. All (RequestInRange t) w.requests) same theirs.requests);
-  decisions = All-append (DecisionInRange v.book) v.decisions w.decisions mine.decisions
-      (subst (λ t. All (DecisionInRange t) w.decisions) same theirs.decisions);
-}
-
+-- what the seat's type keeps, since the state that the rule had of both has all that they know
 pub IsSeat-learned : {S : Type 0} (b : BookTerms) (id other : ℕ) (v w : Knowledge) (process published : ℕ) → v.book ≡ b → w.book ≡ b → IsSeat v process published
     → IsNote w → AreSeen {S = S} (λ s. Ruled b s.words s.views) id v other w → IsSeat (learned v w) process published
 IsSeat-learned b id other v w process published book note_book seat note met =
     let told = Learns-learned b id other v w process published book note_book seat note met in
-    record {
-      one_part = seat.one_part;
-      accounts = seat.accounts;
-      words = seat.words;
-      process_is = seat.process_is;
-      published_is = seat.published_is;
-      own = told.own ∙ seat.own;
-      asked = λ a slot i has within.
-          Contains-append_left v.requests w.requests (seen_as a slot i (request_at (asking_on (own_part v) a).announced i)) (seat.asked a slot i has within);
-      known = seat.known;
-      book = seat.book;
-      history = subst (λ t. IsHistory t (learned v w).seen) (sym book) told.history;
-      in_range = SeesInRange-learned v w (note_book ∙ sym book) seat.in_range note.in_range;
-      agrees = told.agrees;
-    }
+    let ruled = met.1 in
+    let s : BoardState = ruled.state in
+    let checked : IsBook b = subst IsBook book seat.book in
+    let knows = Knows-learned b met.0.words s v w (omega (arith, seat.one_part)) (ruled.knows id v met.3) (ruled.knows other w met.4) in
+    let few = (IsHistory-Sound b s ruled.shown.records.room ruled.sound checked.begun).few in
+    IsSeat-IsKept (learned v w) process published seat.process_is seat.published_is
+    (IsKept-state b met.0.words s (learned v w) ruled.sound ruled.overtaking few checked book told.history knows seat.one_part)
 
 -- the seat's own part is the same
 pub HasCounts-learned : (v w : Knowledge) (announced : List ℕ) → HasCounts v announced → HasCounts (learned v w) announced

@@ -1,38 +1,43 @@
 -- A load of an announced word keeps the rule.
-use Rattle.std.proofs.Common.{◌≡◌, ℕ, ◌+◌, ◌<◌, ◌≤◌, List, [], ◌++◌, length, get_or, set, refl, sym, ap, subst, ◌∙◌, arith}
+use Rattle.std.proofs.Common.{◌≡◌, ◌≢◌, ℕ, ◌+◌, ◌<◌, ◌≤◌, List, [], ◌∷◌, ◌++◌, length, get_or, set, Option, Some, None, refl, sym, ap, subst, ◌∙◌, arith}
 use lib.ListN.{get_elem?}
 use mathlib.Core.Option.{some, none}
 use Rattle.std.proofs.lemmas.List.{length-set, set-get_or}
-use Rattle.std.proofs.lemmas.List.Elements.{All-append, All-contains, All-from_get_or, All-map, All-push, Contains-append_left}
+use Rattle.std.proofs.lemmas.List.Elements.{All-append, All-contains, All-from_get_or, All-map, Contains-append_left}
 use Rattle.std.proofs.lemmas.List.FromFn.{get_or-range_with_len, length-range_with_len}
 use Rattle.std.specs.List.{All, range_with_len}
 use Rattle.atomic_table.specs.Table.{Allows, Me, keeps, step}
-use Rattle.at_ledger.specs.Book.{BookTerms, IsBegun}
+use Rattle.at_ledger.specs.Account.{slot_in}
+use Rattle.at_ledger.specs.Book.{BookTerms, HasSlot, IsBegun, account_of}
 use Rattle.at_history.proofs.Laws.Prefixes.{IsPrefix-refl}
 use Rattle.at_history.proofs.Laws.Histories.{IsHistory-Sound}
-use Rattle.at_history.proofs.Steps.Announce.{Grows-refl}
+use Rattle.at_history.proofs.Laws.Slots.{slot_in-injective}
+use Rattle.at_history.proofs.Steps.Announce.{Asked, Grows-refl, Sound-row_loaded, asked_of, at_slot, at_slot-here, at_slot-other, with_asked}
+use Rattle.at_history.proofs.Steps.Overtaking.{Overtaking-row_loaded}
 use Rattle.at_history.specs.BoardState.{BoardState, request_at}
-use Rattle.at_history.specs.Histories.{IsHistory}
-use Rattle.at_history.specs.Publications.{count_of}
-use Rattle.at_history.specs.Sound.{AreTargets}
+use Rattle.at_history.specs.Overtaking.{Overtaking}
+use Rattle.at_history.specs.Publications.{IsPrefix, count_of}
+use Rattle.at_history.specs.Sound.{AreTargets, Sound}
 use Rattle.at_history.specs.declared.publication.Publication.{Publication}
 use Rattle.at_history.specs.declared.request.Request.{Request}
+use Rattle.at_history.specs.declared.request.SeenRow.{SeenRow}
 use Rattle.at_board.proofs.KnowledgeLaws.Agreement.{AgreesWithSeen-Knows}
-use Rattle.at_board.proofs.KnowledgeLaws.Asking.{HasAsking-kept, HasPart-asking, HasPart-kept, IsLeft-refl, SeesMore}
-use Rattle.at_board.proofs.KnowledgeLaws.Counts.{HasCounts-asking, IsSeat-asking}
-use Rattle.at_board.proofs.KnowledgeLaws.OwnRequests.{SeesOwnRequests-asking}
+use Rattle.at_board.proofs.KnowledgeLaws.Asking.{HasPart-asking, HasPart-kept, IsAnnounced-Grows, IsLeft, Knows-kept, SeesMore, all_announced, loaded-Grows}
+use Rattle.at_board.proofs.KnowledgeLaws.Counts.{HasCounts-asking}
 use Rattle.at_board.proofs.KnowledgeLaws.Seats.{AreSeated-set, knows_after}
 use Rattle.at_board.proofs.StepLaws.LoadLength.{parts_after}
-use Rattle.at_board.proofs.StepLaws.Table.{IsSeatOf, load_at}
+use Rattle.at_board.proofs.StepLaws.StoreRecordWord.{other_process}
+use Rattle.at_board.proofs.KnowledgeLaws.Kept.{IsKept-step, IsSeatOf}
+use Rattle.at_board.proofs.StepLaws.Table.{load_at}
 use Rattle.at_board.proofs.WordLaws.Addresses.{index_of-injective}
-use Rattle.at_board.specs.Knowledge.Agreement.{RequestInRange, SeesInRange, AgreesWithSeen}
 use Rattle.at_board.specs.Knowledge.Knows.{HasAsking, HasPart, IsAnnounced, Knows}
 use Rattle.at_board.specs.Knowledge.Parts.{part_asking, seen_as, with_asking, asking_on, own_part, part_at}
-use Rattle.at_board.specs.Knowledge.Seats.{HasCounts, IsSeat}
+use Rattle.at_board.specs.Knowledge.Seats.{HasCounts}
 use Rattle.at_board.specs.Rule.{Ruled}
 use Rattle.at_board.specs.Steps.LoadAnnounced.{LoadsAnnounced, all_of, with_row}
 use Rattle.at_board.specs.Steps.Plays.{loaded_announced}
 use Rattle.at_board.specs.Words.Addresses.{IsAddress, announced_of, word_at, index_of}
+use Rattle.at_board.specs.Words.Shown.{Shown}
 use Rattle.at_board.specs.declared.knowledge.Asking.{Asking}
 use Rattle.at_board.specs.declared.knowledge.Part.{Part}
 use Rattle.at_board.specs.declared.knowledge.SeenRequest.{SeenRequest}
@@ -50,69 +55,157 @@ All-all_of P a slot row each =
     subst (λ i. P (f i)) here (each k inside))
 
 -- what is known after a load of an announced word, when these are all publications
-abbrev pub announced_view : Knowledge → List Publication → ℕ → ℕ → List Request → ℕ → Knowledge
-announced_view v all a slot row n =
+abbrev pub knowledge_after_row : Knowledge → List Publication → ℕ → ℕ → List Request → ℕ → Knowledge
+knowledge_after_row v all a slot row n =
     with_asking (record v { seen = all; requests = v.requests ++ all_of a slot row }) a (with_row (asking_on (own_part v) a) slot n)
 
-HasAsking-row : (b : BookTerms) (words : List ℕ) (s : BoardState) (v : Knowledge) (a mine slot n : ℕ) (w : Asking) → n ≤ length (s.rows a slot)
-    → HasAsking b words s v a mine w → HasAsking b words s v a mine (with_row w slot n)
-HasAsking-row b words s v a mine slot n w within has = record {
-  announced = has.announced;
-  seen = has.seen;
-  sized = has.sized;
-  stored = has.stored;
-  heard = has.heard;
-  rows = All-push (λ row. row.count ≤ length (s.rows a row.slot)) w.rows (record { slot = slot; count = n }) has.rows within;
-  loaded = has.loaded;
-}
+-- what was loaded of announced words, by account and the slot of the process that has loaded them
+abbrev pub SeenRows : Type 0
+SeenRows = ℕ → ℕ → List SeenRow
 
-Knows-announced : (b : BookTerms) (words : List ℕ) (s : BoardState) (v : Knowledge) (a slot n : ℕ) → 0 < length v.parts → n ≤ length (s.rows a slot)
-    → Knows b words s v → Knows b words s (announced_view v s.published a slot (s.rows a slot) n)
-Knows-announced b words s v a slot n part within knows =
-    let row = s.rows a slot in
-    let u : Knowledge = announced_view v s.published a slot row n in
-    let q : Part = own_part v in
-    let more : SeesMore v u = λ x sees. Contains-append_left v.requests (all_of a slot row) x sees in
-    let own = knows.parts 0 part in
-    let p = v.first + 0 in
-    let after : Part = part_asking q a (with_row (asking_on q a) slot n) in
+abbrev pub seen_by : BoardState → SeenRows → Asked
+seen_by s f = record (asked_of s) { seen_rows = f }
+
+-- what the state has of loaded words once a seat has loaded the announced word of a slot: one more, if the seat's process owns the
+-- account
+pub record AreRowsAfter (b : BookTerms) (s : BoardState) (v : Knowledge) (a slot n : ℕ) (f : SeenRows) : Type 0 where
+  pub own : (mine : ℕ) → HasSlot b v.first a mine → f a mine ≡ s.seen_rows a mine ++ record { slot = slot; count = n } ∷ []
+  pub others : (p c other : ℕ) → HasSlot b p c other → (p ≡ v.first → c ≢ a) → f c other ≡ s.seen_rows c other
+  pub sound : Sound b s → Sound b (with_asked s (seen_by s f))
+  pub overtaking : Overtaking s → Overtaking (with_asked s (seen_by s f))
+
+-- its process owns the account, or it doesn't
+rows_after : (b : BookTerms) (s : BoardState) (v : Knowledge) (a slot n : ℕ) → length (s.rows a slot) ≡ n → (owner : Option ℕ)
+    → slot_in (account_of b a) v.first ≡ owner → (f : SeenRows) × AreRowsAfter b s v a slot n f
+rows_after b s v a slot n counted (Some mine) owns = (
+  at_slot s.seen_rows a mine more,
+  record {
+    own = λ m has.
+        let e : Some m ≡ Some mine = sym has.owner ∙ owns in
+        let same : mine ≡ m = cc in
+        subst (λ k. at_slot s.seen_rows a mine more a k ≡ s.seen_rows a k ++ record { slot = slot; count = n } ∷ []) same
+        (at_slot-here s.seen_rows a mine more);
+    others = λ p c other has apart. at_slot-other s.seen_rows a mine c other more (λ same. apart (owner_is p c other has same) same.0);
+    sound = Sound-row_loaded b s a mine slot n;
+    overtaking = λ law. Overtaking-row_loaded s a mine slot n law counted;
+  },
+)
+  where
+    more : List SeenRow
+    more = s.seen_rows a mine ++ record { slot = slot; count = n } ∷ []
+
+    owner_is : (p c other : ℕ) → HasSlot b p c other → (c ≡ a) × (other ≡ mine) → p ≡ v.first
+    owner_is p c other has same =
+        slot_in-injective (account_of b a) p v.first mine
+        (subst (λ k. slot_in (account_of b k) p ≡ Some other) same.0 has.owner ∙ ap (λ k. Some k) same.1) owns
+rows_after b s v a slot n counted None foreign = (
+  s.seen_rows,
+  record {
+    own = λ mine has. let none : None ≡ Some mine = sym foreign ∙ has.owner in absurd (cc none);
+    others = λ p c other has apart. refl;
+    sound = λ sound. sound;
+    overtaking = λ law. law;
+  },
+)
+
+-- what a process has on the account that it owns
+HasAsking-row : (b : BookTerms) (words : List ℕ) (s : BoardState) (v u : Knowledge) (a mine slot n : ℕ) (f : SeenRows) → AreRowsAfter b s v a slot n f
+    → HasSlot b v.first a mine → IsPrefix v.seen u.seen → SeesMore v u → HasAsking b words s v a mine (asking_on (own_part v) a)
+    → HasAsking b words (with_asked s (seen_by s f)) u a mine (with_row (asking_on (own_part v) a) slot n)
+HasAsking-row b words s v u a mine slot n f after slot_is longer more has =
+    let w : Asking = asking_on (own_part v) a in
+    let row : SeenRow = record { slot = slot; count = n } in
     record {
-      seen = IsPrefix-refl s.published;
-      requests = All-append (IsAnnounced s) v.requests (all_of a slot row) knows.requests
-          (All-all_of (IsAnnounced s) a slot row (λ i inside. (inside, refl)));
-      decisions = knows.decisions;
-      parts = parts_after (λ k t. HasPart b words s u (v.first + k) t) v.parts after part
-          (HasPart-asking b words words s s.rows v u p q a (with_row (asking_on q a) slot n) (Grows-refl s.rows) knows.seen more (sym own.published)
-          (λ j is. refl) (λ c other apart has. (refl, λ j is. refl))
-          (λ mine has. HasAsking-row b words s u a mine slot n (asking_on q a) within
-          (HasAsking-kept b words words s s.rows v u a mine (asking_on q a) (Grows-refl s.rows) knows.seen more (refl, λ j is. refl) (own.asking a mine has))) own)
-          (λ k apart inside.
-          let has = knows.parts k inside in
-          HasPart-kept b words words s s.rows v u (v.first + k) (part_at v k) (Grows-refl s.rows) knows.seen more (sym has.published)
-          (IsLeft-refl b words s.rows (v.first + k) (part_at v k)) has);
+      announced = has.announced;
+      seen = λ i within. more (seen_as a mine i (request_at w.announced i)) (has.seen i within);
+      sized = has.sized;
+      stored = has.stored;
+      heard = has.heard;
+      rows = ap (λ (rs : List SeenRow). rs ++ row ∷ []) has.rows ∙ sym (after.own mine slot_is);
+      loaded = loaded-Grows s (seen_by s f) w.loaded (Grows-refl s.rows) has.loaded;
     }
 
-pub LoadsAnnounced-Ruled : (b : BookTerms) (words : List ℕ) (views : List Knowledge) (id : ℕ) (v : Knowledge) (a slot : ℕ) → Ruled b words views → IsBegun b
-    → get_elem? views id ≡ some v → 0 < length v.parts → IsAddress b (announced_of a slot)
-    → (w : Knowledge) × Ruled b words (set views id w) × LoadsAnnounced b v w a slot (word_at b words (announced_of a slot))
-LoadsAnnounced-Ruled b words views id v a slot ruled begun found part within =
+-- what is left to the other processes
+left_of : (b : BookTerms) (words : List ℕ) (s : BoardState) (v : Knowledge) (a slot n : ℕ) (f : SeenRows) (p : ℕ) (q : Part) → p ≢ v.first
+    → AreRowsAfter b s v a slot n f → IsLeft b words words (asked_of s) (seen_by s f) p q
+left_of b words s v a slot n f p q apart after = record {
+  record_words = λ j is. refl;
+  asking = λ c other has. (
+    record { row = refl; heard = refl; seen_rows = after.others p c other has (λ e. absurd (apart e)) },
+    λ j is. refl,
+  );
+}
+
+Knows-announced : (b : BookTerms) (words : List ℕ) (s : BoardState) (v : Knowledge) (a slot n : ℕ) (f : SeenRows) → 0 < length v.parts
+    → AreRowsAfter b s v a slot n f → Knows b words s v → Knows b words (with_asked s (seen_by s f)) (knowledge_after_row v s.published a slot (s.rows a slot) n)
+Knows-announced b words s v a slot n f part after knows =
+    let t : Asked = seen_by s f in
+    let row = s.rows a slot in
+    let u : Knowledge = knowledge_after_row v s.published a slot row n in
+    let q : Part = own_part v in
+    let grows = Grows-refl s.rows in
+    let more : SeesMore v u = λ x sees. Contains-append_left v.requests (all_of a slot row) x sees in
+    let first : v.first + 0 ≡ v.first = omega arith in
+    let own : HasPart b words s v v.first q = subst (λ p. HasPart b words s v p q) first (knows.parts 0 part) in
+    let new : Asking = with_row (asking_on q a) slot n in
+    let own_after : HasPart b words (with_asked s t) u v.first (part_asking q a new) =
+    HasPart-asking b words words s t v u v.first q a new grows knows.seen more (sym own.published) (λ j is. refl)
+    (λ c other apart has. (record { row = refl; heard = refl; seen_rows = after.others v.first c other has (λ _. apart) }, λ j is. refl))
+    (λ mine has. HasAsking-row b words s v u a mine slot n f after has knows.seen more (own.asking a mine has)) own in
+    record {
+      seen = IsPrefix-refl s.published;
+      requests = All-append (IsAnnounced (with_asked s t)) v.requests (all_of a slot row) (all_announced s t v.requests grows knows.requests)
+          (All-all_of (IsAnnounced (with_asked s t)) a slot row (λ i inside. IsAnnounced-Grows s t (seen_as a slot i (request_at row i)) grows (inside, refl)));
+      decisions = knows.decisions;
+      parts = parts_after (λ k x. HasPart b words (with_asked s t) u (v.first + k) x) v.parts (part_asking q a new) part
+          (subst (λ p. HasPart b words (with_asked s t) u p (part_asking q a new)) (sym first) own_after)
+          (λ k apart inside.
+          let has = knows.parts k inside in
+          HasPart-kept b words words s t v u (v.first + k) (part_at v k) grows knows.seen more (sym has.published)
+          (left_of b words s v a slot n f (v.first + k) (part_at v k) (λ e. apart (omega arith)) after) has);
+    }
+
+-- the words stand for the state still
+Shown-seen_by : (b : BookTerms) (words : List ℕ) (s : BoardState) (f : SeenRows) → Shown b words s → Shown b words (with_asked s (seen_by s f))
+Shown-seen_by b words s f shown =
+    let shows = shown.records in
+    let requests = shown.requests in
+    record {
+      sized = shown.sized;
+      records = record { lengths = shows.lengths; room = shows.room; records = shows.records; blank = shows.blank };
+      requests = record { lengths = requests.lengths; requests = requests.requests; blank = requests.blank };
+      cells = shown.cells;
+    }
+
+pub LoadsAnnounced-Ruled : (b : BookTerms) (words : List ℕ) (knowledge : List Knowledge) (id : ℕ) (v : Knowledge) (a slot : ℕ) → Ruled b words knowledge → IsBegun b
+    → get_elem? knowledge id ≡ some v → 0 < length v.parts → IsAddress b (announced_of a slot)
+    → (w : Knowledge) × Ruled b words (set knowledge id w) × LoadsAnnounced b v w a slot (word_at b words (announced_of a slot))
+LoadsAnnounced-Ruled b words knowledge id v a slot ruled begun found part within =
     let s : BoardState = ruled.state in
     let row = s.rows a slot in
     let n = word_at b words (announced_of a slot) in
     let counted : length row ≡ n = sym (ruled.shown.requests.lengths a slot within) in
-    let w : Knowledge = announced_view v s.published a slot row n in
+    let loads = rows_after b s v a slot n counted (slot_in (account_of b a) v.first) refl in
+    let f : SeenRows = loads.0 in
+    let after = loads.1 in
+    let t : BoardState = with_asked s (seen_by s f) in
+    let w : Knowledge = knowledge_after_row v s.published a slot row n in
     let knows = ruled.knows id v found in
     let own : HasPart b words s v (v.first + 0) (own_part v) = knows.parts 0 part in
-    let mine = Knows-announced b words s v a slot n part (omega (arith, counted)) knows in
+    let sound = after.sound ruled.sound in
+    let mine = Knows-announced b words s v a slot n f part after knows in
     let first : v.first + 0 ≡ v.first = omega arith in (
       w,
       record {
-        state = s;
+        state = t;
         seat = ruled.seat;
-        shown = ruled.shown;
-        sound = ruled.sound;
-        knows = knows_after b words s views id w mine (λ j u apart there. ruled.knows j u there);
-        seated = AreSeated-set b ruled.seat views id v w ruled.seated found refl (length-set v.parts 0 (part_asking (own_part v) a (with_row (asking_on (own_part v) a) slot n)));
+        shown = Shown-seen_by b words s f ruled.shown;
+        sound = sound;
+        overtaking = after.overtaking ruled.overtaking;
+        knows = knows_after b words t knowledge id w mine (λ k p apart there. Knows-kept b words words s (seen_by s f) p (Grows-refl s.rows)
+            (λ m inside. left_of b words s v a slot n f (p.first + m) (part_at p m)
+            (other_process b ruled.seat knowledge id k m v p ruled.seated found part there inside apart) after) (ruled.knows k p there));
+        seated = AreSeated-set b ruled.seat knowledge id v w ruled.seated found refl (length-set v.parts 0 (part_asking (own_part v) a (with_row (asking_on (own_part v) a) slot n)));
       },
       record {
         row = row;
@@ -126,7 +219,7 @@ LoadsAnnounced-Ruled b words views id v a slot ruled begun found part within =
         more = knows.seen;
         own = ap (λ k. count_of k s.published) (sym first) ∙ sym own.published;
         history = IsHistory-Sound b s ruled.shown.records.room ruled.sound begun;
-        agrees = AgreesWithSeen-Knows b words s w ruled.sound mine;
+        agrees = AgreesWithSeen-Knows b words t w sound mine;
         same = refl;
       },
     )
@@ -146,6 +239,8 @@ module _ {S : Type 0} where
         subst (λ ws. Ruled b ws (set s.views id done.0)) (sym same) done.1,
         (
           refl,
+          IsKept-step b s.words s.views id me.0 done.0 found seat (ap (λ (t : Knowledge). t.book) done.2.same)
+              (ap (λ (t : Knowledge). length t.parts) done.2.same ∙ length-set me.0.parts 0 _) done.2.history done.1,
           λ c other known at.
               let known_here : IsAddress b (announced_of c other) = subst (λ (t : BookTerms). IsAddress t (announced_of c other)) book known in
               let at_here : i ≡ index_of b (announced_of c other) = subst (λ (t : BookTerms). i ≡ index_of t (announced_of c other)) book at in
@@ -171,32 +266,8 @@ module _ {S : Type 0} where
       → LoadsAnnounced b me.0 after.0 a slot n
   LoadsAnnounced-played b slots me after a slot n i book at within played =
       subst (λ (t : BookTerms). LoadsAnnounced t me.0 after.0 a slot n) book
-      (played.1 a slot (subst (λ (t : BookTerms). IsAddress t (announced_of a slot)) (sym book) within)
+      (played.2 a slot (subst (λ (t : BookTerms). IsAddress t (announced_of a slot)) (sym book) within)
       (subst (λ (t : BookTerms). i ≡ index_of t (announced_of a slot)) (sym book) at))
-
--- the board has words for the requests that are loaded
-requests_in_range-announced : (b : BookTerms) (v w : Knowledge) (a slot n : ℕ) → v.book ≡ b → IsAddress b (announced_of a slot)
-    → (told : LoadsAnnounced b v w a slot n) → SeesInRange v → All (RequestInRange v.book) (v.requests ++ all_of a slot told.row)
-requests_in_range-announced b v w a slot n book within told sees =
-    let none : Request = record { targets = []; since = 0 } in
-    let here : (i : ℕ) → i < length told.row → RequestInRange b (seen_as a slot i (request_at told.row i)) = λ i inside. record {
-      words = (within.0, within.1, omega (arith, inside, told.counted, told.room), omega arith);
-      targets = told.targets i none inside;
-      since = omega (arith, told.since i none inside, told.history.few);
-    } in
-    All-append (RequestInRange v.book) v.requests (all_of a slot told.row) sees.requests
-    (subst (λ (t : BookTerms). All (RequestInRange t) (all_of a slot told.row)) (sym book) (All-all_of (RequestInRange b) a slot told.row here))
-
--- what holds of a seat after the load
-pub IsSeat-announced : (b : BookTerms) (v w : Knowledge) (process k a slot n : ℕ) → v.book ≡ b → IsAddress b (announced_of a slot)
-    → IsSeat v process k → LoadsAnnounced b v w a slot n → IsSeat w process k
-IsSeat-announced b v w process k a slot n book within seat told =
-    subst (λ t. IsSeat t process k) (sym told.same)
-    (IsSeat-asking v w.seen (v.requests ++ all_of a slot told.row) process k a (with_row (asking_on (own_part v) a) slot n) seat
-    (subst (λ t. IsHistory t w.seen) (sym book) told.history) (told.own ∙ seat.published_is)
-    (SeesOwnRequests-asking v w.seen (v.requests ++ all_of a slot told.row) a (with_row (asking_on (own_part v) a) slot n) (omega (arith, seat.one_part)) refl
-    (λ x there. Contains-append_left v.requests (all_of a slot told.row) x there) seat.asked)
-    (requests_in_range-announced b v w a slot n book within told seat.in_range) (subst AgreesWithSeen told.same told.agrees))
 
 pub HasCounts-announced : (b : BookTerms) (v w : Knowledge) (a slot n : ℕ) (counts : List ℕ) → 0 < length v.parts
     → length (own_part v).asking ≡ length v.book.accounts → LoadsAnnounced b v w a slot n → HasCounts v counts → HasCounts w counts

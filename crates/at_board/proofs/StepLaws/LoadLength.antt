@@ -61,10 +61,10 @@ Knows-load b words s v p n part knows =
           (HasPart-load b words s u (v.first + 0) (own_part v) p n (moved 0 part)) (λ k apart within. moved k within);
     }
 
-pub LoadsLength-Ruled : (b : BookTerms) (words : List ℕ) (views : List Knowledge) (id : ℕ) (v : Knowledge) (p : ℕ) → Ruled b words views → IsBegun b
-    → get_elem? views id ≡ some v → 0 < length v.parts → p < b.processes
-    → (w : Knowledge) × Ruled b words (set views id w) × LoadsLength b v w p (word_at b words (length_of p))
-LoadsLength-Ruled b words views id v p ruled begun found part within =
+pub LoadsLength-Ruled : (b : BookTerms) (words : List ℕ) (knowledge : List Knowledge) (id : ℕ) (v : Knowledge) (p : ℕ) → Ruled b words knowledge → IsBegun b
+    → get_elem? knowledge id ≡ some v → 0 < length v.parts → p < b.processes
+    → (w : Knowledge) × Ruled b words (set knowledge id w) × LoadsLength b v w p (word_at b words (length_of p))
+LoadsLength-Ruled b words knowledge id v p ruled begun found part within =
     let s : BoardState = ruled.state in
     let n = word_at b words (length_of p) in
     let w : Knowledge = loaded v s.published p n in
@@ -78,8 +78,9 @@ LoadsLength-Ruled b words views id v p ruled begun found part within =
         seat = ruled.seat;
         shown = ruled.shown;
         sound = ruled.sound;
-        knows = knows_after b words s views id w mine (λ j u apart there. ruled.knows j u there);
-        seated = AreSeated-set b ruled.seat views id v w ruled.seated found refl (length-set v.parts 0 (with_load (own_part v) p n));
+        overtaking = ruled.overtaking;
+        knows = knows_after b words s knowledge id w mine (λ j u apart there. ruled.knows j u there);
+        seated = AreSeated-set b ruled.seat knowledge id v w ruled.seated found refl (length-set v.parts 0 (with_load (own_part v) p n));
       },
       record {
         lengths = own.lengths;

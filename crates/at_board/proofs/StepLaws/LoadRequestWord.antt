@@ -1,5 +1,5 @@
 -- A load of a request's word keeps the rule.
-use Rattle.std.proofs.Common.{◌≡◌, ℕ, ◌+◌, ◌<◌, List, [], ◌∷◌, ◌++◌, length, set, refl, sym, ap, subst, arith, inl, inr, get_or, All}
+use Rattle.std.proofs.Common.{◌∙◌, ◌≡◌, ℕ, ◌+◌, ◌<◌, List, [], ◌∷◌, ◌++◌, length, set, refl, sym, ap, subst, arith, inl, inr, get_or}
 use lib.ListN.{get_elem?}
 use mathlib.Core.Option.{some, none}
 use Rattle.std.proofs.lemmas.List.{length-set, set-get_or}
@@ -9,22 +9,23 @@ use Rattle.atomic_table.specs.Table.{Allows, Me, keeps, step}
 use Rattle.at_ledger.specs.Book.{BookTerms, IsBegun}
 use Rattle.at_history.proofs.Laws.Prefixes.{IsPrefix-refl}
 use Rattle.at_history.proofs.Laws.Histories.{IsHistory-Sound}
-use Rattle.at_history.proofs.Steps.Announce.{Grows-refl}
+use Rattle.at_history.proofs.Steps.Announce.{Grows-refl, SameAsked-refl, asked_of}
+use Rattle.at_history.specs.Histories.{IsHistory}
 use Rattle.at_history.specs.BoardState.{BoardState, request_at}
 use Rattle.at_history.specs.Sound.{Sound}
 use Rattle.at_history.specs.declared.request.Request.{Request}
 use Rattle.at_board.proofs.KnowledgeLaws.Agreement.{AgreesWithSeen-Knows}
 use Rattle.at_board.proofs.KnowledgeLaws.Asking.{HasAsking-kept, HasPart-asking, HasPart-kept, IsLeft-refl, SeesMore}
-use Rattle.at_board.proofs.KnowledgeLaws.Counts.{HasCounts-asking, IsSeat-asking}
-use Rattle.at_board.proofs.KnowledgeLaws.OwnRequests.{SeesOwnRequests-asking}
+use Rattle.at_board.proofs.KnowledgeLaws.Counts.{HasCounts-asking}
 use Rattle.at_board.proofs.KnowledgeLaws.Seats.{AreSeated-set, knows_after}
 use Rattle.at_board.proofs.StepLaws.LoadLength.{parts_after}
-use Rattle.at_board.proofs.StepLaws.Table.{IsSeatOf, load_at}
+use Rattle.at_board.proofs.KnowledgeLaws.Kept.{IsHistory-IsSeatOf, IsKept-step, IsSeatOf}
+use Rattle.at_board.proofs.StepLaws.Table.{load_at}
 use Rattle.at_board.proofs.WordLaws.Addresses.{index_of-injective}
-use Rattle.at_board.specs.Knowledge.Agreement.{DecisionInRange, RequestInRange, SeesInRange, AgreesWithSeen}
+use Rattle.at_board.specs.Knowledge.Agreement.{DecisionInRange, RequestInRange, SeesInRange}
 use Rattle.at_board.specs.Knowledge.Knows.{HasAsking, HasPart, IsAnnounced, IsDecided, Knows}
 use Rattle.at_board.specs.Knowledge.Parts.{part_asking, seen_as, with_asking, asking_on, own_part, part_at}
-use Rattle.at_board.specs.Knowledge.Seats.{HasCounts, IsSeat}
+use Rattle.at_board.specs.Knowledge.Seats.{HasCounts}
 use Rattle.at_board.specs.Rule.{Ruled}
 use Rattle.at_board.specs.Steps.LoadRequestWord.{KnowsOf, MayLoadRequest, LoadsRequestWord, with_loaded}
 use Rattle.at_board.specs.Steps.Plays.{loaded_request_word}
@@ -64,8 +65,8 @@ place-MayLoadRequest v a slot number j sees may =
         (All-contains (DecisionInRange v.book) v.decisions x sees.decisions seen).words)
 
 -- what is known after a load of a word of a request
-abbrev pub request_view : Knowledge → ℕ → SeenRequest → ℕ → Knowledge
-request_view v a x j = with_asking (record v { requests = v.requests ++ x ∷ [] }) a (with_loaded (asking_on (own_part v) a) x j)
+abbrev pub knowledge_after_request : Knowledge → ℕ → SeenRequest → ℕ → Knowledge
+knowledge_after_request v a x j = with_asking (record v { requests = v.requests ++ x ∷ [] }) a (with_loaded (asking_on (own_part v) a) x j)
 
 HasAsking-loaded : (b : BookTerms) (words : List ℕ) (s : BoardState) (v : Knowledge) (a slot : ℕ) (w : Asking) (x : SeenRequest) (j : ℕ) → IsAnnounced s x
     → HasAsking b words s v a slot w → HasAsking b words s v a slot (with_loaded w x j)
@@ -80,9 +81,9 @@ HasAsking-loaded b words s v a slot w x j is has = record {
 }
 
 Knows-request : (b : BookTerms) (words : List ℕ) (s : BoardState) (v : Knowledge) (a : ℕ) (x : SeenRequest) (j : ℕ) → 0 < length v.parts → IsAnnounced s x
-    → Knows b words s v → Knows b words s (request_view v a x j)
+    → Knows b words s v → Knows b words s (knowledge_after_request v a x j)
 Knows-request b words s v a x j part is knows =
-    let u : Knowledge = request_view v a x j in
+    let u : Knowledge = knowledge_after_request v a x j in
     let q : Part = own_part v in
     let more : SeesMore v u = λ y sees. Contains-append_left v.requests (x ∷ []) y sees in
     let own = knows.parts 0 part in
@@ -92,26 +93,26 @@ Knows-request b words s v a x j part is knows =
       requests = All-push (IsAnnounced s) v.requests x knows.requests is;
       decisions = knows.decisions;
       parts = parts_after (λ k t. HasPart b words s u (v.first + k) t) v.parts (part_asking q a (with_loaded (asking_on q a) x j)) part
-          (HasPart-asking b words words s s.rows v u p q a (with_loaded (asking_on q a) x j) (Grows-refl s.rows) (IsPrefix-refl v.seen) more own.seen
-          (λ j at. refl) (λ c other apart has. (refl, λ j at. refl))
+          (HasPart-asking b words words s (asked_of s) v u p q a (with_loaded (asking_on q a) x j) (Grows-refl s.rows) (IsPrefix-refl v.seen) more own.seen
+          (λ j at. refl) (λ c other apart has. (SameAsked-refl (asked_of s) c other, λ j at. refl))
           (λ slot has. HasAsking-loaded b words s u a slot (asking_on q a) x j is
-          (HasAsking-kept b words words s s.rows v u a slot (asking_on q a) (Grows-refl s.rows) (IsPrefix-refl v.seen) more (refl, λ j at. refl) (own.asking a slot has))) own)
+          (HasAsking-kept b words words s (asked_of s) v u a slot (asking_on q a) (Grows-refl s.rows) (IsPrefix-refl v.seen) more (SameAsked-refl (asked_of s) a slot, λ j at. refl) (own.asking a slot has))) own)
           (λ k apart inside.
           let has = knows.parts k inside in
-          HasPart-kept b words words s s.rows v u (v.first + k) (part_at v k) (Grows-refl s.rows) (IsPrefix-refl v.seen) more has.seen
-          (IsLeft-refl b words s.rows (v.first + k) (part_at v k)) has);
+          HasPart-kept b words words s (asked_of s) v u (v.first + k) (part_at v k) (Grows-refl s.rows) (IsPrefix-refl v.seen) more has.seen
+          (IsLeft-refl b words (asked_of s) (v.first + k) (part_at v k)) has);
     }
 
-pub LoadsRequestWord-Ruled : (b : BookTerms) (words : List ℕ) (views : List Knowledge) (id : ℕ) (v : Knowledge) (a slot number j : ℕ) → Ruled b words views → IsBegun b
-    → get_elem? views id ≡ some v → 0 < length v.parts → IsAddress b (request_word a slot number j) → MayLoadRequest v a slot number j
-    → (w : Knowledge) × Ruled b words (set views id w) × LoadsRequestWord b v w a slot number j (word_at b words (request_word a slot number j))
-LoadsRequestWord-Ruled b words views id v a slot number j ruled begun found part within may =
+pub LoadsRequestWord-Ruled : (b : BookTerms) (words : List ℕ) (knowledge : List Knowledge) (id : ℕ) (v : Knowledge) (a slot number j : ℕ) → Ruled b words knowledge → IsBegun b
+    → get_elem? knowledge id ≡ some v → 0 < length v.parts → IsAddress b (request_word a slot number j) → MayLoadRequest v a slot number j
+    → (w : Knowledge) × Ruled b words (set knowledge id w) × LoadsRequestWord b v w a slot number j (word_at b words (request_word a slot number j))
+LoadsRequestWord-Ruled b words knowledge id v a slot number j ruled begun found part within may =
     let s : BoardState = ruled.state in
     let knows = ruled.knows id v found in
     let below = announced-KnowsOf b words s v a slot number ruled.sound knows may.known in
     let r : Request = request_at (s.rows a slot) number in
     let x : SeenRequest = seen_as a slot number r in
-    let w : Knowledge = request_view v a x j in
+    let w : Knowledge = knowledge_after_request v a x j in
     let mine = Knows-request b words s v a x j part (below, refl) knows in (
       w,
       record {
@@ -119,8 +120,9 @@ LoadsRequestWord-Ruled b words views id v a slot number j ruled begun found part
         seat = ruled.seat;
         shown = ruled.shown;
         sound = ruled.sound;
-        knows = knows_after b words s views id w mine (λ k u apart there. ruled.knows k u there);
-        seated = AreSeated-set b ruled.seat views id v w ruled.seated found refl (length-set v.parts 0 (part_asking (own_part v) a (with_loaded (asking_on (own_part v) a) x j)));
+        overtaking = ruled.overtaking;
+        knows = knows_after b words s knowledge id w mine (λ k u apart there. ruled.knows k u there);
+        seated = AreSeated-set b ruled.seat knowledge id v w ruled.seated found refl (length-set v.parts 0 (part_asking (own_part v) a (with_loaded (asking_on (own_part v) a) x j)));
       },
       record {
         request = r;
@@ -150,6 +152,8 @@ module _ {S : Type 0} where
         subst (λ ws. Ruled b ws (set s.views id done.0)) (sym same) done.1,
         (
           refl,
+          IsKept-step b s.words s.views id me.0 done.0 found seat (ap (λ (t : Knowledge). t.book) done.2.same)
+              (ap (λ (t : Knowledge). length t.parts) done.2.same ∙ length-set me.0.parts 0 _) (subst (λ (t : Knowledge). IsHistory b t.seen) (sym done.2.same) (IsHistory-IsSeatOf b me.0 seat)) done.1,
           λ c other m k known other_may at.
               let y = request_word c other m k in
               let known_here : IsAddress b y = subst (λ (t : BookTerms). IsAddress t y) book known in
@@ -180,31 +184,8 @@ module _ {S : Type 0} where
       → loaded_request_word (step slots i 0 0 none) me n after → LoadsRequestWord b me.0 after.0 a slot number j n
   LoadsRequestWord-played b slots me after a slot number j n i book at within may played =
       subst (λ (t : BookTerms). LoadsRequestWord t me.0 after.0 a slot number j n) book
-      (played.1 a slot number j (subst (λ (t : BookTerms). IsAddress t (request_word a slot number j)) (sym book) within) may
+      (played.2 a slot number j (subst (λ (t : BookTerms). IsAddress t (request_word a slot number j)) (sym book) within) may
       (subst (λ (t : BookTerms). i ≡ index_of t (request_word a slot number j)) (sym book) at))
-
--- the board has words for the request that is loaded
-requests_in_range-request : (b : BookTerms) (v w : Knowledge) (a slot number j n : ℕ) → v.book ≡ b → IsAddress b (request_word a slot number j)
-    → (told : LoadsRequestWord b v w a slot number j n) → SeesInRange v → All (RequestInRange v.book) (v.requests ++ seen_as a slot number told.request ∷ [])
-requests_in_range-request b v w a slot number j n book within told sees =
-    let x : SeenRequest = seen_as a slot number told.request in
-    let here : RequestInRange b x = record {
-      words = (within.0, within.1, within.2, omega arith);
-      targets = told.targets;
-      since = told.since;
-    } in
-    All-push (RequestInRange v.book) v.requests x sees.requests (subst (λ (t : BookTerms). RequestInRange t x) (sym book) here)
-
--- what holds of a seat after the load
-pub IsSeat-request : (b : BookTerms) (v w : Knowledge) (process k a slot number j n : ℕ) → v.book ≡ b → IsAddress b (request_word a slot number j)
-    → IsSeat v process k → LoadsRequestWord b v w a slot number j n → IsSeat w process k
-IsSeat-request b v w process k a slot number j n book within seat told =
-    let x : SeenRequest = seen_as a slot number told.request in
-    subst (λ t. IsSeat t process k) (sym told.same)
-    (IsSeat-asking v v.seen (v.requests ++ x ∷ []) process k a (with_loaded (asking_on (own_part v) a) x j) seat seat.history seat.own
-    (SeesOwnRequests-asking v v.seen (v.requests ++ x ∷ []) a (with_loaded (asking_on (own_part v) a) x j) (omega (arith, seat.one_part)) refl
-    (λ y there. Contains-append_left v.requests (x ∷ []) y there) seat.asked)
-    (requests_in_range-request b v w a slot number j n book within told seat.in_range) (subst AgreesWithSeen told.same told.agrees))
 
 pub HasCounts-request : (b : BookTerms) (v w : Knowledge) (a slot number j n : ℕ) (counts : List ℕ) → 0 < length v.parts
     → length (own_part v).asking ≡ length v.book.accounts → LoadsRequestWord b v w a slot number j n → HasCounts v counts → HasCounts w counts

@@ -27,25 +27,26 @@ Holds-noted : (v : Knowledge) (p : ℕ) → Holds (noted v) p → ⊥
 Holds-noted v p holds = omega (arith, holds.0, holds.1)
 
 -- one more that knows, a note
-Ruled-noted : (b : BookTerms) (words : List ℕ) (views : List Knowledge) (id : ℕ) (v : Knowledge) → Ruled b words views → get_elem? views id ≡ some v
-    → Ruled b words (views ++ noted v ∷ [])
-Ruled-noted b words views id v ruled found = record {
+Ruled-noted : (b : BookTerms) (words : List ℕ) (knowledge : List Knowledge) (id : ℕ) (v : Knowledge) → Ruled b words knowledge → get_elem? knowledge id ≡ some v
+    → Ruled b words (knowledge ++ noted v ∷ [])
+Ruled-noted b words knowledge id v ruled found = record {
   state = ruled.state;
   seat = ruled.seat;
   shown = ruled.shown;
   sound = ruled.sound;
-  knows = λ j u there. elim (at_snoc views (noted v) u j there) as (λ _. Knows b words ruled.state u) [
+  overtaking = ruled.overtaking;
+  knows = λ j u there. elim (at_snoc knowledge (noted v) u j there) as (λ _. Knows b words ruled.state u) [
     | inl old ↦ ruled.knows j u old
     | inr new ↦ subst (Knows b words ruled.state) new (Knows-noted b words ruled.state v (ruled.knows id v found))
   ];
   seated = record {
-    only = λ j p u there holds. elim (at_snoc views (noted v) u j there) as (λ _. ruled.seat p ≡ j) [
+    only = λ j p u there holds. elim (at_snoc knowledge (noted v) u j there) as (λ _. ruled.seat p ≡ j) [
       | inl old ↦ ruled.seated.only j p u old holds
       | inr new ↦ absurd (Holds-noted v p (subst (λ t. Holds t p) (sym new) holds))
     ];
     some_seat = λ p within.
         let before = ruled.seated.some_seat p within in
-        (before.0, at_longer views (noted v ∷ []) (ruled.seat p) before.0 before.1, before.2);
+        (before.0, at_longer knowledge (noted v ∷ []) (ruled.seat p) before.0 before.1, before.2);
   };
 }
 

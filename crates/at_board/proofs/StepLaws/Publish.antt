@@ -15,15 +15,14 @@ use Rattle.at_history.proofs.Laws.RoundsDecided.{ArePublishedBy-HasRuns}
 use Rattle.at_history.proofs.Laws.Fronts.{IsFront-IsPrefix, prefix_of-IsPrefix}
 use Rattle.at_history.proofs.Laws.Prefixes.{IsPrefix-append, IsPrefix-refl, IsPrefix-trans, ArePublishedBy-IsPrefix, each_record}
 use Rattle.at_history.proofs.Laws.Rounds.{owns_of-IsPrefix}
-use Rattle.at_history.proofs.Laws.Rounds.{rounds-IsPrefix}
 use Rattle.at_history.proofs.Laws.HasRuns.{HasRuns-Sound}
 use Rattle.at_history.proofs.Laws.Histories.{IsHistory-Sound}
 use Rattle.at_history.proofs.Laws.Sums.{get_or-zeros}
+use Rattle.at_history.proofs.Steps.Overtaking.{Overtaking-pushed}
 use Rattle.at_history.proofs.Steps.Publish.{IsNextPublication, Sound-pushed, pushed}
 use Rattle.at_history.specs.BoardState.{BoardState, publication_at, request_at}
 use Rattle.at_history.specs.Fronts.{prefix_of}
 use Rattle.at_history.specs.HeldCells.{held_after}
-use Rattle.at_history.specs.Histories.{IsHistory}
 use Rattle.at_history.specs.Publications.{IsPrefix, count_of, no_publication, publications_of}
 use Rattle.at_history.specs.Sound.{Sound, IsDecidedSo, IsSoundEntry}
 use Rattle.at_history.specs.declared.publication.Entry.{Entry}
@@ -31,18 +30,16 @@ use Rattle.at_history.specs.declared.publication.Entry.TheVariants.{Own, Round}
 use Rattle.at_history.specs.declared.publication.Publication.{Publication}
 use Rattle.at_history.specs.declared.request.Request.{Request}
 use Rattle.at_board.proofs.KnowledgeLaws.Agreement.{AgreesWithSeen-Knows, seen_decision, seen_request}
-use Rattle.at_board.proofs.KnowledgeLaws.Kept.{IsSeat-with_part, same_requests}
 use Rattle.at_board.proofs.KnowledgeLaws.Seats.{AreSeated-set, knows_after}
 use Rattle.at_board.proofs.StepLaws.LoadLength.{parts_after}
 use Rattle.at_board.proofs.StepLaws.StoreRecordWord.{other_process}
 use Rattle.at_board.proofs.WordLaws.Same.{SameRecordWords, SameRequestWords}
-use Rattle.at_board.proofs.StepLaws.Table.{IsSeatOf, index_of-length_of}
+use Rattle.at_board.proofs.KnowledgeLaws.Kept.{IsKept-step, IsSeatOf}
+use Rattle.at_board.proofs.StepLaws.Table.{index_of-length_of}
 use Rattle.at_board.proofs.WordLaws.Addresses.{word_at-set_other, word_at-set_same}
 use Rattle.at_board.proofs.WordLaws.Packed.{IsForm-Sound, record_words-injective}
-use Rattle.at_board.specs.Knowledge.Agreement.{AgreesWithSeen}
 use Rattle.at_board.specs.Knowledge.Knows.{HasAsking, HasPart, Knows}
 use Rattle.at_board.specs.Knowledge.Parts.{with_part, asking_on, own_part, part_at}
-use Rattle.at_board.specs.Knowledge.Seats.{IsSeat}
 use Rattle.at_board.specs.Rule.{Ruled}
 use Rattle.at_board.specs.Steps.Plays.{published_record}
 use Rattle.at_board.specs.Steps.Publish.{MayPublish, Publishes, with_record, KnowsRound, MayEnter}
@@ -158,7 +155,7 @@ HasAsking-pushed b words after s k x v u a slot w longer requests same has = rec
   seen = λ i within. subst (λ (rs : List SeenRequest). Contains rs (record { account = a; slot = slot; number = i; request = request_at w.announced i })) (sym requests) (has.seen i within);
   sized = has.sized;
   stored = λ j is. same a slot (length w.announced) j is ∙ has.stored j is;
-  heard = omega (arith, has.heard, rounds-IsPrefix a v.seen u.seen longer);
+  heard = has.heard;
   rows = has.rows;
   loaded = has.loaded;
 }
@@ -258,10 +255,10 @@ IsNextPublication-MayPublish b words s v x sound knows own may =
           omega (arith, here, owns_of-IsPrefix v.first v.seen s.published knows.seen own, ap (λ p. owns_of p s.published) may.process);
     }
 
-pub Publishes-Ruled : (b : BookTerms) (words : List ℕ) (views : List Knowledge) (id : ℕ) (v : Knowledge) (x : Publication) → Ruled b words views → IsBegun b
-    → get_elem? views id ≡ some v → 0 < length v.parts → (own_part v).published < log_room_of b v.first → MayPublish b v x
-    → (w : Knowledge) × Ruled b (published_words b words v.first ((own_part v).published + 1)) (set views id w) × Publishes b v w x
-Publishes-Ruled b words views id v x ruled begun found part room may =
+pub Publishes-Ruled : (b : BookTerms) (words : List ℕ) (knowledge : List Knowledge) (id : ℕ) (v : Knowledge) (x : Publication) → Ruled b words knowledge → IsBegun b
+    → get_elem? knowledge id ≡ some v → 0 < length v.parts → (own_part v).published < log_room_of b v.first → MayPublish b v x
+    → (w : Knowledge) × Ruled b (published_words b words v.first ((own_part v).published + 1)) (set knowledge id w) × Publishes b v w x
+Publishes-Ruled b words knowledge id v x ruled begun found part room may =
     let s : BoardState = ruled.state in
     let p = v.first in
     let q : Part = own_part v in
@@ -293,7 +290,7 @@ Publishes-Ruled b words views id v x ruled begun found part room may =
           HasPart-pushed_other b words after s p x v w (v.first + k) (part_at v k) longer refl same_requests (same_records (v.first + k) (part_at v k).published)
           off may.process (count_of-push_other (v.first + k) s.published x (λ e. off (sym e ∙ may.process)) ∙ sym has.published) has);
     } in
-    let theirs : (j : ℕ) (u : Knowledge) → j ≢ id → get_elem? views j ≡ some u → Knows b after s' u =
+    let theirs : (j : ℕ) (u : Knowledge) → j ≢ id → get_elem? knowledge j ≡ some u → Knows b after s' u =
     λ j u apart there.
     let old = ruled.knows j u there in
     record {
@@ -302,7 +299,7 @@ Publishes-Ruled b words views id v x ruled begun found part room may =
       decisions = old.decisions;
       parts = λ k within. HasPart-pushed_other b words after s p x u u (u.first + k) (part_at u k) (IsPrefix-refl u.seen) refl same_requests
           (same_records (u.first + k) (part_at u k).published)
-          (other_process b ruled.seat views id j k v u ruled.seated found part there within apart) may.process (old.parts k within).seen (old.parts k within);
+          (other_process b ruled.seat knowledge id j k v u ruled.seated found part there within apart) may.process (old.parts k within).seen (old.parts k within);
     } in (
       w,
       record {
@@ -310,8 +307,9 @@ Publishes-Ruled b words views id v x ruled begun found part room may =
         seat = ruled.seat;
         shown = shown;
         sound = sound;
-        knows = knows_after b after s' views id w mine theirs;
-        seated = AreSeated-set b ruled.seat views id v w ruled.seated found refl (length-set v.parts 0 (with_record b q x));
+        overtaking = Overtaking-pushed b s p x ruled.sound ruled.overtaking;
+        knows = knows_after b after s' knowledge id w mine theirs;
+        seated = AreSeated-set b ruled.seat knowledge id v w ruled.seated found refl (length-set v.parts 0 (with_record b q x));
       },
       record {
         between = knows.seen.0;
@@ -325,17 +323,17 @@ Publishes-Ruled b words views id v x ruled begun found part room may =
     )
 
 -- what a seat may publish has the form of a record
-IsForm-MayPublish : (b : BookTerms) (words : List ℕ) (views : List Knowledge) (id : ℕ) (v : Knowledge) (x : Publication) → Ruled b words views → IsBegun b
-    → get_elem? views id ≡ some v → MayPublish b v x → IsForm x.entry
-IsForm-MayPublish b words views id v x ruled begun found may =
+IsForm-MayPublish : (b : BookTerms) (words : List ℕ) (knowledge : List Knowledge) (id : ℕ) (v : Knowledge) (x : Publication) → Ruled b words knowledge → IsBegun b
+    → get_elem? knowledge id ≡ some v → MayPublish b v x → IsForm x.entry
+IsForm-MayPublish b words knowledge id v x ruled begun found may =
     IsForm-Sound b ruled.state v.first (prefix_of x.view v.seen) x.entry begun ruled.sound
     (IsSoundEntry-MayEnter b words ruled.state v (prefix_of x.view v.seen) x.entry ruled.sound (ruled.knows id v found) may.entry)
 
 -- the stored words are those of one record
-same_record : (b : BookTerms) (words : List ℕ) (views : List Knowledge) (id : ℕ) (v : Knowledge) (x y : Publication) → Ruled b words views → IsBegun b
-    → get_elem? views id ≡ some v → MayPublish b v x → MayPublish b v y → x ≡ y
-same_record b words views id v x y ruled begun found one other =
-    record_words-injective x y (IsForm-MayPublish b words views id v x ruled begun found one) (IsForm-MayPublish b words views id v y ruled begun found other)
+same_record : (b : BookTerms) (words : List ℕ) (knowledge : List Knowledge) (id : ℕ) (v : Knowledge) (x y : Publication) → Ruled b words knowledge → IsBegun b
+    → get_elem? knowledge id ≡ some v → MayPublish b v x → MayPublish b v y → x ≡ y
+same_record b words knowledge id v x y ruled begun found one other =
+    record_words-injective x y (IsForm-MayPublish b words knowledge id v x ruled begun found one) (IsForm-MayPublish b words knowledge id v y ruled begun found other)
     (one.process ∙ sym other.process) (sym one.stored ∙ other.stored)
 
 module _ {S : Type 0} where
@@ -351,6 +349,8 @@ module _ {S : Type 0} where
         done.1,
         (
           refl,
+          IsKept-step b (published_words b s.words me.0.first ((own_part me.0).published + 1)) s.views id me.0 done.0 found seat (ap (λ (t : Knowledge). t.book) done.2.same)
+              (ap (λ (t : Knowledge). length t.parts) done.2.same ∙ length-set me.0.parts 0 _) done.2.history done.1,
           λ y other.
               let other_here : MayPublish b me.0 y = subst (λ (t : BookTerms). MayPublish t me.0 y) seat.book other in
               let same = same_record b s.words s.views id me.0 x y holds begun found may other_here in
@@ -372,17 +372,7 @@ module _ {S : Type 0} where
   pub Publishes-played : (b : BookTerms) (slots i : ℕ) (me after : Me S Knowledge) (x : Publication) (n : ℕ) → me.0.book ≡ b → MayPublish b me.0 x
       → published_record (step slots i n 0 none) me n after → Publishes b me.0 after.0 x
   Publishes-played b slots i me after x n book may played =
-      subst (λ (t : BookTerms). Publishes t me.0 after.0 x) book (played.1 x (subst (λ (t : BookTerms). MayPublish t me.0 x) (sym book) may))
-
--- the seat has one more record
-pub IsSeat-publish : (b : BookTerms) (v w : Knowledge) (process k : ℕ) (x : Publication) → v.book ≡ b → IsSeat v process k → Publishes b v w x
-    → IsSeat w process (k + 1)
-IsSeat-publish b v w process k x book seat told =
-    subst (λ t. IsSeat t process (k + 1)) (sym told.same)
-    (IsSeat-with_part v w.seen (with_record b (own_part v) x) process k seat refl
-    (length-replicate (record_width b) 0 ∙ sym (seat.words ∙ ap record_width book)) (k + 1) (ap (λ n. n + 1) seat.published_is)
-    (subst (λ t. IsHistory t w.seen) (sym book) told.history) (told.own ∙ ap (λ n. n + 1) seat.published_is)
-    (same_requests v w.seen (with_record b (own_part v) x) process k seat (λ a. refl)) (subst AgreesWithSeen told.same told.agrees))
+      subst (λ (t : BookTerms). Publishes t me.0 after.0 x) book (played.2 x (subst (λ (t : BookTerms). MayPublish t me.0 x) (sym book) may))
 
 -- the same at an equal book and knowledge
 pub MayPublish-same : (b c : BookTerms) (v u : Knowledge) (x : Publication) → c ≡ b → u ≡ v → MayPublish b v x → MayPublish c u x

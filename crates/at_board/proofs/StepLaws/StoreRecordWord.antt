@@ -8,7 +8,6 @@ use Rattle.std.specs.List.{Contains}
 use Rattle.at_ledger.specs.Book.{BookTerms, log_room_of}
 use Rattle.at_history.specs.BoardState.{BoardState, request_at}
 use Rattle.at_history.specs.Publications.{count_of}
-use Rattle.at_history.specs.Rounds.{rounds}
 use Rattle.at_board.proofs.KnowledgeLaws.Seats.{AreSeated-set, knows_after}
 use Rattle.at_board.proofs.StepLaws.LoadLength.{parts_after}
 use Rattle.at_board.proofs.WordLaws.Addresses.{word_at-set_other, word_at-set_same}
@@ -32,7 +31,7 @@ HasAsking-words b words after s v u a slot w seen requests same has = record {
   seen = λ i within. subst (λ (rs : List SeenRequest). Contains rs (record { account = a; slot = slot; number = i; request = request_at w.announced i })) (sym requests) (has.seen i within);
   sized = has.sized;
   stored = λ j is. same a slot (length w.announced) j is ∙ has.stored j is;
-  heard = omega (arith, has.heard, ap (rounds a) seen);
+  heard = has.heard;
   rows = has.rows;
   loaded = has.loaded;
 }
@@ -134,18 +133,18 @@ HasPart-store b words s v u p q j w sized here seen requests has =
     }
 
 -- the processes of other seats are others
-pub other_process : (b : BookTerms) (seat : ℕ → ℕ) (views : List Knowledge) (id other k : ℕ) (v u : Knowledge) → AreSeated b seat views
-    → get_elem? views id ≡ some v → 0 < length v.parts → get_elem? views other ≡ some u → k < length u.parts → other ≢ id
+pub other_process : (b : BookTerms) (seat : ℕ → ℕ) (knowledge : List Knowledge) (id other k : ℕ) (v u : Knowledge) → AreSeated b seat knowledge
+    → get_elem? knowledge id ≡ some v → 0 < length v.parts → get_elem? knowledge other ≡ some u → k < length u.parts → other ≢ id
     → u.first + k ≢ v.first
-other_process b seat views id other k v u seated found part there within apart = λ e.
+other_process b seat knowledge id other k v u seated found part there within apart = λ e.
     let mine = seated.only id v.first v found (omega arith, omega arith) in
     let theirs = seated.only other (u.first + k) u there (omega arith, omega arith) in
     apart (sym theirs ∙ (ap seat e ∙ mine))
 
-pub StoresWord-Ruled : (b : BookTerms) (words : List ℕ) (views : List Knowledge) (id : ℕ) (v : Knowledge) (j w : ℕ) → Ruled b words views
-    → get_elem? views id ≡ some v → 0 < length v.parts → (own_part v).published < log_room_of b v.first → j < record_width b
-    → Ruled b (set words (index_of b (record_word v.first (own_part v).published j)) w) (set views id (with_part v (with_word (own_part v) j w)))
-StoresWord-Ruled b words views id v j w ruled found part room inside =
+pub StoresWord-Ruled : (b : BookTerms) (words : List ℕ) (knowledge : List Knowledge) (id : ℕ) (v : Knowledge) (j w : ℕ) → Ruled b words knowledge
+    → get_elem? knowledge id ≡ some v → 0 < length v.parts → (own_part v).published < log_room_of b v.first → j < record_width b
+    → Ruled b (set words (index_of b (record_word v.first (own_part v).published j)) w) (set knowledge id (with_part v (with_word (own_part v) j w)))
+StoresWord-Ruled b words knowledge id v j w ruled found part room inside =
     let s : BoardState = ruled.state in
     let q : Part = own_part v in
     let knows = ruled.knows id v found in
@@ -174,9 +173,10 @@ StoresWord-Ruled b words views id v j w ruled found part room inside =
       seat = ruled.seat;
       shown = shown;
       sound = ruled.sound;
-      knows = knows_after b after s views id u mine (λ other t apart there. Knows-words b words after s t requests
+      overtaking = ruled.overtaking;
+      knows = knows_after b after s knowledge id u mine (λ other t apart there. Knows-words b words after s t requests
           (λ k within. store-others b words v.first q.published j w (t.first + k) (part_at t k).published here
-          (other_process b ruled.seat views id other k v t ruled.seated found part there within apart))
+          (other_process b ruled.seat knowledge id other k v t ruled.seated found part there within apart))
           (ruled.knows other t there));
-      seated = AreSeated-set b ruled.seat views id v u ruled.seated found refl (length-set v.parts 0 (with_word q j w));
+      seated = AreSeated-set b ruled.seat knowledge id v u ruled.seated found refl (length-set v.parts 0 (with_word q j w));
     }

@@ -9,26 +9,23 @@ use Rattle.atomic_table.specs.Table.{Allows, Me, keeps, step}
 use Rattle.at_ledger.specs.Book.{BookTerms, HasSlot}
 use Rattle.at_history.proofs.Laws.Prefixes.{IsPrefix-refl}
 use Rattle.at_history.proofs.Laws.Slots.{other_slot}
-use Rattle.at_history.proofs.Steps.Announce.{Grows-refl}
+use Rattle.at_history.proofs.Steps.Announce.{Grows-refl, SameAsked-refl, asked_of}
 use Rattle.at_history.specs.BoardState.{BoardState, request_at}
-use Rattle.at_history.specs.Rounds.{rounds}
-use Rattle.at_board.proofs.KnowledgeLaws.Agreement.{AgreesWithSeen-set}
 use Rattle.at_board.proofs.KnowledgeLaws.Asking.{HasPart-asking, HasPart-kept, IsLeft, Knows-kept, SameRequest, same_slot}
-use Rattle.at_board.proofs.KnowledgeLaws.Counts.{HasCounts-asking, IsSeat-asking}
-use Rattle.at_board.proofs.KnowledgeLaws.OwnRequests.{SeesOwnRequests-asking}
+use Rattle.at_board.proofs.KnowledgeLaws.Counts.{HasCounts-asking}
 use Rattle.at_board.proofs.KnowledgeLaws.Seats.{AreSeated-set, knows_after}
 use Rattle.at_board.proofs.StepLaws.LoadLength.{parts_after}
 use Rattle.at_board.proofs.StepLaws.StoreRecordWord.{other_process}
-use Rattle.at_board.proofs.StepLaws.Table.{IsSeatOf, store_at}
+use Rattle.at_board.proofs.KnowledgeLaws.Kept.{IsHistory-IsSeatOf, IsKept-step, IsSeatOf}
+use Rattle.at_board.proofs.StepLaws.Table.{store_at}
 use Rattle.at_board.proofs.WordLaws.Addresses.{word_at-set_other, word_at-set_same, index_of-injective}
 use Rattle.at_board.proofs.WordLaws.Same.{SameRecordWords}
-use Rattle.at_board.specs.Knowledge.Agreement.{AgreesWithSeen}
 use Rattle.at_board.specs.Knowledge.Knows.{HasAsking, HasPart, Knows}
 use Rattle.at_board.specs.Knowledge.Parts.{part_asking, seen_as, with_asking, asking_on, own_part, part_at}
-use Rattle.at_board.specs.Knowledge.Seats.{HasCounts, IsSeat}
+use Rattle.at_board.specs.Knowledge.Seats.{HasCounts}
 use Rattle.at_board.specs.Rule.{Ruled}
 use Rattle.at_board.specs.Steps.Plays.{stored_request_word}
-use Rattle.at_board.specs.Steps.StoreRequestWord.{MayAsk, with_request_word, StoresRequestWord}
+use Rattle.at_board.specs.Steps.StoreRequestWord.{MayStoreRequest, with_request_word, StoresRequestWord}
 use Rattle.at_board.specs.Words.Addresses.{IsAddress, Address, announced_of, cell_of, length_of, index_of, record_word, request_word, word_at, word_count}
 use Rattle.at_board.specs.Words.Shown.{Shown}
 use Rattle.at_board.specs.declared.knowledge.Asking.{Asking}
@@ -103,16 +100,16 @@ HasAsking-request_stored b words s v u a slot q j w sized here seen requests has
             word_at-set_other b words x (request_word a slot n k) w here is (λ e. let same : k ≡ j = cc in apart same)
             ∙ (has.stored k is ∙ sym (get_or-set_other q.stored j k w 0 apart))
       ];
-      heard = omega (arith, has.heard, ap (rounds a) seen);
+      heard = has.heard;
       rows = has.rows;
       loaded = has.loaded;
     }
 
-pub StoresRequestWord-Ruled : (b : BookTerms) (words : List ℕ) (views : List Knowledge) (id : ℕ) (v : Knowledge) (a slot j w : ℕ) → Ruled b words views
-    → get_elem? views id ≡ some v → 0 < length v.parts → MayAsk b v a slot → j < 6
+pub StoresRequestWord-Ruled : (b : BookTerms) (words : List ℕ) (knowledge : List Knowledge) (id : ℕ) (v : Knowledge) (a slot j w : ℕ) → Ruled b words knowledge
+    → get_elem? knowledge id ≡ some v → 0 < length v.parts → MayStoreRequest b v a slot → j < 6
     → Ruled b (request_stored b words a slot (length (asking_on (own_part v) a).announced) j w)
-    (set views id (with_asking v a (with_request_word (asking_on (own_part v) a) j w)))
-StoresRequestWord-Ruled b words views id v a slot j w ruled found part may inside =
+    (set knowledge id (with_asking v a (with_request_word (asking_on (own_part v) a) j w)))
+StoresRequestWord-Ruled b words knowledge id v a slot j w ruled found part may inside =
     let s : BoardState = ruled.state in
     let q : Part = own_part v in
     let n = length (asking_on q a).announced in
@@ -127,13 +124,13 @@ StoresRequestWord-Ruled b words views id v a slot j w ruled found part may insid
     let asking = own.asking a slot mine in
     let shown = Shown-request_stored b words s a slot n j w here (ap length asking.announced) ruled.shown in
     let records : (p k : ℕ) → SameRecordWords b words after p k = λ p k. request_stored-records b words a slot n j w p k here in
-    let left : (p : ℕ) (t : Part) → p ≢ v.first → IsLeft b words after s.rows s.rows p t = λ p t apart. record {
+    let left : (p : ℕ) (t : Part) → p ≢ v.first → IsLeft b words after (asked_of s) (asked_of s) p t = λ p t apart. record {
       record_words = records p t.published;
-      asking = λ c other has. (refl, request_stored-others b words a slot n j w c other (length (asking_on t c).announced) here (other_slot b v.first p a c slot other mine has apart));
+      asking = λ c other has. (SameAsked-refl (asked_of s) c other, request_stored-others b words a slot n j w c other (length (asking_on t c).announced) here (other_slot b v.first p a c slot other mine has apart));
     } in
     let own_after : HasPart b after s u v.first (part_asking q a new) =
-    HasPart-asking b words after s s.rows v u v.first q a new (Grows-refl s.rows) (IsPrefix-refl v.seen) (λ x sees. sees) own.seen (records v.first q.published)
-    (λ c other apart has. (refl, request_stored-others b words a slot n j w c other (length (asking_on q c).announced) here (λ same. apart same.0)))
+    HasPart-asking b words after s (asked_of s) v u v.first q a new (Grows-refl s.rows) (IsPrefix-refl v.seen) (λ x sees. sees) own.seen (records v.first q.published)
+    (λ c other apart has. (SameAsked-refl (asked_of s) c other, request_stored-others b words a slot n j w c other (length (asking_on q c).announced) here (λ same. apart same.0)))
     (λ other has. subst (λ t. HasAsking b after s u a t new) (same_slot b v.first a slot other mine has)
     (HasAsking-request_stored b words s v u a slot (asking_on q a) j w ruled.shown.sized here refl refl asking)) own in
     let knows_own : Knows b after s u = record {
@@ -142,7 +139,7 @@ StoresRequestWord-Ruled b words views id v a slot j w ruled found part may insid
       decisions = knows.decisions;
       parts = parts_after (λ k t. HasPart b after s u (v.first + k) t) v.parts (part_asking q a new) part
           (subst (λ t. HasPart b after s u t (part_asking q a new)) (sym first) own_after)
-          (λ k apart within. HasPart-kept b words after s s.rows v u (v.first + k) (part_at v k) (Grows-refl s.rows) (IsPrefix-refl v.seen) (λ x sees. sees)
+          (λ k apart within. HasPart-kept b words after s (asked_of s) v u (v.first + k) (part_at v k) (Grows-refl s.rows) (IsPrefix-refl v.seen) (λ x sees. sees)
           (knows.parts k within).seen (left (v.first + k) (part_at v k) (λ e. apart (omega arith))) (knows.parts k within));
     } in
     record {
@@ -150,10 +147,11 @@ StoresRequestWord-Ruled b words views id v a slot j w ruled found part may insid
       seat = ruled.seat;
       shown = shown;
       sound = ruled.sound;
-      knows = knows_after b after s views id u knows_own (λ k t apart there. Knows-kept b words after s s.rows t (Grows-refl s.rows)
-          (λ m within. left (t.first + m) (part_at t m) (other_process b ruled.seat views id k m v t ruled.seated found part there within apart))
+      overtaking = ruled.overtaking;
+      knows = knows_after b after s knowledge id u knows_own (λ k t apart there. Knows-kept b words after s (asked_of s) t (Grows-refl s.rows)
+          (λ m within. left (t.first + m) (part_at t m) (other_process b ruled.seat knowledge id k m v t ruled.seated found part there within apart))
           (ruled.knows k t there));
-      seated = AreSeated-set b ruled.seat views id v u ruled.seated found refl (length-set v.parts 0 (part_asking q a new));
+      seated = AreSeated-set b ruled.seat knowledge id v u ruled.seated found refl (length-set v.parts 0 (part_asking q a new));
     }
 
 -- how many requests the seat's process has announced on an account
@@ -161,14 +159,14 @@ abbrev pub next_number : Knowledge → ℕ → ℕ
 next_number v a = length (asking_on (own_part v) a).announced
 
 -- the seat's process may ask by the slot that it has
-pub MayAsk-slot : (b : BookTerms) (v : Knowledge) (a slot other : ℕ) → MayAsk b v a slot → HasSlot b v.first a other → MayAsk b v a other
-MayAsk-slot b v a slot other may has = subst (MayAsk b v a) (same_slot b v.first a slot other may.slot_in has) may
+pub MayStoreRequest-slot : (b : BookTerms) (v : Knowledge) (a slot other : ℕ) → MayStoreRequest b v a slot → HasSlot b v.first a other → MayStoreRequest b v a other
+MayStoreRequest-slot b v a slot other may has = subst (MayStoreRequest b v a) (same_slot b v.first a slot other may.slot_in has) may
 
-pub place-MayAsk : (b : BookTerms) (v : Knowledge) (a slot j : ℕ) → MayAsk b v a slot → j < 6 → IsAddress b (request_word a slot (next_number v a) j)
-place-MayAsk b v a slot j may inside = (may.slot_in.account_in, may.slot_in.within, may.room, inside)
+pub place-MayStoreRequest : (b : BookTerms) (v : Knowledge) (a slot j : ℕ) → MayStoreRequest b v a slot → j < 6 → IsAddress b (request_word a slot (next_number v a) j)
+place-MayStoreRequest b v a slot j may inside = (may.slot_in.account_in, may.slot_in.within, may.room, inside)
 
 module _ {S : Type 0} where
-  stores_request_word : (b : BookTerms) (slots id : ℕ) (me : Me S Knowledge) (a slot j w : ℕ) → IsSeatOf b me.0 → MayAsk b me.0 a slot → j < 6
+  stores_request_word : (b : BookTerms) (slots id : ℕ) (me : Me S Knowledge) (a slot j w : ℕ) → IsSeatOf b me.0 → MayStoreRequest b me.0 a slot → j < 6
       → let i = index_of b (request_word a slot (next_number me.0 a) j) in
       Allows (λ s. Ruled b s.words s.views) slots id me i (λ _. w) (λ _. stored_request_word (step slots i w 0 none) me w)
   stores_request_word b slots id me a slot j w seat may inside s holds homes found fits =
@@ -183,11 +181,11 @@ module _ {S : Type 0} where
         done,
         (
           refl,
-          AgreesWithSeen-set b (set s.words (index_of b x) w) s.views id v after found done,
+          IsKept-step b (set s.words (index_of b x) w) s.views id v after found seat refl (length-set v.parts 0 _) (IsHistory-IsSeatOf b v seat) done,
           λ c other k other_may within at.
               let y = request_word c other (next_number v c) k in
-              let there : IsAddress b y = place-MayAsk b v c other k (subst (λ (t : BookTerms). MayAsk t v c other) book other_may) within in
-              let e = index_of-injective b x y (place-MayAsk b v a slot j may inside) there (subst (λ (t : BookTerms). index_of b x ≡ index_of t y) book at) in
+              let there : IsAddress b y = place-MayStoreRequest b v c other k (subst (λ (t : BookTerms). MayStoreRequest t v c other) book other_may) within in
+              let e = index_of-injective b x y (place-MayStoreRequest b v a slot j may inside) there (subst (λ (t : BookTerms). index_of b x ≡ index_of t y) book at) in
               let account : a ≡ c = cc in
               let word : j ≡ k = cc in
               λ t. with_asking v (account t) (with_request_word (asking_on (own_part v) (account t)) (word t) w),
@@ -195,7 +193,7 @@ module _ {S : Type 0} where
       )
 
   pub stores_request_word_at : (key b : BookTerms) (slots id : ℕ) (me : Me S Knowledge) (a slot j w i : ℕ) → key ≡ b
-      → i ≡ index_of b (request_word a slot (next_number me.0 a) j) → IsSeatOf b me.0 → MayAsk b me.0 a slot → j < 6
+      → i ≡ index_of b (request_word a slot (next_number me.0 a) j) → IsSeatOf b me.0 → MayStoreRequest b me.0 a slot → j < 6
       → Allows (λ s. Ruled key s.words s.views) slots id me i (λ _. w) (λ _. stored_request_word (step slots i w 0 none) me w)
   stores_request_word_at key b slots id me a slot j w i is at seat may inside =
       store_at key b slots id me i (index_of b (request_word a slot (next_number me.0 a) j)) w (λ k. stored_request_word (step slots k w 0 none) me w) is at
@@ -203,19 +201,11 @@ module _ {S : Type 0} where
 
   -- what the store has told
   pub StoresRequestWord-played : (b : BookTerms) (slots : ℕ) (me after : Me S Knowledge) (a slot j w i : ℕ) → me.0.book ≡ b
-      → i ≡ index_of b (request_word a slot (next_number me.0 a) j) → MayAsk b me.0 a slot → j < 6
+      → i ≡ index_of b (request_word a slot (next_number me.0 a) j) → MayStoreRequest b me.0 a slot → j < 6
       → stored_request_word (step slots i w 0 none) me w after → StoresRequestWord me.0 after.0 a j w
   StoresRequestWord-played b slots me after a slot j w i book at may inside played =
-      played.2 a slot j (subst (λ (t : BookTerms). MayAsk t me.0 a slot) (sym book) may) inside
+      played.2 a slot j (subst (λ (t : BookTerms). MayStoreRequest t me.0 a slot) (sym book) may) inside
       (subst (λ (t : BookTerms). i ≡ index_of t (request_word a slot (next_number me.0 a) j)) (sym book) at)
-
--- what holds of a seat after the store
-pub IsSeat-request_stored : (v w : Knowledge) (process k a j n : ℕ) → IsSeat v process k → StoresRequestWord v w a j n → AgreesWithSeen w → IsSeat w process k
-IsSeat-request_stored v w process k a j n seat told agrees =
-    subst (λ t. IsSeat t process k) (sym told)
-    (IsSeat-asking v v.seen v.requests process k a (with_request_word (asking_on (own_part v) a) j n) seat seat.history seat.own
-    (SeesOwnRequests-asking v v.seen v.requests a (with_request_word (asking_on (own_part v) a) j n) (omega (arith, seat.one_part)) refl (λ x there. there) seat.asked)
-    seat.in_range.requests (subst AgreesWithSeen told agrees))
 
 pub HasCounts-request_stored : (v w : Knowledge) (a j n : ℕ) (counts : List ℕ) → 0 < length v.parts
     → length (own_part v).asking ≡ length v.book.accounts → StoresRequestWord v w a j n → HasCounts v counts → HasCounts w counts

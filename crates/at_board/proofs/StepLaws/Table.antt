@@ -1,15 +1,14 @@
 -- What the steps of a table ask of the rule.
-use Rattle.std.proofs.Common.{◌≡◌, ℕ, sym, subst, ◌+◌, ◌<◌, [], length, get_or, set, refl, ap, arith}
+use Rattle.std.proofs.Common.{◌∙◌, ◌≡◌, ℕ, sym, subst, ◌+◌, ◌<◌, [], length, get_or, set, refl, ap, arith}
 use mathlib.Core.Option.{none}
-use Rattle.std.proofs.lemmas.List.{set-get_or}
+use Rattle.std.proofs.lemmas.List.{length-set, set-get_or}
 use Rattle.atomic_table.specs.Table.{Allows, Me, keeps, step}
 use Rattle.at_ledger.specs.Book.{BookTerms, IsBegun, log_room_of}
-use Rattle.at_board.proofs.KnowledgeLaws.Agreement.{AgreesWithSeen-set}
+use Rattle.at_board.proofs.KnowledgeLaws.Kept.{IsHistory-IsSeatOf, IsKept-step, IsSeatOf}
 use Rattle.at_board.proofs.StepLaws.LoadLength.{LoadsLength-Ruled}
 use Rattle.at_board.proofs.StepLaws.StoreRecordWord.{StoresWord-Ruled}
 use Rattle.at_board.proofs.WordLaws.Addresses.{index_of-injective}
 use Rattle.at_board.specs.Knowledge.Parts.{with_part, own_part}
-use Rattle.at_board.specs.Knowledge.Seats.{IsSeat}
 use Rattle.at_board.specs.Rule.{Ruled}
 use Rattle.at_board.specs.Steps.LoadLength.{LoadsLength}
 use Rattle.at_board.specs.Steps.Plays.{loaded_length, stored_word}
@@ -32,12 +31,6 @@ module _ {S : Type 0} where
       subst (λ (k : BookTerms). Allows (λ s. Ruled k s.words s.views) slots id me i (λ _. w) (λ _. then i)) (sym is)
       (subst (λ (k : ℕ). Allows (λ s. Ruled b s.words s.views) slots id me k (λ _. w) (λ _. then k)) (sym at) allowed)
 
--- what a seat of the board is: it stands for one process of the book
-pub record IsSeatOf (b : BookTerms) (v : Knowledge) : Type 0 where
-  pub book : v.book ≡ b
-  pub one_part : length v.parts ≡ 1
-  pub known : v.first < b.processes
-
 -- one process has the length of an index
 same_length : (b : BookTerms) (p q : ℕ) → p < b.processes → q < b.processes → index_of b (length_of p) ≡ index_of b (length_of q) → p ≡ q
 same_length b p q one other same =
@@ -58,6 +51,8 @@ module _ {S : Type 0} where
         subst (λ ws. Ruled b ws (set s.views id done.0)) (sym same) done.1,
         (
           refl,
+          IsKept-step b s.words s.views id me.0 done.0 found seat (ap (λ (t : Knowledge). t.book) done.2.same)
+              (ap (λ (t : Knowledge). length t.parts) done.2.same ∙ length-set me.0.parts 0 _) done.2.history done.1,
           λ q known at.
               let known_here : q < b.processes = subst (λ (t : BookTerms). q < t.processes) book known in
               let at_here : i ≡ index_of b (length_of q) = subst (λ (t : BookTerms). i ≡ index_of t (length_of q)) book at in
@@ -83,7 +78,8 @@ module _ {S : Type 0} where
         done,
         (
           refl,
-          AgreesWithSeen-set b (set s.words i w) s.views id v after found done,
+          IsKept-step b (set s.words i w) s.views id v after found seat refl (length-set v.parts 0 (with_word (own_part v) j w))
+              (IsHistory-IsSeatOf b v seat) done,
           λ k inside room at.
               let here : IsAddress b (record_word v.first c j) = (seat.known, may.room, may.word) in
               let there : IsAddress b (record_word v.first c k) =
@@ -115,7 +111,7 @@ module _ {S : Type 0} where
       → loaded_length (step slots p 0 0 none) me n after → LoadsLength b me.0 after.0 p n
   LoadsLength-played b slots me after p n book known played =
       subst (λ (t : BookTerms). LoadsLength t me.0 after.0 p n) book
-      (played.1 p (subst (λ (t : BookTerms). p < t.processes) (sym book) known) (sym (index_of-length_of me.0.book p)))
+      (played.2 p (subst (λ (t : BookTerms). p < t.processes) (sym book) known) (sym (index_of-length_of me.0.book p)))
 
 module _ {S : Type 0} where
   pub stores_word_at : (key b : BookTerms) (slots id : ℕ) (me : Me S Knowledge) (j w i : ℕ) → key ≡ b
@@ -134,11 +130,3 @@ module _ {S : Type 0} where
       played.2 j (subst (λ (t : BookTerms). j < record_width t) (sym book) may.word)
       (subst (λ (t : BookTerms). (own_part me.0).published < log_room_of t me.0.first) (sym book) may.room)
       (subst (λ (t : BookTerms). i ≡ index_of t (record_word me.0.first (own_part me.0).published j)) (sym book) at)
-
--- the seat is of the board, where its book is the board's
-pub IsSeatOf-IsSeat : (b : BookTerms) (v : Knowledge) (process published : ℕ) → v.book ≡ b → IsSeat v process published → IsSeatOf b v
-IsSeatOf-IsSeat b v process published book seat = record {
-  book = book;
-  one_part = seat.one_part;
-  known = subst (λ (t : BookTerms). v.first < t.processes) book seat.known;
-}

@@ -1,9 +1,8 @@
 -- That what a seat knows is so on the board.
-use Rattle.std.specs.Prelude.{◌≡◌, ℕ, ◌+◌, ◌<◌, ◌≤◌, List, length, slice_index, All}
+use Rattle.std.specs.Prelude.{◌≡◌, ℕ, ◌+◌, ◌<◌, List, length, slice_index, All}
 use Rattle.at_ledger.specs.Book.{BookTerms, HasSlot}
 use Rattle.at_history.specs.BoardState.{BoardState, decision_at, request_at}
 use Rattle.at_history.specs.Publications.{IsPrefix, count_of}
-use Rattle.at_history.specs.Rounds.{rounds}
 use Rattle.at_history.specs.Sound.{Sound}
 use Rattle.at_board.specs.Knowledge.Parts.{asking_on, part_at, SeesRequest}
 use Rattle.at_board.specs.Words.Addresses.{IsAddress, record_width, record_word, request_word, word_at}
@@ -21,15 +20,16 @@ IsAnnounced s x = (x.number < length (s.rows x.account x.slot)) × (request_at (
 abbrev pub IsDecided : BoardState → SeenDecision → Type 0
 IsDecided s x = (x.round < length (s.cells x.account)) × (decision_at (s.cells x.account) x.round ≡ x.decision)
 
--- what a process has on an account that it shares: its row, which its seat has seen, and the words of its next request
+-- what a process has on an account that it shares: its row, which its seat has seen, the words of its next request, and what it
+-- has heard and loaded for its last one
 pub record HasAsking (b : BookTerms) (words : List ℕ) (s : BoardState) (v : Knowledge) (a slot : ℕ) (w : Asking) : Type 0 where
   pub announced : w.announced ≡ s.rows a slot
   pub seen : (i : ℕ) → i < length w.announced → SeesRequest v a slot i (request_at w.announced i)
   pub sized : length w.stored ≡ REQUEST_WORDS
   pub stored : (j : ℕ) → IsAddress b (request_word a slot (length w.announced) j) →
       word_at b words (request_word a slot (length w.announced) j) ≡ slice_index w.stored j
-  pub heard : w.heard ≤ rounds a v.seen
-  pub rows : All (λ row. row.count ≤ length (s.rows a row.slot)) w.rows
+  pub heard : w.heard ≡ s.heard a slot
+  pub rows : w.rows ≡ s.seen_rows a slot
   pub loaded : All (λ l. IsAnnounced s l.request) w.loaded
 
 -- the part of a process: all that it published, which its seat has seen, the words of its next record, and the cell that it holds

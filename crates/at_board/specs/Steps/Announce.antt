@@ -9,19 +9,19 @@ use Rattle.at_history.specs.declared.request.Request.{Request}
 use Rattle.at_board.specs.Knowledge.Agreement.{AgreesWithSeen}
 use Rattle.at_board.specs.Knowledge.Knows.{SeesAll}
 use Rattle.at_board.specs.Knowledge.Parts.{asking_on, own_part, with_asking, seen_as}
-use Rattle.at_board.specs.Steps.StoreRequestWord.{MayAsk}
+use Rattle.at_board.specs.Steps.StoreRequestWord.{MayStoreRequest}
 use Rattle.at_board.specs.Words.Packed.{request_words}
 use Rattle.at_board.specs.declared.knowledge.Asking.{Asking}
 use Rattle.at_board.specs.declared.knowledge.Knowledge.{Knowledge}
 use Rattle.at_board.specs.declared.words.TheConstants.{REQUEST_WORDS}
 
--- one more request is announced, nothing of the next is stored, and nothing was loaded since then
+-- one more request is announced and so many rounds were heard; nothing of the next is stored, and nothing was loaded since then
 abbrev pub with_request : Asking → Request → ℕ → Asking
 with_request w r heard =
     record w { announced = w.announced ++ r ∷ []; stored = replicate REQUEST_WORDS 0; heard = heard; rows = []; loaded = [] }
 
 -- an announcing step: some sound state has published just what the seat has then seen, and its row of the seat's process has the
--- request at the end
+-- request at the end. What was heard are the rounds of the account in what the seat has then seen
 pub record Announces (b : BookTerms) (before after : Knowledge) (a slot : ℕ) (r : Request) : Type 0 where
   pub more : IsPrefix before.seen after.seen
   pub all : SeesAll b after
@@ -35,7 +35,7 @@ pub record Announces (b : BookTerms) (before after : Knowledge) (a slot : ℕ) (
 
 -- the seat may announce this request: its words are stored, and it keeps the laws of requests at the front of its `since`
 pub record MayAnnounce (b : BookTerms) (v : Knowledge) (a slot : ℕ) (r : Request) : Type 0 where
-  pub asks : MayAsk b v a slot
+  pub asks : MayStoreRequest b v a slot
   pub stored : (asking_on (own_part v) a).stored ≡ request_words r
   pub targets : AreTargets b r.targets
   pub since : r.since ≤ length v.seen

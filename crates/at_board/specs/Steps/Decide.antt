@@ -4,20 +4,23 @@ use Rattle.at_base.specs.Decision.{InRange, word_of}
 use Rattle.at_base.specs.declared.decision.Decision.{Decision}
 use Rattle.atomic_table.specs.Table.{Me, Step}
 use Rattle.at_ledger.specs.Account.{slots_of}
-use Rattle.at_ledger.specs.Book.{BookTerms, account_of, HasSlot}
+use Rattle.at_ledger.specs.Book.{BookTerms, account_of}
 use Rattle.at_ledger.specs.Call.{amount_of}
 use Rattle.at_history.specs.Balances.{IsCovered}
 use Rattle.at_history.specs.BoardState.{BoardState, decision_at}
 use Rattle.at_history.specs.Histories.{IsHistory}
+use Rattle.at_history.specs.Overtaking.{IsLastRequest}
 use Rattle.at_history.specs.Publications.{IsPrefix, count_of}
-use Rattle.at_history.specs.Rounds.{rounds, is_settled}
+use Rattle.at_history.specs.Rounds.{rounds, named, is_settled}
 use Rattle.at_history.specs.Sound.{Sound}
 use Rattle.at_history.specs.declared.cell.Cell.{Cell}
 use Rattle.at_history.specs.declared.publication.Publication.{Publication}
 use Rattle.at_history.specs.declared.request.Request.{Request}
 use Rattle.at_board.specs.Knowledge.Agreement.{AgreesWithSeen}
+use Rattle.at_board.specs.Knowledge.Candidates.{HasLoadedRows, IsOldest}
 use Rattle.at_board.specs.Knowledge.Knows.{IsAnnounced, IsDecided}
 use Rattle.at_board.specs.Knowledge.Parts.{with_part, SeesDecision, asking_on, own_part, SeesRequest}
+use Rattle.at_board.specs.Knowledge.Seats.{IsKept}
 use Rattle.at_board.specs.Words.Addresses.{cell_of, index_of}
 use Rattle.at_board.specs.declared.knowledge.Part.{Part}
 use Rattle.at_board.specs.declared.knowledge.Knowledge.{Knowledge}
@@ -54,7 +57,7 @@ pub record MeetsCell (b : BookTerms) (before after : Knowledge) (a round : ℕ) 
 
 -- an exchange on the cell of a round, which then has this word. It is the word of a decision: of the proposal where the round
 -- was undecided, and else of the one that stood. The seat has seen at least as many publications as the decision's place,
--- where exactly the rounds before this one stand
+-- where exactly the rounds before this one stand, and the request that it names is the next of its slot
 pub record Decides (b : BookTerms) (before after : Knowledge) (a round : ℕ) (d : Decision) (w : ℕ) : Type 0 where
   pub decision : Decision
   pub held : Option Cell
@@ -64,6 +67,7 @@ pub record Decides (b : BookTerms) (before after : Knowledge) (a round : ℕ) (d
   pub number_in : decision.number < b.request_room
   pub place : decision.place ≤ length after.seen
   pub next : rounds a (take decision.place after.seen) ≡ round
+  pub number : named a decision.slot (take decision.place after.seen) ≡ decision.number
   pub known : (e : Decision) → SeesDecision before a round e → e ≡ decision
   pub met : MeetsCell b before after a round d decision held
   pub more : IsPrefix before.seen after.seen
@@ -72,19 +76,29 @@ pub record Decides (b : BookTerms) (before after : Knowledge) (a round : ℕ) (d
   pub agrees : AgreesWithSeen after
   pub same : after ≡ with_part (with_decision before after.seen a round decision) (with_decide (own_part before) a held)
 
--- the seat may propose that this round decide this request: its process owns the account, and the decision has a word. At the
--- proposal's place exactly the rounds before this one stand. The request was seen and is not settled there, and its since is no
--- later; the proposal says whether the balance there covers it, and the seat holds no cell
+-- the process's own last request on the account is unsettled in the list, and since it announced that it has loaded those of the
+-- others
+pub record HasUnsettledRequest (b : BookTerms) (v : Knowledge) (a slot : ℕ) (list : List Publication) : Type 0 where
+  pub loaded : HasLoadedRows b v a slot
+  pub number : ℕ
+  pub last : IsLastRequest (asking_on (own_part v) a).announced number
+  pub unsettled : is_settled a slot number list ≡ false
+
+-- the seat may propose that this round decide this request, and the decision has a word. Its place is within what was seen, and
+-- exactly the rounds before this one stand there. The request was seen, and its since is no later than that place; the proposal
+-- says whether the balance there covers it, and the seat holds no cell. The process's own last request is unsettled there, and of
+-- that one and the requests loaded since then the one proposed comes first among those unsettled there
 pub record MayPropose (b : BookTerms) (v : Knowledge) (a round : ℕ) (d : Decision) (r : Request) : Type 0 where
-  pub owner : (slot : ℕ) × HasSlot b v.first a slot
   pub range : InRange d
   pub place : d.place ≤ length v.seen
   pub next : rounds a (take d.place v.seen) ≡ round
   pub named : SeesRequest v a d.slot d.number r
-  pub unsettled : is_settled a d.slot d.number (take d.place v.seen) ≡ false
   pub since : r.since ≤ d.place
   pub ok : (d.ok ≡ true) ↔ IsCovered b (take d.place v.seen) a (amount_of r.targets)
   pub free : (own_part v).held ≡ None
+  pub own : ℕ
+  pub asking : HasUnsettledRequest b v a own (take d.place v.seen)
+  pub oldest : IsOldest (asking_on (own_part v) a) own (take d.place v.seen) a d.slot d.number r
 
 -- the word is that of a decision that the seat may propose
 abbrev pub IsProposal : BookTerms → Knowledge → ℕ → ℕ → ℕ → Type 0
@@ -98,5 +112,5 @@ DecidesBy b before after a round proposal word =
 -- what the exchange tells its seat
 module _ {S : Type 0} where
   abbrev pub decided_round : Step S → Me S Knowledge → ℕ → Me S Knowledge → Type 0
-  decided_round st m n m' = (m'.1 ≡ m.1) × ((a round : ℕ) (d : Decision) (r : Request) → MayPropose m.0.book m.0 a round d r →
+  decided_round st m n m' = (m'.1 ≡ m.1) × IsKept m'.0 × ((a round : ℕ) (d : Decision) (r : Request) → MayPropose m.0.book m.0 a round d r →
       st.word ≡ index_of m.0.book (cell_of a round) → st.second ≡ word_of d → Decides m.0.book m.0 m'.0 a round d (word_after n st.second))

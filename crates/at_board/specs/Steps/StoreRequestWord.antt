@@ -1,7 +1,6 @@
 -- A store of a word of the seat's next request on an account.
-use Rattle.std.specs.Prelude.{◌≡◌, ℕ, slice_set, ◌<◌, true, length}
+use Rattle.std.specs.Prelude.{◌≡◌, ℕ, slice_set, ◌<◌, length}
 use Rattle.at_ledger.specs.Book.{BookTerms, HasSlot}
-use Rattle.at_history.specs.Rounds.{is_settled}
 use Rattle.at_board.specs.Knowledge.Parts.{asking_on, own_part, with_asking}
 use Rattle.at_board.specs.declared.knowledge.Asking.{Asking}
 use Rattle.at_board.specs.declared.knowledge.Knowledge.{Knowledge}
@@ -13,8 +12,7 @@ with_request_word w j n = record w { stored = slice_set w.stored j n }
 abbrev pub StoresRequestWord : Knowledge → Knowledge → ℕ → ℕ → ℕ → Type 0
 StoresRequestWord before after a j n = after ≡ with_asking before a (with_request_word (asking_on (own_part before) a) j n)
 
--- the seat's process may ask on the account: it has room there, and all that it asked is settled in what it has seen
-pub record MayAsk (b : BookTerms) (v : Knowledge) (a slot : ℕ) : Type 0 where
+-- the seat's process shares the account, and has room for one more request there
+pub record MayStoreRequest (b : BookTerms) (v : Knowledge) (a slot : ℕ) : Type 0 where
   pub slot_in : HasSlot b v.first a slot
   pub room : length (asking_on (own_part v) a).announced < b.request_room
-  pub settled : (i : ℕ) → i < length (asking_on (own_part v) a).announced → is_settled a slot i v.seen ≡ true

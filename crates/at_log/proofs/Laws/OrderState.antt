@@ -43,6 +43,8 @@ order_state c = record {
   cells = λ a. filter_map (λ x. decision_in a x.entry) (firsts (journal_order c));
   rows = λ a slot. filter_map (λ x. request_in a slot x.entry) (firsts (journal_order c));
   held = λ p. None;
+  heard = λ a slot. 0;
+  seen_rows = λ a slot. [];
 }
 
 is_some-cond : {Y : Type 0} (t : Bool) (y : Y) → is_some (cond t (Some y) None) ≡ t

@@ -1,10 +1,10 @@
-use Rattle.std.proofs.Common.{◌≡◌, ◌+◌, ℕ, sym, ap, subst, ◌∙◌, arith}
+use Rattle.std.proofs.Common.{refl, ◌≡◌, ◌+◌, ℕ, sym, ap, subst, ◌∙◌, arith}
 use Rattle.at_ledger.specs.Book.{BookTerms}
-use Rattle.at_board.proofs.StepLaws.Announce.{Announces-played, Announces-same, HasCounts-announce, IsSeat-announce, MayAnnounce-same, MayAnnounce-slot, announces_at, place-MayAnnounce}
+use Rattle.at_board.proofs.KnowledgeLaws.Kept.{IsSeat-step, IsSeatOf-IsSeat}
+use Rattle.at_board.proofs.StepLaws.Announce.{Announces-played, Announces-same, HasCounts-announce, MayAnnounce-same, MayAnnounce-slot, announces_at, place-MayAnnounce}
 use Rattle.at_board.proofs.WordLaws.Addresses.{index_of-below}
 use Rattle.at_board.proofs.KnowledgeLaws.Asking.{same_slot}
 use Rattle.at_board.proofs.StepLaws.StoreRequestWord.{next_number}
-use Rattle.at_board.proofs.StepLaws.Table.{IsSeatOf-IsSeat}
 use Rattle.at_history.specs.declared.request.Request.{Request}
 use Rattle.at_board.specs.declared.knowledge.Knowledge.{Knowledge}
 use Rattle.at_board.specs.Steps.Announce.{MayAnnounce}
@@ -79,7 +79,8 @@ invariant_of-seat g c =
     let asked = may g before c.requires.request.0 r c.requires.request.2 in
     let announced = told g after r asked in (
       c.store.ensures.2.0 ∙ c.seat.invariant.0,
-      IsSeat-announce b v w c.seat.inside.process c.seat.inside.published a slot r (book g before) c.seat.invariant.1.history.few asked c.seat.invariant.1 announced,
+      IsSeat-step v _ w _ c.seat.inside.process c.seat.inside.published c.seat.inside.published c.seat.invariant.1 refl refl announced.same
+          c.seat.invariant.1.published_is c.store.ensures.2.1,
       HasCounts-announce b v w a slot r (c.announced-count.result + 1) c.seat.inside.announced.items (omega (arith, c.seat.invariant.1.one_part)) c.seat.invariant.1.accounts
           (omega (arith, counted g before)) announced c.seat.invariant.2,
     )
@@ -94,3 +95,6 @@ returns-clause-announced g c = λ k q asks.
     let here = Announces-same c.args.self.now.book c.self.inside.book v c.seat.inside.seat.me.0 w a c.own_slot-own.result q (ours g before) (mine g before)
     (told g after q (may g before k q asks)) in
     subst (λ n. Announces c.args.self.now.book v w a n q) (same_slot c.args.self.now.book v.first a c.own_slot-own.result k (has g before) asks.asks.slot_in) here
+
+pub returns-clause-seat : goal.returns-clause-seat
+returns-clause-seat g c = c.store.ensures.2.1

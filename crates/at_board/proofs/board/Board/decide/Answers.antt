@@ -1,11 +1,11 @@
-use Rattle.std.proofs.Common.{◌≡◌, sym, ap, subst, ◌∙◌, arith}
+use Rattle.std.proofs.Common.{refl, ◌≡◌, sym, ap, subst, ◌∙◌, arith}
 use Rattle.at_base.specs.Decision.{word_of}
 use Rattle.at_base.specs.declared.decision.Decision.{Decision}
 use Rattle.at_ledger.specs.Book.{BookTerms, IsBegun}
-use Rattle.at_board.proofs.StepLaws.Decide.{Decides-played, HasCounts-decided, IsSeat-decided, decides_at}
+use Rattle.at_board.proofs.KnowledgeLaws.Kept.{IsSeat-step, IsSeatOf-IsSeat}
+use Rattle.at_board.proofs.StepLaws.Decide.{Decides-played, HasCounts-decided, decides_at}
 use Rattle.at_board.proofs.WordLaws.Addresses.{index_of-below}
 use Rattle.at_board.proofs.StepLaws.Decide.{IsAddress-MayPropose}
-use Rattle.at_board.proofs.StepLaws.Table.{IsSeatOf-IsSeat}
 use Rattle.at_history.specs.declared.request.Request.{Request}
 use Rattle.at_board.specs.declared.knowledge.Knowledge.{Knowledge}
 use Rattle.at_board.specs.Steps.Decide.{MayPropose}
@@ -72,7 +72,8 @@ invariant_of-seat g c =
     let decided : Decides b v w c.args.account c.args.round d n = subst (λ (t : Knowledge). Decides b t w c.args.account c.args.round d n) (sym (mine g before))
     (told g after d c.requires.proposal.1 c.requires.proposal.2 c.requires.proposal.3) in (
       c.compare_exchange-found.ensures.2.0 ∙ c.seat.invariant.0,
-      IsSeat-decided b v w c.seat.inside.process c.seat.inside.published c.args.account c.args.round d n (book g before) (cell_index-index-requires g before) c.seat.invariant.1 decided,
+      IsSeat-step v _ w _ c.seat.inside.process c.seat.inside.published c.seat.inside.published c.seat.invariant.1 refl refl decided.same
+          c.seat.invariant.1.published_is c.compare_exchange-found.ensures.2.1,
       HasCounts-decided b v w c.args.account c.args.round d n c.seat.inside.announced.items (omega (arith, c.seat.invariant.1.one_part)) c.seat.invariant.1.accounts decided c.seat.invariant.2,
     )
 
@@ -80,3 +81,6 @@ pub returns-clause-decided : goal.returns-clause-decided
 returns-clause-decided g c = λ d r may word.
     subst (λ n. Decides c.args.self.now.book c.args.seat.now.knows c.compare_exchange-found.new.seat.me.0 c.args.account c.args.round d n) (sym c.decided_word.ensures)
     (told g (goal.at.returns-clause-decided g c).After-compare_exchange-found d r may word)
+
+pub returns-clause-seat : goal.returns-clause-seat
+returns-clause-seat g c = c.compare_exchange-found.ensures.2.1

@@ -8,6 +8,9 @@ use Rattle.at_board.specs.Steps.Meetings.{AreSeen}
 use Rattle.at_board.specs.Rule.{Ruled}
 use Rattle.at_board.specs.Knowledge.Seats.{HasCounts}
 use Rattle.at_board.specs.Knowledge.Seats.{IsSeat}
+use Rattle.at_board.proofs.KnowledgeLaws.Kept.{IsKept-IsSeat}
+use Rattle.at_board.proofs.board.Board.learn.Given as given
+use Rattle.at_board.proofs.board.Board.learn.Goals.{After-join_seat}
 use Rattle.at_board.proofs.board.Board.learn.Goals as goal
 
 pub meet-requires : goal.meet-requires
@@ -31,8 +34,12 @@ join_seat-requires g c =
           (ap (λ s. length s.me.0.parts) other ∙ c.note.invariant.1.no_part),
     )
 
-pub invariant_of-seat : goal.invariant_of-seat
-invariant_of-seat g c =
+-- what the seat has then learned, and what its type keeps
+learned_is : (g : given.Over) (c : After-join_seat g) → learned c.seat.inside.seat.me.0 c.note.inside.seat.me.0 ≡ c.join_seat.new.seat.me.0
+learned_is g c = sym (ap (λ m. m.0) c.join_seat.ensures.2 ∙ (λ t. learned (c.meet.ensures.one t).me.0 (c.meet.ensures.other t).me.0))
+
+seat : (g : given.Over) (c : After-join_seat g) → IsSeat c.join_seat.new.seat.me.0 c.seat.inside.process c.seat.inside.published
+seat g c =
     let b : BookTerms = c.args.self.now.book in
     let v : Knowledge = c.seat.inside.seat.me.0 in
     let w : Knowledge = c.note.inside.seat.me.0 in
@@ -41,13 +48,23 @@ invariant_of-seat g c =
     let ours : c.self.inside.table.shared.key.value ≡ b = c.self.invariant.0 ∙ ap (λ t. t.book) c.self.view_is in
     let met : AreSeen (λ s. Ruled b s.words s.views) c.seat.inside.seat.id v c.note.inside.seat.id w =
     subst (λ (t : BookTerms). AreSeen (λ s. Ruled t s.words s.views) c.seat.inside.seat.id v c.note.inside.seat.id w) ours c.meet.ensures.seen in
-    let after : learned v w ≡ c.join_seat.new.seat.me.0 =
-    sym (ap (λ m. m.0) c.join_seat.ensures.2 ∙ (λ t. learned (c.meet.ensures.one t).me.0 (c.meet.ensures.other t).me.0)) in (
+    subst (λ t. IsSeat t c.seat.inside.process c.seat.inside.published) (learned_is g c)
+    (IsSeat-learned b c.seat.inside.seat.id c.note.inside.seat.id v w c.seat.inside.process c.seat.inside.published book note_book c.seat.invariant.1 c.note.invariant.1 met)
+
+pub invariant_of-seat : goal.invariant_of-seat
+invariant_of-seat g c =
+    let after : After-join_seat g = (goal.at.invariant_of-seat g c).After-join_seat in
+    let v : Knowledge = c.seat.inside.seat.me.0 in
+    let w : Knowledge = c.note.inside.seat.me.0 in (
       ap (λ m. m.1) c.join_seat.ensures.2 ∙ (ap (λ s. s.me.1) c.meet.ensures.one ∙ c.seat.invariant.0),
-      subst (λ t. IsSeat t c.seat.inside.process c.seat.inside.published) after
-          (IsSeat-learned b c.seat.inside.seat.id c.note.inside.seat.id v w c.seat.inside.process c.seat.inside.published book note_book c.seat.invariant.1 c.note.invariant.1 met),
-      subst (λ t. HasCounts t c.seat.inside.announced.items) after (HasCounts-learned v w c.seat.inside.announced.items c.seat.invariant.2),
+      seat g after,
+      subst (λ t. HasCounts t c.seat.inside.announced.items) (learned_is g after) (HasCounts-learned v w c.seat.inside.announced.items c.seat.invariant.2),
     )
+
+pub returns-clause-seat : goal.returns-clause-seat
+returns-clause-seat g c =
+    let after : After-join_seat g = (goal.at.returns-clause-seat g c).After-join_seat in
+    IsKept-IsSeat c.join_seat.new.seat.me.0 c.seat.inside.process c.seat.inside.published (seat g after)
 
 pub returns-clause-learned : goal.returns-clause-learned
 returns-clause-learned g c =

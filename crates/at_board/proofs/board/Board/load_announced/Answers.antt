@@ -1,8 +1,8 @@
-use Rattle.std.proofs.Common.{◌≡◌, sym, ap, subst, ◌∙◌, arith}
+use Rattle.std.proofs.Common.{refl, ◌≡◌, sym, ap, subst, ◌∙◌, arith}
 use Rattle.at_ledger.specs.Book.{BookTerms, IsBegun}
-use Rattle.at_board.proofs.StepLaws.LoadAnnounced.{HasCounts-announced, IsSeat-announced, LoadsAnnounced-played, loads_announced_at}
+use Rattle.at_board.proofs.KnowledgeLaws.Kept.{IsSeat-step, IsSeatOf-IsSeat}
+use Rattle.at_board.proofs.StepLaws.LoadAnnounced.{HasCounts-announced, LoadsAnnounced-played, loads_announced_at}
 use Rattle.at_board.proofs.WordLaws.Addresses.{index_of-below}
-use Rattle.at_board.proofs.StepLaws.Table.{IsSeatOf-IsSeat}
 use Rattle.at_board.specs.declared.knowledge.Knowledge.{Knowledge}
 use Rattle.at_board.specs.Words.Addresses.{IsAddress, announced_of, word_count}
 use Rattle.at_board.specs.Steps.LoadAnnounced.{LoadsAnnounced}
@@ -35,6 +35,10 @@ invariant_of-seat g c =
     LoadsAnnounced-played b c.self.inside.table.shared.table_id.slots c.seat.inside.seat.me c.load-count.new.seat.me c.args.account c.args.slot c.load-count.result
     c.announced_index-index.result book c.announced_index-index.ensures.index is c.load-count.ensures.2 in (
       c.load-count.ensures.2.0 ∙ c.seat.invariant.0,
-      IsSeat-announced b v w c.seat.inside.process c.seat.inside.published c.args.account c.args.slot c.load-count.result book is c.seat.invariant.1 told,
+      IsSeat-step v _ w _ c.seat.inside.process c.seat.inside.published c.seat.inside.published c.seat.invariant.1 refl refl told.same
+          c.seat.invariant.1.published_is c.load-count.ensures.2.1,
       HasCounts-announced b v w c.args.account c.args.slot c.load-count.result c.seat.inside.announced.items (omega (arith, c.seat.invariant.1.one_part)) c.seat.invariant.1.accounts told c.seat.invariant.2,
     )
+
+pub returns-clause-seat : goal.returns-clause-seat
+returns-clause-seat g c = c.load-count.ensures.2.1

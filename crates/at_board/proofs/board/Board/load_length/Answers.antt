@@ -1,9 +1,9 @@
-use Rattle.std.proofs.Common.{◌≡◌, sym, ap, subst, ◌∙◌, arith}
+use Rattle.std.proofs.Common.{refl, ◌≡◌, sym, ap, subst, ◌∙◌, arith}
 use Rattle.at_ledger.specs.Book.{BookTerms, IsBegun}
+use Rattle.at_board.proofs.KnowledgeLaws.Kept.{IsSeat-step, IsSeatOf-IsSeat, count_of-IsHistory}
 use Rattle.at_board.proofs.WordLaws.Addresses.{index_of-below}
 use Rattle.at_board.proofs.KnowledgeLaws.Counts.{HasCounts-load}
-use Rattle.at_board.proofs.KnowledgeLaws.Kept.{IsSeat-load, count_of-IsHistory}
-use Rattle.at_board.proofs.StepLaws.Table.{IsSeatOf-IsSeat, LoadsLength-played, loads_length_at, index_of-length_of}
+use Rattle.at_board.proofs.StepLaws.Table.{LoadsLength-played, loads_length_at, index_of-length_of}
 use Rattle.at_board.specs.declared.knowledge.Knowledge.{Knowledge}
 use Rattle.at_board.specs.Words.Addresses.{length_of, word_count}
 use Rattle.at_board.specs.Steps.LoadLength.{LoadsLength}
@@ -48,7 +48,8 @@ invariant_of-seat g c =
     let w : Knowledge = c.load-length.new.seat.me.0 in
     let loaded = told g after in (
       c.load-length.ensures.2.0 ∙ c.seat.invariant.0,
-      IsSeat-load b v w c.seat.inside.process c.seat.inside.published c.args.p c.load-length.result (book g after) c.seat.invariant.1 loaded,
+      IsSeat-step v _ w _ c.seat.inside.process c.seat.inside.published c.seat.inside.published c.seat.invariant.1 refl refl loaded.same
+          c.seat.invariant.1.published_is c.load-length.ensures.2.1,
       HasCounts-load b v w c.args.p c.load-length.result c.seat.inside.announced.items (omega (arith, c.seat.invariant.1.one_part)) loaded c.seat.invariant.2,
     )
 
@@ -56,3 +57,6 @@ pub returns-clause-told : goal.returns-clause-told
 returns-clause-told g c =
     subst (λ (t : Knowledge). LoadsLength c.args.self.now.book t c.load-length.new.seat.me.0 c.args.p c.load-length.result) (ap (λ s. s.knows) c.seat.view_is)
     (told g (goal.at.returns-clause-told g c).After-load-length)
+
+pub returns-clause-seat : goal.returns-clause-seat
+returns-clause-seat g c = c.load-length.ensures.2.1

@@ -1,9 +1,9 @@
-use Rattle.std.proofs.Common.{◌≡◌, sym, ap, subst, ◌∙◌, arith}
+use Rattle.std.proofs.Common.{refl, ◌≡◌, sym, ap, subst, ◌∙◌, arith}
 use Rattle.at_ledger.specs.Book.{BookTerms, IsBegun}
+use Rattle.at_board.proofs.KnowledgeLaws.Kept.{IsSeat-step, IsSeatOf-IsSeat}
 use Rattle.at_board.proofs.WordLaws.Addresses.{index_of-below}
 use Rattle.at_board.proofs.StepLaws.LoadRequestWord.{place-MayLoadRequest}
-use Rattle.at_board.proofs.StepLaws.LoadRequestWord.{HasCounts-request, IsSeat-request, LoadsRequestWord-played, loads_request_word_at}
-use Rattle.at_board.proofs.StepLaws.Table.{IsSeatOf-IsSeat}
+use Rattle.at_board.proofs.StepLaws.LoadRequestWord.{HasCounts-request, LoadsRequestWord-played, loads_request_word_at}
 use Rattle.at_board.specs.declared.knowledge.Knowledge.{Knowledge}
 use Rattle.at_board.specs.Words.Addresses.{IsAddress, request_word, word_count}
 use Rattle.at_board.specs.Steps.LoadRequestWord.{MayLoadRequest}
@@ -63,8 +63,8 @@ invariant_of-seat g c =
     let v : Knowledge = c.seat.inside.seat.me.0 in
     let w : Knowledge = c.load.new.seat.me.0 in (
       c.load.ensures.2.0 ∙ c.seat.invariant.0,
-      IsSeat-request b v w c.seat.inside.process c.seat.inside.published c.args.account c.args.slot c.args.number c.args.j c.load.result (book g before)
-          (request_index-index-requires g before) c.seat.invariant.1 (told g c),
+      IsSeat-step v _ w _ c.seat.inside.process c.seat.inside.published c.seat.inside.published c.seat.invariant.1 refl refl (told g c).same
+          c.seat.invariant.1.published_is c.load.ensures.2.1,
       HasCounts-request b v w c.args.account c.args.slot c.args.number c.args.j c.load.result c.seat.inside.announced.items (omega (arith, c.seat.invariant.1.one_part))
           c.seat.invariant.1.accounts (told g c) c.seat.invariant.2,
     )
@@ -75,3 +75,6 @@ returns-clause-told g c =
     let before : After-known g = (goal.at.After-load g after).After-known in
     subst (λ (t : Knowledge). LoadsRequestWord c.args.self.now.book t c.load.new.seat.me.0 c.args.account c.args.slot c.args.number c.args.j c.load.result)
     (mine g before) (told g after)
+
+pub returns-clause-seat : goal.returns-clause-seat
+returns-clause-seat g c = c.load.ensures.2.1

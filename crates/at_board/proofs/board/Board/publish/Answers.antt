@@ -1,11 +1,12 @@
-use Rattle.std.proofs.Common.{◌≡◌, ◌+◌, ◌<◌, sym, ap, ◌∙◌, arith}
+use Rattle.std.proofs.Common.{refl, ◌≡◌, ◌+◌, ◌<◌, sym, ap, ◌∙◌, arith}
 use Rattle.at_ledger.specs.Book.{BookTerms, log_room_of}
+use Rattle.at_board.proofs.KnowledgeLaws.Kept.{IsSeat-step, IsSeatOf, IsSeatOf-IsSeat}
 use Rattle.at_board.proofs.StepLaws.LogRoom.{published-MayEnter}
 use Rattle.at_board.proofs.WordLaws.Addresses.{index_of-below}
-use Rattle.at_board.proofs.StepLaws.Publish.{IsSeat-publish, MayPublish-same, Publishes-played, Publishes-same, publishes_at}
+use Rattle.at_board.proofs.StepLaws.Publish.{MayPublish-same, Publishes-played, Publishes-same, publishes_at}
 use Rattle.at_board.proofs.KnowledgeLaws.Counts.{HasCounts-publish}
 use Rattle.at_history.proofs.Laws.Rooms.{log_room_of-le}
-use Rattle.at_board.proofs.StepLaws.Table.{IsSeatOf, IsSeatOf-IsSeat, index_of-length_of}
+use Rattle.at_board.proofs.StepLaws.Table.{index_of-length_of}
 use Rattle.at_history.specs.declared.publication.Publication.{Publication}
 use Rattle.at_board.specs.declared.knowledge.Knowledge.{Knowledge}
 use Rattle.at_board.specs.Steps.Publish.{MayPublish}
@@ -82,7 +83,8 @@ invariant_of-seat g c =
     let x : Publication = c.requires.record.0 in
     let published = told g after x (may g before x c.requires.record.1) in (
       c.store.ensures.2.0 ∙ c.seat.invariant.0,
-      IsSeat-publish b v w c.seat.inside.process c.seat.inside.published x (book g before) c.seat.invariant.1 published,
+      IsSeat-step v _ w _ c.seat.inside.process c.seat.inside.published (c.seat.inside.published + 1) c.seat.invariant.1 refl refl published.same
+          (ap (λ n. n + 1) c.seat.invariant.1.published_is) c.store.ensures.2.1,
       HasCounts-publish b v w x c.seat.inside.announced.items (omega (arith, c.seat.invariant.1.one_part)) published c.seat.invariant.2,
     )
 
@@ -92,3 +94,6 @@ returns-clause-published g c = λ x asked.
     let before : After-from g = (goal.at.After-store g after).After-from in
     Publishes-same c.args.self.now.book c.self.inside.book c.args.seat.now.knows c.seat.inside.seat.me.0 c.store.new.seat.me.0 x (ours g before) (mine g before)
     (told g after x (may g before x asked))
+
+pub returns-clause-seat : goal.returns-clause-seat
+returns-clause-seat g c = c.store.ensures.2.1

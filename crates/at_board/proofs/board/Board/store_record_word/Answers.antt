@@ -1,9 +1,9 @@
-use Rattle.std.proofs.Common.{◌≡◌, sym, ap, subst, ◌∙◌, arith}
+use Rattle.std.proofs.Common.{refl, ◌≡◌, sym, ap, subst, ◌∙◌, arith}
 use Rattle.at_ledger.specs.Book.{BookTerms}
+use Rattle.at_board.proofs.KnowledgeLaws.Kept.{IsSeat-step, IsSeatOf-IsSeat, next_record}
 use Rattle.at_board.proofs.WordLaws.Addresses.{index_of-below}
 use Rattle.at_board.proofs.KnowledgeLaws.Counts.{HasCounts-store}
-use Rattle.at_board.proofs.KnowledgeLaws.Kept.{IsSeat-store, next_record}
-use Rattle.at_board.proofs.StepLaws.Table.{IsSeatOf-IsSeat, StoresWord-played, stores_word_at}
+use Rattle.at_board.proofs.StepLaws.Table.{StoresWord-played, stores_word_at}
 use Rattle.at_board.specs.declared.knowledge.Knowledge.{Knowledge}
 use Rattle.at_board.specs.Steps.StoreRecordWord.{MayStoreWord}
 use Rattle.at_board.specs.Words.Addresses.{index_of, record_word, word_count}
@@ -62,7 +62,8 @@ invariant_of-seat g c =
     let v : Knowledge = c.seat.inside.seat.me.0 in
     let w : Knowledge = c.store.new.seat.me.0 in (
       c.store.ensures.2.0 ∙ c.seat.invariant.0,
-      IsSeat-store v w c.seat.inside.process c.seat.inside.published c.args.j c.args.w c.seat.invariant.1 (told g c) c.store.ensures.2.1,
+      IsSeat-step v _ w _ c.seat.inside.process c.seat.inside.published c.seat.inside.published c.seat.invariant.1 refl refl (told g c)
+          c.seat.invariant.1.published_is c.store.ensures.2.1,
       HasCounts-store v w c.args.j c.args.w c.seat.inside.announced.items (omega (arith, c.seat.invariant.1.one_part)) (told g c) c.seat.invariant.2,
     )
 
@@ -71,3 +72,6 @@ returns-clause-stored g c =
     let after : After-store g = (goal.at.returns-clause-stored g c).After-store in
     let before : After-seat g = (goal.at.After-store g after).After-seat in
     subst (λ (t : Knowledge). StoresWord t c.store.new.seat.me.0 c.args.j c.args.w) (mine g before) (told g after)
+
+pub returns-clause-seat : goal.returns-clause-seat
+returns-clause-seat g c = c.store.ensures.2.1

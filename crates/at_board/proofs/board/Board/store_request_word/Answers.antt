@@ -1,10 +1,10 @@
-use Rattle.std.proofs.Common.{◌≡◌, sym, ap, subst, ◌∙◌, arith}
+use Rattle.std.proofs.Common.{refl, ◌≡◌, sym, ap, subst, ◌∙◌, arith}
 use Rattle.at_ledger.specs.Book.{BookTerms}
+use Rattle.at_board.proofs.KnowledgeLaws.Kept.{IsSeat-step, IsSeatOf-IsSeat}
 use Rattle.at_board.proofs.WordLaws.Addresses.{index_of-below}
-use Rattle.at_board.proofs.StepLaws.StoreRequestWord.{HasCounts-request_stored, IsSeat-request_stored, MayAsk-slot, StoresRequestWord-played, next_number, place-MayAsk, stores_request_word_at}
-use Rattle.at_board.proofs.StepLaws.Table.{IsSeatOf-IsSeat}
+use Rattle.at_board.proofs.StepLaws.StoreRequestWord.{HasCounts-request_stored, MayStoreRequest-slot, StoresRequestWord-played, next_number, place-MayStoreRequest, stores_request_word_at}
 use Rattle.at_board.specs.declared.knowledge.Knowledge.{Knowledge}
-use Rattle.at_board.specs.Steps.StoreRequestWord.{MayAsk}
+use Rattle.at_board.specs.Steps.StoreRequestWord.{MayStoreRequest}
 use Rattle.at_board.specs.Words.Addresses.{index_of, request_word, word_count}
 use Rattle.at_board.specs.Steps.StoreRequestWord.{StoresRequestWord}
 use Rattle.at_ledger.specs.Book.{HasSlot}
@@ -19,13 +19,13 @@ mine g c = ap (λ s. s.knows) c.seat.view_is
 book : (g : given.Over) (c : After-announced-next g) → c.seat.inside.seat.me.0.book ≡ c.args.self.now.book
 book g c = ap (λ (t : Knowledge). t.book) (mine g c) ∙ c.requires.board.book
 
-may : (g : given.Over) (c : After-announced-next g) → MayAsk c.args.self.now.book c.seat.inside.seat.me.0 c.args.account c.own_slot-slot.result
+may : (g : given.Over) (c : After-announced-next g) → MayStoreRequest c.args.self.now.book c.seat.inside.seat.me.0 c.args.account c.own_slot-slot.result
 may g c =
     let b : BookTerms = c.args.self.now.book in
     let a = c.args.account in
     let slot = c.own_slot-slot.result in
-    subst (λ (t : Knowledge). MayAsk b t a slot) (sym (mine g c))
-    (MayAsk-slot b c.args.seat.now.knows a c.requires.asks.0 slot c.requires.asks.1
+    subst (λ (t : Knowledge). MayStoreRequest b t a slot) (sym (mine g c))
+    (MayStoreRequest-slot b c.args.seat.now.knows a c.requires.asks.0 slot c.requires.asks.1
     (subst (λ p. HasSlot b p a slot) c.process.ensures.process c.own_slot-slot.ensures.slot))
 
 -- the word's address, by the number that the seat knows
@@ -58,7 +58,7 @@ store-requires g c =
         c.self.invariant.1,
         ap word_count ours,
         place,
-        index_of-below b (request_word a slot (next_number v a) c.args.j) (place-MayAsk b v a slot c.args.j (may g before) c.requires.word),
+        index_of-below b (request_word a slot (next_number v a) c.args.j) (place-MayStoreRequest b v a slot c.args.j (may g before) c.requires.word),
       ),
       stores_request_word_at c.self.inside.table.shared.key.value b c.self.inside.table.shared.table_id.slots c.seat.inside.seat.id c.seat.inside.seat.me
           a slot c.args.j c.args.w c.request_index-index.result (c.self.invariant.0 ∙ ours) place
@@ -71,7 +71,8 @@ invariant_of-seat g c =
     let w : Knowledge = c.store.new.seat.me.0 in
     let a = c.args.account in (
       c.store.ensures.2.0 ∙ c.seat.invariant.0,
-      IsSeat-request_stored v w c.seat.inside.process c.seat.inside.published a c.args.j c.args.w c.seat.invariant.1 (told g c) c.store.ensures.2.1,
+      IsSeat-step v _ w _ c.seat.inside.process c.seat.inside.published c.seat.inside.published c.seat.invariant.1 refl refl (told g c)
+          c.seat.invariant.1.published_is c.store.ensures.2.1,
       HasCounts-request_stored v w a c.args.j c.args.w c.seat.inside.announced.items (omega (arith, c.seat.invariant.1.one_part)) c.seat.invariant.1.accounts (told g c) c.seat.invariant.2,
     )
 
@@ -80,3 +81,6 @@ returns-clause-stored g c =
     let after : After-store g = (goal.at.returns-clause-stored g c).After-store in
     let before : After-announced-next g = (goal.at.After-store g after).After-announced-next in
     subst (λ (t : Knowledge). StoresRequestWord t c.store.new.seat.me.0 c.args.account c.args.j c.args.w) (mine g before) (told g after)
+
+pub returns-clause-seat : goal.returns-clause-seat
+returns-clause-seat g c = c.store.ensures.2.1
