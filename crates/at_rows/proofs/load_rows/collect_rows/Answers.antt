@@ -1,0 +1,80 @@
+use Rattle.std.proofs.Common.{◌≡◌, ◌+◌, List, ◌++◌, length, refl, sym, ap, subst, ◌∙◌, arith}
+use Rattle.std.specs.Option.{option_to_list}
+use Rattle.at_ledger.specs.Account.{slots_of}
+use Rattle.at_ledger.specs.Book.{BookTerms, account_of}
+use Rattle.at_board.specs.Knowledge.Parts.{own_part}
+use Rattle.at_board.specs.declared.knowledge.Knowledge.{Knowledge}
+use Rattle.at_rows.proofs.Laws.Accounts.{HasAccount}
+use Rattle.at_rows.proofs.Collecting.{AreCandidates-IsCollecting, CollectsRows-IsCollecting, HasAsked-IsCollecting, HasLoadedRows-IsCollecting, IsCollecting, SeesRequest-HasAsked, IsCollecting-row, IsCollecting-start}
+use Rattle.at_rows.specs.declared.open_request.OpenRequest.{OpenRequest}
+use Rattle.at_rows.proofs.load_rows.collect_rows.Given as given
+use Rattle.at_rows.proofs.load_rows.collect_rows.Goals.{After-known-2, After-loop-slot}
+use Rattle.at_rows.proofs.load_rows.collect_rows.Goals as goal
+
+-- the seat has something on the account
+has : (g : given.Over) (c : After-known-2 g) → HasAccount c.args.seat.now.knows c.args.account
+has g c =
+    let seat = c.known-2.ensures.seat in
+    let same = ap (λ (t : BookTerms). length t.accounts) c.requires.board.book in
+    record { part = omega (arith, seat.one_part); inside = omega (arith, seat.accounts, c.requires.own.slot_in.account_in, same) }
+
+-- all slots were visited
+visited : (g : given.Over) (c : After-loop-slot g) → c.loop-slot.slot ≡ slots_of (account_of c.args.board.now.book c.args.account)
+visited g c =
+    omega (
+      arith,
+      c.loop-slot-test.false,
+      c.loop-slot.auto.slot-end,
+      c.slot_count-slot-end.ensures.count,
+      ap (λ (t : BookTerms). slots_of (account_of t c.args.account)) c.book-2.ensures,
+    )
+
+pub loop-slot-init : goal.loop-slot-init
+loop-slot-init g c =
+    let v : Knowledge = c.args.seat.now.knows in
+    record {
+      board = refl;
+      collecting = subst (λ (l : List OpenRequest). IsCollecting v v c.args.account c.args.own.now l 0 c.args.steps.now c.args.steps.now) (sym c.new-list.ensures)
+          (IsCollecting-start v c.args.account c.args.own.now c.args.steps.now (SeesRequest-HasAsked c.args.board.now.book v c.args.account c.args.own.now
+          c.requires.board.book v.first (own_part v).published c.known-2.ensures.seat c.requires.own));
+      exchanges = refl;
+    }
+
+pub loop-slot-preserved : goal.loop-slot-preserved
+loop-slot-preserved g c =
+    let v : Knowledge = c.args.seat.now.knows in
+    let w : Knowledge = c.load_row-found.new.seat.knows in
+    let a = c.args.account in
+    let own : OpenRequest = c.args.own.now in
+    let more = IsCollecting-row v c.loop-slot.seat.knows w a own c.loop-slot.list.items c.loop-slot.slot c.args.steps.now c.loop-slot.steps c.load_row-found.result
+    (has g (goal.at.loop-slot-preserved g c).After-known-2) c.loop-slot.invariant.collecting c.load_row-found.ensures.row in
+    record {
+      board = c.load_row-found.ensures.board.id ∙ sym c.requires.board.id;
+      collecting = subst (λ (l : List OpenRequest). IsCollecting v w a own l (c.loop-slot.slot + 1) c.args.steps.now c.load_row-found.new.steps) (sym c.add.ensures)
+          (subst (λ n. IsCollecting v w a own (c.loop-slot.list.items ++ option_to_list c.load_row-found.result) (c.loop-slot.slot + 1) c.args.steps.now n)
+          (sym c.load_row-found.ensures.steps) more);
+      exchanges = c.load_row-found.ensures.exchanges ∙ c.loop-slot.invariant.exchanges;
+    }
+
+pub returns-clause-collected : goal.returns-clause-collected
+returns-clause-collected g c =
+    HasLoadedRows-IsCollecting c.args.board.now.book c.args.seat.now.knows c.loop-slot.seat.knows c.args.account c.args.own.now c.loop-slot.list.items c.loop-slot.slot
+    c.args.steps.now c.loop-slot.steps (has g (goal.at.returns-clause-collected g c).After-known-2) c.requires.own c.loop-slot.invariant.collecting (visited g c)
+
+pub returns-clause-rows : goal.returns-clause-rows
+returns-clause-rows g c =
+    CollectsRows-IsCollecting c.args.board.now.book c.args.seat.now.knows c.loop-slot.seat.knows c.args.account c.args.own.now c.loop-slot.list.items c.loop-slot.slot
+    c.args.steps.now c.loop-slot.steps c.requires.own c.loop-slot.invariant.collecting (visited g c)
+
+pub returns-clause-candidates : goal.returns-clause-candidates
+returns-clause-candidates g c =
+    AreCandidates-IsCollecting c.args.board.now.book c.args.seat.now.knows c.loop-slot.seat.knows c.args.account c.args.own.now c.loop-slot.list.items c.loop-slot.slot
+    c.args.steps.now c.loop-slot.steps (has g (goal.at.returns-clause-candidates g c).After-known-2) c.requires.own c.loop-slot.invariant.collecting (visited g c)
+
+pub returns-clause-own : goal.returns-clause-own
+returns-clause-own g c =
+    HasAsked-IsCollecting c.args.board.now.book c.args.seat.now.knows c.loop-slot.seat.knows c.args.account c.args.own.now c.loop-slot.list.items c.loop-slot.slot
+    c.args.steps.now c.loop-slot.steps (has g (goal.at.returns-clause-own g c).After-known-2) c.requires.own c.loop-slot.invariant.collecting
+
+pub load_row-found-requires-clause-own : goal.load_row-found-requires-clause-own
+load_row-found-requires-clause-own g c = c.loop-slot.invariant.collecting.own_seen

@@ -1,0 +1,5 @@
+pub mod OpenRequests
+pub mod Asks
+pub mod Loads
+pub mod Rows
+pub mod Oldest

@@ -1,0 +1,80 @@
+//! Asking: a request is stored and announced.
+
+ghost use Rattle.std.specs.Prelude.{◌≡◌, ℕ, ◌+◌, ◌^◌, ◌<◌, length, slice_index};
+ghost use Rattle.at_board.specs.Knowledge.Parts.{asking_on, own_part};
+ghost use Rattle.at_board.specs.Knowledge.Seats.{IsOf};
+ghost use Rattle.at_board.specs.Steps.Announce.{Announces};
+ghost use Rattle.at_board.specs.Words.Packed.{request_words};
+ghost use Rattle.at_board.specs.declared.words.TheConstants.{REQUEST_WORDS};
+ghost use Rattle.at_ledger.specs.Book.{HasSlot};
+ghost use Rattle.at_ledger.specs.Call.{AreTargetsOn, target_at};
+ghost use Rattle.at_rows.specs.Asks.{HasAsked, HasLoadedNothing, MayAskFor, asked_for, opened};
+
+use at_board::{Board, BoardSeat, REQUEST_WORDS, Steps, pack_targets};
+use at_ledger::Targets;
+use std::sync::ledger::Ledger;
+
+/// Stores the words of a request and announces it, in a step for each word and one more. The answer is its number among those
+/// of its slot. Takes no memory.
+pub fn ask<L: Ledger, X: Ledger>(
+    board: &Board,
+    seat: &mut BoardSeat,
+    account: u32,
+    targets: &Targets,
+    since: u32,
+    steps: &mut Steps<L>,
+    exchanges: &mut Steps<X>,
+) -> u32
+    requires board { IsOf seat.old board.now }
+    requires request { (slot : ℕ) × MayAskFor board.now.book seat.old.knows account slot
+        (asked_for targets.now since) }
+    ensures announced { (slot : ℕ) → HasSlot board.now.book seat.old.knows.first account slot
+        → Announces board.now.book seat.old.knows seat.new.knows account slot
+        (asked_for targets.now since) }
+    ensures number { result
+        ≡ length (asking_on (own_part seat.old.knows) account).announced }
+    ensures own { (slot : ℕ) → HasSlot board.now.book seat.old.knows.first account slot
+        → HasAsked board.now.book seat.new.knows account
+        (opened slot result targets.now since) }
+    ensures nothing { HasLoadedNothing seat.new.knows account }
+    ensures board { IsOf seat.new board.now }
+    ensures steps { steps.new ≡ steps.old + (REQUEST_WORDS + 1) }
+    ensures exchanges { exchanges.new ≡ exchanges.old }
+{
+    board.book().known();
+    seat.known();
+    let number = board.announced(seat, account);
+    for j in 0..REQUEST_WORDS {
+        let word = word_of(targets, since, j);
+        // Right here: no other seat reads the words of a request that isn't announced, whatever others do meanwhile.
+        board.store_request_word(seat, account, j, word, steps, exchanges);
+    }
+    // Right here: all words stand. Others may have published and decided since the front of `since`; what was settled there
+    // stays so.
+    board.announce(seat, account, steps, exchanges);
+    number
+}
+
+/// A word of a request: its targets, four amounts, and its `since`.
+fn word_of(targets: &Targets, since: u32, j: u32) -> u64
+    requires targets { AreTargetsOn (2 ^ 10) targets.now }
+    requires word { j < REQUEST_WORDS }
+    ensures { result ≡ slice_index (request_words (asked_for targets.now since)) j }
+{
+    match j {
+        0 => pack_targets(targets),
+        5 => u64::from(since),
+        _ => amount_or_zero(targets, j - 1),
+    }
+}
+
+/// The amount for a target, or 0 past the last.
+fn amount_or_zero(targets: &Targets, i: u32) -> u64
+    ensures { result ≡ (target_at targets.now i).1 }
+{
+    if i < targets.len() {
+        targets.amount(i)
+    } else {
+        0
+    }
+}

@@ -1,0 +1,47 @@
+//! A load of an announced request.
+
+ghost use Rattle.std.specs.Prelude.{◌≡◌, ◌+◌};
+ghost use Rattle.at_board.specs.Knowledge.Seats.{IsOf};
+ghost use Rattle.at_board.specs.Steps.LoadRequestWord.{KnowsOf};
+ghost use Rattle.at_board.specs.declared.words.TheConstants.{REQUEST_WORDS};
+ghost use Rattle.at_rows.specs.Loads.{LoadsRequest};
+
+use crate::open_request::OpenRequest;
+use at_board::{Board, BoardSeat, REQUEST_WORDS, Steps, targets_from};
+use std::sync::ledger::Ledger;
+
+/// A request that the seat has seen, or that a decision names which it has seen, whole as it was announced, in a step for each
+/// of its words. Takes no memory.
+pub fn load_request<L: Ledger, X: Ledger>(
+    board: &Board,
+    seat: &mut BoardSeat,
+    account: u32,
+    slot: u32,
+    number: u32,
+    steps: &mut Steps<L>,
+    exchanges: &mut Steps<X>,
+) -> OpenRequest
+    requires board { IsOf seat.old board.now }
+    requires request { KnowsOf seat.old.knows account slot number }
+    ensures loaded { LoadsRequest board.now.book seat.old.knows seat.new.knows
+        account slot number result }
+    ensures board { IsOf seat.new board.now }
+    ensures steps { steps.new ≡ steps.old + REQUEST_WORDS }
+    ensures exchanges { exchanges.new ≡ exchanges.old }
+{
+    board.book().known();
+    seat.known();
+    let mut words = [0u64; REQUEST_WORDS as usize];
+    for j in 0..REQUEST_WORDS {
+        // Right here: an announced request never changes, so the words are those of one request, however far apart the loads.
+        words[j as usize] = board.load_request_word(
+            seat, account, slot, number, j, steps, exchanges,
+        );
+    }
+    OpenRequest {
+        slot,
+        number,
+        targets: targets_from(words[0], [words[1], words[2], words[3], words[4]]),
+        since: words[5] as u32,
+    }
+}
