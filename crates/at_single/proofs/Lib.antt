@@ -1,0 +1,4 @@
+pub mod LookLaws
+pub mod OwnRecords
+pub mod PlacedLaws
+pub mod PaidLaws

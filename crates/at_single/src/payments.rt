@@ -1,0 +1,194 @@
+//! Pay-outs from single accounts.
+
+ghost use Rattle.std.specs.Prelude.{◌≡◌, ◌+◌, ◌*◌, ◌<◌, ◌≤◌, List, [], ◌∷◌, length, slice_index, Some};
+ghost use Rattle.at_board.specs.Knowledge.Parts.{own_part};
+ghost use Rattle.at_board.specs.Knowledge.Seats.{IsOf};
+ghost use Rattle.at_board.specs.declared.words.TheConstants.{RECORD_WORDS};
+ghost use Rattle.at_fold.specs.HasCounted.{HasCounted};
+ghost use Rattle.at_history.specs.Fronts.{prefix_of};
+ghost use Rattle.at_history.specs.Rounds.{owns_of};
+ghost use Rattle.at_ledger.specs.Call.{AreTargetsOn};
+ghost use Rattle.at_ledger.specs.declared.call.Call.{Call};
+ghost use Rattle.at_log.specs.Placed.{IsPlaced};
+ghost use Rattle.at_log.specs.Receipts.{owns_in, payout_of};
+ghost use Rattle.at_log.specs.declared.receipt.Receipt.{Receipt};
+ghost use Rattle.at_single.specs.Standing.{IsOnlyOwner, StandsAfterFront, StandsAtFront, StandsAtOwn, front_behind, newly_counted, payment_reply};
+ghost use Rattle.at_snapshot.specs.Snapshots.{IsSnapshot, snapshot_steps};
+
+use crate::looks::look;
+use at_board::{Board, BoardSeat, Entry, Steps};
+use at_fold::Totals;
+use at_ledger::{Call, Reply, Targets};
+use at_log::{At, Receipt, Record, append};
+use std::sync::ledger::Ledger;
+
+/// Moves the amount from an account that the seat's process owns alone, if the balance at the front of a snapshot covers it.
+/// Takes no memory.
+pub fn transfer_own<L: Ledger, X: Ledger>(
+    board: &Board,
+    seat: &mut BoardSeat,
+    totals: &mut Totals,
+    from: u32,
+    to: u32,
+    amount: u64,
+    steps: &mut Steps<L>,
+    exchanges: &mut Steps<X>,
+) -> Receipt
+    requires seat { IsOf seat.old board.now }
+    requires totals { HasCounted totals.old board.now.book seat.old.knows.seen }
+    requires from { from < length board.now.book.accounts }
+    requires to { to < length board.now.book.accounts }
+    requires owner { IsOnlyOwner board.now.book seat.old.knows.first from }
+    requires room { owns_of seat.old.knows.first seat.old.knows.seen < board.now.book.own_room }
+    ensures call { result.call ≡ Call.Transfer from to amount }
+    ensures reply { result.reply ≡ payment_reply board.now.book
+        (prefix_of (front_behind seat.new.knows result.at) seat.new.knows.seen)
+        from ((to, amount) ∷ []) }
+    ensures placed { (earlier : List Receipt) →
+        owns_in earlier ≡ owns_of seat.old.knows.first seat.old.knows.seen →
+        IsPlaced board.now.book seat.old.knows.first seat.new.knows.seen earlier result }
+    ensures after_front { StandsAfterFront seat.new.knows result }
+    ensures snapshot { IsSnapshot board.now.book seat.old.knows seat.new.knows
+        (front_behind seat.new.knows result.at) }
+    ensures short { result.reply ≡ Reply.Short →
+        StandsAtFront board.now.book seat.old.knows seat.new.knows result.at }
+    ensures done { result.reply ≡ Reply.Done →
+        StandsAtOwn board.now.book seat.old.knows seat.new.knows from ((to, amount) ∷ [])
+        result.at }
+    ensures counted { HasCounted totals.new board.now.book seat.new.knows.seen }
+    ensures own_counted { slice_index totals.new.upto seat.new.knows.first
+        ≡ (own_part seat.new.knows).published }
+    ensures board { IsOf seat.new board.now }
+    ensures steps { steps.new ≤ steps.old + snapshot_steps board.now.book.processes
+        + (RECORD_WORDS + board.now.book.processes + 1)
+        + RECORD_WORDS * newly_counted seat.old.knows seat.new.knows totals.old totals.new }
+    ensures steps_short { result.reply ≡ Reply.Short →
+        steps.new ≤ steps.old + snapshot_steps board.now.book.processes
+        + RECORD_WORDS * newly_counted seat.old.knows seat.new.knows totals.old totals.new }
+    ensures exchanges { exchanges.new ≡ exchanges.old }
+{
+    let targets = Targets::one(to, amount);
+    let (reply, at) = pay(board, seat, totals, from, &targets, steps, exchanges);
+    Receipt {
+        call: Call::Transfer { from, to, amount },
+        reply,
+        at,
+    }
+}
+
+/// Moves each amount to its target from an account that the seat's process owns alone, all of them if the balance at the front of
+/// a snapshot covers their sum, and else none. Takes no memory.
+pub fn pay_own<L: Ledger, X: Ledger>(
+    board: &Board,
+    seat: &mut BoardSeat,
+    totals: &mut Totals,
+    from: u32,
+    targets: &Targets,
+    steps: &mut Steps<L>,
+    exchanges: &mut Steps<X>,
+) -> Receipt
+    requires seat { IsOf seat.old board.now }
+    requires totals { HasCounted totals.old board.now.book seat.old.knows.seen }
+    requires from { from < length board.now.book.accounts }
+    requires targets { AreTargetsOn (length board.now.book.accounts) targets.now }
+    requires owner { IsOnlyOwner board.now.book seat.old.knows.first from }
+    requires room { owns_of seat.old.knows.first seat.old.knows.seen < board.now.book.own_room }
+    ensures call { result.call ≡ Call.Pay from targets.now }
+    ensures reply { result.reply ≡ payment_reply board.now.book
+        (prefix_of (front_behind seat.new.knows result.at) seat.new.knows.seen)
+        from targets.now }
+    ensures placed { (earlier : List Receipt) →
+        owns_in earlier ≡ owns_of seat.old.knows.first seat.old.knows.seen →
+        IsPlaced board.now.book seat.old.knows.first seat.new.knows.seen earlier result }
+    ensures after_front { StandsAfterFront seat.new.knows result }
+    ensures snapshot { IsSnapshot board.now.book seat.old.knows seat.new.knows
+        (front_behind seat.new.knows result.at) }
+    ensures short { result.reply ≡ Reply.Short →
+        StandsAtFront board.now.book seat.old.knows seat.new.knows result.at }
+    ensures done { result.reply ≡ Reply.Done →
+        StandsAtOwn board.now.book seat.old.knows seat.new.knows from targets.now result.at }
+    ensures counted { HasCounted totals.new board.now.book seat.new.knows.seen }
+    ensures own_counted { slice_index totals.new.upto seat.new.knows.first
+        ≡ (own_part seat.new.knows).published }
+    ensures board { IsOf seat.new board.now }
+    ensures steps { steps.new ≤ steps.old + snapshot_steps board.now.book.processes
+        + (RECORD_WORDS + board.now.book.processes + 1)
+        + RECORD_WORDS * newly_counted seat.old.knows seat.new.knows totals.old totals.new }
+    ensures steps_short { result.reply ≡ Reply.Short →
+        steps.new ≤ steps.old + snapshot_steps board.now.book.processes
+        + RECORD_WORDS * newly_counted seat.old.knows seat.new.knows totals.old totals.new }
+    ensures exchanges { exchanges.new ≡ exchanges.old }
+{
+    let (reply, at) = pay(board, seat, totals, from, targets, steps, exchanges);
+    Receipt {
+        call: Call::Pay {
+            from,
+            targets: targets.copy(),
+        },
+        reply,
+        at,
+    }
+}
+
+/// What both payments do, whatever the call was: its reply, and where it stands.
+fn pay<L: Ledger, X: Ledger>(
+    board: &Board,
+    seat: &mut BoardSeat,
+    totals: &mut Totals,
+    from: u32,
+    targets: &Targets,
+    steps: &mut Steps<L>,
+    exchanges: &mut Steps<X>,
+) -> (Reply, At)
+    requires seat { IsOf seat.old board.now }
+    requires totals { HasCounted totals.old board.now.book seat.old.knows.seen }
+    requires from { from < length board.now.book.accounts }
+    requires targets { AreTargetsOn (length board.now.book.accounts) targets.now }
+    requires owner { IsOnlyOwner board.now.book seat.old.knows.first from }
+    requires room { owns_of seat.old.knows.first seat.old.knows.seen < board.now.book.own_room }
+    ensures reply { result.0 ≡ payment_reply board.now.book
+        (prefix_of (front_behind seat.new.knows result.1) seat.new.knows.seen)
+        from targets.now }
+    ensures placed { (call : Call) → payout_of call ≡ Some (from, targets.now) →
+        (earlier : List Receipt) →
+        owns_in earlier ≡ owns_of seat.old.knows.first seat.old.knows.seen →
+        IsPlaced board.now.book seat.old.knows.first seat.new.knows.seen earlier
+        (record { call = call; reply = result.0; at = result.1 }) }
+    ensures after_front { (call : Call) → StandsAfterFront seat.new.knows
+        (record { call = call; reply = result.0; at = result.1 }) }
+    ensures snapshot { IsSnapshot board.now.book seat.old.knows seat.new.knows
+        (front_behind seat.new.knows result.1) }
+    ensures short { result.0 ≡ Reply.Short →
+        StandsAtFront board.now.book seat.old.knows seat.new.knows result.1 }
+    ensures done { result.0 ≡ Reply.Done →
+        StandsAtOwn board.now.book seat.old.knows seat.new.knows from targets.now result.1 }
+    ensures counted { HasCounted totals.new board.now.book seat.new.knows.seen }
+    ensures own_counted { slice_index totals.new.upto seat.new.knows.first
+        ≡ (own_part seat.new.knows).published }
+    ensures board { IsOf seat.new board.now }
+    ensures steps { steps.new ≤ steps.old + snapshot_steps board.now.book.processes
+        + (RECORD_WORDS + board.now.book.processes + 1)
+        + RECORD_WORDS * newly_counted seat.old.knows seat.new.knows totals.old totals.new }
+    ensures steps_short { result.0 ≡ Reply.Short →
+        steps.new ≤ steps.old + snapshot_steps board.now.book.processes
+        + RECORD_WORDS * newly_counted seat.old.knows seat.new.knows totals.old totals.new }
+    ensures exchanges { exchanges.new ≡ exchanges.old }
+{
+    seat.known();
+    // There are one to four targets, as their type keeps.
+    let _count = targets.len();
+    let view = look(board, seat, totals, steps, exchanges);
+    if u128::from(totals.balance(from)) < targets.sum() {
+        return (Reply::Short, At::Front(view));
+    }
+    let number = seat.published();
+    let entry = Entry::Own {
+        from,
+        targets: targets.copy(),
+    };
+    let record = Record { entry, view };
+    // The front stays one, and what it covers stays covered, whatever others publish before this record.
+    append(board, seat, &record, steps, exchanges);
+    totals.count_own(seat, &record.entry);
+    (Reply::Done, At::Own(number))
+}

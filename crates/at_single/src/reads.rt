@@ -1,0 +1,59 @@
+//! Reads.
+
+ghost use Rattle.std.specs.Prelude.{◌≡◌, ◌+◌, ◌*◌, ◌<◌, ◌≤◌, List, length, slice_index};
+ghost use Rattle.at_board.specs.Knowledge.Parts.{own_part};
+ghost use Rattle.at_board.specs.Knowledge.Seats.{IsOf};
+ghost use Rattle.at_board.specs.declared.words.TheConstants.{RECORD_WORDS};
+ghost use Rattle.at_fold.specs.HasCounted.{HasCounted};
+ghost use Rattle.at_history.specs.Balances.{balance_after};
+ghost use Rattle.at_history.specs.Fronts.{prefix_of};
+ghost use Rattle.at_log.specs.Placed.{IsPlaced};
+ghost use Rattle.at_log.specs.declared.receipt.Receipt.{Receipt};
+ghost use Rattle.at_single.specs.Standing.{StandsAfterFront, StandsAtFront, front_behind, newly_counted};
+ghost use Rattle.at_snapshot.specs.Snapshots.{IsSnapshot, snapshot_steps};
+
+use crate::looks::look;
+use at_board::{Board, BoardSeat, Steps};
+use at_fold::Totals;
+use at_ledger::{Call, Reply};
+use at_log::{At, Receipt};
+use std::sync::ledger::Ledger;
+
+/// The balance of an account at the front of a snapshot. Nothing is published, and no memory is taken.
+pub fn read_account<L: Ledger, X: Ledger>(
+    board: &Board,
+    seat: &mut BoardSeat,
+    totals: &mut Totals,
+    account: u32,
+    steps: &mut Steps<L>,
+    exchanges: &mut Steps<X>,
+) -> Receipt
+    requires seat { IsOf seat.old board.now }
+    requires totals { HasCounted totals.old board.now.book seat.old.knows.seen }
+    requires account { account < length board.now.book.accounts }
+    ensures call { result.call ≡ Call.Read account }
+    ensures reply { result.reply ≡ Reply.Balance (balance_after board.now.book
+        (prefix_of (front_behind seat.new.knows result.at) seat.new.knows.seen) account) }
+    ensures placed { (earlier : List Receipt) →
+        IsPlaced board.now.book seat.old.knows.first seat.new.knows.seen earlier result }
+    ensures after_front { StandsAfterFront seat.new.knows result }
+    ensures snapshot { IsSnapshot board.now.book seat.old.knows seat.new.knows
+        (front_behind seat.new.knows result.at) }
+    ensures at_front { StandsAtFront board.now.book seat.old.knows seat.new.knows result.at }
+    ensures counted { HasCounted totals.new board.now.book seat.new.knows.seen }
+    ensures own_counted { slice_index totals.new.upto seat.new.knows.first
+        ≡ (own_part seat.new.knows).published }
+    ensures board { IsOf seat.new board.now }
+    ensures steps { steps.new ≤ steps.old + snapshot_steps board.now.book.processes
+        + RECORD_WORDS * newly_counted seat.old.knows seat.new.knows totals.old totals.new }
+    ensures exchanges { exchanges.new ≡ exchanges.old }
+{
+    seat.known();
+    let front = look(board, seat, totals, steps, exchanges);
+    let balance = totals.balance(account);
+    Receipt {
+        call: Call::Read { account },
+        reply: Reply::Balance(balance),
+        at: At::Front(front),
+    }
+}
