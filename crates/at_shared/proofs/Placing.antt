@@ -1,0 +1,185 @@
+-- Where the receipt of a settled request stands, and why it is right there.
+use Rattle.std.proofs.Common.{◌≡◌, ◌⊎◌, ℕ, ◌+◌, ◌*◌, ◌<◌, ◌≤◌, ◌==◌, ◌&&◌, ◌||◌, Bool, true, false, cond, List, length, take, Some, is_some, refl, sym, ap, subst, ◌∙◌, arith, inl, inr}
+use Rattle.std.proofs.lemmas.Bool.{and_from, cases_Bool, cases_lt, eq-eqb, ne_eqb}
+use Rattle.std.proofs.lemmas.List.{get_or-take, get_or_default, length-take}
+use Rattle.std.proofs.lemmas.List.Folds.{list_any-from_Any}
+use Rattle.at_base.specs.declared.decision.Decision.{Decision}
+use Rattle.at_ledger.specs.Account.{AccountTerms, is_shared}
+use Rattle.at_ledger.specs.Book.{BookTerms, HasSlot, account_of, is_owner}
+use Rattle.at_ledger.specs.Call.{TargetPair}
+use Rattle.at_ledger.specs.declared.call.Reply.TheVariants.{Done, Short}
+use Rattle.at_history.proofs.Laws.Runs.{is_single-shared}
+use Rattle.at_history.proofs.Laws.Settled.{round-below}
+use Rattle.at_history.specs.BoardState.{publication_at}
+use Rattle.at_history.specs.Entries.{is_round, settles}
+use Rattle.at_history.specs.Histories.{IsHistory, IsShownDecision, IsShownRound}
+use Rattle.at_history.specs.Publications.{no_publication}
+use Rattle.at_history.specs.Rounds.{is_settled}
+use Rattle.at_history.specs.declared.publication.Entry.TheVariants.{Round}
+use Rattle.at_history.specs.declared.publication.Publication.{Publication}
+use Rattle.at_board.specs.Knowledge.Agreement.{AgreesOnEntry, AgreesWithSeen}
+use Rattle.at_board.specs.Knowledge.Parts.{SeesRequest}
+use Rattle.at_board.specs.declared.knowledge.Knowledge.{Knowledge}
+use Rattle.at_fold.specs.Counted.{IsDecidedIn}
+use Rattle.at_log.proofs.Laws.FirstRecords.{is_round-true}
+use Rattle.at_log.proofs.Laws.Positions.{round_position-at}
+use Rattle.at_log.proofs.Laws.Replies.{first_account-payout}
+use Rattle.at_log.specs.Placed.{IsPlaced, has_no_room, round}
+use Rattle.at_log.specs.Receipts.{asks_in, is_success, owns_in, payout_of}
+use Rattle.at_log.specs.Told.{first_account, key_at, round_position}
+use Rattle.at_log.specs.declared.receipt.At.{At}
+use Rattle.at_log.specs.declared.receipt.Receipt.{Receipt}
+use Rattle.at_rows.specs.OpenRequests.{request_of}
+use Rattle.at_shared.specs.HelpingTerms.{HelpingTerms}
+use Rattle.at_shared.specs.Helpings.{IsHelpingAt}
+use Rattle.at_shared.specs.Settling.{StandsAfter, StandsInRound}
+
+-- an owner with a slot shares the account
+pub is_shared-HasSlot : (b : BookTerms) (p a slot : ℕ) → HasSlot b p a slot → is_shared (account_of b a) ≡ true
+is_shared-HasSlot b p a slot has =
+    let t : AccountTerms = account_of b a in
+    elim (cases_Bool (is_shared t)) as (λ _. is_shared t ≡ true) [
+      | inl on ↦ on
+      | inr off ↦ absurd (omega (arith, has.within, ap (λ k. cond k (length t.owners) 0) off))
+    ]
+
+pub is_owner-HasSlot : (b : BookTerms) (p a slot : ℕ) → HasSlot b p a slot → is_owner b p a ≡ true
+is_owner-HasSlot b p a slot has = ap is_some has.owner
+
+-- a record of the round that decided the own request stands in what the seat has seen
+pub record IsSettledBy (z : Knowledge) (h : HelpingTerms) (r : ℕ) (d : Decision) : Type 0 where
+  pub position : ℕ
+  pub within : position < length z.seen
+  pub targets : List TargetPair
+  pub entry : (publication_at z.seen position).entry ≡ Round h.account r d targets
+  pub slot_is : d.slot ≡ h.own.slot
+  pub number_is : d.number ≡ h.own.number
+
+-- such a record in a prefix is one
+pub IsSettledBy-IsDecidedIn : (z : Knowledge) (h : HelpingTerms) (r m : ℕ) (d : Decision) → IsDecidedIn (take m z.seen) h.account h.own.slot h.own.number r d
+    → IsSettledBy z h r d
+IsSettledBy-IsDecidedIn z h r m d in_list =
+    let (i, within, is) = in_list.listed in
+    let inside : (i < m) × (i < length z.seen) = (omega (arith, within, length-take m z.seen), omega (arith, within, length-take m z.seen)) in
+    let here : in_list.publication ≡ publication_at z.seen i =
+    sym is ∙ (get_or-take m z.seen i in_list.publication inside.0 ∙ get_or_default z.seen i in_list.publication no_publication inside.1) in
+    record {
+      position = i;
+      within = inside.1;
+      targets = in_list.targets;
+      entry = sym (ap (λ (x : Publication). x.entry) here) ∙ in_list.entry;
+      slot_is = in_list.slot;
+      number_is = in_list.number;
+    }
+
+pub settles-round : (a slot number r : ℕ) (d : Decision) (targets : List TargetPair) → d.slot ≡ slot → d.number ≡ number
+    → settles a slot number (Round a r d targets) ≡ true
+settles-round a slot number r d targets slot_is number_is =
+    and_from (a == a) ((d.slot == slot) && (d.number == number)) (eq-eqb a a refl)
+    (and_from (d.slot == slot) (d.number == number) (eq-eqb d.slot slot slot_is) (eq-eqb d.number number number_is))
+
+-- and the request is settled there
+pub is_settled-IsDecidedIn : (list : List Publication) (a slot number r : ℕ) (d : Decision) → IsDecidedIn list a slot number r d
+    → is_settled a slot number list ≡ true
+is_settled-IsDecidedIn list a slot number r d in_list =
+    let (i, within, is) = in_list.listed in
+    list_any-from_Any (λ (x : Publication). settles a slot number x.entry) list (
+      i,
+      in_list.publication,
+      within,
+      is,
+      ap (settles a slot number) in_list.entry ∙ settles-round a slot number r d in_list.targets in_list.slot in_list.number,
+    )
+
+module _ (b : BookTerms) (z : Knowledge) (list : List Publication) (h : HelpingTerms) (r : ℕ) (d : Decision) (history : IsHistory b z.seen)
+    (agrees : AgreesWithSeen z) (is : IsHelpingAt b z list h) (by : IsSettledBy z h r d) where
+  agreed : AgreesOnEntry z (Round h.account r d by.targets)
+  agreed = subst (AgreesOnEntry z) by.entry (agrees.records by.position no_publication by.within)
+
+  sees : SeesRequest z h.account d.slot d.number (request_of h.own)
+  sees =
+      subst (λ s. SeesRequest z h.account s d.number (request_of h.own)) (sym by.slot_is)
+      (subst (λ n. SeesRequest z h.account h.own.slot n (request_of h.own)) (sym by.number_is) (is.seen h.own is.own_in))
+
+  targets_are : h.own.targets ≡ by.targets
+  targets_are = agreed.1 (request_of h.own) sees
+
+  since_before : h.own.since ≤ d.place
+  since_before = agreed.0.since (request_of h.own) sees
+
+  shown : IsShownRound b z.seen h.account r d by.targets
+  shown = subst (IsShownDecision b z.seen) by.entry (history.decisions by.position by.within)
+
+  shared : is_shared (account_of b h.account) ≡ true
+  shared = is_shared-HasSlot b z.first h.account h.own.slot is.asked.slot_in
+
+  has_room : (earlier : List Receipt) → asks_in h.account earlier ≡ h.own.number → has_no_room b h.account earlier ≡ false
+  has_room earlier asks =
+      let less : (asks_in h.account earlier == b.request_room) ≡ false =
+      ne_eqb (asks_in h.account earlier) b.request_room (λ e. omega (arith, e, asks, is.room)) in
+      ap (λ t. (t && (owns_in earlier == b.own_room)) || (is_shared (account_of b h.account) && (asks_in h.account earlier == b.request_room)))
+      (is_single-shared b h.account shared)
+      ∙ (ap (λ t. t && (asks_in h.account earlier == b.request_room)) shared ∙ less)
+
+  -- the receipt of that round is right
+  pub IsPlaced-IsSettledBy : (receipt : Receipt) → receipt.call ≡ h.call → receipt.reply ≡ cond d.ok Done Short → receipt.at ≡ At.Round r d.place
+      → (earlier : List Receipt) → asks_in h.account earlier ≡ h.own.number → IsPlaced b z.first z.seen earlier receipt
+  IsPlaced-IsSettledBy receipt call reply at earlier asks =
+      round h.account h.own.targets
+      (record {
+        call = ap payout_of call ∙ is.payout;
+        owner = is_owner-HasSlot b z.first h.account h.own.slot is.asked.slot_in;
+        room = has_room earlier asks;
+      })
+      shared
+      (record {
+        round = r;
+        decision = d;
+        position = by.position;
+        within = by.within;
+        at = at;
+        entry = by.entry ∙ ap (Round h.account r d) (sym targets_are);
+        slot = is.asked.slot_in.owner ∙ ap Some (sym by.slot_is);
+        next = by.number_is ∙ sym asks;
+        reply = reply;
+      })
+
+  -- the first record of its round stands at or after the place of the decision
+  place_before : d.place ≤ round_position h.account r z.seen
+  place_before =
+      let pos = round_position h.account r z.seen in
+      let here : is_round h.account r (publication_at z.seen by.position).entry ≡ true =
+      ap (is_round h.account r) by.entry ∙ and_from (h.account == h.account) (r == r) (eq-eqb h.account h.account refl) (eq-eqb r r refl) in
+      let first = round_position-at h.account r z.seen by.position by.within here in
+      elim (cases_lt pos d.place) as (λ _. d.place ≤ pos) [
+        | inl below ↦
+            let form = is_round-true h.account r (publication_at z.seen pos).entry first.here in
+            absurd (omega (arith, round-below b z.seen pos d.place h.account r form.0 form.1 history below first.within form.2, shown.next))
+        | inr above ↦ above
+      ]
+
+  -- so it stands at or after the request's `since`
+  pub StandsAfter-IsSettledBy : (receipt : Receipt) → receipt.call ≡ h.call → receipt.at ≡ At.Round r d.place → StandsAfter h.own.since z receipt
+  StandsAfter-IsSettledBy receipt call at previous =
+      let moved : Bool = is_success receipt.reply in
+      let key = ap (key_at z.first z.seen previous receipt.call moved) at in
+      let account : first_account receipt.call ≡ h.account = first_account-payout h.account h.own.targets receipt.call (ap payout_of call ∙ is.payout) in
+      let pos : round_position (first_account receipt.call) r z.seen ≡ round_position h.account r z.seen = ap (λ a. round_position a r z.seen) account in
+      let choice = λ (t : Bool). cond t (2 * round_position (first_account receipt.call) r z.seen + 1) (2 * d.place) in
+      elim (cases_Bool moved) as (λ _. 2 * h.own.since ≤ key_at z.first z.seen previous receipt.call moved receipt.at) [
+        | inl on ↦ omega (arith, since_before, place_before, pos, key, ap choice on)
+        | inr off ↦ omega (arith, since_before, key, ap choice off)
+      ]
+
+-- it stands in that round, done or short
+pub StandsInRound-receipt : (receipt : Receipt) (r : ℕ) (d : Decision) → receipt.reply ≡ cond d.ok Done Short → receipt.at ≡ At.Round r d.place
+    → StandsInRound receipt
+StandsInRound-receipt receipt r d reply at = record {
+  round = r;
+  place = d.place;
+  at = at;
+  reply = elim (cases_Bool d.ok) as (λ _. (receipt.reply ≡ Done) ⊎ (receipt.reply ≡ Short)) [
+    | inl on ↦ inl (reply ∙ ap (λ t. cond t Done Short) on)
+    | inr off ↦ inr (reply ∙ ap (λ t. cond t Done Short) off)
+  ];
+}

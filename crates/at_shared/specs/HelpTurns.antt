@@ -1,0 +1,72 @@
+-- What a turn of helping does, and when it answers what.
+use Rattle.std.specs.Prelude.{◌≡◌, ℕ, ◌⊎◌, true, false, List}
+use Rattle.at_base.specs.declared.decision.Decision.{Decision}
+use Rattle.at_ledger.specs.Book.{BookTerms}
+use Rattle.at_ledger.specs.Call.{TargetPair}
+use Rattle.at_history.specs.Fronts.{place, prefix_of}
+use Rattle.at_history.specs.Rounds.{is_settled, rounds}
+use Rattle.at_history.specs.declared.publication.Entry.{Entry}
+use Rattle.at_history.specs.declared.publication.Publication.{Publication}
+use Rattle.at_board.specs.Steps.Publish.{Publishes}
+use Rattle.at_board.specs.declared.knowledge.Knowledge.{Knowledge}
+use Rattle.at_log.specs.declared.receipt.Receipt.{Receipt}
+use Rattle.at_rounds.specs.Answers.{DecidesAs}
+use Rattle.at_rows.specs.Loads.{LoadsRequest}
+use Rattle.at_rows.specs.declared.open_request.OpenRequest.{OpenRequest}
+use Rattle.at_shared.specs.HelpingTerms.{HelpingTerms}
+use Rattle.at_shared.specs.declared.helping.HelpTurn.{HelpTurn}
+use Rattle.at_shared.specs.declared.helping.HelpTurn.TheVariants.{Settled, More}
+use Rattle.at_snapshot.specs.Collected.{HasLoaded}
+use Rattle.at_snapshot.specs.Snapshots.{IsSnapshot}
+
+-- the record of a round by a process, with this view
+abbrev pub round_record : ℕ → List ℕ → ℕ → ℕ → Decision → List TargetPair → Publication
+round_record process view a round d targets = record { process = process; view = view; entry = Entry.Round a round d targets }
+
+-- the request that a decision names was loaded, and the round's record published with this view
+pub record PublishesRound (b : BookTerms) (before after : Knowledge) (a round : ℕ) (d : Decision) (view : List ℕ) : Type 0 where
+  pub loaded : Knowledge
+  pub request : OpenRequest
+  pub loads : LoadsRequest b before loaded a d.slot d.number request
+  pub published : Publishes b loaded after (round_record loaded.first view a round d request.targets)
+
+-- one round was decided and published: where the own request was unsettled at the front, an exchange was made on the cell of the
+-- next round there, with a proposal for that front, and the round was published with that front as its view
+pub record DecidesNext (b : BookTerms) (looked after : Knowledge) (h : HelpingTerms) (front : List ℕ) (d : Decision) : Type 0 where
+  pub unsettled : is_settled h.account h.own.slot h.own.number (prefix_of front looked.seen) ≡ false
+  pub proposal : Decision
+  pub at_front : proposal.place ≡ place front
+  pub decided : Knowledge
+  pub decides : DecidesAs b looked decided h.account (rounds h.account (prefix_of front looked.seen)) proposal d
+  pub publishes : PublishesRound b decided after h.account (rounds h.account (prefix_of front looked.seen)) d front
+
+-- a turn has looked, and decided and published one round
+pub record HelpsDecide (b : BookTerms) (before after : Knowledge) (h : HelpingTerms) (d : Decision) : Type 0 where
+  pub front : List ℕ
+  pub looked : Knowledge
+  pub snapshot : IsSnapshot b before looked front
+  pub loads : HasLoaded b before looked
+  pub next : DecidesNext b looked after h front d
+
+-- a turn has found its own request settled at its front, and has done nothing but look
+pub record FindsSettled (b : BookTerms) (before after : Knowledge) (h : HelpingTerms) : Type 0 where
+  pub front : List ℕ
+  pub snapshot : IsSnapshot b before after front
+  pub loads : HasLoaded b before after
+  pub settled : is_settled h.account h.own.slot h.own.number (prefix_of front after.seen) ≡ true
+
+-- the decision names the own request
+abbrev pub NamesOwn : HelpingTerms → Decision → Type 0
+NamesOwn h d = (d.slot ≡ h.own.slot) × (d.number ≡ h.own.number)
+
+-- settled exactly where the request is settled at the turn's front or the turn's own round decides it; and else more
+abbrev pub HelpAnswers : BookTerms → Knowledge → Knowledge → HelpingTerms → HelpTurn → Type 0
+HelpAnswers b before after h (Settled receipt) =
+    FindsSettled b before after h ⊎ ((d : Decision) × HelpsDecide b before after h d × NamesOwn h d)
+HelpAnswers b before after h More =
+    (d : Decision) × HelpsDecide b before after h d × ¬ NamesOwn h d
+
+-- what holds of the receipt of an answer
+abbrev pub OnSettled : HelpTurn → (Receipt → Type 0) → Type 0
+OnSettled (Settled receipt) holds = holds receipt
+OnSettled More holds = Unit {0}

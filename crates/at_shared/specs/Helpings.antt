@@ -1,0 +1,82 @@
+-- What a helping has to do with its owner's seat.
+use Rattle.std.specs.Prelude.{◌≡◌, ℕ, ◌-◌, ◌<◌, ◌≤◌, ◌⊎◌, true, List, length, All, Contains, Some, None}
+use Rattle.at_ledger.specs.Account.{slots_of}
+use Rattle.at_ledger.specs.Book.{BookTerms, HasSlot, account_of}
+use Rattle.at_ledger.specs.Call.{AreTargetsOn, TargetPair}
+use Rattle.at_ledger.specs.declared.call.Call.{Call}
+use Rattle.at_history.specs.Fronts.{place}
+use Rattle.at_history.specs.Rounds.{is_settled, rounds}
+use Rattle.at_history.specs.declared.publication.Publication.{Publication}
+use Rattle.at_history.specs.declared.request.SeenRow.{SeenRow}
+use Rattle.at_board.specs.Knowledge.Candidates.{HasLoadedRows, IsCandidate}
+use Rattle.at_board.specs.Knowledge.Parts.{SeesRequest, asking_on, own_part}
+use Rattle.at_board.specs.Steps.Announce.{Announces}
+use Rattle.at_board.specs.declared.knowledge.Knowledge.{Knowledge}
+use Rattle.at_board.specs.declared.knowledge.LoadedWord.{LoadedWord}
+use Rattle.at_log.specs.Receipts.{payout_of}
+use Rattle.at_rows.specs.Asks.{HasAsked}
+use Rattle.at_rows.specs.OpenRequests.{IsAmong, request_of, seen_of}
+use Rattle.at_rows.specs.Rows.{LoadsOnly}
+use Rattle.at_rows.specs.declared.open_request.OpenRequest.{OpenRequest}
+use Rattle.at_shared.specs.HelpingTerms.{HelpingTerms}
+use Rattle.at_snapshot.specs.Collected.{HasLoaded}
+use Rattle.at_snapshot.specs.Snapshots.{IsSnapshot}
+
+-- how many exchanges on cells of the account the seat's process has made, and how many rounds it had heard there when it last asked
+abbrev pub decides_on : Knowledge → ℕ → ℕ
+decides_on v a = (asking_on (own_part v) a).decides
+
+abbrev pub heard_on : Knowledge → ℕ → ℕ
+heard_on v a = (asking_on (own_part v) a).heard
+
+-- how many exchanges on cells of the account it has made between two moments
+abbrev pub decides_made : ℕ → Knowledge → Knowledge → ℕ
+decides_made a before after = decides_on after a - decides_on before a
+
+-- the call is a pay-out from the account to accounts of the book
+pub record IsPayoutFrom (b : BookTerms) (a : ℕ) (call : Call) : Type 0 where
+  pub targets : List TargetPair
+  pub payout : payout_of call ≡ Some (a, targets)
+  pub accounts : AreTargetsOn (length b.accounts) targets
+
+-- each request of the seat's process on the account is settled in what the seat has seen
+abbrev pub HasAllSettled : BookTerms → Knowledge → ℕ → Type 0
+HasAllSettled b v a = (slot number : ℕ) → HasSlot b v.first a slot → number < length (asking_on (own_part v) a).announced →
+    is_settled a slot number v.seen ≡ true
+
+-- the request stands for its call, and is the last that the seat's process has announced on the account. The process has loaded the
+-- others' rows since then, holds no cell, and has seen each request that was collected: these are the ones that it may propose,
+-- but for those that are settled in the list
+pub record IsHelpingAt (b : BookTerms) (v : Knowledge) (list : List Publication) (h : HelpingTerms) : Type 0 where
+  pub payout : payout_of h.call ≡ Some (h.account, h.own.targets)
+  pub asked : HasAsked b v h.account h.own
+  pub room : h.own.number < b.request_room
+  pub since : h.own.since ≤ length list
+  pub heard : heard_on v h.account ≤ rounds h.account list
+  pub free : (own_part v).held ≡ None
+  pub collected : HasLoadedRows b v h.account h.own.slot
+  pub own_in : Contains h.asked h.own
+  pub slots : All (λ x. x.slot < slots_of (account_of b h.account)) h.asked
+  pub seen : (x : OpenRequest) → Contains h.asked x → SeesRequest v h.account x.slot x.number (request_of x)
+  pub candidates : (x : OpenRequest) → Contains h.asked x →
+      IsCandidate (asking_on (own_part v) h.account) h.account h.own.slot (seen_of h.account x)
+  pub loaded : (l : LoadedWord) → Contains (asking_on (own_part v) h.account).loaded l →
+      IsAmong h.account h.asked l.request ⊎ (is_settled h.account l.request.slot l.request.number list ≡ true)
+
+-- the same of all that the seat has seen
+abbrev pub IsHelping : BookTerms → Knowledge → HelpingTerms → Type 0
+IsHelping b v h = IsHelpingAt b v v.seen h
+
+-- a call has looked, announced its request with the place of its front, and loaded the rows
+pub record HasStarted (b : BookTerms) (before after : Knowledge) (h : HelpingTerms) : Type 0 where
+  pub front : List ℕ
+  pub looked : Knowledge
+  pub snapshot : IsSnapshot b before looked front
+  pub loads : HasLoaded b before looked
+  pub since : h.own.since ≡ place front
+  pub number : h.own.number ≡ length (asking_on (own_part before) h.account).announced
+  pub asked : Knowledge
+  pub announced : Announces b looked asked h.account h.own.slot (request_of h.own)
+  pub rows : List SeenRow
+  pub words : List LoadedWord
+  pub row_loads : LoadsOnly asked after h.account rows words

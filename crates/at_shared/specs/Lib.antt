@@ -1,0 +1,4 @@
+pub mod HelpingTerms
+pub mod Helpings
+pub mod HelpTurns
+pub mod Settling

@@ -1,0 +1,244 @@
+//! A request that waits, and the turns by which it is settled.
+
+ghost use Rattle.std.specs.Prelude.{◌≡◌, ◌≢◌, ℕ, ◌+◌, ◌*◌, ◌<◌, ◌≤◌, List, length, slice_index, sum, None, Some, if◌then◌else◌};
+ghost use Rattle.at_base.specs.declared.decision.Decision.{Decision};
+ghost use Rattle.at_board.specs.Knowledge.Parts.{asking_on, own_part};
+ghost use Rattle.at_board.specs.Knowledge.Seats.{IsOf};
+ghost use Rattle.at_board.specs.Steps.StoreRequestWord.{MayStoreRequest};
+ghost use Rattle.at_board.specs.declared.words.TheConstants.{RECORD_WORDS};
+ghost use Rattle.at_fold.specs.HasCounted.{HasCounted};
+ghost use Rattle.at_history.specs.Publications.{IsPrefix};
+ghost use Rattle.at_history.specs.Rounds.{rounds};
+ghost use Rattle.at_ledger.specs.Account.{slots_of};
+ghost use Rattle.at_ledger.specs.Book.{account_of};
+ghost use Rattle.at_ledger.specs.Call.{TargetPair};
+ghost use Rattle.at_log.specs.Placed.{IsPlaced};
+ghost use Rattle.at_log.specs.Receipts.{asks_in, payout_of};
+ghost use Rattle.at_log.specs.declared.receipt.At.{At};
+ghost use Rattle.at_log.specs.declared.receipt.Receipt.{Receipt};
+ghost use Rattle.at_shared.specs.HelpTurns.{HelpAnswers, NamesOwn, OnSettled};
+ghost use Rattle.at_shared.specs.Helpings.{HasAllSettled, HasStarted, IsHelping, IsPayoutFrom, decides_made, decides_on, heard_on};
+ghost use Rattle.at_shared.specs.Settling.{StandsAfter, StandsInRound, asking_steps, round_steps};
+ghost use Rattle.at_single.specs.Standing.{newly_counted};
+ghost use Rattle.at_snapshot.specs.Snapshots.{snapshot_steps};
+
+use at_base::Decision;
+use at_board::{Board, BoardSeat, Steps};
+use at_fold::Totals;
+use at_ledger::{Call, Reply, Targets};
+use at_log::{At, Receipt};
+use at_rows::{Asked, OpenRequest, ask, collect_rows};
+use at_single::look;
+use std::marker::Model;
+use std::sync::ledger::Ledger;
+
+/// What a turn of helping answers.
+#[derive(Drop)]
+pub enum HelpTurn {
+    /// The request is settled: this is the call's receipt.
+    Settled(Receipt),
+    /// Another request was decided in this turn's round.
+    More,
+}
+
+/// A request of a shared account that its owner waits for, and the requests of the other owners that it found. It takes no memory.
+#[derive(Drop)]
+pub struct Helping {
+    pub(crate) call: Call,
+    pub(crate) account: u32,
+    pub(crate) own: OpenRequest,
+    pub(crate) asked: Asked,
+}
+
+impl Model for Helping {
+    ghost use Rattle.at_shared.specs.HelpingTerms.{HelpingTerms};
+
+    ghost Value = { HelpingTerms };
+
+    ghost view = { λ h. record { call = h.call; account = h.account; own = h.own; asked = h.asked } };
+}
+
+impl Helping {
+    /// Asks for a pay-out from a shared account: takes a snapshot, announces the request with the place of that as its `since`,
+    /// and collects the last requests of the other owners.
+    pub fn start<L: Ledger, X: Ledger>(
+        board: &Board,
+        seat: &mut BoardSeat,
+        totals: &mut Totals,
+        account: u32,
+        call: &Call,
+        steps: &mut Steps<L>,
+        exchanges: &mut Steps<X>,
+    ) -> Helping
+        requires seat { IsOf seat.old board.now }
+        requires totals { HasCounted totals.old board.now.book seat.old.knows.seen }
+        requires call { IsPayoutFrom board.now.book account call.now }
+        requires asks { (slot : ℕ) × MayStoreRequest board.now.book seat.old.knows account slot }
+        requires settled { HasAllSettled board.now.book seat.old.knows account }
+        requires free { (own_part seat.old.knows).held ≡ None }
+        ensures call { result.call ≡ call.now }
+        ensures account { result.account ≡ account }
+        ensures started { HasStarted board.now.book seat.old.knows seat.new.knows result }
+        ensures helping { IsHelping board.now.book seat.new.knows result }
+        ensures number { result.own.number
+            ≡ length (asking_on (own_part seat.old.knows) account).announced }
+        ensures since { length seat.old.knows.seen ≤ result.own.since }
+        ensures begins { IsPrefix seat.old.knows.seen seat.new.knows.seen }
+        ensures process { seat.new.knows.first ≡ seat.old.knows.first }
+        ensures decides { (a : ℕ) → decides_on seat.new.knows a ≡ decides_on seat.old.knows a }
+        ensures published { (own_part seat.new.knows).published
+            ≡ (own_part seat.old.knows).published }
+        ensures more { sum totals.old.upto ≤ sum totals.new.upto }
+        ensures counted { HasCounted totals.new board.now.book seat.new.knows.seen }
+        ensures own_counted { slice_index totals.new.upto seat.new.knows.first
+            ≡ (own_part seat.new.knows).published }
+        ensures board { IsOf seat.new board.now }
+        ensures steps { steps.new ≤ steps.old + snapshot_steps board.now.book.processes
+            + asking_steps (slots_of (account_of board.now.book account))
+            + RECORD_WORDS * newly_counted seat.old.knows seat.new.knows totals.old totals.new }
+        ensures exchanges { exchanges.new ≡ exchanges.old }
+    {
+        seat.known();
+        board.book().known();
+        let front = look(board, seat, totals, steps, exchanges);
+        let targets = targets_of(call);
+        // There are one to four targets, as their type keeps.
+        let _count = targets.len();
+        let slot = board.book().slot_of(account, seat.process()).unwrap();
+        let since = front.sum();
+        let number = ask(board, seat, account, &targets, since, steps, exchanges);
+        let own = OpenRequest {
+            slot,
+            number,
+            targets,
+            since,
+        };
+        // Others may ask at once after each load here. Whoever isn't found asked after this request was announced, and waits less
+        // long.
+        let asked = collect_rows(board, seat, account, &own, steps, exchanges);
+        Helping {
+            call: call.copy(),
+            account,
+            own,
+            asked,
+        }
+    }
+
+    /// Takes a snapshot. Where the request is settled there, the call is answered. Else the oldest unsettled request is proposed to
+    /// the next round, and what was decided there is published; it is settled exactly where that is the own request.
+    pub fn turn<L: Ledger, X: Ledger>(
+        &mut self,
+        board: &Board,
+        seat: &mut BoardSeat,
+        totals: &mut Totals,
+        steps: &mut Steps<L>,
+        exchanges: &mut Steps<X>,
+    ) -> HelpTurn
+        requires seat { IsOf seat.old board.now }
+        requires totals { HasCounted totals.old board.now.book seat.old.knows.seen }
+        requires helping { IsHelping board.now.book seat.old.knows self.old }
+        ensures same { self.new ≡ self.old }
+        ensures answers { HelpAnswers board.now.book seat.old.knows seat.new.knows self.old result }
+        ensures call { OnSettled result (λ r. r.call ≡ self.old.call) }
+        ensures in_round { OnSettled result StandsInRound }
+        ensures placed { OnSettled result (λ r. (earlier : List Receipt)
+            → asks_in self.old.account earlier ≡ self.old.own.number
+            → IsPlaced board.now.book seat.new.knows.first seat.new.knows.seen earlier r) }
+        ensures after_start { OnSettled result (StandsAfter self.old.own.since seat.new.knows) }
+        ensures helping { result ≡ HelpTurn.More
+            → IsHelping board.now.book seat.new.knows self.old }
+        ensures decides_more { result ≡ HelpTurn.More
+            → decides_on seat.new.knows self.old.account
+            ≡ decides_on seat.old.knows self.old.account + 1 }
+        ensures rounds_more { result ≡ HelpTurn.More
+            → rounds self.old.account seat.old.knows.seen + 1
+            ≤ rounds self.old.account seat.new.knows.seen }
+        // Of the rounds that may be decided before the request one is left at least.
+        ensures overtaken { result ≡ HelpTurn.More
+            → rounds self.old.account seat.old.knows.seen + 2
+            ≤ heard_on seat.old.knows self.old.account
+            + slots_of (account_of board.now.book self.old.account) }
+        ensures heard { heard_on seat.new.knows self.old.account
+            ≡ heard_on seat.old.knows self.old.account }
+        ensures free { (own_part seat.new.knows).held ≡ None }
+        ensures begins { IsPrefix seat.old.knows.seen seat.new.knows.seen }
+        ensures process { seat.new.knows.first ≡ seat.old.knows.first }
+        ensures decides_few { decides_on seat.old.knows self.old.account
+            ≤ decides_on seat.new.knows self.old.account }
+        ensures decides_at_most { decides_on seat.new.knows self.old.account
+            ≤ decides_on seat.old.knows self.old.account + 1 }
+        ensures decides_elsewhere { (a : ℕ) → a ≢ self.old.account
+            → decides_on seat.new.knows a ≡ decides_on seat.old.knows a }
+        ensures published { (own_part seat.old.knows).published
+            ≤ (own_part seat.new.knows).published }
+        ensures more { sum totals.old.upto + (own_part seat.new.knows).published
+            ≤ sum totals.new.upto + (own_part seat.old.knows).published }
+        ensures counted { HasCounted totals.new board.now.book seat.new.knows.seen }
+        ensures own_counted { slice_index totals.new.upto seat.new.knows.first
+            ≡ (own_part seat.new.knows).published }
+        ensures board { IsOf seat.new board.now }
+        ensures steps { steps.new ≤ steps.old + snapshot_steps board.now.book.processes
+            + round_steps board.now.book.processes
+            * decides_made self.old.account seat.old.knows seat.new.knows
+            + RECORD_WORDS * newly_counted seat.old.knows seat.new.knows totals.old totals.new }
+        ensures exchanges { exchanges.new
+            ≡ exchanges.old + decides_made self.old.account seat.old.knows seat.new.knows }
+    {
+        seat.known();
+        let front = look(board, seat, totals, steps, exchanges);
+        seat.known();
+        if let Some((round, decision)) = totals.settled(
+            self.account,
+            self.own.slot,
+            self.own.number,
+        ) {
+            return HelpTurn::Settled(self.receipt(round, &decision));
+        }
+        let round = totals.rounds(self.account);
+        let decision = self.decide_next(board, seat, totals, &front, steps, exchanges);
+        seat.known();
+        if decision.slot == self.own.slot && decision.number == self.own.number {
+            HelpTurn::Settled(self.receipt(round, &decision))
+        } else {
+            HelpTurn::More
+        }
+    }
+
+    /// The receipt of the call, where a round has decided its request so.
+    fn receipt(&self, round: u32, decision: &Decision) -> Receipt
+        ensures call { result.call ≡ self.now.call }
+        ensures reply { result.reply ≡ (if decision.now.ok then Reply.Done else Reply.Short) }
+        ensures at { result.at ≡ At.Round round decision.now.place }
+    {
+        Receipt {
+            call: self.call.copy(),
+            reply: if decision.ok {
+                Reply::Done
+            } else {
+                Reply::Short
+            },
+            at: At::Round {
+                round,
+                place: decision.place,
+            },
+        }
+    }
+}
+
+/// The targets of a pay-out.
+fn targets_of(call: &Call) -> Targets
+    requires payout { (a : ℕ) × (targets : List TargetPair)
+        × (payout_of call.now ≡ Some (a, targets)) }
+    ensures { (a : ℕ) (targets : List TargetPair) → payout_of call.now ≡ Some (a, targets)
+        → result ≡ targets }
+{
+    match call {
+        Call::Transfer {
+            from: _,
+            to,
+            amount,
+        } => Targets::one(*to, *amount),
+        Call::Read { account: _ } => unreachable!(),
+        Call::Pay { from: _, targets } => targets.copy(),
+    }
+}

@@ -1,0 +1,183 @@
+//! One round: a proposal for the front of a turn, and the record of what was decided.
+
+ghost use Rattle.std.specs.Prelude.{◌≡◌, ℕ, ◌+◌, ◌<◌, ◌≤◌, false, length, slice_index, slice_set, sum};
+ghost use Rattle.at_board.specs.Knowledge.Parts.{SeesDecision, own_part};
+ghost use Rattle.at_board.specs.Knowledge.Seats.{IsOf};
+ghost use Rattle.at_board.specs.Steps.Decide.{MayPropose};
+ghost use Rattle.at_board.specs.declared.words.TheConstants.{RECORD_WORDS, REQUEST_WORDS};
+ghost use Rattle.at_fold.specs.HasCounted.{CountsFront, HasCounted};
+ghost use Rattle.at_history.specs.Fronts.{IsFront, place, prefix_of};
+ghost use Rattle.at_history.specs.Rounds.{is_settled, named, rounds};
+ghost use Rattle.at_history.specs.Sound.{IsSoundRound};
+ghost use Rattle.at_history.specs.declared.request.Request.{Request};
+ghost use Rattle.at_ledger.specs.Account.{slots_of};
+ghost use Rattle.at_ledger.specs.Book.{account_of};
+ghost use Rattle.at_ledger.specs.Limits.{most_owners};
+ghost use Rattle.at_shared.specs.HelpTurns.{DecidesNext, PublishesRound};
+ghost use Rattle.at_shared.specs.Helpings.{IsHelpingAt};
+ghost use Rattle.at_shared.specs.Settling.{round_steps};
+
+use crate::helping::Helping;
+use at_base::{Counts, Decision};
+use at_board::{Board, BoardSeat, Entry, Steps};
+use at_fold::Totals;
+use at_log::{Record, append};
+use at_rounds::propose;
+use at_rows::{load_request, oldest};
+use std::sync::ledger::Ledger;
+
+impl Helping {
+    /// Has the next round at the front decided, and publishes it with that front as the view.
+    pub(crate) fn decide_next<L: Ledger, X: Ledger>(
+        &self,
+        board: &Board,
+        seat: &mut BoardSeat,
+        totals: &mut Totals,
+        front: &Counts,
+        steps: &mut Steps<L>,
+        exchanges: &mut Steps<X>,
+    ) -> Decision
+        requires seat { IsOf seat.old board.now }
+        requires totals { HasCounted totals.old board.now.book seat.old.knows.seen }
+        requires at_front { CountsFront totals.old board.now.book seat.old.knows.seen }
+        requires front { totals.old.upto ≡ front.now }
+        requires own { slice_index front.now seat.old.knows.first
+            ≡ (own_part seat.old.knows).published }
+        requires helping { IsHelpingAt board.now.book seat.old.knows
+            (prefix_of front.now seat.old.knows.seen) self.now }
+        requires unsettled { is_settled self.now.account self.now.own.slot self.now.own.number
+            (prefix_of front.now seat.old.knows.seen) ≡ false }
+        ensures decided { DecidesNext board.now.book seat.old.knows seat.new.knows self.now
+            front.now result }
+        ensures upto { totals.new.upto ≡ slice_set front.now seat.new.knows.first
+            (own_part seat.new.knows).published }
+        ensures counted { HasCounted totals.new board.now.book seat.new.knows.seen }
+        ensures board { IsOf seat.new board.now }
+        ensures steps { steps.new ≡ steps.old + round_steps board.now.book.processes }
+        ensures exchanges { exchanges.new ≡ exchanges.old + 1 }
+    {
+        let round = totals.rounds(self.account);
+        let proposal = self.proposal(board, seat, totals, front);
+        // Right here: at the front exactly the rounds before this one stand. Others may have decided it before, or do so at the
+        // same time: one proposal wins, and all are answered that decision.
+        let decided = propose(
+            board,
+            seat,
+            self.account,
+            round,
+            &proposal,
+            steps,
+            exchanges,
+        );
+        self.publish(
+            board, seat, totals, round, &decided, front, steps, exchanges,
+        );
+        decided
+    }
+
+    /// What the next round should decide: the oldest request that is unsettled at the front, done where the balance there covers
+    /// it.
+    fn proposal(&self, board: &Board, seat: &BoardSeat, totals: &Totals, front: &Counts) -> Decision
+        requires seat { IsOf seat.now board.now }
+        requires totals { HasCounted totals.now board.now.book seat.now.knows.seen }
+        requires at_front { CountsFront totals.now board.now.book seat.now.knows.seen }
+        requires front { totals.now.upto ≡ front.now }
+        requires helping { IsHelpingAt board.now.book seat.now.knows
+            (prefix_of front.now seat.now.knows.seen) self.now }
+        requires unsettled { is_settled self.now.account self.now.own.slot self.now.own.number
+            (prefix_of front.now seat.now.knows.seen) ≡ false }
+        ensures proposal { (r : Request) × MayPropose board.now.book seat.now.knows
+            self.now.account (rounds self.now.account (prefix_of front.now seat.now.knows.seen))
+            result r }
+        ensures place { result.place ≡ place front.now }
+    {
+        board.book().known();
+        seat.known();
+        let done = self.done(board, seat, totals);
+        let next = oldest(&self.asked, &done);
+        let covered = next.targets.sum() <= u128::from(totals.balance(self.account));
+        Decision {
+            ok: covered,
+            slot: next.slot,
+            number: next.number,
+            place: front.sum(),
+        }
+    }
+
+    /// How many requests of each owner are settled at the front that the totals have counted.
+    fn done(&self, board: &Board, seat: &BoardSeat, totals: &Totals) -> Counts
+        requires totals { HasCounted totals.now board.now.book seat.now.knows.seen }
+        requires at_front { CountsFront totals.now board.now.book seat.now.knows.seen }
+        requires account { self.now.account < length board.now.book.accounts }
+        requires shared { 1 ≤ slots_of (account_of board.now.book self.now.account) }
+        ensures few { slots_of (account_of board.now.book self.now.account) ≤ most_owners }
+        ensures sized { length result ≡ slots_of (account_of board.now.book self.now.account) }
+        ensures settled { (slot : ℕ) → slot < slots_of (account_of board.now.book self.now.account)
+            → slice_index result slot
+            ≡ named self.now.account slot (prefix_of totals.now.upto seat.now.knows.seen) }
+    {
+        let slots = board.book().slot_count(self.account);
+        let mut done = Counts::zeros(slots);
+        for slot in 0..slots {
+            done.set(slot, totals.done(self.account, slot));
+        }
+        done
+    }
+
+    /// Publishes the round of a decision, with the front as its view.
+    fn publish<L: Ledger, X: Ledger>(
+        &self,
+        board: &Board,
+        seat: &mut BoardSeat,
+        totals: &mut Totals,
+        round: u32,
+        decision: &Decision,
+        front: &Counts,
+        steps: &mut Steps<L>,
+        exchanges: &mut Steps<X>,
+    )
+        requires seat { IsOf seat.old board.now }
+        requires totals { HasCounted totals.old board.now.book seat.old.knows.seen }
+        requires front { IsFront board.now.book.processes front.now seat.old.knows.seen }
+        requires upto { totals.old.upto ≡ front.now }
+        requires own { slice_index front.now seat.old.knows.first
+            ≡ (own_part seat.old.knows).published }
+        requires round { IsSoundRound board.now.book seat.old.knows.first
+            (prefix_of front.now seat.old.knows.seen) self.now.account round }
+        requires decided { SeesDecision seat.old.knows self.now.account round decision.now }
+        ensures published { PublishesRound board.now.book seat.old.knows seat.new.knows
+            self.now.account round decision.now front.now }
+        ensures upto { totals.new.upto ≡ slice_set front.now seat.new.knows.first
+            (own_part seat.new.knows).published }
+        ensures counted { HasCounted totals.new board.now.book seat.new.knows.seen }
+        ensures board { IsOf seat.new board.now }
+        ensures steps { steps.new ≡ steps.old + REQUEST_WORDS
+            + (RECORD_WORDS + board.now.book.processes + 1) }
+        ensures exchanges { exchanges.new ≡ exchanges.old }
+    {
+        seat.known();
+        let request = load_request(
+            board,
+            seat,
+            self.account,
+            decision.slot,
+            decision.number,
+            steps,
+            exchanges,
+        );
+        let entry = Entry::Round {
+            account: self.account,
+            round,
+            decision: *decision,
+            targets: request.targets,
+        };
+        let record = Record {
+            entry,
+            view: front.copy(),
+        };
+        // The front stays one whatever others publish before this record. A round that another owner has published already counts
+        // once.
+        append(board, seat, &record, steps, exchanges);
+        totals.count_own(seat, &record.entry);
+    }
+}
