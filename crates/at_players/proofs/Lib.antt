@@ -1,3 +1,3 @@
 pub mod SmallBoardLaws
-pub mod LaterRoundLaws
+pub mod AskedLaws
 pub mod Announced

@@ -89,16 +89,16 @@ Stores-six v v1 v2 v3 v4 v5 w h i j k l one s1 s2 s3 s4 s5 s6 =
 
 -- the head, the targets word, the decision and the amount of a round's record
 abbrev pub with_four : Part → ℕ → Part
-with_four q d = with_word (with_word (with_word (with_word q 0 1) 1 (2 ^ 40)) 2 d) 3 7
+with_four q d = with_word (with_word (with_word (with_word q 0 1) 1 (2 ^ 40 + 1)) 2 d) 3 7
 
-pub Stores-four : (v v1 v2 v3 w : Knowledge) (d : ℕ) → length v.parts ≡ 1 → StoresWord v v1 0 1 → StoresWord v1 v2 1 (2 ^ 40)
+pub Stores-four : (v v1 v2 v3 w : Knowledge) (d : ℕ) → length v.parts ≡ 1 → StoresWord v v1 0 1 → StoresWord v1 v2 1 (2 ^ 40 + 1)
     → StoresWord v2 v3 2 d → StoresWord v3 w 3 7 → Stores v w (with_four (own_part v) d)
 Stores-four v v1 v2 v3 w d one s1 s2 s3 s4 =
     let q1 = with_word (own_part v) 0 1 in
-    let q2 = with_word q1 1 (2 ^ 40) in
+    let q2 = with_word q1 1 (2 ^ 40 + 1) in
     let q3 = with_word q2 2 d in
     let t1 = Stores-more v v v1 (own_part v) 0 1 one (Stores-none v) s1 in
-    let t2 = Stores-more v v1 v2 q1 1 (2 ^ 40) one t1 s2 in
+    let t2 = Stores-more v v1 v2 q1 1 (2 ^ 40 + 1) one t1 s2 in
     let t3 = Stores-more v v2 v3 q2 2 d one t2 s3 in
     Stores-more v v3 w q3 3 7 one t3 s4
 
@@ -178,7 +178,7 @@ IsIdle-published board v w u q x of_board one_part stored free told id =
 
 -- the record of the first round of account 0, in which a slot's payment is decided, before any of n processes has published
 abbrev pub round_record : ℕ → ℕ → ℕ → Publication
-round_record n p slot = record { process = p; view = replicate n 0; entry = Round 0 0 (first_decision slot) ((0, 7) ∷ []) }
+round_record n p slot = record { process = p; view = replicate n 0; entry = Round 0 0 (first_decision slot) ((1, 7) ∷ []) }
 
 -- only a shared account has slots
 pub shared-HasSlot : (b : BookTerms) (p a slot : ℕ) → HasSlot b p a slot → is_shared (account_of b a) ≡ true
@@ -188,23 +188,22 @@ shared-HasSlot b p a slot has =
       | inr alone ↦ absurd (omega (arith, has.within, ap (λ c. cond c (length (account_of b a).owners) 0) alone))
     ]
 
--- the seat that has won the round may publish it, once it has stored the words
-pub may_publish_round : (b : BookTerms) (v w : Knowledge) (slot d : ℕ) → v.first < b.processes → HasSlot b v.first 0 slot
-    → HasWon b v slot → d ≡ 2 + 2 * slot → Stores v w (with_four (own_part v) d)
+-- an owner that has won the round may publish it, once it has stored the words
+pub may_publish_round : (b : BookTerms) (v w : Knowledge) (own slot d : ℕ) → v.first < b.processes → HasSlot b v.first 0 own
+    → HasWon b v slot → d ≡ word_of (first_decision slot) → Stores v w (with_four (own_part v) d)
     → MayPublish b w (round_record b.processes v.first slot)
-may_publish_round b v w slot d known has won word told =
+may_publish_round b v w own slot d known has won decided told =
     let n = b.processes in
     let p = v.first in
     let x = round_record n p slot in
     let first : w.first ≡ p = ap (λ (t : Knowledge). t.first) told.same in
     let seen : w.seen ≡ v.seen = ap (λ (t : Knowledge). t.seen) told.same in
     let zeros : (own_part v).stored ≡ 0 ∷ 0 ∷ 0 ∷ 0 ∷ 0 ∷ 0 ∷ 0 ∷ replicate n 0 = won.blank ∙ sym (replicate-append-replicate 7 n 0) in
-    let decided : d ≡ word_of (first_decision slot) = omega (arith, word) in
     record {
       process = sym first;
       stored = ap (λ (q : Part). q.stored) told.part
           ∙ (ap (λ xs. (with_four (record (own_part v) { stored = xs }) d).stored) zeros
-          ∙ ap (λ m. 1 ∷ 2 ^ 40 ∷ m ∷ 7 ∷ 0 ∷ 0 ∷ 0 ∷ replicate n 0) decided);
+          ∙ ap (λ m. 1 ∷ (2 ^ 40 + 1) ∷ m ∷ 7 ∷ 0 ∷ 0 ∷ 0 ∷ replicate n 0) decided);
       view = subst (λ xs. HasView b xs x) (sym seen) (record {
         process = known;
         front = ap (λ k. counts n (take k v.seen)) (place-zeros n) ∙ counts-nil n;
@@ -213,7 +212,7 @@ may_publish_round b v w slot d known has won word told =
       entry = (
         subst (λ k. IsSoundRound b k (prefix_of x.view w.seen) 0 0) (sym first) (record {
           account_in = has.account_in;
-          shared = shared-HasSlot b p 0 slot has;
+          shared = shared-HasSlot b p 0 own has;
           owner = ap is_some has.owner;
           next = ap (λ k. rounds 0 (take k w.seen)) (place-zeros n) ∙ ap (count_by (λ y. is_round_on 0 y.entry)) firsts-nil;
         }),

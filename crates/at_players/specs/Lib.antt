@@ -1,1 +1,2 @@
 pub mod SmallBoard
+pub mod Found

@@ -137,16 +137,13 @@ pub fn wait_for_all(gate: &AtomicU64) {
     }
 }
 
-/// What a thread was told: the word of the first round of account 0, and the views of its records.
+/// What a thread was told: the word of the first round of account 0, whether it has published that round, and the views of its
+/// records.
 #[derive(Drop)]
 pub struct Told {
     pub word: u64,
+    pub has_round: bool,
     pub views: Vec<Counts>,
-}
-
-/// The word of the decision that the first request of a process succeeds, before anything is published.
-pub fn proposal_of(process: u32) -> u64 {
-    2 + 2 * u64::from(process)
 }
 
 /// Settles the first round, and then publishes records, beside the other threads.
@@ -167,9 +164,9 @@ pub fn play<L: Ledger, X: Ledger>(
 {
     let (steps, exchanges) = (&mut Steps::<L>::new(steps), &mut Steps::<X>::new(exchanges));
     let process = seat.process();
-    let word = settle(board, seat, process, steps, exchanges);
+    let (word, has_round) = settle(board, seat, process, steps, exchanges);
     let mut views = Vec::new(alloc);
-    if word == proposal_of(process) {
+    if has_round {
         views.push(counts_of(0, 0, 0, 0))?;
     }
     for _look in 0..LOOKS {
@@ -182,7 +179,11 @@ pub fn play<L: Ledger, X: Ledger>(
         move_nothing(board, seat, &view, steps, exchanges);
         views.push(view)?;
     }
-    Ok(Told { word, views })
+    Ok(Told {
+        word,
+        has_round,
+        views,
+    })
 }
 
 /// Plays with counters of its own, once all threads are there.

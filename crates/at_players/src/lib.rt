@@ -6,7 +6,6 @@
 
 pub mod boards;
 pub mod crowd;
-pub mod later_rounds;
 pub mod records;
 pub mod requests;
 pub mod rounds;

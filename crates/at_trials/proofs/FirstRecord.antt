@@ -29,7 +29,6 @@ use Rattle.at_log.specs.ClosingTerms.{published_by}
 use Rattle.at_fold.proofs.LoadedRecords.{sum-caught}
 use Rattle.at_fold.proofs.CountedPrefix.{ArePublishedBy-IsHistory}
 use Rattle.at_fold.specs.HasCounted.{HasCounted, HasRecords}
-use Rattle.at_players.specs.SmallBoard.{first_once}
 use Rattle.at_trials.specs.SmallFold.{CountsAll, HasOnlyFirst, HasOnlyRecord}
 use Rattle.at_fold.specs.Sums.{TotalSums}
 
@@ -96,11 +95,6 @@ HasOnlyFirst-both b seen two first second = record {
       let here : p ≡ 1 = omega (arith, above, below, two) in
       ap (λ k. count_of k seen) here ∙ second;
 }
-
--- as where process 0 has published the first round
-pub HasOnlyFirst-first_once : (b : BookTerms) (seen : List Publication) → b.processes ≡ 2 → seen ≡ first_once → HasOnlyFirst b seen
-unfolding publications_of
-HasOnlyFirst-first_once b seen two is = HasOnlyFirst-both b seen two (ap (count_of 0) is) (ap (count_of 1) is)
 
 -- every list is the longer beside none
 pub longer-nil : (list : List Publication) → longer [] list ≡ list

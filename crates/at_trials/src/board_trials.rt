@@ -4,10 +4,9 @@ ghost use Rattle.std.specs.Prelude.{◌≡◌, ◌<◌, length, IfSome, IsTrue};
 ghost use Rattle.at_players.specs.SmallBoard.{AreNewPair, IsIdle, new_seat};
 
 use at_base::{Decision, pack_decision};
-use at_board::{Board, BoardEnd, BoardSeat, Steps, pack_targets};
+use at_board::{Board, BoardEnd, BoardSeat, Steps, pack_targets, unpack_targets};
 use at_ledger::Targets;
 use at_players::boards::{close_one, close_two, has_record, new_pair, new_single, slot_on};
-use at_players::later_rounds::{has_two_owners, settle_both};
 use at_players::records::{may_pay, pay, told_words};
 use at_players::requests::{ask, first_amount};
 use at_players::rounds::settle;
@@ -17,11 +16,22 @@ use std::marker::Brand;
 use std::process::Abort;
 use std::sync::ledger::{Blank, Ledger};
 
+/// Worked words of targets, packed and unpacked.
+#[test]
+fn targets_words(rt: HostRuntime) {
+    let mut targets = Targets::one(1, 30);
+    assert_eq!(rt; pack_targets(&targets), 1_099_511_627_777);
+    targets.push(2, 5);
+    assert_eq!(rt; pack_targets(&targets), 2_199_023_257_601);
+    let accounts = unpack_targets(2_199_023_256_577);
+    assert_eq!(rt; accounts.as_slice(), [1, 1].as_slice());
+}
+
 /// The words that players store, made by the packing that they stand for.
 #[test]
 fn words_of_players(rt: HostRuntime) {
     assert!(rt;
-        pack_targets(&Targets::one(0, 7)) == TO_ACCOUNT_0
+        pack_targets(&Targets::one(0, 0)) == TO_ACCOUNT_0
             && pack_targets(&Targets::one(1, 30)) == TO_ACCOUNT_1
     );
 }
@@ -42,10 +52,10 @@ fn asks_and_sees<L: Ledger, X: Ledger>(
     if board.book().request_room() != 4 || seat.published() != 0 || slot != 1 {
         return false;
     }
-    if board.announced(seat, 0) != 0 {
+    if board.book().accounts() < 2 || board.announced(seat, 0) != 0 {
         return false;
     }
-    ask(board, seat, steps, exchanges);
+    let _own = ask(board, seat, slot, steps, exchanges);
     board.announced(seat, 0) == 1
         && board.load_length(second, 0, steps, exchanges) == 0
         && first_amount(board, second, slot, steps, exchanges) == Some(7)
@@ -58,7 +68,7 @@ fn requests<L: Ledger, X: Ledger, R: Abort>(rt: &R, alloc: Global, one: Blank, a
     requires some { (0 < one.parts) × (0 < another.parts) }
 {
     let (steps, exchanges) = (&mut Steps::<L>::new(one), &mut Steps::<X>::new(another));
-    let accounts = [(100, [0, 1].as_slice())];
+    let accounts = [(100, [0, 1].as_slice()), (0, [].as_slice())];
     let (board, mut second, mut seat) = new_pair(alloc, 65, accounts.as_slice()).expect(
         rt, "a board",
     );
@@ -83,10 +93,10 @@ fn settles_first<L: Ledger, X: Ledger>(
     let Some(slot) = slot_on(board.book(), 0, seat.process()) else {
         return false;
     };
-    if 8 <= slot || board.book().opening(0) < 7 {
+    if board.book().accounts() < 2 || board.book().opening(0) < 7 {
         return false;
     }
-    settle(board, seat, slot, steps, exchanges) == first_of_slot(1)
+    settle(board, seat, slot, steps, exchanges) == (first_of_slot(1), true)
 }
 
 /// The word of the decision that the first request of a slot succeeds, before anything is published.
@@ -126,7 +136,7 @@ fn end_of_first<L: Ledger, X: Ledger>(
 fn has_first_round(end: &BoardEnd) -> bool
     requires two { end.now.book.processes ≡ 2 }
 {
-    let words = [1, TO_ACCOUNT_0, first_of_slot(1), 7, 0, 0, 0, 0, 0];
+    let words = [1, TO_ACCOUNT_1, first_of_slot(1), 7, 0, 0, 0, 0, 0];
     end.length(0) == 0 && end.length(1) == 1 && has_record(end, 1, 0, words.as_slice())
 }
 
@@ -137,7 +147,7 @@ fn settles<L: Ledger, X: Ledger, R: Abort>(rt: &R, alloc: Global, one: Blank, an
     requires some { (0 < one.parts) × (0 < another.parts) }
 {
     let (steps, exchanges) = (&mut Steps::<L>::new(one), &mut Steps::<X>::new(another));
-    let accounts = [(100, [0, 1].as_slice())];
+    let accounts = [(100, [0, 1].as_slice()), (0, [].as_slice())];
     let (board, first, second) = new_pair(alloc, 65, accounts.as_slice()).expect(rt, "a board");
     let end = end_of_first(board, alloc, first, second, steps, exchanges).expect(rt, "an end");
     assert!(rt; has_first_round(&end));
@@ -259,95 +269,4 @@ fn pays_alone<L: Ledger, X: Ledger, R: Abort>(rt: &R, alloc: Global, one: Blank,
 #[test]
 fn a_lone_process_pays(rt: HostRuntime) {
     pays_alone::<Brand, Brand, _>(&rt, rt.alloc(), Blank::new(1), Blank::new(1));
-}
-
-/// Whether both processes publish the first round of account 0, and process 0 the second.
-fn settles_twice<L: Ledger, X: Ledger>(
-    board: &Board,
-    zero: &mut BoardSeat,
-    one: &mut BoardSeat,
-    steps: &mut Steps<L>,
-    exchanges: &mut Steps<X>,
-) -> bool
-    requires { AreNewPair board.now zero.old one.old }
-    ensures zero { IsTrue result → IsIdle board.now zero.new × (zero.new.knows.first ≡ 0) }
-    ensures one { IsTrue result → IsIdle board.now one.new × (one.new.knows.first ≡ 1) }
-{
-    if has_two_owners(board.book()) {
-        settle_both(board, zero, one, steps, exchanges)
-    } else {
-        false
-    }
-}
-
-/// The board's end, where two rounds are settled.
-fn end_of_rounds<L: Ledger, X: Ledger>(
-    board: Board,
-    alloc: Global,
-    zero: BoardSeat,
-    one: BoardSeat,
-    steps: &mut Steps<L>,
-    exchanges: &mut Steps<X>,
-) -> Option<BoardEnd>
-    requires { AreNewPair board zero one }
-    ensures { IfSome result (λ end. end.book.processes ≡ 2) }
-{
-    let (mut zero, mut one) = (zero, one);
-    if settles_twice(&board, &mut zero, &mut one, steps, exchanges) {
-        close_two(board, alloc, zero, one)
-    } else {
-        None
-    }
-}
-
-/// Whether the closed board has the two records of the first round, that of the second with its view, and no others.
-fn has_three_records(end: &BoardEnd) -> bool
-    requires two { end.now.book.processes ≡ 2 }
-{
-    let second = Decision {
-        ok: true,
-        slot: 0,
-        number: 1,
-        place: 2,
-    };
-    let first = [1, TO_ACCOUNT_1, first_of_slot(0), 60, 0, 0, 0, 0, 0];
-    let later = [
-        1 + (1 << 33),
-        TO_ACCOUNT_1,
-        pack_decision(&second),
-        30,
-        0,
-        0,
-        0,
-        1,
-        1,
-    ];
-    end.length(0) == 2
-        && end.length(1) == 1
-        && has_record(end, 0, 0, first.as_slice())
-        && has_record(end, 0, 1, later.as_slice())
-        && has_record(end, 1, 0, first.as_slice())
-}
-
-/// Two rounds are settled on a board of two processes that share account 0, of which one has account 2 alone. The closed board has
-/// their words.
-fn settles_both<L: Ledger, X: Ledger, R: Abort>(rt: &R, alloc: Global, one: Blank, another: Blank)
-    requires names { (one.name ≡ L.name) × (another.name ≡ X.name) }
-    requires parts { (one.parts ≡ L.parts) × (another.parts ≡ X.parts) }
-    requires some { (0 < one.parts) × (0 < another.parts) }
-{
-    let (steps, exchanges) = (&mut Steps::<L>::new(one), &mut Steps::<X>::new(another));
-    let accounts = [
-        (100, [0, 1].as_slice()),
-        (0, [].as_slice()),
-        (100, [1].as_slice()),
-    ];
-    let (board, first, second) = new_pair(alloc, 65, accounts.as_slice()).expect(rt, "a board");
-    let end = end_of_rounds(board, alloc, first, second, steps, exchanges).expect(rt, "an end");
-    assert!(rt; has_three_records(&end));
-}
-
-#[test]
-fn a_later_round_is_published(rt: HostRuntime) {
-    settles_both::<Brand, Brand, _>(&rt, rt.alloc(), Blank::new(1), Blank::new(1));
 }

@@ -6,8 +6,9 @@ ghost use Rattle.at_players.specs.SmallBoard.{IsIdle, IsNewPlayer};
 use at_base::Counts;
 use at_board::{Board, BoardEnd, BoardSeat};
 use at_players::boards::has_record;
-use at_players::crowd::{RECORDS, Told, close_four, counts_of, new_four, play_four, proposal_of};
-use at_players::words::TO_ACCOUNT_0;
+use at_players::crowd::{RECORDS, Told, close_four, counts_of, new_four, play_four};
+use at_players::rounds::first_word;
+use at_players::words::{TO_ACCOUNT_0, TO_ACCOUNT_1};
 use std::alloc::{AllocError, Global};
 use std::process::Abort;
 use std::thread::Threads;
@@ -26,11 +27,11 @@ fn moving_words(p: u32, view: &Counts) -> [u64; 11]
 
 /// The words of the record of the first round of account 0, which has this decision.
 fn round_words(decision: u64) -> [u64; 11] {
-    [1, TO_ACCOUNT_0, decision, 7, 0, 0, 0, 0, 0, 0, 0]
+    [1, TO_ACCOUNT_1, decision, 7, 0, 0, 0, 0, 0, 0, 0]
 }
 
 /// Whether the closed board has what the thread of a process was told: its records and no others, the round's first where it
-/// has won, with their views, and of each process as many as these views count.
+/// has published that, with their views, and of each process as many as these views count.
 fn has_told(end: &BoardEnd, p: u32, told: &Told) -> bool
     requires four { end.now.book.processes ≡ 4 }
     requires process { p < 4 }
@@ -44,7 +45,7 @@ fn has_told(end: &BoardEnd, p: u32, told: &Told) -> bool
         if view.len() != 4 || view.get(p) != i || !lengths.covers(view) {
             return false;
         }
-        let words = if i == 0 && told.word == proposal_of(p) {
+        let words = if i == 0 && told.has_round {
             round_words(told.word)
         } else {
             moving_words(p, view)
@@ -67,46 +68,42 @@ pub(crate) fn rises(views: &Vec<Counts>) -> bool {
     true
 }
 
-/// The word of the round that a thread was told, if the closed board has what it was told.
-fn word_of(end: &BoardEnd, p: u32, answer: &Answer) -> Option<u64>
+/// The word of the round that a thread was told, and whether it has published the round, if the closed board has what it was told.
+fn round_of(end: &BoardEnd, p: u32, answer: &Answer) -> Option<(u64, bool)>
     requires four { end.now.book.processes ≡ 4 }
     requires process { p < 4 }
 {
     match answer {
         Ok(told) if end.length(p) == RECORDS && rises(&told.views) && has_told(end, p, told) => {
-            Some(told.word)
+            Some((told.word, told.has_round))
         }
         _ => None,
     }
 }
 
-/// Whether the closed board has what all four threads were told: the same word of the round, which one of them has won, and their
-/// records.
+/// Whether it is the word of the decision that the first request of one of four slots succeeds.
+fn decides_one(word: u64) -> bool {
+    [0, 1, 2, 3].iter().any(|slot| first_word(*slot) == word)
+}
+
+/// Whether the closed board has what all four threads were told: the same word of the round, which decides the request of one of
+/// them, and their records. One thread at least has published the round.
 fn has_all_told(end: &BoardEnd, told: &((Answer, Answer), (Answer, Answer))) -> bool
     requires four { end.now.book.processes ≡ 4 }
 {
     let ((zero, one), (two, three)) = told;
-    let Some(word) = word_of(end, 0, zero) else {
+    let rounds = [
+        round_of(end, 0, zero),
+        round_of(end, 1, one),
+        round_of(end, 2, two),
+        round_of(end, 3, three),
+    ];
+    let Some((word, _)) = rounds[0] else {
         return false;
     };
-    let words = [
-        Some(word),
-        word_of(end, 1, one),
-        word_of(end, 2, two),
-        word_of(end, 3, three),
-    ];
-    let proposals = [
-        proposal_of(0),
-        proposal_of(1),
-        proposal_of(2),
-        proposal_of(3),
-    ];
-    words.iter().all(|other| *other == Some(word))
-        && proposals
-            .iter()
-            .filter(|proposal| **proposal == word)
-            .count()
-            == 1
+    let published = Some((word, true));
+    let all = rounds.iter().all(|round| *round == published || *round == Some((word, false)));
+    all && decides_one(word) && rounds.iter().any(|round| *round == published)
 }
 
 /// Four threads play. Whether the board, which is then closed, has what they were told.

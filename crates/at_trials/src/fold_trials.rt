@@ -14,15 +14,16 @@ use at_board::{Board, BoardSeat, Steps, pack_targets};
 use at_fold::Totals;
 use at_ledger::Targets;
 use at_log::Entry;
-use at_players::boards::{new_pair, new_single};
-use at_players::later_rounds::{begin, has_two_owners};
+use at_players::boards::{new_pair, new_single, slot_on};
+use at_players::crowd::look;
+use at_players::rounds::settle;
 use std::alloc::Global;
 use std::marker::Brand;
 use std::process::Abort;
 use std::sync::ledger::{Blank, Ledger};
 
 /// Totals for the board that have counted nothing.
-fn new_totals(alloc: Global, board: &Board) -> Option<Totals>
+pub(crate) fn new_totals(alloc: Global, board: &Board) -> Option<Totals>
     ensures { IfSome result (λ totals. IsNewTotals totals board.now.book) }
 {
     match Totals::new(alloc, board.book()) {
@@ -140,8 +141,11 @@ fn counts_first(totals: &mut Totals, seat: &BoardSeat, entry: &Entry)
     totals.count_own(seat, entry);
 }
 
-/// What totals say of an account: its rounds, and of its first owner how many requests are decided, and how the first was.
-type Said = Option<(u32, u32, Option<(u32, Decision)>)>;
+/// How many requests of a slot are decided, and how the first was.
+type OwnerSaid = (u32, Option<(u32, Decision)>);
+
+/// What totals say of an account: its rounds, and its first two owners.
+type Said = Option<(u32, OwnerSaid, OwnerSaid)>;
 
 /// What totals say of an account, if it is shared.
 fn said_of_shared(totals: &Totals, board: &Board, seat: &BoardSeat, account: u32) -> Said
@@ -153,8 +157,8 @@ fn said_of_shared(totals: &Totals, board: &Board, seat: &BoardSeat, account: u32
     }
     Some((
         totals.rounds(account),
-        totals.done(account, 0),
-        totals.settled(account, 0, 0),
+        (totals.done(account, 0), totals.settled(account, 0, 0)),
+        (totals.done(account, 1), totals.settled(account, 1, 0)),
     ))
 }
 
@@ -283,7 +287,7 @@ fn counts_own<L: Ledger, X: Ledger>(
     }
     let entry = pay(board, seat, targets, steps, exchanges);
     counts_first(totals, seat, &entry);
-    counts_one(totals) && said_of_shared(totals, board, seat, 1) == Some((0, 0, None))
+    counts_one(totals) && said_of_shared(totals, board, seat, 1) == Some((0, (0, None), (0, None)))
 }
 
 /// A process counts its own record.
@@ -312,7 +316,7 @@ const FIRST: Decision = Decision {
     place: 0,
 };
 
-/// Whether process 0 asks to pay 60 to account 1, decides it in the first round of account 0 and publishes that as the only record.
+/// Whether process 0 asks to pay 7 to account 1, decides it in the first round of account 0 and publishes that as the only record.
 fn begins<L: Ledger, X: Ledger>(
     board: &Board,
     seat: &mut BoardSeat,
@@ -325,10 +329,16 @@ fn begins<L: Ledger, X: Ledger>(
     ensures board { IsTrue result → IsOf seat.new board.now }
     ensures one { IsTrue result → HasOnlyFirst board.now.book seat.new.knows.seen }
 {
-    if !has_two_owners(board.book()) {
+    let Some(slot) = slot_on(board.book(), 0, seat.process()) else {
+        return false;
+    };
+    if board.book().accounts() < 2 || board.book().opening(0) < 7 {
         return false;
     }
-    begin(board, seat, steps, exchanges)
+    let (_word, has_round) = settle(board, seat, slot, steps, exchanges);
+    let published = seat.published();
+    let others = look(board, seat, 1, steps, exchanges);
+    has_round && published == 1 && others == 0
 }
 
 /// Whether totals that catch up with the record of a round tell what it has decided, and the balances after it.
@@ -347,10 +357,11 @@ fn counts_a_round<L: Ledger, X: Ledger>(
         return false;
     }
     catches_up(board, seat, totals, steps, exchanges);
+    let said = said_of_shared(totals, board, seat, 0);
     counts_one(totals)
-        && said_of_shared(totals, board, seat, 0) == Some((1, 1, Some((0, FIRST))))
-        && balance(totals, board, seat, 0) == 40
-        && balance(totals, board, seat, 1) == 60
+        && said == Some((1, (1, Some((0, FIRST))), (0, None)))
+        && balance(totals, board, seat, 0) == 93
+        && balance(totals, board, seat, 1) == 7
 }
 
 /// A round is decided and published on the account that two processes share, and new totals catch up.

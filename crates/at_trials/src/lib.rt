@@ -14,4 +14,6 @@ mod payers;
 #[cfg(test)]
 mod scan_trials;
 #[cfg(test)]
+mod single_trials;
+#[cfg(test)]
 mod traffic_trials;

@@ -8,9 +8,10 @@ ghost use Rattle.at_history.specs.Sound.{IsSoundOwn};
 ghost use Rattle.at_players.specs.SmallBoard.{AreNewPair, new_seat};
 
 use crate::payers::{may_pay, pay};
+use at_base::Counts;
 use at_board::{Board, BoardSeat, Steps};
-use at_ledger::Targets;
-use at_log::{Entry, Record, load_entry, load_view, room};
+use at_ledger::{Call, Reply, Targets};
+use at_log::{At, Closing, Entry, Receipt, Record, load_entry, load_view, room};
 use at_players::boards::{new_pair, new_single};
 use std::alloc::Global;
 use std::marker::Brand;
@@ -156,4 +157,44 @@ fn tells<L: Ledger, X: Ledger, R: Abort>(rt: &R, alloc: Global, one: Blank, anot
 #[test]
 fn a_record_is_told(rt: HostRuntime) {
     tells::<Brand, Brand, _>(&rt, rt.alloc(), Blank::new(1), Blank::new(1));
+}
+
+/// A closing says its processes, its records and its receipts.
+#[test]
+fn a_closing_of_one_process(rt: HostRuntime) {
+    let record = Record {
+        entry: Entry::Own {
+            from: 0,
+            targets: Targets::one(1, 30),
+        },
+        view: Counts::zeros(1),
+    };
+    let receipt = Receipt {
+        call: Call::Transfer {
+            from: 0,
+            to: 1,
+            amount: 30,
+        },
+        reply: Reply::Done,
+        at: At::Own(0),
+    };
+    let Ok(log) = Vec::from_array(rt.alloc(), [record]) else {
+        assert!(rt; false);
+        return;
+    };
+    let Ok(receipts) = Vec::from_array(rt.alloc(), [receipt]) else {
+        assert!(rt; false);
+        return;
+    };
+    let (Ok(logs), Ok(lists)) = (
+        Vec::from_array(rt.alloc(), [log]),
+        Vec::from_array(rt.alloc(), [receipts]),
+    ) else {
+        assert!(rt; false);
+        return;
+    };
+    let closing = Closing::new(logs, lists);
+    assert_eq!(rt; closing.processes(), 1);
+    assert_eq!(rt; closing.log(0).len(), 1);
+    assert!(rt; matches!(closing.receipts(0)[0].at, At::Own(0)));
 }

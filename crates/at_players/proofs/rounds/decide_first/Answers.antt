@@ -1,48 +1,89 @@
-use Rattle.std.proofs.Common.{◌≡◌, ℕ, ◌<◌, ◌≤◌, [], refl, ap, subst, None, arith}
-use Rattle.std.specs.List.{count_by, sum_by}
-use Rattle.at_ledger.specs.Book.{BookTerms, IsBook, account_of}
-use Rattle.at_history.proofs.Laws.Rounds.{firsts-nil}
+use Rattle.std.proofs.Common.{◌≡◌, ◌≢◌, ℕ, ◌<◌, ◌⊎◌, [], ◌∷◌, length, Some, None, refl, sym, ap, subst, ◌∙◌, arith, inl, inr}
+use Rattle.std.specs.List.{Contains}
+use Rattle.std.proofs.lemmas.List.{length-set}
+use Rattle.std.proofs.lemmas.List.Elements.{Contains-append_right}
+use Rattle.at_base.proofs.DecisionLaws.{same_decision}
+use Rattle.at_base.specs.Decision.{InRange, word_of}
+use Rattle.at_history.specs.Publications.{count_of}
+use Rattle.at_board.specs.Knowledge.Parts.{SeesDecision, SeesRequest, own_part}
+use Rattle.at_board.specs.Knowledge.Seats.{BoardTerms, IsOf, SeatTerms}
+use Rattle.at_board.specs.Steps.Decide.{Decides, with_decide}
 use Rattle.at_board.specs.declared.knowledge.Knowledge.{Knowledge}
-use Rattle.at_history.specs.Balances.{IsCovered, credit_of, debit_of}
-use Rattle.at_board.specs.Steps.Decide.{MayPropose}
-use Rattle.at_history.specs.Entries.{is_round_on}
-use Rattle.at_players.specs.SmallBoard.{first_decision, payment}
-use Rattle.at_ledger.specs.Book.{HasSlot}
-use Rattle.at_board.specs.Knowledge.Parts.{SeesRequest, own_part}
+use Rattle.at_board.specs.declared.knowledge.Part.{Part}
+use Rattle.at_board.specs.declared.knowledge.SeenDecision.{SeenDecision}
+use Rattle.at_players.proofs.AskedLaws.{held-Decides, own_part-Decides}
+use Rattle.at_players.specs.SmallBoard.{HasWon, IsIdle, first_decision, payment}
 use Rattle.at_players.proofs.rounds.decide_first.Goals as goal
 
-may_propose : (b : BookTerms) (v : Knowledge) (own slot : ℕ) → IsBook b → HasSlot b v.first 0 own → slot < 8 → SeesRequest v 0 slot 0 payment
-    → 7 ≤ (account_of b 0).opening → (own_part v).held ≡ None → MayPropose b v 0 0 (first_decision slot) payment
-may_propose b v own slot book has small sees covered free =
-    let debits = ap (sum_by (λ x. debit_of 0 x.entry)) firsts-nil in
-    let credits = ap (sum_by (λ x. credit_of 0 x.entry)) firsts-nil in
-    let enough : IsCovered b [] 0 7 = omega (arith, debits, credits, covered) in
+-- the seat that proposed may publish the round where its word is that of its proposal
+has_won : (board : BoardTerms) (s : SeatTerms) (w : Knowledge) (slot n : ℕ) → IsIdle board s → (own_part s.knows).published ≡ 0 → slot < 8
+    → SeesRequest s.knows 0 slot 0 payment → Decides board.book s.knows w 0 0 (first_decision slot) n → n ≡ word_of (first_decision slot)
+    → HasWon board.book w slot
+has_won board s w slot n idle nothing small sees told word =
+    let v : Knowledge = s.knows in
+    let d = first_decision slot in
+    let own = own_part-Decides board.book v w 0 n d idle.one_part told in
+    let range : InRange d = record { slot = small; number = omega arith; place = omega arith } in
+    let same : told.decision ≡ d = same_decision told.decision d told.range range (sym told.word ∙ word) in
+    let x : SeenDecision = record { account = 0; round = 0; decision = told.decision } in
+    let last : Contains (x ∷ []) x = (0, omega arith, refl) in
+    let seen : SeesDecision w 0 0 told.decision =
+    subst (λ (t : Knowledge). SeesDecision t 0 0 told.decision) (sym told.same) (Contains-append_right v.decisions (x ∷ []) x last) in
     record {
-      owner = (own, has);
-      range = record { slot = small; number = omega arith; place = omega arith };
-      place = omega arith;
-      next = ap (count_by (λ x. is_round_on 0 x.entry)) firsts-nil;
-      named = sees;
-      unsettled = refl;
-      since = omega arith;
-      ok = (λ _. enough, λ _. refl);
-      free = free;
+      request = subst (λ (t : Knowledge). SeesRequest t 0 slot 0 payment) (sym told.same) sees;
+      decision = subst (SeesDecision w 0 0) same seen;
+      held = elim (held-Decides board.book v w 0 0 d n told) as (λ _. HasWonHeld w) [
+        | inl none ↦ inl (ap (λ (p : Part). p.held) own ∙ none)
+        | inr (some, won) ↦ inr (ap (λ (p : Part). p.held) own ∙ some)
+      ];
+      blank = ap (λ (p : Part). p.stored) own ∙ idle.blank;
+      published = ap (λ (p : Part). p.published) own ∙ nothing;
+      counted = ap (λ p. count_of p w.seen) (ap (λ (t : Knowledge). t.first) told.same) ∙ (told.own ∙ nothing);
+    }
+  where
+    HasWonHeld : Knowledge → Type 0
+    HasWonHeld t = ((own_part t).held ≡ None) ⊎ ((own_part t).held ≡ Some (record { account = 0; round = 0 }))
+
+-- and it holds nothing where it is another
+has_lost : (board : BoardTerms) (s t : SeatTerms) (slot n : ℕ) → IsIdle board s → IsOf t board → Decides board.book s.knows t.knows 0 0 (first_decision slot) n
+    → n ≢ word_of (first_decision slot) → IsIdle board t
+has_lost board s t slot n idle of told other =
+    let v : Knowledge = s.knows in
+    let d = first_decision slot in
+    let own = own_part-Decides board.book v t.knows 0 n d idle.one_part told in
+    record {
+      of_board = of;
+      one_part = ap (λ (u : Knowledge). length u.parts) told.same ∙ (length-set v.parts 0 (with_decide (own_part v) 0 told.held) ∙ idle.one_part);
+      free = elim (held-Decides board.book v t.knows 0 0 d n told) as (λ _. (own_part t.knows).held ≡ None) [
+        | inl none ↦ ap (λ (p : Part). p.held) own ∙ none
+        | inr (some, won) ↦ absurd (other (told.word ∙ ap word_of won))
+      ];
+      blank = ap (λ (p : Part). p.stored) own ∙ idle.blank;
     }
 
-pub decide-requires-clause-proposal : goal.decide-requires-clause-proposal
-decide-requires-clause-proposal g c =
-    let b : BookTerms = c.args.board.now.book in
-    let book : IsBook b = subst IsBook c.book.ensures c.known.ensures.checked in (
-      first_decision c.args.slot,
-      payment,
-      may_propose b c.args.seat.now.knows c.requires.owner.0 c.args.slot book c.requires.owner.1 c.requires.slot c.requires.request c.requires.covered c.requires.free,
-      omega arith,
-    )
+is_of : (board : BoardTerms) (s t : SeatTerms) (slot n : ℕ) → IsIdle board s → t.board ≡ s.board → Decides board.book s.knows t.knows 0 0 (first_decision slot) n
+    → IsOf t board
+is_of board s t slot n idle id told = record {
+  id = id ∙ idle.of_board.id;
+  book = ap (λ (u : Knowledge). u.book) told.same ∙ idle.of_board.book;
+}
 
-pub returns-clause-decided : goal.returns-clause-decided
-returns-clause-decided g c =
-    let b : BookTerms = c.args.board.now.book in
-    let book : IsBook b = subst IsBook c.book.ensures c.known.ensures.checked in
-    c.decide.ensures.decided (first_decision c.args.slot) payment
-    (may_propose b c.args.seat.now.knows c.requires.owner.0 c.args.slot book c.requires.owner.1 c.requires.slot c.requires.request c.requires.covered c.requires.free)
-    (omega arith)
+pub returns-clause-board : goal.returns-clause-board
+returns-clause-board g c =
+    is_of c.args.board.now c.args.seat.now c.decide.new.seat c.args.slot c.decide.result c.requires.idle c.decide.ensures.board
+    (c.decide.ensures.decided (first_decision c.args.slot) payment c.requires.proposal c.first_word-proposal.ensures)
+
+pub returns-clause-process : goal.returns-clause-process
+returns-clause-process g c =
+    ap (λ (t : Knowledge). t.first) (c.decide.ensures.decided (first_decision c.args.slot) payment c.requires.proposal c.first_word-proposal.ensures).same
+
+pub returns-clause-won : goal.returns-clause-won
+returns-clause-won g c = λ word.
+    has_won c.args.board.now c.args.seat.now c.decide.new.seat.knows c.args.slot c.decide.result c.requires.idle c.requires.new c.requires.slot c.requires.proposal.named
+    (c.decide.ensures.decided (first_decision c.args.slot) payment c.requires.proposal c.first_word-proposal.ensures) word
+
+pub returns-clause-lost : goal.returns-clause-lost
+returns-clause-lost g c = λ other.
+    let told = c.decide.ensures.decided (first_decision c.args.slot) payment c.requires.proposal c.first_word-proposal.ensures in
+    has_lost c.args.board.now c.args.seat.now c.decide.new.seat c.args.slot c.decide.result c.requires.idle
+    (is_of c.args.board.now c.args.seat.now c.decide.new.seat c.args.slot c.decide.result c.requires.idle c.decide.ensures.board told) told other

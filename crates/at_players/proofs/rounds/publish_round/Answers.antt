@@ -1,4 +1,4 @@
-use Rattle.std.proofs.Common.{◌≡◌, ℕ, ◌+◌, ◌*◌, ◌==◌, cond, Some, None, ap, ◌∙◌, arith, inl, inr}
+use Rattle.std.proofs.Common.{◌≡◌, ℕ, ◌==◌, cond, Some, None, ap, ◌∙◌, arith, inl, inr}
 use Rattle.at_ledger.specs.Book.{BookTerms}
 use Rattle.at_history.proofs.Laws.Fronts.{place-zeros}
 use Rattle.at_players.proofs.SmallBoardLaws.{IsIdle-published, Stores, Stores-four, may_publish_round, round_record, with_four}
@@ -13,18 +13,18 @@ use Rattle.at_players.proofs.rounds.publish_round.Goals as goal
 
 -- the words of the record are stored, and it may be published
 stored : (g : given.Over) (c : After-store_record_word-4 g)
-    → Stores c.args.seat.now.knows c.store_record_word-4.new.seat.knows (with_four (own_part c.args.seat.now.knows) (2 + 2 * c.from.result))
+    → Stores c.args.seat.now.knows c.store_record_word-4.new.seat.knows (with_four (own_part c.args.seat.now.knows) c.first_word-decision.result)
 stored g c =
     Stores-four c.args.seat.now.knows c.store_record_word.new.seat.knows c.store_record_word-2.new.seat.knows c.store_record_word-3.new.seat.knows
-    c.store_record_word-4.new.seat.knows (2 + 2 * c.from.result) c.known-2.ensures.seat.one_part c.store_record_word.ensures.stored
+    c.store_record_word-4.new.seat.knows c.first_word-decision.result c.known.ensures.seat.one_part c.store_record_word.ensures.stored
     c.store_record_word-2.ensures.stored c.store_record_word-3.ensures.stored c.store_record_word-4.ensures.stored
 
 may : (g : given.Over) (c : After-store_record_word-4 g)
     → MayPublish c.args.board.now.book c.store_record_word-4.new.seat.knows (round_record c.args.board.now.book.processes c.args.seat.now.knows.first c.args.slot)
 may g c =
-    may_publish_round c.args.board.now.book c.args.seat.now.knows c.store_record_word-4.new.seat.knows c.args.slot (2 + 2 * c.from.result)
-    (omega (arith, c.known-2.ensures.seat.known, ap (λ (t : BookTerms). t.processes) c.requires.board.book))
-    c.requires.slot c.requires.won (omega (arith, c.from.ensures)) (stored g c)
+    may_publish_round c.args.board.now.book c.args.seat.now.knows c.store_record_word-4.new.seat.knows c.requires.owner.0 c.args.slot c.first_word-decision.result
+    (omega (arith, c.known.ensures.seat.known, ap (λ (t : BookTerms). t.processes) c.requires.board.book))
+    c.requires.owner.1 c.requires.won c.first_word-decision.ensures (stored g c)
 
 pub publish-requires-clause-record : goal.publish-requires-clause-record
 publish-requires-clause-record g c =
@@ -43,8 +43,8 @@ returns-clause-idle g c =
     let v : Knowledge = c.args.seat.now.knows in
     let n = c.args.board.now.book.processes in
     let x = round_record n v.first c.args.slot in
-    IsIdle-published c.args.board.now c.args.seat.now c.store_record_word-4.new.seat c.publish.new.seat (with_four (own_part v) (2 + 2 * c.from.result)) x
-    c.requires.board c.known-2.ensures.seat.one_part (stored g before) (gives_up_cell c.args.board.now.book v n v.first c.args.slot c.requires.won)
+    IsIdle-published c.args.board.now c.args.seat.now c.store_record_word-4.new.seat c.publish.new.seat (with_four (own_part v) c.first_word-decision.result) x
+    c.requires.board c.known.ensures.seat.one_part (stored g before) (gives_up_cell c.args.board.now.book v n v.first c.args.slot c.requires.won)
     (c.publish.ensures.published x (may g before))
     (c.publish.ensures.board ∙ (c.store_record_word-4.ensures.board ∙ (c.store_record_word-3.ensures.board
     ∙ (c.store_record_word-2.ensures.board ∙ c.store_record_word.ensures.board))))

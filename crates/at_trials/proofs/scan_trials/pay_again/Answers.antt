@@ -1,7 +1,6 @@
-use Rattle.std.proofs.Common.{◌≡◌, ℕ, true, ◌<◌, ◌≤◌, List, [], ◌∷◌, ◌++◌, length, get_or, sum, sym, ap, subst, ◌∙◌, arith}
+use Rattle.std.proofs.Common.{◌≡◌, ℕ, true, ◌<◌, ◌≤◌, List, [], ◌∷◌, ◌++◌, length, length-append, get_or, sum, sym, ap, subst, ◌∙◌, arith}
 use Rattle.std.proofs.lemmas.List.{length-take}
 use Rattle.at_ledger.specs.Book.{BookTerms, account_of, is_owner}
-use Rattle.at_players.proofs.LaterRoundLaws.{only_one}
 use Rattle.at_history.proofs.Laws.Rounds.{owns_of-le}
 use Rattle.at_history.specs.declared.publication.Publication.{Publication}
 use Rattle.at_board.specs.declared.knowledge.Knowledge.{Knowledge}
@@ -15,6 +14,13 @@ use Rattle.at_snapshot.specs.Collected.{HasLoaded}
 use Rattle.at_trials.specs.SmallScan.{HasPaid, MayPayTwice, one_from_1}
 use Rattle.at_snapshot.specs.Snapshots.{IsSnapshot}
 use Rattle.at_trials.proofs.scan_trials.pay_again.Goals as goal
+
+-- a list of one element at most that begins with a list that ends with x has x alone
+only_one : (earlier more ys : List Publication) (x : Publication) → length ys ≤ 1 → ys ≡ (earlier ++ x ∷ []) ++ more → ys ≡ x ∷ []
+only_one [] [] ys x few is = is
+only_one [] (y ∷ more) ys x few is = absurd (omega (arith, few, ap length is))
+only_one (y ∷ earlier) more ys x few is =
+    absurd (omega (arith, few, ap length is, length-append (earlier ++ x ∷ []) more, length-append earlier (x ∷ [])))
 
 -- the first payment covers one more
 covered : (b : BookTerms) (p : ℕ) (view : List ℕ) → 2 ≤ (account_of b 1).opening

@@ -1,0 +1,102 @@
+//! A payment from a single account, a read after it, and a read by a process that was told of it by a note alone.
+
+ghost use Rattle.std.specs.Prelude.{◌≡◌, ◌<◌, IsTrue, length};
+ghost use Rattle.at_players.specs.SmallBoard.{AreNewPair};
+ghost use Rattle.at_single.specs.Standing.{IsOnlyOwner};
+ghost use Rattle.at_trials.specs.SmallFold.{IsNewTotals};
+
+use crate::fold_trials::new_totals;
+use at_board::{Board, BoardSeat, Steps};
+use at_fold::Totals;
+use at_ledger::{Book, Reply};
+use at_log::{At, Receipt};
+use at_players::boards::new_pair;
+use at_single::{read_account, transfer_own};
+use std::alloc::Global;
+use std::marker::Brand;
+use std::process::Abort;
+use std::sync::ledger::{Blank, Ledger};
+
+/// Whether process 0 owns account 0 alone, and there is an account 1.
+fn owns_alone(book: &Book) -> bool
+    ensures accounts { IsTrue result → 1 < length book.now.accounts }
+    ensures owner { IsTrue result → IsOnlyOwner book.now 0 0 }
+{
+    if book.accounts() < 2 {
+        return false;
+    }
+    book.owner_count(0) == 1 && book.slot_of(0, 0).is_some()
+}
+
+/// The balance that a receipt tells, and the counts of the first two processes at its front.
+fn read_at(receipt: &Receipt) -> Option<(u64, u32, u32)> {
+    match (&receipt.reply, &receipt.at) {
+        (Reply::Balance(balance), At::Front(front)) if 2 <= front.len() => {
+            Some((*balance, front.get(0), front.get(1)))
+        }
+        _ => None,
+    }
+}
+
+/// Whether a receipt stands at the first record of its process.
+fn is_first_done(receipt: &Receipt) -> bool {
+    receipt.reply == Reply::Done && matches!(receipt.at, At::Own(0))
+}
+
+/// Whether process 0 pays 40 to account 1 and reads 60, and process 1, once it was told, reads 40, both at one front.
+fn pays_and_reads<L: Ledger, X: Ledger>(
+    board: &Board,
+    seat: &mut BoardSeat,
+    other: &mut BoardSeat,
+    totals: &mut Totals,
+    others: &mut Totals,
+    steps: &mut Steps<L>,
+    exchanges: &mut Steps<X>,
+) -> bool
+    requires pair { AreNewPair board.now seat.old other.old }
+    requires totals { IsNewTotals totals.old board.now.book }
+    requires others { IsNewTotals others.old board.now.book }
+{
+    if !owns_alone(board.book()) {
+        return false;
+    }
+    let paid = transfer_own(board, seat, totals, 0, 1, 40, steps, exchanges);
+    let here = read_account(board, seat, totals, 0, steps, exchanges);
+    let note = board.note(seat, steps, exchanges);
+    board.learn(other, note, steps, exchanges);
+    let there = read_account(board, other, others, 1, steps, exchanges);
+    is_first_done(&paid)
+        && read_at(&here) == Some((60, 1, 0))
+        && read_at(&there) == Some((40, 1, 0))
+}
+
+/// Two processes of a new board.
+fn pays<L: Ledger, X: Ledger, R: Abort>(rt: &R, alloc: Global, one: Blank, another: Blank)
+    requires names { (one.name ≡ L.name) × (another.name ≡ X.name) }
+    requires parts { (one.parts ≡ L.parts) × (another.parts ≡ X.parts) }
+    requires some { (0 < one.parts) × (0 < another.parts) }
+{
+    let (steps, exchanges) = (&mut Steps::<L>::new(one), &mut Steps::<X>::new(another));
+    let accounts = [(100, [0].as_slice()), (0, [1].as_slice())];
+    let (board, mut seat, mut other) = new_pair(alloc, 4, accounts.as_slice()).expect(
+        rt, "a board",
+    );
+    let mut totals = new_totals(alloc, &board).expect(rt, "totals");
+    let mut others = new_totals(alloc, &board).expect(rt, "totals");
+    assert!(rt;
+        pays_and_reads(
+            &board,
+            &mut seat,
+            &mut other,
+            &mut totals,
+            &mut others,
+            steps,
+            exchanges
+        )
+    );
+}
+
+#[test]
+fn a_payment_is_read_by_both(rt: HostRuntime) {
+    pays::<Brand, Brand, _>(&rt, rt.alloc(), Blank::new(1), Blank::new(1));
+}
