@@ -49,12 +49,24 @@ done
 run run "$examples/household/book.csv" "$examples/household/ann.csv" "$examples/household/bob.csv"
 printed 'the example household' "$examples/household/household.report"
 
+household=$examples/household
+for name in usual owners realistic; do
+    echo "verified $(sed -n '1s/journal //p' "$examples/$name/$name.report")" >verified
+    run verify "$examples/$name/book.csv" "$examples/$name/$name.report" "$examples/$name"/pay*.csv
+    printed "the report of the example $name" verified
+done
+echo 'verified 9' >verified
+run verify "$household/book.csv" "$household/household.report" "$household/ann.csv" "$household/bob.csv"
+printed 'the report of the example household' verified
+run verify "$household/book.csv" "$household/forged.report" "$household/ann.csv" "$household/bob.csv"
+refused 'a forged report' 12 "$(cat "$household/forged.said")"
+
 yes read,0 | head -n 16384 >reads.csv
 echo 'checked 1 2 16384' >checked
 run check "$usual/book.csv" reads.csv
 printed 'a file of many pieces' checked
 
-usage='usage: run BOOK PAY... | check BOOK PAY... | make NUMBER PROCESSES CALLS'
+usage='usage: run BOOK PAY... | check BOOK PAY... | make NUMBER PROCESSES CALLS | verify BOOK REPORT PAY...'
 run --help
 refused 'words of no form' 2 "$usage"
 run run "$(printf '\377')"
@@ -72,6 +84,10 @@ refused 'a folder, which cannot be read' 5 'read fault: file 0'
 head -c 8388609 /dev/zero >long.csv
 run run "$usual/book.csv" long.csv
 refused 'a file that is too long' 8 'too long: file 1'
+run verify "$usual/book.csv" long.csv "$usual/pay0.csv"
+refused 'a report that is too long' 8 'too long: file 2'
+run verify "$usual/book.csv" nothing "$usual/pay0.csv"
+refused 'a missing report' 5 'read fault: file 2'
 
 : >out
 "$program" run "$usual/book.csv" "$usual/pay0.csv" >/dev/full 2>err

@@ -30,10 +30,10 @@ build_plain() {
         --config 'source.crates-io.replace-with="debian"' --config "source.debian.directory=\"$sources\""
 }
 
-# Makes a book of so many processes and 1,024 accounts, and 16,384 calls for each process, in a folder.
+# Makes a book of so many processes and 1,024 accounts, and so many calls for each process, in a folder.
 make_input() {
     mkdir -p -- "$2"
-    awk -v processes="$1" -v folder="$2" '
+    awk -v processes="$1" -v folder="$2" -v calls="$3" '
         function draw(below) { x = x * 16807 % 2147483647; return x % below }
         # The first 16 accounts have eight owners, the next 8 have none, and the others one each.
         function owners(a,    first, list, i) {
@@ -60,7 +60,7 @@ make_input() {
             close(file)
             for (p = 0; p < processes; p++) {
                 file = folder "/pay" p ".csv"
-                for (i = 0; i < 16384; i++) print call(p) > file
+                for (i = 0; i < calls; i++) print call(p) > file
                 close(file)
             }
         }'
@@ -154,6 +154,21 @@ take_turns() {
     done
 }
 
+# Verifies the report of so many calls of each of 16 processes, beside `check` on the same files, in turns. The report
+# of the largest input is too long to be verified.
+verify_reports() {
+    local turn calls input
+    for ((turn = 0; turn < turns; turn++)); do
+        for calls in "$@"; do
+            input=$work/verify$calls
+            payments_of 16 "$input"
+            keep_best "verify check $calls" "$proved" check "$input/book.csv" "${payments[@]}"
+            keep_best "verify $calls" "$proved" verify "$input/book.csv" "$input/report" "${payments[@]}"
+            [ "$(cat "$work/text")" = "verified $((16 * calls))" ] || { echo "a report was not verified" >&2; exit 1; }
+        done
+    done
+}
+
 # Checks a book with names and its pay-outs, by both programs in turns.
 check_named() {
     local turn
@@ -189,7 +204,7 @@ peak_memory() {
 
 build_plain
 for n in 8 16; do
-    make_input "$n" "$work/input$n"
+    make_input "$n" "$work/input$n" 16384
     compare "$n" "$work/input$n"
 done
 take_turns
@@ -202,6 +217,16 @@ echo "check, proved to plain: $(ratio "proved check 16" "plain check 16")"
 echo "check, proved to records alone: $(ratio "proved check 16" "plain records 16")"
 echo "run, 16 processes to 8: $(ratio "proved run 16" "proved run 8")"
 echo "check, 16 processes to 8: $(ratio "proved check 16" "proved check 8")"
+for calls in 6144 12288; do
+    make_input 16 "$work/verify$calls" "$calls"
+    payments_of 16 "$work/verify$calls"
+    "$proved" run "$work/verify$calls/book.csv" "${payments[@]}" >"$work/verify$calls/report"
+done
+verify_reports 6144 12288
+for calls in 6144 12288; do
+    echo "$calls calls of each process, a report of $(wc -c <"$work/verify$calls/report") bytes: verify $(milliseconds "verify $calls"), check $(milliseconds "verify check $calls"), verify to check $(ratio "verify $calls" "verify check $calls")"
+done
+echo "verify, 12,288 calls to 6,144: $(ratio "verify 12288" "verify 6144")"
 check_named
 refuse_long 8388609
 refuse_long 4294967296

@@ -13,7 +13,7 @@ use Rattle.at_ledger.specs.declared.call.Call.{Call}
 use Rattle.at_ledger.specs.declared.call.Call.TheVariants.{Transfer, Read, Pay}
 use Rattle.at_ledger.specs.declared.call.Line.{Line}
 use Rattle.at_program.specs.Generator.{MayMake, account_drawn, amount_drawn, call_drawn, calls_drawn, drawn, files_made, kind_drawn, next_state, source_drawn, state_after_calls}
-use Rattle.at_program.specs.Loading.{IsFileOn}
+use Rattle.at_verify.specs.Right.{IsPlayable}
 use Rattle.at_program.specs.Made.{call_debit, over_files}
 use Rattle.at_program.proofs.LineSums.{sum_by-Whole}
 use Rattle.at_program.proofs.SettledRuns.{debits_in, lines_by}
@@ -60,8 +60,8 @@ IsCallOn-IsDrawn processes process (Read account) drawn known = drawn
 IsCallOn-IsDrawn processes process (Pay from targets) drawn known = absurd drawn
 
 -- the files are ones that can be played
-pub IsFileOn-files_made : (first processes calls : ℕ) → MayMake processes calls → All (IsFileOn (processes + 1)) (files_made first processes calls)
-IsFileOn-files_made first processes calls may k d within =
+pub IsPlayable-files_made : (first processes calls : ℕ) → MayMake processes calls → All (IsPlayable (processes + 1)) (files_made first processes calls)
+IsPlayable-files_made first processes calls may k d within =
     let below : k < processes = omega (arith, length-files_made first processes calls) in
     let x = state_after_calls first (k * calls) in
     rw (get_or-files_made first processes calls k d below) (record {

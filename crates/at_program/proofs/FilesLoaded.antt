@@ -16,7 +16,8 @@ use Rattle.at_report.specs.declared.status.Status.TheVariants as status
 use Rattle.at_report.specs.declared.status.UsageFault.TheVariants as usage
 use Rattle.at_report.specs.Lines.{Word}
 use Rattle.at_program.specs.Words.{Form, words_of}
-use Rattle.at_program.specs.Loading.{EachSpells, Files, IsFileReached, MayReach, SpellsCalls, book_loaded, calls_first, calls_loaded, calls_of, files_loaded, loaded}
+use Rattle.at_verify.specs.Right.{files_in}
+use Rattle.at_program.specs.Loading.{EachSpells, Files, IsFileReached, MayReach, SpellsCalls, book_loaded, calls_first, calls_loaded, files_loaded, loaded}
 
 -- what files that were loaded come of: the first, and the others
 record AreParts (r : Result (List Call) Status) (rest : Result (List (List Call)) Status) (loaded : List (List Call)) : Type 0 where
@@ -116,8 +117,8 @@ pub get_or-words_of : (payments : List (String Global)) (i : ℕ) (name : String
 get_or-words_of payments i name within is = get_or-map string_bytes payments i name [] within ∙ ap string_bytes (sym is)
 
 -- the calls of one more file
-pub calls_of-push : (files : List (Vec Call Global)) (file : Vec Call Global) → calls_of (files ++ file ∷ []) ≡ calls_of files ++ file.items ∷ []
-calls_of-push files file = map-append (λ (f : Vec Call Global). f.items) files (file ∷ [])
+pub files_in-push : (files : List (Vec Call Global)) (file : Vec Call Global) → files_in (files ++ file ∷ []) ≡ files_in files ++ file.items ∷ []
+files_in-push files file = map-append (λ (f : Vec Call Global). f.items) files (file ∷ [])
 
 -- what stands before a payment file that was reached is good
 pub MayReach-file : (tells : Bool) (files : Files) (form : Form) (b : NamedBook) (file : ℕ)

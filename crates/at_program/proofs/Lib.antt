@@ -1,8 +1,9 @@
 pub mod FilesLoaded
 pub mod MayRefuseLaws
 pub mod Played
-pub mod CallCounts
 pub mod SpelledLoaded
+pub mod ClaimLaws
+pub mod FormLaws
 pub mod GeneratorLaws
 pub mod GeneratedBook
 pub mod LineSums

@@ -33,7 +33,7 @@ MayRefuse-whole tells part whole before now (BadMessages process line why) leads
 MayRefuse-whole tells part whole before now (NotLegal line) leads h = h
 
 -- a count that rose isn't faultless
-Rose-IsFaultless : (before now : ℕ) → IsFaultless before now → Rose before now → ⊥
+pub Rose-IsFaultless : (before now : ℕ) → IsFaultless before now → Rose before now → ⊥
 Rose-IsFaultless before now faultless (inl above) = let kept = faultless.kept in omega arith
 Rose-IsFaultless before now faultless (inr last) = faultless.below last
 

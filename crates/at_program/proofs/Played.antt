@@ -7,7 +7,7 @@ use Rattle.std.proofs.lemmas.List.Elements.{All-append, All-cons, All-nil, filte
 use Rattle.std.proofs.lemmas.Bool.{ne_eqb}
 use Rattle.std.proofs.Math.Seq.{append_snoc, drop-cons, drop-length}
 use Rattle.at_ledger.specs.Call.{IsCallOn, IsLineOn}
-use Rattle.at_program.specs.Loading.{IsFileOn, calls_of}
+use Rattle.at_verify.specs.Right.{IsPlayable, files_in}
 use Rattle.at_ledger.specs.Book.{BookTerms}
 use Rattle.at_ledger.specs.State.{LedgerState, step, opening_state}
 use Rattle.at_ledger.specs.Run.{Legal, Run, Whole, asked_in, last_state, lines_of, run_from}
@@ -167,7 +167,7 @@ Legal-files_played b files = replies-files_played (opening_state b) 0 files
 pub last_state-files_played : (b : BookTerms) (files : List (List Call)) → last_state b (files_played (opening_state b) 0 files) ≡ state_after_files (opening_state b) 0 files
 last_state-files_played b files = last-files_played (opening_state b) 0 files
 
-pub IsLineOn-files_played : (s : LedgerState) (processes accounts : ℕ) (files : List (List Call)) → All (IsFileOn accounts) files → length files ≡ processes
+pub IsLineOn-files_played : (s : LedgerState) (processes accounts : ℕ) (files : List (List Call)) → All (IsPlayable accounts) files → length files ≡ processes
     → All (IsLineOn processes accounts) (files_played s 0 files)
 IsLineOn-files_played s processes accounts files known enough =
     All-files_played (IsLineOn processes accounts) (IsCallOn accounts) processes (λ process now number call below good. (below, good)) s 0 files
@@ -228,6 +228,6 @@ unfolding state_after_files
 state_after_files-end s process files = rw drop-length refl
 
 -- a file as the program holds it
-pub get_or-calls_of : (files : List (Vec Call Global)) (i : ℕ) (file : Vec Call Global) → i < length files → file ≡ get_or files i file
-    → file.items ≡ get_or (calls_of files) i file.items
-get_or-calls_of files i file within is = ap (λ (f : Vec Call Global). f.items) is ∙ sym (get_or-map (λ (f : Vec Call Global). f.items) files i file file.items within)
+pub get_or-files_in : (files : List (Vec Call Global)) (i : ℕ) (file : Vec Call Global) → i < length files → file ≡ get_or files i file
+    → file.items ≡ get_or (files_in files) i file.items
+get_or-files_in files i file within is = ap (λ (f : Vec Call Global). f.items) is ∙ sym (get_or-map (λ (f : Vec Call Global). f.items) files i file file.items within)

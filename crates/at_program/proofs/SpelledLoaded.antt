@@ -15,7 +15,7 @@ use Rattle.at_program.specs.Words.{Form}
 use Rattle.at_program.specs.Loading.{Files, HoldsFile, Loaded, Spelled, SpellsBook, SpellsCalls, book_loaded, calls_loaded, fetched, files_loaded, loaded}
 
 -- a file that is there and not too long is fetched
-fetched-HoldsFile : (files : Files) (name : Word) (bytes : List ℕ) (number : ℕ) → HoldsFile files name bytes → fetched (files name) number ≡ Ok bytes
+pub fetched-HoldsFile : (files : Files) (name : Word) (bytes : List ℕ) (number : ℕ) → HoldsFile files name bytes → fetched (files name) number ≡ Ok bytes
 fetched-HoldsFile files name bytes number held =
     let size : nat_lt most_file_bytes (length bytes) ≡ false = let size = held.size in grind (arith, nat_tests) in
     rw (held.there, size) refl

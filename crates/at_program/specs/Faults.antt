@@ -31,6 +31,10 @@ HasFileNumbers files (ReadFault file) = file ≤ files
 HasFileNumbers files (TooLong file) = file ≤ files
 HasFileNumbers files _ = ⊤
 
+-- what is answered of a file with this number that was not fetched
+abbrev pub IsUnfetched : ℕ → Status → Type 0
+IsUnfetched number refusal = (refusal ≡ ReadFault number) ⊎ ((refusal ≡ TooLong number) ⊎ (refusal ≡ NoMemory))
+
 -- no fault is counted: the count stands as it was, and not at its last value
 pub record IsFaultless (before now : ℕ) : Type 0 where
   pub kept : now ≡ before

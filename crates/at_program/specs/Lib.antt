@@ -4,5 +4,6 @@ pub mod Loading
 pub mod Faults
 pub mod Playing
 pub mod Answer
+pub mod Claims
 pub mod Generator
 pub mod Made

@@ -1,5 +1,5 @@
 -- What the files that the words name spell, or why they are refused.
-use Rattle.std.specs.Prelude.{◌≡◌, ℕ, ◌+◌, Bool, true, All, Vec, map, ◌<◌, ◌≤◌, ◌==◌, ⊤, List, [], ◌∷◌, zero, suc, length, take, nat_lt, slice_index_or, Option, Some, None, Result, Ok, Err, if◌then◌else◌}
+use Rattle.std.specs.Prelude.{◌≡◌, ℕ, ◌+◌, Bool, true, ◌<◌, ◌≤◌, ◌==◌, ⊤, List, [], ◌∷◌, zero, suc, length, take, nat_lt, slice_index_or, Option, Some, None, Result, Ok, Err, if◌then◌else◌}
 use Rattle.at_ledger.specs.Book.{BookTerms}
 use Rattle.at_ledger.specs.declared.call.Call.{Call}
 use Rattle.at_files.specs.Records.{records_of}
@@ -14,10 +14,8 @@ use Rattle.at_io.specs.Limits.{most_file_bytes}
 use Rattle.at_report.specs.declared.status.Status.{Status}
 use Rattle.at_report.specs.declared.status.Status.TheVariants as status
 use Rattle.at_report.specs.declared.status.UsageFault.TheVariants as usage
-use Rattle.std.specs.Global.{Global}
-use Rattle.at_ledger.specs.Call.{IsCallOn}
-use Rattle.at_files.specs.Limits.{most_calls}
 use Rattle.at_report.specs.Lines.{Word}
+use Rattle.at_verify.specs.Right.{files_in}
 use Rattle.at_program.specs.Words.{Form}
 use Rattle.at_program.specs.declared.loading.Loaded as program
 
@@ -140,15 +138,6 @@ pub record Spelled (files : Files) (form : Form) (l : Loaded) : Type 0 where
   pub book : SpellsBook files form.book l.book l.names
   pub payments : SpellsFiles files form.payments l.book l.names l.files
 
--- the calls are of the book's accounts, and not too many
-pub record IsFileOn (accounts : ℕ) (calls : List Call) : Type 0 where
-  pub known : All (IsCallOn accounts) calls
-  pub few : length calls ≤ most_calls
-
--- the calls of each file, as the program holds them
-abbrev pub calls_of : List (Vec Call Global) → List (List Call)
-calls_of files = map (λ (file : Vec Call Global). file.items) files
-
 -- what was loaded, as the program holds it
 abbrev pub loaded_shown : program.Loaded → Loaded
-loaded_shown l = record { book = l.book; names = l.names; files = calls_of l.files.items }
+loaded_shown l = record { book = l.book; names = l.names; files = files_in l.files.items }

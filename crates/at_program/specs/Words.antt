@@ -5,6 +5,7 @@ use Rattle.at_base.specs.Numbers.{number_of}
 use Rattle.at_ledger.specs.Draft.{is_within}
 use Rattle.at_report.specs.Lines.{Word}
 use Rattle.at_program.specs.declared.words.Form as words
+use Rattle.at_program.specs.declared.words.Verifying as verifying
 use Rattle.at_program.specs.declared.words.Command.{Command}
 use Rattle.at_program.specs.declared.words.Command.TheVariants.{Run, Check}
 use Rattle.at_program.specs.declared.words.Making.{Making}
@@ -61,3 +62,23 @@ make_of words = None
 -- the words ask `make` for these numbers
 abbrev pub AskToMake : List (String Global) → Making → Type 0
 AskToMake words making = make_of (words_of words) ≡ Some making
+
+-- the name of the report, and the form in which the other files are read
+pub record Verifying : Type 0 where
+  pub report : Word
+  pub checked : Form
+
+-- the words of `verify`: the command, a book, a report, and any number of payment files; all but the report are read as for `check`
+abbrev pub verify_of : List Word → Option Verifying
+verify_of (word ∷ book ∷ report ∷ payments) =
+    if bytes_eq word (codes "verify") then Some (record { report = report; checked = record { command = Check; book = book; payments = payments } })
+    else None
+verify_of words = None
+
+-- the words ask `verify` for this
+abbrev pub AskToVerify : List (String Global) → Verifying → Type 0
+AskToVerify words asked = verify_of (words_of words) ≡ Some asked
+
+-- the same words, as the program holds them
+abbrev pub verifying_shown : verifying.Verifying → Verifying
+verifying_shown asked = record { report = asked.report.now; checked = form_shown asked.checked }

@@ -3,9 +3,11 @@
 ghost use Rattle.std.specs.Prelude.{◌≡◌, ℕ, ◌+◌, ◌^◌, ◌<◌, ◌≤◌, true, length, All, IfOk, IfErr, OnOk, Ok, Err};
 ghost use Rattle.at_io.specs.Shelf.{SameFiles};
 ghost use Rattle.at_files.specs.Names.{AreNamesOf};
+ghost use Rattle.at_io.specs.Limits.{most_file_bytes};
 ghost use Rattle.at_program.specs.Words.{words_of, form_shown};
-ghost use Rattle.at_program.specs.Faults.{HasFileNumbers, MayRefuse};
-ghost use Rattle.at_program.specs.Loading.{EachSpells, HoldsFile, IsFileOn, IsFileReached, MayReach, Spelled, SpellsBook, SpellsCalls, book_loaded, calls_loaded, calls_of, fetched, files_loaded, loaded, loaded_shown};
+ghost use Rattle.at_program.specs.Faults.{HasFileNumbers, IsUnfetched, MayRefuse};
+ghost use Rattle.at_verify.specs.Right.{IsPlayable, files_in};
+ghost use Rattle.at_program.specs.Loading.{EachSpells, HoldsFile, IsFileReached, MayReach, Spelled, SpellsBook, SpellsCalls, book_loaded, calls_loaded, fetched, files_loaded, loaded, loaded_shown};
 
 use crate::words::Form;
 use at_files::{Names, ReadBookFault, ReadPaymentsFault, read_book, read_payments};
@@ -23,7 +25,7 @@ pub struct Loaded {
 }
 
 /// The bytes of the file with this number.
-fn fetch_file<F: Shelf>(
+pub fn fetch_file<F: Shelf>(
     alloc: Global,
     shelf: &mut F,
     name: &str,
@@ -40,6 +42,8 @@ fn fetch_file<F: Shelf>(
     ensures err { IfErr result
         (λ refusal. MayRefuse (F.tells shelf.old) (fetched (F.file shelf.old name.now) number)
         (F.faults shelf.old) (F.faults shelf.new) refusal) }
+    ensures size { IfOk result (λ bytes. length bytes.items ≤ most_file_bytes) }
+    ensures why { IfErr result (IsUnfetched number) }
     ensures file { (file : ℕ) → result ≡ Err (Status.ReadFault file) → file ≡ number }
     ensures numbered { (files : ℕ) → number ≤ files → IfErr result (HasFileNumbers files) }
 {
@@ -102,7 +106,7 @@ fn load_calls<F: Shelf>(
     ensures spelled { F.tells shelf.old ≡ true
         → IfOk result
         (λ calls. SpellsCalls (F.file shelf.old) name.now book.now names.now calls.items) }
-    ensures known { IfOk result (λ calls. IsFileOn (length book.now.accounts) calls.items) }
+    ensures known { IfOk result (λ calls. IsPlayable (length book.now.accounts) calls.items) }
     ensures err { IfErr result
         (λ refusal. MayRefuse (F.tells shelf.old)
         (calls_loaded (F.file shelf.old) names.now process name.now) (F.faults shelf.old)
@@ -138,14 +142,14 @@ fn load_files<F: Shelf>(
     ensures ok { F.tells shelf.old ≡ true
         → IfOk result
         (λ files. files_loaded (F.file shelf.old) names.now 0 (words_of payments.now) ≡ Ok
-        (calls_of files.items)) }
+        (files_in files.items)) }
     ensures count { IfOk result (λ files. length files.items ≡ length payments.now) }
     ensures spelled { F.tells shelf.old ≡ true
         → IfOk result
         (λ files. EachSpells (F.file shelf.old) (words_of payments.now) book.now names.now
-        (calls_of files.items)) }
+        (files_in files.items)) }
     ensures known { IfOk result
-        (λ files. All (IsFileOn (length book.now.accounts)) (calls_of files.items)) }
+        (λ files. All (IsPlayable (length book.now.accounts)) (files_in files.items)) }
     ensures err { IfErr result
         (λ refusal. MayRefuse (F.tells shelf.old)
         (files_loaded (F.file shelf.old) names.now 0 (words_of payments.now)) (F.faults shelf.old)
@@ -181,8 +185,9 @@ pub fn load<F: Shelf>(alloc: Global, shelf: &mut F, form: &Form<'_>) -> Result<L
         → IfOk result (λ l. Spelled (F.file shelf.old) (form_shown form.now) (loaded_shown l)) }
     ensures names { IfOk result (λ l. AreNamesOf l.book l.names) }
     ensures known { IfOk result
-        (λ l. All (IsFileOn (length l.book.accounts)) (calls_of l.files.items)) }
+        (λ l. All (IsPlayable (length l.book.accounts)) (files_in l.files.items)) }
     ensures count { IfOk result (λ l. length l.files.items ≡ l.book.processes) }
+    ensures given { IfOk result (λ l. length form.now.payments.now ≡ l.book.processes) }
     ensures err { IfErr result
         (λ refusal. MayRefuse (F.tells shelf.old) (loaded (F.file shelf.old) (form_shown form.now))
         (F.faults shelf.old) (F.faults shelf.new) refusal) }

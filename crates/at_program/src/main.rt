@@ -3,7 +3,8 @@
 //!
 //! `serve` does it all, over any shelf and sinks. Over those that tell what they hold, what `run` prints is one legal
 //! run of the calls that the files' bytes spell, what `make` prints is what every legal run of the calls that its
-//! numbers give leads to, and each refusal names the first fault.
+//! numbers give leads to, `verify` takes the report of a legal run and no other, and each refusal names the first
+//! fault.
 #![tactic(auto)]
 
 ghost use Rattle.std.specs.Prelude.{◌≢◌, IfErr};
@@ -14,6 +15,7 @@ mod playing;
 mod serving;
 #[cfg(test)]
 mod tests;
+mod verifying;
 mod words;
 
 use crate::serving::{serve, tell};

@@ -4,7 +4,7 @@ ghost use Rattle.std.specs.Prelude.{◌≡◌, ◌^◌, ◌<◌, ◌≤◌, ◌+
 ghost use Rattle.at_ledger.specs.Book.{total_of};
 ghost use Rattle.at_ledger.specs.Call.{IsLineOn};
 ghost use Rattle.at_ledger.specs.Run.{Legal, Whole, last_state};
-ghost use Rattle.at_program.specs.Loading.{IsFileOn, calls_of};
+ghost use Rattle.at_verify.specs.Right.{IsPlayable, files_in};
 ghost use Rattle.at_program.specs.Playing.{files_played, played, state_after, state_after_files};
 
 use at_ledger::{Book, Call, Line, State};
@@ -18,7 +18,7 @@ fn play_file(
     calls: &[Call],
 ) -> Result<(), AllocError>
     requires process { process < state.old.book.processes }
-    requires calls { IsFileOn (length state.old.book.accounts) calls.now }
+    requires calls { IsPlayable (length state.old.book.accounts) calls.now }
     ensures lines { OnOk result
         (lines.new.items ≡ lines.old.items ++ played state.old process 1 calls.now) }
     ensures state { OnOk result (state.new ≡ state_after state.old process calls.now) }
@@ -44,10 +44,10 @@ fn play_each(
 ) -> Result<(), AllocError>
     requires processes { length files.now ≤ state.old.book.processes }
     requires few { state.old.book.processes < 2 ^ 32 }
-    requires files { All (IsFileOn (length state.old.book.accounts)) (calls_of files.now) }
+    requires files { All (IsPlayable (length state.old.book.accounts)) (files_in files.now) }
     ensures lines { OnOk result
-        (lines.new.items ≡ lines.old.items ++ files_played state.old 0 (calls_of files.now)) }
-    ensures state { OnOk result (state.new ≡ state_after_files state.old 0 (calls_of files.now)) }
+        (lines.new.items ≡ lines.old.items ++ files_played state.old 0 (files_in files.now)) }
+    ensures state { OnOk result (state.new ≡ state_after_files state.old 0 (files_in files.now)) }
     ensures book { state.new.book ≡ state.old.book }
 {
     for (process, calls) in files.iter().enumerate() {
@@ -60,8 +60,8 @@ fn play_each(
 /// the work grows with the calls.
 pub fn play(alloc: Global, book: &Book, files: &[Vec<Call>]) -> Result<Vec<Line>, AllocError>
     requires processes { length files.now ≡ book.now.processes }
-    requires files { All (IsFileOn (length book.now.accounts)) (calls_of files.now) }
-    ensures whole { IfOk result (λ lines. Whole (calls_of files.now) lines.items) }
+    requires files { All (IsPlayable (length book.now.accounts)) (files_in files.now) }
+    ensures whole { IfOk result (λ lines. Whole (files_in files.now) lines.items) }
     ensures legal { IfOk result (λ lines. Legal book.now lines.items) }
     ensures known { IfOk result
         (λ lines. All (IsLineOn book.now.processes (length book.now.accounts)) lines.items) }

@@ -5,20 +5,24 @@ ghost use Rattle.at_files.specs.Names.{AreNamesOf};
 ghost use Rattle.at_io.specs.Faults.{Rose};
 ghost use Rattle.at_io.specs.Shelf.{SameFiles};
 ghost use Rattle.at_io.specs.Sink.{TakesPrefix};
-ghost use Rattle.at_program.specs.Words.{AskToMake, HaveForm, Form, form_of, form_shown, make_of, words_of};
+ghost use Rattle.at_program.specs.Words.{AskToMake, AskToVerify, HaveForm, Form, Verifying, form_of, form_shown, make_of, verify_of, words_of};
 ghost use Rattle.at_program.specs.Generator.{MayMake};
 ghost use Rattle.at_program.specs.Made.{IsMade, made};
 ghost use Rattle.at_program.specs.declared.words.Making.{Making};
-ghost use Rattle.at_program.specs.Loading.{IsFileOn, Loaded, MayReach, Spelled, calls_of, loaded, loaded_shown};
+ghost use Rattle.at_verify.specs.Right.{IsPlayable, files_in};
+ghost use Rattle.at_program.specs.Loading.{Loaded, MayReach, Spelled, loaded, loaded_shown};
 ghost use Rattle.at_program.specs.Faults.{Answers, IsFaultless, HasFileNumbers, MayRefuse};
+ghost use Rattle.at_program.specs.Claims.{AnswersVerify, Claim, HasClaimNumbers, IsRight, IsRightClaim, MayReachClaim, MayRefuseClaim, SpellsClaim, TookVerified, TookVerifiedPrefix, claimed};
 ghost use Rattle.at_program.specs.Answer.{Prints, PrintsSpelled, TookAll, TookPrefix, TookLine};
 
 use crate::generating::generate;
 use crate::loading::{self, load};
 use crate::playing::play;
-use crate::words::{self, Command, Making, form_of, what_to_make};
+use crate::verifying::answer_verify;
+use crate::words::{self, Command, Making, form_of, what_to_make, what_to_verify};
 use at_io::{Shelf, Sink, put_all};
 use at_report::{Status, UsageFault, checked_text, fault_text, report, summary};
+use at_verify::count_calls;
 use std::alloc::{AllocError, Global};
 use std::thread::Threads;
 
@@ -26,40 +30,26 @@ use std::thread::Threads;
 fn run_text(alloc: Global, loaded: &loading::Loaded) -> Result<Vec<u8>, AllocError>
     requires names { AreNamesOf loaded.now.book loaded.now.names }
     requires count { length loaded.now.files.items ≡ loaded.now.book.processes }
-    requires known { All (IsFileOn (length loaded.now.book.accounts))
-        (calls_of loaded.now.files.items) }
+    requires known { All (IsPlayable (length loaded.now.book.accounts))
+        (files_in loaded.now.files.items) }
     ensures { IfOk result (λ text. Prints Command.Run (loaded_shown loaded.now) text.items) }
 {
     let lines = play(alloc, &loaded.book, loaded.files.as_slice())?;
     report(alloc, &loaded.book, &loaded.names, lines.as_slice())
 }
 
-/// How many calls the files have together.
-fn count_calls(loaded: &loading::Loaded) -> u32
-    requires count { length loaded.now.files.items ≡ loaded.now.book.processes }
-    requires known { All (IsFileOn (length loaded.now.book.accounts))
-        (calls_of loaded.now.files.items) }
-    ensures { result ≡ sum_by length (calls_of loaded.now.files.items) }
-{
-    let _known = loaded.book.accounts();
-    let mut calls = 0;
-    for file in &loaded.files {
-        calls += file.len() as u32;
-    }
-    calls
-}
-
 /// What the command prints of what was loaded.
 fn text_of(alloc: Global, command: Command, loaded: &loading::Loaded) -> Result<Vec<u8>, AllocError>
     requires names { AreNamesOf loaded.now.book loaded.now.names }
     requires count { length loaded.now.files.items ≡ loaded.now.book.processes }
-    requires known { All (IsFileOn (length loaded.now.book.accounts))
-        (calls_of loaded.now.files.items) }
+    requires known { All (IsPlayable (length loaded.now.book.accounts))
+        (files_in loaded.now.files.items) }
     ensures { IfOk result (λ text. Prints command (loaded_shown loaded.now) text.items) }
 {
+    let _known = loaded.book.accounts();
     match command {
         Command::Run => run_text(alloc, loaded),
-        Command::Check => checked_text(alloc, &loaded.book, count_calls(loaded)),
+        Command::Check => checked_text(alloc, &loaded.book, count_calls(loaded.files.as_slice())),
     }
 }
 
@@ -215,9 +205,10 @@ pub fn serve<R: Threads + Sync, F: Shelf, O: Sink, E: Sink>(
     ensures as_told { (O.tells out.new ≡ O.tells out.old) × (E.tells err.new ≡ E.tells err.old) }
 
     // The words have a form exactly where they are not refused, and every other answer is about that form: one of
-    // files, or that of `make`, which reads none.
+    // files, that of `verify`, or that of `make`, which reads none.
     ensures words { (result ≡ Status.Usage UsageFault.Words)
-        ↔ ((form_of (words_of words.now) ≡ None) × (make_of (words_of words.now) ≡ None)) }
+        ↔ ((form_of (words_of words.now) ≡ None) × (verify_of (words_of words.now) ≡ None)
+        × (make_of (words_of words.now) ≡ None)) }
 
     ensures unread { result ≡ Status.Usage UsageFault.Words → shelf.new ≡ shelf.old }
 
@@ -274,15 +265,51 @@ pub fn serve<R: Threads + Sync, F: Shelf, O: Sink, E: Sink>(
         → IsFaultless (O.faults out.old) (O.faults out.new)
         → (result ≡ Status.Done) ⊎ (result ≡ Status.NoMemory) }
 
+    // Of the words of `verify` all is done only where the report is right: its bytes are the report of a legal run of
+    // the files' calls, and all bytes that were taken say of how many lines.
+    ensures verify_sound { (asked : Verifying) → AskToVerify words.now asked
+        → result ≡ Status.Done → F.tells shelf.old ≡ true → O.tells out.old ≡ true
+        → TookVerified (F.file shelf.old) asked (O.taken out.old) (O.taken out.new) }
+    ensures verify_right { (asked : Verifying) → AskToVerify words.now asked
+        → F.tells shelf.old ≡ true → (result ≡ Status.Done) ⊎ (result ≡ Status.WriteFault)
+        → IsRightClaim (claimed (F.file shelf.old) asked) }
+    ensures verify_prefix { (asked : Verifying) → AskToVerify words.now asked
+        → result ≡ Status.WriteFault → F.tells shelf.old ≡ true → O.tells out.old ≡ true
+        → TookVerifiedPrefix (F.file shelf.old) asked (O.taken out.old) (O.taken out.new) }
+
+    // And where the files spell a book, its calls and a right report, all is done, but for faults and want of memory.
+    ensures verify_complete { (asked : Verifying) (c : Claim) → AskToVerify words.now asked
+        → F.tells shelf.old ≡ true → SpellsClaim (F.file shelf.old) asked c → IsRight c
+        → IsFaultless (F.faults shelf.old) (F.faults shelf.new)
+        → IsFaultless (O.faults out.old) (O.faults out.new)
+        → (result ≡ Status.Done) ⊎ (result ≡ Status.NoMemory) }
+
+    // When `verify` is refused: for a wrong report at its first wrong line, and else as `check` is.
+    ensures verify_refusal { (asked : Verifying) → AskToVerify words.now asked
+        → result ≢ Status.Done → result ≢ Status.WriteFault
+        → MayRefuseClaim (F.tells shelf.old) (claimed (F.file shelf.old) asked)
+        (F.faults shelf.old) (F.faults shelf.new) result }
+    ensures verify_reached { (asked : Verifying) (file : ℕ) → AskToVerify words.now asked
+        → result ≡ Status.ReadFault file
+        → MayReachClaim (F.tells shelf.old) (F.file shelf.old) asked file }
+    ensures verify_numbered { (asked : Verifying) → AskToVerify words.now asked
+        → HasClaimNumbers (length asked.checked.payments) result }
+    ensures verify_exact { (asked : Verifying) → AskToVerify words.now asked
+        → F.tells shelf.old ≡ true → IsFaultless (F.faults shelf.old) (F.faults shelf.new)
+        → (result ≡ Status.NoMemory) ⊎ AnswersVerify (claimed (F.file shelf.old) asked) result }
+
     // What was said of a refusal.
     ensures silent { result ≡ Status.Done → err.new ≡ err.old }
     ensures told { result ≢ Status.Done → E.tells err.old ≡ true
         → TookLine result (E.faults err.old) (E.faults err.new) (E.taken err.old)
         (E.taken err.new) }
 {
-    let status = match form_of(words) {
-        Some(form) => answer(alloc, shelf, out, &form),
-        None => answer_made(alloc, words, out),
+    let status = if let Some(form) = form_of(words) {
+        answer(alloc, shelf, out, &form)
+    } else if let Some(asked) = what_to_verify(words) {
+        answer_verify(alloc, shelf, out, &asked)
+    } else {
+        answer_made(alloc, words, out)
     };
     if status != Status::Done {
         tell(err, &status);

@@ -33,7 +33,8 @@ const USUAL: &[u8] = b"transfer,0,1,30\nread,0\nread,1\n";
 const USUAL_REPORT: &str =
     "journal 3\n0 1 transfer 0 1 30 done\n0 2 read 0 70\n0 3 read 1 30\nbalances 2\n0 70\n1 30\ntotal 100\n";
 
-const USAGE: &str = "usage: run BOOK PAY... | check BOOK PAY... | make NUMBER PROCESSES CALLS\n";
+const USAGE: &str =
+    "usage: run BOOK PAY... | check BOOK PAY... | make NUMBER PROCESSES CALLS | verify BOOK REPORT PAY...\n";
 
 const SMALL: &str = "made 7 1 2\ndone 2\nread 0\nbalances 2\n0 146\n1 254\ntotal 400\n";
 
@@ -381,6 +382,89 @@ const WORDS: &[Case] = &[
     ("make 7 1 2 3", &[], 2, USAGE),
 ];
 
+const CROSSED: &[u8] = b"book,1\nprocesses,2\nlimits,4,4\naccount,0,0,0\naccount,1,10,1\n";
+
+const VERIFIES: &[Case] = &[
+    (
+        "verify book 1 0",
+        &[
+            ONE,
+            USUAL,
+            b"journal 3\n0 1 transfer 0 1 30 done\n0 2 read 0 70\n0 3 read 1 30\nbalances 2\n0 70\n1 30\ntotal 100\n",
+        ],
+        0,
+        "verified 3\n",
+    ),
+    (
+        "verify book 1 0",
+        &[
+            ONE,
+            USUAL,
+            b"journal 3\n0 1 transfer 0 1 30 done\n0 2 read 0 71\n0 3 read 1 30\nbalances 2\n0 70\n1 30\ntotal 100\n",
+        ],
+        12,
+        "report: line 3: not legal\n",
+    ),
+    (
+        "verify book 1 0",
+        &[
+            ONE,
+            USUAL,
+            b"journal 3\n0 1 transfer 0 1 30 done\n0 2 read 0 70\n0 3 read 1 30\nbalances 2\n0 70\n1 30\ntotal 100",
+        ],
+        12,
+        "report: line 8: not legal\n",
+    ),
+    (
+        "verify book 1 0",
+        &[ONE, USUAL, b""],
+        12,
+        "report: line 1: not legal\n",
+    ),
+    (
+        "verify book 2 0 1",
+        &[
+            CROSSED,
+            b"transfer,0,1,10\n",
+            b"transfer,1,0,10\n",
+            b"journal 2\n0 1 transfer 0 1 10 done\n1 1 transfer 1 0 10 done\nbalances 2\n0 0\n1 10\ntotal 10\n",
+        ],
+        12,
+        "report: line 2: not legal\n",
+    ),
+    (
+        "verify book 2 0 1",
+        &[
+            NAMED,
+            b"pay,ann-cash,shop,30,joint,20\nread,shop\n",
+            b"",
+            b"journal 2\nann 1 pay ann-cash shop 30 joint 20 done\nann 2 read shop 30\nbalances 3\nann-cash 50\njoint 70\nshop 30\ntotal 150\n",
+        ],
+        0,
+        "verified 2\n",
+    ),
+];
+
+/// Files that are not there: the payments are read before the report.
+const REFUSED_TO_VERIFY: &[Case] = &[
+    ("verify", &[], 2, USAGE),
+    ("verify book", &[ONE], 2, USAGE),
+    (
+        "verify book 0",
+        &[ONE, b""],
+        2,
+        "files: wanted 1, given 0\n",
+    ),
+    ("verify book 1 2", &[ONE], 5, "read fault: file 1\n"),
+    ("verify book 1 0", &[ONE, b""], 5, "read fault: file 2\n"),
+    (
+        "verify book 1 0",
+        &[ONE, b"read,9\n"],
+        4,
+        "payments 0: line 1: unknown account\n",
+    ),
+];
+
 /// The files of these contents: `book`, `0`, `1` and `2`.
 fn files_of(alloc: Global, contents: &[&[u8]]) -> Result<Vec<(String, Vec<u8>)>, AllocError> {
     let mut files = Vec::new(alloc);
@@ -493,6 +577,18 @@ fn refused_files(rt: HostRuntime) -> Result<(), Fail> {
 #[test]
 fn words(rt: HostRuntime) -> Result<(), Fail> {
     assert_eq!(rt; first_wrong(&rt, rt.alloc(), WORDS)?, None);
+    Ok(())
+}
+
+#[test]
+fn reports(rt: HostRuntime) -> Result<(), Fail> {
+    assert_eq!(rt; first_wrong(&rt, rt.alloc(), VERIFIES)?, None);
+    Ok(())
+}
+
+#[test]
+fn refused_to_verify(rt: HostRuntime) -> Result<(), Fail> {
+    assert_eq!(rt; first_wrong(&rt, rt.alloc(), REFUSED_TO_VERIFY)?, None);
     Ok(())
 }
 

@@ -4,7 +4,7 @@ ghost use Rattle.std.specs.Prelude.{◌≡◌, option_map, IfSome};
 ghost use Rattle.at_program.specs.Limits.{most_made_calls, most_made_processes};
 ghost use Rattle.at_base.specs.Numbers.{number_of};
 ghost use Rattle.at_program.specs.Generator.{MayMake};
-ghost use Rattle.at_program.specs.Words.{command_named, form_of, form_shown, make_of, making_of, within, words_of};
+ghost use Rattle.at_program.specs.Words.{command_named, form_of, form_shown, make_of, making_of, verify_of, verifying_shown, within, words_of};
 
 use at_base::parse_number;
 
@@ -108,4 +108,31 @@ pub fn what_to_make(words: &[String]) -> Option<Making>
         return None;
     }
     making_of(first.as_str(), processes.as_str(), calls.as_str())
+}
+
+/// The words of `verify`: the report's file, and the form in which the other files are read.
+#[derive(Clone, Copy)]
+pub struct Verifying<'a> {
+    pub report: &'a str,
+    pub checked: Form<'a>,
+}
+
+/// What report the words of `verify` name, if they have its form. All other files are read as for `check`.
+pub fn what_to_verify(words: &[String]) -> Option<Verifying<'_>>
+    ensures { option_map verifying_shown result ≡ verify_of (words_of words.now) }
+{
+    let [command, book, report, payments @ ..] = words else {
+        return None;
+    };
+    if command.as_str() != "verify" {
+        return None;
+    }
+    Some(Verifying {
+        report: report.as_str(),
+        checked: Form {
+            command: Command::Check,
+            book: book.as_str(),
+            payments,
+        },
+    })
 }

@@ -1,4 +1,4 @@
--- The report of a run, and the line of a check.
+-- The report of a run, the line of a check, and that of a verified report.
 use Rattle.std.specs.Prelude.{ℕ, ◌<◌, ◌^◌, ⊤, List, [], ◌∷◌, ◌++◌, length, map, codes, decimal, sum}
 use Rattle.std.specs.List.{range_with_len}
 use Rattle.at_ledger.specs.Book.{BookTerms}
@@ -41,6 +41,10 @@ report_text b names lines = lines_text (printed_journal names lines ++ audit_lin
 -- how many processes and accounts a book has, and how many calls its files have
 abbrev pub checked_line : BookTerms → ℕ → List ℕ
 checked_line b calls = line_text (codes "checked" ∷ decimal b.processes ∷ decimal (length b.accounts) ∷ decimal calls ∷ [])
+
+-- of how many lines a report is
+abbrev pub verified_line : ℕ → List ℕ
+verified_line count = line_text (codes "verified" ∷ decimal count ∷ [])
 
 -- a balance in a reply is a number of 64 bits
 abbrev pub HasBalance : Reply → Type 0

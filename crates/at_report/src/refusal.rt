@@ -11,7 +11,8 @@ use at_ledger::BookError;
 /// The text of a refusal: one line, with its newline.
 pub type FaultText = ArrayVec<u8, 256>;
 
-const USAGE: &str = "usage: run BOOK PAY... | check BOOK PAY... | make NUMBER PROCESSES CALLS";
+const USAGE: &str = "usage: run BOOK PAY... | check BOOK PAY... | make NUMBER PROCESSES CALLS \
+     | verify BOOK REPORT PAY...";
 
 fn limit_text(e: &BookError) -> &'static str
     ensures text { result.now ≡ limit_text e.now }
@@ -155,9 +156,9 @@ fn push_bad_of(out: &mut FaultText, text: &str, process: u32, line: u32, cause: 
 }
 
 fn push_usage(out: &mut FaultText, fault: &UsageFault)
-    requires { length out.old.items ≤ 100 }
+    requires { length out.old.items ≤ 50 }
     ensures text { out.new.items ≡ out.old.items ++ usage_text fault.now }
-    ensures short { length out.new.items ≤ length out.old.items + 100 }
+    ensures short { length out.new.items ≤ length out.old.items + 200 }
 {
     match fault {
         UsageFault::Words => push_text(out, USAGE),

@@ -5,7 +5,7 @@ ghost use Rattle.at_ledger.specs.Call.{IsLineOn};
 ghost use Rattle.at_ledger.specs.declared.call.Line.{Line};
 ghost use Rattle.at_files.specs.Names.{AreNamesOf};
 ghost use Rattle.at_report.specs.Lines.{line_text, lines_text};
-ghost use Rattle.at_report.specs.Report.{IsPrinted, audit_lines, balance_lines, checked_line, heading_words, printed_journal, report_text};
+ghost use Rattle.at_report.specs.Report.{IsPrinted, audit_lines, balance_lines, checked_line, heading_words, printed_journal, report_text, verified_line};
 
 use crate::NoMemory;
 use crate::lines::{push_line, push_number, push_numbered};
@@ -116,6 +116,16 @@ pub fn checked_text(alloc: Global, book: &Book, calls: u32) -> Result<Vec<u8>, N
     push_number(&mut out, u64::from(book.processes()))?;
     push_number(&mut out, u64::from(book.accounts()))?;
     push_number(&mut out, u64::from(calls))?;
+    out.push(b'\n')?;
+    Ok(out)
+}
+
+/// The line of a report that was verified: how many lines its journal has.
+pub fn verified_text(alloc: Global, lines: u32) -> Result<Vec<u8>, NoMemory>
+    ensures { IfOk result (λ text. text.items ≡ verified_line lines) }
+{
+    let mut out = Vec::from_slice(alloc, b"verified")?;
+    push_number(&mut out, u64::from(lines))?;
     out.push(b'\n')?;
     Ok(out)
 }

@@ -5,7 +5,7 @@ ghost use Rattle.at_files.specs.Names.{AreNamesOf};
 
 use crate::{
     MessagesWhy, OrderWhy, ScheduleWhy, Status, UsageFault, checked_text, fault_text, report,
-    summary,
+    summary, verified_text,
 };
 use at_files::{BadBook, BadPayments, BookWhy, Names, PaymentsWhy, ReadBookFault, read_book};
 use at_ledger::{Book, BookError, Call, Line, Reply};
@@ -17,7 +17,7 @@ const REFUSALS: &[(Status, u8, &str)] = &[
     (
         Status::Usage(UsageFault::Words),
         2,
-        "usage: run BOOK PAY... | check BOOK PAY... | make NUMBER PROCESSES CALLS\n",
+        "usage: run BOOK PAY... | check BOOK PAY... | make NUMBER PROCESSES CALLS | verify BOOK REPORT PAY...\n",
     ),
     (
         Status::Usage(UsageFault::Files {
@@ -170,6 +170,13 @@ fn a_check(rt: HostRuntime) -> Result<(), Fail> {
     let (book, _) = book(rt.alloc())?;
     let text = checked_text(rt.alloc(), &book, 3)?;
     assert!(rt; text.as_slice() == b"checked 1 2 3\n".as_slice());
+    Ok(())
+}
+
+#[test]
+fn a_verified_report(rt: HostRuntime) -> Result<(), Fail> {
+    let text = verified_text(rt.alloc(), 3)?;
+    assert!(rt; text.as_slice() == b"verified 3\n".as_slice());
     Ok(())
 }
 

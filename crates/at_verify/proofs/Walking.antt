@@ -179,17 +179,22 @@ took text expected at n within are all =
 fits : (text expected : List ℕ) (at n : ℕ) → at ≤ length text → ArePartedAt (drop at text) expected n → at + n ≤ length text
 fits text expected at n within are = let most = length-drop at text in let left = are.left in omega arith
 
+-- a report has as many lines as the files have calls
+pub length-report : (b : BookTerms) (names : NameList) (files : List (List Call)) (text : List ℕ) (is : IsReport b names files text)
+    → length is.lines ≡ sum_by (length {A = Call}) files
+length-report b names files text is =
+    let count = length-continues files (opening_state b) (none_made files) is.lines (AreMade-none files) (continues-whole b files is.lines is.legal is.whole) in
+    let none = sum-none files in
+    omega arith
+
 -- the heading: a report has as many lines as the files have calls
 begins_report : (b : BookTerms) (names : NameList) (files : List (List Call)) (heading : List ℕ) (total : ℕ) → total ≡ sum_by (length {A = Call}) files
     → heading ≡ line_text (heading_words total) → (other : List ℕ) → IsReport b names files other → IsTail names files (opening_state b) (none_made files) heading other
 begins_report b names files heading total total_is heading_is other is =
-    let continues = continues-whole b files is.lines is.legal is.whole in
-    let count = length-continues files (opening_state b) (none_made files) is.lines (AreMade-none files) continues in
-    let none = sum-none files in
-    let same : length is.lines ≡ total = omega arith in
+    let same : length is.lines ≡ total = length-report b names files other is ∙ sym total_is in
     record {
       more = is.lines;
-      continues = continues;
+      continues = continues-whole b files is.lines is.legal is.whole;
       is = is.spelled ∙ report-parts b names is.lines
           ∙ ap (λ (t : List ℕ). t ++ tail_text names (opening_state b) is.lines) (ap (λ (k : ℕ). line_text (heading_words k)) same ∙ sym heading_is);
     }

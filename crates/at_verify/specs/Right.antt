@@ -7,18 +7,18 @@ use Rattle.at_ledger.specs.Call.{IsCallOn}
 use Rattle.at_ledger.specs.Run.{Legal, Whole}
 use Rattle.at_ledger.specs.declared.call.Call.{Call}
 use Rattle.at_ledger.specs.declared.call.Line.{Line}
+use Rattle.at_files.specs.Limits.{most_calls}
 use Rattle.at_files.specs.Names.{NameList}
-use Rattle.at_files.specs.declared.payments_fault.TheConstants.{CALLS_MAX}
 use Rattle.at_report.specs.Report.{report_text}
 
--- the calls of each process, as the program holds them
+-- the calls of each file, as the program holds them
 abbrev pub files_in : List (Vec Call Global) → List (List Call)
 files_in files = map (λ (file : Vec Call Global). file.items) files
 
--- the calls of one process name accounts that are there, and are not too many
+-- the calls of a file name accounts that are there, and are not too many
 pub record IsPlayable (accounts : ℕ) (calls : List Call) : Type 0 where
   pub known : All (IsCallOn accounts) calls
-  pub few : length calls ≤ CALLS_MAX
+  pub few : length calls ≤ most_calls
 
 -- the first lines of a text: a line is its bytes up to and with a newline, and the bytes after the last one are a line too
 unfoldable pub first_lines : ℕ → List ℕ → List ℕ
@@ -35,6 +35,11 @@ pub record IsReport (b : BookTerms) (names : NameList) (files : List (List Call)
   pub legal : Legal b lines
   pub whole : Whole files lines
   pub spelled : text ≡ report_text b names lines
+
+-- the text is the report of a run of so many lines
+pub record IsReportOf (b : BookTerms) (names : NameList) (files : List (List Call)) (count : ℕ) (text : List ℕ) : Type 0 where
+  pub is : IsReport b names files text
+  pub lines : length is.lines ≡ count
 
 -- some report has the same first lines
 pub record IsRightUpTo (b : BookTerms) (names : NameList) (files : List (List Call)) (text : List ℕ) (line : ℕ) : Type 0 where

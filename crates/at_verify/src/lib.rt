@@ -10,5 +10,6 @@ mod stepping;
 mod tests;
 mod verifying;
 
+pub use crate::stepping::count_calls;
 pub use crate::verifying::{TEXT_MAX, Verdict, verify};
 pub use at_base::NoMemory;

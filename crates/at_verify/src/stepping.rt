@@ -14,7 +14,7 @@ use at_ledger::{Book, Call, Line, State};
 use at_report::process_of;
 
 /// How many calls the files have together.
-pub(crate) fn count_calls(files: &[Vec<Call>]) -> u32
+pub fn count_calls(files: &[Vec<Call>]) -> u32
     requires processes { length files.now ≤ 16 }
     requires calls { All (λ calls. length calls ≤ 16384) (files_in files.now) }
     ensures { result ≡ sum_by length (files_in files.now) }

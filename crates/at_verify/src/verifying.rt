@@ -1,8 +1,8 @@
 //! Whether a text is the report of a run.
 
-ghost use Rattle.std.specs.Prelude.{◌≡◌, ◌≤◌, ℕ, All, IfOk, Ok, Some, None, length};
+ghost use Rattle.std.specs.Prelude.{◌≡◌, ◌≤◌, ℕ, All, IfOk, Ok, Some, None, length, sum_by};
 ghost use Rattle.at_files.specs.Names.{AreNamesOf};
-ghost use Rattle.at_verify.specs.Right.{IsFirstWrong, IsPlayable, IsReport, files_in};
+ghost use Rattle.at_verify.specs.Right.{IsFirstWrong, IsPlayable, IsReport, IsReportOf, files_in};
 ghost use Rattle.at_verify.specs.Walk.{AreMade, PartsAt};
 
 use crate::NoMemory;
@@ -89,6 +89,9 @@ pub fn verify(
     requires size { length text.now ≤ TEXT_MAX }
     ensures sound { result ≡ Ok Verdict.Yes
         → IsReport book.now names.now (files_in files.now) text.now }
+    ensures lines { result ≡ Ok Verdict.Yes
+        → IsReportOf book.now names.now (files_in files.now) (sum_by length (files_in files.now))
+        text.now }
     ensures complete { IsReport book.now names.now (files_in files.now) text.now → (line : ℕ)
         → result ≡ Ok (Verdict.No line) → ⊥ }
     ensures first { (line : ℕ) → result ≡ Ok (Verdict.No line)

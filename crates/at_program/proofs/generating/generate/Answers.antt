@@ -3,8 +3,8 @@ use Rattle.std.specs.Global.{Global}
 use Rattle.std.proofs.lemmas.List.{length-map}
 use Rattle.at_ledger.specs.Book.{BookTerms}
 use Rattle.at_ledger.specs.declared.call.Call.{Call}
-use Rattle.at_program.specs.Loading.{calls_of}
-use Rattle.at_program.proofs.DrawnCalls.{IsFileOn-files_made, length-files_made}
+use Rattle.at_verify.specs.Right.{files_in}
+use Rattle.at_program.proofs.DrawnCalls.{IsPlayable-files_made, length-files_made}
 use Rattle.at_program.proofs.GeneratedRuns.{AllDone-made, AllSum-made, length-book_made}
 use Rattle.at_program.proofs.generating.generate.Goals as goal
 
@@ -16,14 +16,14 @@ returns-clause-count c =
 pub returns-clause-known : goal.returns-clause-known
 returns-clause-known c =
     rw (c.in_ok-files.ensures, c.in_ok-book.ensures.book, length-book_made c.args.processes c.args.calls)
-    (IsFileOn-files_made c.args.first c.args.processes c.args.calls c.requires)
+    (IsPlayable-files_made c.args.first c.args.processes c.args.calls c.requires)
 
 pub returns-clause-all_done : goal.returns-clause-all_done
 returns-clause-all_done c =
-    AllDone-made c.args.first c.args.processes c.args.calls c.in_ok-book.book (calls_of c.in_ok-files.files.items)
+    AllDone-made c.args.first c.args.processes c.args.calls c.in_ok-book.book (files_in c.in_ok-files.files.items)
     c.in_ok-book.ensures.book c.in_ok-files.ensures c.in_ok-book.ensures.checked.begun
 
 pub returns-clause-all_sum : goal.returns-clause-all_sum
 returns-clause-all_sum c =
-    AllSum-made c.args.first c.args.processes c.args.calls c.in_ok-book.book (calls_of c.in_ok-files.files.items)
+    AllSum-made c.args.first c.args.processes c.args.calls c.in_ok-book.book (files_in c.in_ok-files.files.items)
     c.in_ok-book.ensures.book c.in_ok-files.ensures c.in_ok-book.ensures.checked.begun

@@ -4,14 +4,14 @@ use Rattle.std.proofs.lemmas.List.{length-map}
 use Rattle.std.proofs.lemmas.List.Elements.{All-push}
 use Rattle.at_ledger.specs.declared.call.Call.{Call}
 use Rattle.at_program.specs.Words.{words_of}
-use Rattle.at_program.specs.Loading.{IsFileOn, calls_of}
-use Rattle.at_program.proofs.FilesLoaded.{EachSpells-push, calls_of-push, files_loaded-nil, files_loaded-refused_at, files_loaded-take_more, get_or-words_of}
+use Rattle.at_verify.specs.Right.{IsPlayable, files_in}
+use Rattle.at_program.proofs.FilesLoaded.{EachSpells-push, files_in-push, files_loaded-nil, files_loaded-refused_at, files_loaded-take_more, get_or-words_of}
 use Rattle.at_program.proofs.MayRefuseLaws.{MayRefuse-whole}
 use Rattle.at_program.proofs.loading.load_files.Goals as goal
 
 pub loop-process-init : goal.loop-process-init
 loop-process-init g c =
-    let none : calls_of c.new-files.result.items ≡ [] = ap calls_of c.new-files.ensures.items in
+    let none : files_in c.new-files.result.items ≡ [] = ap files_in c.new-files.ensures.items in
     record {
       same = record { as_told = refl; files = refl };
       kept = refl;
@@ -44,19 +44,19 @@ loop-process-preserved g c =
     let name : get_or words c.loop-process.process [] ≡ c.as_str.result.now =
     get_or-words_of c.args.payments.now c.loop-process.process c.index-payments-process.result within c.index-payments-process.is ∙ sym c.as_str.ensures.value in
     let done = c.in-Ok.ensures in
-    let pushed : calls_of c.push.new.self.items ≡ calls_of c.loop-process.files.items ++ calls ∷ [] =
-    ap calls_of c.in-Ok-push.ensures.items ∙ calls_of-push c.loop-process.files.items c.in-Ok.calls in
-    let count : length (calls_of c.loop-process.files.items) ≡ c.loop-process.process = length-map {A = Vec Call Global} _ _ ∙ before.count in
+    let pushed : files_in c.push.new.self.items ≡ files_in c.loop-process.files.items ++ calls ∷ [] =
+    ap files_in c.in-Ok-push.ensures.items ∙ files_in-push c.loop-process.files.items c.in-Ok.calls in
+    let count : length (files_in c.loop-process.files.items) ≡ c.loop-process.process = length-map {A = Vec Call Global} _ _ ∙ before.count in
     record {
       same = record { as_told = done.files.as_told ∙ before.same.as_told; files = done.files.files ∙ before.same.files };
       kept = done.kept ∙ before.kept;
       prefix = λ told. rw pushed
-          (files_loaded-take_more (g.F.Shelf.file c.args.shelf.now) c.args.names.now words c.loop-process.process (calls_of c.loop-process.files.items) calls within_words
+          (files_loaded-take_more (g.F.Shelf.file c.args.shelf.now) c.args.names.now words c.loop-process.process (files_in c.loop-process.files.items) calls within_words
           (before.prefix told) (rw (before.same.files, ← name) at (done.ok (before.same.as_told ∙ told))));
       spelled = λ told. rw pushed
-          (EachSpells-push (g.F.Shelf.file c.args.shelf.now) words c.args.book.now c.args.names.now (calls_of c.loop-process.files.items) calls
+          (EachSpells-push (g.F.Shelf.file c.args.shelf.now) words c.args.book.now c.args.names.now (files_in c.loop-process.files.items) calls
           (before.spelled told) (rw (count, name, ← before.same.files) (done.spelled (before.same.as_told ∙ told))));
-      known = rw pushed (All-push (IsFileOn (length c.args.book.now.accounts)) (calls_of c.loop-process.files.items) calls before.known done.known);
+      known = rw pushed (All-push (IsPlayable (length c.args.book.now.accounts)) (files_in c.loop-process.files.items) calls before.known done.known);
       count = ap (λ (xs : List (Vec Call Global)). length xs) c.in-Ok-push.ensures.items
           ∙ length-append c.loop-process.files.items (c.in-Ok.calls ∷ []) ∙ omega (arith, before.count);
     }

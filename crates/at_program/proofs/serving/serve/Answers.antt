@@ -1,10 +1,13 @@
 use Rattle.std.proofs.Common.{◌≡◌, ◌∙◌, sym}
-use Rattle.at_program.specs.Words.{form_shown}
+use Rattle.at_program.specs.Words.{form_shown, verifying_shown, words_of}
 use Rattle.at_program.specs.Loading.{loaded}
+use Rattle.at_program.specs.Claims.{claimed}
+use Rattle.at_program.proofs.ClaimLaws.{MayRefuseClaim-right, claimed-SpellsClaim}
+use Rattle.at_program.proofs.FormLaws.{form_of-verify_of}
 use Rattle.at_program.proofs.MayRefuseLaws.{MayRefuse-loaded}
 use Rattle.at_program.proofs.SpelledLoaded.{loaded-Spelled}
 use Rattle.at_program.proofs.serving.serve.Goals as goal
-use Rattle.at_program.proofs.serving.serve.Goals.{in-Some, in-None}
+use Rattle.at_program.proofs.serving.serve.Goals.{in-Some, in_default+in-Some-what_to_verify, in_default+in_default-what_to_verify}
 
 pub returns-then-ne-clause-reached : goal.returns-then-ne-clause-reached
 returns-then-ne-clause-reached g c form file asked is =
@@ -12,7 +15,8 @@ returns-then-ne-clause-reached g c form file asked is =
       | in-Some w ↦
           let same : form_shown w.in-Some.form ≡ form = cc (asked, w.in-Some.ensures) in
           rw (← same) (w.answer-status.ensures.reached file (sym w.status-is ∙ is))
-      | in-None w ↦ cc (asked, w.in-None.ensures)
+      | in_default+in-Some-what_to_verify w ↦ cc (asked, w.in_default.ensures)
+      | in_default+in_default-what_to_verify w ↦ cc (asked, w.in_default.ensures)
     ]
 
 pub returns-then-ne-clause-complete : goal.returns-then-ne-clause-complete
@@ -23,5 +27,19 @@ returns-then-ne-clause-complete g c form l asked told spelled shelf out =
           let does = rw (← w.status-is) at w.answer-status.ensures in
           MayRefuse-loaded _ (loaded (g.F.Shelf.file c.args.shelf.now) form) l _ _ _ _ c.match-form_of.status told (loaded-Spelled (g.F.Shelf.file c.args.shelf.now) form l spelled)
           shelf out (λ failed. rw w.out-is (does.write_fault failed).0) (λ undone written. rw (w.shelf-is, ← same) (does.refusal undone written))
-      | in-None w ↦ cc (asked, w.in-None.ensures)
+      | in_default+in-Some-what_to_verify w ↦ cc (asked, w.in_default.ensures)
+      | in_default+in_default-what_to_verify w ↦ cc (asked, w.in_default.ensures)
+    ]
+
+pub returns-then-ne-clause-verify_complete : goal.returns-then-ne-clause-verify_complete
+returns-then-ne-clause-verify_complete g c wanted claim asked told spells right shelf out =
+    elim c.match-form_of.branch [
+      | in-Some w ↦ absurd (form_of-verify_of (words_of c.args.words.now) wanted (form_shown w.in-Some.form) asked (sym w.in-Some.ensures))
+      | in_default+in-Some-what_to_verify w ↦
+          let same : verifying_shown w.in-Some-what_to_verify.asked ≡ wanted = cc (asked, w.in-Some-what_to_verify.ensures) in
+          let does = rw (← w.status-is) at w.answer_verify.ensures in
+          MayRefuseClaim-right _ (claimed (g.F.Shelf.file c.args.shelf.now) wanted) claim _ _ _ _ c.match-form_of.status told
+          (claimed-SpellsClaim (g.F.Shelf.file c.args.shelf.now) wanted claim spells) right
+          shelf out (λ failed. rw w.out-is (does.write_fault failed).0) (λ undone written. rw (w.shelf-is, ← same) (does.refusal undone written))
+      | in_default+in_default-what_to_verify w ↦ cc (asked, w.in_default-what_to_verify.ensures)
     ]

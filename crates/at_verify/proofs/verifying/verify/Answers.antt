@@ -1,11 +1,16 @@
 use Rattle.std.proofs.Common.{◌≡◌, ℕ, ◌+◌, Ok, sym, ap, ◌∙◌}
 use Rattle.std.proofs.lemmas.List.{length-take-le}
 use Rattle.at_verify.specs.Right.{files_in}
-use Rattle.at_verify.proofs.Walking.{first_wrong, not_report}
+use Rattle.at_verify.proofs.Walking.{first_wrong, length-report, not_report}
 use Rattle.at_verify.proofs.verifying.verify.Goals as goal
 
 pub slice_bounds-newlines-end : goal.slice_bounds-newlines-end
 slice_bounds-newlines-end c = let parts = c.in_ok-parts.ensures.parts c.in-Some.at (ap Ok c.in-Some.is) in sym (length-take-le c.in-Some.at c.args.text.now parts.within)
+
+pub returns-in-None-clause-lines : goal.returns-in-None-clause-lines
+returns-in-None-clause-lines c is_yes =
+    let is = c.in_ok-parts.ensures.report (ap Ok c.in-None.is) in
+    record { is = is; lines = length-report c.args.book.now c.args.names.now (files_in c.args.files.now) c.args.text.now is }
 
 pub returns-in-Some-clause-complete : goal.returns-in-Some-clause-complete
 returns-in-Some-clause-complete c report line is =
