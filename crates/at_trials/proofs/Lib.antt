@@ -1,1 +1,3 @@
+pub mod CountedSettled
 pub mod FirstRecord
+pub mod NewReady

@@ -1,2 +1,3 @@
 pub mod SmallFold
 pub mod SmallScan
+pub mod SmallShared

@@ -142,13 +142,13 @@ fn counts_first(totals: &mut Totals, seat: &BoardSeat, entry: &Entry)
 }
 
 /// How many requests of a slot are decided, and how the first was.
-type OwnerSaid = (u32, Option<(u32, Decision)>);
+pub(crate) type OwnerSaid = (u32, Option<(u32, Decision)>);
 
 /// What totals say of an account: its rounds, and its first two owners.
-type Said = Option<(u32, OwnerSaid, OwnerSaid)>;
+pub(crate) type Said = Option<(u32, OwnerSaid, OwnerSaid)>;
 
 /// What totals say of an account, if it is shared.
-fn said_of_shared(totals: &Totals, board: &Board, seat: &BoardSeat, account: u32) -> Said
+pub(crate) fn said_of_shared(totals: &Totals, board: &Board, seat: &BoardSeat, account: u32) -> Said
     requires counted { HasCounted totals.now board.now.book seat.now.knows.seen }
 {
     let book = board.book();

@@ -14,6 +14,8 @@ mod payers;
 #[cfg(test)]
 mod scan_trials;
 #[cfg(test)]
+mod shared_trials;
+#[cfg(test)]
 mod single_trials;
 #[cfg(test)]
 mod traffic_trials;

@@ -1,0 +1,14 @@
+use Rattle.std.proofs.Common.{ap, ◌∙◌, arith}
+use Rattle.at_board.specs.declared.knowledge.Part.{Part}
+use Rattle.at_snapshot.proofs.LoadedLaws.{own_part-HasLoaded}
+use Rattle.at_trials.proofs.shared_trials.reads.Goals as goal
+
+pub returns-clause-ready : goal.returns-clause-ready
+returns-clause-ready g c =
+    record {
+      of_board = c.read_account-receipt.ensures.board;
+      counted = c.read_account-receipt.ensures.counted;
+      free = ap (λ (q : Part). q.held)
+          (own_part-HasLoaded c.args.board.now.book c.args.seat.now.knows c.read_account-receipt.new.seat.knows
+          (omega (arith, c.known.ensures.seat.one_part)) c.read_account-receipt.ensures.at_front.loads) ∙ c.requires.ready.free;
+    }

@@ -1,0 +1,12 @@
+-- What the tests of shared accounts ask for on a small board.
+use Rattle.std.specs.Prelude.{◌≡◌, None}
+use Rattle.at_board.specs.Knowledge.Parts.{own_part}
+use Rattle.at_board.specs.Knowledge.Seats.{BoardTerms, IsOf, SeatTerms}
+use Rattle.at_fold.specs.HasCounted.{HasCounted}
+use Rattle.at_fold.specs.Sums.{TotalSums}
+
+-- the seat of a process that may call, with its totals: it holds no cell
+pub record IsReady (board : BoardTerms) (seat : SeatTerms) (t : TotalSums) : Type 0 where
+  pub of_board : IsOf seat board
+  pub counted : HasCounted t board.book seat.knows.seen
+  pub free : (own_part seat.knows).held ≡ None

@@ -1,0 +1,292 @@
+//! Payments from a shared account, one after another, and one that the other owners' requests overtake.
+
+ghost use Rattle.std.specs.Prelude.{◌≡◌, ℕ, ◌<◌, true, IfSome, IsTrue, length};
+ghost use Rattle.at_board.specs.Ends.Closing.{IsFreeSeat};
+ghost use Rattle.at_board.specs.Steps.StoreRequestWord.{MayStoreRequest};
+ghost use Rattle.at_fold.specs.HasCounted.{HasCounted};
+ghost use Rattle.at_history.specs.Rounds.{is_settled};
+ghost use Rattle.at_ledger.specs.Book.{HasSlot};
+ghost use Rattle.at_players.specs.SmallBoard.{AreNewPair};
+ghost use Rattle.at_shared.specs.Helpings.{HasAllSettled};
+ghost use Rattle.at_trials.specs.SmallFold.{IsNewTotals};
+ghost use Rattle.at_trials.specs.SmallShared.{IsReady};
+
+use crate::fold_trials::{new_totals, said_of_shared};
+use at_base::{Decision, Head, pack_decision, pack_head};
+use at_board::{Board, BoardEnd, BoardSeat, Steps, pack_targets};
+use at_fold::Totals;
+use at_ledger::{Reply, Targets};
+use at_log::{At, Receipt};
+use at_players::boards::{has_record, new_pair, slot_on};
+use at_shared::transfer_shared;
+use at_single::read_account;
+use std::alloc::Global;
+use std::marker::Brand;
+use std::process::Abort;
+use std::sync::ledger::{Blank, Ledger};
+
+/// What a call answers, and its round and place.
+type InRound = Option<(Reply, u32, u32)>;
+
+/// What a receipt answers, and its round and place.
+fn in_round(receipt: &Receipt) -> InRound {
+    match &receipt.at {
+        At::Round { round, place } => Some((receipt.reply, *round, *place)),
+        _ => None,
+    }
+}
+
+/// Whether totals have counted the round that settled a request of account 0.
+fn has_settled(board: &Board, seat: &BoardSeat, totals: &Totals, slot: u32, number: u32) -> bool
+    requires counted { HasCounted totals.now board.now.book seat.now.knows.seen }
+    requires slot { HasSlot board.now.book seat.now.knows.first 0 slot }
+    requires number { number < board.now.book.request_room }
+    ensures { IsTrue result → is_settled 0 slot number seat.now.knows.seen ≡ true }
+{
+    let _book = board.book();
+    totals.settled(0, slot, number).is_some()
+}
+
+/// Whether the seat's process may ask for a pay-out from account 0, where all is settled that it has asked.
+fn may_ask(board: &Board, seat: &BoardSeat, totals: &Totals) -> bool
+    requires ready { IsReady board.now seat.now totals.now }
+    ensures accounts { IsTrue result → 1 < length board.now.book.accounts }
+    ensures asks { IsTrue result
+        → (slot : ℕ) × MayStoreRequest board.now.book seat.now.knows 0 slot }
+    ensures settled { IsTrue result → HasAllSettled board.now.book seat.now.knows 0 }
+{
+    let Some(slot) = slot_on(board.book(), 0, seat.process()) else {
+        return false;
+    };
+    let asked = board.announced(seat, 0);
+    if board.book().accounts() < 2 || board.book().request_room() <= asked {
+        return false;
+    }
+    for number in 0..asked {
+        if !has_settled(board, seat, totals, slot, number) {
+            return false;
+        }
+    }
+    true
+}
+
+/// What a payment from account 0 to account 1 answers, if the seat's process may ask for it.
+fn pays<L: Ledger, X: Ledger>(
+    board: &Board,
+    seat: &mut BoardSeat,
+    totals: &mut Totals,
+    amount: u64,
+    steps: &mut Steps<L>,
+    exchanges: &mut Steps<X>,
+) -> InRound
+    requires ready { IsReady board.now seat.old totals.old }
+    ensures ready { IsReady board.now seat.new totals.new }
+    ensures process { seat.new.knows.first ≡ seat.old.knows.first }
+{
+    if !may_ask(board, seat, totals) {
+        return None;
+    }
+    let receipt = transfer_shared(board, seat, totals, 0, 1, amount, steps, exchanges);
+    in_round(&receipt)
+}
+
+/// Whether payments of 60 and 30 are done in the first rounds, and one more of 30 is short in the next.
+fn pays_until_short<L: Ledger, X: Ledger>(
+    board: &Board,
+    seat: &mut BoardSeat,
+    totals: &mut Totals,
+    steps: &mut Steps<L>,
+    exchanges: &mut Steps<X>,
+) -> bool
+    requires ready { IsReady board.now seat.old totals.old }
+    ensures ready { IsReady board.now seat.new totals.new }
+    ensures process { seat.new.knows.first ≡ seat.old.knows.first }
+{
+    let first = pays(board, seat, totals, 60, steps, exchanges);
+    let second = pays(board, seat, totals, 30, steps, exchanges);
+    let third = pays(board, seat, totals, 30, steps, exchanges);
+    first == Some((Reply::Done, 0, 0))
+        && second == Some((Reply::Done, 1, 1))
+        && third == Some((Reply::Short, 2, 2))
+}
+
+/// The decision of the first request of the first owner.
+const FIRST: Decision = Decision {
+    ok: true,
+    slot: 0,
+    number: 0,
+    place: 0,
+};
+
+/// What the process reads of an account of the board.
+fn reads<L: Ledger, X: Ledger>(
+    board: &Board,
+    seat: &mut BoardSeat,
+    totals: &mut Totals,
+    account: u32,
+    steps: &mut Steps<L>,
+    exchanges: &mut Steps<X>,
+) -> Option<Reply>
+    requires ready { IsReady board.now seat.old totals.old }
+    ensures ready { IsReady board.now seat.new totals.new }
+    ensures process { seat.new.knows.first ≡ seat.old.knows.first }
+{
+    if board.book().accounts() <= account {
+        return None;
+    }
+    seat.known();
+    let receipt = read_account(board, seat, totals, account, steps, exchanges);
+    Some(receipt.reply)
+}
+
+/// Whether the process reads 10 and 90, and its totals say that three requests of the first owner are decided, and none of the other.
+fn reads_the_rest<L: Ledger, X: Ledger>(
+    board: &Board,
+    seat: &mut BoardSeat,
+    totals: &mut Totals,
+    steps: &mut Steps<L>,
+    exchanges: &mut Steps<X>,
+) -> bool
+    requires ready { IsReady board.now seat.old totals.old }
+    ensures ready { IsReady board.now seat.new totals.new }
+    ensures process { seat.new.knows.first ≡ seat.old.knows.first }
+{
+    let from = reads(board, seat, totals, 0, steps, exchanges);
+    let to = reads(board, seat, totals, 1, steps, exchanges);
+    let said = said_of_shared(totals, board, seat, 0);
+    from == Some(Reply::Balance(10))
+        && to == Some(Reply::Balance(90))
+        && said == Some((3, (3, Some((0, FIRST))), (0, None)))
+}
+
+/// Whether process 0 pays until it is short, and both processes then read the same.
+fn pays_and_reads<L: Ledger, X: Ledger>(
+    board: &Board,
+    zero: &mut BoardSeat,
+    one: &mut BoardSeat,
+    totals: &mut Totals,
+    others: &mut Totals,
+    steps: &mut Steps<L>,
+    exchanges: &mut Steps<X>,
+) -> bool
+    requires pair { AreNewPair board.now zero.old one.old }
+    requires totals { IsNewTotals totals.old board.now.book }
+    requires others { IsNewTotals others.old board.now.book }
+    ensures zero { IsFreeSeat board.now 0 zero.new }
+    ensures one { IsFreeSeat board.now 1 one.new }
+{
+    let paid = pays_until_short(board, zero, totals, steps, exchanges);
+    let here = reads_the_rest(board, zero, totals, steps, exchanges);
+    let there = reads_the_rest(board, one, others, steps, exchanges);
+    paid && here && there
+}
+
+/// Closes a board with its two seats, which hold no cell.
+fn close_pair(board: Board, alloc: Global, zero: BoardSeat, one: BoardSeat) -> Option<BoardEnd>
+    requires two { board.book.processes ≡ 2 }
+    requires zero { IsFreeSeat board 0 zero }
+    requires one { IsFreeSeat board 1 one }
+    ensures { IfSome result (λ end. end.book ≡ board.book) }
+{
+    let Ok(seats) = Vec::from_array(alloc, [zero, one]) else {
+        return None;
+    };
+    match board.close(alloc, seats) {
+        Ok(end) => Some(end),
+        Err(_) => None,
+    }
+}
+
+/// The board's end, where process 0 has paid from account 0 until it was short.
+fn end_of_paid<L: Ledger, X: Ledger>(
+    board: Board,
+    alloc: Global,
+    zero: BoardSeat,
+    one: BoardSeat,
+    steps: &mut Steps<L>,
+    exchanges: &mut Steps<X>,
+) -> Option<BoardEnd>
+    requires { AreNewPair board zero one }
+    ensures { IfSome result (λ end. end.book.processes ≡ 2) }
+{
+    let (mut zero, mut one) = (zero, one);
+    let (Some(mut totals), Some(mut others)) = (
+        new_totals(alloc, &board),
+        new_totals(alloc, &board),
+    ) else {
+        return None;
+    };
+    if pays_and_reads(
+        &board,
+        &mut zero,
+        &mut one,
+        &mut totals,
+        &mut others,
+        steps,
+        exchanges,
+    ) {
+        close_pair(board, alloc, zero, one)
+    } else {
+        None
+    }
+}
+
+/// Whether a record of process 0 has the words of the round that decided its request of the same number, after all earlier ones.
+fn has_round(end: &BoardEnd, round: u32, amount: u64, ok: bool) -> bool
+    requires two { end.now.book.processes ≡ 2 }
+    requires small { round < 4 }
+{
+    let head = Head {
+        kind: 1,
+        from: 0,
+        to: 0,
+        round,
+    };
+    let decision = Decision {
+        ok,
+        slot: 0,
+        number: round,
+        place: round,
+    };
+    let words = [
+        pack_head(&head),
+        pack_targets(&Targets::one(1, amount)),
+        pack_decision(&decision),
+        amount,
+        0,
+        0,
+        0,
+        u64::from(round),
+        0,
+    ];
+    has_record(end, 0, round, words.as_slice())
+}
+
+/// Whether the closed board has the three rounds as records of process 0, and no others.
+fn has_three_rounds(end: &BoardEnd) -> bool
+    requires two { end.now.book.processes ≡ 2 }
+{
+    end.length(0) == 3
+        && end.length(1) == 0
+        && has_round(end, 0, 60, true)
+        && has_round(end, 1, 30, true)
+        && has_round(end, 2, 30, false)
+}
+
+/// One of two owners of account 0 pays from it, until that is short.
+fn pays_in_rounds<L: Ledger, X: Ledger, R: Abort>(rt: &R, alloc: Global, one: Blank, another: Blank)
+    requires names { (one.name ≡ L.name) × (another.name ≡ X.name) }
+    requires parts { (one.parts ≡ L.parts) × (another.parts ≡ X.parts) }
+    requires some { (0 < one.parts) × (0 < another.parts) }
+{
+    let (steps, exchanges) = (&mut Steps::<L>::new(one), &mut Steps::<X>::new(another));
+    let accounts = [(100, [0, 1].as_slice()), (0, [].as_slice())];
+    let (board, first, second) = new_pair(alloc, 4, accounts.as_slice()).expect(rt, "a board");
+    let end = end_of_paid(board, alloc, first, second, steps, exchanges).expect(rt, "an end");
+    assert!(rt; has_three_rounds(&end));
+}
+
+#[test]
+fn later_rounds_are_published(rt: HostRuntime) {
+    pays_in_rounds::<Brand, Brand, _>(&rt, rt.alloc(), Blank::new(1), Blank::new(1));
+}
