@@ -2,12 +2,13 @@
 
 ghost use Rattle.std.specs.Prelude.{◌≡◌, ℕ, ◌<◌, true, IfSome, IsTrue, length};
 ghost use Rattle.at_board.specs.Ends.Closing.{IsFreeSeat};
+ghost use Rattle.at_board.specs.Knowledge.Seats.{IsOf};
 ghost use Rattle.at_board.specs.Steps.StoreRequestWord.{MayStoreRequest};
 ghost use Rattle.at_fold.specs.HasCounted.{HasCounted};
 ghost use Rattle.at_history.specs.Rounds.{is_settled};
 ghost use Rattle.at_ledger.specs.Book.{HasSlot};
 ghost use Rattle.at_players.specs.SmallBoard.{AreNewPair};
-ghost use Rattle.at_shared.specs.Helpings.{HasAllSettled};
+ghost use Rattle.at_shared.specs.Helpings.{HasAllSettled, IsHelping};
 ghost use Rattle.at_trials.specs.SmallFold.{IsNewTotals};
 ghost use Rattle.at_trials.specs.SmallShared.{IsReady};
 
@@ -15,10 +16,10 @@ use crate::fold_trials::{new_totals, said_of_shared};
 use at_base::{Decision, Head, pack_decision, pack_head};
 use at_board::{Board, BoardEnd, BoardSeat, Steps, pack_targets};
 use at_fold::Totals;
-use at_ledger::{Reply, Targets};
+use at_ledger::{Call, Reply, Targets};
 use at_log::{At, Receipt};
-use at_players::boards::{has_record, new_pair, slot_on};
-use at_shared::transfer_shared;
+use at_players::boards::{has_record, new_pair, new_three, slot_on};
+use at_shared::{HelpTurn, Helping, transfer_shared};
 use at_single::read_account;
 use std::alloc::Global;
 use std::marker::Brand;
@@ -289,4 +290,164 @@ fn pays_in_rounds<L: Ledger, X: Ledger, R: Abort>(rt: &R, alloc: Global, one: Bl
 #[test]
 fn later_rounds_are_published(rt: HostRuntime) {
     pays_in_rounds::<Brand, Brand, _>(&rt, rt.alloc(), Blank::new(1), Blank::new(1));
+}
+
+/// A request of a payment of 10 from account 0 to account 1, if the seat's process may ask for it.
+fn asks<L: Ledger, X: Ledger>(
+    board: &Board,
+    seat: &mut BoardSeat,
+    totals: &mut Totals,
+    steps: &mut Steps<L>,
+    exchanges: &mut Steps<X>,
+) -> Option<Helping>
+    requires ready { IsReady board.now seat.old totals.old }
+    ensures helping { IfSome result (λ h. IsHelping board.now.book seat.new.knows h) }
+    ensures counted { HasCounted totals.new board.now.book seat.new.knows.seen }
+    ensures board { IsOf seat.new board.now }
+{
+    if !may_ask(board, seat, totals) {
+        return None;
+    }
+    let call = Call::Transfer {
+        from: 0,
+        to: 1,
+        amount: 10,
+    };
+    Some(Helping::start(board, seat, totals, 0, &call, steps, exchanges))
+}
+
+/// What a turn answers where it settles the request, and its round and place.
+fn turns<L: Ledger, X: Ledger>(
+    helping: &mut Helping,
+    board: &Board,
+    seat: &mut BoardSeat,
+    totals: &mut Totals,
+    steps: &mut Steps<L>,
+    exchanges: &mut Steps<X>,
+) -> InRound
+    requires seat { IsOf seat.old board.now }
+    requires totals { HasCounted totals.old board.now.book seat.old.knows.seen }
+    requires helping { IsHelping board.now.book seat.old.knows helping.old }
+{
+    match helping.turn(board, seat, totals, steps, exchanges) {
+        HelpTurn::Settled(receipt) => in_round(&receipt),
+        HelpTurn::More => None,
+    }
+}
+
+/// Whether a turn answers that another request was decided.
+fn turns_more<L: Ledger, X: Ledger>(
+    helping: &mut Helping,
+    board: &Board,
+    seat: &mut BoardSeat,
+    totals: &mut Totals,
+    steps: &mut Steps<L>,
+    exchanges: &mut Steps<X>,
+) -> bool
+    requires seat { IsOf seat.old board.now }
+    requires totals { HasCounted totals.old board.now.book seat.old.knows.seen }
+    requires helping { IsHelping board.now.book seat.old.knows helping.old }
+    ensures helping { IsTrue result → IsHelping board.now.book seat.new.knows helping.new }
+    ensures counted { HasCounted totals.new board.now.book seat.new.knows.seen }
+    ensures board { IsOf seat.new board.now }
+{
+    match helping.turn(board, seat, totals, steps, exchanges) {
+        HelpTurn::Settled(_) => false,
+        HelpTurn::More => true,
+    }
+}
+
+/// What the third turn answers, if the two before it decide others' requests.
+fn turns_after_two<L: Ledger, X: Ledger>(
+    helping: &mut Helping,
+    board: &Board,
+    seat: &mut BoardSeat,
+    totals: &mut Totals,
+    steps: &mut Steps<L>,
+    exchanges: &mut Steps<X>,
+) -> InRound
+    requires seat { IsOf seat.old board.now }
+    requires totals { HasCounted totals.old board.now.book seat.old.knows.seen }
+    requires helping { IsHelping board.now.book seat.old.knows helping.old }
+{
+    if !turns_more(helping, board, seat, totals, steps, exchanges) {
+        return None;
+    }
+    if !turns_more(helping, board, seat, totals, steps, exchanges) {
+        return None;
+    }
+    turns(helping, board, seat, totals, steps, exchanges)
+}
+
+/// Whether the third of three owners that have asked settles first the requests of the others, one round each, and then its own.
+fn is_overtaken<L: Ledger, X: Ledger>(
+    board: &Board,
+    zero: &mut BoardSeat,
+    one: &mut BoardSeat,
+    two: &mut BoardSeat,
+    first: &mut Totals,
+    second: &mut Totals,
+    third: &mut Totals,
+    steps: &mut Steps<L>,
+    exchanges: &mut Steps<X>,
+) -> bool
+    requires zero { IsReady board.now zero.old first.old }
+    requires one { IsReady board.now one.old second.old }
+    requires two { IsReady board.now two.old third.old }
+{
+    let Some(mut earliest) = asks(board, zero, first, steps, exchanges) else {
+        return false;
+    };
+    let Some(_) = asks(board, one, second, steps, exchanges) else {
+        return false;
+    };
+    let Some(mut last) = asks(board, two, third, steps, exchanges) else {
+        return false;
+    };
+    let late = turns_after_two(&mut last, board, two, third, steps, exchanges);
+    let early = turns(&mut earliest, board, zero, first, steps, exchanges);
+    late == Some((Reply::Done, 2, 2)) && early == Some((Reply::Done, 0, 0))
+}
+
+/// Totals of three processes, which have counted nothing.
+fn three_totals(alloc: Global, board: &Board) -> Option<(Totals, Totals, Totals)>
+    ensures zero { IfSome result (λ t. IsNewTotals t.0 board.now.book) }
+    ensures one { IfSome result (λ t. IsNewTotals t.1 board.now.book) }
+    ensures two { IfSome result (λ t. IsNewTotals t.2 board.now.book) }
+{
+    let first = new_totals(alloc, board)?;
+    let second = new_totals(alloc, board)?;
+    let third = new_totals(alloc, board)?;
+    Some((first, second, third))
+}
+
+/// Three owners of account 0 ask in their order, and the third turns.
+fn overtakes<L: Ledger, X: Ledger, R: Abort>(rt: &R, alloc: Global, one: Blank, another: Blank)
+    requires names { (one.name ≡ L.name) × (another.name ≡ X.name) }
+    requires parts { (one.parts ≡ L.parts) × (another.parts ≡ X.parts) }
+    requires some { (0 < one.parts) × (0 < another.parts) }
+{
+    let (steps, exchanges) = (&mut Steps::<L>::new(one), &mut Steps::<X>::new(another));
+    let accounts = [(30, [0, 1, 2].as_slice()), (0, [].as_slice())];
+    let (board, seats) = new_three(alloc, 4, accounts.as_slice()).expect(rt, "a board");
+    let (mut zero, mut one, mut two) = seats;
+    let (mut first, mut second, mut third) = three_totals(alloc, &board).expect(rt, "totals");
+    assert!(rt;
+        is_overtaken(
+            &board,
+            &mut zero,
+            &mut one,
+            &mut two,
+            &mut first,
+            &mut second,
+            &mut third,
+            steps,
+            exchanges
+        )
+    );
+}
+
+#[test]
+fn a_request_is_overtaken_once_by_each(rt: HostRuntime) {
+    overtakes::<Brand, Brand, _>(&rt, rt.alloc(), Blank::new(1), Blank::new(1));
 }
