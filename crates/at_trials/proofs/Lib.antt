@@ -1,3 +1,4 @@
 pub mod CountedSettled
 pub mod FirstRecord
 pub mod NewReady
+pub mod OneTarget

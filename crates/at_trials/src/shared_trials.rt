@@ -19,7 +19,7 @@ use at_fold::Totals;
 use at_ledger::{Call, Reply, Targets};
 use at_log::{At, Receipt};
 use at_players::boards::{has_record, new_pair, new_three, slot_on};
-use at_shared::{HelpTurn, Helping, transfer_shared};
+use at_shared::{HelpTurn, Helping, pay_shared, transfer_shared};
 use at_single::read_account;
 use std::alloc::Global;
 use std::marker::Brand;
@@ -91,6 +91,27 @@ fn pays<L: Ledger, X: Ledger>(
     in_round(&receipt)
 }
 
+/// What the same payment answers as a list of one target.
+fn pays_listed<L: Ledger, X: Ledger>(
+    board: &Board,
+    seat: &mut BoardSeat,
+    totals: &mut Totals,
+    amount: u64,
+    steps: &mut Steps<L>,
+    exchanges: &mut Steps<X>,
+) -> InRound
+    requires ready { IsReady board.now seat.old totals.old }
+    ensures ready { IsReady board.now seat.new totals.new }
+    ensures process { seat.new.knows.first ≡ seat.old.knows.first }
+{
+    if !may_ask(board, seat, totals) {
+        return None;
+    }
+    let targets = Targets::one(1, amount);
+    let receipt = pay_shared(board, seat, totals, 0, &targets, steps, exchanges);
+    in_round(&receipt)
+}
+
 /// Whether payments of 60 and 30 are done in the first rounds, and one more of 30 is short in the next.
 fn pays_until_short<L: Ledger, X: Ledger>(
     board: &Board,
@@ -104,7 +125,7 @@ fn pays_until_short<L: Ledger, X: Ledger>(
     ensures process { seat.new.knows.first ≡ seat.old.knows.first }
 {
     let first = pays(board, seat, totals, 60, steps, exchanges);
-    let second = pays(board, seat, totals, 30, steps, exchanges);
+    let second = pays_listed(board, seat, totals, 30, steps, exchanges);
     let third = pays(board, seat, totals, 30, steps, exchanges);
     first == Some((Reply::Done, 0, 0))
         && second == Some((Reply::Done, 1, 1))
@@ -357,6 +378,25 @@ fn turns_more<L: Ledger, X: Ledger>(
     }
 }
 
+/// What the second turn answers, if the one before it decides another's request.
+fn turns_after_one<L: Ledger, X: Ledger>(
+    helping: &mut Helping,
+    board: &Board,
+    seat: &mut BoardSeat,
+    totals: &mut Totals,
+    steps: &mut Steps<L>,
+    exchanges: &mut Steps<X>,
+) -> InRound
+    requires seat { IsOf seat.old board.now }
+    requires totals { HasCounted totals.old board.now.book seat.old.knows.seen }
+    requires helping { IsHelping board.now.book seat.old.knows helping.old }
+{
+    if !turns_more(helping, board, seat, totals, steps, exchanges) {
+        return None;
+    }
+    turns(helping, board, seat, totals, steps, exchanges)
+}
+
 /// What the third turn answers, if the two before it decide others' requests.
 fn turns_after_two<L: Ledger, X: Ledger>(
     helping: &mut Helping,
@@ -373,10 +413,7 @@ fn turns_after_two<L: Ledger, X: Ledger>(
     if !turns_more(helping, board, seat, totals, steps, exchanges) {
         return None;
     }
-    if !turns_more(helping, board, seat, totals, steps, exchanges) {
-        return None;
-    }
-    turns(helping, board, seat, totals, steps, exchanges)
+    turns_after_one(helping, board, seat, totals, steps, exchanges)
 }
 
 /// Whether the third of three owners that have asked settles first the requests of the others, one round each, and then its own.
@@ -450,4 +487,57 @@ fn overtakes<L: Ledger, X: Ledger, R: Abort>(rt: &R, alloc: Global, one: Blank, 
 #[test]
 fn a_request_is_overtaken_once_by_each(rt: HostRuntime) {
     overtakes::<Brand, Brand, _>(&rt, rt.alloc(), Blank::new(1), Blank::new(1));
+}
+
+/// Whether the second of two owners that have asked settles first the request of the other, and then its own.
+fn is_overtaken_once<L: Ledger, X: Ledger>(
+    board: &Board,
+    zero: &mut BoardSeat,
+    one: &mut BoardSeat,
+    first: &mut Totals,
+    second: &mut Totals,
+    steps: &mut Steps<L>,
+    exchanges: &mut Steps<X>,
+) -> bool
+    requires zero { IsReady board.now zero.old first.old }
+    requires one { IsReady board.now one.old second.old }
+{
+    let Some(mut earliest) = asks(board, zero, first, steps, exchanges) else {
+        return false;
+    };
+    let Some(mut last) = asks(board, one, second, steps, exchanges) else {
+        return false;
+    };
+    let late = turns_after_one(&mut last, board, one, second, steps, exchanges);
+    let early = turns(&mut earliest, board, zero, first, steps, exchanges);
+    late == Some((Reply::Done, 1, 1)) && early == Some((Reply::Done, 0, 0))
+}
+
+/// Two owners of account 0 ask in their order, and the second turns.
+fn overtakes_once<L: Ledger, X: Ledger, R: Abort>(rt: &R, alloc: Global, one: Blank, another: Blank)
+    requires names { (one.name ≡ L.name) × (another.name ≡ X.name) }
+    requires parts { (one.parts ≡ L.parts) × (another.parts ≡ X.parts) }
+    requires some { (0 < one.parts) × (0 < another.parts) }
+{
+    let (steps, exchanges) = (&mut Steps::<L>::new(one), &mut Steps::<X>::new(another));
+    let accounts = [(30, [0, 1].as_slice()), (0, [].as_slice())];
+    let (board, mut zero, mut one) = new_pair(alloc, 4, accounts.as_slice()).expect(rt, "a board");
+    let mut first = new_totals(alloc, &board).expect(rt, "totals");
+    let mut second = new_totals(alloc, &board).expect(rt, "totals");
+    assert!(rt;
+        is_overtaken_once(
+            &board,
+            &mut zero,
+            &mut one,
+            &mut first,
+            &mut second,
+            steps,
+            exchanges
+        )
+    );
+}
+
+#[test]
+fn a_request_is_overtaken_once(rt: HostRuntime) {
+    overtakes_once::<Brand, Brand, _>(&rt, rt.alloc(), Blank::new(1), Blank::new(1));
 }
