@@ -161,7 +161,8 @@ fn reads<L: Ledger, X: Ledger>(
     Some(receipt.reply)
 }
 
-/// Whether the process reads 10 and 90, and its totals say that three requests of the first owner are decided, and none of the other.
+/// Whether the process reads 10 and 90, and its totals say that three requests of the first owner are decided in three rounds, how
+/// the first was, and that none of the other owner is.
 fn reads_the_rest<L: Ledger, X: Ledger>(
     board: &Board,
     seat: &mut BoardSeat,
