@@ -2,3 +2,4 @@ pub mod CountedSettled
 pub mod FirstRecord
 pub mod NewReady
 pub mod OneTarget
+pub mod SettledLaws

@@ -1,3 +1,4 @@
 pub mod SmallFold
 pub mod SmallScan
 pub mod SmallShared
+pub mod SmallCrowd

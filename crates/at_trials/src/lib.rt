@@ -2,6 +2,8 @@
 #![tactic(auto)]
 
 #[cfg(test)]
+mod account_trials;
+#[cfg(test)]
 mod board_trials;
 #[cfg(test)]
 mod crowd_trials;
