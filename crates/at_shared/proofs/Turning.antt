@@ -1,5 +1,5 @@
 -- What one round leaves of what a seat knows, and what a turn knows of the request that it waits for.
-use Rattle.std.proofs.Common.{◌≡◌, ℕ, ◌+◌, ◌<◌, ◌≤◌, ◌==◌, ◌&&◌, ◌||◌, Bool, true, false, cond, List, [], ◌∷◌, ◌++◌, length, take, Some, None, refl, sym, ap, subst, ◌∙◌, arith, inl, inr}
+use Rattle.std.proofs.Common.{◌≡◌, ℕ, ◌+◌, ◌<◌, ◌≤◌, ◌⊎◌, ◌==◌, ◌&&◌, ◌||◌, Bool, true, false, cond, List, [], ◌∷◌, ◌++◌, length, take, Some, None, refl, sym, ap, subst, ◌∙◌, arith, inl, inr}
 use Rattle.std.proofs.lemmas.Bool.{and_from, cases_lt, eq-eqb, or_right}
 use Rattle.std.proofs.lemmas.List.{append-nil, get_or_push, length_push}
 use Rattle.std.proofs.lemmas.List.Folds.{list_any-append}
@@ -31,12 +31,15 @@ use Rattle.at_rows.proofs.Laws.Accounts.{HasAccount}
 use Rattle.at_rows.proofs.Loading.{request-loaded_words}
 use Rattle.at_rows.specs.Loads.{loaded_words}
 use Rattle.at_rows.specs.OpenRequests.{seen_of}
+use Rattle.at_shared.proofs.Added.{Adds, Adds-Decides, Adds-LoadsRequest, Adds-Publishes, Adds-HasLoaded, HasAccount-Adds, Adds-trans}
 use Rattle.at_shared.proofs.After.{HasAccount-IsAfter, IsAfter, IsAfter-Decides, IsAfter-LoadsRequest, IsAfter-Publishes, IsAfter-trans, own_part-Decides, own_part-LoadsRequest, own_part-Publishes}
-use Rattle.at_shared.proofs.Kept.{AreKnownWords, IsHelpingAt-IsAfter}
+use Rattle.at_shared.proofs.Kept.{AreKnownWords, IsHelpingAt-IsAfter, is_settled-IsPrefix}
 use Rattle.at_shared.proofs.Placing.{IsSettledBy, settles-round}
-use Rattle.at_shared.specs.HelpTurns.{DecidesNext, NamesOwn, round_record}
+use Rattle.at_shared.specs.HelpTurns.{DecidesNext, FindsSettled, HelpAnswers, HelpsDecide, NamesOwn, round_record}
 use Rattle.at_shared.specs.HelpingTerms.{HelpingTerms}
 use Rattle.at_shared.specs.Helpings.{IsHelping, IsHelpingAt, heard_on}
+use Rattle.at_shared.specs.declared.helping.HelpTurn.{HelpTurn}
+use Rattle.at_shared.specs.declared.helping.HelpTurn.TheVariants.{Settled, More}
 
 module _ (b : BookTerms) (w z : Knowledge) (h : HelpingTerms) (front : List ℕ) (d : Decision) (next : DecidesNext b w z h front d) (has : HasAccount w h.account) where
   abbrev round_of : ℕ
@@ -66,6 +69,14 @@ module _ (b : BookTerms) (w z : Knowledge) (h : HelpingTerms) (front : List ℕ)
       IsAfter-trans w next.decided z h.account 1 0 [] (words_loaded ++ []) after_decides
       (IsAfter-trans next.decided next.publishes.loaded z h.account 0 0 words_loaded [] after_loads
       (IsAfter-Publishes b next.publishes.loaded z h.account record_of has_loaded.part next.publishes.published))
+
+  -- no request more
+  pub Adds-DecidesNext : Adds b w z h.account []
+  Adds-DecidesNext =
+      Adds-trans b w next.decided z h.account [] [] (Adds-Decides b w next.decided h.account round_of next.proposal (word_of d) has next.decides.decides)
+      (Adds-trans b next.decided next.publishes.loaded z h.account [] []
+      (Adds-LoadsRequest b next.decided next.publishes.loaded h.account d.slot d.number next.publishes.request has_decided next.publishes.loads)
+      (Adds-Publishes b next.publishes.loaded z h.account record_of has_loaded.part refl refl next.publishes.published))
 
   -- one record more
   pub published-DecidesNext : (own_part z).published ≡ (own_part w).published + 1
@@ -150,6 +161,12 @@ module _ (b : BookTerms) (w z : Knowledge) (h : HelpingTerms) (front : List ℕ)
       ap (list_any test) next.publishes.published.seen
       ∙ (list_any-append test list (record_of ∷ []) ∙ or_right (list_any test list) (test record_of || false) (ap (λ t. t || false) here))
 
+  -- so is the own one, where that is named
+  pub settled-DecidesNext : NamesOwn h d → is_settled h.account h.own.slot h.own.number z.seen ≡ true
+  settled-DecidesNext own =
+      subst (λ s. is_settled h.account s h.own.number z.seen ≡ true) (next.publishes.loads.slot_is ∙ own.0)
+      (subst (λ n. is_settled h.account next.publishes.request.slot n z.seen ≡ true) (next.publishes.loads.number_is ∙ own.1) settled_there)
+
   known_words : AreKnownWords h z.seen (words_loaded ++ [])
   known_words l there =
       let among : Contains words_loaded l = subst (λ (ls : List LoadedWord). Contains ls l) (append-nil words_loaded) there in
@@ -187,3 +204,28 @@ module _ (b : BookTerms) (w z : Knowledge) (h : HelpingTerms) (front : List ℕ)
         then.rounds_are,
         ap (λ (t : BookTerms). slots_of (account_of t a)) book,
       )
+
+-- a turn announces no request
+Adds-HelpsDecide : (b : BookTerms) (v z : Knowledge) (h : HelpingTerms) (d : Decision) → HasAccount v h.account → HelpsDecide b v z h d
+    → Adds b v z h.account []
+Adds-HelpsDecide b v z h d has helps =
+    let w : Knowledge = helps.looked in
+    let looks = Adds-HasLoaded b v w h.account helps.front has.part helps.loads helps.snapshot in
+    Adds-trans b v w z h.account [] [] looks
+    (Adds-DecidesNext b w z h helps.front d helps.next (HasAccount-Adds b v w h.account h.account [] looks has))
+
+pub Adds-HelpAnswers : (b : BookTerms) (v z : Knowledge) (h : HelpingTerms) (answer : HelpTurn) → HasAccount v h.account → HelpAnswers b v z h answer
+    → Adds b v z h.account []
+Adds-HelpAnswers b v z h (Settled receipt) has (inl finds) = Adds-HasLoaded b v z h.account finds.front has.part finds.loads finds.snapshot
+Adds-HelpAnswers b v z h (Settled receipt) has (inr (d, helps, own)) = Adds-HelpsDecide b v z h d has helps
+Adds-HelpAnswers b v z h More has (d, helps, other) = Adds-HelpsDecide b v z h d has helps
+
+-- where it answers that the own request is settled, that is so
+pub settled-HelpAnswers : (b : BookTerms) (v z : Knowledge) (h : HelpingTerms) → HasAccount v h.account
+    → FindsSettled b v z h ⊎ ((d : Decision) × HelpsDecide b v z h d × NamesOwn h d) → is_settled h.account h.own.slot h.own.number z.seen ≡ true
+settled-HelpAnswers b v z h has (inl finds) =
+    is_settled-IsPrefix h.account h.own.slot h.own.number (prefix_of finds.front z.seen) z.seen (IsPrefix-take (place finds.front) z.seen) finds.settled
+settled-HelpAnswers b v z h has (inr (d, helps, own)) =
+    let w : Knowledge = helps.looked in
+    let looks = Adds-HasLoaded b v w h.account helps.front has.part helps.loads helps.snapshot in
+    settled-DecidesNext b w z h helps.front d helps.next (HasAccount-Adds b v w h.account h.account [] looks has) own

@@ -1,13 +1,18 @@
 -- Where the receipt of a settled request stands, and the bounds of the calls.
-use Rattle.std.specs.Prelude.{◌≡◌, ℕ, ◌+◌, ◌*◌, ◌≤◌, ◌⊎◌, List}
+use Rattle.std.specs.Prelude.{◌≡◌, ◌≢◌, ℕ, ◌+◌, ◌*◌, ◌≤◌, ◌⊎◌, ◌++◌, List, [], ◌∷◌, length, Contains}
 use Rattle.at_ledger.specs.Book.{BookTerms}
 use Rattle.at_ledger.specs.declared.call.Reply.TheVariants.{Done, Short}
 use Rattle.at_history.specs.Fronts.{place}
+use Rattle.at_history.specs.Rounds.{owns_of}
+use Rattle.at_history.specs.declared.request.Request.{Request}
+use Rattle.at_board.specs.Knowledge.Parts.{asking_on, own_part}
 use Rattle.at_board.specs.declared.knowledge.Knowledge.{Knowledge}
+use Rattle.at_board.specs.declared.knowledge.SeenRequest.{SeenRequest}
 use Rattle.at_board.specs.declared.words.TheConstants.{RECORD_WORDS, REQUEST_WORDS}
 use Rattle.at_log.specs.Told.{key_of}
 use Rattle.at_log.specs.declared.receipt.At.{At}
 use Rattle.at_log.specs.declared.receipt.Receipt.{Receipt}
+use Rattle.at_shared.specs.Helpings.{HasAllSettled}
 use Rattle.at_snapshot.specs.Snapshots.{IsSnapshot}
 
 -- the call was done or short, in a round
@@ -20,6 +25,17 @@ pub record StandsInRound (r : Receipt) : Type 0 where
 -- the receipt stands at or after this place in the order of the calls, whatever stands before
 abbrev pub StandsAfter : ℕ → Knowledge → Receipt → Type 0
 StandsAfter place v r = (previous : ℕ) → 2 * place ≤ key_of v.first v.seen previous r
+
+-- the call has announced one request on the account, whose `since` counts at least all that was seen before, and none elsewhere.
+-- Each request of the seat's process there is settled now, its process has published no own record, and requests are only gained
+pub record AsksOnce (b : BookTerms) (before after : Knowledge) (a : ℕ) : Type 0 where
+  pub request : Request
+  pub announced : (asking_on (own_part after) a).announced ≡ (asking_on (own_part before) a).announced ++ request ∷ []
+  pub since : length before.seen ≤ request.since
+  pub elsewhere : (c : ℕ) → c ≢ a → asking_on (own_part after) c ≡ asking_on (own_part before) c
+  pub settled : HasAllSettled b after a
+  pub owns : owns_of before.first after.seen ≡ owns_of before.first before.seen
+  pub gained : (x : SeenRequest) → Contains before.requests x → Contains after.requests x
 
 -- the receipt stands at or after the front of the snapshot that its call has taken first
 pub record StandsAfterSnapshot (b : BookTerms) (before after : Knowledge) (r : Receipt) : Type 0 where

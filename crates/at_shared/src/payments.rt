@@ -15,7 +15,7 @@ ghost use Rattle.at_log.specs.Placed.{IsPlaced};
 ghost use Rattle.at_log.specs.Receipts.{asks_in};
 ghost use Rattle.at_log.specs.declared.receipt.Receipt.{Receipt};
 ghost use Rattle.at_shared.specs.Helpings.{HasAllSettled, IsPayoutFrom, decides_made, decides_on};
-ghost use Rattle.at_shared.specs.Settling.{StandsAfter, StandsAfterSnapshot, StandsInRound, asking_steps, round_steps};
+ghost use Rattle.at_shared.specs.Settling.{AsksOnce, StandsAfter, StandsAfterSnapshot, StandsInRound, asking_steps, round_steps};
 ghost use Rattle.at_single.specs.Standing.{newly_counted};
 ghost use Rattle.at_snapshot.specs.Snapshots.{snapshot_steps};
 
@@ -52,6 +52,7 @@ pub fn transfer_shared<L: Ledger, X: Ledger>(
     ensures after_start { StandsAfter (length seat.old.knows.seen) seat.new.knows result }
     ensures after_snapshot { StandsAfterSnapshot board.now.book seat.old.knows seat.new.knows
         result }
+    ensures asked { AsksOnce board.now.book seat.old.knows seat.new.knows account }
     ensures free { (own_part seat.new.knows).held ≡ None }
     ensures begins { IsPrefix seat.old.knows.seen seat.new.knows.seen }
     ensures process { seat.new.knows.first ≡ seat.old.knows.first }
@@ -104,6 +105,7 @@ pub fn pay_shared<L: Ledger, X: Ledger>(
     ensures after_start { StandsAfter (length seat.old.knows.seen) seat.new.knows result }
     ensures after_snapshot { StandsAfterSnapshot board.now.book seat.old.knows seat.new.knows
         result }
+    ensures asked { AsksOnce board.now.book seat.old.knows seat.new.knows from }
     ensures free { (own_part seat.new.knows).held ≡ None }
     ensures begins { IsPrefix seat.old.knows.seen seat.new.knows.seen }
     ensures process { seat.new.knows.first ≡ seat.old.knows.first }
@@ -154,6 +156,7 @@ fn settle<L: Ledger, X: Ledger>(
     ensures after_start { StandsAfter (length seat.old.knows.seen) seat.new.knows result }
     ensures after_snapshot { StandsAfterSnapshot board.now.book seat.old.knows seat.new.knows
         result }
+    ensures asked { AsksOnce board.now.book seat.old.knows seat.new.knows account }
     ensures free { (own_part seat.new.knows).held ≡ None }
     ensures begins { IsPrefix seat.old.knows.seen seat.new.knows.seen }
     ensures process { seat.new.knows.first ≡ seat.old.knows.first }
@@ -173,7 +176,9 @@ fn settle<L: Ledger, X: Ledger>(
     ensures exchanges { exchanges.new
         ≡ exchanges.old + decides_made account seat.old.knows seat.new.knows }
 {
+    seat.known();
     let mut helping = Helping::start(board, seat, totals, account, call, steps, exchanges);
+    seat.known();
     loop {
         // Each turn that answers more has published one round that was decided before the request, and they are few.
         if let HelpTurn::Settled(receipt) = helping.turn(board, seat, totals, steps, exchanges) {

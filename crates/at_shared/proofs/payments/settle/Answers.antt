@@ -1,11 +1,21 @@
-use Rattle.std.proofs.Common.{◌≡◌, sym, ap, subst, ◌∙◌, arith}
-use Rattle.at_ledger.specs.Account.{slots_of}
-use Rattle.at_ledger.specs.Book.{BookTerms, account_of}
+use Rattle.std.proofs.Common.{◌≡◌, ◌+◌, ◌*◌, ◌<◌, true, List, [], ◌∷◌, length, refl, sym, ap, subst, ◌∙◌, arith, inl, inr}
+use Rattle.std.proofs.lemmas.Bool.{cases_lt}
+use Rattle.std.proofs.lemmas.List.{length_push}
+use Rattle.at_ledger.specs.Account.{slot_in, slots_of}
+use Rattle.at_ledger.specs.Book.{BookTerms, HasSlot, account_of}
 use Rattle.at_history.proofs.Laws.Prefixes.{IsPrefix-trans}
-use Rattle.at_history.specs.Rounds.{rounds}
+use Rattle.at_history.specs.Rounds.{is_settled, rounds}
+use Rattle.at_history.specs.declared.request.Request.{Request}
+use Rattle.at_board.specs.Knowledge.Parts.{asking_on, own_part}
 use Rattle.at_board.specs.declared.knowledge.Knowledge.{Knowledge}
 use Rattle.at_log.specs.Receipts.{asks_in}
+use Rattle.at_rows.proofs.Laws.Accounts.{HasAccount, HasAccount-IsSeat}
+use Rattle.at_rows.specs.OpenRequests.{request_of}
+use Rattle.at_shared.proofs.Added.{Adds, Adds-HasLoaded, Adds-HasStarted, Adds-refl, Adds-trans, HasAccount-Adds}
 use Rattle.at_shared.proofs.Counting.{steps_after}
+use Rattle.at_shared.proofs.Kept.{is_settled-IsPrefix}
+use Rattle.at_shared.proofs.Starting.{same_some}
+use Rattle.at_shared.proofs.Turning.{Adds-HelpAnswers, settled-HelpAnswers}
 use Rattle.at_shared.specs.HelpingTerms.{HelpingTerms}
 use Rattle.at_shared.specs.Helpings.{IsHelping, decides_made, decides_on, heard_on}
 use Rattle.at_shared.specs.Settling.{asking_steps, round_steps}
@@ -18,6 +28,96 @@ use Rattle.at_shared.proofs.payments.settle.Goals as goal
 -- the helping is that of the account
 account_is : (g : given.Over) (c : After-turn g) → c.loop-receipt.helping.account ≡ c.args.account
 account_is g c = ap (λ (h : HelpingTerms). h.account) c.loop-receipt.invariant.same ∙ c.start-helping.ensures.account
+
+-- at the start
+pub loop-receipt-init : goal.loop-receipt-init
+loop-receipt-init g c =
+    let b : BookTerms = c.args.board.now.book in
+    let v : Knowledge = c.args.seat.now.knows in
+    let u : Knowledge = c.start-helping.new.seat.knows in
+    let a = c.args.account in
+    let told = c.start-helping.ensures in
+    let made : decides_made a v u ≡ 0 = omega (arith, told.decides a) in
+    let slots = ap (λ t. slots_of (account_of b t)) told.account in
+    record {
+      same = refl;
+      board = told.board;
+      helping = told.helping;
+      few = omega (arith, made, told.helping.asked.slot_in.within, slots);
+      heard = omega (arith, made, told.helping.heard, ap (heard_on u) told.account, ap (λ t. rounds t u.seen) told.account);
+      kept = Adds-refl b u a;
+      begins = told.begins;
+      process = told.process;
+      decides = omega (arith, told.decides a);
+      elsewhere = λ t other. told.decides t;
+      published = omega (arith, told.published);
+      more = omega (arith, told.published, told.more);
+      counted = told.counted;
+      steps = omega (arith, told.steps, ap (λ k. k * (snapshot_steps b.processes + round_steps b.processes)) made);
+      exchanges = omega (arith, told.exchanges, made);
+    }
+
+-- the seat has something on the account
+has_account : (g : given.Over) (c : After-turn g) → HasAccount c.args.seat.now.knows c.args.account
+has_account g c =
+    let told = c.start-helping.ensures in
+    let within : c.args.account < length c.args.seat.now.knows.book.accounts = omega (
+      arith,
+      told.helping.asked.slot_in.account_in,
+      told.account,
+      ap (λ (t : BookTerms). length t.accounts) c.requires.seat.book,
+    ) in
+    HasAccount-IsSeat c.args.seat.now.knows c.args.seat.now.knows.first (own_part c.args.seat.now.knows).published c.args.account c.known.ensures.seat within
+
+-- what the start adds
+abbrev looked_of : (g : given.Over) → After-turn g → Knowledge
+looked_of g c = c.start-helping.ensures.started.looked
+
+adds_look : (g : given.Over) (c : After-turn g) → Adds c.args.board.now.book c.args.seat.now.knows (looked_of g c) c.args.account []
+adds_look g c =
+    let started = c.start-helping.ensures.started in
+    Adds-HasLoaded c.args.board.now.book c.args.seat.now.knows started.looked c.args.account started.front (has_account g c).part started.loads started.snapshot
+
+adds_start : (g : given.Over) (c : After-turn g)
+    → Adds c.args.board.now.book (looked_of g c) c.start-helping.new.seat.knows c.args.account (request_of c.start-helping.result.own ∷ [])
+adds_start g c =
+    let b : BookTerms = c.args.board.now.book in
+    let v : Knowledge = c.args.seat.now.knows in
+    let u : Knowledge = c.start-helping.new.seat.knows in
+    let told = c.start-helping.ensures in
+    subst (λ t. Adds b told.started.looked u t (request_of c.start-helping.result.own ∷ [])) told.account
+    (Adds-HasStarted b v u c.start-helping.result told.started (subst (HasAccount v) (sym told.account) (has_account g c)) c.known-2.ensures.seat.own)
+
+-- what the turns so far add
+has_account_loop : (g : given.Over) (c : After-turn g) → HasAccount c.loop-receipt.seat.knows c.args.account
+has_account_loop g c =
+    let b : BookTerms = c.args.board.now.book in
+    let a = c.args.account in
+    let w : Knowledge = looked_of g c in
+    let u : Knowledge = c.start-helping.new.seat.knows in
+    HasAccount-Adds b u c.loop-receipt.seat.knows a a [] c.loop-receipt.invariant.kept
+    (HasAccount-Adds b w u a a (request_of c.start-helping.result.own ∷ []) (adds_start g c)
+    (HasAccount-Adds b c.args.seat.now.knows w a a [] (adds_look g c) (has_account g c)))
+
+adds_turns : (g : given.Over) (c : After-turn g)
+    → Adds c.args.board.now.book c.start-helping.new.seat.knows c.turn.new.seat.knows c.args.account []
+adds_turns g c =
+    let b : BookTerms = c.args.board.now.book in
+    let a = c.args.account in
+    let u : Knowledge = c.start-helping.new.seat.knows in
+    let y : Knowledge = c.loop-receipt.seat.knows in
+    let z : Knowledge = c.turn.new.seat.knows in
+    let account = account_is g c in
+    let has = subst (HasAccount y) (sym account) (has_account_loop g c) in
+    Adds-trans b u y z a [] [] c.loop-receipt.invariant.kept
+    (subst (λ t. Adds b y z t []) account (Adds-HelpAnswers b y z c.loop-receipt.helping c.turn.result has c.turn.ensures.answers))
+
+-- what all adds since the call has looked
+adds_since : (g : given.Over) (c : After-turn g)
+    → Adds c.args.board.now.book (looked_of g c) c.turn.new.seat.knows c.args.account (request_of c.start-helping.result.own ∷ [])
+adds_since g c =
+    Adds-trans c.args.board.now.book (looked_of g c) c.start-helping.new.seat.knows c.turn.new.seat.knows c.args.account
+    (request_of c.start-helping.result.own ∷ []) [] (adds_start g c) (adds_turns g c)
 
 pub loop-receipt-preserved : goal.loop-receipt-preserved
 loop-receipt-preserved g c =
@@ -44,6 +144,7 @@ loop-receipt-preserved g c =
       helping = subst (IsHelping b z) (sym told.same) (told.helping is);
       few = omega (arith, so_far.decides, so_far.heard, more, told.overtaken is, on_y, on_z, heard_y, rounds_y, slots);
       heard = omega (arith, so_far.decides, so_far.heard, more, told.heard, told.rounds_more is, on_y, on_z, heard_y, heard_z, rounds_y, rounds_z);
+      kept = adds_turns g (goal.at.loop-receipt-preserved g c).After-turn;
       begins = IsPrefix-trans v.seen y.seen z.seen so_far.begins told.begins;
       process = told.process ∙ so_far.process;
       decides = omega (arith, so_far.decides, more, on_y, on_z);
@@ -108,4 +209,53 @@ returns-in-Settled-clause-after_snapshot g c =
       looked = started.looked;
       snapshot = started.snapshot;
       after_front = λ previous. omega (arith, c.in-Settled.ensures.after_start previous, since, started.since);
+    }
+
+pub returns-in-Settled-clause-decides_elsewhere : goal.returns-in-Settled-clause-decides_elsewhere
+returns-in-Settled-clause-decides_elsewhere g c = λ t other.
+    let account = account_is g (goal.at.returns-in-Settled-clause-decides_elsewhere g c).After-turn in
+    c.turn.ensures.decides_elsewhere t (λ same. other (same ∙ account)) ∙ c.loop-receipt.invariant.elsewhere t other
+
+pub returns-in-Settled-clause-asked : goal.returns-in-Settled-clause-asked
+returns-in-Settled-clause-asked g c =
+    let before : After-turn g = (goal.at.returns-in-Settled-clause-asked g c).After-turn in
+    let b : BookTerms = c.args.board.now.book in
+    let v : Knowledge = c.args.seat.now.knows in
+    let u : Knowledge = c.start-helping.new.seat.knows in
+    let y : Knowledge = c.loop-receipt.seat.knows in
+    let z : Knowledge = c.turn.new.seat.knows in
+    let a = c.args.account in
+    let told = c.start-helping.ensures in
+    let own = c.start-helping.result.own in
+    let row : List Request = (asking_on (own_part v) a).announced in
+    let adds : Adds b v z a (request_of own ∷ []) =
+    Adds-trans b v (looked_of g before) z a [] (request_of own ∷ []) (adds_look g before) (adds_since g before) in
+    let helping : HelpingTerms = c.loop-receipt.helping in
+    let same = c.loop-receipt.invariant.same in
+    let account = account_is g before in
+    let has = subst (HasAccount y) (sym account) (has_account_loop g before) in
+    let settled_here = settled-HelpAnswers b y z helping has c.in-Settled.ensures.answers in
+    let settled_own : is_settled a own.slot own.number z.seen ≡ true =
+    subst (λ t. is_settled t own.slot own.number z.seen ≡ true) account
+    (subst (λ (h : HelpingTerms). is_settled helping.account h.own.slot h.own.number z.seen ≡ true) same settled_here) in
+    record {
+      request = request_of own;
+      announced = adds.announced;
+      since = told.since;
+      elsewhere = adds.elsewhere;
+      settled = λ slot number slot_has within. elim (cases_lt number (length row)) as (λ _. is_settled a slot number z.seen ≡ true) [
+        | inl earlier ↦
+            is_settled-IsPrefix a slot number v.seen z.seen adds.more
+            (c.requires.settled slot number (subst (λ p. HasSlot b p a slot) adds.first slot_has) earlier)
+        | inr last ↦
+            let count : number ≡ own.number =
+            omega (arith, within, last, ap (λ (rs : List Request). length rs) adds.announced, length_push row (request_of own), told.number) in
+            let slot_own = subst (λ t. HasSlot b u.first t own.slot) told.account told.helping.asked.slot_in in
+            let slots : slot ≡ own.slot =
+            same_some slot own.slot
+            (sym slot_has.owner ∙ (ap (slot_in (account_of b a)) (adds.first ∙ sym told.process) ∙ slot_own.owner)) in
+            subst (λ s. is_settled a s number z.seen ≡ true) (sym slots) (subst (λ n. is_settled a own.slot n z.seen ≡ true) (sym count) settled_own)
+      ];
+      owns = adds.owns c.known.ensures.seat.own;
+      gained = adds.gained;
     }
