@@ -1,11 +1,12 @@
 -- Where the receipt of a settled request stands, and the bounds of the calls.
-use Rattle.std.specs.Prelude.{◌≡◌, ◌≢◌, ℕ, ◌+◌, ◌*◌, ◌≤◌, ◌⊎◌, ◌++◌, List, [], ◌∷◌, length, Contains}
+use Rattle.std.specs.Prelude.{◌≡◌, ◌≢◌, ℕ, ◌+◌, ◌*◌, ◌<◌, ◌≤◌, ◌⊎◌, ◌++◌, List, [], ◌∷◌, length, Contains}
 use Rattle.at_ledger.specs.Book.{BookTerms}
 use Rattle.at_ledger.specs.declared.call.Reply.TheVariants.{Done, Short}
 use Rattle.at_history.specs.Fronts.{place}
+use Rattle.at_history.specs.Publications.{IsPrefix}
 use Rattle.at_history.specs.Rounds.{owns_of}
 use Rattle.at_history.specs.declared.request.Request.{Request}
-use Rattle.at_board.specs.Knowledge.Parts.{asking_on, own_part}
+use Rattle.at_board.specs.Knowledge.Parts.{asking_on, loads_of, own_part}
 use Rattle.at_board.specs.declared.knowledge.Knowledge.{Knowledge}
 use Rattle.at_board.specs.declared.knowledge.SeenRequest.{SeenRequest}
 use Rattle.at_board.specs.declared.words.TheConstants.{RECORD_WORDS, REQUEST_WORDS}
@@ -13,6 +14,7 @@ use Rattle.at_log.specs.Told.{key_of}
 use Rattle.at_log.specs.declared.receipt.At.{At}
 use Rattle.at_log.specs.declared.receipt.Receipt.{Receipt}
 use Rattle.at_shared.specs.Helpings.{HasAllSettled}
+use Rattle.at_snapshot.specs.Collected.{HasLoaded}
 use Rattle.at_snapshot.specs.Snapshots.{IsSnapshot}
 
 -- the call was done or short, in a round
@@ -37,11 +39,15 @@ pub record AsksOnce (b : BookTerms) (before after : Knowledge) (a : ℕ) : Type 
   pub owns : owns_of before.first after.seen ≡ owns_of before.first before.seen
   pub gained : (x : SeenRequest) → Contains before.requests x → Contains after.requests x
 
--- the receipt stands at or after the front of the snapshot that its call has taken first
+-- the receipt stands at or after the front of the snapshot that its call has taken first, by loads of lengths alone. At its end
+-- the seat has seen at least what it had seen then, and has loaded each length at least as often
 pub record StandsAfterSnapshot (b : BookTerms) (before after : Knowledge) (r : Receipt) : Type 0 where
   pub front : List ℕ
   pub looked : Knowledge
   pub snapshot : IsSnapshot b before looked front
+  pub loads : HasLoaded b before looked
+  pub more : IsPrefix looked.seen after.seen
+  pub times : (p : ℕ) → p < b.processes → (loads_of (own_part looked) p).times ≤ (loads_of (own_part after) p).times
   pub after_front : StandsAfter (place front) after r
 
 -- the most steps that asking and collecting take where the account has so many slots

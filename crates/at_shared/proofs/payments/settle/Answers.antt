@@ -204,10 +204,14 @@ pub returns-in-Settled-clause-after_snapshot : goal.returns-in-Settled-clause-af
 returns-in-Settled-clause-after_snapshot g c =
     let started = c.start-helping.ensures.started in
     let since = ap (λ (h : HelpingTerms). h.own.since) c.loop-receipt.invariant.same in
+    let since_look = adds_since g (goal.at.returns-in-Settled-clause-after_snapshot g c).After-turn in
     record {
       front = started.front;
       looked = started.looked;
       snapshot = started.snapshot;
+      loads = started.loads;
+      more = since_look.more;
+      times = since_look.times;
       after_front = λ previous. omega (arith, c.in-Settled.ensures.after_start previous, since, started.since);
     }
 
