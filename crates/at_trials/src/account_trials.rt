@@ -25,13 +25,13 @@ use std::sync::ledger::{Blank, Ledger};
 use std::thread::{Threads, join_mut};
 
 /// How often each thread calls.
-const CALLS: u32 = 256;
+const CALLS: u32 = 512;
 
 /// What the shared account 0 opens with.
 const SHARED: u64 = 100;
 
 /// What the single account 2 opens with, which its owner pays from until it is short.
-const SINGLE: u64 = 200;
+const SINGLE: u64 = 300;
 
 /// The accounts: processes 0 and 1 share account 0, nobody owns account 1, and process 2 owns account 2 alone.
 const ACCOUNTS: [(u64, &[u64]); 3] = [(SHARED, &[0, 1]), (0, &[]), (SINGLE, &[2])];
@@ -75,6 +75,7 @@ fn pay_shared<L: Ledger, X: Ledger>(
     requires sharer { IsSharer board.now seat.old totals.old }
     ensures sharer { IfSome result (λ _. IsSharer board.now seat.new totals.new) }
 {
+    // A process with a slot may ask there.
     let _slot = slot_on(board.book(), 0, seat.process())?;
     let number = board.announced(seat, 0);
     if board.book().request_room() <= number || board.book().accounts() < 2 {
