@@ -62,7 +62,7 @@ pub fn transfer_shared<L: Ledger, X: Ledger>(
     ensures own_counted { slice_index totals.new.upto seat.new.knows.first
         ≡ (own_part seat.new.knows).published }
     ensures board { IsOf seat.new board.now }
-    ensures turns { decides_made account seat.old.knows seat.new.knows
+    ensures decides { decides_made account seat.old.knows seat.new.knows
         ≤ slots_of (account_of board.now.book account) }
     ensures steps { steps.new ≤ steps.old + snapshot_steps board.now.book.processes
         + asking_steps (slots_of (account_of board.now.book account))
@@ -115,7 +115,7 @@ pub fn pay_shared<L: Ledger, X: Ledger>(
     ensures own_counted { slice_index totals.new.upto seat.new.knows.first
         ≡ (own_part seat.new.knows).published }
     ensures board { IsOf seat.new board.now }
-    ensures turns { decides_made from seat.old.knows seat.new.knows
+    ensures decides { decides_made from seat.old.knows seat.new.knows
         ≤ slots_of (account_of board.now.book from) }
     ensures steps { steps.new ≤ steps.old + snapshot_steps board.now.book.processes
         + asking_steps (slots_of (account_of board.now.book from))
@@ -166,7 +166,7 @@ fn settle<L: Ledger, X: Ledger>(
     ensures own_counted { slice_index totals.new.upto seat.new.knows.first
         ≡ (own_part seat.new.knows).published }
     ensures board { IsOf seat.new board.now }
-    ensures turns { decides_made account seat.old.knows seat.new.knows
+    ensures decides { decides_made account seat.old.knows seat.new.knows
         ≤ slots_of (account_of board.now.book account) }
     ensures steps { steps.new ≤ steps.old + snapshot_steps board.now.book.processes
         + asking_steps (slots_of (account_of board.now.book account))
