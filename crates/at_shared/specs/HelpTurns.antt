@@ -7,6 +7,8 @@ use Rattle.at_history.specs.Fronts.{place, prefix_of}
 use Rattle.at_history.specs.Rounds.{is_settled, rounds}
 use Rattle.at_history.specs.declared.publication.Entry.{Entry}
 use Rattle.at_history.specs.declared.publication.Publication.{Publication}
+use Rattle.at_history.specs.declared.request.Request.{Request}
+use Rattle.at_board.specs.Steps.Decide.{MayPropose}
 use Rattle.at_board.specs.Steps.Publish.{Publishes}
 use Rattle.at_board.specs.declared.knowledge.Knowledge.{Knowledge}
 use Rattle.at_log.specs.declared.receipt.Receipt.{Receipt}
@@ -31,11 +33,13 @@ pub record PublishesRound (b : BookTerms) (before after : Knowledge) (a round : 
   pub published : Publishes b loaded after (round_record loaded.first view a round d request.targets)
 
 -- one round was decided and published: where the own request was unsettled at the front, an exchange was made on the cell of the
--- next round there, with a proposal for that front, and the round was published with that front as its view
+-- next round there, with a proposal for that front that the seat may make, and the round was published with that front as its
+-- view
 pub record DecidesNext (b : BookTerms) (looked after : Knowledge) (h : HelpingTerms) (front : List ℕ) (d : Decision) : Type 0 where
   pub unsettled : is_settled h.account h.own.slot h.own.number (prefix_of front looked.seen) ≡ false
   pub proposal : Decision
   pub at_front : proposal.place ≡ place front
+  pub may : (r : Request) × MayPropose b looked h.account (rounds h.account (prefix_of front looked.seen)) proposal r
   pub decided : Knowledge
   pub decides : DecidesAs b looked decided h.account (rounds h.account (prefix_of front looked.seen)) proposal d
   pub publishes : PublishesRound b decided after h.account (rounds h.account (prefix_of front looked.seen)) d front

@@ -1,6 +1,6 @@
 //! Pay-outs from shared accounts.
 
-ghost use Rattle.std.specs.Prelude.{◌≡◌, ◌≢◌, ℕ, ◌+◌, ◌*◌, ◌<◌, ◌≤◌, List, [], ◌∷◌, length, slice_index, None};
+ghost use Rattle.std.specs.Prelude.{◌≡◌, ◌≢◌, ℕ, ◌+◌, ◌*◌, ◌<◌, ◌≤◌, List, [], ◌∷◌, length, slice_index, sum, None};
 ghost use Rattle.at_board.specs.Knowledge.Parts.{asking_on, own_part};
 ghost use Rattle.at_board.specs.Knowledge.Seats.{IsOf};
 ghost use Rattle.at_board.specs.Steps.StoreRequestWord.{MayStoreRequest};
@@ -58,6 +58,8 @@ pub fn transfer_shared<L: Ledger, X: Ledger>(
     ensures process { seat.new.knows.first ≡ seat.old.knows.first }
     ensures decides_elsewhere { (a : ℕ) → a ≢ account
         → decides_on seat.new.knows a ≡ decides_on seat.old.knows a }
+    ensures more { sum totals.old.upto + (own_part seat.new.knows).published
+        ≤ sum totals.new.upto + (own_part seat.old.knows).published }
     ensures counted { HasCounted totals.new board.now.book seat.new.knows.seen }
     ensures own_counted { slice_index totals.new.upto seat.new.knows.first
         ≡ (own_part seat.new.knows).published }
@@ -111,6 +113,8 @@ pub fn pay_shared<L: Ledger, X: Ledger>(
     ensures process { seat.new.knows.first ≡ seat.old.knows.first }
     ensures decides_elsewhere { (a : ℕ) → a ≢ from
         → decides_on seat.new.knows a ≡ decides_on seat.old.knows a }
+    ensures more { sum totals.old.upto + (own_part seat.new.knows).published
+        ≤ sum totals.new.upto + (own_part seat.old.knows).published }
     ensures counted { HasCounted totals.new board.now.book seat.new.knows.seen }
     ensures own_counted { slice_index totals.new.upto seat.new.knows.first
         ≡ (own_part seat.new.knows).published }
@@ -162,6 +166,8 @@ fn settle<L: Ledger, X: Ledger>(
     ensures process { seat.new.knows.first ≡ seat.old.knows.first }
     ensures decides_elsewhere { (a : ℕ) → a ≢ account
         → decides_on seat.new.knows a ≡ decides_on seat.old.knows a }
+    ensures more { sum totals.old.upto + (own_part seat.new.knows).published
+        ≤ sum totals.new.upto + (own_part seat.old.knows).published }
     ensures counted { HasCounted totals.new board.now.book seat.new.knows.seen }
     ensures own_counted { slice_index totals.new.upto seat.new.knows.first
         ≡ (own_part seat.new.knows).published }

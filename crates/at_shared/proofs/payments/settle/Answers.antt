@@ -263,3 +263,6 @@ returns-in-Settled-clause-asked g c =
       owns = adds.owns c.known.ensures.seat.own;
       gained = adds.gained;
     }
+
+pub returns-in-Settled-clause-more : goal.returns-in-Settled-clause-more
+returns-in-Settled-clause-more g c = omega (arith, c.loop-receipt.invariant.more, c.turn.ensures.more)

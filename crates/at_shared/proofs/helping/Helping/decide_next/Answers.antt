@@ -64,6 +64,7 @@ returns-clause-decided g c =
       unsettled = c.requires.unsettled;
       proposal = c.proposal-proposal.result;
       at_front = c.proposal-proposal.ensures.place;
+      may = c.proposal-proposal.ensures.proposal;
       decided = x;
       decides = subst (λ r. DecidesAs b v x a r c.proposal-proposal.result c.propose-decided.result) round
           (subst (λ (h : HelpingTerms). DecidesAs b v x h.account c.rounds-round.result c.proposal-proposal.result c.propose-decided.result) c.self.view_is

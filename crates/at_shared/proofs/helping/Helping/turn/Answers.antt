@@ -1,4 +1,4 @@
-use Rattle.std.proofs.Common.{◌≡◌, ℕ, ◌<◌, ◌≤◌, false, List, [], length, sym, ap, subst, ◌∙◌, arith, inl}
+use Rattle.std.proofs.Common.{◌≡◌, ℕ, ◌<◌, ◌≤◌, false, List, [], length, sym, ap, subst, ◌∙◌, arith, inl, inr}
 use Rattle.at_base.specs.declared.decision.Decision.{Decision}
 use Rattle.at_ledger.specs.Book.{BookTerms}
 use Rattle.at_history.proofs.Laws.Fronts.{place-IsFront-le}
@@ -183,6 +183,27 @@ round_at g c h r same told =
     told b w.seen (counts_slot g c h same).account
     (CountsFront-HasLooked b c.args.seat.now.knows w c.args.totals.now c.look-front.new.totals c.look-front.result looked)
     ∙ (ap (λ f. rounds h.account (prefix_of f w.seen)) looked.upto ∙ ap (λ (t : HelpingTerms). rounds t.account (prefix_of c.look-front.result w.seen)) same)
+
+pub returns-then-decision-self-2-clause-answers : goal.returns-then-decision-self-2-clause-answers
+returns-then-decision-self-2-clause-answers g c =
+    let h : HelpingTerms = c.args.self.now in
+    let d : Decision = c.decide_next-decision.result in
+    let looked = c.look-front.ensures.looked in
+    let own : NamesOwn h d = (
+      c.if-decision-self.true ∙ ap (λ (t : HelpingTerms). t.own.slot) c.self.view_is,
+      c.if-decision-self-2.true ∙ ap (λ (t : HelpingTerms). t.own.number) c.self.view_is,
+    ) in
+    inr (
+      d,
+      record {
+        front = c.look-front.result;
+        looked = c.look-front.new.seat.knows;
+        snapshot = looked.snapshot;
+        loads = looked.loads;
+        next = c.decide_next-decision.ensures.decided;
+      },
+      own,
+    )
 
 pub returns-then-decision-self-2-clause-placed : goal.returns-then-decision-self-2-clause-placed
 returns-then-decision-self-2-clause-placed g c =
