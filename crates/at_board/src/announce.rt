@@ -20,7 +20,7 @@ impl Board {
         requires slot { (slot : ℕ) × HasSlot self.now.book seat.now.knows.first account slot }
         ensures { result ≡ length (asking_on (own_part seat.now.knows) account).announced }
     {
-        seat.announced[account as usize]
+        seat.announced(account)
     }
 
     /// Announces the next request of the seat's process on an account, in one step: one atomic store of its announced word. The

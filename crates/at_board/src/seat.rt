@@ -1,6 +1,6 @@
 //! Seats of a board.
 
-ghost use Rattle.std.specs.Prelude.{◌≡◌, [], length};
+ghost use Rattle.std.specs.Prelude.{◌≡◌, ◌<◌, [], length};
 
 use crate::knowledge::Knowledge;
 use atomic_table::Seat;
@@ -32,7 +32,7 @@ impl Model for BoardSeat {
 
 impl BoardSeat {
     ghost use Rattle.at_board.specs.Knowledge.Seats.{IsSeat};
-    ghost use Rattle.at_board.specs.Knowledge.Parts.{own_part};
+    ghost use Rattle.at_board.specs.Knowledge.Parts.{asking_on, own_part};
     ghost use Rattle.at_board.specs.Knowledge.Records.{SeesForms};
     ghost use Rattle.at_board.specs.Steps.Publish.{FitsNext};
 
@@ -59,6 +59,14 @@ impl BoardSeat {
         ensures { result ≡ (own_part self.now.knows).published }
     {
         self.published
+    }
+
+    /// How many requests the process has announced on an account. The call makes no step.
+    pub fn announced(&self, account: u32) -> u32
+        requires { account < length self.now.knows.book.accounts }
+        ensures { result ≡ length (asking_on (own_part self.now.knows) account).announced }
+    {
+        self.announced[account as usize]
     }
 
     /// The seat of the table.

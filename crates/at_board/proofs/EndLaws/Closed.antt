@@ -18,6 +18,7 @@ use Rattle.at_history.specs.BoardState.{BoardState, publication_at}
 use Rattle.at_history.specs.Publications.{IsPrefix, count_of, no_publication, publications_of}
 use Rattle.at_history.specs.Sound.{Sound}
 use Rattle.at_history.specs.declared.publication.Publication.{Publication}
+use Rattle.at_board.proofs.StepLaws.Forms.{IsForm-publications_of}
 use Rattle.at_board.specs.Ends.Closing.{Gathers, IsEnd, IsFreeSeat, end_of, gathered, records_in, records_of}
 use Rattle.at_board.specs.Knowledge.Knows.{HasPart, IsAnnounced, IsDecided, Knows}
 use Rattle.at_board.specs.Knowledge.Parts.{asking_on, no_part, own_part, part_at}
@@ -163,6 +164,7 @@ module _ {S : Type 0} where
   IsEnd-Final b words slots id v seats book gathers all last =
       let ruled : Ruled b last.0.words last.0.views = last.1.0 in
       let s : BoardState = ruled.state in
+      let history = IsHistory-Sound b s ruled.shown.records.room ruled.sound book.begun in
       let knows : Knows b last.0.words s v = ruled.knows id v last.1.1 in
       let has : (p : ℕ) → p < b.processes → HasPart b last.0.words s v p (part_at v p) =
       λ p within. subst (λ n. HasPart b last.0.words s v n (part_at v p)) (omega (arith, gathers.first))
@@ -182,5 +184,6 @@ module _ {S : Type 0} where
         counted = λ p d within. sym (has p within).published ∙ ap (λ (q : Part). q.published) (own p d within);
         announced = λ p d a slot within slots.
             sym ((has p within).asking a slot slots).announced ∙ ap (λ q. (asking_on q a).announced) (own p d within);
-        history = IsHistory-Sound b s ruled.shown.records.room ruled.sound book.begun;
+        history = history;
+        forms = λ p i within. IsForm-publications_of b s.published p i book.begun history within;
       }

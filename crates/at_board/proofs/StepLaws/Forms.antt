@@ -11,7 +11,7 @@ use Rattle.at_history.proofs.Laws.Sums.{All-Contains}
 use Rattle.at_history.specs.BoardState.{publication_at}
 use Rattle.at_history.specs.Fronts.{place, places_max, prefix_of}
 use Rattle.at_history.specs.Histories.{IsShownDecision, IsHistory, IsShownEntry}
-use Rattle.at_history.specs.Publications.{no_publication, publications_of}
+use Rattle.at_history.specs.Publications.{count_of, no_publication, publications_of}
 use Rattle.at_history.specs.Sound.{AreTargets}
 use Rattle.at_history.specs.declared.publication.Entry.{Entry}
 use Rattle.at_history.specs.declared.publication.Entry.TheVariants.{Own, Round}
@@ -63,14 +63,19 @@ IsForm-MayEnter b v prefix (Round a r d targets) begun book history few sees (so
     let P : Publication → Type 0 = λ y. IsForm y.entry in
     subst IsForm says (All-Contains P v.seen x (All-from_get_or P v.seen no_publication (λ m within. IsForm-IsHistory b v.seen m begun history within)) seen)
 
+-- each record of a process in a history
+pub IsForm-publications_of : (b : BookTerms) (list : List Publication) (p i : ℕ) → IsBegun b → IsHistory b list → i < count_of p list
+    → IsForm (publication_at (publications_of p list) i).entry
+IsForm-publications_of b list p i begun history within =
+    let at = position_of p i list within in
+    let same : publication_at (publications_of p list) i ≡ publication_at list at.0 =
+    ap (publication_at (publications_of p list)) (sym at.1.before)
+    ∙ get_or-publications_of p at.0 list no_publication at.1.within (at.1.own no_publication) in
+    subst (λ (x : Publication). IsForm x.entry) (sym same) (IsForm-IsHistory b list at.0 begun history at.1.within)
+
 -- each record that a seat has seen
 pub SeesForms-IsSeat : (v : Knowledge) (process published : ℕ) → IsSeat v process published → SeesForms v
-SeesForms-IsSeat v process published seat p i sees =
-    let at = position_of p i v.seen sees in
-    let same : publication_at (publications_of p v.seen) i ≡ publication_at v.seen at.0 =
-    ap (publication_at (publications_of p v.seen)) (sym at.1.before)
-    ∙ get_or-publications_of p at.0 v.seen no_publication at.1.within (at.1.own no_publication) in
-    subst (λ (x : Publication). IsForm x.entry) (sym same) (IsForm-IsHistory v.book v.seen at.0 seat.book.begun seat.history at.1.within)
+SeesForms-IsSeat v process published seat p i sees = IsForm-publications_of v.book v.seen p i seat.book.begun seat.history sees
 
 -- and each that it may publish next
 pub FitsNext-IsSeat : (v : Knowledge) (process published : ℕ) → IsSeat v process published → FitsNext v

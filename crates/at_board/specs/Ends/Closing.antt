@@ -2,7 +2,7 @@
 use Rattle.std.specs.Prelude.{◌≡◌, ℕ, ◌<◌, ◌≤◌, ◌++◌, List, [], length, map, slice_index_or, All, Contains, None}
 use Rattle.std.specs.List.{range_with_len}
 use Rattle.at_ledger.specs.Book.{BookTerms, IsBook, log_room_of, HasSlot}
-use Rattle.at_history.specs.BoardState.{BoardState}
+use Rattle.at_history.specs.BoardState.{BoardState, publication_at}
 use Rattle.at_history.specs.Histories.{IsHistory}
 use Rattle.at_history.specs.Publications.{IsPrefix, count_of, publications_of}
 use Rattle.at_history.specs.Sound.{Sound}
@@ -11,7 +11,7 @@ use Rattle.at_board.specs.Knowledge.Parts.{asking_on, own_part, part_at}
 use Rattle.at_board.specs.Knowledge.Seats.{BoardTerms, IsOf, SeatTerms}
 use Rattle.at_board.specs.Steps.Learn.{learned}
 use Rattle.at_board.specs.Words.Addresses.{length_of, record_width, record_word, word_at, word_count}
-use Rattle.at_board.specs.Words.Packed.{record_words}
+use Rattle.at_board.specs.Words.Packed.{IsForm, record_words}
 use Rattle.at_board.specs.declared.knowledge.Knowledge.{Knowledge}
 
 -- the records that the words of a board have of a process, each by its words
@@ -58,7 +58,7 @@ pub record Gathers (seats : List SeatTerms) (v : Knowledge) : Type 0 where
 
 -- the last state of a board: the records are its publications, of which each prefix is a run, it is sound, and no process holds
 -- a cell. The list that each seat had seen is a prefix of what was published, its requests were announced and its decisions
--- made. Each process published as many records as its seat's part says, and its row on each account that it shares has the
+-- made. The numbers of each record fit its words. Each process published as many records as its seat's part says, and its row on each account that it shares has the
 -- requests that this part announced
 pub record IsEnd (e : EndTerms) (seats : List SeatTerms) : Type 0 where
   pub state : BoardState
@@ -73,6 +73,7 @@ pub record IsEnd (e : EndTerms) (seats : List SeatTerms) : Type 0 where
   pub announced : (p : ℕ) (d : SeatTerms) (a slot : ℕ) → p < e.book.processes → HasSlot e.book p a slot →
       state.rows a slot ≡ (asking_on (own_part (slice_index_or seats p d).knows) a).announced
   pub history : IsHistory e.book state.published
+  pub forms : (p i : ℕ) → i < count_of p state.published → IsForm (publication_at (publications_of p state.published) i).entry
 
 -- the words are those of a board for the book, and no log is longer than its room
 pub record HasWords (b : BookTerms) (words : List ℕ) : Type 0 where
