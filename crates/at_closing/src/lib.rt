@@ -1,0 +1,6 @@
+//! What a closed ledger leaves: the records of its board, process by process, with the receipts of its processes.
+//!
+//! The receipts of a process stand with its seat where they account for all that the process has in what the seat has seen, and the
+//! process is between calls. The closing of a closed board and of receipts that stand with its seats is coherent, so its journal is
+//! one legal run.
+#![tactic(auto)]
