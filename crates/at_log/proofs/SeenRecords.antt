@@ -19,7 +19,7 @@ use Rattle.at_board.specs.declared.words.TheConstants.{RECORD_WORDS}
 use Rattle.at_log.specs.Loading.{IsViewOf}
 
 -- the view of a record of a history
-record IsShownRecord (b : BookTerms) (x : Publication) : Type 0 where
+pub record IsShownRecord (b : BookTerms) (x : Publication) : Type 0 where
   pub sized : length x.view ≡ b.processes
   pub small : (q : ℕ) → q < b.processes → get_or x.view q 0 ≤ 131072
 
@@ -41,7 +41,7 @@ IsShownRecord-at b list m begun history within =
     }
 
 -- record i of a process
-IsShownRecord-IsHistory : (b : BookTerms) (list : List Publication) (p i : ℕ) → IsBegun b → IsHistory b list → i < count_of p list
+pub IsShownRecord-IsHistory : (b : BookTerms) (list : List Publication) (p i : ℕ) → IsBegun b → IsHistory b list → i < count_of p list
     → IsShownRecord b (publication_at (publications_of p list) i)
 IsShownRecord-IsHistory b list p i begun history within =
     let at = position_of p i list within in

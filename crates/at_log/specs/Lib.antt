@@ -8,3 +8,4 @@ pub mod JournalOrder
 pub mod Appending
 pub mod LastRecord
 pub mod Loading
+pub mod Ended

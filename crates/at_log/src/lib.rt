@@ -7,6 +7,7 @@
 
 mod append_record;
 mod closing;
+mod ended_words;
 mod load_entry_words;
 mod load_view_words;
 mod receipt;
@@ -14,6 +15,7 @@ mod record;
 
 pub use crate::append_record::{append, room};
 pub use crate::closing::Closing;
+pub use crate::ended_words::ended_log;
 pub use crate::load_entry_words::load_entry;
 pub use crate::load_view_words::load_view;
 pub use crate::receipt::{At, Receipt};
