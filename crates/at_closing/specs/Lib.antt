@@ -1,3 +1,4 @@
 pub mod InOrder
 pub mod BetweenCalls
 pub mod Left
+pub mod Standing

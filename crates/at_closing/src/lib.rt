@@ -4,3 +4,7 @@
 //! process is between calls. The closing of a closed board and of receipts that stand with its seats is coherent, so its journal is
 //! one legal run.
 #![tactic(auto)]
+
+mod closing;
+
+pub use crate::closing::closing_of;

@@ -1,0 +1,25 @@
+use Rattle.std.proofs.Common.{◌+◌, ◌<◌, [], Vec, Global, List, length, get_or, map, sym, ap, subst, ◌∙◌, arith}
+use Rattle.std.proofs.lemmas.List.{get_or-set_other, length-map, length-set, map-set}
+use Rattle.at_log.specs.ClosingTerms.{published_by}
+use Rattle.at_log.specs.declared.record.Record.{Record}
+use Rattle.at_closing.proofs.FilledLogs.{AreLogs, AreLogs-more}
+use Rattle.at_closing.proofs.closing.closing_of.Goals as goal
+
+pub loop-p-preserved : goal.loop-p-preserved
+loop-p-preserved c =
+    let e = c.args.end.now in
+    let p = c.loop-p.p in
+    let rooms = c.loop-p.rooms.items in
+    let room : Vec Record Global = c.ended_log.new.log in
+    let logs : List (List Record) = map (λ v. v.items) rooms in
+    let inside : p < length rooms = omega arith in
+    record {
+      count = length-set rooms p room ∙ c.loop-p.invariant.count;
+      logs = subst (λ ls. AreLogs e ls (p + 1)) (sym (map-set (λ v. v.items) rooms p room))
+          (AreLogs-more e logs p room.items (omega (arith, inside, length-map rooms (λ v. v.items))) c.loop-p.invariant.logs c.ended_log.ensures);
+      rest = λ k d after. get_or-set_other rooms p k room d (omega arith) ∙ c.loop-p.invariant.rest k d (omega arith);
+    }
+
+pub returns-clause-logs : goal.returns-clause-logs
+returns-clause-logs c seats ended p known =
+    ap (λ logs. map (published_by p) (get_or logs p [])) c.new.ensures.logs ∙ c.loop-p.invariant.logs p (omega arith) seats ended
