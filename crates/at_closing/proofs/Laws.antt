@@ -2,7 +2,6 @@
 -- a receipt in a longer list: it stays placed (IsPlaced-IsPrefix) with the same key (key_of-IsPrefix), and no key is above twice the
 -- length (key_of-le, keys_of-le)
 pub mod Keys
-
 -- receipts that account for all that a process has: none (Told-nil), in a longer list (Told-IsPrefix), with one more receipt in the
 -- same list (Told-push) or in a longer one (Told-call)
--- pub mod Told
+pub mod Told

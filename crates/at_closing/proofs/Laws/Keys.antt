@@ -1,5 +1,5 @@
 -- A receipt in a longer list: it stays placed with the same key, which is at most twice the length of the list where it was placed.
-use Rattle.std.proofs.Common.{◌≡◌, ℕ, ◌+◌, ◌*◌, ◌<◌, ◌≤◌, ◌&&◌, zero, suc, true, false, cond, List, [], ◌∷◌, ◌++◌, length, get_or, take, refl, sym, ap, subst, ◌∙◌, arith, inl, inr}
+use Rattle.std.proofs.Common.{◌≡◌, ℕ, ◌+◌, ◌*◌, ◌<◌, ◌≤◌, ◌&&◌, zero, suc, true, cond, List, [], ◌∷◌, ◌++◌, length, take, refl, sym, ap, subst, ◌∙◌, arith, inl, inr}
 use Rattle.std.proofs.lemmas.Bool.{cases_Bool, cases_lt, eq-eqb}
 use Rattle.std.proofs.lemmas.List.{get_or_append_left, take-append-le}
 use Rattle.std.proofs.lemmas.List.Elements.{All-cons}
@@ -13,7 +13,6 @@ use Rattle.at_history.proofs.Laws.Prefixes.{IsPrefix-count_of, IsPrefix-length, 
 use Rattle.at_history.specs.Balances.{balance_after}
 use Rattle.at_history.specs.BoardState.{publication_at}
 use Rattle.at_history.specs.Entries.{is_own, is_round}
-use Rattle.at_history.specs.Fronts.{IsFront, place, prefix_of}
 use Rattle.at_history.specs.Histories.{IsHistory, IsShownDecision, IsShownRound}
 use Rattle.at_history.specs.Publications.{IsPrefix, count_of, no_publication, publications_of}
 use Rattle.at_history.specs.declared.publication.Publication.{Publication}
