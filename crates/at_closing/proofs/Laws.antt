@@ -5,3 +5,5 @@ pub mod Keys
 -- receipts that account for all that a process has: none (Told-nil), in a longer list (Told-IsPrefix), with one more receipt in the
 -- same list (Told-push) or in a longer one (Told-call)
 pub mod Told
+-- what the end of a board adds: each request that the last state shows is settled (named-settled, Told-ended)
+pub mod Ended
