@@ -7,3 +7,7 @@ pub mod Keys
 pub mod Told
 -- what the end of a board adds: each request that the last state shows is settled (named-settled, Told-ended)
 pub mod Ended
+-- a process's own records and its requests are in order: in a longer list without own records of it (AreInOrder-IsPrefix,
+-- AreInOrder-count_of), with its next own record (AreInOrder-paid), with its next request (AreInOrder-asked), and with the same rows
+-- given otherwise (AreInOrder-rows)
+pub mod Order

@@ -1,0 +1,174 @@
+-- The own records and the requests of a process stay in order: in a longer list, with one more own record, and with one more request.
+use Rattle.std.proofs.Common.{◌≡◌, ◌≢◌, ℕ, ◌+◌, ◌<◌, ◌≤◌, ◌⊎◌, ◌==◌, ◌&&◌, Bool, true, Some, List, [], ◌∷◌, ◌++◌, length, take, refl, sym, ap, subst, ◌∙◌, arith, inl, inr}
+use Rattle.std.proofs.lemmas.Bool.{and_from, cases_eq, cases_lt, eq-eqb, or_left}
+use Rattle.std.proofs.lemmas.List.{append-nil, get_or_append_left, get_or_at, length-append, length-take, take-take, take_all}
+use Rattle.std.proofs.lemmas.List.Folds.{list_any-append}
+use Rattle.std.proofs.lemmas.List.Sums.{count_by_more_yes, sum_by-take-le}
+use Rattle.std.specs.List.{count_by, list_any}
+use Rattle.at_ledger.specs.Account.{slot_in}
+use Rattle.at_ledger.specs.Book.{BookTerms, HasSlot, account_of}
+use Rattle.at_history.proofs.Laws.Counts.{count_of-push_own, position-below}
+use Rattle.at_history.proofs.Laws.Prefixes.{IsPrefix-append, IsPrefix-length, IsPrefix-take, IsPrefix-take_mono, IsPrefix-trans, take-IsPrefix, take-IsPrefix-le}
+use Rattle.at_history.proofs.Laws.Rounds.{one_if, owns_of-IsPrefix}
+use Rattle.at_history.specs.BoardState.{publication_at, request_at}
+use Rattle.at_history.specs.Entries.{is_own, settles}
+use Rattle.at_history.specs.Fronts.{place, prefix_of}
+use Rattle.at_history.specs.Publications.{IsPrefix, count_of, no_publication}
+use Rattle.at_history.specs.Rounds.{is_settled, owns_of}
+use Rattle.at_history.specs.declared.publication.Publication.{Publication}
+use Rattle.at_history.specs.declared.request.Request.{Request}
+use Rattle.at_closing.proofs.Laws.Keys.{publication_at-IsPrefix}
+use Rattle.at_closing.specs.InOrder.{AreInOrder, AreTwo, HasAskedFor, IsOwnAt}
+
+-- what is settled stays so
+pub is_settled-IsPrefix : (a slot number : ℕ) (list more : List Publication) → IsPrefix list more → is_settled a slot number list ≡ true
+    → is_settled a slot number more ≡ true
+is_settled-IsPrefix a slot number list more before settled =
+    let test : Publication → Bool = λ y. settles a slot number y.entry in
+    ap (list_any test) before.1
+    ∙ (list_any-append test list before.0 ∙ or_left (list_any test list) (list_any test before.0) settled)
+
+-- a longer list begins with a list where so many of its first records are at least all of that list's
+pub IsPrefix-take_from_le : (n : ℕ) (list more : List Publication) → IsPrefix list more → length list ≤ n → IsPrefix list (take n more)
+IsPrefix-take_from_le n list more before enough =
+    subst (λ t. IsPrefix t (take n more)) (take-IsPrefix list more before) (IsPrefix-take_mono (length list) n more enough)
+
+-- so many of its first records begin with so many of the list's
+pub IsPrefix-take_both : (n : ℕ) (list more : List Publication) → IsPrefix list more → IsPrefix (take n list) (take n more)
+IsPrefix-take_both n list more before =
+    elim (cases_lt n (length list)) as (λ _. IsPrefix (take n list) (take n more)) [
+      | inl below ↦ ([], take-IsPrefix-le n list more (omega arith) before ∙ sym (append-nil (take n list)))
+      | inr above ↦
+          subst (λ t. IsPrefix t (take n more)) (sym (take_all n list above)) (IsPrefix-take_from_le n list more before above)
+    ]
+
+-- a front that begins with a list counts at least as many
+pub length-prefix_of-le : (view : List ℕ) (list more : List Publication) → IsPrefix list (prefix_of view more) → length list ≤ place view
+length-prefix_of-le view list more begins =
+    omega (arith, IsPrefix-length list (prefix_of view more) begins, length-take (place view) more)
+
+-- an own record of the process in a list that has no more of them than its beginning stands there
+pub own-within : (p : ℕ) (list more : List Publication) (m : ℕ) → IsPrefix list more → owns_of p more ≡ owns_of p list → IsOwnAt p more m
+    → m < length list
+own-within p list more m before same at =
+    let test : Publication → Bool = λ x. (x.process == p) && is_own x.entry in
+    let f : Publication → ℕ = λ x. one_if (test x) in
+    let yes : test (publication_at more m) ≡ true =
+    and_from ((publication_at more m).process == p) (is_own (publication_at more m).entry)
+    (eq-eqb (publication_at more m).process p at.process_is) at.own in
+    elim (cases_lt m (length list)) as (λ _. m < length list) [
+      | inl below ↦ below
+      | inr above ↦
+          absurd (omega (
+            arith,
+            same,
+            count_by_more_yes test more m no_publication at.within yes,
+            sum_by-take-le f more (m + 1),
+            sum_by-take-le f (take m more) (length list),
+            ap (count_by test) (take-take (length list) m more above),
+            ap (count_by test) (take-IsPrefix list more before),
+          ))
+    ]
+
+-- an own record of a list that begins with another stands in that one, if it is within
+pub IsOwnAt-IsPrefix : (p : ℕ) (list more : List Publication) (m : ℕ) → IsPrefix list more → m < length list → IsOwnAt p more m → IsOwnAt p list m
+IsOwnAt-IsPrefix p list more m before within at =
+    let same : publication_at more m ≡ publication_at list m = publication_at-IsPrefix m list more before within in
+    record {
+      within = within;
+      process_is = subst (λ (x : Publication). x.process ≡ p) same at.process_is;
+      own = subst (λ (x : Publication). is_own x.entry ≡ true) same at.own;
+    }
+
+module _ (b : BookTerms) (p : ℕ) (list more : List Publication) (before : IsPrefix list more) where
+  -- of an own record that stood before, what was settled at its view is
+  is_settled-view : (a slot number m : ℕ) → m < length list
+      → is_settled a slot number (prefix_of (publication_at list m).view list) ≡ true
+      → is_settled a slot number (prefix_of (publication_at more m).view more) ≡ true
+  is_settled-view a slot number m within settled =
+      let same : publication_at more m ≡ publication_at list m = publication_at-IsPrefix m list more before within in
+      ap (λ (x : Publication). is_settled a slot number (prefix_of x.view more)) same
+      ∙ is_settled-IsPrefix a slot number (prefix_of (publication_at list m).view list) (prefix_of (publication_at list m).view more)
+      (IsPrefix-take_both (place (publication_at list m).view) list more before) settled
+
+  -- what was settled at a request's `since` is
+  is_settled-since : (a slot number since : ℕ) → is_settled a slot number (take since list) ≡ true
+      → is_settled a slot number (take since more) ≡ true
+  is_settled-since a slot number since settled =
+      is_settled-IsPrefix a slot number (take since list) (take since more) (IsPrefix-take_both since list more before) settled
+
+  requests-IsPrefix : (rows : ℕ → ℕ → List Request) → AreInOrder b p list rows → (a slot number c place other : ℕ)
+      → HasAskedFor b p rows a slot number → HasAskedFor b p rows c place other → AreTwo a number c other
+      → (is_settled a slot number (take (request_at (rows c place) other).since more) ≡ true)
+      ⊎ (is_settled c place other (take (request_at (rows a slot) number).since more) ≡ true)
+  requests-IsPrefix rows order a slot number c place other one two apart =
+      let first = (request_at (rows a slot) number).since in
+      let second = (request_at (rows c place) other).since in
+      elim (order.requests a slot number c place other one two apart) as
+      (λ _. (is_settled a slot number (take second more) ≡ true) ⊎ (is_settled c place other (take first more) ≡ true)) [
+        | inl early ↦ inl (is_settled-since a slot number second early)
+        | inr late ↦ inr (is_settled-since c place other first late)
+      ]
+
+  -- in order in a longer list, where each own record there stood before or has a view that begins with all that stood, and then
+  -- each request was settled
+  pub AreInOrder-own : (rows : ℕ → ℕ → List Request)
+      → ((m : ℕ) → IsOwnAt p more m → (m < length list) ⊎ (IsPrefix list (prefix_of (publication_at more m).view more)
+      × ((a slot number : ℕ) → HasAskedFor b p rows a slot number → is_settled a slot number list ≡ true)))
+      → AreInOrder b p list rows → AreInOrder b p more rows
+  AreInOrder-own rows each order = record {
+    owns = λ m a slot number own asked.
+        let since = (request_at (rows a slot) number).since in
+        let view = (publication_at more m).view in
+        elim (each m own) as (λ _. (m < since) ⊎ (is_settled a slot number (prefix_of view more) ≡ true)) [
+          | inl within ↦
+              elim (order.owns m a slot number (IsOwnAt-IsPrefix p list more m before within own) asked) as
+              (λ _. (m < since) ⊎ (is_settled a slot number (prefix_of view more) ≡ true)) [
+                | inl early ↦ inl early
+                | inr settled ↦ inr (is_settled-view a slot number m within settled)
+              ]
+          | inr new ↦ inr (is_settled-IsPrefix a slot number list (prefix_of view more) new.0 (new.1 a slot number asked))
+        ];
+    requests = requests-IsPrefix rows order;
+  }
+
+-- in order in a longer list that has no more own records
+pub AreInOrder-IsPrefix : (b : BookTerms) (p : ℕ) (list more : List Publication) (rows : ℕ → ℕ → List Request) → IsPrefix list more
+    → owns_of p more ≡ owns_of p list → AreInOrder b p list rows → AreInOrder b p more rows
+AreInOrder-IsPrefix b p list more rows before same order =
+    AreInOrder-own b p list more before rows (λ m own. inl (own-within p list more m before same own)) order
+
+-- or no more records at all of the process
+pub AreInOrder-count_of : (b : BookTerms) (p : ℕ) (list more : List Publication) (rows : ℕ → ℕ → List Request) → IsPrefix list more
+    → count_of p more ≡ count_of p list → AreInOrder b p list rows → AreInOrder b p more rows
+AreInOrder-count_of b p list more rows before same order =
+    AreInOrder-IsPrefix b p list more rows before (owns_of-IsPrefix p list more before (sym same)) order
+
+-- in order after an own record that was published with a view that begins with all that stood before, where each request is settled
+pub AreInOrder-paid : (b : BookTerms) (p : ℕ) (list lead more : List Publication) (x : Publication) (rows : ℕ → ℕ → List Request)
+    → IsPrefix list lead → more ≡ lead ++ x ∷ [] → x.process ≡ p → count_of p more ≡ count_of p list + 1
+    → IsPrefix list (prefix_of x.view more)
+    → ((a slot number : ℕ) → HasAskedFor b p rows a slot number → is_settled a slot number list ≡ true)
+    → AreInOrder b p list rows → AreInOrder b p more rows
+AreInOrder-paid b p list lead more x rows before is process counted begins settled order =
+    let leads : IsPrefix lead more = (x ∷ [], is) in
+    let pushed : count_of p (lead ++ x ∷ []) ≡ count_of p lead + 1 =
+    subst (λ t. count_of t (lead ++ x ∷ []) ≡ count_of t lead + 1) process (count_of-push_own lead x) in
+    let same : owns_of p lead ≡ owns_of p list =
+    owns_of-IsPrefix p list lead before (omega (arith, counted, pushed, ap (count_of p) is)) in
+    AreInOrder-own b p list more (IsPrefix-trans list lead more before leads) rows
+    (λ m own.
+    elim (cases_lt m (length lead)) as (λ _. (m < length list) ⊎ (IsPrefix list (prefix_of (publication_at more m).view more)
+    × ((a slot number : ℕ) → HasAskedFor b p rows a slot number → is_settled a slot number list ≡ true))) [
+      | inl within ↦ inl (own-within p list lead m before same (IsOwnAt-IsPrefix p lead more m leads within own))
+      | inr past ↦
+          let last : length lead ≡ m = omega (arith, past, own.within, ap length is, length-append lead (x ∷ [])) in
+          let here : publication_at more m ≡ x = ap (λ t. publication_at t m) is ∙ get_or_at lead x [] no_publication m last in
+          inr (subst (λ (y : Publication). IsPrefix list (prefix_of y.view more)) (sym here) begins, settled)
+    ])
+    order
+
+-- the same rows, given otherwise
+pub AreInOrder-rows : (b : BookTerms) (p : ℕ) (list : List Publication) (rows now : ℕ → ℕ → List Request)
+    → ((a slot : ℕ) → now a slot ≡ rows a slot) → AreInOrder b p list rows → AreInOrder b p list now
+AreInOrder-rows b p list rows now same order = subst (AreInOrder b p list) (λ t a slot. sym (same a slot) t) order
