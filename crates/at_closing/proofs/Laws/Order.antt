@@ -1,5 +1,5 @@
 -- The own records and the requests of a process stay in order: in a longer list, with one more own record, and with one more request.
-use Rattle.std.proofs.Common.{◌≡◌, ◌≢◌, ℕ, ◌+◌, ◌<◌, ◌≤◌, ◌⊎◌, ◌==◌, ◌&&◌, Bool, true, Some, List, [], ◌∷◌, ◌++◌, length, take, refl, sym, ap, subst, ◌∙◌, arith, inl, inr}
+use Rattle.std.proofs.Common.{◌≡◌, ◌≢◌, ℕ, ◌+◌, ◌<◌, ◌≤◌, ◌⊎◌, ◌==◌, ◌&&◌, Bool, true, Some, List, [], ◌∷◌, ◌++◌, length, take, sym, ap, subst, ◌∙◌, arith, inl, inr}
 use Rattle.std.proofs.lemmas.Bool.{and_from, cases_eq, cases_lt, eq-eqb, or_left}
 use Rattle.std.proofs.lemmas.List.{append-nil, get_or_append_left, get_or_at, length-append, length-take, take-take, take_all}
 use Rattle.std.proofs.lemmas.List.Folds.{list_any-append}
@@ -7,8 +7,8 @@ use Rattle.std.proofs.lemmas.List.Sums.{count_by_more_yes, sum_by-take-le}
 use Rattle.std.specs.List.{count_by, list_any}
 use Rattle.at_ledger.specs.Account.{slot_in}
 use Rattle.at_ledger.specs.Book.{BookTerms, HasSlot, account_of}
-use Rattle.at_history.proofs.Laws.Counts.{count_of-push_own, position-below}
-use Rattle.at_history.proofs.Laws.Prefixes.{IsPrefix-append, IsPrefix-length, IsPrefix-take, IsPrefix-take_mono, IsPrefix-trans, take-IsPrefix, take-IsPrefix-le}
+use Rattle.at_history.proofs.Laws.Counts.{count_of-push_own}
+use Rattle.at_history.proofs.Laws.Prefixes.{IsPrefix-length, IsPrefix-take_mono, IsPrefix-trans, take-IsPrefix, take-IsPrefix-le}
 use Rattle.at_history.proofs.Laws.Rounds.{one_if, owns_of-IsPrefix}
 use Rattle.at_history.specs.BoardState.{publication_at, request_at}
 use Rattle.at_history.specs.Entries.{is_own, settles}
@@ -172,3 +172,105 @@ AreInOrder-paid b p list lead more x rows before is process counted begins settl
 pub AreInOrder-rows : (b : BookTerms) (p : ℕ) (list : List Publication) (rows now : ℕ → ℕ → List Request)
     → ((a slot : ℕ) → now a slot ≡ rows a slot) → AreInOrder b p list rows → AreInOrder b p list now
 AreInOrder-rows b p list rows now same order = subst (AreInOrder b p list) (λ t a slot. sym (same a slot) t) order
+
+-- one more request
+
+-- the process had asked for this before, with the same request
+record IsOldRequest (b : BookTerms) (p : ℕ) (rows now : ℕ → ℕ → List Request) (c slot number : ℕ) : Type 0 where
+  asked : HasAskedFor b p rows c slot number
+  same : request_at (now c slot) number ≡ request_at (rows c slot) number
+
+-- it is the new request, behind its row
+record IsNewRequest (rows now : ℕ → ℕ → List Request) (a : ℕ) (r : Request) (c slot number : ℕ) : Type 0 where
+  account : c ≡ a
+  last : number ≡ length (rows c slot)
+  is : request_at (now c slot) number ≡ r
+
+old_or_new : (b : BookTerms) (p a : ℕ) (rows now : ℕ → ℕ → List Request) (r : Request) (c slot number : ℕ)
+    → ((s : ℕ) → now a s ≡ rows a s ++ r ∷ []) → ((k s : ℕ) → k ≢ a → now k s ≡ rows k s) → HasAskedFor b p now c slot number
+    → IsOldRequest b p rows now c slot number ⊎ IsNewRequest rows now a r c slot number
+old_or_new b p a rows now r c slot number one elsewhere asked =
+    elim (cases_eq c a) as (λ _. IsOldRequest b p rows now c slot number ⊎ IsNewRequest rows now a r c slot number) [
+      | inl same ↦
+          let row : now c slot ≡ rows c slot ++ r ∷ [] =
+          subst (λ k. now k slot ≡ rows k slot ++ r ∷ []) (sym same) (one slot) in
+          elim (cases_lt number (length (rows c slot))) as (λ _. IsOldRequest b p rows now c slot number ⊎ IsNewRequest rows now a r c slot number) [
+            | inl below ↦
+                inl (record {
+                  asked = record { slot_in = asked.slot_in; within = below };
+                  same = ap (λ row. request_at row number) row ∙ get_or_append_left (rows c slot) (r ∷ []) _ number below;
+                })
+            | inr above ↦
+                let last : number ≡ length (rows c slot) =
+                omega (arith, above, asked.within, ap length row, length-append (rows c slot) (r ∷ [])) in
+                inr (record {
+                  account = same;
+                  last = last;
+                  is = ap (λ row. request_at row number) row ∙ get_or_at (rows c slot) r [] _ number (sym last);
+                })
+          ]
+      | inr apart ↦
+          let row : now c slot ≡ rows c slot = elsewhere c slot apart in
+          inl (record {
+            asked = record { slot_in = asked.slot_in; within = omega (arith, asked.within, ap length row) };
+            same = ap (λ row. request_at row number) row;
+          })
+    ]
+
+-- the new request is one
+not_two_new : (b : BookTerms) (p a : ℕ) (rows now : ℕ → ℕ → List Request) (r : Request) (c slot number d place other : ℕ) → HasSlot b p c slot
+    → HasSlot b p d place → IsNewRequest rows now a r c slot number → IsNewRequest rows now a r d place other → AreTwo c number d other → ⊥
+not_two_new b p a rows now r c slot number d place other mine theirs one two apart =
+    let account : c ≡ d = one.account ∙ sym two.account in
+    let slots : Some slot ≡ Some place = sym mine.owner ∙ (ap (λ k. slot_in (account_of b k) p) account ∙ theirs.owner) in
+    let same : slot ≡ place = cc slots in
+    apart (account, one.last ∙ ((λ t. length (rows (account t) (same t))) ∙ sym two.last))
+
+-- in order after one more request, whose `since` counts all that stood before, where each earlier request is settled
+pub AreInOrder-asked : (b : BookTerms) (p a : ℕ) (list more : List Publication) (rows now : ℕ → ℕ → List Request) (r : Request) → IsPrefix list more
+    → owns_of p more ≡ owns_of p list → ((slot : ℕ) → now a slot ≡ rows a slot ++ r ∷ [])
+    → ((c slot : ℕ) → c ≢ a → now c slot ≡ rows c slot) → length list ≤ r.since
+    → ((c slot number : ℕ) → HasAskedFor b p rows c slot number → is_settled c slot number list ≡ true)
+    → AreInOrder b p list rows → AreInOrder b p more now
+AreInOrder-asked b p a list more rows now r before same one elsewhere late settled order =
+    let later : AreInOrder b p more rows = AreInOrder-IsPrefix b p list more rows before same order in
+    let cases : (c slot number : ℕ) → HasAskedFor b p now c slot number → IsOldRequest b p rows now c slot number ⊎ IsNewRequest rows now a r c slot number =
+    λ c slot number asked. old_or_new b p a rows now r c slot number one elsewhere asked in
+    let at_new : (c slot number d place other : ℕ) → IsOldRequest b p rows now c slot number → IsNewRequest rows now a r d place other
+    → is_settled c slot number (take (request_at (now d place) other).since more) ≡ true =
+    λ c slot number d place other old new.
+    let enough : length list ≤ (request_at (now d place) other).since = omega (arith, late, ap (λ (t : Request). t.since) new.is) in
+    is_settled-IsPrefix c slot number list (take (request_at (now d place) other).since more)
+    (IsPrefix-take_from_le (request_at (now d place) other).since list more before enough) (settled c slot number old.asked) in
+    record {
+      owns = λ m c slot number own asked.
+          let since = (request_at (now c slot) number).since in
+          let view = (publication_at more m).view in
+          elim (cases c slot number asked) as (λ _. (m < since) ⊎ (is_settled c slot number (prefix_of view more) ≡ true)) [
+            | inl old ↦
+                subst (λ (t : Request). (m < t.since) ⊎ (is_settled c slot number (prefix_of view more) ≡ true)) (sym old.same)
+                (later.owns m c slot number own old.asked)
+            | inr new ↦
+                inl (omega (arith, own-within p list more m before same own, late, ap (λ (t : Request). t.since) new.is))
+          ];
+      requests = λ c slot number d place other first second apart.
+          let one_since = (request_at (now c slot) number).since in
+          let other_since = (request_at (now d place) other).since in
+          elim (cases c slot number first) as
+          (λ _. (is_settled c slot number (take other_since more) ≡ true) ⊎ (is_settled d place other (take one_since more) ≡ true)) [
+            | inl old ↦ elim (cases d place other second) as
+                (λ _. (is_settled c slot number (take other_since more) ≡ true) ⊎ (is_settled d place other (take one_since more) ≡ true)) [
+                  | inl too ↦
+                      subst (λ (t : Request). (is_settled c slot number (take t.since more) ≡ true) ⊎ (is_settled d place other (take one_since more) ≡ true))
+                      (sym too.same)
+                      (subst (λ (t : Request). (is_settled c slot number (take (request_at (rows d place) other).since more) ≡ true) ⊎ (is_settled d place other (take t.since more) ≡ true))
+                      (sym old.same) (later.requests c slot number d place other old.asked too.asked apart))
+                  | inr new ↦ inl (at_new c slot number d place other old new)
+                ]
+            | inr new ↦ elim (cases d place other second) as
+                (λ _. (is_settled c slot number (take other_since more) ≡ true) ⊎ (is_settled d place other (take one_since more) ≡ true)) [
+                  | inl old ↦ inr (at_new d place other c slot number old new)
+                  | inr too ↦ absurd (not_two_new b p a rows now r c slot number d place other first.slot_in second.slot_in new too apart)
+                ]
+          ];
+    }
