@@ -5,6 +5,9 @@ pub mod Keys
 -- receipts that account for all that a process has: none (Told-nil), in a longer list (Told-IsPrefix), with one more receipt in the
 -- same list (Told-push) or in a longer one (Told-call)
 pub mod Told
+-- counts: an own record is one more (owns_of-paid) and names no slot (named-push_own); as many rounds name a slot as it has settled
+-- requests (named-all_settled); what one more receipt adds (owns_in-push, asks_in-push_source, asks_in-push_elsewhere)
+pub mod Counts
 -- what the end of a board adds: each request that the last state shows is settled (named-settled, Told-ended)
 pub mod Ended
 -- a process's own records and its requests are in order: in a longer list without own records of it (AreInOrder-IsPrefix,

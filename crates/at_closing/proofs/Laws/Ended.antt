@@ -1,19 +1,16 @@
 -- The end of a board: receipts that stand with a seat account for its process in all that was ever published.
-use Rattle.std.proofs.Common.{◌≡◌, ℕ, ◌<◌, ◌≤◌, true, List, length, take, sym, ap, ◌∙◌, arith, inl, inr}
+use Rattle.std.proofs.Common.{◌≡◌, ℕ, ◌<◌, ◌≤◌, true, List, length, take, sym, ap, arith, inl, inr}
 use Rattle.std.proofs.lemmas.Bool.{cases_lt}
 use Rattle.std.proofs.lemmas.List.{take_all}
-use Rattle.std.specs.List.{sum_by}
 use Rattle.at_ledger.specs.Book.{BookTerms, HasSlot}
 use Rattle.at_history.proofs.Laws.DecisionNumbers.{named-is_settled}
 use Rattle.at_history.proofs.Laws.Histories.{is_settled-named}
-use Rattle.at_history.proofs.Laws.Prefixes.{IsPrefix-length, IsPrefix-refl, take-IsPrefix}
-use Rattle.at_history.proofs.Laws.Rounds.{one_if, owns_of-IsPrefix, sum_by-firsts-take_mono}
-use Rattle.at_history.proofs.Laws.Settled.{is_settled-below_named}
+use Rattle.at_history.proofs.Laws.Prefixes.{IsPrefix-refl}
+use Rattle.at_history.proofs.Laws.Rounds.{owns_of-IsPrefix}
 use Rattle.at_history.specs.BoardState.{BoardState}
-use Rattle.at_history.specs.Entries.{names}
 use Rattle.at_history.specs.Histories.{IsHistory}
 use Rattle.at_history.specs.Publications.{IsPrefix, count_of}
-use Rattle.at_history.specs.Rounds.{firsts, is_settled, named}
+use Rattle.at_history.specs.Rounds.{is_settled, named}
 use Rattle.at_history.specs.Sound.{Sound}
 use Rattle.at_history.specs.declared.publication.Publication.{Publication}
 use Rattle.at_history.specs.declared.request.Request.{Request}
@@ -21,19 +18,9 @@ use Rattle.at_board.specs.Knowledge.Parts.{asking_on, own_part}
 use Rattle.at_board.specs.declared.knowledge.Knowledge.{Knowledge}
 use Rattle.at_log.specs.Told.{Told}
 use Rattle.at_log.specs.declared.receipt.Receipt.{Receipt}
+use Rattle.at_closing.proofs.Laws.Counts.{named-IsPrefix, named-at_least}
 use Rattle.at_closing.proofs.Laws.Told.{Told-IsPrefix}
 use Rattle.at_closing.specs.BetweenCalls.{StandsWith}
-
--- no fewer rounds name a slot in a longer list
-pub named-IsPrefix : (a slot : ℕ) (list more : List Publication) → IsPrefix list more → named a slot list ≤ named a slot more
-named-IsPrefix a slot list more before =
-    let f : Publication → ℕ = λ (y : Publication). one_if (names a slot y.entry) in
-    omega (
-      arith,
-      sum_by-firsts-take_mono f more (length list) (length more) (IsPrefix-length list more before),
-      ap (λ t. sum_by f (firsts t)) (take-IsPrefix list more before),
-      ap (λ t. sum_by f (firsts t)) (take_all (length more) more (omega arith)),
-    )
 
 -- the rounds of a state name a slot at most once for each of its announced requests
 pub named-announced : (b : BookTerms) (s : BoardState) (a slot : ℕ) → Sound b s → IsHistory b s.published
@@ -57,23 +44,9 @@ pub named-settled : (b : BookTerms) (s : BoardState) (list more : List Publicati
     → IsHistory b list → IsPrefix list more → IsPrefix more s.published
     → ((number : ℕ) → number < length (s.rows a slot) → is_settled a slot number list ≡ true) → named a slot more ≡ named a slot list
 named-settled b s list more a slot sound history listed before within settled =
-    let n = length (s.rows a slot) in
-    let all : take (length list) list ≡ list = take_all (length list) list (omega arith) in
-    let enough : n ≤ named a slot list =
-    elim (cases_lt (named a slot list) n) as (λ _. n ≤ named a slot list) [
-      | inl fewer ↦
-          let k = named a slot list in
-          let here : is_settled a slot k (take (length list) list) ≡ true = ap (is_settled a slot k) all ∙ settled k fewer in
-          absurd (omega (
-            arith,
-            is_settled-below_named b list (length list) a slot k listed (omega arith) here,
-            ap (named a slot) all,
-          ))
-      | inr fits ↦ fits
-    ] in
     omega (
       arith,
-      enough,
+      named-at_least b list a slot (length (s.rows a slot)) listed settled,
       named-IsPrefix a slot list more before,
       named-IsPrefix a slot more s.published within,
       named-announced b s a slot sound history,
