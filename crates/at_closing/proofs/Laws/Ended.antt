@@ -19,8 +19,10 @@ use Rattle.at_board.specs.declared.knowledge.Knowledge.{Knowledge}
 use Rattle.at_log.specs.Told.{Told}
 use Rattle.at_log.specs.declared.receipt.Receipt.{Receipt}
 use Rattle.at_closing.proofs.Laws.Counts.{named-IsPrefix, named-at_least}
+use Rattle.at_closing.proofs.Laws.Order.{AreInOrder-count_of, AreInOrder-rows}
 use Rattle.at_closing.proofs.Laws.Told.{Told-IsPrefix}
-use Rattle.at_closing.specs.BetweenCalls.{StandsWith}
+use Rattle.at_closing.specs.BetweenCalls.{IsBetweenCalls, StandsWith, own_rows}
+use Rattle.at_closing.specs.InOrder.{AreInOrder}
 
 -- the rounds of a state name a slot at most once for each of its announced requests
 pub named-announced : (b : BookTerms) (s : BoardState) (a slot : ℕ) → Sound b s → IsHistory b s.published
@@ -65,3 +67,12 @@ Told-ended b s v receipts sound history seen before counted rows stands =
     (λ number within.
     stands.between.settled a slot number has (omega (arith, within, ap (λ (row : List Request). length row) (rows a slot has)))))
     stands.told
+
+-- and its own records and requests are in order there
+pub AreInOrder-ended : (b : BookTerms) (s : BoardState) (v : Knowledge) → IsPrefix v.seen s.published
+    → count_of v.first s.published ≡ count_of v.first v.seen
+    → ((a slot : ℕ) → HasSlot b v.first a slot → s.rows a slot ≡ (asking_on (own_part v) a).announced) → IsBetweenCalls b v
+    → AreInOrder b v.first s.published s.rows
+AreInOrder-ended b s v before counted rows between =
+    AreInOrder-rows b v.first s.published (own_rows v) s.rows rows
+    (AreInOrder-count_of b v.first v.seen s.published (own_rows v) before counted between.order)

@@ -168,10 +168,28 @@ AreInOrder-paid b p list lead more x rows before is process counted begins settl
     ])
     order
 
--- the same rows, given otherwise
+-- the same rows, given otherwise: it is enough that they are the same where the process has its slots
 pub AreInOrder-rows : (b : BookTerms) (p : ℕ) (list : List Publication) (rows now : ℕ → ℕ → List Request)
-    → ((a slot : ℕ) → now a slot ≡ rows a slot) → AreInOrder b p list rows → AreInOrder b p list now
-AreInOrder-rows b p list rows now same order = subst (AreInOrder b p list) (λ t a slot. sym (same a slot) t) order
+    → ((a slot : ℕ) → HasSlot b p a slot → now a slot ≡ rows a slot) → AreInOrder b p list rows → AreInOrder b p list now
+AreInOrder-rows b p list rows now same order =
+    let before : (a slot number : ℕ) → HasAskedFor b p now a slot number → HasAskedFor b p rows a slot number = λ a slot number asked.
+    record {
+      slot_in = asked.slot_in;
+      within = omega (arith, asked.within, ap (λ (row : List Request). length row) (same a slot asked.slot_in));
+    } in
+    let back : (a slot number : ℕ) → HasSlot b p a slot → (request_at (rows a slot) number).since ≡ (request_at (now a slot) number).since =
+    λ a slot number has. ap (λ row. (request_at row number).since) (sym (same a slot has)) in
+    record {
+      owns = λ m a slot number own asked.
+          subst (λ since. (m < since) ⊎ (is_settled a slot number (prefix_of (publication_at list m).view list) ≡ true))
+          (back a slot number asked.slot_in) (order.owns m a slot number own (before a slot number asked));
+      requests = λ a slot number c place other one two apart.
+          subst (λ since. (is_settled a slot number (take since list) ≡ true)
+          ⊎ (is_settled c place other (take (request_at (now a slot) number).since list) ≡ true)) (back c place other two.slot_in)
+          (subst (λ since. (is_settled a slot number (take (request_at (rows c place) other).since list) ≡ true)
+          ⊎ (is_settled c place other (take since list) ≡ true)) (back a slot number one.slot_in)
+          (order.requests a slot number c place other (before a slot number one) (before c place other two) apart));
+    }
 
 -- one more request
 
