@@ -1,9 +1,12 @@
 -- Receipts that account for all that a process has, after one more call: by where its receipt stands.
 use Rattle.std.proofs.Common.{◌≡◌, ◌≢◌, ℕ, ◌+◌, ◌*◌, ◌≤◌, ◌⊎◌, true, false, Some, List, [], ◌∷◌, ◌++◌, length, sym, ap, subst, arith, inl, inr}
 use Rattle.std.proofs.lemmas.Bool.{cases_eq}
+use Rattle.std.proofs.lemmas.List.{length-take}
 use Rattle.at_ledger.specs.Book.{BookTerms, HasSlot}
 use Rattle.at_ledger.specs.Call.{TargetPair}
+use Rattle.at_history.proofs.Laws.Prefixes.{IsPrefix-length}
 use Rattle.at_history.proofs.Laws.Rounds.{one_if}
+use Rattle.at_history.specs.Fronts.{place, prefix_of}
 use Rattle.at_history.specs.Histories.{IsHistory}
 use Rattle.at_history.specs.Publications.{IsPrefix}
 use Rattle.at_history.specs.Rounds.{named, owns_of}
@@ -19,6 +22,17 @@ use Rattle.at_closing.proofs.Laws.Told.{Told-call}
 -- the receipt of a call stands in the list after it behind all that stood before it, or with the receipt before it
 abbrev pub StandsBehind : ℕ → List Publication → List Publication → Receipt → Type 0
 StandsBehind p list more r = (r.at ≡ Previous) ⊎ ((previous : ℕ) → 2 * length list ≤ key_of p more previous r)
+
+-- a front that begins with a list counts at least as many
+pub length-prefix_of-le : (view : List ℕ) (list more : List Publication) → IsPrefix list (prefix_of view more) → length list ≤ place view
+length-prefix_of-le view list more begins =
+    omega (arith, IsPrefix-length list (prefix_of view more) begins, length-take (place view) more)
+
+-- so a receipt that stands at or after such a front stands so
+pub StandsBehind-front : (p : ℕ) (list more : List Publication) (r : Receipt) (front : List ℕ) → IsPrefix list (prefix_of front more)
+    → ((previous : ℕ) → 2 * place front ≤ key_of p more previous r) → StandsBehind p list more r
+StandsBehind-front p list more r front begins after =
+    inr (λ previous. omega (arith, length-prefix_of-le front list more begins, after previous))
 
 module _ (b : BookTerms) (p : ℕ) (list more : List Publication) (receipts : List Receipt) (r : Receipt) (history : IsHistory b list)
     (before : IsPrefix list more) (told : Told b p list receipts) (placed : IsPlaced b p more receipts r)

@@ -1,14 +1,14 @@
 -- The own records and the requests of a process stay in order: in a longer list, with one more own record, and with one more request.
 use Rattle.std.proofs.Common.{◌≡◌, ◌≢◌, ℕ, ◌+◌, ◌<◌, ◌≤◌, ◌⊎◌, ◌==◌, ◌&&◌, Bool, true, Some, List, [], ◌∷◌, ◌++◌, length, take, sym, ap, subst, ◌∙◌, arith, inl, inr}
 use Rattle.std.proofs.lemmas.Bool.{and_from, cases_eq, cases_lt, eq-eqb, or_left}
-use Rattle.std.proofs.lemmas.List.{append-nil, get_or_append_left, get_or_at, length-append, length-take, take-take, take_all}
+use Rattle.std.proofs.lemmas.List.{append-nil, get_or_append_left, get_or_at, length-append, take-take, take_all}
 use Rattle.std.proofs.lemmas.List.Folds.{list_any-append}
 use Rattle.std.proofs.lemmas.List.Sums.{count_by_more_yes, sum_by-take-le}
 use Rattle.std.specs.List.{count_by, list_any}
 use Rattle.at_ledger.specs.Account.{slot_in}
 use Rattle.at_ledger.specs.Book.{BookTerms, HasSlot, account_of}
 use Rattle.at_history.proofs.Laws.Counts.{count_of-push_own}
-use Rattle.at_history.proofs.Laws.Prefixes.{IsPrefix-length, IsPrefix-take_mono, IsPrefix-trans, take-IsPrefix, take-IsPrefix-le}
+use Rattle.at_history.proofs.Laws.Prefixes.{IsPrefix-take_mono, IsPrefix-trans, take-IsPrefix, take-IsPrefix-le}
 use Rattle.at_history.proofs.Laws.Rounds.{one_if, owns_of-IsPrefix}
 use Rattle.at_history.specs.BoardState.{publication_at, request_at}
 use Rattle.at_history.specs.Entries.{is_own, settles}
@@ -41,11 +41,6 @@ IsPrefix-take_both n list more before =
       | inr above ↦
           subst (λ t. IsPrefix t (take n more)) (sym (take_all n list above)) (IsPrefix-take_from_le n list more before above)
     ]
-
--- a front that begins with a list counts at least as many
-pub length-prefix_of-le : (view : List ℕ) (list more : List Publication) → IsPrefix list (prefix_of view more) → length list ≤ place view
-length-prefix_of-le view list more begins =
-    omega (arith, IsPrefix-length list (prefix_of view more) begins, length-take (place view) more)
 
 -- an own record of the process in a list that has no more of them than its beginning stands there
 pub own-within : (p : ℕ) (list more : List Publication) (m : ℕ) → IsPrefix list more → owns_of p more ≡ owns_of p list → IsOwnAt p more m
