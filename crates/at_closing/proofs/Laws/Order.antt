@@ -267,23 +267,21 @@ AreInOrder-asked b p a list more rows now r before same one elsewhere late settl
                 inl (omega (arith, own-within p list more m before same own, late, ap (λ (t : Request). t.since) new.is))
           ];
       requests = λ c slot number d place other first second apart.
+          let settled_at : ℕ → ℕ → Type 0 = λ i j.
+          (is_settled c slot number (take j more) ≡ true) ⊎ (is_settled d place other (take i more) ≡ true) in
           let one_since = (request_at (now c slot) number).since in
           let other_since = (request_at (now d place) other).since in
-          elim (cases c slot number first) as
-          (λ _. (is_settled c slot number (take other_since more) ≡ true) ⊎ (is_settled d place other (take one_since more) ≡ true)) [
-            | inl old ↦ elim (cases d place other second) as
-                (λ _. (is_settled c slot number (take other_since more) ≡ true) ⊎ (is_settled d place other (take one_since more) ≡ true)) [
-                  | inl too ↦
-                      subst (λ (t : Request). (is_settled c slot number (take t.since more) ≡ true) ⊎ (is_settled d place other (take one_since more) ≡ true))
-                      (sym too.same)
-                      (subst (λ (t : Request). (is_settled c slot number (take (request_at (rows d place) other).since more) ≡ true) ⊎ (is_settled d place other (take t.since more) ≡ true))
-                      (sym old.same) (later.requests c slot number d place other old.asked too.asked apart))
-                  | inr new ↦ inl (at_new c slot number d place other old new)
-                ]
-            | inr new ↦ elim (cases d place other second) as
-                (λ _. (is_settled c slot number (take other_since more) ≡ true) ⊎ (is_settled d place other (take one_since more) ≡ true)) [
-                  | inl old ↦ inr (at_new d place other c slot number old new)
-                  | inr too ↦ absurd (not_two_new b p a rows now r c slot number d place other first.slot_in second.slot_in new too apart)
-                ]
+          elim (cases c slot number first) as (λ _. settled_at one_since other_since) [
+            | inl old ↦ elim (cases d place other second) as (λ _. settled_at one_since other_since) [
+              | inl too ↦
+                  subst (λ (t : Request). settled_at one_since t.since) (sym too.same)
+                  (subst (λ (t : Request). settled_at t.since (request_at (rows d place) other).since) (sym old.same)
+                  (later.requests c slot number d place other old.asked too.asked apart))
+              | inr new ↦ inl (at_new c slot number d place other old new)
+            ]
+            | inr new ↦ elim (cases d place other second) as (λ _. settled_at one_since other_since) [
+              | inl old ↦ inr (at_new d place other c slot number old new)
+              | inr too ↦ absurd (not_two_new b p a rows now r c slot number d place other first.slot_in second.slot_in new too apart)
+            ]
           ];
     }
