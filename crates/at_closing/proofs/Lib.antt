@@ -1,1 +1,2 @@
 pub mod FilledLogs
+pub mod Laws
