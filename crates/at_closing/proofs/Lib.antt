@@ -1,1 +1,2 @@
 pub mod SameRecords
+pub mod LeftFronts
