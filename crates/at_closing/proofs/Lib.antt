@@ -4,3 +4,7 @@ pub mod OrderOfLeft
 pub mod LeftRounds
 pub mod LeftEntries
 pub mod Marks
+pub mod MarkOrder
+pub mod LeftKeys
+pub mod LeftTold
+pub mod Coherence

@@ -1,6 +1,6 @@
 -- Where the receipts of a process stand in the list that a ledger leaves and in the journal's order: what stands in one order in the
 -- first stands so in the second.
-use Rattle.std.proofs.Common.{◌≡◌, ℕ, ◌+◌, ◌*◌, ◌<◌, ◌≤◌, Bool, true, false, List, length, get_or, take, refl, sym, ap, subst, ◌∙◌, arith, inl, inr}
+use Rattle.std.proofs.Common.{◌≡◌, ℕ, ◌+◌, ◌*◌, ◌<◌, ◌≤◌, ◌==◌, Bool, true, false, List, length, get_or, take, refl, sym, ap, subst, ◌∙◌, arith, inl, inr}
 use Rattle.std.specs.Prelude.{Some}
 use Rattle.std.proofs.lemmas.Bool.{and_from, cases_eq, cases_lt, eq-eqb}
 use Rattle.std.proofs.lemmas.List.{get_or-take, get_or_default, length-take}
@@ -19,7 +19,7 @@ use Rattle.at_history.specs.BoardState.{BoardState, decision_at, publication_at,
 use Rattle.at_history.specs.Entries.{is_own, is_round}
 use Rattle.at_history.specs.Fronts.{IsFront, place, prefix_of}
 use Rattle.at_history.specs.Publications.{count_of, no_publication, publications_of}
-use Rattle.at_history.specs.Rounds.{is_settled}
+use Rattle.at_history.specs.Rounds.{is_settled, rounds}
 use Rattle.at_history.specs.Sound.{IsDecidedSo, IsSoundDecision}
 use Rattle.at_history.specs.declared.publication.Entry.{Entry}
 use Rattle.at_history.specs.declared.publication.Entry.TheVariants.{Own, Round}
@@ -105,17 +105,17 @@ module _ (b : BookTerms) (s : BoardState) (c : ClosingTerms) (left : IsLeft b s 
   key_in list (own number so) = 2 * own_position p number list + 1
   key_in list (round a r d so) = 2 * round_position a r list + 1
 
-  in_order : (number : ℕ) → number < count_of p s.published → number < count_of p (journal_order c)
+  pub in_order : (number : ℕ) → number < count_of p s.published → number < count_of p (journal_order c)
   in_order number within = omega (arith, within, ap length (publications_of-left b s c left p known))
 
   -- an own record stands in the prefix of a held front in both lists or in none
-  own-order : (view : List ℕ) (number : ℕ) → IsHeldFront b s c left view → number < count_of p s.published
+  pub own-order : (view : List ℕ) (number : ℕ) → IsHeldFront b s c left view → number < count_of p s.published
       → own_position p number s.published < place view → own_position p number (journal_order c) < place view
   own-order view number front within below =
       own_position-counted b.processes p number view (journal_order c) front.other known (in_order number within)
       (counted-own_position b.processes p number view s.published front.one known within below)
 
-  own-state : (view : List ℕ) (number : ℕ) → IsHeldFront b s c left view → number < count_of p s.published
+  pub own-state : (view : List ℕ) (number : ℕ) → IsHeldFront b s c left view → number < count_of p s.published
       → own_position p number (journal_order c) < place view → own_position p number s.published < place view
   own-state view number front within below =
       own_position-counted b.processes p number view s.published front.one known within
@@ -130,43 +130,43 @@ module _ (b : BookTerms) (s : BoardState) (c : ClosingTerms) (left : IsLeft b s 
         list_any-front b.processes s.published (journal_order c) (AreTwins-left b s c left) (λ (x : Publication). is_round a r x.entry) view front
 
     -- so does the first record of a round
-    round-order : (view : List ℕ) → IsHeldFront b s c left view → round_position a r s.published < place view → round_position a r (journal_order c) < place view
+    pub round-order : (view : List ℕ) → IsHeldFront b s c left view → round_position a r s.published < place view → round_position a r (journal_order c) < place view
     round-order view front below =
         position-has_round a r (place view) (journal_order c)
         (sym (same_rounds view front) ∙ has_round-position a r (place view) so.position s.published so.within is_here below)
 
-    round-state : (view : List ℕ) → IsHeldFront b s c left view → round_position a r (journal_order c) < place view → round_position a r s.published < place view
+    pub round-state : (view : List ℕ) → IsHeldFront b s c left view → round_position a r (journal_order c) < place view → round_position a r s.published < place view
     round-state view front below =
         let stands = StandsIn-order b s c left so.position so.within in
         position-has_round a r (place view) s.published
         (same_rounds view front ∙ has_round-position a r (place view) stands.0 (journal_order c) stands.1
         (ap (λ (x : Publication). is_round a r x.entry) stands.2 ∙ is_here) below)
 
-    decided : IsDecidedSo s a r d so.targets
+    pub decided : IsDecidedSo s a r d so.targets
     decided = (sound_round b s c left so.position a r d so.targets so.within so.entry).1
 
-    decision : IsSoundDecision b s a r d
+    pub decision : IsSoundDecision b s a r d
     decision = subst (IsSoundDecision b s a r) decided.decision (left.sound.decisions a r decided.decided)
 
     -- the process has asked for the request that the round decided
-    asked : HasAskedFor b p s.rows a d.slot d.number
+    pub asked : HasAskedFor b p s.rows a d.slot d.number
     asked = record { slot_in = so.slot; within = decision.announced }
 
     -- the view from which the decision was proposed: no record of the round stands before it
-    winner_view : List ℕ
+    pub winner_view : List ℕ
     winner_view = (publication_at s.published (winner_of b s c left so.position a r d so.targets so.within so.entry).0).view
 
-    winner_front : IsHeldFront b s c left winner_view
+    pub winner_front : IsHeldFront b s c left winner_view
     unfolding winner_view
     winner_front =
         let found = winner_of b s c left so.position a r d so.targets so.within so.entry in
         IsHeldFront-view b s c left found.0 found.1.within
 
-    winner_place : place winner_view ≡ d.place
+    pub winner_place : place winner_view ≡ d.place
     unfolding winner_view
     winner_place = (winner_of b s c left so.position a r d so.targets so.within so.entry).1.place
 
-    behind_place : d.place ≤ round_position a r s.published
+    pub behind_place : d.place ≤ round_position a r s.published
     behind_place =
         let none = has_round-none b s.published left.history a r d.place decision.next in
         elim (cases_lt (round_position a r s.published) d.place) as (λ _. d.place ≤ round_position a r s.published) [
@@ -176,7 +176,7 @@ module _ (b : BookTerms) (s : BoardState) (c : ClosingTerms) (left : IsLeft b s 
           | inr above ↦ above
         ]
 
-    behind_place-order : d.place ≤ round_position a r (journal_order c)
+    pub behind_place-order : d.place ≤ round_position a r (journal_order c)
     behind_place-order =
         elim (cases_lt (round_position a r (journal_order c)) d.place) as (λ _. d.place ≤ round_position a r (journal_order c)) [
           | inl below ↦ absurd (omega (arith, behind_place, winner_place, round-state winner_view winner_front (omega (arith, below, winner_place))))
@@ -184,7 +184,7 @@ module _ (b : BookTerms) (s : BoardState) (c : ClosingTerms) (left : IsLeft b s 
         ]
 
     -- where its request is settled, a record of the round stands
-    settled-position : (m : ℕ) → m ≤ length s.published → is_settled a d.slot d.number (take m s.published) ≡ true → round_position a r s.published < m
+    pub settled-position : (m : ℕ) → m ≤ length s.published → is_settled a d.slot d.number (take m s.published) ≡ true → round_position a r s.published < m
     settled-position m within settled =
         let found = named-is_settled b s m a d.slot d.number left.sound settled in
         let named = found.1 in
