@@ -1,5 +1,5 @@
 -- The entries of what a ledger leaves keep the laws of a closing.
-use Rattle.std.proofs.Common.{◌≡◌, ℕ, ◌<◌, ◌≤◌, ◌↔◌, ◌==◌, ◌&&◌, Bool, true, false, List, [], length, map, take, refl, sym, ap, subst, ◌∙◌, arith, inl, inr}
+use Rattle.std.proofs.Common.{◌≡◌, ℕ, ◌<◌, ◌≤◌, ◌↔◌, ◌==◌, ◌&&◌, true, List, [], length, map, take, refl, sym, ap, subst, ◌∙◌, arith, inl, inr}
 use Rattle.std.proofs.lemmas.Bool.{and_parts, cases_lt}
 use Rattle.std.proofs.lemmas.List.{get_or_default, get_or_past}
 use Rattle.std.specs.List.{Contains}
@@ -24,7 +24,7 @@ use Rattle.at_log.specs.ClosingTerms.{ClosingTerms, log_of, log_published, publi
 use Rattle.at_log.specs.Coherent.{IsAgreed, IsCoherentEntry, IsNumbered, IsProposed, is_earlier_for}
 use Rattle.at_log.specs.JournalOrder.{journal_order}
 use Rattle.at_closing.proofs.LeftFronts.{record_at}
-use Rattle.at_closing.proofs.LeftRounds.{agreed_round, earlier-named, shown_round, sound_round, winner_of}
+use Rattle.at_closing.proofs.LeftRounds.{agreed_round, earlier-named, shown_round, winner_of}
 use Rattle.at_closing.proofs.OrderOfLeft.{AreTwins-left, IsCovered-left, IsHeldFront-view, rounds-left}
 use Rattle.at_closing.proofs.SameRecords.{StandsIn, StandsIn-same, sum_by-twins}
 use Rattle.at_closing.specs.Left.{IsLeft}

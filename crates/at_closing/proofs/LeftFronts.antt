@@ -1,5 +1,5 @@
 -- The held fronts of what a ledger leaves: each is a front of the state's list, so they are a chain.
-use Rattle.std.proofs.Common.{◌≡◌, ℕ, ◌+◌, ◌<◌, ◌≤◌, ◌⊎◌, zero, suc, List, [], ◌∷◌, ◌++◌, length, get_or, map, take, refl, sym, ap, subst, ◌∙◌, arith, inl, inr, sum}
+use Rattle.std.proofs.Common.{◌≡◌, ℕ, ◌<◌, ◌≤◌, ◌⊎◌, zero, suc, List, [], ◌∷◌, ◌++◌, length, get_or, map, take, refl, sym, ap, subst, ◌∙◌, arith, inl, inr, sum}
 use Rattle.std.specs.Prelude.{Option, Some, None}
 use Rattle.std.proofs.lemmas.Bool.{cases_lt}
 use Rattle.std.proofs.lemmas.List.{ext_get_or, get_or-map, get_or_default, get_or_past, length-map}
@@ -13,10 +13,10 @@ use Rattle.at_history.proofs.Laws.Histories.{ArePublishedBy-IsHistory}
 use Rattle.at_history.proofs.Laws.Prefixes.{ArePublishedBy-take, IsPrefix-take}
 use Rattle.at_history.specs.BoardState.{BoardState, publication_at}
 use Rattle.at_history.specs.Fronts.{IsFront, place}
-use Rattle.at_history.specs.Publications.{ArePublishedBy, count_of, counts, no_publication, publications_of}
+use Rattle.at_history.specs.Publications.{ArePublishedBy, count_of, counts, no_publication}
 use Rattle.at_history.specs.declared.publication.Publication.{Publication}
 use Rattle.at_log.proofs.Laws.Order.{All-flat_map}
-use Rattle.at_log.proofs.Laws.Picks.{filter_map-at, picks}
+use Rattle.at_log.proofs.Laws.Picks.{filter_map-at}
 use Rattle.at_log.proofs.Laws.PublicationKeys.{get_or-log_lengths}
 use Rattle.at_log.specs.ClosingTerms.{ClosingTerms, log_lengths, log_of, log_published, published_by, receipts_of}
 use Rattle.at_log.specs.Coherent.{AreChained}
@@ -137,25 +137,26 @@ module _ (b : BookTerms) (s : BoardState) (c : ClosingTerms) (left : IsLeft b s 
       ap (λ (y : Publication). get_or y.view p 0) (sym found.1.is)
       ∙ (subst (λ q. get_or x.view q 0 ≡ count_of q (take found.0 s.published)) found.1.process_is own ∙ found.1.before)
 
-  abbrev Q : List ℕ → Type 0
-  Q view = IsFront b.processes view s.published
+  -- a front of the state's list
+  abbrev IsStateFront : List ℕ → Type 0
+  IsStateFront view = IsFront b.processes view s.published
 
-  views_fronts : All Q (record_fronts c)
+  views_fronts : All IsStateFront (record_fronts c)
   views_fronts =
-      All-flat_map Q (λ log. map (λ x. x.view) log) c.logs (λ p d known.
-      subst (λ log. All Q (map (λ x. x.view) log)) (get_or_default c.logs p [] d known)
-      (All-map Q (λ x. x.view) (log_of c p) (λ i e within.
+      All-flat_map IsStateFront (λ log. map (λ x. x.view) log) c.logs (λ p d known.
+      subst (λ log. All IsStateFront (map (λ x. x.view) log)) (get_or_default c.logs p [] d known)
+      (All-map IsStateFront (λ x. x.view) (log_of c p) (λ i e within.
       let found = record_at p i within in
       let x : Publication = publication_at s.published found.0 in
       let view_is : x.view ≡ (get_or (log_of c p) i e).view =
       ap (λ (y : Publication). y.view) (found.1.is ∙ get_or-map (published_by p) (log_of c p) i e no_publication within) in
-      subst Q view_is (IsFront-view found.0 found.1.within))))
+      subst IsStateFront view_is (IsFront-view found.0 found.1.within))))
 
-  receipts_fronts : All Q (receipt_fronts c)
+  receipts_fronts : All IsStateFront (receipt_fronts c)
   receipts_fronts =
-      All-flat_map Q (λ receipts. filter_map (λ r. front_at r.at) receipts) c.receipts (λ p d known.
-      subst (λ receipts. All Q (filter_map (λ r. front_at r.at) receipts)) (get_or_default c.receipts p [] d known)
-      (All-filter_map Q (λ r. front_at r.at) (receipts_of c p) (λ i e view within is.
+      All-flat_map IsStateFront (λ receipts. filter_map (λ r. front_at r.at) receipts) c.receipts (λ p d known.
+      subst (λ receipts. All IsStateFront (filter_map (λ r. front_at r.at) receipts)) (get_or_default c.receipts p [] d known)
+      (All-filter_map IsStateFront (λ r. front_at r.at) (receipts_of c p) (λ i e view within is.
       let none : Receipt = receipt_at [] 0 in
       let told = left.told p (omega (arith, known, left.receipts)) in
       front-IsPlaced b p s.published (take i (receipts_of c p)) (receipt_at (receipts_of c p) i) view (told.placed i within)
@@ -170,21 +171,21 @@ module _ (b : BookTerms) (s : BoardState) (c : ClosingTerms) (left : IsLeft b s 
       get_or-log_lengths c p (omega (arith, known, left.logs))
       ∙ (length-log_of p known ∙ sym (get_or-counts b.processes s.published p 0 known)))
 
-  ends_front : Q (log_lengths c)
-  ends_front = subst Q (sym log_lengths-counts) (IsFront-counts b.processes s.published known_by)
+  ends_front : IsStateFront (log_lengths c)
+  ends_front = subst IsStateFront (sym log_lengths-counts) (IsFront-counts b.processes s.published known_by)
 
   -- each held front is a front of the list
-  held_fronts-left : All Q (held_fronts c)
+  held_fronts-left : All IsStateFront (held_fronts c)
   held_fronts-left =
-      All-append Q (record_fronts c ++ receipt_fronts c) (log_lengths c ∷ []) (All-append Q (record_fronts c) (receipt_fronts c) views_fronts receipts_fronts)
-      (All-cons Q (log_lengths c) [] ends_front (All-nil Q))
+      All-append IsStateFront (record_fronts c ++ receipt_fronts c) (log_lengths c ∷ []) (All-append IsStateFront (record_fronts c) (receipt_fronts c) views_fronts receipts_fronts)
+      (All-cons IsStateFront (log_lengths c) [] ends_front (All-nil IsStateFront))
 
   pub IsFront-left : (view : List ℕ) → Contains (held_fronts c) view → IsFront b.processes view s.published
-  IsFront-left view held = All-contains Q (held_fronts c) view held_fronts-left held
+  IsFront-left view held = All-contains IsStateFront (held_fronts c) view held_fronts-left held
 
   pub AreChained-left : AreChained b c
   AreChained-left = record {
-    sized = All-weaker Q (λ view. length view ≡ b.processes) (λ view front. length-IsFront b.processes view s.published front) (held_fronts c) held_fronts-left;
+    sized = All-weaker IsStateFront (λ view. length view ≡ b.processes) (λ view front. length-IsFront b.processes view s.published front) (held_fronts c) held_fronts-left;
     chain = λ view other one two.
         elim (cases_lt (place view) (place other)) as (λ _. Covers view other ⊎ Covers other view) [
           | inl below ↦ inr (Covers-front b.processes view other s.published (IsFront-left view one) (IsFront-left other two) (omega arith))

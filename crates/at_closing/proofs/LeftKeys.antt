@@ -1,33 +1,26 @@
 -- The keys of the receipts of what a ledger leaves: as they don't fall in the state's list, they don't in the journal's order.
-use Rattle.std.proofs.Common.{◌≡◌, ℕ, ◌+◌, ◌*◌, ◌<◌, ◌≤◌, ◌⊎◌, zero, suc, true, false, cond, List, [], ◌∷◌, length, get_or, take, refl, sym, ap, subst, ◌∙◌, arith, inl, inr}
+use Rattle.std.proofs.Common.{◌≡◌, ℕ, ◌+◌, ◌*◌, ◌<◌, ◌≤◌, ◌⊎◌, zero, suc, cond, List, [], ◌∷◌, length, get_or, take, refl, sym, ap, subst, ◌∙◌, arith, inl, inr}
 use Rattle.std.proofs.lemmas.Bool.{cases_Bool}
 use Rattle.std.specs.List.Sorted.{IsNonDecreasing}
-use Rattle.at_base.specs.declared.decision.Decision.{Decision}
-use Rattle.at_ledger.specs.Book.{BookTerms, HasSlot}
+use Rattle.at_ledger.specs.Book.{BookTerms}
 use Rattle.at_ledger.specs.Call.{TargetPair}
-use Rattle.at_history.proofs.Laws.Rounds.{one_if}
 use Rattle.at_history.specs.BoardState.{BoardState, publication_at}
-use Rattle.at_history.specs.Entries.{is_own, names}
-use Rattle.at_history.specs.Fronts.{place, prefix_of}
+use Rattle.at_history.specs.Entries.{is_own}
+use Rattle.at_history.specs.Fronts.{prefix_of}
 use Rattle.at_history.specs.Histories.{IsShownEntry}
-use Rattle.at_history.specs.Publications.{publications_of}
-use Rattle.at_history.specs.Rounds.{owns_of}
 use Rattle.at_history.specs.declared.publication.Publication.{Publication}
 use Rattle.at_log.proofs.Laws.Replies.{first_account-payout}
 use Rattle.at_log.specs.ClosingTerms.{ClosingTerms, receipts_of}
 use Rattle.at_log.specs.JournalOrder.{journal_order}
-use Rattle.at_log.specs.Placed.{IsAtFront, IsAtOwn, IsAtRound, IsPlaced, MayPay, read, not_owner, full, short, done, round}
+use Rattle.at_log.specs.Placed.{IsAtFront, IsAtRound, IsPlaced, read, not_owner, full, short, done, round}
 use Rattle.at_log.specs.Receipts.{is_success, receipt_at}
-use Rattle.at_log.specs.Told.{Told, first_account, key_at, key_of, keys_from, keys_of, round_position}
+use Rattle.at_log.specs.Told.{first_account, key_at, key_of, keys_from, keys_of, round_position}
 use Rattle.at_log.specs.declared.receipt.At.{At}
 use Rattle.at_log.specs.declared.receipt.Receipt.{Receipt}
-use Rattle.at_closing.proofs.LeftEntries.{StandsIn-order, owns_of-publications_of}
-use Rattle.at_closing.proofs.LeftRounds.{sound_round}
 use Rattle.at_closing.proofs.MarkOrder.{key_in-order}
 use Rattle.at_closing.proofs.Marks
 use Rattle.at_closing.proofs.Marks.{IsRoundMark, Mark, in_order, key_in, winner_front, winner_place, winner_view}
-use Rattle.at_closing.proofs.OrderOfLeft.{AreTwins-left, IsHeldFront, IsHeldFront-receipt, balance_after-left, publications_of-left}
-use Rattle.at_closing.proofs.SameRecords.{sum_by-twins}
+use Rattle.at_closing.proofs.OrderOfLeft.{IsHeldFront-receipt}
 use Rattle.at_closing.specs.Left.{IsLeft}
 
 -- each number is at least the one before it, and the first at least this
@@ -76,8 +69,11 @@ module _ (b : BookTerms) (s : BoardState) (c : ClosingTerms) (left : IsLeft b s 
   still_mark : (i account amount : ℕ) → i < length (receipts_of c p) → IsAtFront b s.published account amount (the_receipt i) → HasMark (the_receipt i)
   still_mark i account amount within at =
       let r = the_receipt i in
-      inr (Marks.still at.view (IsHeldFront-receipt b s c left p i at.view known within at.at), λ list previous.
-      ap (key_at p list previous r.call (is_success r.reply)) at.at)
+      inr (
+        Marks.still at.view (IsHeldFront-receipt b s c left p i at.view known within at.at),
+        λ list previous.
+            ap (key_at p list previous r.call (is_success r.reply)) at.at,
+      )
 
   -- the round of a receipt
   round_mark : (source : ℕ) (targets : List TargetPair) (earlier : List Receipt) (r : Receipt)
@@ -100,8 +96,11 @@ module _ (b : BookTerms) (s : BoardState) (c : ClosingTerms) (left : IsLeft b s 
   mark_placed i within (short source amount targets may single reply at less) = still_mark i source amount within at
   mark_placed i within (done source targets may single reply so) =
       let r = the_receipt i in
-      inr (Marks.own so.number (record { within = so.within; own = ap is_own so.entry }), λ list previous.
-      ap (key_at p list previous r.call (is_success r.reply)) so.at)
+      inr (
+        Marks.own so.number (record { within = so.within; own = ap is_own so.entry }),
+        λ list previous.
+            ap (key_at p list previous r.call (is_success r.reply)) so.at,
+      )
   mark_placed i within (round source targets may shared so) =
       let r = the_receipt i in
       let d = so.decision in
@@ -111,15 +110,21 @@ module _ (b : BookTerms) (s : BoardState) (c : ClosingTerms) (left : IsLeft b s 
       λ list previous. ap (key_at p list previous r.call (is_success r.reply)) so.at in
       elim (cases_Bool (is_success r.reply)) as (λ _. HasMark r) [
         | inl moved ↦
-            inr (Marks.round source so.round d at, λ list previous.
-            here list previous
-            ∙ (ap (λ t. cond t (key list) (2 * d.place)) moved
-            ∙ ap (λ a. 2 * round_position a so.round list + 1) (first_account-payout source targets r.call may.call)))
+            inr (
+              Marks.round source so.round d at,
+              λ list previous.
+                  here list previous
+                  ∙ (ap (λ t. cond t (key list) (2 * d.place)) moved
+                  ∙ ap (λ a. 2 * round_position a so.round list + 1) (first_account-payout source targets r.call may.call)),
+            )
         | inr refused ↦
-            inr (Marks.still (winner_view b s c left p known source so.round d at) (winner_front b s c left p known source so.round d at), λ list previous.
-            here list previous
-            ∙ (ap (λ t. cond t (key list) (2 * d.place)) refused
-            ∙ ap (λ n. 2 * n) (sym (winner_place b s c left p known source so.round d at))))
+            inr (
+              Marks.still (winner_view b s c left p known source so.round d at) (winner_front b s c left p known source so.round d at),
+              λ list previous.
+                  here list previous
+                  ∙ (ap (λ t. cond t (key list) (2 * d.place)) refused
+                  ∙ ap (λ n. 2 * n) (sym (winner_place b s c left p known source so.round d at))),
+            )
       ]
 
   -- the keys before are those of no receipt, or of one receipt

@@ -1,10 +1,10 @@
 -- The rounds of what a ledger leaves: a record of each was published with the view from which its decision was proposed, and of the
 -- rounds below it as many name its slot as its decision says.
-use Rattle.std.proofs.Common.{◌≡◌, ℕ, ◌+◌, ◌<◌, ◌≤◌, ◌⊎◌, ◌==◌, ◌&&◌, zero, suc, Bool, true, false, List, [], ◌∷◌, ◌++◌, length, take, refl, sym, ap, subst, ◌∙◌, arith, inl, inr}
-use Rattle.std.specs.Prelude.{nat_lt, Option, Some, None}
+use Rattle.std.proofs.Common.{◌≡◌, ℕ, ◌+◌, ◌<◌, ◌≤◌, ◌⊎◌, ◌==◌, ◌&&◌, zero, suc, true, false, List, [], ◌∷◌, ◌++◌, length, take, refl, sym, ap, subst, ◌∙◌, arith, inl, inr}
+use Rattle.std.specs.Prelude.{nat_lt, Some, None}
 use Rattle.std.proofs.lemmas.Bool.{and_parts, cases_Bool, cases_eq, eq-eqb, eqb-true, le-ltb, lt-ltb, ltb-false, ne_eqb}
 use Rattle.std.proofs.lemmas.List.{get_or-take, get_or_default, length-take, take_all}
-use Rattle.std.proofs.lemmas.List.Folds.{Any-from_list_any, list_any_at}
+use Rattle.std.proofs.lemmas.List.Folds.{Any-from_list_any}
 use Rattle.std.specs.List.{count_by, list_any, sum_by}
 use Rattle.at_base.specs.declared.decision.Decision.{Decision}
 use Rattle.at_ledger.specs.Book.{BookTerms}
@@ -14,7 +14,7 @@ use Rattle.at_history.proofs.Laws.Prefixes.{take-publication_at}
 use Rattle.at_history.proofs.Laws.Rounds.{IsInitial, firsts-nil, has_round, one_if, published, repeats-round, rounds-take_mono, sum_by-firsts-take_same, sum_by-firsts_new, sum_by-firsts_repeat}
 use Rattle.at_history.proofs.Laws.RoundsDecided.{IsInitial-IsNextAtMost}
 use Rattle.at_history.proofs.Laws.Settled.{round-below}
-use Rattle.at_history.specs.BoardState.{BoardState, decision_at, publication_at}
+use Rattle.at_history.specs.BoardState.{BoardState, publication_at}
 use Rattle.at_history.specs.Entries.{is_round, names}
 use Rattle.at_history.specs.Fronts.{place, prefix_of}
 use Rattle.at_history.specs.Histories.{AgreeOnRound, IsHistory, IsShownDecision, IsShownRound}
@@ -115,7 +115,7 @@ module _ (b : BookTerms) (xs : List Publication) (history : IsHistory b xs) wher
       elim (cases_Bool (repeats x (firsts (take i xs)))) as (λ _. (repeats x (firsts (take i xs)) ≡ true) ⊎ (earlier a r slot x ≡ 0)) [
         | inl again ↦ inl again
         | inr new ↦ inr (ap one_if (earlier-no a r slot x.entry (λ k d targets is.
-        omega (arith, rounds_are, rounds-take_mono a at i xs above, round-new i a k d targets below new is))))
+            omega (arith, rounds_are, rounds-take_mono a at i xs above, round-new i a k d targets below new is))))
       ])
 
   -- of the rounds below one as many name a slot as the prefix with these rounds has

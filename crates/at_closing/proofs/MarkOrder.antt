@@ -1,13 +1,11 @@
 -- What stands in one order in the list that a ledger leaves stands so in the journal's order.
-use Rattle.std.proofs.Common.{◌≡◌, ℕ, ◌+◌, ◌*◌, ◌<◌, ◌≤◌, Bool, true, false, List, length, take, refl, sym, ap, subst, ◌∙◌, arith, inl, inr}
+use Rattle.std.proofs.Common.{◌≡◌, ℕ, ◌+◌, ◌*◌, ◌<◌, ◌≤◌, true, List, length, take, sym, ap, subst, ◌∙◌, arith, inl, inr}
 use Rattle.std.specs.Prelude.{Some}
 use Rattle.std.proofs.lemmas.Bool.{cases_eq, cases_lt}
 use Rattle.at_base.specs.declared.decision.Decision.{Decision}
-use Rattle.at_ledger.specs.Account.{slot_in}
-use Rattle.at_ledger.specs.Book.{BookTerms, account_of}
+use Rattle.at_ledger.specs.Book.{BookTerms}
 use Rattle.at_history.proofs.Laws.Counts.{get_or-publications_of, position-below}
 use Rattle.at_history.proofs.Laws.DecisionNumbers.{same_round}
-use Rattle.at_history.proofs.Laws.Fronts.{place-IsFront-le}
 use Rattle.at_history.proofs.Laws.RoundsDecided.{place-HasView-le}
 use Rattle.at_history.specs.BoardState.{BoardState, publication_at, request_at}
 use Rattle.at_history.specs.Entries.{is_own}
@@ -20,8 +18,8 @@ use Rattle.at_log.specs.ClosingTerms.{ClosingTerms}
 use Rattle.at_log.specs.JournalOrder.{journal_order}
 use Rattle.at_log.specs.Told.{own_position, round_position}
 use Rattle.at_closing.proofs.Marks.{IsOwnMark, IsRoundMark, Mark, asked, behind_place, behind_place-order, decided, decision, in_order, key_in, own-order, own-state, round-order, round-state, settled-position, still, own, round, winner_front, winner_place, winner_view}
-use Rattle.at_closing.proofs.OrderOfLeft.{AreTwins-left, IsHeldFront, IsHeldFront-view}
-use Rattle.at_closing.specs.InOrder.{AreTwo, HasAskedFor, IsOwnAt}
+use Rattle.at_closing.proofs.OrderOfLeft.{IsHeldFront-view}
+use Rattle.at_closing.specs.InOrder.{AreTwo, IsOwnAt}
 use Rattle.at_closing.specs.Left.{IsLeft}
 
 -- records of a process stand by their numbers
@@ -129,7 +127,7 @@ module _ (b : BookTerms) (s : BoardState) (c : ClosingTerms) (left : IsLeft b s 
       let front = winner_front b s c left p known a r d at in
       let place_is = winner_place b s c left p known a r d at in
       elim ((left.order p known).owns m a d.slot d.number (own_at number so) (asked b s c left p known a r d at))
-          as (λ _. own_position p number (journal_order c) ≤ round_position a r (journal_order c)) [
+      as (λ _. own_position p number (journal_order c) ≤ round_position a r (journal_order c)) [
         | inl early ↦
             let below : m < place view = omega (arith, early, (decision b s c left p known a r d at).since, place_is) in
             omega (
@@ -148,7 +146,7 @@ module _ (b : BookTerms) (s : BoardState) (c : ClosingTerms) (left : IsLeft b s 
       let m = own_position p number s.published in
       let view = (publication_at s.published m).view in
       elim ((left.order p known).owns m a d.slot d.number (own_at number so) (asked b s c left p known a r d at))
-          as (λ _. round_position a r (journal_order c) ≤ own_position p number (journal_order c)) [
+      as (λ _. round_position a r (journal_order c) ≤ own_position p number (journal_order c)) [
         | inl early ↦
             absurd (omega (arith, before, early, (decision b s c left p known a r d at).since, behind_place b s c left p known a r d at))
         | inr settled ↦
@@ -168,7 +166,7 @@ module _ (b : BookTerms) (s : BoardState) (c : ClosingTerms) (left : IsLeft b s 
       let view = winner_view b s c left p known k l e other in
       let place_is = winner_place b s c left p known k l e other in
       elim ((left.order p known).requests a d.slot d.number k e.slot e.number (asked b s c left p known a r d one) (asked b s c left p known k l e other) two)
-          as (λ _. round_position a r (journal_order c) ≤ round_position k l (journal_order c)) [
+      as (λ _. round_position a r (journal_order c) ≤ round_position k l (journal_order c)) [
         | inl first ↦
             let below : round_position a r s.published < place view = omega (arith, settled-since a r l k d e one other first, place_is) in
             omega (

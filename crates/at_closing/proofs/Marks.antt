@@ -1,38 +1,34 @@
 -- Where the receipts of a process stand in the list that a ledger leaves and in the journal's order: what stands in one order in the
 -- first stands so in the second.
-use Rattle.std.proofs.Common.{◌≡◌, ℕ, ◌+◌, ◌*◌, ◌<◌, ◌≤◌, ◌==◌, Bool, true, false, List, length, get_or, take, refl, sym, ap, subst, ◌∙◌, arith, inl, inr}
-use Rattle.std.specs.Prelude.{Some}
-use Rattle.std.proofs.lemmas.Bool.{and_from, cases_eq, cases_lt, eq-eqb}
+use Rattle.std.proofs.Common.{◌≡◌, ℕ, ◌+◌, ◌*◌, ◌<◌, ◌≤◌, ◌==◌, true, false, List, length, get_or, take, refl, sym, ap, subst, ◌∙◌, arith, inl, inr}
+use Rattle.std.proofs.lemmas.Bool.{and_from, cases_lt, eq-eqb}
 use Rattle.std.proofs.lemmas.List.{get_or-take, get_or_default, length-take}
 use Rattle.std.proofs.lemmas.List.Folds.{Any-from_list_any, list_any_at}
 use Rattle.at_base.specs.declared.decision.Decision.{Decision}
-use Rattle.at_ledger.specs.Account.{slot_in}
-use Rattle.at_ledger.specs.Book.{BookTerms, HasSlot, account_of}
+use Rattle.at_ledger.specs.Book.{BookTerms, HasSlot}
 use Rattle.at_ledger.specs.Call.{TargetPair}
-use Rattle.at_history.proofs.Laws.Counts.{IsPosition, get_or-publications_of, position-below, position-below_from_count}
+use Rattle.at_history.proofs.Laws.Counts.{IsPosition, position-below_from_count}
 use Rattle.at_history.proofs.Laws.DecisionNumbers.{named-is_settled, same_round}
-use Rattle.at_history.proofs.Laws.Fronts.{get_or-IsFront, place-IsFront-le, position-IsFront}
+use Rattle.at_history.proofs.Laws.Fronts.{get_or-IsFront, position-IsFront}
 use Rattle.at_history.proofs.Laws.Rounds.{has_round}
-use Rattle.at_history.proofs.Laws.RoundsDecided.{place-HasView-le}
 use Rattle.at_history.proofs.Laws.Settled.{first-below}
-use Rattle.at_history.specs.BoardState.{BoardState, decision_at, publication_at, request_at}
+use Rattle.at_history.specs.BoardState.{BoardState, publication_at}
 use Rattle.at_history.specs.Entries.{is_own, is_round}
 use Rattle.at_history.specs.Fronts.{IsFront, place, prefix_of}
 use Rattle.at_history.specs.Publications.{count_of, no_publication, publications_of}
 use Rattle.at_history.specs.Rounds.{is_settled, rounds}
 use Rattle.at_history.specs.Sound.{IsDecidedSo, IsSoundDecision}
-use Rattle.at_history.specs.declared.publication.Entry.{Entry}
-use Rattle.at_history.specs.declared.publication.Entry.TheVariants.{Own, Round}
+use Rattle.at_history.specs.declared.publication.Entry.TheVariants.{Round}
 use Rattle.at_history.specs.declared.publication.Publication.{Publication}
 use Rattle.at_log.proofs.Laws.Positions.{own_position-at, round_position-at}
 use Rattle.at_log.specs.ClosingTerms.{ClosingTerms}
 use Rattle.at_log.specs.JournalOrder.{journal_order}
 use Rattle.at_log.specs.Told.{own_position, round_position}
 use Rattle.at_closing.proofs.LeftEntries.{StandsIn-order}
-use Rattle.at_closing.proofs.LeftRounds.{has_round-none, shown_round, sound_round, winner_of}
+use Rattle.at_closing.proofs.LeftRounds.{has_round-none, sound_round, winner_of}
 use Rattle.at_closing.proofs.OrderOfLeft.{AreTwins-left, IsHeldFront, IsHeldFront-view, publications_of-left}
 use Rattle.at_closing.proofs.SameRecords.{list_any-front}
-use Rattle.at_closing.specs.InOrder.{AreTwo, HasAskedFor, IsOwnAt}
+use Rattle.at_closing.specs.InOrder.{HasAskedFor}
 use Rattle.at_closing.specs.Left.{IsLeft}
 
 -- a record of a process stands in the prefix of a front exactly where the front counts it

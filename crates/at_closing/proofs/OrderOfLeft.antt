@@ -1,8 +1,8 @@
 -- The journal's order of what a ledger leaves has the records of the state's list, and each held front is a front of both: what a
 -- front's prefix says of rounds and balances is the same in both.
-use Rattle.std.proofs.Common.{◌≡◌, ℕ, ◌+◌, ◌-◌, ◌<◌, ◌≤◌, ◌↔◌, Bool, List, length, take, refl, sym, ap, subst, ◌∙◌, arith, inl, inr}
+use Rattle.std.proofs.Common.{◌≡◌, ℕ, ◌+◌, ◌-◌, ◌<◌, ◌↔◌, List, length, take, refl, sym, ap, subst, ◌∙◌, arith, inl, inr}
 use Rattle.std.proofs.lemmas.Bool.{cases_lt}
-use Rattle.std.specs.List.{Contains, list_any}
+use Rattle.std.specs.List.{Contains}
 use Rattle.at_ledger.specs.Book.{BookTerms, account_of}
 use Rattle.at_history.proofs.Laws.Counts.{count_of-take-le, count_of-take_more_own, get_or-publications_of}
 use Rattle.at_history.proofs.Laws.Histories.{ArePublishedBy-IsHistory}

@@ -1,7 +1,7 @@
 -- Two lists with the same records of each process: what they and the prefixes of their common fronts have in common.
 use Rattle.std.proofs.Common.{◌≡◌, ℕ, ◌+◌, ◌<◌, ◌≤◌, ◌==◌, zero, suc, Bool, true, List, [], ◌∷◌, length, get_or, take, refl, sym, ap, subst, ◌∙◌, arith, inl, inr}
 use Rattle.std.proofs.lemmas.Bool.{and_parts, cases_lt, eqb-true}
-use Rattle.std.proofs.lemmas.List.{get_or-take, get_or_default, length-take}
+use Rattle.std.proofs.lemmas.List.{get_or_default}
 use Rattle.std.proofs.lemmas.List.Elements.{All-take}
 use Rattle.std.specs.List.{All, list_any, sum_by}
 use Rattle.at_history.proofs.Laws.Counts.{count_of-take-le, count_of-take_more_own, get_or-publications_of, position_of, publications_of-nil, publications_of-other, publications_of-take}
