@@ -72,23 +72,33 @@ Covers-front n view other xs one two less = λ p within.
     let known : p < n = omega (arith, within, length-IsFront n other xs two) in
     omega (arith, get_or-IsFront n view xs p one known, get_or-IsFront n other xs p two known, count_of-take_mono p (place view) (place other) xs less)
 
+-- a receipt at a front has that one, and one elsewhere has none
+same_front : (view other : List ℕ) (r : Receipt) → r.at ≡ At.Front other → front_at r.at ≡ Some view → other ≡ view
+same_front view other r at is =
+    let same : Some other ≡ Some view = sym (ap front_at at) ∙ is in
+    cc same
+
+no_front : (view : List ℕ) (r : Receipt) (at : At) → r.at ≡ at → front_at at ≡ None → front_at r.at ≡ Some view → ⊥
+no_front view r at here without is =
+    let both : None ≡ Some view = sym without ∙ (sym (ap front_at here) ∙ is) in
+    cc both
+
 -- the front of a placed receipt is a front of the list
 front-IsPlaced : (b : BookTerms) (p : ℕ) (list : List Publication) (earlier : List Receipt) (r : Receipt) (view : List ℕ) → IsPlaced b p list earlier r
     → front_at r.at ≡ Some view → IsFront b.processes view list
 front-IsPlaced b p list earlier r view (read account amount call reply at) is =
-    let same : Some at.view ≡ Some view = sym (ap front_at at.at) ∙ is in
-    let e : at.view ≡ view = cc same in
-    subst (λ t. IsFront b.processes t list) e at.front
-front-IsPlaced b p list earlier r view (not_owner source targets call owner reply at) is = let none : None ≡ Some view = sym (ap front_at at) ∙ is in absurd (cc none)
-front-IsPlaced b p list earlier r view (full source targets call owner room reply at) is = let none : None ≡ Some view = sym (ap front_at at) ∙ is in absurd (cc none)
+    subst (λ t. IsFront b.processes t list) (same_front view at.view r at.at is) at.front
+front-IsPlaced b p list earlier r view (not_owner source targets call owner reply at) is = absurd (no_front view r At.Previous at refl is)
+front-IsPlaced b p list earlier r view (full source targets call owner room reply at) is = absurd (no_front view r At.Previous at refl is)
 front-IsPlaced b p list earlier r view (short source amount targets may single reply at less) is =
-    let same : Some at.view ≡ Some view = sym (ap front_at at.at) ∙ is in
-    let e : at.view ≡ view = cc same in
-    subst (λ t. IsFront b.processes t list) e at.front
-front-IsPlaced b p list earlier r view (done source targets may single reply at) is = let none : None ≡ Some view = sym (ap front_at at.at) ∙ is in absurd (cc none)
-front-IsPlaced b p list earlier r view (round source targets may shared at) is = let none : None ≡ Some view = sym (ap front_at at.at) ∙ is in absurd (cc none)
+    subst (λ t. IsFront b.processes t list) (same_front view at.view r at.at is) at.front
+front-IsPlaced b p list earlier r view (done source targets may single reply at) is =
+    absurd (no_front view r (At.Own at.number) at.at refl is)
+front-IsPlaced b p list earlier r view (round source targets may shared at) is =
+    absurd (no_front view r (At.Round at.round at.decision.place) at.at refl is)
 
 module _ (b : BookTerms) (s : BoardState) (c : ClosingTerms) (left : IsLeft b s c) where
+  -- each record is of a process of the book
   known_by : ArePublishedBy b.processes s.published
   known_by = ArePublishedBy-IsHistory b s.published left.history
 
@@ -100,6 +110,7 @@ module _ (b : BookTerms) (s : BoardState) (c : ClosingTerms) (left : IsLeft b s 
         | inr beyond ↦ absurd (omega (arith, within, ap length (get_or_past c.logs p [] beyond)))
       ]
 
+  -- and its log is all that it has in the list
   pub length-log_of : (p : ℕ) → p < b.processes → length (log_of c p) ≡ count_of p s.published
   length-log_of p known = sym (length-map (log_of c p) (published_by p)) ∙ ap length (left.log p known)
 
@@ -141,6 +152,7 @@ module _ (b : BookTerms) (s : BoardState) (c : ClosingTerms) (left : IsLeft b s 
   abbrev IsStateFront : List ℕ → Type 0
   IsStateFront view = IsFront b.processes view s.published
 
+  -- the fronts of each kind
   views_fronts : All IsStateFront (record_fronts c)
   views_fronts =
       All-flat_map IsStateFront (λ log. map (λ x. x.view) log) c.logs (λ p d known.
@@ -162,6 +174,7 @@ module _ (b : BookTerms) (s : BoardState) (c : ClosingTerms) (left : IsLeft b s 
       front-IsPlaced b p s.published (take i (receipts_of c p)) (receipt_at (receipts_of c p) i) view (told.placed i within)
       (ap (λ (r : Receipt). front_at r.at) (get_or_default (receipts_of c p) i none e within) ∙ is))))
 
+  -- the lengths of the logs are the counts of the list
   pub log_lengths-counts : log_lengths c ≡ counts b.processes s.published
   log_lengths-counts =
       let sized : length (log_lengths c) ≡ b.processes = length-map c.logs length ∙ left.logs in
@@ -177,7 +190,8 @@ module _ (b : BookTerms) (s : BoardState) (c : ClosingTerms) (left : IsLeft b s 
   -- each held front is a front of the list
   held_fronts-left : All IsStateFront (held_fronts c)
   held_fronts-left =
-      All-append IsStateFront (record_fronts c ++ receipt_fronts c) (log_lengths c ∷ []) (All-append IsStateFront (record_fronts c) (receipt_fronts c) views_fronts receipts_fronts)
+      All-append IsStateFront (record_fronts c ++ receipt_fronts c) (log_lengths c ∷ [])
+      (All-append IsStateFront (record_fronts c) (receipt_fronts c) views_fronts receipts_fronts)
       (All-cons IsStateFront (log_lengths c) [] ends_front (All-nil IsStateFront))
 
   pub IsFront-left : (view : List ℕ) → Contains (held_fronts c) view → IsFront b.processes view s.published
@@ -185,7 +199,9 @@ module _ (b : BookTerms) (s : BoardState) (c : ClosingTerms) (left : IsLeft b s 
 
   pub AreChained-left : AreChained b c
   AreChained-left = record {
-    sized = All-weaker IsStateFront (λ view. length view ≡ b.processes) (λ view front. length-IsFront b.processes view s.published front) (held_fronts c) held_fronts-left;
+    sized =
+        All-weaker IsStateFront (λ view. length view ≡ b.processes) (λ view front. length-IsFront b.processes view s.published front)
+        (held_fronts c) held_fronts-left;
     chain = λ view other one two.
         elim (cases_lt (place view) (place other)) as (λ _. Covers view other ⊎ Covers other view) [
           | inl below ↦ inr (Covers-front b.processes view other s.published (IsFront-left view one) (IsFront-left other two) (omega arith))

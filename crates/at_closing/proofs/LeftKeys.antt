@@ -17,9 +17,8 @@ use Rattle.at_log.specs.Receipts.{is_success, receipt_at}
 use Rattle.at_log.specs.Told.{first_account, key_at, key_of, keys_from, keys_of, round_position}
 use Rattle.at_log.specs.declared.receipt.At.{At}
 use Rattle.at_log.specs.declared.receipt.Receipt.{Receipt}
-use Rattle.at_closing.proofs.MarkOrder.{key_in-order}
 use Rattle.at_closing.proofs.Marks
-use Rattle.at_closing.proofs.Marks.{IsRoundMark, Mark, in_order, key_in, winner_front, winner_place, winner_view}
+use Rattle.at_closing.proofs.Marks.{IsRoundMark, Mark, key_in, key_in-order, winner_front, winner_place, winner_view}
 use Rattle.at_closing.proofs.OrderOfLeft.{IsHeldFront-receipt}
 use Rattle.at_closing.specs.Left.{IsLeft}
 

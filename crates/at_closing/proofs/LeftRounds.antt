@@ -3,9 +3,8 @@
 use Rattle.std.proofs.Common.{◌≡◌, ℕ, ◌+◌, ◌<◌, ◌≤◌, ◌⊎◌, ◌==◌, ◌&&◌, zero, suc, true, false, List, [], ◌∷◌, ◌++◌, length, take, refl, sym, ap, subst, ◌∙◌, arith, inl, inr}
 use Rattle.std.specs.Prelude.{nat_lt, Some, None}
 use Rattle.std.proofs.lemmas.Bool.{and_parts, cases_Bool, cases_eq, eq-eqb, eqb-true, le-ltb, lt-ltb, ltb-false, ne_eqb}
-use Rattle.std.proofs.lemmas.List.{get_or-take, get_or_default, length-take, take_all}
-use Rattle.std.proofs.lemmas.List.Folds.{Any-from_list_any}
-use Rattle.std.specs.List.{count_by, list_any, sum_by}
+use Rattle.std.proofs.lemmas.List.{take_all}
+use Rattle.std.specs.List.{count_by, sum_by}
 use Rattle.at_base.specs.declared.decision.Decision.{Decision}
 use Rattle.at_ledger.specs.Book.{BookTerms}
 use Rattle.at_ledger.specs.Call.{TargetPair}
@@ -18,7 +17,6 @@ use Rattle.at_history.specs.BoardState.{BoardState, publication_at}
 use Rattle.at_history.specs.Entries.{is_round, names}
 use Rattle.at_history.specs.Fronts.{place, prefix_of}
 use Rattle.at_history.specs.Histories.{AgreeOnRound, IsHistory, IsShownDecision, IsShownRound}
-use Rattle.at_history.specs.Publications.{no_publication}
 use Rattle.at_history.specs.Rounds.{firsts, named, repeats, rounds}
 use Rattle.at_history.specs.Sound.{IsDecidedSo, IsPublished, IsSoundEntry, IsSoundRound}
 use Rattle.at_history.specs.declared.publication.Entry.{Entry}
@@ -27,6 +25,7 @@ use Rattle.at_history.specs.declared.publication.Publication.{Publication}
 use Rattle.at_log.proofs.Laws.FirstRecords.{is_round-true}
 use Rattle.at_log.specs.ClosingTerms.{ClosingTerms}
 use Rattle.at_log.specs.Coherent.{is_earlier_for}
+use Rattle.at_closing.proofs.RecordPositions.{list_any-at, list_any-take}
 use Rattle.at_closing.specs.Left.{IsLeft}
 
 -- a record of an earlier round for a slot names the slot
@@ -68,13 +67,9 @@ module _ (b : BookTerms) (xs : List Publication) (history : IsHistory b xs) wher
   has_round-none a r m at =
       elim (cases_Bool (has_round a r (take m xs))) as (λ _. has_round a r (take m xs) ≡ false) [
         | inl some ↦
-            let found = Any-from_list_any (λ (y : Publication). is_round a r y.entry) (take m xs) some in
-            let i = found.0 in
-            let inside : (i < m) × (i < length xs) = (omega (arith, found.2, length-take m xs), omega (arith, found.2, length-take m xs)) in
-            let here : found.1 ≡ publication_at xs i =
-            sym found.3 ∙ (get_or-take m xs i found.1 inside.0 ∙ get_or_default xs i found.1 no_publication inside.1) in
-            let one = is_round-true a r (publication_at xs i).entry (subst (λ (y : Publication). is_round a r y.entry ≡ true) here found.4) in
-            absurd (omega (arith, at, round-below b xs i m a r one.0 one.1 history inside.0 inside.1 one.2))
+            let found = list_any-take (λ (y : Publication). is_round a r y.entry) m xs some in
+            let one = is_round-true a r (publication_at xs found.0).entry found.3 in
+            absurd (omega (arith, at, round-below b xs found.0 m a r one.0 one.1 history found.1 found.2 one.2))
         | inr none ↦ none
       ]
 
@@ -134,7 +129,8 @@ pub record IsWinner (list : List Publication) (a r : ℕ) (d : Decision) (target
 module _ (b : BookTerms) (s : BoardState) (c : ClosingTerms) (left : IsLeft b s c) (m a r : ℕ) (d : Decision) (targets : List TargetPair)
     (within : m < length s.published) (is : (publication_at s.published m).entry ≡ Round a r d targets) where
   -- what the state says of a record of a round
-  pub sound_round : IsSoundRound b (publication_at s.published m).process (prefix_of (publication_at s.published m).view s.published) a r × IsDecidedSo s a r d targets
+  pub sound_round : IsSoundRound b (publication_at s.published m).process (prefix_of (publication_at s.published m).view s.published) a r
+      × IsDecidedSo s a r d targets
   sound_round =
       let x : Publication = publication_at s.published m in
       subst (IsSoundEntry b s x.process (prefix_of x.view s.published)) is (left.sound.entries m within)
@@ -152,16 +148,14 @@ module _ (b : BookTerms) (s : BoardState) (c : ClosingTerms) (left : IsLeft b s 
   winner_published : IsPublished a r d.place s.published → (k : ℕ) × IsWinner s.published a r d targets k
   winner_published stands =
       let xs = s.published in
-      let found = Any-from_list_any (λ (x : Publication). is_round a r x.entry && (place x.view == d.place)) xs stands in
+      let found = list_any-at (λ (x : Publication). is_round a r x.entry && (place x.view == d.place)) xs stands in
       let k = found.0 in
-      let here : found.1 ≡ publication_at xs k = sym found.3 ∙ get_or_default xs k found.1 no_publication found.2 in
-      let both = subst (λ (x : Publication). (is_round a r x.entry && (place x.view == d.place)) ≡ true) here found.4 in
-      let parts = and_parts (is_round a r (publication_at xs k).entry) (place (publication_at xs k).view == d.place) both in
+      let parts = and_parts (is_round a r (publication_at xs k).entry) (place (publication_at xs k).view == d.place) found.2 in
       let one = is_round-true a r (publication_at xs k).entry parts.0 in
-      let same = agreed_round k one.0 one.1 found.2 one.2 in (
+      let same = agreed_round k one.0 one.1 found.1 one.2 in (
         k,
         record {
-          within = found.2;
+          within = found.1;
           entry = one.2 ∙ (λ t. Round a r (same.0 t) (same.1 t));
           place = eqb-true (place (publication_at xs k).view) d.place parts.1;
         },
@@ -172,7 +166,7 @@ module _ (b : BookTerms) (s : BoardState) (c : ClosingTerms) (left : IsLeft b s 
   winner_of =
       let so = sound_round.1 in
       elim (left.sound.published a r so.decided) as (λ _. (k : ℕ) × IsWinner s.published a r d targets k) [
-        | inl stands ↦ winner_published (ap (λ (e : Decision). list_any (λ (x : Publication). is_round a r x.entry && (place x.view == e.place)) s.published) (sym so.decision) ∙ stands)
+        | inl stands ↦ winner_published (subst (λ (e : Decision). IsPublished a r e.place s.published) so.decision stands)
         | inr held ↦
             let both : None ≡ Some (record { account = a; round = r }) = sym (left.free held.0 held.1) ∙ held.2 in
             absurd (cc both)

@@ -1,10 +1,14 @@
+-- lists alone: with the same records, and where records stand in them
 pub mod SameRecords
+pub mod RecordPositions
+-- what a ledger leaves: its held fronts, its order, its rounds and entries
 pub mod LeftFronts
 pub mod OrderOfLeft
 pub mod LeftRounds
 pub mod LeftEntries
+-- its receipts: where they stand, their keys, and that they account for all
 pub mod Marks
-pub mod MarkOrder
 pub mod LeftKeys
 pub mod LeftTold
+-- that it is coherent
 pub mod Coherence

@@ -1,80 +1,35 @@
 -- Where the receipts of a process stand in the list that a ledger leaves and in the journal's order: what stands in one order in the
 -- first stands so in the second.
-use Rattle.std.proofs.Common.{◌≡◌, ℕ, ◌+◌, ◌*◌, ◌<◌, ◌≤◌, ◌==◌, true, false, List, length, get_or, take, refl, sym, ap, subst, ◌∙◌, arith, inl, inr}
-use Rattle.std.proofs.lemmas.Bool.{and_from, cases_lt, eq-eqb}
-use Rattle.std.proofs.lemmas.List.{get_or-take, get_or_default, length-take}
-use Rattle.std.proofs.lemmas.List.Folds.{Any-from_list_any, list_any_at}
 use Rattle.at_base.specs.declared.decision.Decision.{Decision}
-use Rattle.at_ledger.specs.Book.{BookTerms, HasSlot}
-use Rattle.at_ledger.specs.Call.{TargetPair}
-use Rattle.at_history.proofs.Laws.Counts.{IsPosition, position-below_from_count}
+use Rattle.at_closing.proofs.LeftEntries.{StandsIn-order}
+use Rattle.at_closing.proofs.LeftRounds.{has_round-none, sound_round, winner_of}
+use Rattle.at_closing.proofs.OrderOfLeft.{AreTwins-left, IsHeldFront, IsHeldFront-view, publications_of-left}
+use Rattle.at_closing.proofs.RecordPositions.{counted-own_position, has_round-position, is_round-entry, number-le, own_position-counted, own_position-le, position-has_round, round_position-le}
+use Rattle.at_closing.proofs.SameRecords.{list_any-front}
+use Rattle.at_closing.specs.InOrder.{AreTwo, HasAskedFor, IsOwnAt}
+use Rattle.at_closing.specs.Left.{IsLeft}
+use Rattle.at_history.proofs.Laws.Counts.{get_or-publications_of}
 use Rattle.at_history.proofs.Laws.DecisionNumbers.{named-is_settled, same_round}
-use Rattle.at_history.proofs.Laws.Fronts.{get_or-IsFront, position-IsFront}
 use Rattle.at_history.proofs.Laws.Rounds.{has_round}
+use Rattle.at_history.proofs.Laws.RoundsDecided.{place-HasView-le}
 use Rattle.at_history.proofs.Laws.Settled.{first-below}
-use Rattle.at_history.specs.BoardState.{BoardState, publication_at}
+use Rattle.at_history.specs.BoardState.{BoardState, publication_at, request_at}
 use Rattle.at_history.specs.Entries.{is_own, is_round}
-use Rattle.at_history.specs.Fronts.{IsFront, place, prefix_of}
+use Rattle.at_history.specs.Fronts.{place, prefix_of}
 use Rattle.at_history.specs.Publications.{count_of, no_publication, publications_of}
 use Rattle.at_history.specs.Rounds.{is_settled, rounds}
 use Rattle.at_history.specs.Sound.{IsDecidedSo, IsSoundDecision}
 use Rattle.at_history.specs.declared.publication.Entry.TheVariants.{Round}
 use Rattle.at_history.specs.declared.publication.Publication.{Publication}
-use Rattle.at_log.proofs.Laws.Positions.{own_position-at, round_position-at}
+use Rattle.at_ledger.specs.Book.{BookTerms, HasSlot}
+use Rattle.at_ledger.specs.Call.{TargetPair}
+use Rattle.at_log.proofs.Laws.Positions.{own_position-at}
 use Rattle.at_log.specs.ClosingTerms.{ClosingTerms}
 use Rattle.at_log.specs.JournalOrder.{journal_order}
 use Rattle.at_log.specs.Told.{own_position, round_position}
-use Rattle.at_closing.proofs.LeftEntries.{StandsIn-order}
-use Rattle.at_closing.proofs.LeftRounds.{has_round-none, sound_round, winner_of}
-use Rattle.at_closing.proofs.OrderOfLeft.{AreTwins-left, IsHeldFront, IsHeldFront-view, publications_of-left}
-use Rattle.at_closing.proofs.SameRecords.{list_any-front}
-use Rattle.at_closing.specs.InOrder.{HasAskedFor}
-use Rattle.at_closing.specs.Left.{IsLeft}
-
--- a record of a process stands in the prefix of a front exactly where the front counts it
-counted-own_position : (n p number : ℕ) (view : List ℕ) (list : List Publication) → IsFront n view list → p < n → number < count_of p list
-    → own_position p number list < place view → number < get_or view p 0
-counted-own_position n p number view list front known within below =
-    let at = own_position-at p number list within in
-    let m = own_position p number list in
-    let position : IsPosition p number list m = record {
-      within = at.within;
-      own = λ d. ap (λ (x : Publication). x.process) (get_or_default list m d no_publication at.within) ∙ at.own;
-      before = at.before;
-    } in
-    position-IsFront n view list p number m front known position below
-
-own_position-counted : (n p number : ℕ) (view : List ℕ) (list : List Publication) → IsFront n view list → p < n → number < count_of p list
-    → number < get_or view p 0 → own_position p number list < place view
-own_position-counted n p number view list front known within counted =
-    let at = own_position-at p number list within in
-    position-below_from_count p (own_position p number list) (place view) list (omega (arith, at.before, counted, get_or-IsFront n view list p front known))
-
--- the first record of a round stands no later than any of them
-round_position-le : (a r k : ℕ) (list : List Publication) → k < length list → is_round a r (publication_at list k).entry ≡ true → round_position a r list ≤ k
-round_position-le a r k list within there =
-    let at = round_position-at a r list k within there in
-    elim (cases_lt k (round_position a r list)) as (λ _. round_position a r list ≤ k) [
-      | inl early ↦ let both : true ≡ false = sym there ∙ at.first k early in absurd (cc both)
-      | inr late ↦ late
-    ]
-
--- it stands in a prefix exactly where the prefix has a record of the round
-has_round-position : (a r m k : ℕ) (list : List Publication) → k < length list → is_round a r (publication_at list k).entry ≡ true
-    → round_position a r list < m → has_round a r (take m list) ≡ true
-has_round-position a r m k list within there below =
-    let at = round_position-at a r list k within there in
-    let j = round_position a r list in
-    list_any_at (λ (x : Publication). is_round a r x.entry) (take m list) j no_publication (omega (arith, below, at.within, length-take m list))
-    (ap (λ (x : Publication). is_round a r x.entry) (get_or-take m list j no_publication below) ∙ at.here)
-
-position-has_round : (a r m : ℕ) (list : List Publication) → has_round a r (take m list) ≡ true → round_position a r list < m
-position-has_round a r m list some =
-    let found = Any-from_list_any (λ (x : Publication). is_round a r x.entry) (take m list) some in
-    let i = found.0 in
-    let inside : (i < m) × (i < length list) = (omega (arith, found.2, length-take m list), omega (arith, found.2, length-take m list)) in
-    let here : found.1 ≡ publication_at list i = sym found.3 ∙ (get_or-take m list i found.1 inside.0 ∙ get_or_default list i found.1 no_publication inside.1) in
-    omega (arith, inside.0, round_position-le a r i list inside.1 (subst (λ (x : Publication). is_round a r x.entry ≡ true) here found.4))
+use Rattle.std.proofs.Common.{List, ap, arith, false, inl, inr, length, subst, sym, take, true, ℕ, ◌*◌, ◌+◌, ◌<◌, ◌∙◌, ◌≡◌, ◌≤◌}
+use Rattle.std.proofs.lemmas.Bool.{cases_eq, cases_lt}
+use Rattle.std.specs.Prelude.{Some}
 
 module _ (b : BookTerms) (s : BoardState) (c : ClosingTerms) (left : IsLeft b s c) (p : ℕ) (known : p < b.processes) where
   -- an own record of the process
@@ -96,22 +51,24 @@ module _ (b : BookTerms) (s : BoardState) (c : ClosingTerms) (left : IsLeft b s 
     own : (number : ℕ) → IsOwnMark number → Mark
     round : (a r : ℕ) (d : Decision) → IsRoundMark a r d → Mark
 
+  -- its key in a list
   abbrev pub key_in : List Publication → Mark → ℕ
   key_in list (still view front) = 2 * place view
   key_in list (own number so) = 2 * own_position p number list + 1
   key_in list (round a r d so) = 2 * round_position a r list + 1
 
-  pub in_order : (number : ℕ) → number < count_of p s.published → number < count_of p (journal_order c)
+  -- the journal's order has the record too
+  in_order : (number : ℕ) → number < count_of p s.published → number < count_of p (journal_order c)
   in_order number within = omega (arith, within, ap length (publications_of-left b s c left p known))
 
   -- an own record stands in the prefix of a held front in both lists or in none
-  pub own-order : (view : List ℕ) (number : ℕ) → IsHeldFront b s c left view → number < count_of p s.published
+  own-order : (view : List ℕ) (number : ℕ) → IsHeldFront b s c left view → number < count_of p s.published
       → own_position p number s.published < place view → own_position p number (journal_order c) < place view
   own-order view number front within below =
       own_position-counted b.processes p number view (journal_order c) front.other known (in_order number within)
       (counted-own_position b.processes p number view s.published front.one known within below)
 
-  pub own-state : (view : List ℕ) (number : ℕ) → IsHeldFront b s c left view → number < count_of p s.published
+  own-state : (view : List ℕ) (number : ℕ) → IsHeldFront b s c left view → number < count_of p s.published
       → own_position p number (journal_order c) < place view → own_position p number s.published < place view
   own-state view number front within below =
       own_position-counted b.processes p number view s.published front.one known within
@@ -119,33 +76,33 @@ module _ (b : BookTerms) (s : BoardState) (c : ClosingTerms) (left : IsLeft b s 
 
   module _ (a r : ℕ) (d : Decision) (so : IsRoundMark a r d) where
     is_here : is_round a r (publication_at s.published so.position).entry ≡ true
-    is_here = ap (is_round a r) so.entry ∙ and_from (a == a) (r == r) (eq-eqb a a refl) (eq-eqb r r refl)
+    is_here = is_round-entry a r d so.targets (publication_at s.published so.position).entry so.entry
 
     same_rounds : (view : List ℕ) → IsHeldFront b s c left view → has_round a r (prefix_of view s.published) ≡ has_round a r (prefix_of view (journal_order c))
     same_rounds view front =
         list_any-front b.processes s.published (journal_order c) (AreTwins-left b s c left) (λ (x : Publication). is_round a r x.entry) view front
 
     -- so does the first record of a round
-    pub round-order : (view : List ℕ) → IsHeldFront b s c left view → round_position a r s.published < place view → round_position a r (journal_order c) < place view
+    round-order : (view : List ℕ) → IsHeldFront b s c left view → round_position a r s.published < place view → round_position a r (journal_order c) < place view
     round-order view front below =
         position-has_round a r (place view) (journal_order c)
         (sym (same_rounds view front) ∙ has_round-position a r (place view) so.position s.published so.within is_here below)
 
-    pub round-state : (view : List ℕ) → IsHeldFront b s c left view → round_position a r (journal_order c) < place view → round_position a r s.published < place view
+    round-state : (view : List ℕ) → IsHeldFront b s c left view → round_position a r (journal_order c) < place view → round_position a r s.published < place view
     round-state view front below =
         let stands = StandsIn-order b s c left so.position so.within in
         position-has_round a r (place view) s.published
         (same_rounds view front ∙ has_round-position a r (place view) stands.0 (journal_order c) stands.1
         (ap (λ (x : Publication). is_round a r x.entry) stands.2 ∙ is_here) below)
 
-    pub decided : IsDecidedSo s a r d so.targets
+    decided : IsDecidedSo s a r d so.targets
     decided = (sound_round b s c left so.position a r d so.targets so.within so.entry).1
 
-    pub decision : IsSoundDecision b s a r d
+    decision : IsSoundDecision b s a r d
     decision = subst (IsSoundDecision b s a r) decided.decision (left.sound.decisions a r decided.decided)
 
     -- the process has asked for the request that the round decided
-    pub asked : HasAskedFor b p s.rows a d.slot d.number
+    asked : HasAskedFor b p s.rows a d.slot d.number
     asked = record { slot_in = so.slot; within = decision.announced }
 
     -- the view from which the decision was proposed: no record of the round stands before it
@@ -162,7 +119,7 @@ module _ (b : BookTerms) (s : BoardState) (c : ClosingTerms) (left : IsLeft b s 
     unfolding winner_view
     winner_place = (winner_of b s c left so.position a r d so.targets so.within so.entry).1.place
 
-    pub behind_place : d.place ≤ round_position a r s.published
+    behind_place : d.place ≤ round_position a r s.published
     behind_place =
         let none = has_round-none b s.published left.history a r d.place decision.next in
         elim (cases_lt (round_position a r s.published) d.place) as (λ _. d.place ≤ round_position a r s.published) [
@@ -172,7 +129,7 @@ module _ (b : BookTerms) (s : BoardState) (c : ClosingTerms) (left : IsLeft b s 
           | inr above ↦ above
         ]
 
-    pub behind_place-order : d.place ≤ round_position a r (journal_order c)
+    behind_place-order : d.place ≤ round_position a r (journal_order c)
     behind_place-order =
         elim (cases_lt (round_position a r (journal_order c)) d.place) as (λ _. d.place ≤ round_position a r (journal_order c)) [
           | inl below ↦ absurd (omega (arith, behind_place, winner_place, round-state winner_view winner_front (omega (arith, below, winner_place))))
@@ -180,7 +137,7 @@ module _ (b : BookTerms) (s : BoardState) (c : ClosingTerms) (left : IsLeft b s 
         ]
 
     -- where its request is settled, a record of the round stands
-    pub settled-position : (m : ℕ) → m ≤ length s.published → is_settled a d.slot d.number (take m s.published) ≡ true → round_position a r s.published < m
+    settled-position : (m : ℕ) → m ≤ length s.published → is_settled a d.slot d.number (take m s.published) ≡ true → round_position a r s.published < m
     settled-position m within settled =
         let found = named-is_settled b s m a d.slot d.number left.sound settled in
         let named = found.1 in
@@ -193,5 +150,170 @@ module _ (b : BookTerms) (s : BoardState) (c : ClosingTerms) (left : IsLeft b s 
           arith,
           first.1,
           round_position-le a r first.0 s.published first.2.within
-              (ap (is_round a r) first.2.entry ∙ and_from (a == a) (r == r) (eq-eqb a a refl) (eq-eqb r r refl)),
+              (is_round-entry a r first.2.decision first.2.targets (publication_at s.published first.0).entry first.2.entry),
         )
+
+  -- an own record stands in the list as one that the order of records and requests speaks of
+  own_at : (number : ℕ) → IsOwnMark number → IsOwnAt p s.published (own_position p number s.published)
+  own_at number so =
+      let at = own_position-at p number s.published so.within in
+      let m = own_position p number s.published in
+      record {
+        within = at.within;
+        process_is = at.own;
+        own =
+            ap (λ (x : Publication). is_own x.entry)
+            (sym (get_or-publications_of p m s.published no_publication at.within at.own) ∙ ap (publication_at (publications_of p s.published)) at.before)
+            ∙ so.own;
+      }
+
+  -- its view counts the records before it
+  behind_view : (number : ℕ) → IsOwnMark number → let view = (publication_at s.published (own_position p number s.published)).view in
+      (place view ≤ own_position p number s.published) × (place view ≤ own_position p number (journal_order c))
+  behind_view number so =
+      let at = own_position-at p number s.published so.within in
+      let m = own_position p number s.published in
+      let x : Publication = publication_at s.published m in
+      let before = place-HasView-le b s.published m left.history.views at.within in
+      let front = IsHeldFront-view b s c left m at.within in (
+        before,
+        elim (cases_lt (own_position p number (journal_order c)) (place x.view)) as (λ _. place x.view ≤ own_position p number (journal_order c)) [
+          | inl below ↦ absurd (omega (arith, before, own-state x.view number front so.within below))
+          | inr above ↦ above
+        ],
+      )
+
+  -- two requests of the process on an account with one number are one, decided in one round
+  same_request : (a r l : ℕ) (d e : Decision) → IsRoundMark a r d → IsRoundMark a l e → d.number ≡ e.number → r ≡ l
+  same_request a r l d e one other numbers =
+      let slots : Some d.slot ≡ Some e.slot = sym one.slot.owner ∙ other.slot.owner in
+      let slot_is : d.slot ≡ e.slot = cc slots in
+      let first = decided a r d one in
+      let second = decided a l e other in
+      same_round b s a r l left.sound first.decided second.decided
+      (ap (λ (t : Decision). t.slot) first.decision ∙ (slot_is ∙ sym (ap (λ (t : Decision). t.slot) second.decision)))
+      (ap (λ (t : Decision). t.number) first.decision ∙ (numbers ∙ sym (ap (λ (t : Decision). t.number) second.decision)))
+
+  -- where the request of a round is settled at a record's view, the round stands before that view's place
+  settled-view : (m a r : ℕ) (d : Decision) → IsRoundMark a r d → m < length s.published
+      → is_settled a d.slot d.number (prefix_of (publication_at s.published m).view s.published) ≡ true
+      → round_position a r s.published < place (publication_at s.published m).view
+  settled-view m a r d at within settled =
+      let view = (publication_at s.published m).view in
+      let before : place view ≤ m = place-HasView-le b s.published m left.history.views within in
+      settled-position a r d at (place view) (omega (arith, before, within)) settled
+
+  -- where it is settled at a `since` of the process's request, before that
+  settled-since : (a r l k : ℕ) (d e : Decision) → IsRoundMark a r d → IsRoundMark k l e
+      → is_settled a d.slot d.number (take (request_at (s.rows k e.slot) e.number).since s.published) ≡ true
+      → round_position a r s.published < e.place
+  settled-since a r l k d e one other settled =
+      let law = decision k l e other in
+      let since = (request_at (s.rows k e.slot) e.number).since in
+      let before : since ≤ e.place = law.since in
+      omega (arith, before, settled-position a r d one since (omega (arith, before, law.place)) settled)
+
+  -- an own record and then a round
+  own-round : (number a r : ℕ) (d : Decision) → IsOwnMark number → IsRoundMark a r d
+      → own_position p number s.published ≤ round_position a r s.published → own_position p number (journal_order c) ≤ round_position a r (journal_order c)
+  own-round number a r d so at before =
+      let m = own_position p number s.published in
+      let view = winner_view a r d at in
+      let front = winner_front a r d at in
+      let place_is = winner_place a r d at in
+      elim ((left.order p known).owns m a d.slot d.number (own_at number so) (asked a r d at))
+      as (λ _. own_position p number (journal_order c) ≤ round_position a r (journal_order c)) [
+        | inl early ↦
+            let below : m < place view = omega (arith, early, (decision a r d at).since, place_is) in
+            omega (
+              arith,
+              place_is,
+              own-order view number front so.within below,
+              behind_place-order a r d at,
+            )
+        | inr settled ↦ absurd (omega (arith, before, (behind_view number so).0, settled-view m a r d at (own_at number so).within settled))
+      ]
+
+  -- a round and then an own record
+  round-own : (number a r : ℕ) (d : Decision) → IsOwnMark number → IsRoundMark a r d
+      → round_position a r s.published ≤ own_position p number s.published → round_position a r (journal_order c) ≤ own_position p number (journal_order c)
+  round-own number a r d so at before =
+      let m = own_position p number s.published in
+      let view = (publication_at s.published m).view in
+      elim ((left.order p known).owns m a d.slot d.number (own_at number so) (asked a r d at))
+      as (λ _. round_position a r (journal_order c) ≤ own_position p number (journal_order c)) [
+        | inl early ↦
+            absurd (omega (arith, before, early, (decision a r d at).since, behind_place a r d at))
+        | inr settled ↦
+            let within = (own_at number so).within in
+            let front = IsHeldFront-view b s c left m within in
+            omega (
+              arith,
+              round-order a r d at view front (settled-view m a r d at within settled),
+              (behind_view number so).1,
+            )
+      ]
+
+  -- two rounds that decided two requests
+  rounds-apart : (a r k l : ℕ) (d e : Decision) → IsRoundMark a r d → IsRoundMark k l e → AreTwo a d.number k e.number
+      → round_position a r s.published ≤ round_position k l s.published → round_position a r (journal_order c) ≤ round_position k l (journal_order c)
+  rounds-apart a r k l d e one other two before =
+      let view = winner_view k l e other in
+      let place_is = winner_place k l e other in
+      elim ((left.order p known).requests a d.slot d.number k e.slot e.number (asked a r d one) (asked k l e other) two)
+      as (λ _. round_position a r (journal_order c) ≤ round_position k l (journal_order c)) [
+        | inl first ↦
+            let below : round_position a r s.published < place view = omega (arith, settled-since a r l k d e one other first, place_is) in
+            omega (
+              arith,
+              place_is,
+              round-order a r d one view (winner_front k l e other) below,
+              behind_place-order k l e other,
+            )
+        | inr second ↦ absurd (omega (arith, before, settled-since k l r a e d other one second, behind_place a r d one))
+      ]
+
+  -- two rounds
+  round-round : (a r k l : ℕ) (d e : Decision) → IsRoundMark a r d → IsRoundMark k l e
+      → round_position a r s.published ≤ round_position k l s.published → round_position a r (journal_order c) ≤ round_position k l (journal_order c)
+  round-round a r k l d e one other before =
+      elim (cases_eq a k) as (λ _. round_position a r (journal_order c) ≤ round_position k l (journal_order c)) [
+        | inl same ↦
+            elim (cases_eq d.number e.number) as (λ _. round_position a r (journal_order c) ≤ round_position k l (journal_order c)) [
+              | inl numbers ↦
+                  let round_is : r ≡ l = same_request a r l d e one (subst (λ t. IsRoundMark t l e) (sym same) other) numbers in
+                  let is : round_position a r (journal_order c) ≡ round_position k l (journal_order c) =
+                  λ t. round_position (same t) (round_is t) (journal_order c) in
+                  omega (arith, is)
+              | inr apart ↦ rounds-apart a r k l d e one other (λ both. apart both.1) before
+            ]
+        | inr apart ↦ rounds-apart a r k l d e one other (λ both. apart both.0) before
+      ]
+
+  -- all that stand in one order in the list stand so in the journal's order
+  pub key_in-order : (h k : Mark) → key_in s.published h ≤ key_in s.published k
+      → key_in (journal_order c) h ≤ key_in (journal_order c) k
+  key_in-order (still view front) (still other beyond) before = before
+  key_in-order (still view front) (own number so) before =
+      elim (cases_lt (own_position p number (journal_order c)) (place view)) as (λ _. 2 * place view ≤ 2 * own_position p number (journal_order c) + 1) [
+        | inl below ↦ absurd (omega (arith, before, own-state view number front so.within below))
+        | inr above ↦ omega (arith, above)
+      ]
+  key_in-order (still view front) (round a r d at) before =
+      elim (cases_lt (round_position a r (journal_order c)) (place view)) as (λ _. 2 * place view ≤ 2 * round_position a r (journal_order c) + 1) [
+        | inl below ↦ absurd (omega (arith, before, round-state a r d at view front below))
+        | inr above ↦ omega (arith, above)
+      ]
+  key_in-order (own number so) (still view front) before =
+      omega (arith, own-order view number front so.within (omega (arith, before)))
+  key_in-order (own number so) (own other too) before =
+      let numbers = number-le p number other s.published so.within too.within (omega (arith, before)) in
+      omega (
+        arith,
+        own_position-le p number other (journal_order c) (in_order number so.within) (in_order other too.within) numbers,
+      )
+  key_in-order (own number so) (round a r d at) before = omega (arith, own-round number a r d so at (omega (arith, before)))
+  key_in-order (round a r d at) (still view front) before =
+      omega (arith, round-order a r d at view front (omega (arith, before)))
+  key_in-order (round a r d at) (own number so) before = omega (arith, round-own number a r d so at (omega (arith, before)))
+  key_in-order (round a r d one) (round k l e other) before = omega (arith, round-round a r k l d e one other (omega (arith, before)))
