@@ -1,16 +1,18 @@
--- its receipts: where they stand, their keys, and that they account for all
--- lists alone: with the same records, and where records stand in them
--- that it is coherent
--- what a ledger leaves: its held fronts, its order, its rounds and entries
-pub mod Coherence
-pub mod FilledLogs
+-- what crates above cite
 pub mod Laws
-pub mod LeftEntries
-pub mod LeftFronts
-pub mod LeftKeys
-pub mod LeftRounds
-pub mod LeftTold
-pub mod Marks
-pub mod OrderOfLeft
-pub mod RecordPositions
+-- the lists of records that a closed board fills
+pub mod FilledLogs
+-- lists alone: with the same records, and where records stand in them
 pub mod SameRecords
+pub mod RecordPositions
+-- what a ledger leaves: its held fronts, its order, its rounds and entries
+pub mod LeftFronts
+pub mod OrderOfLeft
+pub mod LeftRounds
+pub mod LeftEntries
+-- its receipts: where they stand, their keys, and that they account for all
+pub mod Marks
+pub mod LeftKeys
+pub mod LeftTold
+-- that it is coherent
+pub mod Coherence
