@@ -1,6 +1,6 @@
 //! Pay-outs from single accounts.
 
-ghost use Rattle.std.specs.Prelude.{◌≡◌, ◌+◌, ◌*◌, ◌<◌, ◌≤◌, List, [], ◌∷◌, length, slice_index, Some};
+ghost use Rattle.std.specs.Prelude.{◌≡◌, ◌+◌, ◌*◌, ◌<◌, ◌≤◌, List, [], ◌∷◌, length, slice_index, sum, Some};
 ghost use Rattle.at_board.specs.Knowledge.Parts.{own_part};
 ghost use Rattle.at_board.specs.Knowledge.Seats.{IsOf};
 ghost use Rattle.at_board.specs.declared.words.TheConstants.{RECORD_WORDS};
@@ -55,6 +55,8 @@ pub fn transfer_own<L: Ledger, X: Ledger>(
     ensures done { result.reply ≡ Reply.Done →
         StandsAtOwn board.now.book seat.old.knows seat.new.knows from ((to, amount) ∷ [])
         result.at }
+    ensures more { sum totals.old.upto + (own_part seat.new.knows).published
+        ≤ sum totals.new.upto + (own_part seat.old.knows).published }
     ensures counted { HasCounted totals.new board.now.book seat.new.knows.seen }
     ensures own_counted { slice_index totals.new.upto seat.new.knows.first
         ≡ (own_part seat.new.knows).published }
@@ -107,6 +109,8 @@ pub fn pay_own<L: Ledger, X: Ledger>(
         StandsAtFront board.now.book seat.old.knows seat.new.knows result.at }
     ensures done { result.reply ≡ Reply.Done →
         StandsAtOwn board.now.book seat.old.knows seat.new.knows from targets.now result.at }
+    ensures more { sum totals.old.upto + (own_part seat.new.knows).published
+        ≤ sum totals.new.upto + (own_part seat.old.knows).published }
     ensures counted { HasCounted totals.new board.now.book seat.new.knows.seen }
     ensures own_counted { slice_index totals.new.upto seat.new.knows.first
         ≡ (own_part seat.new.knows).published }
@@ -162,6 +166,8 @@ fn pay<L: Ledger, X: Ledger>(
         StandsAtFront board.now.book seat.old.knows seat.new.knows result.1 }
     ensures done { result.0 ≡ Reply.Done →
         StandsAtOwn board.now.book seat.old.knows seat.new.knows from targets.now result.1 }
+    ensures more { sum totals.old.upto + (own_part seat.new.knows).published
+        ≤ sum totals.new.upto + (own_part seat.old.knows).published }
     ensures counted { HasCounted totals.new board.now.book seat.new.knows.seen }
     ensures own_counted { slice_index totals.new.upto seat.new.knows.first
         ≡ (own_part seat.new.knows).published }

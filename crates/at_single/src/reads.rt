@@ -1,6 +1,6 @@
 //! Reads.
 
-ghost use Rattle.std.specs.Prelude.{◌≡◌, ◌+◌, ◌*◌, ◌<◌, ◌≤◌, List, length, slice_index};
+ghost use Rattle.std.specs.Prelude.{◌≡◌, ◌+◌, ◌*◌, ◌<◌, ◌≤◌, List, length, slice_index, sum};
 ghost use Rattle.at_board.specs.Knowledge.Parts.{own_part};
 ghost use Rattle.at_board.specs.Knowledge.Seats.{IsOf};
 ghost use Rattle.at_board.specs.declared.words.TheConstants.{RECORD_WORDS};
@@ -40,6 +40,8 @@ pub fn read_account<L: Ledger, X: Ledger>(
     ensures snapshot { IsSnapshot board.now.book seat.old.knows seat.new.knows
         (front_behind seat.new.knows result.at) }
     ensures at_front { StandsAtFront board.now.book seat.old.knows seat.new.knows result.at }
+    ensures more { sum totals.old.upto + (own_part seat.new.knows).published
+        ≤ sum totals.new.upto + (own_part seat.old.knows).published }
     ensures counted { HasCounted totals.new board.now.book seat.new.knows.seen }
     ensures own_counted { slice_index totals.new.upto seat.new.knows.first
         ≡ (own_part seat.new.knows).published }
