@@ -15,8 +15,6 @@ mod owners;
 mod payments;
 mod payments_fault;
 mod records;
-#[cfg(test)]
-mod tests;
 
 pub use crate::book::read_book;
 pub use crate::book_fault::{BadBook, BookWhy, ReadBookFault};

@@ -14,8 +14,6 @@ mod replaying;
 mod run_report;
 mod run_summary;
 mod status;
-#[cfg(test)]
-mod tests;
 
 pub use crate::first_word::process_of;
 pub use crate::lines::push_line;
