@@ -5,6 +5,10 @@
 #[cfg(test)]
 mod files_tests;
 #[cfg(test)]
+mod message_tests;
+#[cfg(test)]
+mod node_tests;
+#[cfg(test)]
 mod report_tests;
 #[cfg(test)]
 mod verify_tests;
