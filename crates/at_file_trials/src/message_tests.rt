@@ -1,6 +1,6 @@
 //! Message files and deliveries that are read, and those that are refused, each with its line and cause.
 
-ghost use Rattle.std.specs.Prelude.{◌≡◌, ◌≤◌, [], ◌∷◌, All};
+ghost use Rattle.std.specs.Prelude.{◌≤◌, All};
 
 use at_base::Counts;
 use at_broadcast::Message;
