@@ -50,7 +50,7 @@ abbrev pub name_in : List (List ℕ) → ℕ → List ℕ
 name_in processes owner = get_or processes owner []
 
 -- pieces that are numbers are their canonical decimals
-pieces-numbers_of : (pieces : List (List ℕ)) (numbers : List ℕ) → numbers_of pieces ≡ Some numbers → pieces ≡ map decimal numbers
+pub pieces-numbers_of : (pieces : List (List ℕ)) (numbers : List ℕ) → numbers_of pieces ≡ Some numbers → pieces ≡ map decimal numbers
 unfolding numbers_of
 pieces-numbers_of [] numbers h = let none : [] ≡ numbers = cc in rw (← none) refl
 pieces-numbers_of (piece ∷ pieces) numbers h =

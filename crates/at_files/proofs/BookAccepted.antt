@@ -61,7 +61,7 @@ pieces_of-join (text ∷ texts) all =
     pieces_of-some (join_with_byte 32 (text ∷ texts)) test ∙ slice_split-join text texts all
 
 -- a number that a file can hold
-abbrev Fits64 : ℕ → Type 0
+abbrev pub Fits64 : ℕ → Type 0
 Fits64 n = n < 2 ^ 64
 
 -- no digit is a space
@@ -98,7 +98,7 @@ owners-solid version processes (owner ∷ owners) are few known =
     (IsSolid-AreNames version processes owner are (All-head (λ o. o < length processes) owner owners known) few)
     (owners-solid version processes owners are few (All-tail (λ o. o < length processes) owner owners known))
 
-numbers_of-decimals : (ns : List ℕ) → All Fits64 ns → numbers_of (map decimal ns) ≡ Some ns
+pub numbers_of-decimals : (ns : List ℕ) → All Fits64 ns → numbers_of (map decimal ns) ≡ Some ns
 unfolding numbers_of
 numbers_of-decimals [] fit = refl
 numbers_of-decimals (n ∷ ns) fit =

@@ -15,3 +15,8 @@ pub mod TargetLaws
 pub mod PaymentsWalk
 pub mod PaymentsSpelled
 pub mod PaymentsAccepted
+pub mod NumberFields
+pub mod SpelledWalk
+pub mod SpelledLaws
+pub mod DeliveryLaws
+pub mod MessageLaws

@@ -15,15 +15,15 @@ numbers_before numbers None = None
 pub record AreRead (pieces : List (List ℕ)) (numbers : List ℕ) (count : ℕ) : Type 0 where
   pub read : numbers_of pieces ≡ numbers_before numbers (numbers_of (drop count pieces))
 
-numbers_before-none : (later : Option (List ℕ)) → numbers_before [] later ≡ later
+pub numbers_before-none : (later : Option (List ℕ)) → numbers_before [] later ≡ later
 numbers_before-none (Some later) = refl
 numbers_before-none None = refl
 
-numbers_before-push : (numbers : List ℕ) (n : ℕ) (later : Option (List ℕ)) → numbers_before numbers (before (Some n) later) ≡ numbers_before (numbers ++ n ∷ []) later
+pub numbers_before-push : (numbers : List ℕ) (n : ℕ) (later : Option (List ℕ)) → numbers_before numbers (before (Some n) later) ≡ numbers_before (numbers ++ n ∷ []) later
 numbers_before-push numbers n (Some later) = ap Some (sym (append_assoc numbers (n ∷ []) later))
 numbers_before-push numbers n None = refl
 
-before-none : (later : Option (List ℕ)) → before None later ≡ None
+pub before-none : (later : Option (List ℕ)) → before None later ≡ None
 before-none (Some later) = refl
 before-none None = refl
 

@@ -7,3 +7,6 @@ pub mod Reading
 pub mod Payments
 pub mod BookRecords
 pub mod BookFile
+pub mod Spelled
+pub mod Messages
+pub mod Deliveries

@@ -1,4 +1,4 @@
--- The limits of a payment file and of a name, as numbers.
+-- The limits of the files beside a book, and of a name, as numbers.
 use Rattle.std.specs.Prelude.{ℕ}
 
 -- calls of one payment file
@@ -8,3 +8,11 @@ most_calls = 16384
 -- bytes of a name
 abbrev pub most_name_bytes : ℕ
 most_name_bytes = 16
+
+-- messages of one message file, and so what an entry of `deps` can count
+abbrev pub most_messages : ℕ
+most_messages = 256
+
+-- deliveries of one file
+abbrev pub most_deliveries : ℕ
+most_deliveries = 65536

@@ -7,20 +7,26 @@ mod accounts;
 mod book;
 mod book_fault;
 mod calls;
+mod deliveries;
 mod fields;
 mod first_records;
+mod messages;
 mod name_set;
 mod names;
 mod owners;
 mod payments;
 mod payments_fault;
 mod records;
-#[cfg(test)]
-mod tests;
+mod spelled;
 
 pub use crate::book::read_book;
 pub use crate::book_fault::{BadBook, BookWhy, ReadBookFault};
+pub use crate::deliveries::{
+    BadOrder, DELIVERIES_MAX, Delivery, OrderWhy, ReadOrderFault, read_deliveries,
+};
+pub use crate::messages::{BadMessages, MessagesWhy, ReadMessagesFault, read_messages};
 pub use crate::names::Names;
 pub use crate::payments::read_payments;
 pub use crate::payments_fault::{BadPayments, CALLS_MAX, PaymentsWhy, ReadPaymentsFault};
+pub use crate::spelled::{BadRecord, ReadFault};
 pub use at_base::NoMemory;

@@ -1,3 +1,4 @@
 pub mod LineLaws
 pub mod WordLaws
 pub mod ReportLaws
+pub mod NodeTexts

@@ -12,10 +12,10 @@ use Rattle.at_report.specs.declared.status.UsageFault.{UsageFault}
 use Rattle.at_report.specs.declared.status.UsageFault.TheVariants as usage
 use Rattle.at_report.specs.declared.status.ScheduleWhy.{ScheduleWhy}
 use Rattle.at_report.specs.declared.status.ScheduleWhy.TheVariants as schedule
-use Rattle.at_report.specs.declared.status.OrderWhy.{OrderWhy}
-use Rattle.at_report.specs.declared.status.OrderWhy.TheVariants as order
-use Rattle.at_report.specs.declared.status.MessagesWhy.{MessagesWhy}
-use Rattle.at_report.specs.declared.status.MessagesWhy.TheVariants as messages
+use Rattle.at_files.specs.declared.deliveries.OrderWhy.{OrderWhy}
+use Rattle.at_files.specs.declared.deliveries.OrderWhy.TheVariants as order
+use Rattle.at_files.specs.declared.messages.MessagesWhy.{MessagesWhy}
+use Rattle.at_files.specs.declared.messages.MessagesWhy.TheVariants as messages
 
 -- why a book breaks a limit
 abbrev pub limit_text : BookError → List ℕ

@@ -3,3 +3,4 @@ pub mod FaultText
 pub mod Lines
 pub mod Report
 pub mod Summary
+pub mod Nodes

@@ -2,7 +2,7 @@
 
 ghost use Rattle.std.specs.Prelude.{◌≡◌};
 
-use at_files::{BadBook, BadPayments};
+use at_files::{BadBook, BadPayments, MessagesWhy, OrderWhy};
 
 /// What is wrong with the words of the command line.
 #[derive(Clone, Copy, Debug, PartialEq, Eq)]
@@ -20,26 +20,6 @@ pub enum ScheduleWhy {
     Shape,
     Number,
     UnknownProcess,
-}
-
-/// The cause of the first fault of a file of deliveries.
-#[derive(Clone, Copy, Debug, PartialEq, Eq)]
-pub enum OrderWhy {
-    TooManyDeliveries,
-    Shape,
-    Number,
-    UnknownProcess,
-    UnknownMessage,
-}
-
-/// The cause of a message file's first fault.
-#[derive(Clone, Copy, Debug, PartialEq, Eq)]
-pub enum MessagesWhy {
-    TooManyMessages,
-    Shape,
-    Number,
-    UnknownAccount,
-    DepsOutOfRange,
 }
 
 /// What the program answers. File 0 is the book, file p + 1 the payment or message file of process p, and a

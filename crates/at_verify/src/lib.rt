@@ -6,8 +6,6 @@
 
 mod comparing;
 mod stepping;
-#[cfg(test)]
-mod tests;
 mod verifying;
 
 pub use crate::stepping::count_calls;

@@ -1,14 +1,18 @@
+//! The texts of reports, summaries and checks, and the line and exit status of each refusal.
+
 ghost use Rattle.std.specs.Prelude.{◌≡◌, length, All, IfOk};
 ghost use Rattle.at_ledger.specs.Call.{IsLineOn};
 ghost use Rattle.at_ledger.specs.declared.call.Call.TheVariants.{Transfer};
 ghost use Rattle.at_files.specs.Names.{AreNamesOf};
 
-use crate::{
-    MessagesWhy, OrderWhy, ScheduleWhy, Status, UsageFault, checked_text, fault_text, report,
-    summary, verified_text,
+use at_files::{
+    BadBook, BadPayments, BookWhy, MessagesWhy, Names, OrderWhy, PaymentsWhy, ReadBookFault,
+    read_book,
 };
-use at_files::{BadBook, BadPayments, BookWhy, Names, PaymentsWhy, ReadBookFault, read_book};
 use at_ledger::{Book, BookError, Call, Line, Reply};
+use at_report::{
+    ScheduleWhy, Status, UsageFault, checked_text, fault_text, report, summary, verified_text,
+};
 use std::alloc::Global;
 use std::test::Fail;
 

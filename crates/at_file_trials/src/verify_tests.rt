@@ -4,9 +4,9 @@ ghost use Rattle.std.specs.Prelude.{◌≡◌, All, IfSome, length};
 ghost use Rattle.at_files.specs.Names.{AreNamesOf};
 ghost use Rattle.at_verify.specs.Right.{IsPlayable, files_in};
 
-use crate::{TEXT_MAX, Verdict, verify};
 use at_files::{Names, read_book, read_payments};
 use at_ledger::{Book, Call};
+use at_verify::{TEXT_MAX, Verdict, verify};
 use std::alloc::Global;
 use std::test::Fail;
 

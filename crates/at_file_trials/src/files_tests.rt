@@ -1,4 +1,6 @@
-use crate::{
+//! Books and payments that are read, and those that are refused, each with its line and cause.
+
+use at_files::{
     BadBook, BadPayments, BookWhy, Names, PaymentsWhy, ReadBookFault, ReadPaymentsFault, read_book,
     read_payments,
 };

@@ -1,10 +1,10 @@
-use Rattle.std.proofs.Common.{◌≡◌, ℕ, List, [], ◌∷◌, ◌++◌, Vec, All, length, map, arith}
+use Rattle.std.proofs.Common.{ℕ, List, [], ◌∷◌, ◌++◌, Vec, All, length, arith}
 use Rattle.std.specs.Global.{Global}
 use Rattle.std.proofs.lemmas.List.{length-append, map-append}
 use Rattle.std.proofs.lemmas.List.Elements.{All-append, All-cons, All-nil}
 use Rattle.at_ledger.specs.declared.call.Call.{Call}
 use Rattle.at_verify.specs.Right.{IsPlayable, files_in}
-use Rattle.at_verify.proofs.tests.files_of.Goals as goal
+use Rattle.at_file_trials.proofs.verify_tests.files_of.Goals as goal
 
 -- one more file
 playable-push : (accounts : ℕ) (files : List (Vec Call Global)) (file : Vec Call Global) → All (IsPlayable accounts) (files_in files) → IsPlayable accounts file.items

@@ -1,0 +1,14 @@
+//! Tests of the crates that read files, print texts and judge reports, by their public names. There is nothing else
+//! here.
+#![tactic(auto)]
+
+#[cfg(test)]
+mod files_tests;
+#[cfg(test)]
+mod message_tests;
+#[cfg(test)]
+mod node_tests;
+#[cfg(test)]
+mod report_tests;
+#[cfg(test)]
+mod verify_tests;

@@ -1,0 +1,163 @@
+//! Deliveries of messages that were read, played on nodes, and what these print.
+
+ghost use Rattle.std.specs.Prelude.{◌≡◌, ◌≤◌, All, IfSome, length};
+
+use at_base::Counts;
+use at_broadcast::{MESSAGES_MAX, Message, Node};
+use at_files::{Delivery, read_book, read_deliveries, read_messages};
+use at_ledger::Book;
+use at_report::nodes_text;
+use std::alloc::Global;
+
+const BOOK: &[u8] = b"book,1\nprocesses,2\nlimits,4,4\naccount,0,100,0\naccount,1,0,1\n";
+
+/// The messages of process 0. At the counts of the second, account 0 has 40.
+const FIRST: &[u8] = b"send,0,1,60,0,0\nsend,0,1,41,1,0\n";
+
+/// The message of process 1, which spends what the first of process 0 brings.
+const SECOND: &[u8] = b"send,1,0,50,1,0\n";
+
+/// Gives a node a message of its sender, if there is one of this number on two accounts.
+fn give(node: &mut Node, messages: &[Message], delivery: &Delivery) -> bool
+    requires processes { node.old.book.processes ≡ 2 }
+    requires accounts { length node.old.book.accounts ≡ 2 }
+    ensures { node.new.book ≡ node.old.book }
+{
+    let Some(message) = messages.get(delivery.number as usize) else {
+        return false;
+    };
+    if delivery.sender >= 2 || delivery.number >= MESSAGES_MAX {
+        return false;
+    }
+    if message.from >= 2 || message.to >= 2 || message.deps.len() != 2 {
+        return false;
+    }
+    node.deliver(delivery.sender, delivery.number, message)
+        .is_ok()
+}
+
+/// Makes the deliveries in turn, to one of two nodes each.
+fn play(
+    first: &mut Node,
+    second: &mut Node,
+    files: (&[Message], &[Message]),
+    deliveries: &[Delivery],
+) -> bool
+    requires processes { (first.old.book.processes ≡ 2) × (second.old.book.processes ≡ 2) }
+    requires accounts { (length first.old.book.accounts ≡ 2)
+        × (length second.old.book.accounts ≡ 2) }
+    ensures first { first.new.book ≡ first.old.book }
+    ensures second { second.new.book ≡ second.old.book }
+{
+    for delivery in deliveries {
+        let messages = if delivery.sender == 0 {
+            files.0
+        } else {
+            files.1
+        };
+        let given = if delivery.node == 0 {
+            give(first, messages, delivery)
+        } else {
+            give(second, messages, delivery)
+        };
+        if !given {
+            return false;
+        }
+    }
+    true
+}
+
+/// How many messages the two processes have.
+fn counts_of(first: usize, second: usize) -> Option<Counts>
+    ensures { IfSome result (All (λ count. count ≤ 256)) }
+{
+    if first > 256 || second > 256 {
+        return None;
+    }
+    let mut counts = Counts::zeros(2);
+    counts.set(0, first as u32);
+    counts.set(1, second as u32);
+    Some(counts)
+}
+
+/// The messages of two processes, and deliveries of them.
+#[derive(Drop)]
+struct Given {
+    first: Vec<Message>,
+    second: Vec<Message>,
+    deliveries: Vec<Delivery>,
+}
+
+/// The messages of the files, and the deliveries.
+fn given_by(alloc: Global, book: &Book, order: &[u8]) -> Option<Given> {
+    let Ok(first) = read_messages(alloc, book, FIRST) else {
+        return None;
+    };
+    let Ok(second) = read_messages(alloc, book, SECOND) else {
+        return None;
+    };
+    let Some(counts) = counts_of(first.len(), second.len()) else {
+        return None;
+    };
+    let Ok(deliveries) = read_deliveries(alloc, &counts, order) else {
+        return None;
+    };
+    Some(Given {
+        first,
+        second,
+        deliveries,
+    })
+}
+
+/// What two nodes of the book print after the deliveries.
+fn output_of(alloc: Global, book: &Book, given: &Given) -> Option<Vec<u8>>
+    requires processes { book.now.processes ≡ 2 }
+    requires accounts { length book.now.accounts ≡ 2 }
+{
+    let Ok(mut first) = Node::new(alloc, book) else {
+        return None;
+    };
+    let Ok(mut second) = Node::new(alloc, book) else {
+        return None;
+    };
+    let files = (given.first.as_slice(), given.second.as_slice());
+    if !play(&mut first, &mut second, files, given.deliveries.as_slice()) {
+        return None;
+    }
+    nodes_text(alloc, book, &[first, second]).ok()
+}
+
+/// Whether the deliveries lead to this output.
+fn leads_to(alloc: Global, order: &[u8], want: &[u8]) -> bool {
+    let Ok((book, _)) = read_book(alloc, BOOK) else {
+        return false;
+    };
+    if book.processes() != 2 || book.accounts() != 2 {
+        return false;
+    }
+    let Some(given) = given_by(alloc, &book, order) else {
+        return false;
+    };
+    match output_of(alloc, &book, &given) {
+        Some(text) => text.as_slice() == want,
+        None => false,
+    }
+}
+
+/// A node that has validated the first message of each process, and one that has validated none.
+const ONE_EACH: &[u8] =
+    b"node 0\nvalidated 1 1\n0 90\n1 10\ntotal 100\nnode 1\nvalidated 0 0\n0 100\n1 0\ntotal 100\n";
+
+/// A message before the one that it needs; with one that its balance never covers; and with a repeated delivery.
+const ORDERS: [&[u8]; 3] = [
+    b"0,1,0\n0,0,0\n1,1,0\n",
+    b"0,1,0\n0,0,0\n1,1,0\n0,0,1\n",
+    b"0,1,0\n0,1,0\n0,0,0\n1,1,0\n0,0,0\n",
+];
+
+#[test]
+fn deliveries_in_any_order(rt: HostRuntime) {
+    for order in &ORDERS {
+        assert!(rt; leads_to(rt.alloc(), order, ONE_EACH), "{order:?}");
+    }
+}

@@ -1,0 +1,75 @@
+-- The walk over the records of a file of which each spells one thing.
+use Rattle.std.proofs.Common.{◌≡◌, ℕ, ◌+◌, ◌<◌, Bool, true, false, ◌==◌, List, [], ◌∷◌, ◌++◌, Result, Ok, Err, if◌then◌else◌, refl, sym, ◌∙◌, ap, append_assoc, append-nil, arith}
+use Rattle.std.proofs.lemmas.Bool.Decides.{nat_tests}
+use Rattle.at_files.specs.Records.{Fields}
+use Rattle.at_files.specs.Spelled.{bad_record, items_before, item_before, items_from, items_of}
+use Rattle.at_files.specs.declared.spelled.BadRecord.{BadRecord}
+use Rattle.at_files.specs.declared.spelled.ReadFault.{ReadFault}
+use Rattle.at_files.specs.declared.spelled.ReadFault.TheVariants.{Bad}
+
+-- these items stand before the record of this line, and what comes later is that of the records from there on
+pub record AreSpelled {T W : Type 0} (item : Fields → Result T W) (most : ℕ) (over : W) (all : List Fields) (items : List T) (line : ℕ) (records : List Fields) : Type 0 where
+  pub walk : items_of item most over all ≡ items_before items (items_from item most over line records)
+
+items_before-none : {T W : Type 0} (later : Result (List T) (BadRecord W)) → items_before [] later ≡ later
+items_before-none (Ok later) = refl
+items_before-none (Err bad) = refl
+
+items_before-push : {T W : Type 0} (items : List T) (item : T) (later : Result (List T) (BadRecord W))
+    → items_before items (items_before (item ∷ []) later) ≡ items_before (items ++ item ∷ []) later
+items_before-push items item (Ok later) = ap Ok (sym (append_assoc items (item ∷ []) later))
+items_before-push items item (Err bad) = refl
+
+not_last : (most line : ℕ) → line < most + 1 → (line == most + 1) ≡ false
+not_last most line h = grind (arith, nat_tests)
+
+pub items_from-more : {T W : Type 0} (item : Fields → Result T W) (most : ℕ) (over : W) (line : ℕ) (fields : Fields) (records : List Fields) → line < most + 1
+    → items_from item most over line (fields ∷ records) ≡ item_before line (item fields) (items_from item most over (line + 1) records)
+unfolding items_from
+items_from-more item most over line fields records h = rw (not_last most line h) refl
+
+pub AreSpelled-start : {T W : Type 0} (item : Fields → Result T W) (most : ℕ) (over : W) (all : List Fields) → AreSpelled item most over all [] 1 all
+AreSpelled-start item most over all = record { walk = sym (items_before-none (items_from item most over 1 all)) }
+
+-- a record was read, or there was none
+abbrev pub IsNext : List Fields → Bool → Fields → List Fields → Type 0
+IsNext records found fields rest = records ≡ (if found then fields ∷ rest else [])
+
+pub AreSpelled-more : {T W : Type 0} (item : Fields → Result T W) (most : ℕ) (over : W) (all : List Fields) (items : List T) (line : ℕ) (records : List Fields) (found : Bool)
+    (fields : Fields) (rest : List Fields) (x : T) → AreSpelled item most over all items line records → IsNext records found fields rest → found ≡ true → line < most + 1
+    → item fields ≡ Ok x → AreSpelled item most over all (items ++ x ∷ []) (line + 1) rest
+AreSpelled-more item most over all items line records found fields rest x are next some h is =
+    let here : records ≡ fields ∷ rest = next ∙ rw some refl in
+    record {
+      walk =
+          (rw here at are.walk)
+          ∙ rw (items_from-more item most over line fields rest h, is) (items_before-push items x (items_from item most over (line + 1) rest));
+    }
+
+pub AreSpelled-end : {T W : Type 0} (item : Fields → Result T W) (most : ℕ) (over : W) (all : List Fields) (items : List T) (line : ℕ) (records : List Fields) (found : Bool)
+    (fields : Fields) (rest : List Fields) → AreSpelled item most over all items line records → IsNext records found fields rest → found ≡ false
+    → items_of item most over all ≡ Ok items
+unfolding items_from
+AreSpelled-end item most over all items line records found fields rest are next none =
+    let here : records ≡ [] = next ∙ rw none refl in
+    (rw here at are.walk) ∙ ap Ok (append-nil items)
+
+pub AreSpelled-bad : {T W : Type 0} (item : Fields → Result T W) (most : ℕ) (over : W) (all : List Fields) (items : List T) (line : ℕ) (records : List Fields) (found : Bool)
+    (fields : Fields) (rest : List Fields) (why : W) → AreSpelled item most over all items line records → IsNext records found fields rest → found ≡ true → line < most + 1
+    → item fields ≡ Err why → items_of item most over all ≡ bad_record line why
+AreSpelled-bad item most over all items line records found fields rest why are next some h is =
+    let here : records ≡ fields ∷ rest = next ∙ rw some refl in
+    (rw here at are.walk) ∙ rw (items_from-more item most over line fields rest h, is) refl
+
+pub AreSpelled-many : {T W : Type 0} (item : Fields → Result T W) (most : ℕ) (over : W) (all : List Fields) (items : List T) (line : ℕ) (records : List Fields) (found : Bool)
+    (fields : Fields) (rest : List Fields) → AreSpelled item most over all items line records → IsNext records found fields rest → found ≡ true → line ≡ most + 1
+    → items_of item most over all ≡ bad_record (most + 1) over
+unfolding items_from
+AreSpelled-many item most over all items line records found fields rest are next some last =
+    let here : records ≡ fields ∷ rest = next ∙ rw some refl in
+    let test : (most + 1 == most + 1) ≡ true = grind (arith, nat_tests) in
+    (rw (here, last) at are.walk) ∙ rw test refl
+
+-- the fault that an answer carries
+pub Bad-same : {T W : Type 0} (x b : BadRecord W) → ◌≡◌ {A = Result T (ReadFault W)} (Err (Bad x)) (Err (Bad b)) → x ≡ b
+Bad-same x b h = cc

@@ -1,0 +1,56 @@
+-- The messages of one process: what the records of its file spell, or the first fault.
+use Rattle.std.specs.Prelude.{◌≡◌, ℕ, ◌+◌, ◌^◌, ◌<◌, ◌≤◌, Bool, ◌&&◌, List, ◌∷◌, length, drop, map, All, codes, decimal, nat_le, nat_lt, Option, Some, Result, Ok, Err, if◌then◌else◌}
+use Rattle.std.specs.List.{list_all}
+use Rattle.at_ledger.specs.Book.{BookTerms}
+use Rattle.at_broadcast.specs.Messages.{IsMessageOn}
+use Rattle.at_broadcast.specs.declared.message.Message.{Message}
+use Rattle.at_files.specs.BookRecords.{numbers_of}
+use Rattle.at_files.specs.Limits.{most_messages}
+use Rattle.at_files.specs.Records.{Fields, has_shape, number_at}
+use Rattle.at_files.specs.Spelled.{items_of}
+use Rattle.at_files.specs.declared.messages.MessagesWhy.{MessagesWhy}
+use Rattle.at_files.specs.declared.messages.MessagesWhy.TheVariants.{TooManyMessages, Shape, Number, UnknownAccount, DepsOutOfRange}
+use Rattle.at_files.specs.declared.spelled.BadRecord.{BadRecord}
+
+-- whether each is a count of messages that a sender can have
+abbrev pub are_counts : List ℕ → Bool
+are_counts deps = list_all (λ d. nat_le d most_messages) deps
+
+-- a message between two of so many accounts
+abbrev pub message_between : ℕ → ℕ → ℕ → ℕ → List ℕ → Result Message MessagesWhy
+message_between accounts from to amount deps =
+    if nat_lt from accounts && nat_lt to accounts
+    then (if are_counts deps then Ok (record { from = from; to = to; amount = amount; deps = deps }) else Err DepsOutOfRange)
+    else Err UnknownAccount
+
+-- the same, where each field is a number
+abbrev pub message_read : ℕ → Option ℕ → Option ℕ → Option ℕ → Option (List ℕ) → Result Message MessagesWhy
+message_read accounts (Some from) (Some to) (Some amount) (Some deps) = message_between accounts from to amount deps
+message_read accounts _ _ _ _ = Err Number
+
+-- the message that a record spells, beside a book: accounts are given by their numbers, and `deps` has one for each process
+abbrev pub message_of : BookTerms → Fields → Result Message MessagesWhy
+message_of b fields =
+    if has_shape (codes "send") (b.processes + 4) fields
+    then message_read (length b.accounts) (number_at fields 1) (number_at fields 2) (number_at fields 3) (numbers_of (drop 4 fields))
+    else Err Shape
+
+-- the messages of a file's records, or the first fault
+abbrev pub messages_of : BookTerms → List Fields → Result (List Message) (BadRecord MessagesWhy)
+messages_of b records = items_of (message_of b) most_messages TooManyMessages records
+
+-- the record of a message
+abbrev pub fields_of_message : Message → Fields
+fields_of_message m = codes "send" ∷ decimal m.from ∷ decimal m.to ∷ decimal m.amount ∷ map decimal m.deps
+
+-- a file beside the book can hold the message
+pub record IsSent (b : BookTerms) (m : Message) : Type 0 where
+  pub known : IsMessageOn b m
+  pub amount : m.amount < 2 ^ 64
+  pub deps : All (λ d. d ≤ most_messages) m.deps
+
+-- the records are these messages, written out one after another
+pub record Sends (b : BookTerms) (records : List Fields) (messages : List Message) : Type 0 where
+  pub spelled : records ≡ map fields_of_message messages
+  pub each : All (IsSent b) messages
+  pub few : length messages ≤ most_messages

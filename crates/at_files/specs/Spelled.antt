@@ -1,0 +1,29 @@
+-- What the records of a file spell, one after another.
+use Rattle.std.specs.Prelude.{ℕ, ◌+◌, ◌==◌, List, [], ◌∷◌, ◌++◌, Result, Ok, Err, if◌then◌else◌}
+use Rattle.at_files.specs.Records.{Fields}
+use Rattle.at_files.specs.declared.spelled.BadRecord.{BadRecord}
+
+-- a fault of the record of this line
+abbrev pub bad_record : {T W : Type 0} → ℕ → W → Result (List T) (BadRecord W)
+bad_record line why = Err (record { line = line; why = why })
+
+-- items before those that come later, unless a fault does
+abbrev pub items_before : {T W : Type 0} → List T → Result (List T) (BadRecord W) → Result (List T) (BadRecord W)
+items_before items (Ok later) = Ok (items ++ later)
+items_before items (Err bad) = Err bad
+
+-- what the record of this line spells, and then what comes later
+abbrev pub item_before : {T W : Type 0} → ℕ → Result T W → Result (List T) (BadRecord W) → Result (List T) (BadRecord W)
+item_before line (Ok item) later = items_before (item ∷ []) later
+item_before line (Err why) later = bad_record line why
+
+-- what the records spell from this line on, by what one of them does: no more than `most`, and else `over` is the cause
+unfoldable pub items_from : {T W : Type 0} → (Fields → Result T W) → ℕ → W → ℕ → List Fields → Result (List T) (BadRecord W)
+items_from item most over line [] = Ok []
+items_from item most over line (fields ∷ records) =
+    if line == most + 1 then bad_record line over
+    else item_before line (item fields) (items_from item most over (line + 1) records)
+
+-- what a file's records spell, or the first fault
+abbrev pub items_of : {T W : Type 0} → (Fields → Result T W) → ℕ → W → List Fields → Result (List T) (BadRecord W)
+items_of item most over records = items_from item most over 1 records

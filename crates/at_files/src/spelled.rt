@@ -1,0 +1,84 @@
+//! Files of which each record spells one thing.
+
+ghost use Rattle.std.specs.Prelude.{◌≡◌, ◌+◌, ◌^◌, ◌<◌, Result, Err, Ok, IfOk};
+ghost use Rattle.csv.specs.Records.{fields_of};
+ghost use Rattle.at_files.specs.Records.{Fields, records_of};
+ghost use Rattle.at_files.specs.Spelled.{items_of};
+
+use crate::records::Records;
+use csv::ByteRecord;
+use std::alloc::Global;
+
+/// A file's first fault. A line is the number of a record, from 1.
+#[derive(Clone, Copy, Debug, PartialEq, Eq, Drop)]
+pub struct BadRecord<W> {
+    pub line: u32,
+    pub why: W,
+}
+
+/// Why nothing came of a file.
+#[derive(Clone, Copy, Debug, PartialEq, Eq, Drop)]
+pub enum ReadFault<W> {
+    Bad(BadRecord<W>),
+    NoMemory,
+}
+
+/// What a record has to be, to spell an item.
+pub(crate) trait RecordForm {
+    type Item: Drop;
+
+    type Why: Copy;
+
+    // what a record spells, or the cause of its fault
+    ghost item: { Self → Fields → Result Self.Item Self.Why };
+
+    /// What the record spells.
+    fn item_of(&self, fields: &ByteRecord) -> Result<Self::Item, Self::Why>
+        ensures { result ≡ item self.now (fields_of fields.now) };
+}
+
+/// Reads a file of at most `most` records; the fault of the record after these is `over`.
+///
+/// Fields are looked at where they lie; beside the items only one record is held at a time.
+pub(crate) fn read_items<F: RecordForm>(
+    alloc: Global,
+    form: &F,
+    most: u32,
+    over: F::Why,
+    bytes: &[u8],
+) -> Result<Vec<F::Item>, ReadFault<F::Why>>
+    requires { most + 1 < 2 ^ 32 }
+    ensures ok { IfOk result
+        (λ items. items_of (F.item form.now) most over (records_of bytes.now) ≡ Ok items.items) }
+    ensures bad { (b : BadRecord F.Why) → result ≡ Err (ReadFault.Bad b)
+        → items_of (F.item form.now) most over (records_of bytes.now) ≡ Err b }
+{
+    let mut records = Records::new(alloc, bytes);
+    let mut fields = ByteRecord::new(alloc);
+    let mut items = Vec::new(alloc);
+    for line in 1..most + 1 {
+        let Ok(found) = records.next(&mut fields) else {
+            return Err(ReadFault::NoMemory);
+        };
+        if !found {
+            return Ok(items);
+        }
+        let item = match form.item_of(&fields) {
+            Ok(item) => item,
+            Err(why) => return Err(ReadFault::Bad(BadRecord { line, why })),
+        };
+        if items.push(item).is_err() {
+            return Err(ReadFault::NoMemory);
+        }
+    }
+    let Ok(found) = records.next(&mut fields) else {
+        return Err(ReadFault::NoMemory);
+    };
+    if found {
+        return Err(ReadFault::Bad(BadRecord {
+            line: most + 1,
+            why: over,
+        }));
+    }
+    Ok(items)
+}

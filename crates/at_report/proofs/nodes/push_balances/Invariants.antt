@@ -1,0 +1,9 @@
+use Rattle.std.proofs.Common.{◌≡◌, ◌++◌, map}
+use Rattle.std.specs.List.{range_with_len}
+use Rattle.at_report.specs.Lines.{lines_text}
+use Rattle.at_report.specs.Nodes.{node_balance_words}
+use Rattle.at_report.proofs.nodes.push_balances.Given as goal
+
+abbrev pub invariant-loop-account : goal.invariant-loop-account
+invariant-loop-account l =
+    l.out.items ≡ l.initial.out.items ++ lines_text (map (node_balance_words l.node) (range_with_len 0 l.account))

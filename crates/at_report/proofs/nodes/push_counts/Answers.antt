@@ -1,0 +1,12 @@
+use Rattle.std.proofs.Common.{◌≡◌, ◌∙◌, ◌++◌, [], ◌∷◌}
+use Rattle.at_report.specs.Lines.{spaced}
+use Rattle.at_report.specs.Nodes.{validated_word}
+use Rattle.at_report.proofs.NodeTexts.{spaced-map_more}
+use Rattle.at_report.proofs.nodes.push_counts.Goals as goal
+
+pub loop-p-preserved : goal.loop-p-preserved
+loop-p-preserved c =
+    let word = validated_word c.args.node.now in
+    let more : c.push_number.new.out.items ≡ c.loop-p.out.items ++ spaced (word c.loop-p.p ∷ []) =
+    rw (← c.validated.ensures.count, ← c.from.ensures) c.in_ok-push_number.ensures in
+    more ∙ rw c.loop-p.invariant (spaced-map_more word c.args.out.now.items c.loop-p.p)
