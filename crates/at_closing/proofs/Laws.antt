@@ -20,6 +20,6 @@ pub mod Ended
 -- AreInOrder-count_of), with its next own record (AreInOrder-paid), with its next request (AreInOrder-asked), and with the same rows
 -- given otherwise (AreInOrder-rows)
 pub mod Order
--- a seat and its receipts: on a new board (StandsWith-starting), and after a call that is a HasCalled (StandsWith-still, StandsWith-own,
--- StandsWith-asked)
+-- a seat and its receipts: on a new board (StandsWith-starting), where nothing is announced (announced-starting), and after a call
+-- that is a HasCalled (StandsWith-still, StandsWith-own, StandsWith-asked)
 pub mod Stands

@@ -16,3 +16,5 @@ pub mod LeftKeys
 pub mod LeftTold
 -- that it is coherent
 pub mod Coherence
+-- and so is the closing of a closed board
+pub mod EndedLeft

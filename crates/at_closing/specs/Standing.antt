@@ -1,14 +1,17 @@
 -- The seats of a closed board, with the receipts of their processes.
-use Rattle.std.specs.Prelude.{◌≡◌, ℕ, ◌<◌, List, [], slice_index_or}
+use Rattle.std.specs.Prelude.{◌≡◌, ℕ, ◌<◌, List, [], length, slice_index_or}
 use Rattle.at_ledger.specs.Book.{BookTerms}
+use Rattle.at_history.specs.Histories.{IsHistory}
 use Rattle.at_board.specs.Ends.Closing.{EndTerms, IsEnd}
 use Rattle.at_board.specs.Knowledge.Seats.{SeatTerms}
 use Rattle.at_log.specs.declared.receipt.Receipt.{Receipt}
 use Rattle.at_closing.specs.BetweenCalls.{StandsWith}
 
--- each seat is that of its process, with which these receipts stand
+-- one seat for each process, in order, that has seen a history, and with which these receipts stand
 pub record AllStand (b : BookTerms) (seats : List SeatTerms) (receipts : List (List Receipt)) : Type 0 where
+  pub count : length seats ≡ b.processes
   pub process : (p : ℕ) (d : SeatTerms) → p < b.processes → (slice_index_or seats p d).knows.first ≡ p
+  pub history : (p : ℕ) (d : SeatTerms) → p < b.processes → IsHistory b (slice_index_or seats p d).knows.seen
   pub each : (p : ℕ) (d : SeatTerms) → p < b.processes → StandsWith b (slice_index_or seats p d).knows (slice_index_or receipts p [])
 
 -- the board was closed with seats with which these receipts stand

@@ -7,6 +7,7 @@ ghost use Rattle.at_history.specs.Publications.{publications_of};
 ghost use Rattle.at_board.specs.Ends.Closing.{IsEnd, records_of};
 ghost use Rattle.at_board.specs.Knowledge.Seats.{SeatTerms};
 ghost use Rattle.at_log.specs.ClosingTerms.{log_published};
+ghost use Rattle.at_log.specs.Coherent.{Coherent};
 ghost use Rattle.at_closing.specs.Standing.{IsEndWith};
 
 use at_board::BoardEnd;
@@ -27,7 +28,9 @@ pub fn closing_of(
     requires receipts { length receipts.items ≡ end.now.book.processes }
     ensures receipts { result.receipts ≡ map (λ v. v.items) receipts.items }
     ensures count { length result.logs ≡ end.now.book.processes }
-    ensures logs { (seats : List SeatTerms) (ended : IsEnd end.now seats) (p : ℕ) → p < end.now.book.processes → log_published result p ≡ publications_of p ended.state.published }
+    ensures coherent { Coherent end.now.book result }
+    ensures logs { (seats : List SeatTerms) (ended : IsEnd end.now seats) (p : ℕ) → p < end.now.book.processes
+        → log_published result p ≡ publications_of p ended.state.published }
 {
     let processes = rooms.len() as u32;
     for p in 0..processes {

@@ -31,7 +31,7 @@ use Rattle.at_closing.specs.BetweenCalls.{IsBetweenCalls, StandsWith, own_rows}
 use Rattle.at_closing.specs.InOrder.{AreInOrder, HasAskedFor}
 
 -- nothing is announced on a new board
-announced-starting : (b : BookTerms) (p a slot : ℕ) → own_rows (starting_seat b p) a slot ≡ []
+pub announced-starting : (b : BookTerms) (p a slot : ℕ) → own_rows (starting_seat b p) a slot ≡ []
 announced-starting b p a slot =
     elim (cases_lt a (length b.accounts)) as (λ _. own_rows (starting_seat b p) a slot ≡ []) [
       | inl within ↦ ap (λ (t : Asking). t.announced) (get_or-replicate (length b.accounts) a starting_asking no_asking within)

@@ -1,0 +1,33 @@
+use Rattle.std.proofs.Common.{◌≡◌, Some, sym, ap, subst, ◌∙◌, List}
+use Rattle.at_ledger.specs.Book.{BookTerms}
+use Rattle.at_ledger.specs.Call.{TargetPair}
+use Rattle.at_history.specs.Moves.{AreRuns}
+use Rattle.at_board.specs.Knowledge.Seats.{IsKept}
+use Rattle.at_closing.specs.BetweenCalls.{IsBetweenCalls}
+use Rattle.at_object.proofs.Made.{PaymentMade-refused}
+use Rattle.at_object.specs.Paid.{PaymentMade}
+use Rattle.at_object.specs.Passes.{PassTerms}
+use Rattle.at_object.proofs.ledger.Ledger.make.Given as given
+use Rattle.at_object.proofs.ledger.Ledger.make.Goals.{After-refuse}
+use Rattle.at_object.proofs.ledger.Ledger.make.Goals as goal
+
+-- what the type of the pass keeps of its seat
+kept : (g : given.Over) (c : After-refuse g) → IsKept c.args.pass.now.knows
+kept g c = subst (λ (t : PassTerms). IsKept t.knows) c.pass.view_is c.known.ensures.seat
+
+pub returns-in-Some-clause-made : goal.returns-in-Some-clause-made
+returns-in-Some-clause-made g c = λ targets payout.
+    let b : BookTerms = c.args.self.now.book in
+    let before : PassTerms = c.args.pass.now in
+    let told = c.refuse.ensures in
+    let between : IsBetweenCalls b before.knows =
+    subst (λ t. IsBetweenCalls t before.knows) c.requires.pass.book
+    (subst (λ (t : PassTerms). IsBetweenCalls t.knows.book t.knows) c.pass.view_is c.pass.invariant.between) in
+    subst (λ (t : PassTerms). PaymentMade b before t c.args.source targets c.args.call.now c.refuse.result) (sym told.pass)
+    (PaymentMade-refused b before c.args.source (kept g c) c.requires.pass.book between c.requires.source targets c.args.call.now c.refuse.result told.call
+    told.at payout (sym c.refusal.ensures ∙ (c.in-Some.is ∙ ap Some (sym told.reply))))
+
+pub returns-in-Some-clause-runs : goal.returns-in-Some-clause-runs
+returns-in-Some-clause-runs g c =
+    subst (λ (t : PassTerms). AreRuns c.args.self.now.book t.knows.seen) (sym c.refuse.ensures.pass)
+    (subst (λ (t : BookTerms). AreRuns t c.args.pass.now.knows.seen) c.requires.pass.book (kept g c).history.runs)

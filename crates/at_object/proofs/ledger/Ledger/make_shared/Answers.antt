@@ -1,0 +1,100 @@
+use Rattle.std.proofs.Common.{◌≡◌, ◌≢◌, ◌<◌, ℕ, false, true, List, Some, length, sym, ap, subst, ◌∙◌, arith}
+use Rattle.at_ledger.specs.Account.{is_shared}
+use Rattle.at_ledger.specs.Book.{BookTerms, HasSlot, account_of, is_owner}
+use Rattle.at_ledger.specs.Call.{TargetPair}
+use Rattle.at_history.specs.Histories.{IsHistory}
+use Rattle.at_history.specs.Moves.{AreRuns}
+use Rattle.at_board.specs.Knowledge.Seats.{BoardTerms}
+use Rattle.at_board.specs.declared.knowledge.Knowledge.{Knowledge}
+use Rattle.at_closing.specs.BetweenCalls.{IsBetweenCalls}
+use Rattle.at_log.specs.Receipts.{payout_of}
+use Rattle.at_object.proofs.InRound.{IsPass-round}
+use Rattle.at_object.proofs.Made.{PaymentMade-round, others-le}
+use Rattle.at_object.proofs.Looked.{between-IsPass}
+use Rattle.at_object.proofs.Room.{HasSlot-is_owner, MayStoreRequest-room}
+use Rattle.at_object.specs.Paid.{PaymentMade}
+use Rattle.at_object.specs.Passes.{PassTerms}
+use Rattle.at_object.specs.Payments.{has_used_up}
+use Rattle.at_shared.specs.Helpings.{decides_on}
+use Rattle.at_object.proofs.ledger.Ledger.make_shared.Given as given
+use Rattle.at_object.proofs.ledger.Ledger.make_shared.Goals.{After-pass-1}
+use Rattle.at_object.proofs.ledger.Ledger.make_shared.Goals as goal
+
+-- the book that the pass's seat knows is the ledger's
+book : (g : given.Over) (c : After-pass-1 g) → c.pass.inside.seat.knows.book ≡ c.self.inside.board.book
+book g c =
+    ap (λ (t : PassTerms). t.knows.book) c.pass.view_is ∙ (c.requires.pass.book ∙ sym (ap (λ (t : BoardTerms). t.book) c.self.view_is))
+
+-- the process has a slot on the account
+slot : (g : given.Over) (c : After-pass-1 g) → (s : ℕ) × HasSlot c.self.inside.board.book c.pass.inside.seat.knows.first c.args.source s
+slot g c =
+    subst (λ (t : BoardTerms). (s : ℕ) × HasSlot t.book c.pass.inside.seat.knows.first c.args.source s) (sym c.self.view_is)
+    (subst (λ (t : PassTerms). (s : ℕ) × HasSlot c.args.self.now.book t.knows.first c.args.source s) (sym c.pass.view_is)
+    (HasSlot-is_owner c.args.self.now.book c.args.pass.now.knows.first c.args.source c.requires.source c.requires.shared c.requires.owner))
+
+pub pay_in_round-receipt-requires-clause-asks : goal.pay_in_round-receipt-requires-clause-asks
+pay_in_round-receipt-requires-clause-asks g c =
+    let b : BookTerms = c.self.inside.board.book in
+    let v : Knowledge = c.pass.inside.seat.knows in
+    let before : PassTerms =
+    record { board = c.pass.inside.seat.board; knows = v; counted = c.pass.inside.totals.upto; calls = c.pass.inside.calls } in
+    let same_book : v.book ≡ b =
+    ap (λ (t : PassTerms). t.knows.book) c.pass.view_is ∙ (c.requires.pass.book ∙ sym (ap (λ (t : BoardTerms). t.book) c.self.view_is)) in
+    let here : (s : ℕ) × HasSlot b v.first c.args.source s =
+    subst (λ (t : BoardTerms). (s : ℕ) × HasSlot t.book v.first c.args.source s) (sym c.self.view_is)
+    (subst (λ (t : PassTerms). (s : ℕ) × HasSlot c.args.self.now.book t.knows.first c.args.source s) (sym c.pass.view_is)
+    (HasSlot-is_owner c.args.self.now.book c.args.pass.now.knows.first c.args.source c.requires.source c.requires.shared c.requires.owner)) in
+    let shared : is_shared (account_of b c.args.source) ≡ true =
+    ap (λ (t : BoardTerms). is_shared (account_of t.book c.args.source)) c.self.view_is ∙ c.requires.shared in
+    let room : has_used_up b before c.args.source ≡ false =
+    subst (λ (t : BoardTerms). has_used_up t.book before c.args.source ≡ false) (sym c.self.view_is)
+    (subst (λ (t : PassTerms). has_used_up c.args.self.now.book t c.args.source ≡ false) (sym c.pass.view_is) c.requires.room) in (
+      here.0,
+      MayStoreRequest-room b before c.args.source here.0 (subst (λ t. IsHistory t v.seen) same_book c.known.ensures.seat.history)
+          (between-IsPass b v c.pass.inside.totals c.pass.inside.sent same_book c.pass.invariant) here.1 shared room,
+    )
+
+pub invariant_of-pass : goal.invariant_of-pass
+invariant_of-pass g c =
+    let told = c.pay_in_round-receipt.ensures in
+    let here = slot g c in
+    IsPass-round c.self.inside.board.book c.pass.inside.seat.knows c.pay_in_round-receipt.new.seat.knows c.known.ensures.seat c.known-2.ensures.seat (book g c)
+    told.board.book c.pass.inside.totals c.pass.inside.sent c.pass.invariant c.args.source here.0 here.1 c.args.call.now c.pay_in_round-receipt.result
+    told.pays c.pay_in_round-receipt.new.totals told.counted told.own_counted
+
+pub returns-clause-made : goal.returns-clause-made
+returns-clause-made g c = λ targets payout.
+    let told = c.pay_in_round-receipt.ensures in
+    let b : BookTerms = c.self.inside.board.book in
+    let v : Knowledge = c.pass.inside.seat.knows in
+    let w : Knowledge = c.pay_in_round-receipt.new.seat.knows in
+    let r = c.pay_in_round-receipt.result in
+    let was = c.pass.inside.totals in
+    let now = c.pay_in_round-receipt.new.totals in
+    let before : PassTerms = record { board = c.pass.inside.seat.board; knows = v; counted = was.upto; calls = c.pass.inside.calls } in
+    let after : PassTerms =
+    record { board = c.pay_in_round-receipt.new.seat.board; knows = w; counted = now.upto; calls = c.saturating_add-pass-inside.result } in
+    let here = slot g c in
+    let shared : is_shared (account_of b c.args.source) ≡ true =
+    ap (λ (t : BoardTerms). is_shared (account_of t.book c.args.source)) c.self.view_is ∙ c.requires.shared in
+    let owner : is_owner b v.first c.args.source ≡ true =
+    ap (λ (t : BoardTerms). is_owner t.book v.first c.args.source) c.self.view_is
+    ∙ (ap (λ (t : PassTerms). is_owner c.args.self.now.book t.knows.first c.args.source) c.pass.view_is ∙ c.requires.owner) in
+    let room : has_used_up b before c.args.source ≡ false =
+    subst (λ (t : BoardTerms). has_used_up t.book before c.args.source ≡ false) (sym c.self.view_is)
+    (subst (λ (t : PassTerms). has_used_up c.args.self.now.book t c.args.source ≡ false) (sym c.pass.view_is) c.requires.room) in
+    subst (λ (t : BoardTerms). PaymentMade t.book c.args.pass.now after c.args.source targets c.args.call.now r) c.self.view_is
+    (subst (λ (t : PassTerms). PaymentMade b t after c.args.source targets c.args.call.now r) c.pass.view_is
+    (PaymentMade-round b before after c.args.source targets c.args.call.now r c.known.ensures.seat c.known-2.ensures.seat
+    (book g c) told.board.book was c.pass.inside.sent c.pass.invariant room (others-le before after was now c.pass.invariant.own_counted told.own_counted told.more)
+    here.0 here.1 owner shared told.pays (ap payout_of told.pays.call_is ∙ payout)))
+
+pub returns-clause-runs : goal.returns-clause-runs
+returns-clause-runs g c =
+    subst (λ (t : BoardTerms). AreRuns t.book c.pay_in_round-receipt.new.seat.knows.seen) c.self.view_is
+    (subst (λ (t : BookTerms). AreRuns t c.pay_in_round-receipt.new.seat.knows.seen) c.pay_in_round-receipt.ensures.board.book
+    c.known-2.ensures.seat.history.runs)
+
+pub returns-clause-decides_elsewhere : goal.returns-clause-decides_elsewhere
+returns-clause-decides_elsewhere g c = λ a apart.
+    c.pay_in_round-receipt.ensures.decides_elsewhere a apart ∙ ap (λ (t : PassTerms). decides_on t.knows a) c.pass.view_is

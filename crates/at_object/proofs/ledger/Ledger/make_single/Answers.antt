@@ -1,0 +1,117 @@
+use Rattle.std.proofs.Common.{◌≡◌, ◌<◌, ◌≤◌, false, List, Some, length, refl, sym, ap, subst, ◌∙◌, arith}
+use Rattle.at_ledger.specs.Book.{BookTerms}
+use Rattle.at_ledger.specs.Call.{TargetPair}
+use Rattle.at_history.specs.Rounds.{owns_of}
+use Rattle.at_board.specs.Knowledge.Seats.{BoardTerms}
+use Rattle.at_board.specs.Knowledge.Parts.{asking_on, own_part}
+use Rattle.at_board.specs.declared.knowledge.Asking.{Asking}
+use Rattle.at_board.specs.declared.knowledge.Knowledge.{Knowledge}
+use Rattle.at_log.specs.Receipts.{payout_of}
+use Rattle.at_object.proofs.Alone.{IsPass-alone, asking-alone, decided-alone}
+use Rattle.at_object.proofs.Made.{PaymentMade-alone, others-le}
+use Rattle.at_object.proofs.Room.{sent-room}
+use Rattle.at_object.specs.Paid.{PaymentMade, PaysAlone}
+use Rattle.at_object.specs.Passes.{IsPass, PassTerms}
+use Rattle.at_object.specs.Payments.{has_used_up}
+use Rattle.at_single.specs.Standing.{IsOnlyOwner}
+use Rattle.at_object.proofs.ledger.Ledger.make_single.Given as given
+use Rattle.at_object.proofs.ledger.Ledger.make_single.Goals.{After-pass-2-1}
+use Rattle.at_object.proofs.ledger.Ledger.make_single.Goals as goal
+
+-- the book that the pass's seat knows is the ledger's
+book : (g : given.Over) (c : After-pass-2-1 g) → c.pass.inside.seat.knows.book ≡ c.self.inside.board.book
+book g c =
+    ap (λ (t : PassTerms). t.knows.book) c.pass.view_is ∙ (c.requires.pass.book ∙ sym (ap (λ (t : BoardTerms). t.book) c.self.view_is))
+
+-- it was paid
+paid : (g : given.Over) (c : After-pass-2-1 g) (targets : List TargetPair) → payout_of c.args.call.now ≡ Some (c.args.source, targets)
+    → PaysAlone c.self.inside.board.book c.pass.inside.seat.knows c.pay_alone-receipt.new.seat.knows c.args.source targets c.args.call.now
+    c.pay_alone-receipt.result
+paid g c targets payout = c.pay_alone-receipt.ensures.pays targets payout
+
+pub pay_alone-receipt-requires-clause-room : goal.pay_alone-receipt-requires-clause-room
+pay_alone-receipt-requires-clause-room g c =
+    let same : c.pass.inside.seat.knows ≡ c.args.pass.now.knows = ap (λ (t : PassTerms). t.knows) c.pass.view_is in
+    let few = c.known.ensures.seat.history.own_room c.pass.inside.seat.knows.first in
+    omega (
+      arith,
+      sent-room c.args.self.now.book c.args.pass.now c.args.source c.requires.owner.single c.requires.room
+          (omega (
+            arith,
+            few,
+            ap (λ (t : Knowledge). owns_of t.first t.seen) same,
+            ap (λ (t : Knowledge). t.book.own_room) same,
+            ap (λ (t : BookTerms). t.own_room) c.requires.pass.book,
+          )),
+      ap (λ (t : Knowledge). owns_of t.first t.seen) same,
+      ap (λ (t : BoardTerms). t.book.own_room) c.self.view_is,
+    )
+
+pub sent_after-pass-inside-requires : goal.sent_after-pass-inside-requires
+sent_after-pass-inside-requires g c =
+    let v : Knowledge = c.pass.inside.seat.knows in
+    let same : v ≡ c.args.pass.now.knows = ap (λ (t : PassTerms). t.knows) c.pass.view_is in
+    omega (
+      arith,
+      c.pass.invariant.sent_is,
+      sent-room c.args.self.now.book c.args.pass.now c.args.source c.requires.owner.single c.requires.room
+          (omega (
+            arith,
+            c.known.ensures.seat.history.own_room v.first,
+            ap (λ (t : Knowledge). owns_of t.first t.seen) same,
+            ap (λ (t : Knowledge). t.book.own_room) same,
+            ap (λ (t : BookTerms). t.own_room) c.requires.pass.book,
+          )),
+      ap (λ (t : Knowledge). owns_of t.first t.seen) same,
+      c.known.ensures.seat.book.begun.own_room,
+      ap (λ (t : Knowledge). t.book.own_room) same,
+      ap (λ (t : BookTerms). t.own_room) c.requires.pass.book,
+    )
+
+pub invariant_of-pass : goal.invariant_of-pass
+invariant_of-pass g c =
+    let targets = c.requires.call.targets in
+    let told = c.pay_alone-receipt.ensures in
+    subst (IsPass c.pay_alone-receipt.new.seat.knows c.pay_alone-receipt.new.totals) (sym c.sent_after-pass-inside.ensures)
+    (IsPass-alone c.self.inside.board.book c.pass.inside.seat.knows c.pay_alone-receipt.new.seat.knows c.known.ensures.seat c.known-2.ensures.seat (book g c)
+    told.board.book c.pass.inside.totals c.pass.inside.sent c.pass.invariant c.args.source targets c.args.call.now c.pay_alone-receipt.result
+    (paid g c targets c.requires.call.payout) c.pay_alone-receipt.new.totals told.counted told.own_counted)
+
+pub returns-clause-made : goal.returns-clause-made
+returns-clause-made g c = λ targets payout.
+    let told = c.pay_alone-receipt.ensures in
+    let b : BookTerms = c.self.inside.board.book in
+    let v : Knowledge = c.pass.inside.seat.knows in
+    let w : Knowledge = c.pay_alone-receipt.new.seat.knows in
+    let was = c.pass.inside.totals in
+    let now = c.pay_alone-receipt.new.totals in
+    let before : PassTerms = record { board = c.pass.inside.seat.board; knows = v; counted = was.upto; calls = c.pass.inside.calls } in
+    let after : PassTerms =
+    record { board = c.pay_alone-receipt.new.seat.board; knows = w; counted = now.upto; calls = c.saturating_add-pass-inside.result } in
+    let only : IsOnlyOwner b v.first c.args.source =
+    subst (λ (t : BoardTerms). IsOnlyOwner t.book v.first c.args.source) (sym c.self.view_is)
+    (subst (λ (t : PassTerms). IsOnlyOwner c.args.self.now.book t.knows.first c.args.source) (sym c.pass.view_is) c.requires.owner) in
+    let room : has_used_up b before c.args.source ≡ false =
+    subst (λ (t : BoardTerms). has_used_up t.book before c.args.source ≡ false) (sym c.self.view_is)
+    (subst (λ (t : PassTerms). has_used_up c.args.self.now.book t c.args.source ≡ false) (sym c.pass.view_is) c.requires.room) in
+    subst (λ (t : BoardTerms). PaymentMade t.book c.args.pass.now after c.args.source targets c.args.call.now c.pay_alone-receipt.result) c.self.view_is
+    (subst (λ (t : PassTerms). PaymentMade b t after c.args.source targets c.args.call.now c.pay_alone-receipt.result) c.pass.view_is
+    (PaymentMade-alone b before after c.args.source targets c.args.call.now c.pay_alone-receipt.result c.known.ensures.seat c.known-2.ensures.seat
+    (book g c) told.board.book was c.pass.inside.sent c.pass.invariant room (others-le before after was now c.pass.invariant.own_counted told.own_counted told.more)
+    (omega (arith, c.requires.source, ap (λ (t : BoardTerms). length t.book.accounts) c.self.view_is)) only (paid g c targets payout)))
+
+pub returns-clause-decided : goal.returns-clause-decided
+returns-clause-decided g c =
+    let targets = c.requires.call.targets in
+    decided-alone c.self.inside.board.book c.pass.inside.seat.knows c.pay_alone-receipt.new.seat.knows c.known.ensures.seat c.known-2.ensures.seat (book g c)
+    c.pay_alone-receipt.ensures.board.book c.pass.inside.totals c.pass.inside.sent c.pass.invariant c.args.source targets c.args.call.now
+    c.pay_alone-receipt.result (paid g c targets c.requires.call.payout)
+
+pub returns-clause-decides : goal.returns-clause-decides
+returns-clause-decides g c = λ a.
+    let targets = c.requires.call.targets in
+    ap (λ (t : Asking). t.decides)
+    (asking-alone c.self.inside.board.book c.pass.inside.seat.knows c.pay_alone-receipt.new.seat.knows c.known.ensures.seat c.known-2.ensures.seat (book g c)
+    c.pay_alone-receipt.ensures.board.book c.pass.inside.totals c.pass.inside.sent c.pass.invariant c.args.source targets c.args.call.now
+    c.pay_alone-receipt.result (paid g c targets c.requires.call.payout) a
+    ∙ ap (λ (t : PassTerms). asking_on (own_part t.knows) a) c.pass.view_is)

@@ -1,0 +1,40 @@
+-- The closing of a ledger.
+use Rattle.std.specs.Prelude.{◌≡◌, ℕ, ◌<◌, List, [], length, slice_index_or, All, None}
+use Rattle.at_history.specs.BoardState.{BoardState}
+use Rattle.at_history.specs.Histories.{IsHistory}
+use Rattle.at_history.specs.Publications.{IsPrefix, publications_of}
+use Rattle.at_history.specs.Sound.{Sound}
+use Rattle.at_ledger.specs.Book.{BookTerms}
+use Rattle.at_board.specs.Knowledge.Seats.{BoardTerms}
+use Rattle.at_log.specs.ClosingTerms.{ClosingTerms, log_published}
+use Rattle.at_log.specs.declared.receipt.Receipt.{Receipt}
+use Rattle.at_object.specs.Passes.{IsPassOf, PassTerms, Stands}
+
+-- the pass is the ledger's for the process, these receipts stand with it, and they are as many as the calls that were made with it
+pub record IsAccountedFor (ledger : BoardTerms) (process : ℕ) (pass : PassTerms) (receipts : List Receipt) : Type 0 where
+  pub of_ledger : IsPassOf pass ledger
+  pub process_is : pass.knows.first ≡ process
+  pub stands : Stands pass receipts
+  pub counted : pass.calls ≡ length receipts
+
+-- all passes of the ledger in order, with the receipts of all calls
+pub record AreAccountedFor (ledger : BoardTerms) (passes : List PassTerms) (receipts : List (List Receipt)) : Type 0 where
+  pub passes_count : length passes ≡ ledger.book.processes
+  pub receipts_count : length receipts ≡ ledger.book.processes
+  pub each : (p : ℕ) (d : PassTerms) → p < ledger.book.processes →
+      IsAccountedFor ledger p (slice_index_or passes p d) (slice_index_or receipts p [])
+
+-- a closed ledger by its book and its closing
+pub record ClosedTerms : Type 0 where
+  pub book : BookTerms
+  pub closing : ClosingTerms
+
+-- the logs are the publications of the board's last state, which is sound and in which no cell is held, cut by process. All that each
+-- pass had seen is a prefix of that one list
+pub record HasAllLogs (passes : List PassTerms) (closed : ClosedTerms) : Type 0 where
+  pub state : BoardState
+  pub sound : Sound closed.book state
+  pub history : IsHistory closed.book state.published
+  pub free : (p : ℕ) → p < closed.book.processes → state.held p ≡ None
+  pub logs : (p : ℕ) → p < closed.book.processes → log_published closed.closing p ≡ publications_of p state.published
+  pub seen : All (λ pass. IsPrefix pass.knows.seen state.published) passes

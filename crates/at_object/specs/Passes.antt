@@ -1,0 +1,73 @@
+-- Passes as callers see them, and what the type of a pass keeps.
+use Rattle.std.specs.Prelude.{◌≡◌, ℕ, ◌+◌, ◌-◌, ◌^◌, ◌<◌, List, [], min, slice_index, slice_index_or, sum, length}
+use Rattle.atomic_table.specs.Seated.{TableId}
+use Rattle.at_ledger.specs.Book.{BookTerms, HasSlot}
+use Rattle.at_history.specs.Rounds.{owns_of}
+use Rattle.at_board.specs.Knowledge.Parts.{asking_on, own_part}
+use Rattle.at_board.specs.Knowledge.Seats.{BoardTerms, IsOf}
+use Rattle.at_board.specs.declared.knowledge.Knowledge.{Knowledge}
+use Rattle.at_closing.specs.BetweenCalls.{IsBetweenCalls}
+use Rattle.at_fold.specs.HasCounted.{HasCounted}
+use Rattle.at_fold.specs.Sums.{TotalSums}
+use Rattle.at_log.specs.Told.{Told}
+use Rattle.at_log.specs.declared.receipt.Receipt.{Receipt}
+
+-- a pass by the board of its ledger, what its seat knows, how many records of each process its totals have counted, and how many
+-- calls were made with it
+pub record PassTerms : Type 0 where
+  pub board : TableId
+  pub knows : Knowledge
+  pub counted : List ℕ
+  pub calls : ℕ
+
+-- the pass belongs to the ledger
+abbrev pub IsPassOf : PassTerms → BoardTerms → Type 0
+IsPassOf pass ledger = IsOf (record { board = pass.board; knows = pass.knows }) ledger
+
+-- a list of receipts stands with the pass: it accounts for all that its process has in what the pass has seen
+abbrev pub Stands : PassTerms → List Receipt → Type 0
+Stands pass receipts = Told pass.knows.book pass.knows.first pass.knows.seen receipts
+
+-- how many payments from single accounts have succeeded for the process
+abbrev pub sent_by : PassTerms → ℕ
+sent_by pass = owns_of pass.knows.first pass.knows.seen
+
+-- how many payments from a shared account it has asked for: so many requests it has announced there
+abbrev pub asked_by : PassTerms → ℕ → ℕ
+asked_by pass account = length (asking_on (own_part pass.knows) account).announced
+
+-- one more call was made, up to the largest count
+abbrev pub one_more_call : ℕ → ℕ
+one_more_call calls = min (calls + 1) (2 ^ 64 - 1)
+
+-- how many records of other processes are counted
+abbrev pub others_counted : PassTerms → ℕ
+others_counted pass = sum pass.counted - slice_index pass.counted pass.knows.first
+
+-- how many of them a call has counted that weren't counted before
+abbrev pub newly_counted : PassTerms → PassTerms → ℕ
+newly_counted before after = others_counted after - others_counted before
+
+-- a pass's process is between calls. Its totals have counted only what the seat has seen, among it all of its own records, and it
+-- knows how many of these are own records. It has asked for nothing where it has no slot
+pub record IsPass (v : Knowledge) (totals : TotalSums) (sent : ℕ) : Type 0 where
+  pub between : IsBetweenCalls v.book v
+  pub counted : HasCounted totals v.book v.seen
+  pub own_counted : slice_index totals.upto v.first ≡ (own_part v).published
+  pub sent_is : sent ≡ owns_of v.first v.seen
+  pub unasked : (a : ℕ) → ((slot : ℕ) → ¬ HasSlot v.book v.first a slot) → (asking_on (own_part v) a).announced ≡ []
+
+-- a pass of a new ledger: nothing is seen, no call was made, and the empty list stands with it
+pub record IsNewPass (ledger : BoardTerms) (process : ℕ) (pass : PassTerms) : Type 0 where
+  pub of_ledger : IsPassOf pass ledger
+  pub process_is : pass.knows.first ≡ process
+  pub seen : pass.knows.seen ≡ []
+  pub calls_are : pass.calls ≡ 0
+  pub counted_none : sum pass.counted ≡ 0
+  pub asked_none : (a : ℕ) → asked_by pass a ≡ 0
+  pub stands : Stands pass []
+
+-- one for each process, in order
+pub record AreNewPasses (ledger : BoardTerms) (passes : List PassTerms) : Type 0 where
+  pub count : length passes ≡ ledger.book.processes
+  pub each : (p : ℕ) (d : PassTerms) → p < ledger.book.processes → IsNewPass ledger p (slice_index_or passes p d)

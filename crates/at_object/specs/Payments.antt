@@ -1,0 +1,82 @@
+-- What a payment answers, and the bounds of the calls.
+use Rattle.std.specs.Prelude.{◌≡◌, ℕ, ◌+◌, ◌*◌, ◌⊎◌, ◌&&◌, ◌||◌, ◌==◌, Bool, List, take, Option, Some, None, if◌then◌else◌}
+use Rattle.at_ledger.specs.Account.{is_shared, is_single, slots_of}
+use Rattle.at_ledger.specs.Book.{BookTerms, account_of, is_owner}
+use Rattle.at_ledger.specs.Call.{TargetPair}
+use Rattle.at_ledger.specs.declared.call.Call.{Call}
+use Rattle.at_ledger.specs.declared.call.Reply.{Reply}
+use Rattle.at_ledger.specs.declared.call.Reply.TheVariants.{Done, Short, NotOwner, Full, Balance}
+use Rattle.at_history.specs.Fronts.{place}
+use Rattle.at_history.specs.declared.publication.Publication.{Publication}
+use Rattle.at_board.specs.declared.words.TheConstants.{RECORD_WORDS}
+use Rattle.at_log.specs.Receipts.{is_success}
+use Rattle.at_log.specs.Told.{first_account, own_position, round_position}
+use Rattle.at_log.specs.declared.receipt.At.{At}
+use Rattle.at_log.specs.declared.receipt.At.TheVariants.{Front, Own, Round, Previous}
+use Rattle.at_log.specs.declared.receipt.Receipt.{Receipt}
+use Rattle.at_object.specs.Passes.{PassTerms, asked_by, sent_by}
+use Rattle.at_shared.specs.Settling.{asking_steps, round_steps}
+use Rattle.at_single.specs.Standing.{payment_reply}
+use Rattle.at_snapshot.specs.Snapshots.{snapshot_steps}
+
+-- where a receipt stands in a list of publications: at its front, at its own record, at the first record of its round where it
+-- moved, and else at the round's decision
+abbrev pub place_at : ℕ → List Publication → Call → Bool → At → ℕ
+place_at process list call moved (Front view) = place view
+place_at process list call moved (Own number) = own_position process number list
+place_at process list call moved (Round round at) = if moved then round_position (first_account call) round list else at
+place_at process list call moved Previous = 0
+
+abbrev pub place_of : PassTerms → Receipt → ℕ
+place_of pass r = place_at pass.knows.first pass.knows.seen r.call (is_success r.reply) r.at
+
+-- the publications before the place of a receipt
+abbrev pub prefix_before : PassTerms → Receipt → List Publication
+prefix_before pass r = take (place_of pass r) pass.knows.seen
+
+-- the process has used up its room for payments from the account
+abbrev pub has_used_up : BookTerms → PassTerms → ℕ → Bool
+has_used_up b pass source =
+    (is_single (account_of b source) && (sent_by pass == b.own_room))
+    || (is_shared (account_of b source) && (asked_by pass source == b.request_room))
+
+-- why the process can't pay from the account, whatever the balance: not-owner comes before full
+abbrev pub refusal_of : BookTerms → PassTerms → ℕ → Option Reply
+refusal_of b pass source =
+    if is_owner b pass.knows.first source then (if has_used_up b pass source then Some Full else None) else Some NotOwner
+
+-- what a payment answers: not-owner comes first, then full, then short, where the balance at the receipt's place is below the sum
+abbrev pub reply_of : BookTerms → PassTerms → PassTerms → ℕ → List TargetPair → Receipt → Reply
+reply_of b before after source targets r =
+    if is_owner b before.knows.first source
+    then (if has_used_up b before source then Full else payment_reply b (prefix_before after r) source targets)
+    else NotOwner
+
+-- the call was refused before it looked at any balance
+abbrev pub IsRefused : Receipt → Type 0
+IsRefused r = (r.reply ≡ NotOwner) ⊎ (r.reply ≡ Full)
+
+-- it was decided by a balance
+abbrev pub IsDecided : Receipt → Type 0
+IsDecided r = (r.reply ≡ Done) ⊎ (r.reply ≡ Short)
+
+-- how many payments from single accounts have succeeded after one more
+abbrev pub sent_after : ℕ → Reply → ℕ
+sent_after sent Done = sent + 1
+sent_after sent Short = sent
+sent_after sent NotOwner = sent
+sent_after sent Full = sent
+sent_after sent (Balance amount) = sent
+
+-- the most steps of a payment from an account of one owner, of n processes
+abbrev pub single_steps : ℕ → ℕ
+single_steps n = snapshot_steps n + (RECORD_WORDS + n + 1)
+
+-- and from an account of k owners
+abbrev pub shared_steps : ℕ → ℕ → ℕ
+shared_steps n k = snapshot_steps n + asking_steps k + k * (snapshot_steps n + round_steps n)
+
+-- the most steps of a payment, beside the loads of records that its totals count
+abbrev pub payment_steps : BookTerms → ℕ → ℕ
+payment_steps b source =
+    if is_shared (account_of b source) then shared_steps b.processes (slots_of (account_of b source)) else single_steps b.processes

@@ -1,0 +1,68 @@
+//! Passes: the right of one process to make calls.
+
+ghost use Rattle.std.specs.Prelude.{◌≡◌, ◌<◌, ℕ, length};
+ghost use Rattle.at_history.specs.Rounds.{named};
+ghost use Rattle.at_ledger.specs.Book.{HasSlot};
+ghost use Rattle.at_object.specs.Passes.{asked_by, sent_by};
+
+use at_board::BoardSeat;
+use at_fold::Totals;
+use std::marker::Model;
+
+/// The right of one process to make calls on a ledger, with what it has seen of it. One thread uses it at a time. A ledger is
+/// closed with all its passes, so where one is dropped the ledger can't be closed.
+#[derive(Drop)]
+pub struct Pass {
+    pub(crate) seat: BoardSeat,
+    pub(crate) totals: Totals,
+    /// How many payments from single accounts have succeeded.
+    pub(crate) sent: u32,
+    pub(crate) calls: u64,
+}
+
+impl Model for Pass {
+    ghost use Rattle.at_object.specs.Passes.{IsPass, PassTerms};
+
+    ghost Value = { PassTerms };
+
+    ghost view = { λ p. record { board = p.seat.board; knows = p.seat.knows; counted = p.totals.upto; calls = p.calls } };
+
+    ghost invariant = { λ p. IsPass p.seat.knows p.totals p.sent };
+}
+
+impl Pass {
+    /// The process that the pass belongs to.
+    pub fn process(&self) -> u32
+        ensures { result ≡ self.now.knows.first }
+    {
+        self.seat.process()
+    }
+
+    /// How many payments from single accounts have succeeded for the process.
+    pub fn sent(&self) -> u32
+        ensures { result ≡ sent_by self.now }
+    {
+        self.sent
+    }
+
+    /// How many payments from a shared account the process has asked for. Each was decided in a round of its own, done or short.
+    /// It is 0 on an account that the process doesn't share.
+    pub fn asked(&self, account: u32) -> u32
+        requires { account < length self.now.knows.book.accounts }
+        ensures asked { result ≡ asked_by self.now account }
+        ensures rounds { (slot : ℕ) → HasSlot self.now.knows.book self.now.knows.first account slot
+            → result ≡ named account slot self.now.knows.seen }
+        ensures none { ((slot : ℕ) → ¬ HasSlot self.now.knows.book self.now.knows.first account slot)
+            → result ≡ 0 }
+    {
+        self.seat.known();
+        self.seat.announced(account)
+    }
+
+    /// How many calls of `transfer`, `pay` and `read` were made with the pass. At the largest count it stays.
+    pub fn calls(&self) -> u64
+        ensures { result ≡ self.now.calls }
+    {
+        self.calls
+    }
+}
