@@ -1,15 +1,13 @@
 -- What a payment from a single account leaves of its pass.
-use Rattle.std.proofs.Common.{◌≡◌, ◌≢◌, ◌⊎◌, ℕ, ◌+◌, ◌*◌, ◌<◌, ◌≤◌, Bool, true, false, cond, List, ◌∷◌, [], ◌++◌, None, Some, length, take, refl, sym, ap, subst, ◌∙◌, arith, inl, inr}
+use Rattle.std.proofs.Common.{◌≡◌, ◌⊎◌, ℕ, ◌+◌, ◌*◌, ◌<◌, ◌≤◌, List, ◌∷◌, [], ◌++◌, length, take, refl, sym, ap, subst, ◌∙◌, arith, inl, inr}
 use Rattle.std.proofs.lemmas.Bool.{cases_lt}
 use Rattle.std.proofs.lemmas.List.{get_or-set_same, length-set}
-use Rattle.std.specs.Prelude.{slice_index, sum}
-use Rattle.at_ledger.specs.Account.{is_shared, is_single}
-use Rattle.at_ledger.specs.Book.{BookTerms, HasSlot, account_of, is_owner}
+use Rattle.std.specs.Prelude.{slice_index}
+use Rattle.at_ledger.specs.Book.{BookTerms, HasSlot}
 use Rattle.at_ledger.specs.Call.{TargetPair, amount_of}
 use Rattle.at_ledger.specs.declared.call.Call.{Call}
 use Rattle.at_ledger.specs.declared.call.Reply.{Reply}
-use Rattle.at_ledger.specs.declared.call.Reply.TheVariants.{Done, Short, Full, NotOwner}
-use Rattle.at_history.proofs.Laws.Covers.{single_or_shared}
+use Rattle.at_ledger.specs.declared.call.Reply.TheVariants.{Done, Short}
 use Rattle.at_history.proofs.Laws.Prefixes.{IsPrefix-append, IsPrefix-trans}
 use Rattle.at_history.specs.Balances.{balance_after}
 use Rattle.at_history.specs.BoardState.{publication_at}
@@ -42,7 +40,6 @@ use Rattle.at_object.specs.Passes.{IsPass}
 use Rattle.at_object.specs.Payments.{IsDecided, place_at, sent_after}
 use Rattle.at_single.proofs.PlacedLaws.{payment_reply-done, payment_reply-short}
 use Rattle.at_single.specs.Standing.{StandsAtFront, StandsAtOwn, front_behind, own_record, payment_reply}
-use Rattle.at_snapshot.specs.Collected.{HasLoaded}
 
 -- a payment is short or done
 pub short_or_done : (b : BookTerms) (prefix : List Publication) (source : ℕ) (targets : List TargetPair) (reply : Reply)

@@ -2,7 +2,6 @@
 use Rattle.std.proofs.Common.{◌≡◌, List, [], ◌∷◌, ◌++◌, map, refl, ap}
 use Rattle.std.specs.List.{AllZip}
 use Rattle.at_board.specs.Knowledge.Seats.{SeatTerms}
-use Rattle.at_object.specs.Passes.{PassTerms}
 use Rattle.at_object.specs.Parted.{IsOfOnePass, pass_of, passes_of, seat_of}
 use Rattle.at_object.specs.declared.close.Rest.{Rest}
 

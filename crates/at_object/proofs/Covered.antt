@@ -13,10 +13,9 @@ use Rattle.at_ledger.specs.Run.{run}
 use Rattle.at_ledger.specs.State.{LedgerState, Step, after_done, after_short, balance_of, is_full, opening_state, pay, step}
 use Rattle.at_ledger.specs.declared.call.Call.{Call}
 use Rattle.at_ledger.specs.declared.call.Call.TheVariants.{Pay}
-use Rattle.at_ledger.specs.declared.call.Reply.{Reply}
 use Rattle.at_ledger.specs.declared.call.Reply.TheVariants.{Done, Short, NotOwner, Full}
 use Rattle.at_history.proofs.Laws.Prefixes.{take-publication_at}
-use Rattle.at_history.proofs.Laws.Rounds.{IsInitial, firsts-new, published, repeats-own, repeats-round}
+use Rattle.at_history.proofs.Laws.Rounds.{IsInitial, firsts-new, repeats-own, repeats-round}
 use Rattle.at_history.proofs.Laws.Settled.{first-below}
 use Rattle.at_history.proofs.Laws.Counts.{get_or-publications_of}
 use Rattle.at_history.proofs.Laws.Histories.{IsNextAtMost-IsHistory}

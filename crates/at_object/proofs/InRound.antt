@@ -1,21 +1,17 @@
 -- What a payment from a shared account leaves of its pass.
-use Rattle.std.proofs.Common.{◌≡◌, ◌≢◌, ◌⊎◌, ℕ, zero, suc, ◌==◌, ◌+◌, ◌*◌, ◌<◌, ◌≤◌, ◌&&◌, Bool, true, false, cond, List, ◌∷◌, [], ◌++◌, None, Some, length, take, refl, sym, ap, subst, ◌∙◌, arith, inl, inr}
-use Rattle.std.proofs.lemmas.Bool.{and_from, cases_Bool, cases_eq, cases_lt, eq-eqb}
-use Rattle.std.specs.Prelude.{slice_index, sum}
+use Rattle.std.proofs.Common.{◌≡◌, ℕ, zero, suc, ◌==◌, ◌+◌, ◌*◌, ◌<◌, ◌≤◌, ◌&&◌, true, false, cond, List, ◌∷◌, [], ◌++◌, Some, length, take, refl, sym, ap, subst, ◌∙◌, arith, inl, inr}
+use Rattle.std.proofs.lemmas.Bool.{cases_Bool, cases_eq, cases_lt, eq-eqb}
+use Rattle.std.specs.Prelude.{slice_index}
 use Rattle.at_base.specs.declared.decision.Decision.{Decision}
 use Rattle.at_ledger.specs.Book.{BookTerms, HasSlot}
 use Rattle.at_ledger.specs.Call.{TargetPair, amount_of}
 use Rattle.at_ledger.specs.declared.call.Call.{Call}
 use Rattle.at_ledger.specs.declared.call.Call.TheVariants.{Pay}
-use Rattle.at_ledger.specs.declared.call.Reply.{Reply}
 use Rattle.at_ledger.specs.declared.call.Reply.TheVariants.{Done, Short}
 use Rattle.at_history.proofs.Laws.Rounds.{one_if}
 use Rattle.at_history.specs.Balances.{IsCovered, balance_after}
-use Rattle.at_history.specs.BoardState.{publication_at}
 use Rattle.at_history.specs.Histories.{IsHistory, IsShownDecision, IsShownRound}
-use Rattle.at_history.specs.Rounds.{owns_of}
 use Rattle.at_history.specs.declared.publication.Publication.{Publication}
-use Rattle.at_history.specs.declared.request.Request.{Request}
 use Rattle.at_board.specs.Knowledge.Parts.{asking_on, loads_of, own_part}
 use Rattle.at_board.specs.Knowledge.Fresh.{fresh_loads}
 use Rattle.at_board.specs.Knowledge.Seats.{IsKept}
@@ -28,11 +24,10 @@ use Rattle.at_closing.specs.BetweenCalls.{IsBetweenCalls}
 use Rattle.at_fold.specs.HasCounted.{HasCounted}
 use Rattle.at_fold.specs.Sums.{TotalSums}
 use Rattle.at_log.proofs.Laws.Replies.{first_account-payout, same_payout}
-use Rattle.at_log.specs.Placed.{IsAtFront, IsAtOwn, IsAtRound, IsPlaced, MayPay}
+use Rattle.at_log.specs.Placed.{IsAtRound, IsPlaced}
 use Rattle.at_log.specs.Placed.IsPlaced.{done, full, not_owner, read, round, short}
 use Rattle.at_log.specs.Receipts.{asks_in, is_at_own, is_at_round, is_success, payout_of}
 use Rattle.at_log.specs.Told.{Told, key_of, round_position}
-use Rattle.at_log.specs.declared.receipt.At.{At}
 use Rattle.at_log.specs.declared.receipt.At.TheVariants.{Front, Own, Round, Previous}
 use Rattle.at_log.specs.declared.receipt.Receipt.{Receipt}
 use Rattle.at_object.proofs.Alone.{IsPass-HasMoved}

@@ -1,15 +1,14 @@
 -- What loads of lengths leave of a pass.
-use Rattle.std.proofs.Common.{◌≡◌, ℕ, ◌<◌, false, List, ◌∷◌, [], ◌++◌, None, length, refl, sym, ap, subst, ◌∙◌, arith}
+use Rattle.std.proofs.Common.{◌≡◌, ℕ, ◌<◌, false, List, ◌∷◌, [], ◌++◌, length, sym, ap, subst, ◌∙◌, arith}
 use Rattle.std.proofs.lemmas.List.{get_or-set_same}
-use Rattle.std.specs.Prelude.{slice_index, sum}
+use Rattle.std.specs.Prelude.{slice_index}
 use Rattle.at_ledger.specs.Book.{BookTerms, HasSlot}
 use Rattle.at_history.specs.Rounds.{owns_of}
 use Rattle.at_board.specs.Knowledge.Parts.{asking_on, no_part, own_part}
 use Rattle.at_board.specs.Knowledge.Seats.{IsKept}
-use Rattle.at_board.specs.declared.knowledge.Asking.{Asking}
 use Rattle.at_board.specs.declared.knowledge.Knowledge.{Knowledge}
 use Rattle.at_board.specs.declared.knowledge.Part.{Part}
-use Rattle.at_closing.proofs.Laws.Calls.{StandsBehind, StandsBehind-front}
+use Rattle.at_closing.proofs.Laws.Calls.{StandsBehind}
 use Rattle.at_closing.proofs.Laws.Stands.{AsksNothing, HasMoved, IsBetweenCalls-still, Told-call_still, owns_of-still}
 use Rattle.at_closing.specs.BetweenCalls.{IsBetweenCalls}
 use Rattle.at_fold.specs.HasCounted.{HasCounted}

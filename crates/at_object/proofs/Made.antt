@@ -1,5 +1,5 @@
 -- What a payment leaves of its pass, whichever way it went.
-use Rattle.std.proofs.Common.{◌≡◌, ◌≢◌, ℕ, ◌+◌, ◌*◌, ◌<◌, ◌≤◌, ◌⊎◌, ◌&&◌, ◌||◌, ◌==◌, Bool, true, false, cond, List, ◌∷◌, [], ◌++◌, None, Some, length, take, refl, sym, ap, subst, ◌∙◌, arith, inl, inr}
+use Rattle.std.proofs.Common.{◌≡◌, ℕ, ◌+◌, ◌<◌, ◌≤◌, ◌⊎◌, ◌&&◌, ◌||◌, ◌==◌, Bool, true, false, cond, List, ◌∷◌, [], ◌++◌, None, Some, length, refl, sym, ap, subst, ◌∙◌, arith, inl, inr}
 use Rattle.std.proofs.lemmas.Bool.{cases_Bool}
 use Rattle.std.specs.Prelude.{slice_index, sum}
 use Rattle.at_ledger.specs.Account.{is_shared, is_single}
@@ -11,7 +11,6 @@ use Rattle.at_ledger.specs.declared.call.Reply.TheVariants.{Done, Short, Full, N
 use Rattle.at_history.proofs.Laws.Covers.{single_or_shared}
 use Rattle.at_history.specs.Fronts.{prefix_of}
 use Rattle.at_history.specs.Histories.{IsHistory}
-use Rattle.at_history.specs.Publications.{IsPrefix}
 use Rattle.at_board.specs.Knowledge.Parts.{own_part}
 use Rattle.at_board.specs.Knowledge.Seats.{IsKept}
 use Rattle.at_board.specs.declared.knowledge.Knowledge.{Knowledge}
@@ -21,7 +20,6 @@ use Rattle.at_closing.proofs.Laws.Counts.{asks_in-push_still, owns_in-push}
 use Rattle.at_closing.proofs.Laws.Seats.{named-IsBetweenCalls}
 use Rattle.at_closing.proofs.Laws.Stands.{HasMoved}
 use Rattle.at_closing.specs.BetweenCalls.{IsBetweenCalls}
-use Rattle.at_fold.specs.HasCounted.{HasCounted}
 use Rattle.at_fold.specs.Sums.{TotalSums}
 use Rattle.at_history.proofs.Laws.Prefixes.{IsPrefix-refl}
 use Rattle.at_history.proofs.Laws.Rounds.{one_if}
@@ -29,13 +27,12 @@ use Rattle.at_log.specs.Placed.{IsPlaced, has_no_room}
 use Rattle.at_log.specs.Placed.IsPlaced.{full, not_owner}
 use Rattle.at_log.specs.Receipts.{asks_in, is_at_own, is_at_round, owns_in, payout_of}
 use Rattle.at_log.specs.Told.{Told}
-use Rattle.at_log.specs.declared.receipt.At.{At}
 use Rattle.at_log.specs.declared.receipt.At.TheVariants.{Previous}
 use Rattle.at_log.specs.declared.receipt.Receipt.{Receipt}
 use Rattle.at_object.proofs.Alone.{moved-done, moved-short, nothing-done, nothing-short, reply-done, reply-short, short_or_done, told-done, told-short}
 use Rattle.at_object.proofs.InRound.{asks-round, loads-round, moved-round, placed-round, reply-round, told-round}
 use Rattle.at_object.proofs.Room.{HasSlot-is_owner}
-use Rattle.at_object.specs.Paid.{HasLoadedFresh, PaymentMade, PaysAlone, PaysInRound}
+use Rattle.at_object.specs.Paid.{PaymentMade, PaysAlone, PaysInRound}
 use Rattle.at_object.specs.Passes.{IsPass, PassTerms, Stands, asked_by, one_more_call, others_counted, sent_by}
 use Rattle.at_object.specs.Payments.{IsDecided, IsRefused, has_used_up, prefix_before, refusal_of, reply_of}
 use Rattle.at_shared.specs.Settling.{StandsAfter}

@@ -1,7 +1,7 @@
 -- Passes as callers see them, and what the type of a pass keeps.
 use Rattle.std.specs.Prelude.{◌≡◌, ℕ, ◌+◌, ◌-◌, ◌^◌, ◌<◌, List, [], min, slice_index, slice_index_or, sum, length}
 use Rattle.atomic_table.specs.Seated.{TableId}
-use Rattle.at_ledger.specs.Book.{BookTerms, HasSlot}
+use Rattle.at_ledger.specs.Book.{HasSlot}
 use Rattle.at_history.specs.Rounds.{owns_of}
 use Rattle.at_board.specs.Knowledge.Parts.{asking_on, own_part}
 use Rattle.at_board.specs.Knowledge.Seats.{BoardTerms, IsOf}

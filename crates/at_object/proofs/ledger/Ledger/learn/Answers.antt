@@ -1,8 +1,6 @@
-use Rattle.std.proofs.Common.{◌≡◌, ◌<◌, ℕ, false, List, length, refl, sym, ap, subst, ◌∙◌, arith, get_or}
+use Rattle.std.proofs.Common.{◌≡◌, ℕ, length, refl, sym, ap, subst, ◌∙◌, arith, get_or}
 use Rattle.at_ledger.specs.Book.{BookTerms, HasSlot}
 use Rattle.at_history.specs.Rounds.{named, owns_of}
-use Rattle.at_history.specs.Histories.{IsHistory}
-use Rattle.at_board.specs.Knowledge.Seats.{BoardTerms, SeatTerms}
 use Rattle.at_board.specs.Knowledge.Parts.{asking_on, own_part}
 use Rattle.at_board.specs.declared.knowledge.Knowledge.{Knowledge}
 use Rattle.at_closing.proofs.Laws.Seats.{named-IsBetweenCalls}
@@ -10,10 +8,9 @@ use Rattle.at_closing.proofs.Laws.Stands.{AsksNothing, HasMoved, IsBetweenCalls-
 use Rattle.at_closing.proofs.Laws.Told.{Told-IsPrefix}
 use Rattle.at_closing.specs.BetweenCalls.{IsBetweenCalls}
 use Rattle.at_fold.proofs.MorePublished.{StaysCounted-HasCounted}
-use Rattle.at_fold.specs.HasCounted.{HasCounted}
 use Rattle.at_log.specs.Told.{Told}
 use Rattle.at_object.proofs.Alone.{IsPass-HasMoved}
-use Rattle.at_object.specs.Passes.{IsPass, PassTerms, Stands}
+use Rattle.at_object.specs.Passes.{PassTerms}
 use Rattle.at_object.proofs.ledger.Ledger.learn.Given as given
 use Rattle.at_object.proofs.ledger.Ledger.learn.Goals.{After-learn}
 use Rattle.at_object.proofs.ledger.Ledger.learn.Goals as goal

@@ -1,12 +1,10 @@
-use Rattle.std.proofs.Common.{◌≡◌, ◌≢◌, ◌<◌, ℕ, false, true, List, Some, length, sym, ap, subst, ◌∙◌, arith}
+use Rattle.std.proofs.Common.{◌≡◌, ℕ, false, true, sym, ap, subst, ◌∙◌}
 use Rattle.at_ledger.specs.Account.{is_shared}
 use Rattle.at_ledger.specs.Book.{BookTerms, HasSlot, account_of, is_owner}
-use Rattle.at_ledger.specs.Call.{TargetPair}
 use Rattle.at_history.specs.Histories.{IsHistory}
 use Rattle.at_history.specs.Moves.{AreRuns}
 use Rattle.at_board.specs.Knowledge.Seats.{BoardTerms}
 use Rattle.at_board.specs.declared.knowledge.Knowledge.{Knowledge}
-use Rattle.at_closing.specs.BetweenCalls.{IsBetweenCalls}
 use Rattle.at_log.specs.Receipts.{payout_of}
 use Rattle.at_object.proofs.InRound.{IsPass-round}
 use Rattle.at_object.proofs.Made.{PaymentMade-round, others-le}

@@ -1,4 +1,4 @@
-use Rattle.std.proofs.Common.{◌≡◌, Some, refl, sym, ap, subst}
+use Rattle.std.proofs.Common.{Some, ap, subst}
 use Rattle.at_ledger.specs.declared.call.Call.TheVariants.{Pay}
 use Rattle.at_object.specs.Paid.{PaymentMade}
 use Rattle.at_object.proofs.ledger.Ledger.pay.Given as given

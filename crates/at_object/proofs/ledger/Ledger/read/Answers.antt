@@ -1,4 +1,4 @@
-use Rattle.std.proofs.Common.{◌≡◌, ◌≤◌, ◌*◌, refl, sym, ap, subst, ◌∙◌, arith, length}
+use Rattle.std.proofs.Common.{◌≡◌, ◌≤◌, ◌*◌, sym, ap, subst, ◌∙◌, arith, length}
 use Rattle.at_history.specs.Fronts.{place}
 use Rattle.at_history.specs.Rounds.{owns_of}
 use Rattle.at_board.specs.Knowledge.Seats.{BoardTerms}
@@ -10,7 +10,6 @@ use Rattle.at_log.specs.Told.{Told, key_of}
 use Rattle.at_object.proofs.Looked.{IsPass-HasLoaded, Told-HasLoaded, owns_of-HasLoaded}
 use Rattle.at_object.specs.Passes.{PassTerms}
 use Rattle.at_single.specs.Standing.{front_behind}
-use Rattle.at_object.proofs.ledger.Ledger.read.Given as given
 use Rattle.at_object.proofs.ledger.Ledger.read.Goals as goal
 
 -- what the seat knew of the book is what the ledger has

@@ -1,4 +1,4 @@
-use Rattle.std.proofs.Common.{◌≡◌, ◌<◌, ℕ, zero, suc, ◌∷◌, [], refl, arith}
+use Rattle.std.proofs.Common.{◌<◌, ℕ, zero, suc, ◌∷◌, [], refl, arith}
 use Rattle.at_ledger.specs.Call.{AreTargetsOn}
 use Rattle.at_ledger.specs.declared.call.Call.TheVariants.{Transfer}
 use Rattle.at_object.specs.Paid.{PaymentMade}
