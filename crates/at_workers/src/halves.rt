@@ -28,12 +28,7 @@ pub fn run_all<R: Threads + Sync, G: Gate + Sync>(
 /// Makes the calls of these jobs: of one alone in this thread, of more by their halves.
 #[cycle(halves)]
 #[tactic(auto, using(crate::proofs::Zipped::all_zip_append))]
-fn run_half<R: Threads + Sync, G: Gate + Sync>(
-    rt: &R,
-    ledger: &Ledger,
-    gate: &G,
-    jobs: &mut [Job],
-)
+fn run_half<R: Threads + Sync, G: Gate + Sync>(rt: &R, ledger: &Ledger, gate: &G, jobs: &mut [Job])
     requires { All (IsReady ledger.now) jobs.old }
     ensures { AllZip (Ran ledger.now) jobs.old jobs.new }
 {
@@ -67,14 +62,10 @@ fn run_both<R: Threads + Sync, G: Gate + Sync>(
         &mut ||
             requires { IsSync R.row × IsSync G.row × All (IsReady ledger.now) front.now }
             ensures { AllZip (Ran ledger.entry.now) front.entry.now front.exit.now }
-        {
-            run_half(rt, ledger, gate, front)
-        },
+        { run_half(rt, ledger, gate, front) },
         &mut ||
             requires { IsSync R.row × IsSync G.row × All (IsReady ledger.now) back.now }
             ensures { AllZip (Ran ledger.entry.now) back.entry.now back.exit.now }
-        {
-            run_half(rt, ledger, gate, back)
-        },
+        { run_half(rt, ledger, gate, back) },
     );
 }
