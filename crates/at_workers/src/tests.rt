@@ -1,0 +1,209 @@
+//! Processes whose calls are made at once.
+
+ghost use Rattle.std.specs.Prelude.{◌≡◌, ◌<◌, [], All, IfSome, length};
+ghost use Rattle.at_ledger.specs.Call.{AreTargetsOn, IsCallOn};
+ghost use Rattle.at_object.specs.Passes.{AreNewPasses, IsPassOf, Stands};
+ghost use Rattle.at_workers.specs.Jobs.{IsReady};
+
+use crate::{Gate, Job, OpenGate, run_all};
+use at_ledger::{Book, BookBuilder, Call, Reply, Targets};
+use at_object::{Ledger, Pass};
+use std::alloc::Global;
+use std::sync::atomic::{AtomicBool, AtomicU64, Ordering};
+use std::thread::{Threads, yield_now};
+
+/// How often a process looks at a flag before it goes on without it.
+const LOOKS: u64 = 200_000_000;
+
+/// A gate at which each of two processes waits for the other before its first call, and process 0 before its second call for the
+/// end of the other's. It notes how often a process went on without what it waited for, and whether process 0 has read 90.
+#[derive(Drop)]
+struct Meeting {
+    zero_is_here: AtomicBool,
+    one_is_here: AtomicBool,
+    one_is_done: AtomicBool,
+    has_read: AtomicBool,
+    missed: AtomicU64,
+}
+
+impl Meeting {
+    fn new() -> Meeting {
+        Meeting {
+            zero_is_here: AtomicBool::new(false),
+            one_is_here: AtomicBool::new(false),
+            one_is_done: AtomicBool::new(false),
+            has_read: AtomicBool::new(false),
+            missed: AtomicU64::new(0),
+        }
+    }
+
+    /// Looks at a flag until it is raised. The thread that raises it may have no processor meanwhile, so this one yields now and then.
+    fn look(&self, flag: &AtomicBool) {
+        for look in 0..LOOKS {
+            if flag.load(Ordering::SeqCst) {
+                return;
+            }
+            if look % 1024 == 0 {
+                yield_now();
+            }
+        }
+        self.missed.fetch_add(1, Ordering::SeqCst);
+    }
+
+    /// Whether all that was waited for came, and process 0 has read 90.
+    fn is_kept(&self) -> bool {
+        self.missed.load(Ordering::SeqCst) == 0 && self.has_read.load(Ordering::SeqCst)
+    }
+}
+
+impl Gate for Meeting {
+    fn pass(&self, process: u32, line: u32) {
+        match (process, line) {
+            (0, 1) => {
+                self.zero_is_here.store(true, Ordering::SeqCst);
+                self.look(&self.one_is_here);
+            }
+            (1, 1) => {
+                self.one_is_here.store(true, Ordering::SeqCst);
+                self.look(&self.zero_is_here);
+            }
+            (0, 2) => self.look(&self.one_is_done),
+            _ => {}
+        }
+    }
+
+    fn answered(&self, process: u32, line: u32, reply: &Reply) {
+        match (process, line) {
+            (1, 2) => self.one_is_done.store(true, Ordering::SeqCst),
+            (0, 2) => self
+                .has_read
+                .store(*reply == Reply::Balance(90), Ordering::SeqCst),
+            _ => {}
+        }
+    }
+}
+
+/// A book of two accounts that open with 100: the first of process 0, the second of all others.
+fn book_of(alloc: Global, others: &[u64]) -> Option<Book> {
+    let mut builder = BookBuilder::new(alloc, others.len() as u64 + 1, 4, 4).ok()?;
+    builder.add(100, &[0]).ok()?;
+    builder.add(100, others).ok()?;
+    builder.finish().ok()
+}
+
+/// One to each of the two accounts.
+fn both_targets() -> Targets
+    ensures { AreTargetsOn 2 result }
+{
+    let mut targets = Targets::one(0, 1);
+    targets.push(1, 1);
+    targets
+}
+
+/// What a process pays.
+fn payment_of(process: u32) -> Call
+    ensures { IsCallOn 2 result }
+{
+    match process {
+        0 => Call::Transfer {
+            from: 0,
+            to: 1,
+            amount: 30,
+        },
+        1 => Call::Transfer {
+            from: 1,
+            to: 0,
+            amount: 20,
+        },
+        _ => Call::Pay {
+            from: 1,
+            targets: both_targets(),
+        },
+    }
+}
+
+/// A payment, and a read of the account that it is from.
+fn calls_of(alloc: Global, process: u32) -> Option<Vec<Call>>
+    ensures accounts { IfSome result (λ v. All (IsCallOn 2) v.items) }
+    ensures two { IfSome result (λ v. length v.items ≡ 2) }
+{
+    let account = if process == 0 { 0 } else { 1 };
+    Vec::from_array(alloc, [payment_of(process), Call::Read { account }]).ok()
+}
+
+/// The job of a new pass of a ledger with two accounts.
+fn job_of(alloc: Global, ledger: &Ledger, pass: Pass) -> Option<Job>
+    requires pass { IsPassOf pass ledger.now }
+    requires stands { Stands pass [] }
+    requires uncounted { pass.calls ≡ 0 }
+    requires accounts { length ledger.now.book.accounts ≡ 2 }
+    ensures { IfSome result (IsReady ledger.now) }
+{
+    let calls = calls_of(alloc, pass.process())?;
+    Job::new(alloc, pass, calls).ok()
+}
+
+/// A job for each process of a new ledger with two accounts.
+fn jobs_of(alloc: Global, ledger: &Ledger, passes: Vec<Pass>) -> Option<Vec<Job>>
+    requires { AreNewPasses ledger.now passes.items }
+    ensures { IfSome result (λ jobs. All (IsReady ledger.now) jobs.items) }
+{
+    if ledger.book().accounts() != 2 {
+        return None;
+    }
+    let mut jobs = Vec::new(alloc);
+    for pass in passes {
+        jobs.push(job_of(alloc, ledger, pass)?).ok()?;
+    }
+    Some(jobs)
+}
+
+/// Whether each job has a payment that was done, and a balance.
+fn are_done(jobs: Vec<Job>) -> bool {
+    for job in jobs {
+        let (_pass, _calls, receipts) = job.split();
+        let (Some(paid), Some(read)) = (receipts.get(0), receipts.get(1)) else {
+            return false;
+        };
+        if !is_done(&paid.reply, &read.reply) || receipts.len() != 2 {
+            return false;
+        }
+    }
+    true
+}
+
+/// Whether a payment was done, and a read gave a balance.
+fn is_done(paid: &Reply, read: &Reply) -> bool {
+    match (paid, read) {
+        (Reply::Done, Reply::Balance(_)) => true,
+        _ => false,
+    }
+}
+
+/// Whether all payments of process 0 and these others are done, where each has a thread.
+fn runs<R: Threads + Sync, G: Gate + Sync>(
+    rt: &R,
+    alloc: Global,
+    others: &[u64],
+    gate: &G,
+) -> Option<bool>
+    requires { length others.now < 16 }
+{
+    let book = book_of(alloc, others)?;
+    let (ledger, passes) = Ledger::new(alloc, &book).ok()?;
+    let mut jobs = jobs_of(alloc, &ledger, passes)?;
+    run_all(rt, &ledger, jobs.as_mut_slice(), gate);
+    Some(are_done(jobs))
+}
+
+#[test]
+fn two_processes_meet(rt: HostRuntime) {
+    let meeting = Meeting::new();
+    let done = runs(&rt, rt.alloc(), &[1], &meeting);
+    assert!(rt; done == Some(true) && meeting.is_kept());
+}
+
+#[test]
+fn three_processes_pay(rt: HostRuntime) {
+    assert!(rt; runs(&rt, rt.alloc(), &[1, 2], &OpenGate) == Some(true));
+}
