@@ -43,7 +43,7 @@ impl Meeting {
             if flag.load(Ordering::SeqCst) {
                 return;
             }
-            if look % 1024 == 0 {
+            if look % 65_536 == 0 {
                 yield_now();
             }
         }
