@@ -1,0 +1,55 @@
+use Rattle.std.proofs.Common.{◌≡◌, ◌<◌, List, [], ◌∷◌, ◌++◌, length, subst, sym, ap, ◌∙◌, arith}
+use Rattle.std.proofs.lemmas.List.Elements.{All-cons, All-nil}
+use Rattle.at_ledger.specs.Call.{AreTargetsOn, TargetPair}
+use Rattle.at_log.specs.declared.receipt.Receipt.{Receipt}
+use Rattle.at_object.specs.Passes.{PassTerms, Stands}
+use Rattle.at_example.proofs.deal.Goals as goal
+
+pub pay-paid_out-requires-clause-targets : goal.pay-paid_out-requires-clause-targets
+pay-paid_out-requires-clause-targets g c =
+    let P : TargetPair → Type 0 = λ t. t.0 < length c.args.ledger.now.book.accounts in
+    subst (AreTargetsOn (length c.args.ledger.now.book.accounts)) (sym (c.push.ensures ∙ ap (λ ts. ts ++ (3, 5) ∷ []) c.one-targets.ensures))
+    (All-cons P (0, 10) ((3, 5) ∷ []) (omega (arith, c.requires.four)) (All-cons P (3, 5) [] (omega (arith, c.requires.four)) (All-nil P)))
+
+pub returns-clause-zero : goal.returns-clause-zero
+returns-clause-zero g c =
+    let paid : Receipt = c.transfer-paid.result in
+    let short : Receipt = c.transfer-short.result in
+    let same = c.note-note.ensures.same in
+    record {
+      of_ledger = c.read-paid_in.ensures.pass;
+      process_is = c.read-paid_in.ensures.process ∙ ap (λ (p : PassTerms). p.knows.first) same ∙ c.transfer-short.ensures.process
+          ∙ c.transfer-paid.ensures.process ∙ c.requires.zero.process_is;
+      stands = c.read-paid_in.ensures.stands (paid ∷ short ∷ [])
+          (subst (λ p. Stands p (paid ∷ short ∷ [])) (sym same)
+          (c.transfer-short.ensures.stands (paid ∷ []) (c.transfer-paid.ensures.stands [] c.requires.zero.stands)));
+      counted = omega (
+        arith,
+        c.read-paid_in.ensures.calls,
+        ap (λ (p : PassTerms). p.calls) same,
+        c.transfer-short.ensures.calls,
+        c.transfer-paid.ensures.calls,
+        c.requires.zero.calls_are,
+      );
+    }
+
+pub returns-clause-one : goal.returns-clause-one
+returns-clause-one g c =
+    let agreed : Receipt = c.transfer-agreed.result in
+    let rest : Receipt = c.read-rest.result in
+    record {
+      of_ledger = c.pay-paid_out.ensures.pass;
+      process_is = c.pay-paid_out.ensures.process ∙ c.read-rest.ensures.process ∙ c.learn.ensures.process
+          ∙ c.transfer-agreed.ensures.process ∙ c.requires.one.process_is;
+      stands = c.pay-paid_out.ensures.stands (agreed ∷ rest ∷ [])
+          (c.read-rest.ensures.stands (agreed ∷ [])
+          (c.learn.ensures.stands (agreed ∷ []) (c.transfer-agreed.ensures.stands [] c.requires.one.stands)));
+      counted = omega (
+        arith,
+        c.pay-paid_out.ensures.calls,
+        c.read-rest.ensures.calls,
+        c.learn.ensures.calls,
+        c.transfer-agreed.ensures.calls,
+        c.requires.one.calls_are,
+      );
+    }

@@ -1,0 +1,128 @@
+//! The asset transfer object in a program of one's own: two processes pay from accounts of one owner and from one that they share,
+//! one hands the other what it has seen, and the journal of the closed ledger is printed.
+#![tactic(auto)]
+
+ghost use Rattle.std.specs.Prelude.{◌≡◌, ◌^◌, ◌<◌, length, All, IfOk};
+ghost use Rattle.at_object.specs.Closings.{IsAccountedFor};
+ghost use Rattle.at_object.specs.Passes.{IsNewPass};
+
+use at_board::Steps;
+use at_journal::journal;
+use at_ledger::{Book, BookBuilder, Call, Line, Reply, State, Targets};
+use at_log::Receipt;
+use at_object::{Closed, Ledger, NoMemory, Pass};
+use std::alloc::{AllocError, Global};
+use std::io;
+use std::marker::Brand;
+use std::sync::ledger;
+use std::sync::ledger::Blank;
+
+/// Process 0 owns account 0, process 1 owns account 1, both share account 2, and account 3 can only be paid into. Ten payments of
+/// each process from its own account may succeed, and each may ask for ten from account 2.
+fn book_of_four(alloc: Global) -> anyhow::Result<Book> {
+    let mut builder = BookBuilder::new(alloc, 2, 10, 10)?;
+    builder.add(100, &[0])?;
+    builder.add(50, &[1])?;
+    builder.add(40, &[0, 1])?;
+    builder.add(0, &[])?;
+    Ok(builder.finish()?)
+}
+
+/// Three calls of each process, and what they answered. Threads could make them: the ledger is shared, and each pass is one caller's.
+fn deal<L: ledger::Ledger, X: ledger::Ledger>(
+    ledger: &Ledger,
+    zero: &mut Pass,
+    one: &mut Pass,
+    steps: &mut Steps<L>,
+    exchanges: &mut Steps<X>,
+) -> ([Receipt; 3], [Receipt; 3])
+    requires four { length ledger.now.book.accounts ≡ 4 }
+    requires zero { IsNewPass ledger.now 0 zero.old }
+    requires one { IsNewPass ledger.now 1 one.old }
+    ensures zero { IsAccountedFor ledger.now 0 zero.new result.0 }
+    ensures one { IsAccountedFor ledger.now 1 one.new result.1 }
+{
+    let paid = ledger.transfer(zero, 0, 1, 30, steps, exchanges);
+    let agreed = ledger.transfer(one, 2, 3, 25, steps, exchanges);
+    let short = ledger.transfer(zero, 2, 3, 25, steps, exchanges);
+    let note = ledger.note(zero, steps, exchanges);
+    ledger.learn(one, note, steps, exchanges);
+    let rest = ledger.read(one, 2, steps, exchanges);
+    let mut targets = Targets::one(0, 10);
+    targets.push(3, 5);
+    let paid_out = ledger.pay(one, 1, &targets, steps, exchanges);
+    let paid_in = ledger.read(zero, 3, steps, exchanges);
+    ([paid, short, paid_in], [agreed, rest, paid_out])
+}
+
+/// Makes the calls on a new ledger of the book, and closes it with all passes and receipts.
+#[tactic(auto, using(crate::proofs::Accounts::are_accounted_for_two))]
+fn closed_after<L: ledger::Ledger, X: ledger::Ledger>(
+    alloc: Global,
+    book: &Book,
+    steps: Blank,
+    exchanges: Blank,
+) -> Result<Closed, NoMemory>
+    requires names { (steps.name ≡ L.name) × (exchanges.name ≡ X.name) }
+    requires parts { (steps.parts ≡ L.parts) × (exchanges.parts ≡ X.parts) }
+    requires some { (0 < steps.parts) × (0 < exchanges.parts) }
+    requires four { length book.now.accounts ≡ 4 }
+    requires two { book.now.processes ≡ 2 }
+    ensures { IfOk result (λ c. All (λ receipts. length receipts < 2 ^ 32) c.closing.receipts) }
+{
+    let (steps, exchanges) = (&mut Steps::<L>::new(steps), &mut Steps::<X>::new(exchanges));
+    let (ledger, mut passes) = Ledger::new(alloc, book)?;
+    let mut one = passes.pop().unwrap();
+    let mut zero = passes.pop().unwrap();
+    let (first, second) = deal(&ledger, &mut zero, &mut one, steps, exchanges);
+    let passes = Vec::from_array(alloc, [zero, one])?;
+    let first = Vec::from_array(alloc, first)?;
+    let second = Vec::from_array(alloc, second)?;
+    let receipts = Vec::from_array(alloc, [first, second])?;
+    match ledger.close(alloc, passes, receipts) {
+        Ok(closed) => Ok(closed),
+        Err(_refused) => Err(AllocError),
+    }
+}
+
+/// Prints a call.
+fn print_call(rt: &impl Print, call: &Call) -> io::Result<()> {
+    match call {
+        Call::Transfer { from, to, amount } => print!(rt; "transfer {from} {to} {amount}"),
+        Call::Read { account } => print!(rt; "read {account}"),
+        Call::Pay { from, targets } => {
+            print!(rt; "pay {from}")?;
+            for i in 0..targets.len() {
+                print!(rt; " {} {}", targets.to(i), targets.amount(i))?;
+            }
+            Ok(())
+        }
+    }
+}
+
+/// Prints a line of the journal: the process, the number of its call, the call and the reply.
+fn print_line(rt: &impl Print, line: &Line) -> io::Result<()> {
+    print!(rt; "{} {} ", line.process, line.number)?;
+    print_call(rt, &line.call)?;
+    match line.reply {
+        Reply::Done => println!(rt; " done"),
+        Reply::Short => println!(rt; " short"),
+        Reply::NotOwner => println!(rt; " not-owner"),
+        Reply::Full => println!(rt; " full"),
+        Reply::Balance(balance) => println!(rt; " {balance}"),
+    }
+}
+
+fn main(rt: HostRuntime) -> anyhow::Result<()> {
+    let alloc = rt.alloc();
+    let book = book_of_four(alloc)?;
+    if book.accounts() != 4 || book.processes() != 2 {
+        return Ok(());
+    }
+    let closed = closed_after::<Brand, Brand>(alloc, &book, Blank::new(1), Blank::new(1))?;
+    for line in &journal(alloc, closed.book(), closed.closing())? {
+        print_line(&rt, line)?;
+    }
+    println!(rt; "total {}", State::new(alloc, closed.book())?.total())?;
+    Ok(())
+}

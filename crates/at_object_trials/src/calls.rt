@@ -1,0 +1,63 @@
+//! Calls of any kind on a pass.
+
+ghost use Rattle.std.specs.Prelude.{◌≡◌, ◌++◌, List, [], ◌∷◌, length, IsTrue};
+ghost use Rattle.at_ledger.specs.Call.{AreTargetsOn, IsCallOn};
+ghost use Rattle.at_log.specs.declared.receipt.Receipt.{Receipt};
+ghost use Rattle.at_object.specs.Passes.{IsPassOf, Stands, one_more_call};
+
+use at_board::Steps;
+use at_ledger::{Book, Call, Targets};
+use at_log::Receipt;
+use at_object::{Ledger, Pass};
+use std::sync::ledger;
+
+/// Whether all targets are accounts of the book.
+fn are_on(book: &Book, targets: &Targets) -> bool
+    ensures { IsTrue result → AreTargetsOn (length book.now.accounts) targets.now }
+{
+    for i in 0..targets.len() {
+        if book.accounts() <= targets.to(i) {
+            return false;
+        }
+    }
+    true
+}
+
+/// Whether a call names accounts of the book alone.
+pub(crate) fn is_on(book: &Book, call: &Call) -> bool
+    ensures { IsTrue result → IsCallOn (length book.now.accounts) call.now }
+{
+    match call {
+        Call::Transfer {
+            from,
+            to,
+            amount: _,
+        } => *from < book.accounts() && *to < book.accounts(),
+        Call::Read { account } => *account < book.accounts(),
+        Call::Pay { from, targets } => *from < book.accounts() && are_on(book, targets),
+    }
+}
+
+/// Makes a call on a pass.
+pub(crate) fn call_by<L: ledger::Ledger, X: ledger::Ledger>(
+    ledger: &Ledger,
+    pass: &mut Pass,
+    call: &Call,
+    steps: &mut Steps<L>,
+    exchanges: &mut Steps<X>,
+) -> Receipt
+    requires pass { IsPassOf pass.old ledger.now }
+    requires call { IsCallOn (length ledger.now.book.accounts) call.now }
+    ensures stands { (earlier : List Receipt) → Stands pass.old earlier
+        → Stands pass.new (earlier ++ result ∷ []) }
+    ensures pass { IsPassOf pass.new ledger.now }
+    ensures calls { pass.new.calls ≡ one_more_call pass.old.calls }
+{
+    match call {
+        Call::Transfer { from, to, amount } => ledger.transfer(
+            pass, *from, *to, *amount, steps, exchanges,
+        ),
+        Call::Read { account } => ledger.read(pass, *account, steps, exchanges),
+        Call::Pay { from, targets } => ledger.pay(pass, *from, targets, steps, exchanges),
+    }
+}

@@ -1,0 +1,140 @@
+//! Four threads call at once on one ledger, and the sequential ledger answers the closed journal as it stands.
+
+ghost use Rattle.std.specs.Prelude.{◌≡◌, ◌<◌, All};
+ghost use Rattle.at_object_trials.specs.Players.{AreFew, PlaysOn};
+
+use crate::closings::close_all;
+use crate::journals::{is_run, journal_of};
+use crate::players::{Player, new_players};
+use crate::scenes::{book_of, targets_of};
+use at_board::Steps;
+use at_ledger::{Call, Line, Reply};
+use at_object::{Closed, Ledger};
+use at_players::crowd::wait_for_all;
+use std::alloc::Global;
+use std::marker::Brand;
+use std::sync::atomic::AtomicU64;
+use std::sync::ledger;
+use std::sync::ledger::Blank;
+use std::thread::{Threads, for_each_mut};
+
+/// How many calls each process makes.
+const CALLS: u32 = 60;
+
+/// Processes 0 and 1 share account 0, process 2 owns account 1 and process 3 account 2, all four share account 3, and nobody owns
+/// account 4.
+const ACCOUNTS: [(u64, &[u64]); 5] = [
+    (100, &[0, 1]),
+    (100, &[2]),
+    (100, &[3]),
+    (60, &[0, 1, 2, 3]),
+    (0, &[]),
+];
+
+/// The call of this number of each process. Six calls are made in turn, and those of an account that the process doesn't own are
+/// refused.
+fn call_of(number: u32) -> Option<Call> {
+    Some(match number % 6 {
+        0 => Call::Transfer {
+            from: 0,
+            to: 1,
+            amount: 3,
+        },
+        1 => Call::Transfer {
+            from: 3,
+            to: 4,
+            amount: 2,
+        },
+        2 => Call::Transfer {
+            from: 1,
+            to: 0,
+            amount: 5,
+        },
+        3 => Call::Read {
+            account: number % 5,
+        },
+        4 => Call::Pay {
+            from: 2,
+            targets: targets_of(&[(0, 1), (3, 2)])?,
+        },
+        _ => Call::Read { account: 3 },
+    })
+}
+
+/// Makes all calls beside the other threads, or those before one for whose receipt there is no memory.
+fn play<L: ledger::Ledger, X: ledger::Ledger>(
+    ledger: &Ledger,
+    player: &mut Player,
+    steps: Blank,
+    exchanges: Blank,
+)
+    requires names { (steps.name ≡ L.name) × (exchanges.name ≡ X.name) }
+    requires parts { (steps.parts ≡ L.parts) × (exchanges.parts ≡ X.parts) }
+    requires some { (0 < steps.parts) × (0 < exchanges.parts) }
+    requires player { PlaysOn ledger.now player.old }
+    ensures { PlaysOn ledger.now player.new }
+{
+    let (steps, exchanges) = (&mut Steps::<L>::new(steps), &mut Steps::<X>::new(exchanges));
+    for number in 0..CALLS {
+        let Some(call) = call_of(number) else {
+            return;
+        };
+        if player.make(ledger, &call, steps, exchanges).is_none() {
+            return;
+        }
+    }
+}
+
+/// Plays with counters of its own, once all threads are there.
+fn play_alone(ledger: &Ledger, gate: &AtomicU64, player: &mut Player)
+    requires { PlaysOn ledger.now player.old }
+    ensures { PlaysOn ledger.now player.new }
+{
+    wait_for_all(gate);
+    play::<Brand, Brand>(ledger, player, Blank::new(1), Blank::new(1));
+}
+
+/// Four players play, each in a thread of its own.
+fn play_all<R: Threads + Sync>(rt: &R, ledger: &Ledger, players: &mut [Player])
+    requires { All (PlaysOn ledger.now) players.old }
+    ensures { All (PlaysOn ledger.now) players.new }
+{
+    let gate = &AtomicU64::new(0);
+    for_each_mut(
+        rt,
+        players,
+        4,
+        &|_, player| play_alone(ledger, gate, player),
+    );
+}
+
+/// How many lines have this reply.
+fn count_of(lines: &[Line], reply: Reply) -> usize {
+    lines.iter().filter(|line| line.reply == reply).count()
+}
+
+/// Whether the journal has all calls, and is a run of the sequential ledger. Of the payments that are refused whatever the balances,
+/// 20, 30 and 30 are from accounts that the process doesn't own, and the last two of ten requests on a shared account are over the
+/// room.
+fn has_run(alloc: Global, closed: &Closed) -> Option<bool>
+    requires { AreFew closed.now.closing.receipts }
+{
+    let lines = journal_of(alloc, closed)?;
+    let lines = lines.as_slice();
+    let refused = count_of(lines, Reply::NotOwner) == 80 && count_of(lines, Reply::Full) == 12;
+    Some(lines.len() == 240 && refused && is_run(alloc, closed.book(), lines)?)
+}
+
+/// Four threads call on a new ledger, which is then closed. Whether its journal is right.
+fn plays_at_once<R: Threads + Sync>(rt: &R, alloc: Global) -> Option<bool> {
+    let book = book_of(alloc, 4, 16, 8, ACCOUNTS.as_slice())?;
+    let (ledger, mut players) = new_players(alloc, &book)?;
+    play_all(rt, &ledger, players.as_mut_slice());
+    let (closed, more) = close_all(ledger, alloc, players)?;
+    Some(more == 0 && has_run(alloc, &closed)?)
+}
+
+#[test]
+fn four_threads_make_one_run(rt: HostRuntime) {
+    assert!(rt; plays_at_once(&rt, rt.alloc()) == Some(true));
+}

@@ -1,0 +1,48 @@
+//! Journals held against the sequential ledger and against tables.
+
+ghost use Rattle.std.specs.Prelude.{◌≡◌};
+ghost use Rattle.at_object_trials.specs.Players.{AreFew};
+
+use crate::calls::is_on;
+use at_journal::journal;
+use at_ledger::{Book, Line, Reply, State};
+use at_object::Closed;
+use std::alloc::Global;
+
+/// The journal of a closed ledger.
+pub(crate) fn journal_of(alloc: Global, closed: &Closed) -> Option<Vec<Line>>
+    requires { AreFew closed.now.closing.receipts }
+{
+    journal(alloc, closed.book(), closed.closing()).ok()
+}
+
+/// Whether the sequential ledger answers a call as its line says.
+fn is_answered(state: &mut State, book: &Book, line: &Line) -> bool
+    requires { state.old.book ≡ book.now }
+    ensures { state.new.book ≡ book.now }
+{
+    line.process < book.processes()
+        && is_on(book, &line.call)
+        && state.step(line.process, &line.call) == line.reply
+}
+
+/// Whether the sequential ledger answers all calls, one after another, as their lines say.
+pub(crate) fn is_run(alloc: Global, book: &Book, lines: &[Line]) -> Option<bool> {
+    let mut state = State::new(alloc, book).ok()?;
+    for line in lines {
+        if !is_answered(&mut state, book, line) {
+            return Some(false);
+        }
+    }
+    Some(true)
+}
+
+/// Whether the lines are of these processes with these numbers and replies.
+pub(crate) fn are_lines(lines: &[Line], wanted: &[(u32, u32, Reply)]) -> bool {
+    for (line, (process, number, reply)) in lines.iter().zip(wanted) {
+        if line.process != *process || line.number != *number || line.reply != *reply {
+            return false;
+        }
+    }
+    lines.len() == wanted.len()
+}

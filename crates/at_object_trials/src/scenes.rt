@@ -1,0 +1,243 @@
+//! Scenes: whole calls on a new ledger, one after another, with what each must answer.
+
+ghost use Rattle.std.specs.Prelude.{◌≡◌, ◌<◌, All, length};
+ghost use Rattle.at_object_trials.specs.Players.{AreFew, PlaysOn};
+
+use crate::closings::close_all;
+use crate::journals::{are_lines, is_run, journal_of};
+use crate::players::{Player, new_players};
+use at_base::Counts;
+use at_board::Steps;
+use at_ledger::{Book, BookBuilder, Call, Reply, TARGETS_MAX, Targets};
+use at_log::At;
+use at_object::{Closed, Ledger};
+use std::alloc::Global;
+use std::marker::Brand;
+use std::sync::ledger;
+use std::sync::ledger::Blank;
+
+/// A call: a transfer from an account to another, a pay-out from an account to targets, or a read.
+pub(crate) enum Deed {
+    Transfer(u32, u32, u64),
+    Pay(u32, &'static [(u32, u64)]),
+    Read(u32),
+}
+
+/// Where a receipt must stand. A round has its number and the place of its decision.
+pub(crate) enum Place {
+    Front(&'static [u32]),
+    Own(u32),
+    Round(u32, u32),
+    Previous,
+}
+
+/// What a process does: a call with its reply and its place, or a note, which another process takes in.
+pub(crate) enum Row {
+    Calls(u32, Deed, Reply, Place),
+    Tells(u32, u32),
+}
+
+/// How many calls a process has made, how many of its payments from single accounts have succeeded, and how many it has asked for
+/// from account 0.
+pub(crate) struct Counted(pub(crate) u64, pub(crate) u32, pub(crate) u32);
+
+/// A book, what is done on its ledger, the counts of each process afterwards, and the journal.
+pub(crate) struct Scene {
+    pub(crate) own_room: u64,
+    pub(crate) request_room: u64,
+    /// What each account opens with, and its owners.
+    pub(crate) accounts: &'static [(u64, &'static [u64])],
+    pub(crate) rows: &'static [Row],
+    /// The counts of each process at the end, and so how many processes there are.
+    pub(crate) counted: &'static [Counted],
+    /// The process, the number and the reply of each line.
+    pub(crate) journal: &'static [(u32, u32, Reply)],
+}
+
+/// A book of these accounts, each by its opening and its owners.
+pub(crate) fn book_of(
+    alloc: Global,
+    processes: u64,
+    own_room: u64,
+    request_room: u64,
+    accounts: &[(u64, &[u64])],
+) -> Option<Book> {
+    let mut builder = BookBuilder::new(alloc, processes, own_room, request_room).ok()?;
+    for (opening, owners) in accounts {
+        builder.add(*opening, owners).ok()?;
+    }
+    builder.finish().ok()
+}
+
+/// These targets, of which there are one to four.
+pub(crate) fn targets_of(pairs: &[(u32, u64)]) -> Option<Targets> {
+    let (first, others) = pairs.split_first()?;
+    let mut targets = Targets::one(first.0, first.1);
+    for (to, amount) in others {
+        if targets.len() as usize == TARGETS_MAX {
+            return None;
+        }
+        targets.push(*to, *amount);
+    }
+    Some(targets)
+}
+
+/// The call that a deed is.
+fn call_of(deed: &Deed) -> Option<Call> {
+    match deed {
+        Deed::Transfer(from, to, amount) => Some(Call::Transfer {
+            from: *from,
+            to: *to,
+            amount: *amount,
+        }),
+        Deed::Pay(from, pairs) => Some(Call::Pay {
+            from: *from,
+            targets: targets_of(pairs)?,
+        }),
+        Deed::Read(account) => Some(Call::Read { account: *account }),
+    }
+}
+
+/// Whether these are the counts of a front.
+fn are_counts(counts: &Counts, wanted: &[u32]) -> bool {
+    for p in 0..counts.len() {
+        if wanted.get(p as usize) != Some(&counts.get(p)) {
+            return false;
+        }
+    }
+    counts.len() as usize == wanted.len()
+}
+
+/// Whether a receipt stands at a place.
+fn stands_at(at: &At, place: &Place) -> bool {
+    match (at, place) {
+        (At::Front(counts), Place::Front(wanted)) => are_counts(counts, wanted),
+        (At::Own(number), Place::Own(wanted)) => number == wanted,
+        (At::Round { round, place }, Place::Round(wanted, decided)) => {
+            round == wanted && place == decided
+        }
+        (At::Previous, Place::Previous) => true,
+        _ => false,
+    }
+}
+
+/// Whether a player's last receipt says this.
+fn has_told(player: &Player, reply: Reply, place: &Place) -> bool {
+    match player.last() {
+        Some(receipt) => receipt.reply == reply && stands_at(&receipt.at, place),
+        None => false,
+    }
+}
+
+/// Does what a row says, and answers whether the reply and the place are right.
+fn plays_row<L: ledger::Ledger, X: ledger::Ledger>(
+    ledger: &Ledger,
+    players: &mut [Player],
+    row: &Row,
+    steps: &mut Steps<L>,
+    exchanges: &mut Steps<X>,
+) -> Option<bool>
+    requires { All (PlaysOn ledger.now) players.old }
+    ensures { All (PlaysOn ledger.now) players.new }
+{
+    match row {
+        Row::Calls(process, deed, reply, place) => {
+            let process = *process as usize;
+            if players.len() <= process {
+                return None;
+            }
+            players[process].make(ledger, &call_of(deed)?, steps, exchanges)?;
+            Some(has_told(&players[process], *reply, place))
+        }
+        Row::Tells(process, other) => {
+            let (process, other) = (*process as usize, *other as usize);
+            if players.len() <= process || players.len() <= other {
+                return None;
+            }
+            let note = players[process].note(ledger, steps, exchanges);
+            players[other].learn(ledger, note, steps, exchanges);
+            Some(true)
+        }
+    }
+}
+
+/// Does what the rows say, and answers whether all replies and places are right.
+fn plays_rows<L: ledger::Ledger, X: ledger::Ledger>(
+    ledger: &Ledger,
+    players: &mut [Player],
+    rows: &[Row],
+    steps: Blank,
+    exchanges: Blank,
+) -> Option<bool>
+    requires names { (steps.name ≡ L.name) × (exchanges.name ≡ X.name) }
+    requires parts { (steps.parts ≡ L.parts) × (exchanges.parts ≡ X.parts) }
+    requires some { (0 < steps.parts) × (0 < exchanges.parts) }
+    requires players { All (PlaysOn ledger.now) players.old }
+    ensures { All (PlaysOn ledger.now) players.new }
+{
+    let (steps, exchanges) = (&mut Steps::<L>::new(steps), &mut Steps::<X>::new(exchanges));
+    for row in rows {
+        if !plays_row(ledger, players, row, steps, exchanges)? {
+            return Some(false);
+        }
+    }
+    Some(true)
+}
+
+/// Whether each player has these counts.
+fn are_counted(ledger: &Ledger, players: &[Player], counted: &[Counted]) -> bool
+    requires { All (PlaysOn ledger.now) players.now }
+{
+    if players.len() != counted.len() {
+        return false;
+    }
+    for p in 0..players.len() {
+        let Counted(calls, sent, asked) = &counted[p];
+        if players[p].counts(ledger) != (*calls, *sent, *asked) {
+            return false;
+        }
+    }
+    true
+}
+
+/// Whether a closed ledger's journal is a run that has these lines, or so many more.
+fn has_journal(
+    alloc: Global,
+    closed: &Closed,
+    more: usize,
+    wanted: &[(u32, u32, Reply)],
+) -> Option<bool>
+    requires { AreFew closed.now.closing.receipts }
+{
+    let lines = journal_of(alloc, closed)?;
+    let lines = lines.as_slice();
+    let is_wanted = match more {
+        0 => are_lines(lines, wanted),
+        _ => lines.len() == wanted.len().saturating_add(more),
+    };
+    Some(is_wanted && is_run(alloc, closed.book(), lines)?)
+}
+
+/// Plays a scene on a new ledger, which is then closed, and answers whether all is as the scene says, or none where there was no
+/// memory.
+pub(crate) fn plays(alloc: Global, scene: &Scene) -> Option<bool> {
+    let processes = scene.counted.len() as u64;
+    let book = book_of(
+        alloc,
+        processes,
+        scene.own_room,
+        scene.request_room,
+        scene.accounts,
+    )?;
+    let (ledger, mut players) = new_players(alloc, &book)?;
+    let right = plays_rows::<Brand, Brand>(
+        &ledger,
+        players.as_mut_slice(),
+        scene.rows,
+        Blank::new(1),
+        Blank::new(1),
+    )?;
+    let counted = are_counted(&ledger, players.as_slice(), scene.counted);
+    let (closed, more) = close_all(ledger, alloc, players)?;
+    Some(right && counted && has_journal(alloc, &closed, more, scene.journal)?)
+}
