@@ -66,7 +66,7 @@ echo 'checked 1 2 16384' >checked
 run check "$usual/book.csv" reads.csv
 printed 'a file of many pieces' checked
 
-usage='usage: run BOOK PAY... | check BOOK PAY... | make NUMBER PROCESSES CALLS | verify BOOK REPORT PAY...'
+usage='usage: run BOOK PAY... | check BOOK PAY... | make NUMBER PROCESSES CALLS | deliver BOOK ORDER MSG... | verify BOOK REPORT PAY...'
 run --help
 refused 'words of no form' 2 "$usage"
 run run "$(printf '\377')"

@@ -1,5 +1,5 @@
 -- When `verify` is refused, and what is answered of a claim.
-use Rattle.std.proofs.Common.{◌≡◌, ◌≢◌, ◌+◌, ℕ, List, Bool, true, Result, Ok, Err, IfErr, ◌⊎◌, inl, inr, refl, arith}
+use Rattle.std.proofs.Common.{◌≡◌, ◌≢◌, ℕ, List, Bool, true, Result, Ok, Err, IfErr, ◌⊎◌, inl, inr, refl}
 use Rattle.at_io.specs.Faults.{Rose}
 use Rattle.at_report.specs.declared.status.Status.{Status}
 use Rattle.at_report.specs.declared.status.Status.TheVariants.{Done, Usage, BadBook, BadPayments, ReadFault, WriteFault, NoMemory, TooLong, BadSchedule, BadOrder, BadMessages, NotLegal}

@@ -1,19 +1,17 @@
 -- What the files of `deliver` hold, one after another.
-use Rattle.std.proofs.Common.{◌≡◌, ◌∙◌, ℕ, ◌+◌, ◌^◌, ◌<◌, ◌≤◌, Bool, true, List, [], length, map, get_or, slice_set, All, Result, Ok, Err, refl, sym, ap, arith, inl, inr, get_or-set_same, get_or-set_other}
+use Rattle.std.proofs.Common.{◌≡◌, ◌∙◌, ℕ, ◌+◌, ◌<◌, ◌≤◌, List, [], length, map, get_or, slice_set, All, Ok, Err, refl, sym, ap, arith, inl, inr, get_or-set_same, get_or-set_other}
 use Rattle.std.proofs.lemmas.Bool.{cases_eq}
 use Rattle.std.proofs.lemmas.List.{get_or-map, length-map}
 use Rattle.at_broadcast.specs.declared.message.Message.{Message}
 use Rattle.at_files.specs.BookRecords.{NamedBook}
-use Rattle.at_files.specs.Deliveries.{deliveries_of}
 use Rattle.at_files.specs.Limits.{most_messages}
 use Rattle.at_files.specs.Records.{records_of}
 use Rattle.at_files.specs.declared.deliveries.Delivery.{Delivery}
 use Rattle.at_files.proofs.DeliveryLaws.{deliveries_of-Delivers}
 use Rattle.at_files.proofs.MessageLaws.{counts_of-set}
-use Rattle.at_report.specs.Lines.{Word}
 use Rattle.at_report.specs.declared.status.Status.{Status}
-use Rattle.at_program.specs.Delivering.{SpellsBroadcast, SpellsOrder, broadcast, order_loaded, order_number, sent_loaded}
-use Rattle.at_program.specs.Loading.{Files, IsSpelled, LoadedOf, SendsBytes, contents_of, fetched, messages_given}
+use Rattle.at_program.specs.Delivering.{SpellsBroadcast, broadcast, order_loaded, order_number, sent_loaded}
+use Rattle.at_program.specs.Loading.{Files, IsSpelled, LoadedOf, SendsBytes, messages_given}
 use Rattle.at_program.specs.Nodes.{AreSent, Broadcast, counts_of}
 use Rattle.at_program.specs.Words.{Delivering}
 use Rattle.at_program.proofs.SpelledLoaded.{Accepts-messages, all_loaded-SpelledOf, fetched-HoldsFile}

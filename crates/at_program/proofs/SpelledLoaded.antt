@@ -17,7 +17,7 @@ use Rattle.at_report.specs.Lines.{Word}
 use Rattle.at_program.specs.Words.{Form}
 use Rattle.at_program.specs.declared.loading.Loaded as program
 use Rattle.at_verify.specs.Right.{IsPlayable, files_in}
-use Rattle.at_program.specs.Loading.{EachSpells, Files, Giving, HoldsFile, IsSpelled, Loaded, LoadedOf, PaysBytes, SendsBytes, Spelled, SpelledOf, Spelling, SpellsBook, SpellsFile, all_loaded, book_loaded, calls_given, contents_of, fetched, file_loaded, files_loaded, loaded, messages_given, named}
+use Rattle.at_program.specs.Loading.{Files, Giving, HoldsFile, IsSpelled, Loaded, LoadedOf, PaysBytes, SendsBytes, Spelled, SpelledOf, Spelling, SpellsBook, SpellsFile, all_loaded, book_loaded, calls_given, contents_of, fetched, files_loaded, loaded, messages_given, named}
 
 -- a file that is there and not too long is fetched
 pub fetched-HoldsFile : (files : Files) (name : Word) (bytes : List ℕ) (number : ℕ) → HoldsFile files name bytes → fetched (files name) number ≡ Ok bytes

@@ -1,5 +1,5 @@
 -- A report beside the files that it should be the report of, and what `verify` says of it.
-use Rattle.std.specs.Prelude.{◌≡◌, ℕ, ◌+◌, ◌≤◌, ◌⊎◌, ⊤, Bool, true, List, ◌++◌, length, Result, Ok, Err}
+use Rattle.std.specs.Prelude.{◌≡◌, ℕ, ◌+◌, ◌⊎◌, ⊤, Bool, true, List, ◌++◌, length, Result, Ok, Err}
 use Rattle.at_files.specs.Results.{and_then}
 use Rattle.at_io.specs.Sink.{TakesPrefix}
 use Rattle.at_ledger.specs.declared.call.Call.{Call}

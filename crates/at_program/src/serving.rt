@@ -22,9 +22,7 @@ use crate::generating::generate;
 use crate::loading::{self, load};
 use crate::playing::play;
 use crate::verifying::answer_verify;
-use crate::words::{
-    self, Command, Making, form_of, what_to_deliver, what_to_make, what_to_verify,
-};
+use crate::words::{self, Command, Making, form_of, what_to_deliver, what_to_make, what_to_verify};
 use at_io::{Shelf, Sink, put_all};
 use at_ledger::Call;
 use at_report::{Status, UsageFault, checked_text, fault_text, report, summary};
@@ -45,7 +43,11 @@ fn run_text(alloc: Global, loaded: &loading::Loaded<Call>) -> Result<Vec<u8>, Al
 }
 
 /// What the command prints of what was loaded.
-fn text_of(alloc: Global, command: Command, loaded: &loading::Loaded<Call>) -> Result<Vec<u8>, AllocError>
+fn text_of(
+    alloc: Global,
+    command: Command,
+    loaded: &loading::Loaded<Call>,
+) -> Result<Vec<u8>, AllocError>
     requires names { AreNamesOf loaded.now.book loaded.now.names }
     requires count { length loaded.now.files.items ≡ loaded.now.book.processes }
     requires known { All (IsPlayable (length loaded.now.book.accounts))

@@ -19,7 +19,11 @@ use at_verify::{Verdict, count_calls, verify};
 use std::alloc::Global;
 
 /// What is printed of a report of a run of the files, or its first wrong line.
-fn verdict_text(alloc: Global, loaded: &loading::Loaded<Call>, report: &[u8]) -> Result<Vec<u8>, Status>
+fn verdict_text(
+    alloc: Global,
+    loaded: &loading::Loaded<Call>,
+    report: &[u8],
+) -> Result<Vec<u8>, Status>
     requires names { AreNamesOf loaded.now.book loaded.now.names }
     requires count { length loaded.now.files.items ≡ loaded.now.book.processes }
     requires known { All (IsPlayable (length loaded.now.book.accounts))

@@ -1,4 +1,4 @@
-use Rattle.std.proofs.Common.{◌≡◌, ◌∙◌, ◌+◌, Err, string_bytes, [], refl, ap, inr, arith}
+use Rattle.std.proofs.Common.{◌≡◌, Err, string_bytes, [], refl, ap, inr, arith}
 use Rattle.std.proofs.lemmas.List.{length-map}
 use Rattle.at_program.specs.Delivering.{order_number}
 use Rattle.at_program.specs.Loading.{all_shown, contents_of, named}

@@ -1,6 +1,5 @@
-use Rattle.std.proofs.Common.{◌≡◌, ◌∙◌, ◌<◌, get_or, length, take, sym, subst, arith}
+use Rattle.std.proofs.Common.{◌∙◌, ◌<◌, get_or, length, take, sym, subst, arith}
 use Rattle.std.proofs.lemmas.List.{length-set}
-use Rattle.at_broadcast.specs.Node.{NodeState}
 use Rattle.at_files.specs.declared.deliveries.Delivery.{Delivery}
 use Rattle.at_program.specs.Loading.{all_shown}
 use Rattle.at_program.specs.Nodes.{IsNodeOf}

@@ -1,6 +1,4 @@
-use Rattle.std.proofs.Common.{◌≡◌, ◌∙◌, ◌<◌, Ok, get_or, [], length, ap, refl, sym, subst, arith}
-use Rattle.at_broadcast.specs.Messages.{IsMessageOn}
-use Rattle.at_ledger.specs.Book.{BookTerms}
+use Rattle.std.proofs.Common.{◌≡◌, ◌∙◌, Ok, get_or, [], ap, refl, arith}
 use Rattle.at_program.specs.Loading.{all_shown}
 use Rattle.at_program.proofs.FilesLoaded.{length-contents_of, same_length}
 use Rattle.at_program.proofs.NodesGiven.{IsNodeOf-deliver, file_of, message_known, number_small, number_within}
