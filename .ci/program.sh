@@ -61,12 +61,21 @@ printed 'the report of the example household' verified
 run verify "$household/book.csv" "$household/forged.report" "$household/ann.csv" "$household/bob.csv"
 refused 'a forged report' 12 "$(cat "$household/forged.said")"
 
+deliver=$examples/deliver
+run deliver "$deliver/book.csv" "$deliver/order.csv" "$deliver/send0.csv" "$deliver/send1.csv"
+printed 'the example deliver' "$deliver/deliver.nodes"
+echo 0,1,1 >order.csv
+run deliver "$deliver/book.csv" order.csv "$deliver/send0.csv" "$deliver/send1.csv"
+refused 'a delivery of no message' 10 'order: line 1: unknown message'
+run deliver "$deliver/book.csv" order.csv "$deliver/send0.csv" "$deliver/order.csv"
+refused 'messages of another form' 11 'messages 1: line 1: shape'
+
 yes read,0 | head -n 16384 >reads.csv
 echo 'checked 1 2 16384' >checked
 run check "$usual/book.csv" reads.csv
 printed 'a file of many pieces' checked
 
-usage='usage: run BOOK PAY... | check BOOK PAY... | make NUMBER PROCESSES CALLS | verify BOOK REPORT PAY...'
+usage='usage: run BOOK PAY... | check BOOK PAY... | make NUMBER PROCESSES CALLS | deliver BOOK ORDER MSG... | verify BOOK REPORT PAY...'
 run --help
 refused 'words of no form' 2 "$usage"
 run run "$(printf '\377')"

@@ -15,7 +15,7 @@ use Rattle.at_files.specs.declared.spelled.BadRecord.{BadRecord}
 use Rattle.at_files.specs.declared.spelled.ReadFault.{ReadFault}
 use Rattle.at_files.specs.declared.spelled.ReadFault.TheVariants.{Bad, NoMemory}
 use Rattle.at_files.proofs.FieldLaws.{both_tests, field_of-number_at, three_fields}
-use Rattle.at_files.proofs.SpelledLaws.{AreWritten, IsForm, read-accepts, read-written}
+use Rattle.at_files.proofs.SpelledLaws.{AreWritten, IsForm, items_of-map, read-accepts, read-written}
 
 -- a value that two tests let through
 pub ok_where_both : {T W : Type 0} (a b : Bool) (x y : T) (first second : W) → (if a then (if b then Ok x else Err second) else Err first) ≡ Ok y
@@ -87,6 +87,13 @@ Delivers-written counts records r few each h =
         → IfOk r (λ deliveries. Delivers counts records deliveries.items)
     by (Ok deliveries) are = record { spelled = are.spelled; each = are.each; few = let few = are.few in omega arith }
     by (Err fault) are = tt
+
+-- a file that is deliveries gives them
+pub deliveries_of-Delivers : (counts : List ℕ) (records : List Fields) (deliveries : List Delivery) → length counts ≤ 16 → All (λ c. c ≤ most_messages) counts
+    → Delivers counts records deliveries → deliveries_of counts records ≡ Ok deliveries
+deliveries_of-Delivers counts records deliveries few each delivers =
+    items_of-map (delivery_of counts) fields_of_delivery (IsDelivery counts) most_deliveries TooManyDeliveries records deliveries (IsForm-delivery counts few each)
+    delivers.spelled delivers.each delivers.few
 
 -- a file that is deliveries isn't refused
 pub Delivers-accepted : (counts : List ℕ) (records : List Fields) (r : Result (Vec Delivery Global) (ReadFault OrderWhy)) (deliveries : List Delivery) → length counts ≤ 16

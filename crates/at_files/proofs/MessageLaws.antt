@@ -22,7 +22,7 @@ use Rattle.at_files.proofs.AccountLaws.{pieces-numbers_of}
 use Rattle.at_files.proofs.BookAccepted.{Fits64, numbers_of-decimals}
 use Rattle.at_files.proofs.DeliveryLaws.{ok_where_both}
 use Rattle.at_files.proofs.FieldLaws.{both_tests, field_of-number_at, first-has_shape, length-has_shape, number_at-lt}
-use Rattle.at_files.proofs.SpelledLaws.{AreWritten, IsForm, read-accepts, read-written}
+use Rattle.at_files.proofs.SpelledLaws.{AreWritten, IsForm, items_of-map, read-accepts, read-written}
 
 four_first : (fields : Fields) → 4 ≤ length fields
     → fields ≡ field_of fields 0 ∷ field_of fields 1 ∷ field_of fields 2 ∷ field_of fields 3 ∷ drop 4 fields
@@ -136,6 +136,11 @@ Sends-written b records r few h = by r (read-written (message_of b) fields_of_me
         → IfOk r (λ messages. Sends b records messages.items)
     by (Ok messages) are = record { spelled = are.spelled; each = are.each; few = let few = are.few in omega arith }
     by (Err fault) are = tt
+
+-- a file that is messages gives them
+pub messages_of-Sends : (b : BookTerms) (records : List Fields) (messages : List Message) → length b.accounts ≤ 2 ^ 64 → Sends b records messages → messages_of b records ≡ Ok messages
+messages_of-Sends b records messages few sends =
+    items_of-map (message_of b) fields_of_message (IsSent b) most_messages TooManyMessages records messages (IsForm-message b few) sends.spelled sends.each sends.few
 
 -- a file that is messages isn't refused
 pub Sends-accepted : (b : BookTerms) (records : List Fields) (r : Result (Vec Message Global) (ReadFault MessagesWhy)) (messages : List Message) → length b.accounts ≤ 2 ^ 64

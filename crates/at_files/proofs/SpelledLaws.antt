@@ -75,12 +75,17 @@ items_from-map item print P most over line (x ∷ items) form each within =
     items_from-map item print P most over (line + 1) items form (All-tail P x items each) (omega arith) in
     items_from-more item most over line (print x) (map print items) (omega arith) ∙ rw (here, later) refl
 
+-- a file that is items, written out, gives them
+pub items_of-map : {T W : Type 0} (item : Fields → Result T W) (print : T → Fields) (P : T → Type 0) (most : ℕ) (over : W) (records : List Fields) (items : List T)
+    → IsForm item print P → records ≡ map print items → All P items → length items ≤ most → items_of item most over records ≡ Ok items
+items_of-map item print P most over records items form spelled each few = rw spelled (items_from-map item print P most over 1 items form each (omega arith))
+
 -- a file that is items, written out, isn't refused
 pub not_bad : {T W : Type 0} (item : Fields → Result T W) (print : T → Fields) (P : T → Type 0) (most : ℕ) (over : W) (records : List Fields) (items : List T)
     (bad : BadRecord W) (fault : ReadFault W) → IsForm item print P → records ≡ map print items → All P items → length items ≤ most
     → items_of item most over records ≡ Err bad → fault ≡ NoMemory
 not_bad item print P most over records items bad fault form spelled each few is =
-    let right : items_of item most over records ≡ Ok items = rw spelled (items_from-map item print P most over 1 items form each (omega arith)) in
+    let right = items_of-map item print P most over records items form spelled each few in
     let wrong : Ok items ≡ Err bad = sym right ∙ is in
     cc
 

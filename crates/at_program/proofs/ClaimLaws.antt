@@ -1,13 +1,14 @@
 -- When `verify` is refused, and what is answered of a claim.
-use Rattle.std.proofs.Common.{◌≡◌, ◌≢◌, ◌+◌, ℕ, List, Bool, true, Result, Ok, Err, IfErr, ◌⊎◌, inl, inr, refl, arith}
+use Rattle.std.proofs.Common.{◌≡◌, ◌≢◌, ℕ, List, Bool, true, Result, Ok, Err, IfErr, ◌⊎◌, inl, inr, refl}
 use Rattle.at_io.specs.Faults.{Rose}
 use Rattle.at_report.specs.declared.status.Status.{Status}
 use Rattle.at_report.specs.declared.status.Status.TheVariants.{Done, Usage, BadBook, BadPayments, ReadFault, WriteFault, NoMemory, TooLong, BadSchedule, BadOrder, BadMessages, NotLegal}
 use Rattle.at_report.specs.declared.status.UsageFault.TheVariants as usage
 use Rattle.at_program.specs.Words.{Verifying}
 use Rattle.at_program.specs.Loading.{Files, Loaded, fetched, loaded}
-use Rattle.at_program.specs.Faults.{HasFileNumbers, IsFaultless, IsUnfetched, MayRefuse}
-use Rattle.at_program.specs.Claims.{AnswersVerify, Claim, HasClaimNumbers, IsRight, IsRightClaim, IsWrongAt, MayRefuseClaim, RefusesClaim, SpellsClaim, claimed, report_number}
+use Rattle.at_program.specs.Faults.Kind.{payments}
+use Rattle.at_program.specs.Faults.{HasFurtherNumbers, IsFaultless, MayRefuse}
+use Rattle.at_program.specs.Claims.{AnswersVerify, Claim, IsRight, IsRightClaim, IsWrongAt, MayRefuseClaim, RefusesClaim, SpellsClaim, claimed, report_number}
 use Rattle.at_program.proofs.MayRefuseLaws.{MayRefuse-loaded, MayRefuse-whole, Rose-IsFaultless}
 use Rattle.at_program.proofs.SpelledLoaded.{fetched-HoldsFile, loaded-Spelled}
 
@@ -36,7 +37,7 @@ claimed-SpellsClaim files asked c spells =
 pub MayRefuseClaim-part : {A : Type 0} (tells : Bool) (part : Result A Status) (whole : Result Claim Status) (before now : ℕ) (refusal : Status)
     → (tells ≡ true → part ≡ Err refusal → whole ≡ Err refusal) → MayRefuse tells part before now refusal → MayRefuseClaim tells whole before now refusal
 MayRefuseClaim-part tells part whole before now (NotLegal line) leads h = absurd h
-MayRefuseClaim-part tells part whole before now refusal leads h = MayRefuse-whole tells part whole before now refusal leads h
+MayRefuseClaim-part tells part whole before now refusal leads h = MayRefuse-whole payments tells part whole before now refusal leads h
 
 -- a refusal of a claim that was read is one of `verify`
 pub MayRefuseClaim-verdict : (tells : Bool) (expected : Result Claim Status) (c : Claim) (before now : ℕ) (refusal : Status) → now ≡ before
@@ -50,21 +51,11 @@ pub IfErr-verdict : {A : Type 0} (tells : Bool) (expected : Result Claim Status)
 IfErr-verdict tells expected c before now (Ok text) kept leads h = h
 IfErr-verdict tells expected c before now (Err refusal) kept leads h = MayRefuseClaim-verdict tells expected c before now refusal kept leads h
 
--- the numbers of a refusal of `check`, of a report that was not fetched, and of a claim that was read
-pub HasClaimNumbers-loading : (files : ℕ) (refusal : Status) → HasFileNumbers files refusal → HasClaimNumbers files refusal
-HasClaimNumbers-loading files (ReadFault file) h = omega arith
-HasClaimNumbers-loading files (TooLong file) h = omega arith
-HasClaimNumbers-loading files refusal h = h
-
-pub HasClaimNumbers-unfetched : (files number : ℕ) (refusal : Status) → number ≡ files + 1 → IsUnfetched number refusal → HasClaimNumbers files refusal
-HasClaimNumbers-unfetched files number refusal is (inl read) = rw read (omega arith)
-HasClaimNumbers-unfetched files number refusal is (inr (inl long)) = rw long (omega arith)
-HasClaimNumbers-unfetched files number refusal is (inr (inr none)) = rw none tt
-
-pub HasClaimNumbers-verdict : (files : ℕ) (c : Claim) (refusal : Status) → RefusesClaim c refusal → HasClaimNumbers files refusal
-HasClaimNumbers-verdict files c (NotLegal line) h = tt
-HasClaimNumbers-verdict files c NoMemory h = h
-HasClaimNumbers-verdict files c refusal h = absurd h
+-- the numbers of a refusal of a claim that was read
+pub HasFurtherNumbers-verdict : (files : ℕ) (c : Claim) (refusal : Status) → RefusesClaim c refusal → HasFurtherNumbers files refusal
+HasFurtherNumbers-verdict files c (NotLegal line) h = tt
+HasFurtherNumbers-verdict files c NoMemory h = h
+HasFurtherNumbers-verdict files c refusal h = absurd h
 
 -- a report of a run has no wrong line
 IsRight-no_wrong : (c : Claim) (line : ℕ) → IsRight c → IsWrongAt c line → ⊥
@@ -79,7 +70,7 @@ MayRefuseClaim-right tells expected c before now out_before out_now (NotLegal li
     let same : refused.0 ≡ c = cc (is, refused.1) in
     absurd (IsRight-no_wrong c line right (rw (← same) refused.2))
 MayRefuseClaim-right tells expected c before now out_before out_now answer told is right shelf out writes refuses =
-    MayRefuse-loaded tells expected c before now out_before out_now answer told is shelf out writes refuses
+    MayRefuse-loaded payments tells expected c before now out_before out_now answer told is shelf out writes refuses
 
 -- where no fault of the shelf is counted, the answer is the refusal that the files bring, or what is answered of their claim
 pub AnswersVerify-exact : (tells : Bool) (expected : Result Claim Status) (before now : ℕ) (answer : Status) → tells ≡ true → IsFaultless before now

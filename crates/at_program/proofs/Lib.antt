@@ -2,6 +2,8 @@ pub mod FilesLoaded
 pub mod MayRefuseLaws
 pub mod Played
 pub mod SpelledLoaded
+pub mod NodesGiven
+pub mod DeliveringLaws
 pub mod ClaimLaws
 pub mod FormLaws
 pub mod GeneratorLaws

@@ -1,12 +1,13 @@
 -- A report beside the files that it should be the report of, and what `verify` says of it.
-use Rattle.std.specs.Prelude.{◌≡◌, ℕ, ◌+◌, ◌≤◌, ◌⊎◌, ⊤, Bool, true, List, ◌++◌, length, Result, Ok, Err}
+use Rattle.std.specs.Prelude.{◌≡◌, ℕ, ◌+◌, ◌⊎◌, ⊤, Bool, true, List, ◌++◌, length, Result, Ok, Err}
 use Rattle.at_files.specs.Results.{and_then}
 use Rattle.at_io.specs.Sink.{TakesPrefix}
+use Rattle.at_ledger.specs.declared.call.Call.{Call}
 use Rattle.at_report.specs.Report.{verified_line}
 use Rattle.at_report.specs.declared.status.Status.{Status}
-use Rattle.at_report.specs.declared.status.Status.TheVariants.{Done, NoMemory, NotLegal, ReadFault, TooLong, WriteFault}
+use Rattle.at_report.specs.declared.status.Status.TheVariants.{Done, NoMemory, NotLegal, WriteFault}
 use Rattle.at_verify.specs.Right.{IsFirstWrong, IsReport, IsReportOf}
-use Rattle.at_program.specs.Faults.{HasFileNumbers, MayRefuse}
+use Rattle.at_program.specs.Faults.{MayRefuse}
 use Rattle.at_program.specs.Loading.{Files, HoldsFile, Loaded, MayReach, Spelled, fetched, loaded, loaded_shown}
 use Rattle.at_program.specs.Words.{Verifying}
 use Rattle.at_program.specs.declared.loading.Loaded as program
@@ -41,7 +42,7 @@ abbrev pub claimed : Files → Verifying → Result Claim Status
 claimed files asked = and_then (loaded files asked.checked) (λ l. with_report l (fetched (files asked.report) (report_number asked)))
 
 -- what was loaded, and the report, as the program holds them
-abbrev pub claim_shown : program.Loaded → List ℕ → Claim
+abbrev pub claim_shown : program.Loaded Call → List ℕ → Claim
 claim_shown l report = record { what = loaded_shown l; report = report }
 
 -- the words' files spell the claim
@@ -88,12 +89,6 @@ abbrev pub RefusesClaim : Claim → Status → Type 0
 RefusesClaim c (NotLegal line) = IsWrongAt c line
 RefusesClaim c NoMemory = ⊤
 RefusesClaim c refusal = ⊥
-
--- the numbers that a refusal of `verify` carries: those of `check`, but for that of the report
-abbrev pub HasClaimNumbers : ℕ → Status → Type 0
-HasClaimNumbers files (ReadFault file) = file ≤ files + 1
-HasClaimNumbers files (TooLong file) = file ≤ files + 1
-HasClaimNumbers files refusal = HasFileNumbers files refusal
 
 -- the file with this number is the report, and where the files are told all others are good
 pub record ReachesReport (tells : Bool) (files : Files) (asked : Verifying) (file : ℕ) : Type 0 where

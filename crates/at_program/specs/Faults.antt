@@ -1,8 +1,8 @@
 -- When each refusal may come.
-use Rattle.std.specs.Prelude.{◌≡◌, ℕ, ◌<◌, ◌≤◌, ◌-◌, ◌^◌, ◌≢◌, ◌⊎◌, ⊤, Bool, true, Result, Ok, Err}
+use Rattle.std.specs.Prelude.{◌≡◌, ℕ, ◌+◌, ◌<◌, ◌≤◌, ◌-◌, ◌^◌, ◌≢◌, ◌⊎◌, ⊤, Bool, true, Result, Ok, Err}
 use Rattle.at_io.specs.Faults.{Rose}
 use Rattle.at_report.specs.declared.status.Status.{Status}
-use Rattle.at_report.specs.declared.status.Status.TheVariants.{Done, Usage, BadBook, BadPayments, ReadFault, WriteFault, NoMemory, TooLong}
+use Rattle.at_report.specs.declared.status.Status.TheVariants.{Done, Usage, BadBook, BadPayments, ReadFault, WriteFault, NoMemory, TooLong, BadOrder, BadMessages}
 use Rattle.at_report.specs.declared.status.UsageFault.TheVariants as usage
 
 -- a refusal that only the bytes of the files can bring: no fault was counted, and it is the one that a telling shelf's files bring
@@ -13,23 +13,49 @@ IsBrought tells expected before now refusal = (now ≡ before) × (tells ≡ tru
 abbrev pub IsUnread : {A : Type 0} → Bool → Result A Status → ℕ → ℕ → Status → Type 0
 IsUnread tells expected before now refusal = Rose before now ⊎ ((tells ≡ true) × (expected ≡ Err refusal))
 
--- when loading may be refused so, over a shelf whose files lead to what is expected, by its counts of faults before and now
-abbrev pub MayRefuse : {A : Type 0} → Bool → Result A Status → ℕ → ℕ → Status → Type 0
-MayRefuse tells expected before now NoMemory = ⊤
-MayRefuse tells expected before now (ReadFault file) = IsUnread tells expected before now (ReadFault file)
-MayRefuse tells expected before now (Usage (usage.Files wanted given)) = IsBrought tells expected before now (Usage (usage.Files wanted given))
-MayRefuse tells expected before now (BadBook bad) = IsBrought tells expected before now (BadBook bad)
-MayRefuse tells expected before now (BadPayments process bad) = IsBrought tells expected before now (BadPayments process bad)
-MayRefuse tells expected before now (TooLong file) = IsBrought tells expected before now (TooLong file)
-MayRefuse tells expected before now _ = ⊥
+-- the files of the processes: payments, or messages with their deliveries
+pub data Kind : Type 0 where
+  payments : Kind
+  messages : Kind
 
--- the numbers that a refusal carries are those of a form with this many payment files
+-- when loading files of this kind may be refused so, over a shelf whose files lead to what is expected, by its counts of faults
+-- before and now
+abbrev pub MayRefuseOf : {A : Type 0} → Kind → Bool → Result A Status → ℕ → ℕ → Status → Type 0
+MayRefuseOf kind tells expected before now NoMemory = ⊤
+MayRefuseOf kind tells expected before now (ReadFault file) = IsUnread tells expected before now (ReadFault file)
+MayRefuseOf kind tells expected before now (Usage (usage.Files wanted given)) = IsBrought tells expected before now (Usage (usage.Files wanted given))
+MayRefuseOf kind tells expected before now (BadBook bad) = IsBrought tells expected before now (BadBook bad)
+MayRefuseOf kind tells expected before now (TooLong file) = IsBrought tells expected before now (TooLong file)
+MayRefuseOf payments tells expected before now (BadPayments process bad) = IsBrought tells expected before now (BadPayments process bad)
+MayRefuseOf messages tells expected before now (BadMessages process line why) = IsBrought tells expected before now (BadMessages process line why)
+MayRefuseOf messages tells expected before now (BadOrder line why) = IsBrought tells expected before now (BadOrder line why)
+MayRefuseOf _ tells expected before now _ = ⊥
+
+-- the same of a book and payments
+abbrev pub MayRefuse : {A : Type 0} → Bool → Result A Status → ℕ → ℕ → Status → Type 0
+MayRefuse tells expected before now refusal = MayRefuseOf payments tells expected before now refusal
+
+-- what a process's file that was fetched may be refused as, where its bytes lead to what is expected
+abbrev pub RefusesFile : {A : Type 0} → Kind → Result A Status → ℕ → Status → Type 0
+RefusesFile kind expected process NoMemory = ⊤
+RefusesFile payments expected process (BadPayments p bad) = (p ≡ process) × (expected ≡ Err (BadPayments p bad))
+RefusesFile messages expected process (BadMessages p line why) = (p ≡ process) × (expected ≡ Err (BadMessages p line why))
+RefusesFile _ expected process _ = ⊥
+
+-- the numbers that a refusal carries are those of a form with this many files of processes
 abbrev pub HasFileNumbers : ℕ → Status → Type 0
 HasFileNumbers files (Usage (usage.Files wanted given)) = (given ≡ files) × (wanted ≢ given)
 HasFileNumbers files (BadPayments process bad) = process < files
+HasFileNumbers files (BadMessages process line why) = process < files
 HasFileNumbers files (ReadFault file) = file ≤ files
 HasFileNumbers files (TooLong file) = file ≤ files
 HasFileNumbers files _ = ⊤
+
+-- the same of a form with a further file after these
+abbrev pub HasFurtherNumbers : ℕ → Status → Type 0
+HasFurtherNumbers files (ReadFault file) = file ≤ files + 1
+HasFurtherNumbers files (TooLong file) = file ≤ files + 1
+HasFurtherNumbers files refusal = HasFileNumbers files refusal
 
 -- what is answered of a file with this number that was not fetched
 abbrev pub IsUnfetched : ℕ → Status → Type 0

@@ -5,5 +5,7 @@ pub mod Faults
 pub mod Playing
 pub mod Answer
 pub mod Claims
+pub mod Nodes
+pub mod Delivering
 pub mod Generator
 pub mod Made

@@ -4,6 +4,7 @@ use Rattle.std.specs.Global.{Global}
 use Rattle.at_base.specs.Numbers.{number_of}
 use Rattle.at_ledger.specs.Draft.{is_within}
 use Rattle.at_report.specs.Lines.{Word}
+use Rattle.at_program.specs.declared.words.Delivering as delivering
 use Rattle.at_program.specs.declared.words.Form as words
 use Rattle.at_program.specs.declared.words.Verifying as verifying
 use Rattle.at_program.specs.declared.words.Command.{Command}
@@ -82,3 +83,23 @@ AskToVerify words asked = verify_of (words_of words) ≡ Some asked
 -- the same words, as the program holds them
 abbrev pub verifying_shown : verifying.Verifying → Verifying
 verifying_shown asked = record { report = asked.report.now; checked = form_shown asked.checked }
+
+-- the names of the book, of the file of deliveries, and of the message files in process order
+pub record Delivering : Type 0 where
+  pub book : Word
+  pub order : Word
+  pub messages : List Word
+
+-- the words of `deliver`: the command, a book, a file of deliveries, and any number of message files
+abbrev pub deliver_of : List Word → Option Delivering
+deliver_of (word ∷ book ∷ order ∷ messages) =
+    if bytes_eq word (codes "deliver") then Some (record { book = book; order = order; messages = messages }) else None
+deliver_of words = None
+
+-- the words ask `deliver` for this
+abbrev pub AskToDeliver : List (String Global) → Delivering → Type 0
+AskToDeliver words asked = deliver_of (words_of words) ≡ Some asked
+
+-- the same words, as the program holds them
+abbrev pub delivering_shown : delivering.Delivering → Delivering
+delivering_shown asked = record { book = asked.book.now; order = asked.order.now; messages = words_of asked.messages.now }

@@ -2,26 +2,109 @@
 
 ghost use Rattle.std.specs.Prelude.{◌≡◌, ℕ, ◌+◌, ◌^◌, ◌<◌, ◌≤◌, true, length, All, IfOk, IfErr, OnOk, Ok, Err};
 ghost use Rattle.at_io.specs.Shelf.{SameFiles};
+ghost use Rattle.at_files.specs.BookRecords.{NamedBook};
 ghost use Rattle.at_files.specs.Names.{AreNamesOf};
 ghost use Rattle.at_io.specs.Limits.{most_file_bytes};
 ghost use Rattle.at_program.specs.Words.{words_of, form_shown};
-ghost use Rattle.at_program.specs.Faults.{HasFileNumbers, IsUnfetched, MayRefuse};
+ghost use Rattle.at_program.specs.Faults.{HasFileNumbers, IsUnfetched, Kind, MayRefuse, MayRefuseOf, RefusesFile};
 ghost use Rattle.at_verify.specs.Right.{IsPlayable, files_in};
-ghost use Rattle.at_program.specs.Loading.{EachSpells, HoldsFile, IsFileReached, MayReach, Spelled, SpellsBook, SpellsCalls, book_loaded, calls_loaded, fetched, files_loaded, loaded, loaded_shown};
+ghost use Rattle.at_program.specs.Loading.{EachSpells, Giving, HoldsFile, IsFileReached, IsSpelled, MayReach, MayReachOf, PaysBytes, SendsBytes, Spelled, SpelledOf, Spelling, SpellsBook, SpellsFile, all_loaded, all_shown, book_loaded, calls_given, contents_of, fetched, file_loaded, files_loaded, loaded, loaded_shown, messages_given, named};
 
 use crate::words::Form;
-use at_files::{Names, ReadBookFault, ReadPaymentsFault, read_book, read_payments};
+use at_broadcast::Message;
+use at_files::{
+    Names, ReadBookFault, ReadMessagesFault, ReadPaymentsFault, read_book, read_messages,
+    read_payments,
+};
 use at_io::{FetchError, Shelf, fetch};
 use at_ledger::{Book, Call};
 use at_report::{Status, UsageFault};
 use std::alloc::Global;
 
-/// A book with its names, and the calls of each process.
+/// A book with its names, and what the file of each process gave.
 #[derive(Drop)]
-pub struct Loaded {
+pub struct Loaded<T> {
     pub book: Book,
     pub names: Names,
-    pub files: Vec<Vec<Call>>,
+    pub files: Vec<Vec<T>>,
+}
+
+/// What the file of a process holds, one item for each record.
+pub trait FileItem: Drop {
+    // what the bytes of a process's file give beside a book, or why they are refused
+    ghost given: { NamedBook → Giving Self };
+
+    // what they spell
+    ghost spells: { Spelling Self };
+
+    // the kind of the files
+    ghost kind: { Kind };
+
+    /// The items of the file of this process, from its bytes.
+    fn read(
+        alloc: Global,
+        book: &Book,
+        names: &Names,
+        process: u32,
+        bytes: &[u8],
+    ) -> Result<Vec<Self>, Status>
+        requires { AreNamesOf book.now names.now }
+        ensures ok { IfOk result
+            (λ items. given (named book.now names.now) process bytes.now ≡ Ok
+            items.items) }
+        ensures spelled { IfOk result
+            (λ items. spells (named book.now names.now) bytes.now items.items) }
+        ensures err { IfErr result
+            (RefusesFile kind
+            (given (named book.now names.now) process bytes.now) process) };
+}
+
+impl FileItem for Call {
+    ghost given = { calls_given };
+
+    ghost spells = { PaysBytes };
+
+    ghost kind = { Kind.payments };
+
+    fn read(
+        alloc: Global,
+        book: &Book,
+        names: &Names,
+        process: u32,
+        bytes: &[u8],
+    ) -> Result<Vec<Call>, Status> {
+        match read_payments(alloc, book, names, bytes) {
+            Ok(calls) => Ok(calls),
+            Err(ReadPaymentsFault::Bad(fault)) => Err(Status::BadPayments { process, fault }),
+            Err(ReadPaymentsFault::NoMemory) => Err(Status::NoMemory),
+        }
+    }
+}
+
+impl FileItem for Message {
+    ghost given = { messages_given };
+
+    ghost spells = { SendsBytes };
+
+    ghost kind = { Kind.messages };
+
+    fn read(
+        alloc: Global,
+        book: &Book,
+        _names: &Names,
+        process: u32,
+        bytes: &[u8],
+    ) -> Result<Vec<Message>, Status> {
+        match read_messages(alloc, book, bytes) {
+            Ok(messages) => Ok(messages),
+            Err(ReadMessagesFault::Bad(bad)) => Err(Status::BadMessages {
+                process,
+                line: bad.line,
+                why: bad.why,
+            }),
+            Err(ReadMessagesFault::NoMemory) => Err(Status::NoMemory),
+        }
+    }
 }
 
 /// The bytes of the file with this number.
@@ -39,9 +122,10 @@ pub fn fetch_file<F: Shelf>(
         → IfOk result (λ bytes. fetched (F.file shelf.old name.now) number ≡ Ok bytes.items) }
     ensures held { F.tells shelf.old ≡ true
         → IfOk result (λ bytes. HoldsFile (F.file shelf.old) name.now bytes.items) }
-    ensures err { IfErr result
-        (λ refusal. MayRefuse (F.tells shelf.old) (fetched (F.file shelf.old name.now) number)
-        (F.faults shelf.old) (F.faults shelf.new) refusal) }
+    ensures err { (kind : Kind) → IfErr result
+        (λ refusal. MayRefuseOf kind (F.tells shelf.old)
+        (fetched (F.file shelf.old name.now) number) (F.faults shelf.old) (F.faults shelf.new)
+        refusal) }
     ensures size { IfOk result (λ bytes. length bytes.items ≤ most_file_bytes) }
     ensures why { IfErr result (IsUnfetched number) }
     ensures file { (file : ℕ) → result ≡ Err (Status.ReadFault file) → file ≡ number }
@@ -68,8 +152,8 @@ fn load_book<F: Shelf>(alloc: Global, shelf: &mut F, name: &str) -> Result<(Book
     ensures spelled { F.tells shelf.old ≡ true
         → IfOk result (λ l. SpellsBook (F.file shelf.old) name.now l.0 l.1) }
     ensures names { IfOk result (λ l. AreNamesOf l.0 l.1) }
-    ensures err { IfErr result
-        (λ refusal. MayRefuse (F.tells shelf.old) (book_loaded (F.file shelf.old) name.now)
+    ensures err { (kind : Kind) → IfErr result
+        (λ refusal. MayRefuseOf kind (F.tells shelf.old) (book_loaded (F.file shelf.old) name.now)
         (F.faults shelf.old) (F.faults shelf.new) refusal) }
     ensures file { (file : ℕ) → result ≡ Err (Status.ReadFault file) → file ≡ 0 }
     ensures numbered { (files : ℕ) → IfErr result (HasFileNumbers files) }
@@ -85,15 +169,15 @@ fn load_book<F: Shelf>(alloc: Global, shelf: &mut F, name: &str) -> Result<(Book
     }
 }
 
-/// The calls of a process, from the file of this name.
-fn load_calls<F: Shelf>(
+/// What the file of this name holds, which is a process's.
+fn load_file<F: Shelf, T: FileItem>(
     alloc: Global,
     shelf: &mut F,
     book: &Book,
     names: &Names,
     process: u32,
     name: &str,
-) -> Result<Vec<Call>, Status>
+) -> Result<Vec<T>, Status>
     requires names { AreNamesOf book.now names.now }
     requires process { process < 2 ^ 31 }
     ensures files { SameFiles (F.tells shelf.old) (F.tells shelf.new) (F.file shelf.old)
@@ -102,15 +186,18 @@ fn load_calls<F: Shelf>(
     ensures kept { OnOk result (F.faults shelf.new ≡ F.faults shelf.old) }
     ensures ok { F.tells shelf.old ≡ true
         → IfOk result
-        (λ calls. calls_loaded (F.file shelf.old) names.now process name.now ≡ Ok calls.items) }
+        (λ items. file_loaded (T.given (named book.now names.now))
+        (F.file shelf.old) process name.now ≡ Ok items.items) }
     ensures spelled { F.tells shelf.old ≡ true
         → IfOk result
-        (λ calls. SpellsCalls (F.file shelf.old) name.now book.now names.now calls.items) }
-    ensures known { IfOk result (λ calls. IsPlayable (length book.now.accounts) calls.items) }
+        (λ items. SpellsFile (T.spells (named book.now names.now))
+        (F.file shelf.old) name.now items.items) }
+    ensures known { IfOk result
+        (λ items. IsSpelled (T.spells (named book.now names.now)) items.items) }
     ensures err { IfErr result
-        (λ refusal. MayRefuse (F.tells shelf.old)
-        (calls_loaded (F.file shelf.old) names.now process name.now) (F.faults shelf.old)
-        (F.faults shelf.new) refusal) }
+        (λ refusal. MayRefuseOf T.kind (F.tells shelf.old)
+        (file_loaded (T.given (named book.now names.now)) (F.file shelf.old)
+        process name.now) (F.faults shelf.old) (F.faults shelf.new) refusal) }
     ensures file { (file : ℕ) → result ≡ Err (Status.ReadFault file) → file ≡ process + 1 }
     ensures numbered { (files : ℕ) → process < files → IfErr result (HasFileNumbers files) }
 {
@@ -118,63 +205,109 @@ fn load_calls<F: Shelf>(
         Ok(bytes) => bytes,
         Err(refusal) => return Err(refusal),
     };
-    match read_payments(alloc, book, names, bytes.as_slice()) {
-        Ok(calls) => Ok(calls),
-        Err(ReadPaymentsFault::Bad(fault)) => Err(Status::BadPayments { process, fault }),
-        Err(ReadPaymentsFault::NoMemory) => Err(Status::NoMemory),
-    }
+    T::read(alloc, book, names, process, bytes.as_slice())
 }
 
-/// The calls of each process, from the files of these names, one after another.
-fn load_files<F: Shelf>(
+/// What the file of each process holds, from the files of these names, one after another.
+fn load_files<F: Shelf, T: FileItem>(
     alloc: Global,
     shelf: &mut F,
     book: &Book,
     names: &Names,
-    payments: &[String],
-) -> Result<Vec<Vec<Call>>, Status>
+    words: &[String],
+) -> Result<Vec<Vec<T>>, Status>
     requires names { AreNamesOf book.now names.now }
-    requires few { length payments.now < 2 ^ 31 }
+    requires few { length words.now < 2 ^ 31 }
     ensures files { SameFiles (F.tells shelf.old) (F.tells shelf.new) (F.file shelf.old)
         (F.file shelf.new) }
     ensures later { F.faults shelf.old ≤ F.faults shelf.new }
     ensures kept { OnOk result (F.faults shelf.new ≡ F.faults shelf.old) }
     ensures ok { F.tells shelf.old ≡ true
         → IfOk result
-        (λ files. files_loaded (F.file shelf.old) names.now 0 (words_of payments.now) ≡ Ok
-        (files_in files.items)) }
-    ensures count { IfOk result (λ files. length files.items ≡ length payments.now) }
+        (λ files. files_loaded (T.given (named book.now names.now))
+        (F.file shelf.old) 0 (words_of words.now) ≡ Ok (contents_of files.items)) }
+    ensures count { IfOk result (λ files. length files.items ≡ length words.now) }
     ensures spelled { F.tells shelf.old ≡ true
         → IfOk result
-        (λ files. EachSpells (F.file shelf.old) (words_of payments.now) book.now names.now
-        (files_in files.items)) }
+        (λ files. EachSpells (T.spells (named book.now names.now))
+        (F.file shelf.old) (words_of words.now) (contents_of files.items)) }
     ensures known { IfOk result
-        (λ files. All (IsPlayable (length book.now.accounts)) (files_in files.items)) }
+        (λ files. All (IsSpelled (T.spells (named book.now names.now)))
+        (contents_of files.items)) }
     ensures err { IfErr result
-        (λ refusal. MayRefuse (F.tells shelf.old)
-        (files_loaded (F.file shelf.old) names.now 0 (words_of payments.now)) (F.faults shelf.old)
-        (F.faults shelf.new) refusal) }
+        (λ refusal. MayRefuseOf T.kind (F.tells shelf.old)
+        (files_loaded (T.given (named book.now names.now)) (F.file shelf.old) 0
+        (words_of words.now)) (F.faults shelf.old) (F.faults shelf.new) refusal) }
     ensures file { (file : ℕ) → result ≡ Err (Status.ReadFault file)
-        → IsFileReached (F.tells shelf.old) (F.file shelf.old)
-        names.now (words_of payments.now) file }
-    ensures numbered { IfErr result (HasFileNumbers (length payments.now)) }
+        → IsFileReached (T.given (named book.now names.now))
+        (F.tells shelf.old) (F.file shelf.old) (words_of words.now) file }
+    ensures numbered { IfErr result (HasFileNumbers (length words.now)) }
 {
     let mut files = Vec::new(alloc);
-    for (process, name) in payments.iter().enumerate() {
-        let calls = match load_calls(alloc, shelf, book, names, process as u32, name.as_str()) {
-            Ok(calls) => calls,
+    for (process, name) in words.iter().enumerate() {
+        let items = match load_file(alloc, shelf, book, names, process as u32, name.as_str()) {
+            Ok(items) => items,
             Err(refusal) => return Err(refusal),
         };
-        let Ok(()) = files.push(calls) else {
+        let Ok(()) = files.push(items) else {
             return Err(Status::NoMemory);
         };
     }
     Ok(files)
 }
 
-/// What the files of the form spell, or the first refusal: the book's, that of the number of files, or that of
-/// each payment file in turn. Each file is read before the next is fetched.
-pub fn load<F: Shelf>(alloc: Global, shelf: &mut F, form: &Form<'_>) -> Result<Loaded, Status>
+/// What the book and the files of these names hold, or the first refusal: the book's, that of the number of files, or
+/// that of each file in turn. Each file is read before the next is fetched.
+pub fn load_all<F: Shelf, T: FileItem>(
+    alloc: Global,
+    shelf: &mut F,
+    name: &str,
+    words: &[String],
+) -> Result<Loaded<T>, Status>
+    ensures files { SameFiles (F.tells shelf.old) (F.tells shelf.new) (F.file shelf.old)
+        (F.file shelf.new) }
+    ensures later { F.faults shelf.old ≤ F.faults shelf.new }
+    ensures kept { OnOk result (F.faults shelf.new ≡ F.faults shelf.old) }
+    ensures ok { F.tells shelf.old ≡ true
+        → IfOk result
+        (λ l. all_loaded T.given (F.file shelf.old) name.now (words_of words.now) ≡ Ok
+        (all_shown l)) }
+    ensures spelled { F.tells shelf.old ≡ true
+        → IfOk result
+        (λ l. SpelledOf T.spells (F.file shelf.old) name.now (words_of words.now)
+        (all_shown l)) }
+    ensures names { IfOk result (λ l. AreNamesOf l.book l.names) }
+    ensures known { IfOk result
+        (λ l. All (IsSpelled (T.spells (named l.book l.names)))
+        (contents_of l.files.items)) }
+    ensures count { IfOk result (λ l. length l.files.items ≡ l.book.processes) }
+    ensures given { IfOk result (λ l. length words.now ≡ l.book.processes) }
+    ensures err { IfErr result
+        (λ refusal. MayRefuseOf T.kind (F.tells shelf.old)
+        (all_loaded T.given (F.file shelf.old) name.now (words_of words.now)) (F.faults shelf.old)
+        (F.faults shelf.new) refusal) }
+    ensures reached { (file : ℕ) → result ≡ Err (Status.ReadFault file)
+        → MayReachOf T.given (F.tells shelf.old) (F.file shelf.old) name.now (words_of words.now)
+        file }
+    ensures numbered { IfErr result (HasFileNumbers (length words.now)) }
+{
+    let (book, names) = match load_book(alloc, shelf, name) {
+        Ok(read) => read,
+        Err(refusal) => return Err(refusal),
+    };
+    let wanted = book.processes();
+    let given = words.len() as u64;
+    if given != u64::from(wanted) {
+        return Err(Status::Usage(UsageFault::Files { wanted, given }));
+    }
+    match load_files(alloc, shelf, &book, &names, words) {
+        Ok(files) => Ok(Loaded { book, names, files }),
+        Err(refusal) => Err(refusal),
+    }
+}
+
+/// The book and the calls that the files of the form spell, or the first refusal.
+pub fn load<F: Shelf>(alloc: Global, shelf: &mut F, form: &Form<'_>) -> Result<Loaded<Call>, Status>
     ensures files { SameFiles (F.tells shelf.old) (F.tells shelf.new) (F.file shelf.old)
         (F.file shelf.new) }
     ensures later { F.faults shelf.old ≤ F.faults shelf.new }
@@ -195,17 +328,5 @@ pub fn load<F: Shelf>(alloc: Global, shelf: &mut F, form: &Form<'_>) -> Result<L
         → MayReach (F.tells shelf.old) (F.file shelf.old) (form_shown form.now) file }
     ensures numbered { IfErr result (HasFileNumbers (length form.now.payments.now)) }
 {
-    let (book, names) = match load_book(alloc, shelf, form.book) {
-        Ok(read) => read,
-        Err(refusal) => return Err(refusal),
-    };
-    let wanted = book.processes();
-    let given = form.payments.len() as u64;
-    if given != u64::from(wanted) {
-        return Err(Status::Usage(UsageFault::Files { wanted, given }));
-    }
-    match load_files(alloc, shelf, &book, &names, form.payments) {
-        Ok(files) => Ok(Loaded { book, names, files }),
-        Err(refusal) => Err(refusal),
-    }
+    load_all(alloc, shelf, form.book, form.payments)
 }

@@ -9,8 +9,10 @@
 
 ghost use Rattle.std.specs.Prelude.{◌≢◌, IfErr};
 
+mod delivering;
 mod generating;
 mod loading;
+mod nodes;
 mod playing;
 mod serving;
 #[cfg(test)]

@@ -5,29 +5,33 @@ ghost use Rattle.at_files.specs.Names.{AreNamesOf};
 ghost use Rattle.at_io.specs.Faults.{Rose};
 ghost use Rattle.at_io.specs.Shelf.{SameFiles};
 ghost use Rattle.at_io.specs.Sink.{TakesPrefix};
-ghost use Rattle.at_program.specs.Words.{AskToMake, AskToVerify, HaveForm, Form, Verifying, form_of, form_shown, make_of, verify_of, words_of};
+ghost use Rattle.at_program.specs.Words.{AskToDeliver, AskToMake, AskToVerify, Delivering, HaveForm, Form, Verifying, deliver_of, form_of, form_shown, make_of, verify_of, words_of};
 ghost use Rattle.at_program.specs.Generator.{MayMake};
 ghost use Rattle.at_program.specs.Made.{IsMade, made};
 ghost use Rattle.at_program.specs.declared.words.Making.{Making};
 ghost use Rattle.at_verify.specs.Right.{IsPlayable, files_in};
 ghost use Rattle.at_program.specs.Loading.{Loaded, MayReach, Spelled, loaded, loaded_shown};
-ghost use Rattle.at_program.specs.Faults.{Answers, IsFaultless, HasFileNumbers, MayRefuse};
-ghost use Rattle.at_program.specs.Claims.{AnswersVerify, Claim, HasClaimNumbers, IsRight, IsRightClaim, MayReachClaim, MayRefuseClaim, SpellsClaim, TookVerified, TookVerifiedPrefix, claimed};
+ghost use Rattle.at_program.specs.Faults.{Answers, HasFileNumbers, HasFurtherNumbers, IsFaultless, Kind, MayRefuse, MayRefuseOf};
+ghost use Rattle.at_program.specs.Claims.{AnswersVerify, Claim, IsRight, IsRightClaim, MayReachClaim, MayRefuseClaim, SpellsClaim, TookVerified, TookVerifiedPrefix, claimed};
+ghost use Rattle.at_program.specs.Delivering.{MayReachBroadcast, SpellsBroadcast, TookDelivered, TookDeliveredPrefix, broadcast};
+ghost use Rattle.at_program.specs.Nodes.{Broadcast};
 ghost use Rattle.at_program.specs.Answer.{Prints, PrintsSpelled, TookAll, TookPrefix, TookLine};
 
+use crate::delivering::answer_deliver;
 use crate::generating::generate;
 use crate::loading::{self, load};
 use crate::playing::play;
 use crate::verifying::answer_verify;
-use crate::words::{self, Command, Making, form_of, what_to_make, what_to_verify};
+use crate::words::{self, Command, Making, form_of, what_to_deliver, what_to_make, what_to_verify};
 use at_io::{Shelf, Sink, put_all};
+use at_ledger::Call;
 use at_report::{Status, UsageFault, checked_text, fault_text, report, summary};
 use at_verify::count_calls;
 use std::alloc::{AllocError, Global};
 use std::thread::Threads;
 
 /// The report of a run of the files, one after another in process order.
-fn run_text(alloc: Global, loaded: &loading::Loaded) -> Result<Vec<u8>, AllocError>
+fn run_text(alloc: Global, loaded: &loading::Loaded<Call>) -> Result<Vec<u8>, AllocError>
     requires names { AreNamesOf loaded.now.book loaded.now.names }
     requires count { length loaded.now.files.items ≡ loaded.now.book.processes }
     requires known { All (IsPlayable (length loaded.now.book.accounts))
@@ -39,7 +43,11 @@ fn run_text(alloc: Global, loaded: &loading::Loaded) -> Result<Vec<u8>, AllocErr
 }
 
 /// What the command prints of what was loaded.
-fn text_of(alloc: Global, command: Command, loaded: &loading::Loaded) -> Result<Vec<u8>, AllocError>
+fn text_of(
+    alloc: Global,
+    command: Command,
+    loaded: &loading::Loaded<Call>,
+) -> Result<Vec<u8>, AllocError>
     requires names { AreNamesOf loaded.now.book loaded.now.names }
     requires count { length loaded.now.files.items ≡ loaded.now.book.processes }
     requires known { All (IsPlayable (length loaded.now.book.accounts))
@@ -205,10 +213,10 @@ pub fn serve<R: Threads + Sync, F: Shelf, O: Sink, E: Sink>(
     ensures as_told { (O.tells out.new ≡ O.tells out.old) × (E.tells err.new ≡ E.tells err.old) }
 
     // The words have a form exactly where they are not refused, and every other answer is about that form: one of
-    // files, that of `verify`, or that of `make`, which reads none.
+    // files, that of `verify`, that of `deliver`, or that of `make`, which reads none.
     ensures words { (result ≡ Status.Usage UsageFault.Words)
         ↔ ((form_of (words_of words.now) ≡ None) × (verify_of (words_of words.now) ≡ None)
-        × (make_of (words_of words.now) ≡ None)) }
+        × (deliver_of (words_of words.now) ≡ None) × (make_of (words_of words.now) ≡ None)) }
 
     ensures unread { result ≡ Status.Usage UsageFault.Words → shelf.new ≡ shelf.old }
 
@@ -293,10 +301,43 @@ pub fn serve<R: Threads + Sync, F: Shelf, O: Sink, E: Sink>(
         → result ≡ Status.ReadFault file
         → MayReachClaim (F.tells shelf.old) (F.file shelf.old) asked file }
     ensures verify_numbered { (asked : Verifying) → AskToVerify words.now asked
-        → HasClaimNumbers (length asked.checked.payments) result }
+        → HasFurtherNumbers (length asked.checked.payments) result }
     ensures verify_exact { (asked : Verifying) → AskToVerify words.now asked
         → F.tells shelf.old ≡ true → IsFaultless (F.faults shelf.old) (F.faults shelf.new)
         → (result ≡ Status.NoMemory) ⊎ AnswersVerify (claimed (F.file shelf.old) asked) result }
+
+    // Of the words of `deliver` all bytes that were taken are the output of a node for each process. Each was given just
+    // the messages that the deliveries name for it, and shows what is validated of them and the balances there.
+    ensures deliver_done { (asked : Delivering) → AskToDeliver words.now asked
+        → result ≡ Status.Done → F.tells shelf.old ≡ true → O.tells out.old ≡ true
+        → TookDelivered (F.file shelf.old) asked (O.taken out.old) (O.taken out.new) }
+    ensures deliver_prefix { (asked : Delivering) → AskToDeliver words.now asked
+        → result ≡ Status.WriteFault → F.tells shelf.old ≡ true → O.tells out.old ≡ true
+        → TookDeliveredPrefix (F.file shelf.old) asked (O.taken out.old) (O.taken out.new) }
+    ensures deliver_loads { (asked : Delivering) → AskToDeliver words.now asked
+        → F.tells shelf.old ≡ true → (result ≡ Status.Done) ⊎ (result ≡ Status.WriteFault)
+        → (c : Broadcast) × (broadcast (F.file shelf.old) asked ≡ Ok c) }
+
+    // And where the files spell a book, messages and deliveries, all is done, but for faults and want of memory.
+    ensures deliver_complete { (asked : Delivering) (c : Broadcast) → AskToDeliver words.now asked
+        → F.tells shelf.old ≡ true → SpellsBroadcast (F.file shelf.old) asked c
+        → IsFaultless (F.faults shelf.old) (F.faults shelf.new)
+        → IsFaultless (O.faults out.old) (O.faults out.new)
+        → (result ≡ Status.Done) ⊎ (result ≡ Status.NoMemory) }
+
+    // When `deliver` is refused: for the first fault of its files, the deliveries last.
+    ensures deliver_refusal { (asked : Delivering) → AskToDeliver words.now asked
+        → result ≢ Status.Done → result ≢ Status.WriteFault
+        → MayRefuseOf Kind.messages (F.tells shelf.old) (broadcast (F.file shelf.old) asked)
+        (F.faults shelf.old) (F.faults shelf.new) result }
+    ensures deliver_reached { (asked : Delivering) (file : ℕ) → AskToDeliver words.now asked
+        → result ≡ Status.ReadFault file
+        → MayReachBroadcast (F.tells shelf.old) (F.file shelf.old) asked file }
+    ensures deliver_numbered { (asked : Delivering) → AskToDeliver words.now asked
+        → HasFurtherNumbers (length asked.messages) result }
+    ensures deliver_exact { (asked : Delivering) → AskToDeliver words.now asked
+        → F.tells shelf.old ≡ true → IsFaultless (F.faults shelf.old) (F.faults shelf.new)
+        → (result ≡ Status.NoMemory) ⊎ Answers (broadcast (F.file shelf.old) asked) result }
 
     // What was said of a refusal.
     ensures silent { result ≡ Status.Done → err.new ≡ err.old }
@@ -308,6 +349,8 @@ pub fn serve<R: Threads + Sync, F: Shelf, O: Sink, E: Sink>(
         answer(alloc, shelf, out, &form)
     } else if let Some(asked) = what_to_verify(words) {
         answer_verify(alloc, shelf, out, &asked)
+    } else if let Some(asked) = what_to_deliver(words) {
+        answer_deliver(alloc, shelf, out, &asked)
     } else {
         answer_made(alloc, words, out)
     };

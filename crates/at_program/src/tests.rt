@@ -12,6 +12,8 @@ const TWO: &[u8] =
 
 const EACH_OWN: &[u8] = b"book,1\nprocesses,2\nlimits,4,4\naccount,0,100,0\naccount,1,100,1\n";
 
+const EACH_SENDS: &[u8] = b"book,1\nprocesses,2\nlimits,4,4\naccount,0,100,0\naccount,1,0,1\n";
+
 const ROOM: &[u8] = b"book,1\nprocesses,1\nlimits,1,1\naccount,0,10,0\naccount,1,0,\n";
 
 const NEUTRAL: &[u8] = b"book,1\nprocesses,1\nlimits,4,4\naccount,0,100,0\naccount,1,0,0\n";
@@ -34,7 +36,7 @@ const USUAL_REPORT: &str =
     "journal 3\n0 1 transfer 0 1 30 done\n0 2 read 0 70\n0 3 read 1 30\nbalances 2\n0 70\n1 30\ntotal 100\n";
 
 const USAGE: &str =
-    "usage: run BOOK PAY... | check BOOK PAY... | make NUMBER PROCESSES CALLS | verify BOOK REPORT PAY...\n";
+    "usage: run BOOK PAY... | check BOOK PAY... | make NUMBER PROCESSES CALLS | deliver BOOK ORDER MSG... | verify BOOK REPORT PAY...\n";
 
 const SMALL: &str = "made 7 1 2\ndone 2\nread 0\nbalances 2\n0 146\n1 254\ntotal 400\n";
 
@@ -465,6 +467,80 @@ const REFUSED_TO_VERIFY: &[Case] = &[
     ),
 ];
 
+const PAYS_SIXTY: &[u8] = b"send,0,1,60,0,0\n";
+
+const PAYS_FIFTY_BACK: &[u8] = b"send,1,0,50,1,0\n";
+
+const TWO_NODES: &str =
+    "node 0\nvalidated 1 1\n0 90\n1 10\ntotal 100\nnode 1\nvalidated 0 0\n0 100\n1 0\ntotal 100\n";
+
+/// A message before the one that it needs, one that its `deps` don't cover, and deliveries that are repeated.
+const DELIVERS: &[Case] = &[
+    (
+        "deliver book 2 0 1",
+        &[
+            EACH_SENDS,
+            PAYS_SIXTY,
+            PAYS_FIFTY_BACK,
+            b"0,1,0\n0,0,0\n1,1,0\n",
+        ],
+        0,
+        TWO_NODES,
+    ),
+    (
+        "deliver book 2 0 1",
+        &[
+            EACH_SENDS,
+            b"send,0,1,60,0,0\nsend,0,1,41,1,0\n",
+            PAYS_FIFTY_BACK,
+            b"0,1,0\n0,0,0\n1,1,0\n0,0,1\n",
+        ],
+        0,
+        TWO_NODES,
+    ),
+    (
+        "deliver book 2 0 1",
+        &[
+            EACH_SENDS,
+            PAYS_SIXTY,
+            PAYS_FIFTY_BACK,
+            b"0,1,0\n0,1,0\n0,0,0\n1,1,0\n0,0,0\n",
+        ],
+        0,
+        TWO_NODES,
+    ),
+];
+
+/// The messages are read in process order, and before the deliveries.
+const REFUSED_TO_DELIVER: &[Case] = &[
+    ("deliver", &[], 2, USAGE),
+    ("deliver book", &[ONE], 2, USAGE),
+    (
+        "deliver book 0",
+        &[ONE, b""],
+        2,
+        "files: wanted 1, given 0\n",
+    ),
+    (
+        "deliver book 2 0 1",
+        &[EACH_SENDS, PAYS_SIXTY, PAYS_FIFTY_BACK, b"0,0,1\n"],
+        10,
+        "order: line 1: unknown message\n",
+    ),
+    (
+        "deliver book 2 0 1",
+        &[EACH_SENDS, PAYS_SIXTY, b"send,1,0,50,1\n", b"0,0,1\n"],
+        11,
+        "messages 1: line 1: shape\n",
+    ),
+    (
+        "deliver book 2 0 1",
+        &[EACH_SENDS, PAYS_SIXTY, PAYS_FIFTY_BACK],
+        5,
+        "read fault: file 3\n",
+    ),
+];
+
 /// The files of these contents: `book`, `0`, `1` and `2`.
 fn files_of(alloc: Global, contents: &[&[u8]]) -> Result<Vec<(String, Vec<u8>)>, AllocError> {
     let mut files = Vec::new(alloc);
@@ -589,6 +665,18 @@ fn reports(rt: HostRuntime) -> Result<(), Fail> {
 #[test]
 fn refused_to_verify(rt: HostRuntime) -> Result<(), Fail> {
     assert_eq!(rt; first_wrong(&rt, rt.alloc(), REFUSED_TO_VERIFY)?, None);
+    Ok(())
+}
+
+#[test]
+fn deliveries(rt: HostRuntime) -> Result<(), Fail> {
+    assert_eq!(rt; first_wrong(&rt, rt.alloc(), DELIVERS)?, None);
+    Ok(())
+}
+
+#[test]
+fn refused_to_deliver(rt: HostRuntime) -> Result<(), Fail> {
+    assert_eq!(rt; first_wrong(&rt, rt.alloc(), REFUSED_TO_DELIVER)?, None);
     Ok(())
 }
 

@@ -6,18 +6,24 @@ ghost use Rattle.at_io.specs.Faults.{Rose};
 ghost use Rattle.at_io.specs.Limits.{most_file_bytes};
 ghost use Rattle.at_io.specs.Shelf.{SameFiles};
 ghost use Rattle.at_verify.specs.Right.{IsPlayable, files_in};
-ghost use Rattle.at_program.specs.Claims.{HasClaimNumbers, IsRightClaim, MayReachClaim, MayRefuseClaim, RefusesClaim, TookVerified, TookVerifiedPrefix, Verifies, VerifiesSpelled, claim_shown, claimed};
+ghost use Rattle.at_program.specs.Faults.{HasFurtherNumbers};
+ghost use Rattle.at_program.specs.Claims.{IsRightClaim, MayReachClaim, MayRefuseClaim, RefusesClaim, TookVerified, TookVerifiedPrefix, Verifies, VerifiesSpelled, claim_shown, claimed};
 ghost use Rattle.at_program.specs.Words.{verifying_shown};
 
 use crate::loading::{self, fetch_file, load};
 use crate::words;
 use at_io::{Shelf, Sink, put_all};
+use at_ledger::Call;
 use at_report::{Status, UsageFault, verified_text};
 use at_verify::{Verdict, count_calls, verify};
 use std::alloc::Global;
 
 /// What is printed of a report of a run of the files, or its first wrong line.
-fn verdict_text(alloc: Global, loaded: &loading::Loaded, report: &[u8]) -> Result<Vec<u8>, Status>
+fn verdict_text(
+    alloc: Global,
+    loaded: &loading::Loaded<Call>,
+    report: &[u8],
+) -> Result<Vec<u8>, Status>
     requires names { AreNamesOf loaded.now.book loaded.now.names }
     requires count { length loaded.now.files.items ≡ loaded.now.book.processes }
     requires known { All (IsPlayable (length loaded.now.book.accounts))
@@ -59,7 +65,7 @@ fn claim_text<F: Shelf>(
         (F.faults shelf.new) refusal) }
     ensures reached { (file : ℕ) → result ≡ Err (Status.ReadFault file)
         → MayReachClaim (F.tells shelf.old) (F.file shelf.old) (verifying_shown asked.now) file }
-    ensures numbered { IfErr result (HasClaimNumbers (length asked.now.checked.payments.now)) }
+    ensures numbered { IfErr result (HasFurtherNumbers (length asked.now.checked.payments.now)) }
 {
     let loaded = match load(alloc, shelf, &asked.checked) {
         Ok(loaded) => loaded,
@@ -102,7 +108,7 @@ pub fn answer_verify<F: Shelf, O: Sink>(
         (F.faults shelf.new) result }
     ensures reached { (file : ℕ) → result ≡ Status.ReadFault file
         → MayReachClaim (F.tells shelf.old) (F.file shelf.old) (verifying_shown asked.now) file }
-    ensures numbered { HasClaimNumbers (length asked.now.checked.payments.now) result }
+    ensures numbered { HasFurtherNumbers (length asked.now.checked.payments.now) result }
     ensures right { F.tells shelf.old ≡ true → (result ≡ Status.Done) ⊎ (result ≡ Status.WriteFault)
         → IsRightClaim (claimed (F.file shelf.old) (verifying_shown asked.now)) }
     ensures untouched { result ≢ Status.Done → result ≢ Status.WriteFault → out.new ≡ out.old }

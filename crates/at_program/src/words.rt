@@ -4,7 +4,7 @@ ghost use Rattle.std.specs.Prelude.{◌≡◌, option_map, IfSome};
 ghost use Rattle.at_program.specs.Limits.{most_made_calls, most_made_processes};
 ghost use Rattle.at_base.specs.Numbers.{number_of};
 ghost use Rattle.at_program.specs.Generator.{MayMake};
-ghost use Rattle.at_program.specs.Words.{command_named, form_of, form_shown, make_of, making_of, verify_of, verifying_shown, within, words_of};
+ghost use Rattle.at_program.specs.Words.{command_named, deliver_of, delivering_shown, form_of, form_shown, make_of, making_of, verify_of, verifying_shown, within, words_of};
 
 use at_base::parse_number;
 
@@ -134,5 +134,30 @@ pub fn what_to_verify(words: &[String]) -> Option<Verifying<'_>>
             book: book.as_str(),
             payments,
         },
+    })
+}
+
+/// The words of `deliver`: the files of the book and of the deliveries, and the message files in process order.
+#[derive(Clone, Copy)]
+pub struct Delivering<'a> {
+    pub book: &'a str,
+    pub order: &'a str,
+    pub messages: &'a [String],
+}
+
+/// What files the words of `deliver` name, if they have its form.
+pub fn what_to_deliver(words: &[String]) -> Option<Delivering<'_>>
+    ensures { option_map delivering_shown result ≡ deliver_of (words_of words.now) }
+{
+    let [command, book, order, messages @ ..] = words else {
+        return None;
+    };
+    if command.as_str() != "deliver" {
+        return None;
+    }
+    Some(Delivering {
+        book: book.as_str(),
+        order: order.as_str(),
+        messages,
     })
 }

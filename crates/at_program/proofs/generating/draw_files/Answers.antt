@@ -2,7 +2,7 @@ use Rattle.std.proofs.Common.{◌≡◌, ◌∙◌, ◌+◌, ◌*◌, ℕ, refl,
 use Rattle.std.proofs.lemmas.List.FromFn.{map-range_with_len_more}
 use Rattle.at_verify.specs.Right.{files_in}
 use Rattle.at_program.specs.Generator.{calls_drawn, state_after_calls}
-use Rattle.at_program.proofs.FilesLoaded.{files_in-push}
+use Rattle.at_program.proofs.FilesLoaded.{contents_of-push}
 use Rattle.at_program.proofs.GeneratorLaws.{state_after_calls-add, state_after_calls_none}
 use Rattle.at_program.proofs.generating.draw_files.Goals as goal
 
@@ -21,7 +21,7 @@ loop-process-preserved c =
     let more = map-range_with_len_more f 0 p p (omega arith) in
     let next : p * c.args.calls + c.args.calls ≡ (p + 1) * c.args.calls = omega arith in
     record {
-      files = ap files_in c.in_ok-push.ensures.items ∙ files_in-push c.loop-process.files.items c.in_ok-file.file
+      files = ap files_in c.in_ok-push.ensures.items ∙ contents_of-push c.loop-process.files.items c.in_ok-file.file
           ∙ rw (c.loop-process.invariant.files, c.in_ok-file.ensures.calls, c.loop-process.invariant.state, more) refl;
       state = rw (← next, ← state_after_calls-add c.args.first (p * c.args.calls) c.args.calls, ← c.loop-process.invariant.state) c.in_ok-file.ensures.state;
     }
