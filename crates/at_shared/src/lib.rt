@@ -8,7 +8,7 @@
 //! Cryptocurrency" (PODC 2019), with the helping of wait-free objects.
 //!
 //! The definitions read best in this order: `HelpingTerms` and `Helpings`, a request that waits; `HelpTurns`, what a turn does;
-//! `Settling`, where its receipt stands.
+//! `PaymentTurns`, how a payment turns; `Settling`, where its receipt stands.
 #![tactic(auto)]
 
 mod helping;

@@ -15,6 +15,7 @@ ghost use Rattle.at_log.specs.Placed.{IsPlaced};
 ghost use Rattle.at_log.specs.Receipts.{asks_in};
 ghost use Rattle.at_log.specs.declared.receipt.Receipt.{Receipt};
 ghost use Rattle.at_shared.specs.Helpings.{HasAllSettled, IsPayoutFrom, decides_made, decides_on};
+ghost use Rattle.at_shared.specs.PaymentTurns.{SettlesInTurns};
 ghost use Rattle.at_shared.specs.Settling.{AsksOnce, StandsAfter, StandsAfterSnapshot, StandsInRound, asking_steps, round_steps};
 ghost use Rattle.at_single.specs.Standing.{newly_counted};
 ghost use Rattle.at_snapshot.specs.Snapshots.{snapshot_steps};
@@ -53,6 +54,7 @@ pub fn transfer_shared<L: Ledger, X: Ledger>(
     ensures after_snapshot { StandsAfterSnapshot board.now.book seat.old.knows seat.new.knows
         result }
     ensures asked { AsksOnce board.now.book seat.old.knows seat.new.knows account }
+    ensures turns { SettlesInTurns board.now.book seat.old.knows seat.new.knows account result }
     ensures free { (own_part seat.new.knows).held ≡ None }
     ensures begins { IsPrefix seat.old.knows.seen seat.new.knows.seen }
     ensures process { seat.new.knows.first ≡ seat.old.knows.first }
@@ -108,6 +110,7 @@ pub fn pay_shared<L: Ledger, X: Ledger>(
     ensures after_snapshot { StandsAfterSnapshot board.now.book seat.old.knows seat.new.knows
         result }
     ensures asked { AsksOnce board.now.book seat.old.knows seat.new.knows from }
+    ensures turns { SettlesInTurns board.now.book seat.old.knows seat.new.knows from result }
     ensures free { (own_part seat.new.knows).held ≡ None }
     ensures begins { IsPrefix seat.old.knows.seen seat.new.knows.seen }
     ensures process { seat.new.knows.first ≡ seat.old.knows.first }
@@ -161,6 +164,7 @@ fn settle<L: Ledger, X: Ledger>(
     ensures after_snapshot { StandsAfterSnapshot board.now.book seat.old.knows seat.new.knows
         result }
     ensures asked { AsksOnce board.now.book seat.old.knows seat.new.knows account }
+    ensures turns { SettlesInTurns board.now.book seat.old.knows seat.new.knows account result }
     ensures free { (own_part seat.new.knows).held ≡ None }
     ensures begins { IsPrefix seat.old.knows.seen seat.new.knows.seen }
     ensures process { seat.new.knows.first ≡ seat.old.knows.first }

@@ -1,4 +1,4 @@
-use Rattle.std.proofs.Common.{◌≡◌, ◌+◌, ◌*◌, ◌<◌, true, List, [], ◌∷◌, length, refl, sym, ap, subst, ◌∙◌, arith, inl, inr}
+use Rattle.std.proofs.Common.{◌≡◌, ◌+◌, ◌*◌, ◌<◌, suc, true, List, [], ◌∷◌, length, refl, sym, ap, subst, ◌∙◌, arith, inl, inr}
 use Rattle.std.proofs.lemmas.Bool.{cases_lt}
 use Rattle.std.proofs.lemmas.List.{length_push}
 use Rattle.at_ledger.specs.Account.{slot_in, slots_of}
@@ -17,8 +17,12 @@ use Rattle.at_shared.proofs.Kept.{is_settled-IsPrefix}
 use Rattle.at_shared.proofs.Starting.{same_some}
 use Rattle.at_shared.proofs.Turning.{Adds-HelpAnswers, settled-HelpAnswers}
 use Rattle.at_shared.specs.HelpingTerms.{HelpingTerms}
+use Rattle.at_shared.specs.HelpTurns.{HelpAnswers}
 use Rattle.at_shared.specs.Helpings.{IsHelping, decides_made, decides_on, heard_on}
+use Rattle.at_shared.specs.PaymentTurns.{HasTurned}
+use Rattle.at_shared.specs.PaymentTurns.HasTurned.{none, again}
 use Rattle.at_shared.specs.Settling.{asking_steps, round_steps}
+use Rattle.at_shared.specs.declared.helping.HelpTurn.TheVariants.{Settled, More}
 use Rattle.at_single.specs.Standing.{newly_counted}
 use Rattle.at_snapshot.specs.Snapshots.{snapshot_steps}
 use Rattle.at_shared.proofs.payments.settle.Given as given
@@ -45,6 +49,7 @@ loop-receipt-init g c =
       helping = told.helping;
       few = omega (arith, made, told.helping.asked.slot_in.within, slots);
       heard = omega (arith, made, told.helping.heard, ap (heard_on u) told.account, ap (λ t. rounds t u.seen) told.account);
+      turned = subst (λ n. HasTurned b c.start-helping.result u n u) (sym made) none;
       kept = Adds-refl b u a;
       begins = told.begins;
       process = told.process;
@@ -138,12 +143,17 @@ loop-receipt-preserved g c =
     let rounds_z = ap (λ t. rounds t z.seen) account in
     let slots = ap (λ t. slots_of (account_of b t)) account in
     let more = told.decides_more is in
+    let made : decides_made a v z ≡ suc (decides_made a v y) = omega (arith, so_far.decides, more, on_y, on_z) in
+    let answers : HelpAnswers b y z c.start-helping.result More =
+    subst (λ (h : HelpingTerms). HelpAnswers b y z h More) so_far.same (subst (HelpAnswers b y z c.loop-receipt.helping) is told.answers) in
     record {
       same = told.same ∙ so_far.same;
       board = told.board;
       helping = subst (IsHelping b z) (sym told.same) (told.helping is);
       few = omega (arith, so_far.decides, so_far.heard, more, told.overtaken is, on_y, on_z, heard_y, rounds_y, slots);
       heard = omega (arith, so_far.decides, so_far.heard, more, told.heard, told.rounds_more is, on_y, on_z, heard_y, heard_z, rounds_y, rounds_z);
+      turned = subst (λ n. HasTurned b c.start-helping.result c.start-helping.new.seat.knows n z) (sym made)
+          (again (decides_made a v y) y z so_far.turned answers);
       kept = adds_turns g (goal.at.loop-receipt-preserved g c).After-turn;
       begins = IsPrefix-trans v.seen y.seen z.seen so_far.begins told.begins;
       process = told.process ∙ so_far.process;
@@ -266,3 +276,24 @@ returns-in-Settled-clause-asked g c =
 
 pub returns-in-Settled-clause-more : goal.returns-in-Settled-clause-more
 returns-in-Settled-clause-more g c = omega (arith, c.loop-receipt.invariant.more, c.turn.ensures.more)
+
+pub returns-in-Settled-clause-turns : goal.returns-in-Settled-clause-turns
+returns-in-Settled-clause-turns g c =
+    let b : BookTerms = c.args.board.now.book in
+    let v : Knowledge = c.args.seat.now.knows in
+    let y : Knowledge = c.loop-receipt.seat.knows in
+    let z : Knowledge = c.turn.new.seat.knows in
+    let told = c.start-helping.ensures in
+    let so_far = c.loop-receipt.invariant in
+    record {
+      helping = c.start-helping.result;
+      call = sym (c.in-Settled.ensures.call ∙ ap (λ (h : HelpingTerms). h.call) so_far.same);
+      account = told.account;
+      started = c.start-helping.new.seat.knows;
+      starts = told.started;
+      turns = decides_made c.args.account v y;
+      few = omega (arith, so_far.few);
+      last = y;
+      turned = so_far.turned;
+      settles = subst (λ (h : HelpingTerms). HelpAnswers b y z h (Settled c.in-Settled.receipt)) so_far.same c.in-Settled.ensures.answers;
+    }

@@ -9,6 +9,7 @@ use Rattle.at_board.specs.declared.words.TheConstants.{RECORD_WORDS}
 use Rattle.at_fold.specs.HasCounted.{HasCounted}
 use Rattle.at_shared.proofs.Added.{Adds}
 use Rattle.at_shared.specs.Helpings.{IsHelping, decides_made, decides_on, heard_on}
+use Rattle.at_shared.specs.PaymentTurns.{HasTurned}
 use Rattle.at_shared.specs.Settling.{asking_steps, round_steps}
 use Rattle.at_single.specs.Standing.{newly_counted}
 use Rattle.at_snapshot.specs.Snapshots.{snapshot_steps}
@@ -22,6 +23,7 @@ invariant-loop-receipt g l = record {
   helping : IsHelping l.board.book l.seat.knows l.helping;
   few : decides_made l.account l.fn.seat.knows l.seat.knows + 1 ≤ slots_of (account_of l.board.book l.account);
   heard : heard_on l.seat.knows l.account + decides_made l.account l.fn.seat.knows l.seat.knows ≤ rounds l.account l.seat.knows.seen;
+  turned : HasTurned l.board.book l.initial.helping l.initial.seat.knows (decides_made l.account l.fn.seat.knows l.seat.knows) l.seat.knows;
   kept : Adds l.board.book l.initial.seat.knows l.seat.knows l.account [];
   begins : IsPrefix l.fn.seat.knows.seen l.seat.knows.seen;
   process : l.seat.knows.first ≡ l.fn.seat.knows.first;
