@@ -1,6 +1,8 @@
 pub mod FilesLoaded
 pub mod MayRefuseLaws
-pub mod Played
+pub mod RunTotals
+pub mod JobsMade
+pub mod JobsRun
 pub mod SpelledLoaded
 pub mod NodesGiven
 pub mod DeliveringLaws

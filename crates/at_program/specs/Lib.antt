@@ -2,7 +2,7 @@ pub mod Limits
 pub mod Words
 pub mod Loading
 pub mod Faults
-pub mod Playing
+pub mod Running
 pub mod Answer
 pub mod Claims
 pub mod Nodes

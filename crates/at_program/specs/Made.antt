@@ -1,5 +1,5 @@
 -- What `make` prints: openings, credits and debits, whatever the order of the calls.
-use Rattle.std.specs.Prelude.{◌≡◌, ℕ, ◌+◌, ◌-◌, ◌==◌, false, not, All, List, length, map, sum_by, if◌then◌else◌}
+use Rattle.std.specs.Prelude.{◌≡◌, ℕ, ◌+◌, ◌-◌, ◌==◌, false, not, All, List, length, map, sum_by, if◌then◌else◌, Option, Some}
 use Rattle.std.specs.List.{range_with_len}
 use Rattle.at_ledger.specs.Book.{BookTerms, account_of}
 use Rattle.at_ledger.specs.Call.{amount_of}
@@ -9,8 +9,11 @@ use Rattle.at_ledger.specs.declared.call.Call.{Call}
 use Rattle.at_ledger.specs.declared.call.Call.TheVariants.{Transfer, Read, Pay}
 use Rattle.at_ledger.specs.declared.call.Line.{Line}
 use Rattle.at_ledger.specs.declared.call.Reply.TheVariants.{Done}
+use Rattle.at_object.specs.Closings.{ClosedTerms}
 use Rattle.at_report.specs.Summary.{is_read, summary_of, summary_text}
 use Rattle.at_program.specs.Generator.{book_made, files_made}
+use Rattle.at_program.specs.Running.{IsRunOf, lines_in}
+use Rattle.at_program.specs.declared.words.Making.{Making}
 
 -- what the call brings to the account once it is done
 abbrev pub call_credit : ℕ → Call → ℕ
@@ -66,3 +69,13 @@ pub record IsMade (first processes calls : ℕ) (text : List ℕ) : Type 0 where
   pub done : AllDone (book_made processes calls) (files_made first processes calls)
   pub sum : AllSum (book_made processes calls) (files_made first processes calls) first calls text
   pub some : (lines : List Line) × Whole (files_made first processes calls) lines × Legal (book_made processes calls) lines
+
+-- a closed ledger is kept on which the calls that three numbers give were made. Its journal is one legal run of them, and the text of
+-- `make` is that run's summary
+pub record SumsRun (m : Making) (kept : Option ClosedTerms) : Type 0 where
+  pub closed : ClosedTerms
+  pub is_kept : kept ≡ Some closed
+  pub run : IsRunOf (book_made m.processes m.calls) (files_made m.first m.processes m.calls) closed
+  pub whole : Whole (files_made m.first m.processes m.calls) (lines_in closed)
+  pub legal : Legal (book_made m.processes m.calls) (lines_in closed)
+  pub summed : made m.first m.processes m.calls ≡ summary_text (book_made m.processes m.calls) (lines_in closed) m.first m.calls

@@ -103,3 +103,8 @@ AskToDeliver words asked = deliver_of (words_of words) ≡ Some asked
 -- the same words, as the program holds them
 abbrev pub delivering_shown : delivering.Delivering → Delivering
 delivering_shown asked = record { book = asked.book.now; order = asked.order.now; messages = words_of asked.messages.now }
+
+-- the words ask for no run of files: they have the form of `check`, or none of files and not that of `make`
+pub record AskForNoRun (words : List (String Global)) : Type 0 where
+  pub checks : (form : Form) → HaveForm words form → form.command ≡ Check
+  pub makes_none : make_of (words_of words) ≡ None

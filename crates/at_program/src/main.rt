@@ -1,10 +1,10 @@
 //! The asset transfer object at the command line: what the words ask, from the bytes of the files to the bytes of
 //! the report.
 //!
-//! `serve` does it all, over any shelf and sinks. Over those that tell what they hold, what `run` prints is one legal
-//! run of the calls that the files' bytes spell, what `make` prints is what every legal run of the calls that its
-//! numbers give leads to, `verify` takes the report of a legal run and no other, and each refusal names the first
-//! fault.
+//! `serve` does it all, over any shelf and sinks. `run` and `make` make the calls of all processes at once on one ledger.
+//! Over a shelf and sinks that tell what they hold, what `run` prints is one legal run of the calls that the files' bytes
+//! spell, however the threads' steps fall, what `make` prints is what every legal run of the calls that its numbers give
+//! leads to, `verify` takes the report of a legal run and no other, and each refusal names the first fault.
 #![tactic(auto)]
 
 ghost use Rattle.std.specs.Prelude.{◌≢◌, IfErr};
@@ -16,6 +16,8 @@ mod nodes;
 mod playing;
 mod serving;
 #[cfg(test)]
+mod test_rows;
+#[cfg(test)]
 mod tests;
 mod verifying;
 mod words;
@@ -23,6 +25,7 @@ mod words;
 use crate::serving::{serve, tell};
 use at_io::{DirShelf, StdSink};
 use at_report::{Status, UsageFault};
+use at_workers::OpenGate;
 use std::io;
 use std::process::ExitCode;
 use std::rt::Env;
@@ -58,6 +61,8 @@ fn main(rt: HostRuntime) -> ExitCode {
                 &mut shelf,
                 &mut out,
                 &mut err,
+                &OpenGate,
+                &mut None,
             )
         }
         Err(status) => {

@@ -1,77 +1,116 @@
-//! Making the calls of the files, one file after another, over the sequential ledger.
+//! Making the calls of the files on a new ledger, at once, and closing it.
 
-ghost use Rattle.std.specs.Prelude.{◌≡◌, ◌^◌, ◌<◌, ◌≤◌, ◌++◌, length, sum, All, IfOk, OnOk};
+ghost use Rattle.std.specs.Prelude.{◌≡◌, ◌^◌, ◌<◌, length, map, sum, All, IfOk};
+ghost use Rattle.std.specs.List.{AllZip};
+ghost use Rattle.at_journal.specs.Calls.{calls_in};
 ghost use Rattle.at_ledger.specs.Book.{total_of};
 ghost use Rattle.at_ledger.specs.Call.{IsLineOn};
 ghost use Rattle.at_ledger.specs.Run.{Legal, Whole, last_state};
+ghost use Rattle.at_object.specs.Passes.{AreNewPasses};
+ghost use Rattle.at_program.specs.Running.{AreJobsFor, IsRunOf, lines_in};
 ghost use Rattle.at_verify.specs.Right.{IsPlayable, files_in};
-ghost use Rattle.at_program.specs.Playing.{files_played, played, state_after, state_after_files};
+ghost use Rattle.at_workers.specs.Jobs.{IsReady, JobTerms, Ran};
 
-use at_ledger::{Book, Call, Line, State};
+use at_journal::journal;
+use at_ledger::{Book, Call, Line};
+use at_log::Receipt;
+use at_object::{Closed, Ledger, NoMemory, Pass};
+use at_workers::{Gate, Job, run_all};
 use std::alloc::{AllocError, Global};
+use std::thread::Threads;
 
-/// Makes the calls of a process, and adds a line for each.
-fn play_file(
-    state: &mut State,
-    lines: &mut Vec<Line>,
-    process: u32,
-    calls: &[Call],
-) -> Result<(), AllocError>
-    requires process { process < state.old.book.processes }
-    requires calls { IsPlayable (length state.old.book.accounts) calls.now }
-    ensures lines { OnOk result
-        (lines.new.items ≡ lines.old.items ++ played state.old process 1 calls.now) }
-    ensures state { OnOk result (state.new ≡ state_after state.old process calls.now) }
-    ensures book { state.new.book ≡ state.old.book }
+/// A job for each process: its pass, and the calls of its file.
+fn jobs_for(
+    alloc: Global,
+    ledger: &Ledger,
+    passes: Vec<Pass>,
+    files: Vec<Vec<Call>>,
+) -> Result<Vec<Job>, NoMemory>
+    requires passes { AreNewPasses ledger.now passes.items }
+    requires count { length files.items ≡ ledger.now.book.processes }
+    requires known { All (IsPlayable (length ledger.now.book.accounts)) (files_in files.items) }
+    ensures { IfOk result (λ jobs. AreJobsFor ledger.now (files_in files.items) jobs.items) }
 {
-    for (i, call) in calls.iter().enumerate() {
-        let reply = state.step(process, call);
-        lines.push(Line {
-            process,
-            number: i as u32 + 1,
-            call: call.copy(),
-            reply,
-        })?;
+    let mut jobs = Vec::with_capacity(alloc, ledger.book().processes() as usize)?;
+    let mut others = passes.into_iter();
+    for calls in files {
+        let Some(pass) = others.next() else {
+            unreachable!()
+        };
+        let Ok(job) = Job::new(alloc, pass, calls) else {
+            return Err(AllocError);
+        };
+        jobs.push(job)?;
     }
-    Ok(())
+    Ok(jobs)
 }
 
-/// Makes the calls of each file, those of process 0 first, and adds a line for each.
-fn play_each(
-    state: &mut State,
-    lines: &mut Vec<Line>,
-    files: &[Vec<Call>],
-) -> Result<(), AllocError>
-    requires processes { length files.now ≤ state.old.book.processes }
-    requires few { state.old.book.processes < 2 ^ 32 }
-    requires files { All (IsPlayable (length state.old.book.accounts)) (files_in files.now) }
-    ensures lines { OnOk result
-        (lines.new.items ≡ lines.old.items ++ files_played state.old 0 (files_in files.now)) }
-    ensures state { OnOk result (state.new ≡ state_after_files state.old 0 (files_in files.now)) }
-    ensures book { state.new.book ≡ state.old.book }
+/// Makes the calls of all jobs, each job's by a thread of its own.
+fn run_jobs<R: Threads + Sync, G: Gate + Sync>(
+    rt: &R,
+    ledger: &Ledger,
+    jobs: &mut Vec<Job>,
+    gate: &G,
+)
+    requires { All (IsReady ledger.now) jobs.old.items }
+    ensures { AllZip (Ran ledger.now) jobs.old.items jobs.new.items }
 {
-    for (process, calls) in files.iter().enumerate() {
-        play_file(state, lines, process as u32, calls.as_slice())?;
-    }
-    Ok(())
+    run_all(rt, ledger, jobs.as_mut_slice(), gate);
 }
 
-/// The lines of a run of the files, one after another in process order. It takes memory for the lines alone, and
-/// the work grows with the calls.
-pub fn play(alloc: Global, book: &Book, files: &[Vec<Call>]) -> Result<Vec<Line>, AllocError>
-    requires processes { length files.now ≡ book.now.processes }
-    requires files { All (IsPlayable (length book.now.accounts)) (files_in files.now) }
-    ensures whole { IfOk result (λ lines. Whole (files_in files.now) lines.items) }
-    ensures legal { IfOk result (λ lines. Legal book.now lines.items) }
-    ensures known { IfOk result
-        (λ lines. All (IsLineOn book.now.processes (length book.now.accounts)) lines.items) }
+/// The passes of the jobs, and their receipts.
+fn taken_apart(alloc: Global, jobs: Vec<Job>) -> Result<(Vec<Pass>, Vec<Vec<Receipt>>), NoMemory>
+    ensures passes { IfOk result (λ r. r.0.items ≡ map (λ (job : JobTerms). job.pass) jobs.items) }
+    ensures receipts { IfOk result
+        (λ r. map (λ list. list.items) r.1.items
+        ≡ map (λ (job : JobTerms). job.receipts) jobs.items) }
+{
+    let mut passes = Vec::with_capacity(alloc, jobs.len())?;
+    let mut receipts = Vec::with_capacity(alloc, jobs.len())?;
+    for job in jobs {
+        let (pass, _calls, list) = job.split();
+        passes.push(pass)?;
+        receipts.push(list)?;
+    }
+    Ok((passes, receipts))
+}
+
+/// Makes the calls of each file on a new ledger of the book, each process's by a thread of its own, and closes the ledger. The work
+/// grows with the calls.
+pub fn play<R: Threads + Sync, G: Gate + Sync>(
+    rt: &R,
+    alloc: Global,
+    book: &Book,
+    files: Vec<Vec<Call>>,
+    gate: &G,
+) -> Result<Closed, NoMemory>
+    requires count { length files.items ≡ book.now.processes }
+    requires known { All (IsPlayable (length book.now.accounts)) (files_in files.items) }
+    ensures { IfOk result (IsRunOf book.now (files_in files.items)) }
+{
+    let (ledger, passes) = Ledger::new(alloc, book)?;
+    let mut jobs = jobs_for(alloc, &ledger, passes, files)?;
+    run_jobs(rt, &ledger, &mut jobs, gate);
+    let (passes, receipts) = taken_apart(alloc, jobs)?;
+    match ledger.close(alloc, passes, receipts) {
+        Ok(closed) => Ok(closed),
+        Err(_refused) => Err(AllocError),
+    }
+}
+
+/// The journal of a closed ledger on which files were run.
+pub fn lines_of(alloc: Global, closed: &Closed) -> Result<Vec<Line>, NoMemory>
+    requires count { length (calls_in closed.now.closing) ≡ closed.now.book.processes }
+    requires known { All (IsPlayable (length closed.now.book.accounts)) (calls_in closed.now.closing) }
+    ensures lines { IfOk result (λ lines. lines.items ≡ lines_in closed.now) }
+    ensures whole { IfOk result (λ _. Whole (calls_in closed.now.closing) (lines_in closed.now)) }
+    ensures legal { IfOk result (λ _. Legal closed.now.book (lines_in closed.now)) }
+    ensures on { IfOk result
+        (λ _. All (IsLineOn closed.now.book.processes (length closed.now.book.accounts))
+        (lines_in closed.now)) }
     ensures total { IfOk result
-        (λ lines. sum (last_state book.now lines.items).balances ≡ total_of book.now) }
+        (λ _. sum (last_state closed.now.book (lines_in closed.now)).balances
+        ≡ total_of closed.now.book) }
 {
-    let _known = book.processes();
-    let mut state = State::new(alloc, book)?;
-    let mut lines = Vec::new(alloc);
-    play_each(&mut state, &mut lines, files)?;
-    let _known = state.total();
-    Ok(lines)
+    journal(alloc, closed.book(), closed.closing())
 }

@@ -1,13 +1,13 @@
 //! All that the program does.
 
-ghost use Rattle.std.specs.Prelude.{◌≡◌, ◌≢◌, ◌↔◌, ◌⊎◌, ◌≤◌, ◌++◌, ℕ, All, sum_by, length, true, None, Some, Ok, Err, IfOk, IfErr, OnOk};
+ghost use Rattle.std.specs.Prelude.{◌≡◌, ◌≢◌, ◌↔◌, ◌⊎◌, ◌≤◌, ◌++◌, ℕ, All, sum_by, List, length, true, None, Some, Ok, Err, IfOk, IfErr, OnOk};
 ghost use Rattle.at_files.specs.Names.{AreNamesOf};
 ghost use Rattle.at_io.specs.Faults.{Rose};
 ghost use Rattle.at_io.specs.Shelf.{SameFiles};
 ghost use Rattle.at_io.specs.Sink.{TakesPrefix};
-ghost use Rattle.at_program.specs.Words.{AskToDeliver, AskToMake, AskToVerify, Delivering, HaveForm, Form, Verifying, deliver_of, form_of, form_shown, make_of, verify_of, words_of};
+ghost use Rattle.at_program.specs.Words.{AskForNoRun, AskToDeliver, AskToMake, AskToVerify, Delivering, HaveForm, Form, Verifying, deliver_of, form_of, form_shown, make_of, verify_of, words_of};
 ghost use Rattle.at_program.specs.Generator.{MayMake};
-ghost use Rattle.at_program.specs.Made.{IsMade, made};
+ghost use Rattle.at_program.specs.Made.{IsMade, SumsRun, made};
 ghost use Rattle.at_program.specs.declared.words.Making.{Making};
 ghost use Rattle.at_verify.specs.Right.{IsPlayable, files_in};
 ghost use Rattle.at_program.specs.Loading.{Loaded, MayReach, Spelled, loaded, loaded_shown};
@@ -18,61 +18,90 @@ ghost use Rattle.at_program.specs.Nodes.{Broadcast};
 ghost use Rattle.at_program.specs.Answer.{Prints, PrintsSpelled, TookAll, TookPrefix, TookLine};
 
 use crate::delivering::answer_deliver;
-use crate::generating::generate;
+use crate::generating::{Made, generate};
 use crate::loading::{self, load};
-use crate::playing::play;
+use crate::playing::{lines_of, play};
 use crate::verifying::answer_verify;
 use crate::words::{self, Command, Making, form_of, what_to_deliver, what_to_make, what_to_verify};
 use at_io::{Shelf, Sink, put_all};
 use at_ledger::Call;
+use at_object::Closed;
 use at_report::{Status, UsageFault, checked_text, fault_text, report, summary};
 use at_verify::count_calls;
+use at_workers::Gate;
 use std::alloc::{AllocError, Global};
 use std::thread::Threads;
 
-/// The report of a run of the files, one after another in process order.
-fn run_text(alloc: Global, loaded: &loading::Loaded<Call>) -> Result<Vec<u8>, AllocError>
-    requires names { AreNamesOf loaded.now.book loaded.now.names }
-    requires count { length loaded.now.files.items ≡ loaded.now.book.processes }
-    requires known { All (IsPlayable (length loaded.now.book.accounts))
-        (files_in loaded.now.files.items) }
-    ensures { IfOk result (λ text. Prints Command.Run (loaded_shown loaded.now) text.items) }
+/// What a command prints, and the closed ledger on which it ran files, if it did.
+#[derive(Drop)]
+struct Printed {
+    text: Vec<u8>,
+    closed: Option<Closed>,
+}
+
+/// The report of a run of the files, all of them at once.
+fn run_text<R: Threads + Sync, G: Gate + Sync>(
+    rt: &R,
+    alloc: Global,
+    loaded: loading::Loaded<Call>,
+    gate: &G,
+) -> Result<Printed, AllocError>
+    requires names { AreNamesOf loaded.book loaded.names }
+    requires count { length loaded.files.items ≡ loaded.book.processes }
+    requires known { All (IsPlayable (length loaded.book.accounts)) (files_in loaded.files.items) }
+    ensures { IfOk result
+        (λ p. Prints Command.Run (loaded_shown loaded) p.closed p.text.items) }
 {
-    let lines = play(alloc, &loaded.book, loaded.files.as_slice())?;
-    report(alloc, &loaded.book, &loaded.names, lines.as_slice())
+    let loading::Loaded { book, names, files } = loaded;
+    let closed = play(rt, alloc, &book, files, gate)?;
+    let lines = lines_of(alloc, &closed)?;
+    let text = report(alloc, &book, &names, lines.as_slice())?;
+    Ok(Printed {
+        text,
+        closed: Some(closed),
+    })
 }
 
 /// What the command prints of what was loaded.
-fn text_of(
+fn text_of<R: Threads + Sync, G: Gate + Sync>(
+    rt: &R,
     alloc: Global,
     command: Command,
-    loaded: &loading::Loaded<Call>,
-) -> Result<Vec<u8>, AllocError>
-    requires names { AreNamesOf loaded.now.book loaded.now.names }
-    requires count { length loaded.now.files.items ≡ loaded.now.book.processes }
-    requires known { All (IsPlayable (length loaded.now.book.accounts))
-        (files_in loaded.now.files.items) }
-    ensures { IfOk result (λ text. Prints command (loaded_shown loaded.now) text.items) }
+    loaded: loading::Loaded<Call>,
+    gate: &G,
+) -> Result<Printed, AllocError>
+    requires names { AreNamesOf loaded.book loaded.names }
+    requires count { length loaded.files.items ≡ loaded.book.processes }
+    requires known { All (IsPlayable (length loaded.book.accounts)) (files_in loaded.files.items) }
+    ensures { IfOk result (λ p. Prints command (loaded_shown loaded) p.closed p.text.items) }
 {
     let _known = loaded.book.accounts();
     match command {
-        Command::Run => run_text(alloc, loaded),
-        Command::Check => checked_text(alloc, &loaded.book, count_calls(loaded.files.as_slice())),
+        Command::Run => run_text(rt, alloc, loaded, gate),
+        Command::Check => {
+            let calls = count_calls(loaded.files.as_slice());
+            let text = checked_text(alloc, &loaded.book, calls)?;
+            Ok(Printed { text, closed: None })
+        }
     }
 }
 
 /// The text of the form's command for its files, or why there is none.
-fn files_text<F: Shelf>(
+fn files_text<R: Threads + Sync, F: Shelf, G: Gate + Sync>(
+    rt: &R,
     alloc: Global,
     shelf: &mut F,
     form: &words::Form<'_>,
-) -> Result<Vec<u8>, Status>
+    gate: &G,
+) -> Result<Printed, Status>
     ensures files { SameFiles (F.tells shelf.old) (F.tells shelf.new) (F.file shelf.old)
         (F.file shelf.new) }
     ensures later { F.faults shelf.old ≤ F.faults shelf.new }
     ensures kept { OnOk result (F.faults shelf.new ≡ F.faults shelf.old) }
     ensures printed { F.tells shelf.old ≡ true
-        → IfOk result (λ text. PrintsSpelled (F.file shelf.old) (form_shown form.now) text.items) }
+        → IfOk result
+        (λ p. PrintsSpelled (F.file shelf.old) (form_shown form.now) p.closed p.text.items) }
+    ensures checks { form.now.command ≡ Command.Check → IfOk result (λ p. p.closed ≡ None) }
     ensures err { IfErr result
         (λ refusal. MayRefuse (F.tells shelf.old) (loaded (F.file shelf.old) (form_shown form.now))
         (F.faults shelf.old) (F.faults shelf.new) refusal) }
@@ -84,8 +113,8 @@ fn files_text<F: Shelf>(
         Ok(loaded) => loaded,
         Err(refusal) => return Err(refusal),
     };
-    match text_of(alloc, form.command, &loaded) {
-        Ok(text) => Ok(text),
+    match text_of(rt, alloc, form.command, loaded, gate) {
+        Ok(printed) => Ok(printed),
         Err(_) => Err(Status::NoMemory),
     }
 }
@@ -103,12 +132,16 @@ pub fn tell<E: Sink>(err: &mut E, status: &Status)
 }
 
 /// Does what the form asks.
-fn answer<F: Shelf, O: Sink>(
+fn answer<R: Threads + Sync, F: Shelf, O: Sink, G: Gate + Sync>(
+    rt: &R,
     alloc: Global,
     shelf: &mut F,
     out: &mut O,
     form: &words::Form<'_>,
+    gate: &G,
+    kept: &mut Option<Closed>,
 ) -> Status
+    requires { kept.old ≡ None }
     ensures files { SameFiles (F.tells shelf.old) (F.tells shelf.new) (F.file shelf.old)
         (F.file shelf.new) }
     ensures later { (F.faults shelf.old ≤ F.faults shelf.new)
@@ -116,13 +149,15 @@ fn answer<F: Shelf, O: Sink>(
     ensures as_told { O.tells out.new ≡ O.tells out.old }
     ensures form { result ≢ Status.Usage UsageFault.Words }
     ensures done { result ≡ Status.Done → F.tells shelf.old ≡ true → O.tells out.old ≡ true
-        → TookAll (F.file shelf.old) (form_shown form.now) (O.taken out.old) (O.taken out.new) }
+        → TookAll (F.file shelf.old) (form_shown form.now) kept.new (O.taken out.old)
+        (O.taken out.new) }
     ensures done_kept { result ≡ Status.Done
         → (F.faults shelf.new ≡ F.faults shelf.old) × (O.faults out.new ≡ O.faults out.old) }
     ensures write_fault { result ≡ Status.WriteFault
         → Rose (O.faults out.old) (O.faults out.new) × (F.faults shelf.new ≡ F.faults shelf.old) }
     ensures prefix { result ≡ Status.WriteFault → F.tells shelf.old ≡ true → O.tells out.old ≡ true
-        → TookPrefix (F.file shelf.old) (form_shown form.now) (O.taken out.old) (O.taken out.new) }
+        → TookPrefix (F.file shelf.old) (form_shown form.now) kept.new (O.taken out.old)
+        (O.taken out.new) }
     ensures refusal { result ≢ Status.Done → result ≢ Status.WriteFault
         → MayRefuse (F.tells shelf.old) (loaded (F.file shelf.old) (form_shown form.now))
         (F.faults shelf.old) (F.faults shelf.new) result }
@@ -131,39 +166,57 @@ fn answer<F: Shelf, O: Sink>(
     ensures numbered { HasFileNumbers (length form.now.payments.now) result }
     ensures loads { F.tells shelf.old ≡ true → (result ≡ Status.Done) ⊎ (result ≡ Status.WriteFault)
         → (l : Loaded) × (loaded (F.file shelf.old) (form_shown form.now) ≡ Ok l) }
-    ensures untouched { result ≢ Status.Done → result ≢ Status.WriteFault → out.new ≡ out.old }
+    ensures ran { F.tells shelf.old ≡ true → (result ≡ Status.Done) ⊎ (result ≡ Status.WriteFault)
+        → (text : List ℕ) × PrintsSpelled (F.file shelf.old) (form_shown form.now) kept.new text }
+    ensures checks { form.now.command ≡ Command.Check → kept.new ≡ None }
+    ensures untouched { result ≢ Status.Done → result ≢ Status.WriteFault
+        → (out.new ≡ out.old) × (kept.new ≡ None) }
 {
-    let text = match files_text(alloc, shelf, form) {
-        Ok(text) => text,
+    let printed = match files_text(rt, alloc, shelf, form, gate) {
+        Ok(printed) => printed,
         Err(refusal) => return refusal,
     };
-    match put_all(out, text.as_slice()) {
+    *kept = printed.closed;
+    match put_all(out, printed.text.as_slice()) {
         Ok(()) => Status::Done,
         Err(_) => Status::WriteFault,
     }
 }
 
-/// The summary of a run of the calls that a number gives.
-fn made_text(alloc: Global, making: Making) -> Result<Vec<u8>, AllocError>
+/// The summary of a run of the calls that a number gives, all processes at once.
+fn made_text<R: Threads + Sync, G: Gate + Sync>(
+    rt: &R,
+    alloc: Global,
+    making: Making,
+    gate: &G,
+) -> Result<Printed, AllocError>
     requires { MayMake making.processes making.calls }
     ensures text { IfOk result
-        (λ text. text.items ≡ made making.first making.processes making.calls) }
+        (λ p. p.text.items ≡ made making.first making.processes making.calls) }
     ensures all { IfOk result
-        (λ text. IsMade making.first making.processes making.calls text.items) }
+        (λ p. IsMade making.first making.processes making.calls p.text.items) }
+    ensures ran { IfOk result (λ p. SumsRun making p.closed) }
 {
-    let made = generate(alloc, making.first, making.processes, making.calls)?;
-    let lines = play(alloc, &made.book, made.files.as_slice())?;
-    summary(
-        alloc,
-        &made.book,
-        lines.as_slice(),
-        making.first,
-        making.calls,
-    )
+    let Made { book, files } = generate(alloc, making.first, making.processes, making.calls)?;
+    let closed = play(rt, alloc, &book, files, gate)?;
+    let lines = lines_of(alloc, &closed)?;
+    let text = summary(alloc, &book, lines.as_slice(), making.first, making.calls)?;
+    Ok(Printed {
+        text,
+        closed: Some(closed),
+    })
 }
 
 /// Does what words of no file ask: those of `make`, and no others.
-fn answer_made<O: Sink>(alloc: Global, words: &[String], out: &mut O) -> Status
+fn answer_made<R: Threads + Sync, O: Sink, G: Gate + Sync>(
+    rt: &R,
+    alloc: Global,
+    words: &[String],
+    out: &mut O,
+    gate: &G,
+    kept: &mut Option<Closed>,
+) -> Status
+    requires { kept.old ≡ None }
     ensures later { O.faults out.old ≤ O.faults out.new }
     ensures as_told { O.tells out.new ≡ O.tells out.old }
     ensures words { (result ≡ Status.Usage UsageFault.Words)
@@ -180,15 +233,19 @@ fn answer_made<O: Sink>(alloc: Global, words: &[String], out: &mut O) -> Status
         → TakesPrefix (O.taken out.old) (O.taken out.new) (made m.first m.processes m.calls) }
     ensures answers { (m : Making) → AskToMake words.now m
         → (result ≡ Status.Done) ⊎ ((result ≡ Status.WriteFault) ⊎ (result ≡ Status.NoMemory)) }
-    ensures untouched { result ≢ Status.Done → result ≢ Status.WriteFault → out.new ≡ out.old }
+    ensures ran { (m : Making) → AskToMake words.now m
+        → (result ≡ Status.Done) ⊎ (result ≡ Status.WriteFault) → SumsRun m kept.new }
+    ensures untouched { result ≢ Status.Done → result ≢ Status.WriteFault
+        → (out.new ≡ out.old) × (kept.new ≡ None) }
 {
     let Some(making) = what_to_make(words) else {
         return Status::Usage(UsageFault::Words);
     };
-    let Ok(text) = made_text(alloc, making) else {
+    let Ok(printed) = made_text(rt, alloc, making, gate) else {
         return Status::NoMemory;
     };
-    match put_all(out, text.as_slice()) {
+    *kept = printed.closed;
+    match put_all(out, printed.text.as_slice()) {
         Ok(()) => Status::Done,
         Err(_) => Status::WriteFault,
     }
@@ -196,16 +253,20 @@ fn answer_made<O: Sink>(alloc: Global, words: &[String], out: &mut O) -> Status
 
 /// Does all that the program does: reads the files that the words name, one after another, or makes the calls that
 /// they ask for, and writes the command's text to `out`, or the line of the first refusal to `err`. The whole text is
-/// made before the first write. `words` are those after the program's name. The work grows with the bytes of the
-/// files, or with the calls that are made.
-pub fn serve<R: Threads + Sync, F: Shelf, O: Sink, E: Sink>(
-    _rt: &R,
+/// made before the first write. `words` are those after the program's name. `run` and `make` make the calls of all
+/// processes at once on one ledger, each process's in a thread of its own, and leave that ledger, closed, in `kept`; the
+/// gate is told of each call. The work grows with the bytes of the files, or with the calls that are made.
+pub fn serve<R: Threads + Sync, F: Shelf, O: Sink, E: Sink, G: Gate + Sync>(
+    rt: &R,
     alloc: Global,
     words: &[String],
     shelf: &mut F,
     out: &mut O,
     err: &mut E,
+    gate: &G,
+    kept: &mut Option<Closed>,
 ) -> Status
+    requires { kept.old ≡ None }
     ensures files { SameFiles (F.tells shelf.old) (F.tells shelf.new) (F.file shelf.old)
         (F.file shelf.new) }
     ensures later { (F.faults shelf.old ≤ F.faults shelf.new)
@@ -220,15 +281,24 @@ pub fn serve<R: Threads + Sync, F: Shelf, O: Sink, E: Sink>(
 
     ensures unread { result ≡ Status.Usage UsageFault.Words → shelf.new ≡ shelf.old }
 
-    // The theorem: all bytes that were taken are the text of the command for what the files' bytes spell.
+    // The theorem: all bytes that were taken are the text of the command for what the files' bytes spell. That of `run` is
+    // the report of the journal of the closed ledger that is kept, on which just the files' calls were made, and this
+    // journal is one legal run of them, however the threads' steps fell.
     ensures done { (form : Form) → HaveForm words.now form → result ≡ Status.Done
         → F.tells shelf.old ≡ true → O.tells out.old ≡ true
-        → TookAll (F.file shelf.old) form (O.taken out.old) (O.taken out.new) }
+        → TookAll (F.file shelf.old) form kept.new (O.taken out.old) (O.taken out.new) }
     ensures done_kept { result ≡ Status.Done
         → (F.faults shelf.new ≡ F.faults shelf.old) × (O.faults out.new ≡ O.faults out.old) }
     ensures loads { (form : Form) → HaveForm words.now form → F.tells shelf.old ≡ true
         → (result ≡ Status.Done) ⊎ (result ≡ Status.WriteFault)
         → (l : Loaded) × (loaded (F.file shelf.old) form ≡ Ok l) }
+    ensures ran { (form : Form) → HaveForm words.now form → F.tells shelf.old ≡ true
+        → (result ≡ Status.Done) ⊎ (result ≡ Status.WriteFault)
+        → (text : List ℕ) × PrintsSpelled (F.file shelf.old) form kept.new text }
+
+    // No ledger is kept where nothing was run, or nothing is said of the run.
+    ensures unrun { AskForNoRun words.now → kept.new ≡ None }
+    ensures untold { result ≢ Status.Done → result ≢ Status.WriteFault → kept.new ≡ None }
 
     // Of the words of `make`, all bytes that were taken are the text of the three numbers. It is the summary of every
     // legal run of their calls, whatever its order, and in each of these every transfer is done.
@@ -237,6 +307,8 @@ pub fn serve<R: Threads + Sync, F: Shelf, O: Sink, E: Sink>(
         → O.taken out.new ≡ O.taken out.old ++ made m.first m.processes m.calls }
     ensures made_all { (m : Making) → AskToMake words.now m → result ≡ Status.Done
         → IsMade m.first m.processes m.calls (made m.first m.processes m.calls) }
+    ensures made_ran { (m : Making) → AskToMake words.now m
+        → (result ≡ Status.Done) ⊎ (result ≡ Status.WriteFault) → SumsRun m kept.new }
     ensures made_prefix { (m : Making) → AskToMake words.now m → result ≡ Status.WriteFault
         → O.tells out.old ≡ true
         → TakesPrefix (O.taken out.old) (O.taken out.new) (made m.first m.processes m.calls) }
@@ -249,7 +321,7 @@ pub fn serve<R: Threads + Sync, F: Shelf, O: Sink, E: Sink>(
         → Rose (O.faults out.old) (O.faults out.new) × (F.faults shelf.new ≡ F.faults shelf.old) }
     ensures prefix { (form : Form) → HaveForm words.now form → result ≡ Status.WriteFault
         → F.tells shelf.old ≡ true → O.tells out.old ≡ true
-        → TookPrefix (F.file shelf.old) form (O.taken out.old) (O.taken out.new) }
+        → TookPrefix (F.file shelf.old) form kept.new (O.taken out.old) (O.taken out.new) }
 
     // When each refusal comes: only so, and where no fault is counted exactly so, but for want of memory.
     ensures refusal { (form : Form) → HaveForm words.now form → result ≢ Status.Done
@@ -346,13 +418,13 @@ pub fn serve<R: Threads + Sync, F: Shelf, O: Sink, E: Sink>(
         (E.taken err.new) }
 {
     let status = if let Some(form) = form_of(words) {
-        answer(alloc, shelf, out, &form)
+        answer(rt, alloc, shelf, out, &form, gate, kept)
     } else if let Some(asked) = what_to_verify(words) {
         answer_verify(alloc, shelf, out, &asked)
     } else if let Some(asked) = what_to_deliver(words) {
         answer_deliver(alloc, shelf, out, &asked)
     } else {
-        answer_made(alloc, words, out)
+        answer_made(rt, alloc, words, out, gate, kept)
     };
     if status != Status::Done {
         tell(err, &status);

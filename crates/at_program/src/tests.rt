@@ -1,550 +1,24 @@
+//! Rows of `serve`, over shelves and sinks in memory.
+
 use crate::serving::serve;
+use crate::test_rows::{
+    Case, DELIVERS, EACH_OWN, EITHER_ORDER, ONE, REFUSED_BOOKS, REFUSED_FILES, REFUSED_PAYMENTS,
+    REFUSED_TO_DELIVER, REFUSED_TO_VERIFY, RUNS, RUNS_OF_MORE_PROCESSES, USUAL, USUAL_REPORT,
+    VERIFIED_RUNS, VERIFIES, Verified, WORDS,
+};
 use at_io::{MemoryShelf, MemorySink};
+use at_ledger::Reply;
 use at_report::Status;
+use at_workers::{Gate, OpenGate};
 use std::alloc::{AllocError, Global};
+use std::sync::atomic::{AtomicBool, AtomicU64, Ordering};
 use std::test::Fail;
-use std::thread::Threads;
+use std::thread::{Threads, yield_now};
 
-const ONE: &[u8] = b"book,1\nprocesses,1\nlimits,4,4\naccount,0,100,0\naccount,1,0,\n";
-
-const TWO: &[u8] =
-    b"book,1\nprocesses,2\nlimits,4,4\naccount,0,100,0\naccount,1,0,1\naccount,2,50,\n";
-
-const EACH_OWN: &[u8] = b"book,1\nprocesses,2\nlimits,4,4\naccount,0,100,0\naccount,1,100,1\n";
-
-const EACH_SENDS: &[u8] = b"book,1\nprocesses,2\nlimits,4,4\naccount,0,100,0\naccount,1,0,1\n";
-
-const ROOM: &[u8] = b"book,1\nprocesses,1\nlimits,1,1\naccount,0,10,0\naccount,1,0,\n";
-
-const NEUTRAL: &[u8] = b"book,1\nprocesses,1\nlimits,4,4\naccount,0,100,0\naccount,1,0,0\n";
-
-const LARGEST: &[u8] =
-    b"book,1\nprocesses,1\nlimits,4,4\naccount,0,18446744073709551615,0\naccount,1,0,\n";
-
-const REALISTIC: &[u8] =
-    b"book,1\nprocesses,3\nlimits,100,20\naccount,0,500000,0\naccount,1,120000,1\naccount,2,75000,2\naccount,3,300000,0 1\naccount,4,0,\n";
-
-const NAMED: &[u8] =
-    b"book,2\nprocesses,ann,bob\nlimits,10,10\naccount,ann-cash,100,ann\naccount,joint,50,ann bob\naccount,shop,0,\n";
-
-const HOUSEHOLD: &[u8] =
-    b"book,2\nprocesses,ann,bob\nlimits,100,20\naccount,ann-cash,500,ann\naccount,bob-cash,120,bob\naccount,joint,300,ann bob\naccount,shop,0,\n";
-
-const USUAL: &[u8] = b"transfer,0,1,30\nread,0\nread,1\n";
-
-const USUAL_REPORT: &str =
-    "journal 3\n0 1 transfer 0 1 30 done\n0 2 read 0 70\n0 3 read 1 30\nbalances 2\n0 70\n1 30\ntotal 100\n";
-
-const USAGE: &str =
-    "usage: run BOOK PAY... | check BOOK PAY... | make NUMBER PROCESSES CALLS | deliver BOOK ORDER MSG... | verify BOOK REPORT PAY...\n";
-
-const SMALL: &str = "made 7 1 2\ndone 2\nread 0\nbalances 2\n0 146\n1 254\ntotal 400\n";
-
-const FOUR: &str =
-    "made 7 4 1000\ndone 3000\nread 1000\nbalances 5\n0 104432\n1 106311\n2 106567\n3 103186\n4 379504\ntotal 800000\n";
-
-const EIGHT: &str =
-    "made 7 8 1000\ndone 5959\nread 2041\nbalances 9\n0 104854\n1 106530\n2 111048\n3 107857\n4 108286\n5 109196\n6 108862\n7 109538\n8 733829\ntotal 1600000\n";
-
-/// A case: the words, the files `book`, `0`, `1` and `2` as far as they are there, the status and the text.
-type Case = (&'static str, &'static [&'static [u8]], u8, &'static str);
-
-const RUNS: &[Case] = &[
-    (
-        "run book 0",
-        &[ONE, b""],
-        0,
-        "journal 0\nbalances 2\n0 100\n1 0\ntotal 100\n",
-    ),
-    ("run book 0", &[ONE, USUAL], 0, USUAL_REPORT),
-    (
-        "run book 0",
-        &[ONE, b"transfer,0,1,101\n"],
-        0,
-        "journal 1\n0 1 transfer 0 1 101 short\nbalances 2\n0 100\n1 0\ntotal 100\n",
-    ),
-    (
-        "run book 0",
-        &[ONE, b"transfer,0,1,100\n"],
-        0,
-        "journal 1\n0 1 transfer 0 1 100 done\nbalances 2\n0 0\n1 100\ntotal 100\n",
-    ),
-    (
-        "run book 0",
-        &[
-            NEUTRAL,
-            b"transfer,1,0,0\ntransfer,0,0,100\ntransfer,0,0,101\n",
-        ],
-        0,
-        "journal 3\n0 1 transfer 1 0 0 done\n0 2 transfer 0 0 100 done\n0 3 transfer 0 0 101 short\nbalances 2\n0 100\n1 0\ntotal 100\n",
-    ),
-    (
-        "run book 0",
-        &[ROOM, b"transfer,0,1,1\ntransfer,0,1,1\nread,0\n"],
-        0,
-        "journal 3\n0 1 transfer 0 1 1 done\n0 2 transfer 0 1 1 full\n0 3 read 0 9\nbalances 2\n0 9\n1 1\ntotal 10\n",
-    ),
-    (
-        "run book 0",
-        &[ROOM, b"transfer,0,1,1\ntransfer,0,1,1000\n"],
-        0,
-        "journal 2\n0 1 transfer 0 1 1 done\n0 2 transfer 0 1 1000 full\nbalances 2\n0 9\n1 1\ntotal 10\n",
-    ),
-    (
-        "run book 0",
-        &[LARGEST, b"transfer,0,1,18446744073709551615\n"],
-        0,
-        "journal 1\n0 1 transfer 0 1 18446744073709551615 done\nbalances 2\n0 0\n1 18446744073709551615\ntotal 18446744073709551615\n",
-    ),
-    (
-        "run book 0",
-        &[ONE, b"\"transfer\",0,1,30\r\n\r\nread,0"],
-        0,
-        "journal 2\n0 1 transfer 0 1 30 done\n0 2 read 0 70\nbalances 2\n0 70\n1 30\ntotal 100\n",
-    ),
-    ("check book 0", &[ONE, USUAL], 0, "checked 1 2 3\n"),
-];
-
-const RUNS_OF_MORE_PROCESSES: &[Case] = &[
-    (
-        "run book 0 1",
-        &[TWO, b"transfer,2,0,0\ntransfer,1,0,0\n", b""],
-        0,
-        "journal 2\n0 1 transfer 2 0 0 not-owner\n0 2 transfer 1 0 0 not-owner\nbalances 3\n0 100\n1 0\n2 50\ntotal 150\n",
-    ),
-    (
-        "run book 0 0",
-        &[TWO, b"read,0\n"],
-        0,
-        "journal 2\n0 1 read 0 100\n1 1 read 0 100\nbalances 3\n0 100\n1 0\n2 50\ntotal 150\n",
-    ),
-    (
-        "run book 0 1 2",
-        &[
-            REALISTIC,
-            b"transfer,0,1,12550\ntransfer,3,4,80000\nread,3\n",
-            b"transfer,1,2,4999\ntransfer,3,4,80000\n",
-            b"transfer,2,0,75000\nread,2\n",
-        ],
-        0,
-        "journal 7\n0 1 transfer 0 1 12550 done\n0 2 transfer 3 4 80000 done\n0 3 read 3 220000\n1 1 transfer 1 2 4999 done\n1 2 transfer 3 4 80000 done\n2 1 transfer 2 0 75000 done\n2 2 read 2 4999\nbalances 5\n0 562450\n1 127551\n2 4999\n3 140000\n4 160000\ntotal 995000\n",
-    ),
-    (
-        "check book 0 1",
-        &[TWO, b"read,0\n", b"read,1\nread,2\n"],
-        0,
-        "checked 2 3 3\n",
-    ),
-    (
-        "run book 0 1",
-        &[NAMED, b"pay,ann-cash,shop,30,joint,20\nread,shop\n", b""],
-        0,
-        "journal 2\nann 1 pay ann-cash shop 30 joint 20 done\nann 2 read shop 30\nbalances 3\nann-cash 50\njoint 70\nshop 30\ntotal 150\n",
-    ),
-    (
-        "run book 0 1",
-        &[
-            HOUSEHOLD,
-            b"pay,joint,shop,180,bob-cash,70\npay,ann-cash,shop,450,joint,100\nread,joint\n",
-            b"pay,shop,joint,1\ntransfer,joint,bob-cash,50\n",
-        ],
-        0,
-        "journal 5\nann 1 pay joint shop 180 bob-cash 70 done\nann 2 pay ann-cash shop 450 joint 100 short\nann 3 read joint 50\nbob 1 pay shop joint 1 not-owner\nbob 2 transfer joint bob-cash 50 done\nbalances 4\nann-cash 500\nbob-cash 240\njoint 0\nshop 180\ntotal 920\n",
-    ),
-];
-
-/// Each cause of a book's fault but that of too many accounts.
-const REFUSED_BOOKS: &[Case] = &[
-    (
-        "run book 0",
-        &[b"book,3\nprocesses,ann\n", b""],
-        3,
-        "book: line 1: version\n",
-    ),
-    (
-        "run book 0",
-        &[b"books,1\n", b""],
-        3,
-        "book: line 1: shape\n",
-    ),
-    (
-        "run book 0",
-        &[b"book,1\nprocesses,x\n", b""],
-        3,
-        "book: line 2: number\n",
-    ),
-    (
-        "run book 0",
-        &[b"book,1\nprocesses,0\n", b""],
-        3,
-        "book: line 2: no process\n",
-    ),
-    (
-        "run book 0",
-        &[b"book,1\nprocesses,17\n", b""],
-        3,
-        "book: line 2: too many processes\n",
-    ),
-    (
-        "run book 0",
-        &[b"book,1\nprocesses,1\nlimits,4097,4\n", b""],
-        3,
-        "book: line 3: room out of range\n",
-    ),
-    (
-        "run book 0",
-        &[b"book,1\nprocesses,1\nlimits,4,4\n", b""],
-        3,
-        "book: line 4: no account\n",
-    ),
-    (
-        "run book 0",
-        &[b"book,1\nprocesses,1\nlimits,4,4\naccount,1,0,\n", b""],
-        3,
-        "book: line 4: account order\n",
-    ),
-    (
-        "run book 0",
-        &[b"book,1\nprocesses,2\nlimits,4,4\naccount,0,0,0 2\n", b""],
-        3,
-        "book: line 4: owner out of range\n",
-    ),
-    (
-        "run book 0",
-        &[b"book,1\nprocesses,2\nlimits,4,4\naccount,0,0,1 0\n", b""],
-        3,
-        "book: line 4: owners not rising\n",
-    ),
-    (
-        "run book 0",
-        &[
-            b"book,1\nprocesses,9\nlimits,1,1\naccount,0,0,0 1 2 3 4 5 6 7 8\n",
-            b"",
-        ],
-        3,
-        "book: line 4: too many owners\n",
-    ),
-    (
-        "run book 0",
-        &[
-            b"book,1\nprocesses,4\nlimits,1,1024\naccount,0,0,0 1 2 3\naccount,1,0,0 1 2 3\naccount,2,0,0 1 2 3\n",
-            b"",
-        ],
-        3,
-        "book: line 6: rounds over limit\n",
-    ),
-    (
-        "run book 0",
-        &[
-            b"book,1\nprocesses,1\nlimits,4,4\naccount,0,18446744073709551615,0\naccount,1,1,\n",
-            b"",
-        ],
-        3,
-        "book: line 5: total over limit\n",
-    ),
-    (
-        "run book 0 1",
-        &[
-            b"book,2\nprocesses,ann,bob\nlimits,10,10\naccount,ann-cash,100,ann\naccount,joint,50,ann bob\naccount,Shop,0,\n",
-            b"",
-        ],
-        3,
-        "book: line 6: name\n",
-    ),
-    (
-        "run book 0 1",
-        &[
-            b"book,2\nprocesses,ann,bob\nlimits,10,10\naccount,ann-cash,100,ann\naccount,ann-cash,0,\naccount,shop,0,\n",
-            b"",
-        ],
-        3,
-        "book: line 5: name twice\n",
-    ),
-    (
-        "run book 0 1",
-        &[
-            b"book,2\nprocesses,ann,bob\nlimits,10,10\naccount,ann-cash,100,ann\naccount,joint,50,ann carl\naccount,shop,0,\n",
-            b"",
-        ],
-        3,
-        "book: line 5: unknown owner\n",
-    ),
-];
-
-const REFUSED_PAYMENTS: &[Case] = &[
-    (
-        "run book 0",
-        &[ONE, b"transfer,0,1,007\n"],
-        4,
-        "payments 0: line 1: number\n",
-    ),
-    (
-        "run book 0",
-        &[ONE, b"transfer,0,1,+5\n"],
-        4,
-        "payments 0: line 1: number\n",
-    ),
-    (
-        "run book 0",
-        &[ONE, b"transfer,0,1,\n"],
-        4,
-        "payments 0: line 1: number\n",
-    ),
-    (
-        "run book 0",
-        &[ONE, b"transfer,0,1,18446744073709551616\n"],
-        4,
-        "payments 0: line 1: number\n",
-    ),
-    (
-        "run book 0",
-        &[ONE, b"read,\xff\n"],
-        4,
-        "payments 0: line 1: number\n",
-    ),
-    (
-        "run book 0",
-        &[ONE, b"\"transfer\",0,1,30\r\n\r\nread,0\r\nread,9"],
-        4,
-        "payments 0: line 3: unknown account\n",
-    ),
-    (
-        "run book 0 1",
-        &[TWO, b"read,0\nread,9\n", b"pay,1\n"],
-        4,
-        "payments 0: line 2: unknown account\n",
-    ),
-    (
-        "run book 0 1",
-        &[TWO, b"read,0\n", b"pay,1\n"],
-        4,
-        "payments 1: line 1: shape\n",
-    ),
-    (
-        "run book 0 1",
-        &[NAMED, b"pay,ann-cash,shop\n", b""],
-        4,
-        "payments 0: line 1: shape\n",
-    ),
-];
-
-const REFUSED_FILES: &[Case] = &[
-    (
-        "run book 7 8 9",
-        &[TWO, b"", b""],
-        2,
-        "files: wanted 2, given 3\n",
-    ),
-    (
-        "run book",
-        &[TWO, b"", b""],
-        2,
-        "files: wanted 2, given 0\n",
-    ),
-    (
-        "run book 0",
-        &[
-            b"book,1\nprocesses,4\nlimits,1,1024\naccount,0,0,0 1 2 3\naccount,1,0,0 1 2 3\n",
-            b"",
-        ],
-        2,
-        "files: wanted 4, given 1\n",
-    ),
-    (
-        "run book 0",
-        &[b"book,1\nprocesses,16\nlimits,4,4\naccount,0,0,\n", b""],
-        2,
-        "files: wanted 16, given 1\n",
-    ),
-    ("run book 0", &[ONE], 5, "read fault: file 1\n"),
-    ("run book 0 2", &[TWO, b"", b""], 5, "read fault: file 2\n"),
-    (
-        "run nothing 0 1",
-        &[TWO, b"", b""],
-        5,
-        "read fault: file 0\n",
-    ),
-];
-
-const WORDS: &[Case] = &[
-    ("", &[], 2, USAGE),
-    ("run", &[], 2, USAGE),
-    ("runs book 0 1", &[TWO, b"", b""], 2, USAGE),
-    ("--help", &[], 2, USAGE),
-    ("make 7 1 2", &[], 0, SMALL),
-    ("make 7 4 1000", &[], 0, FOUR),
-    ("make 7 4 1000", &[], 0, FOUR),
-    ("make 7 8 1000", &[], 0, EIGHT),
-    ("make 7 8 1000", &[], 0, EIGHT),
-    ("make 7 4 1000000", &[], 2, USAGE),
-    ("make 7 9 2", &[], 2, USAGE),
-    ("make 7 0 2", &[], 2, USAGE),
-    ("make 7 1 0", &[], 2, USAGE),
-    ("make 07 1 2", &[], 2, USAGE),
-    ("make 7 1 2 3", &[], 2, USAGE),
-];
-
-const CROSSED: &[u8] = b"book,1\nprocesses,2\nlimits,4,4\naccount,0,0,0\naccount,1,10,1\n";
-
-const VERIFIES: &[Case] = &[
-    (
-        "verify book 1 0",
-        &[
-            ONE,
-            USUAL,
-            b"journal 3\n0 1 transfer 0 1 30 done\n0 2 read 0 70\n0 3 read 1 30\nbalances 2\n0 70\n1 30\ntotal 100\n",
-        ],
-        0,
-        "verified 3\n",
-    ),
-    (
-        "verify book 1 0",
-        &[
-            ONE,
-            USUAL,
-            b"journal 3\n0 1 transfer 0 1 30 done\n0 2 read 0 71\n0 3 read 1 30\nbalances 2\n0 70\n1 30\ntotal 100\n",
-        ],
-        12,
-        "report: line 3: not legal\n",
-    ),
-    (
-        "verify book 1 0",
-        &[
-            ONE,
-            USUAL,
-            b"journal 3\n0 1 transfer 0 1 30 done\n0 2 read 0 70\n0 3 read 1 30\nbalances 2\n0 70\n1 30\ntotal 100",
-        ],
-        12,
-        "report: line 8: not legal\n",
-    ),
-    (
-        "verify book 1 0",
-        &[ONE, USUAL, b""],
-        12,
-        "report: line 1: not legal\n",
-    ),
-    (
-        "verify book 2 0 1",
-        &[
-            CROSSED,
-            b"transfer,0,1,10\n",
-            b"transfer,1,0,10\n",
-            b"journal 2\n0 1 transfer 0 1 10 done\n1 1 transfer 1 0 10 done\nbalances 2\n0 0\n1 10\ntotal 10\n",
-        ],
-        12,
-        "report: line 2: not legal\n",
-    ),
-    (
-        "verify book 2 0 1",
-        &[
-            NAMED,
-            b"pay,ann-cash,shop,30,joint,20\nread,shop\n",
-            b"",
-            b"journal 2\nann 1 pay ann-cash shop 30 joint 20 done\nann 2 read shop 30\nbalances 3\nann-cash 50\njoint 70\nshop 30\ntotal 150\n",
-        ],
-        0,
-        "verified 2\n",
-    ),
-];
-
-/// Files that are not there: the payments are read before the report.
-const REFUSED_TO_VERIFY: &[Case] = &[
-    ("verify", &[], 2, USAGE),
-    ("verify book", &[ONE], 2, USAGE),
-    (
-        "verify book 0",
-        &[ONE, b""],
-        2,
-        "files: wanted 1, given 0\n",
-    ),
-    ("verify book 1 2", &[ONE], 5, "read fault: file 1\n"),
-    ("verify book 1 0", &[ONE, b""], 5, "read fault: file 2\n"),
-    (
-        "verify book 1 0",
-        &[ONE, b"read,9\n"],
-        4,
-        "payments 0: line 1: unknown account\n",
-    ),
-];
-
-const PAYS_SIXTY: &[u8] = b"send,0,1,60,0,0\n";
-
-const PAYS_FIFTY_BACK: &[u8] = b"send,1,0,50,1,0\n";
-
-const TWO_NODES: &str =
-    "node 0\nvalidated 1 1\n0 90\n1 10\ntotal 100\nnode 1\nvalidated 0 0\n0 100\n1 0\ntotal 100\n";
-
-/// A message before the one that it needs, one that its `deps` don't cover, and deliveries that are repeated.
-const DELIVERS: &[Case] = &[
-    (
-        "deliver book 2 0 1",
-        &[
-            EACH_SENDS,
-            PAYS_SIXTY,
-            PAYS_FIFTY_BACK,
-            b"0,1,0\n0,0,0\n1,1,0\n",
-        ],
-        0,
-        TWO_NODES,
-    ),
-    (
-        "deliver book 2 0 1",
-        &[
-            EACH_SENDS,
-            b"send,0,1,60,0,0\nsend,0,1,41,1,0\n",
-            PAYS_FIFTY_BACK,
-            b"0,1,0\n0,0,0\n1,1,0\n0,0,1\n",
-        ],
-        0,
-        TWO_NODES,
-    ),
-    (
-        "deliver book 2 0 1",
-        &[
-            EACH_SENDS,
-            PAYS_SIXTY,
-            PAYS_FIFTY_BACK,
-            b"0,1,0\n0,1,0\n0,0,0\n1,1,0\n0,0,0\n",
-        ],
-        0,
-        TWO_NODES,
-    ),
-];
-
-/// The messages are read in process order, and before the deliveries.
-const REFUSED_TO_DELIVER: &[Case] = &[
-    ("deliver", &[], 2, USAGE),
-    ("deliver book", &[ONE], 2, USAGE),
-    (
-        "deliver book 0",
-        &[ONE, b""],
-        2,
-        "files: wanted 1, given 0\n",
-    ),
-    (
-        "deliver book 2 0 1",
-        &[EACH_SENDS, PAYS_SIXTY, PAYS_FIFTY_BACK, b"0,0,1\n"],
-        10,
-        "order: line 1: unknown message\n",
-    ),
-    (
-        "deliver book 2 0 1",
-        &[EACH_SENDS, PAYS_SIXTY, b"send,1,0,50,1\n", b"0,0,1\n"],
-        11,
-        "messages 1: line 1: shape\n",
-    ),
-    (
-        "deliver book 2 0 1",
-        &[EACH_SENDS, PAYS_SIXTY, PAYS_FIFTY_BACK],
-        5,
-        "read fault: file 3\n",
-    ),
-];
-
-/// The files of these contents: `book`, `0`, `1` and `2`.
+/// The files of these contents: `book`, `0`, `1`, `2` and `3`.
 fn files_of(alloc: Global, contents: &[&[u8]]) -> Result<Vec<(String, Vec<u8>)>, AllocError> {
     let mut files = Vec::new(alloc);
-    for (name, bytes) in ["book", "0", "1", "2"].iter().zip(contents) {
+    for (name, bytes) in ["book", "0", "1", "2", "3"].iter().zip(contents) {
         let name = String::from_str(alloc, name)?;
         files.push((name, Vec::from_slice(alloc, bytes)?))?;
     }
@@ -569,7 +43,8 @@ fn answer<R: Threads + Sync>(
 ) -> Result<(Status, MemorySink), AllocError> {
     let words = words_of(alloc, words)?;
     let mut err = MemorySink::new(alloc, 256)?;
-    let status = serve(rt, alloc, words.as_slice(), shelf, out, &mut err);
+    let words = words.as_slice();
+    let status = serve(rt, alloc, words, shelf, out, &mut err, &OpenGate, &mut None);
     Ok((status, err))
 }
 
@@ -680,11 +155,6 @@ fn refused_to_deliver(rt: HostRuntime) -> Result<(), Fail> {
     Ok(())
 }
 
-const EITHER_ORDER: [&str; 2] = [
-    "journal 2\n0 1 transfer 0 1 30 done\n1 1 transfer 1 0 20 done\nbalances 2\n0 90\n1 110\ntotal 200\n",
-    "journal 2\n1 1 transfer 1 0 20 done\n0 1 transfer 0 1 30 done\nbalances 2\n0 90\n1 110\ntotal 200\n",
-];
-
 /// Two processes that move money between each other are reported in one of both orders.
 #[test]
 fn two_processes_in_either_order(rt: HostRuntime) -> Result<(), Fail> {
@@ -694,6 +164,101 @@ fn two_processes_in_either_order(rt: HostRuntime) -> Result<(), Fail> {
         .iter()
         .any(|text| written.taken() == text.as_bytes());
     assert!(rt; status == 0 && good);
+    Ok(())
+}
+
+/// Whether a run's report ends as it has to, and `verify` takes it.
+fn is_verified<R: Threads + Sync>(
+    rt: &R,
+    alloc: Global,
+    run: &Verified,
+) -> Result<bool, AllocError> {
+    let (words, verify_words, contents, end, text) = run;
+    let (status, report) = answer_over(rt, alloc, words, contents)?;
+    if status != 0 || !report.taken().ends_with(end.as_bytes()) {
+        return Ok(false);
+    }
+    let mut all = Vec::from_slice(alloc, contents)?;
+    all.push(report.taken())?;
+    is_answered(rt, alloc, verify_words, all.as_slice(), 0, text)
+}
+
+#[test]
+fn runs_are_verified(rt: HostRuntime) -> Result<(), Fail> {
+    for run in VERIFIED_RUNS {
+        assert!(rt; is_verified(&rt, rt.alloc(), run)?, "{}", run.3);
+    }
+    Ok(())
+}
+
+/// How often a process looks for another before it goes on without it.
+const LOOKS: u64 = 200_000_000;
+
+/// A gate at which each of four processes waits for the other three before its first call. It notes how often one went on alone.
+#[derive(Drop)]
+struct Crowd {
+    here: [AtomicBool; 4],
+    missed: AtomicU64,
+}
+
+impl Crowd {
+    fn new() -> Crowd {
+        Crowd {
+            here: [
+                AtomicBool::new(false),
+                AtomicBool::new(false),
+                AtomicBool::new(false),
+                AtomicBool::new(false),
+            ],
+            missed: AtomicU64::new(0),
+        }
+    }
+
+    /// Looks for a process until it is there. Its thread may have no processor meanwhile, so this one yields now and then.
+    fn look_for(&self, process: &AtomicBool) {
+        for look in 0..LOOKS {
+            if process.load(Ordering::SeqCst) {
+                return;
+            }
+            if look % 65_536 == 0 {
+                yield_now();
+            }
+        }
+        self.missed.fetch_add(1, Ordering::SeqCst);
+    }
+}
+
+impl Gate for Crowd {
+    fn pass(&self, process: u32, line: u32) {
+        if line != 1 {
+            return;
+        }
+        if let Some(own) = self.here.get(process as usize) {
+            own.store(true, Ordering::SeqCst);
+        }
+        for other in &self.here {
+            self.look_for(other);
+        }
+    }
+
+    fn answered(&self, _process: u32, _line: u32, _reply: &Reply) {}
+}
+
+/// The four processes of `make` run at once: each waits at its first call until all are there. The closed ledger is kept.
+#[test]
+fn four_processes_meet(rt: HostRuntime) -> Result<(), Fail> {
+    let alloc = rt.alloc();
+    let words = words_of(alloc, "make 7 4 2")?;
+    let mut shelf = MemoryShelf::new(Vec::new(alloc), Vec::new(alloc));
+    let mut out = MemorySink::new(alloc, 1_000)?;
+    let mut err = MemorySink::new(alloc, 256)?;
+    let (crowd, mut kept) = (Crowd::new(), None);
+    let words = words.as_slice();
+    let status = serve(
+        &rt, alloc, words, &mut shelf, &mut out, &mut err, &crowd, &mut kept,
+    );
+    assert!(rt; status == Status::Done && kept.is_some());
+    assert_eq!(rt; crowd.missed.load(Ordering::SeqCst), 0);
     Ok(())
 }
 
