@@ -1,7 +1,10 @@
-//! Reads a book and payment files with `csv`, and makes the calls over a vector of balances. For files of the
-//! stated forms it prints what the proved program prints. It checks nothing that it doesn't need.
+//! Reads a book and payment files with `csv`, and makes the calls over a vector of balances under one mutex, by a thread
+//! for each process. For files of the stated forms it prints what the proved program prints, but that the calls of
+//! different processes may stand in another order. It checks nothing that it doesn't need.
 //!
 //!     plain run BOOK PAY...       reads the files, makes the calls, and prints the report
+//!     plain accept BOOK REPORT PAY...
+//!                                 makes the calls again in the order of a report, and accepts it if it is that run's
 //!     plain check BOOK PAY...     reads the files, and prints how many calls they have
 //!     plain records BOOK PAY...   reads the records alone, and prints how many there are
 //!     plain named BOOK PAY...     reads a book with names and its pay-outs, and prints how many calls there are
@@ -10,7 +13,8 @@ use csv::{ByteRecord, Reader, ReaderBuilder};
 use std::collections::HashMap;
 use std::error::Error;
 use std::io::Write;
-use std::{env, fs, io, str};
+use std::sync::Mutex;
+use std::{env, fs, io, str, thread};
 
 type Outcome<T> = Result<T, Box<dyn Error>>;
 
@@ -325,40 +329,102 @@ impl Text {
     }
 }
 
-/// Makes the calls of each file in turn, and writes a line for each, and then the balances.
-fn report(book: &Book, files: &[Vec<Call>]) -> Text {
-    let mut state = State::new(book);
-    let mut text = Text::default();
-    let calls: usize = files.iter().map(Vec::len).sum();
-    text.word("journal ").number(calls as u64).word("\n");
-    for (process, file) in files.iter().enumerate() {
-        for (i, call) in file.iter().enumerate() {
-            let reply = state.step(book, process, call);
-            text.number(process as u64).word(" ").number(i as u64 + 1);
-            text.call(call).reply(&reply);
+/// The calls that were made: of each its process, its place in that one's file, and the reply; and the state after them.
+struct Run {
+    state: State,
+    lines: Vec<(usize, usize, Reply)>,
+}
+
+impl Run {
+    fn new(book: &Book, calls: usize) -> Run {
+        Run {
+            state: State::new(book),
+            lines: Vec::with_capacity(calls),
         }
     }
+
+    fn make(&mut self, book: &Book, process: usize, place: usize, call: &Call) {
+        let reply = self.state.step(book, process, call);
+        self.lines.push((process, place, reply));
+    }
+}
+
+fn calls_in(files: &[Vec<Call>]) -> usize {
+    files.iter().map(Vec::len).sum()
+}
+
+/// Makes the calls of all files at once, each file's by a thread.
+fn run(book: &Book, files: &[Vec<Call>]) -> Outcome<Run> {
+    let shared = Mutex::new(Run::new(book, calls_in(files)));
+    thread::scope(|threads| {
+        for (process, file) in files.iter().enumerate() {
+            let shared = &shared;
+            threads.spawn(move || {
+                for (place, call) in file.iter().enumerate() {
+                    shared.lock().unwrap().make(book, process, place, call);
+                }
+            });
+        }
+    });
+    Ok(shared.into_inner()?)
+}
+
+/// Makes the calls again in the order in which a report has their processes.
+fn replay(book: &Book, files: &[Vec<Call>], report: &[u8]) -> Outcome<Run> {
+    let calls = calls_in(files);
+    let mut made = vec![0; files.len()];
+    let mut run = Run::new(book, calls);
+    for line in report.split(|byte| *byte == b'\n').skip(1).take(calls) {
+        let process = number(line.split(|byte| *byte == b' ').next().ok_or("a line is empty")?)? as usize;
+        let place = *made.get(process).ok_or("a process is unknown")?;
+        let call = files[process].get(place).ok_or("a process has more calls than its file")?;
+        made[process] += 1;
+        run.make(book, process, place, call);
+    }
+    Ok(run)
+}
+
+/// A line for each call in the order in which they were made, and then the balances.
+fn report(book: &Book, files: &[Vec<Call>], run: &Run) -> Text {
+    let mut text = Text::default();
+    text.word("journal ").number(run.lines.len() as u64).word("\n");
+    for (process, place, reply) in &run.lines {
+        text.number(*process as u64).word(" ").number(*place as u64 + 1);
+        text.call(&files[*process][*place]).reply(reply);
+    }
     text.word("balances ").number(book.accounts.len() as u64).word("\n");
-    for (account, balance) in state.balances.iter().enumerate() {
+    for (account, balance) in run.state.balances.iter().enumerate() {
         text.number(account as u64).word(" ").number(*balance).word("\n");
     }
-    text.word("total ").number(state.balances.iter().sum()).word("\n");
+    text.word("total ").number(run.state.balances.iter().sum()).word("\n");
     text
+}
+
+/// Says how many calls a report has, if it is the report of a run in its order.
+fn accepted(book: &str, report_name: &str, payments: &[String]) -> Outcome<Text> {
+    let book = read_book(&fs::read(book)?)?;
+    let files = read_files(payments)?;
+    let given = fs::read(report_name)?;
+    if report(&book, &files, &replay(&book, &files, &given)?).bytes != given {
+        return Err("the report is not one of a run of the files".into());
+    }
+    let mut text = Text::default();
+    text.word("accepted ").number(calls_in(&files) as u64).word("\n");
+    Ok(text)
 }
 
 fn checked(book: &Book, files: &[Vec<Call>]) -> Text {
     let mut text = Text::default();
-    let calls: usize = files.iter().map(Vec::len).sum();
     text.word("checked ").number(book.processes as u64);
     text.word(" ").number(book.accounts.len() as u64);
-    text.word(" ").number(calls as u64).word("\n");
+    text.word(" ").number(calls_in(files) as u64).word("\n");
     text
 }
 
 fn main() -> Outcome<()> {
     let words: Vec<String> = env::args().skip(1).collect();
     let [command, names @ ..] = words.as_slice() else {
-        return Err("plain run|check|records|named BOOK PAY...".into());
+        return Err("plain run|check|records|named BOOK PAY..., or accept BOOK REPORT PAY...".into());
     };
     let [book, payments @ ..] = names else {
         return Err("a book is missing".into());
@@ -370,10 +436,16 @@ fn main() -> Outcome<()> {
             text
         }
         "named" => checked_named(book, payments)?,
+        "accept" => {
+            let [report, payments @ ..] = payments else {
+                return Err("a report is missing".into());
+            };
+            accepted(book, report, payments)?
+        }
         command => {
             let book = read_book(&fs::read(book)?)?;
             let files = read_files(payments)?;
-            if command == "run" { report(&book, &files) } else { checked(&book, &files) }
+            if command == "run" { report(&book, &files, &run(&book, &files)?) } else { checked(&book, &files) }
         }
     };
     io::stdout().write_all(&text.bytes)?;
