@@ -92,6 +92,47 @@ make_named() {
         }'
 }
 
+# Makes a book of 16 processes and 16 accounts of eight owners each, and 1,024 calls for each process: pay-outs from the
+# accounts that it shares, and now and then a read. All its requests on each of these are used.
+make_shared() {
+    mkdir -p -- "$1"
+    awk -v folder="$1" '
+        function draw(below) { x = x * 16807 % 2147483647; return x % below }
+        BEGIN {
+            x = 20190729
+            file = folder "/book.csv"
+            print "book,1\nprocesses,16\nlimits,4096,64" > file
+            for (a = 0; a < 16; a++) print "account," a ",1000000000," (a % 2 ? "8 9 10 11 12 13 14 15" : "0 1 2 3 4 5 6 7") > file
+            close(file)
+            for (p = 0; p < 16; p++) {
+                file = folder "/pay" p ".csv"
+                for (i = 0; i < 1024; i++) {
+                    if (i % 2) print "read," draw(16) > file
+                    else print "transfer," 2 * (int(i / 2) % 8) + (p >= 8) "," draw(16) "," 1 + draw(1000000) > file
+                }
+                close(file)
+            }
+        }'
+}
+
+# Makes a book of 16 processes that each own an account, and 16,384 calls for each of them: all read account 0, whose owner
+# pays from it in every fourth call.
+make_one_read() {
+    mkdir -p -- "$1"
+    awk -v folder="$1" '
+        BEGIN {
+            file = folder "/book.csv"
+            print "book,1\nprocesses,16\nlimits,4096,64" > file
+            for (a = 0; a < 16; a++) print "account," a ",1000000000," a > file
+            close(file)
+            for (p = 0; p < 16; p++) {
+                file = folder "/pay" p ".csv"
+                for (i = 0; i < 16384; i++) print (p == 0 && i % 4 == 0 ? "transfer,0,1,1" : "read,0") > file
+                close(file)
+            }
+        }'
+}
+
 # The payment files of a folder, in process order.
 payments_of() {
     local p
@@ -125,18 +166,37 @@ milliseconds() {
     awk -v a="${best[$1]}" 'BEGIN { printf "%.1f ms", a / 1000 }'
 }
 
-# Both programs print the same of a folder.
+# Both programs print the same of `check`, and the plain one accepts the report of both for a run of a folder.
 compare() {
-    local job
-    payments_of "$1" "$2"
-    for job in run check; do
-        "$proved" "$job" "$2/book.csv" "${payments[@]}" >"$work/proved.text"
-        "$plain" "$job" "$2/book.csv" "${payments[@]}" >"$work/plain.text"
-        cmp -- "$work/proved.text" "$work/plain.text" || { echo "the programs differ at $job" >&2; exit 1; }
-        if [ "$job" = run ]; then
-            echo "$1 processes: same report of $(wc -c <"$work/proved.text") bytes and $(wc -l <"$work/proved.text") lines"
-        fi
+    local program
+    payments_of 16 "$2"
+    [ "$1" = 8 ] && payments_of 8 "$2"
+    for program in "$proved" "$plain"; do
+        "$program" run "$2/book.csv" "${payments[@]}" >"$work/$(basename -- "$program").report"
+        "$plain" accept "$2/book.csv" "$work/$(basename -- "$program").report" "${payments[@]}" >"$work/accepted"
     done
+    cmp <("$proved" check "$2/book.csv" "${payments[@]}") <("$plain" check "$2/book.csv" "${payments[@]}") || { echo "the programs differ at check" >&2; exit 1; }
+    echo "$1: $(cat "$work/accepted") calls, a report of $(wc -c <"$work/$(basename -- "$proved").report") bytes"
+}
+
+# Runs a book by both programs in turns.
+run_named() {
+    local turn
+    payments_of 16 "$2"
+    for ((turn = 0; turn < turns; turn++)); do
+        keep_best "proved $1" "$proved" run "$2/book.csv" "${payments[@]}"
+        keep_best "plain $1" "$plain" run "$2/book.csv" "${payments[@]}"
+    done
+    echo "$1: proved $(milliseconds "proved $1"), plain $(milliseconds "plain $1"), proved to plain $(ratio "proved $1" "plain $1")"
+}
+
+# Where the instructions of a run go, if valgrind is there.
+count_instructions() {
+    command -v valgrind >/dev/null || return 0
+    payments_of 16 "$work/input16"
+    valgrind --tool=callgrind --callgrind-out-file="$work/calls" "$proved" run "$work/input16/book.csv" "${payments[@]}" >/dev/null 2>&1
+    callgrind_annotate --inclusive=yes --threshold=100 "$work/calls" >"$work/counted"
+    grep -E 'at_program..loading..load$|at_workers..play..play_one|at_journal..journal|at_report..run_report..report' "$work/counted" | head -n 8
 }
 
 take_turns() {
@@ -207,7 +267,13 @@ for n in 8 16; do
     make_input "$n" "$work/input$n" 16384
     compare "$n" "$work/input$n"
 done
+make_shared "$work/shared"
+compare "much sharing" "$work/shared"
+make_one_read "$work/one_read"
+compare "one account read" "$work/one_read"
 take_turns
+run_named "much sharing" "$work/shared"
+run_named "one account read" "$work/one_read"
 for n in 8 16; do
     echo "$n processes, run: proved $(milliseconds "proved run $n"), plain $(milliseconds "plain run $n")"
     echo "$n processes, check: proved $(milliseconds "proved check $n"), plain $(milliseconds "plain check $n"), records alone $(milliseconds "plain records $n")"

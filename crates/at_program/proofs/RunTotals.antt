@@ -21,7 +21,7 @@ use Rattle.at_ledger.specs.declared.call.Reply.TheVariants.{Done, Full, NotOwner
 use Rattle.at_log.specs.ClosingTerms.{ClosingTerms}
 use Rattle.at_log.specs.JournalOrder.{journal_lines}
 use Rattle.at_object.specs.Closings.{ClosedTerms}
-use Rattle.at_program.specs.Running.{lines_in}
+use Rattle.at_program.specs.Running.{journal_of}
 use Rattle.at_verify.specs.Right.{IsPlayable}
 
 -- the lines of a whole list name accounts of the book, where all calls of the files do
@@ -125,26 +125,26 @@ sum-last_state b processes lines known =
 
 -- the lines of a closed ledger's journal, where there is memory for it
 
-IsLineOn-lines_in : (closed : ClosedTerms) (closing : ClosingTerms) (lines : List Line) → closing ≡ closed.closing
+IsLineOn-journal_of : (closed : ClosedTerms) (closing : ClosingTerms) (lines : List Line) → closing ≡ closed.closing
     → length (calls_in closed.closing) ≡ closed.book.processes → All (IsPlayable (length closed.book.accounts)) (calls_in closed.closing)
-    → lines ≡ journal_lines closing → Whole (calls_in closing) lines → All (IsLineOn closed.book.processes (length closed.book.accounts)) (lines_in closed)
-IsLineOn-lines_in closed closing lines is count known lines_are whole =
-    let here : lines ≡ lines_in closed = lines_are ∙ ap journal_lines is in
-    IsLineOn-Whole (length closed.book.accounts) closed.book.processes (calls_in closed.closing) (lines_in closed)
+    → lines ≡ journal_lines closing → Whole (calls_in closing) lines → All (IsLineOn closed.book.processes (length closed.book.accounts)) (journal_of closed)
+IsLineOn-journal_of closed closing lines is count known lines_are whole =
+    let here : lines ≡ journal_of closed = lines_are ∙ ap journal_lines is in
+    IsLineOn-Whole (length closed.book.accounts) closed.book.processes (calls_in closed.closing) (journal_of closed)
     (subst (Whole (calls_in closed.closing)) here (subst (λ (c : ClosingTerms). Whole (calls_in c) lines) is whole)) count
     (λ p d within. (known p d within).known)
 
 pub IsLineOn-journal : (result : Result (Vec Line Global) AllocError) (closed : ClosedTerms) (closing : ClosingTerms) → closing ≡ closed.closing
     → length (calls_in closed.closing) ≡ closed.book.processes → All (IsPlayable (length closed.book.accounts)) (calls_in closed.closing)
     → IfOk result (λ lines. lines.items ≡ journal_lines closing) → IfOk result (λ lines. Whole (calls_in closing) lines.items)
-    → IfOk result (λ _. All (IsLineOn closed.book.processes (length closed.book.accounts)) (lines_in closed))
-IsLineOn-journal (Ok lines) closed closing is count known lines_are whole = IsLineOn-lines_in closed closing lines.items is count known lines_are whole
+    → IfOk result (λ _. All (IsLineOn closed.book.processes (length closed.book.accounts)) (journal_of closed))
+IsLineOn-journal (Ok lines) closed closing is count known lines_are whole = IsLineOn-journal_of closed closing lines.items is count known lines_are whole
 IsLineOn-journal (Err error) closed closing is count known lines_are whole = tt
 
 pub sum-journal : (result : Result (Vec Line Global) AllocError) (closed : ClosedTerms) (closing : ClosingTerms) → closing ≡ closed.closing
     → length (calls_in closed.closing) ≡ closed.book.processes → All (IsPlayable (length closed.book.accounts)) (calls_in closed.closing)
     → IfOk result (λ lines. lines.items ≡ journal_lines closing) → IfOk result (λ lines. Whole (calls_in closing) lines.items)
-    → IfOk result (λ _. sum (last_state closed.book (lines_in closed)).balances ≡ total_of closed.book)
+    → IfOk result (λ _. sum (last_state closed.book (journal_of closed)).balances ≡ total_of closed.book)
 sum-journal (Ok lines) closed closing is count known lines_are whole =
-    sum-last_state closed.book closed.book.processes (lines_in closed) (IsLineOn-lines_in closed closing lines.items is count known lines_are whole)
+    sum-last_state closed.book closed.book.processes (journal_of closed) (IsLineOn-journal_of closed closing lines.items is count known lines_are whole)
 sum-journal (Err error) closed closing is count known lines_are whole = tt

@@ -9,7 +9,7 @@ use Rattle.at_report.specs.FaultText.{fault_line}
 use Rattle.at_report.specs.declared.status.Status.{Status}
 use Rattle.at_report.specs.Report.{report_text, checked_line}
 use Rattle.at_program.specs.Loading.{Files, Loaded, Spelled, loaded}
-use Rattle.at_program.specs.Running.{IsRunOf, lines_in}
+use Rattle.at_program.specs.Running.{IsClosedAfter, journal_of}
 use Rattle.at_program.specs.Words.{Form}
 use Rattle.at_program.specs.declared.words.Command.{Command}
 use Rattle.at_program.specs.declared.words.Command.TheVariants.{Run, Check}
@@ -17,11 +17,11 @@ use Rattle.at_program.specs.declared.words.Command.TheVariants.{Run, Check}
 -- the text is the report of the journal of a closed ledger on which the files' calls were made: one legal run of them, each process's
 -- once and in file order. The balances that it prints are the run's last, and their sum is that of the openings
 pub record ReportsRun (l : Loaded) (closed : ClosedTerms) (text : List ℕ) : Type 0 where
-  pub run : IsRunOf l.book l.files closed
-  pub whole : Whole l.files (lines_in closed)
-  pub legal : Legal l.book (lines_in closed)
-  pub total : sum (last_state l.book (lines_in closed)).balances ≡ total_of l.book
-  pub printed : text ≡ report_text l.book l.names (lines_in closed)
+  pub run : IsClosedAfter l.book l.files closed
+  pub whole : Whole l.files (journal_of closed)
+  pub legal : Legal l.book (journal_of closed)
+  pub total : sum (last_state l.book (journal_of closed)).balances ≡ total_of l.book
+  pub printed : text ≡ report_text l.book l.names (journal_of closed)
 
 -- what a command prints of what was loaded, and the closed ledger that it keeps
 abbrev pub Prints : Command → Loaded → Option ClosedTerms → List ℕ → Type 0

@@ -12,7 +12,7 @@ use Rattle.at_ledger.specs.declared.call.Reply.TheVariants.{Done}
 use Rattle.at_object.specs.Closings.{ClosedTerms}
 use Rattle.at_report.specs.Summary.{is_read, summary_of, summary_text}
 use Rattle.at_program.specs.Generator.{book_made, files_made}
-use Rattle.at_program.specs.Running.{IsRunOf, lines_in}
+use Rattle.at_program.specs.Running.{IsClosedAfter, journal_of}
 use Rattle.at_program.specs.declared.words.Making.{Making}
 
 -- what the call brings to the account once it is done
@@ -72,10 +72,10 @@ pub record IsMade (first processes calls : ℕ) (text : List ℕ) : Type 0 where
 
 -- a closed ledger is kept on which the calls that three numbers give were made. Its journal is one legal run of them, and the text of
 -- `make` is that run's summary
-pub record SumsRun (m : Making) (kept : Option ClosedTerms) : Type 0 where
+pub record SummarizesRun (m : Making) (kept : Option ClosedTerms) : Type 0 where
   pub closed : ClosedTerms
   pub is_kept : kept ≡ Some closed
-  pub run : IsRunOf (book_made m.processes m.calls) (files_made m.first m.processes m.calls) closed
-  pub whole : Whole (files_made m.first m.processes m.calls) (lines_in closed)
-  pub legal : Legal (book_made m.processes m.calls) (lines_in closed)
-  pub summed : made m.first m.processes m.calls ≡ summary_text (book_made m.processes m.calls) (lines_in closed) m.first m.calls
+  pub run : IsClosedAfter (book_made m.processes m.calls) (files_made m.first m.processes m.calls) closed
+  pub whole : Whole (files_made m.first m.processes m.calls) (journal_of closed)
+  pub legal : Legal (book_made m.processes m.calls) (journal_of closed)
+  pub summed : made m.first m.processes m.calls ≡ summary_text (book_made m.processes m.calls) (journal_of closed) m.first m.calls

@@ -12,14 +12,14 @@ use Rattle.at_workers.specs.Jobs.{IsReady, JobTerms}
 
 -- the calls of the files were made on the closed ledger, and no others: it has a receipt for each call of each process's file, in the
 -- order of the file. Its closing is coherent
-pub record IsRunOf (b : BookTerms) (files : List (List Call)) (closed : ClosedTerms) : Type 0 where
+pub record IsClosedAfter (b : BookTerms) (files : List (List Call)) (closed : ClosedTerms) : Type 0 where
   pub book_is : closed.book ≡ b
   pub calls_are : calls_in closed.closing ≡ files
   pub coherent : Coherent closed.book closed.closing
 
 -- the lines of its journal
-abbrev pub lines_in : ClosedTerms → List Line
-lines_in closed = journal_lines closed.closing
+abbrev pub journal_of : ClosedTerms → List Line
+journal_of closed = journal_lines closed.closing
 
 -- a job for each process, in order, with the calls of its file to make on the ledger
 pub record AreJobsFor (ledger : BoardTerms) (files : List (List Call)) (jobs : List JobTerms) : Type 0 where

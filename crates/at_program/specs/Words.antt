@@ -104,7 +104,7 @@ AskToDeliver words asked = deliver_of (words_of words) ≡ Some asked
 abbrev pub delivering_shown : delivering.Delivering → Delivering
 delivering_shown asked = record { book = asked.book.now; order = asked.order.now; messages = words_of asked.messages.now }
 
--- the words ask for no run of files: they have the form of `check`, or none of files and not that of `make`
+-- the words ask for no run: they have neither the form of `run` nor that of `make`
 pub record AskForNoRun (words : List (String Global)) : Type 0 where
   pub checks : (form : Form) → HaveForm words form → form.command ≡ Check
   pub makes_none : make_of (words_of words) ≡ None

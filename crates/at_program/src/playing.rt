@@ -7,7 +7,7 @@ ghost use Rattle.at_ledger.specs.Book.{total_of};
 ghost use Rattle.at_ledger.specs.Call.{IsLineOn};
 ghost use Rattle.at_ledger.specs.Run.{Legal, Whole, last_state};
 ghost use Rattle.at_object.specs.Passes.{AreNewPasses};
-ghost use Rattle.at_program.specs.Running.{AreJobsFor, IsRunOf, lines_in};
+ghost use Rattle.at_program.specs.Running.{AreJobsFor, IsClosedAfter, journal_of};
 ghost use Rattle.at_verify.specs.Right.{IsPlayable, files_in};
 ghost use Rattle.at_workers.specs.Jobs.{IsReady, JobTerms, Ran};
 
@@ -86,7 +86,7 @@ pub fn play<R: Threads + Sync, G: Gate + Sync>(
 ) -> Result<Closed, NoMemory>
     requires count { length files.items ≡ book.now.processes }
     requires known { All (IsPlayable (length book.now.accounts)) (files_in files.items) }
-    ensures { IfOk result (IsRunOf book.now (files_in files.items)) }
+    ensures { IfOk result (IsClosedAfter book.now (files_in files.items)) }
 {
     let (ledger, passes) = Ledger::new(alloc, book)?;
     let mut jobs = jobs_for(alloc, &ledger, passes, files)?;
@@ -99,17 +99,17 @@ pub fn play<R: Threads + Sync, G: Gate + Sync>(
 }
 
 /// The journal of a closed ledger on which files were run.
-pub fn lines_of(alloc: Global, closed: &Closed) -> Result<Vec<Line>, NoMemory>
+pub fn journal_of(alloc: Global, closed: &Closed) -> Result<Vec<Line>, NoMemory>
     requires count { length (calls_in closed.now.closing) ≡ closed.now.book.processes }
     requires known { All (IsPlayable (length closed.now.book.accounts)) (calls_in closed.now.closing) }
-    ensures lines { IfOk result (λ lines. lines.items ≡ lines_in closed.now) }
-    ensures whole { IfOk result (λ _. Whole (calls_in closed.now.closing) (lines_in closed.now)) }
-    ensures legal { IfOk result (λ _. Legal closed.now.book (lines_in closed.now)) }
+    ensures lines { IfOk result (λ lines. lines.items ≡ journal_of closed.now) }
+    ensures whole { IfOk result (λ _. Whole (calls_in closed.now.closing) (journal_of closed.now)) }
+    ensures legal { IfOk result (λ _. Legal closed.now.book (journal_of closed.now)) }
     ensures on { IfOk result
         (λ _. All (IsLineOn closed.now.book.processes (length closed.now.book.accounts))
-        (lines_in closed.now)) }
+        (journal_of closed.now)) }
     ensures total { IfOk result
-        (λ _. sum (last_state closed.now.book (lines_in closed.now)).balances
+        (λ _. sum (last_state closed.now.book (journal_of closed.now)).balances
         ≡ total_of closed.now.book) }
 {
     journal(alloc, closed.book(), closed.closing())

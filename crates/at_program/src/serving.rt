@@ -7,7 +7,7 @@ ghost use Rattle.at_io.specs.Shelf.{SameFiles};
 ghost use Rattle.at_io.specs.Sink.{TakesPrefix};
 ghost use Rattle.at_program.specs.Words.{AskForNoRun, AskToDeliver, AskToMake, AskToVerify, Delivering, HaveForm, Form, Verifying, deliver_of, form_of, form_shown, make_of, verify_of, words_of};
 ghost use Rattle.at_program.specs.Generator.{MayMake};
-ghost use Rattle.at_program.specs.Made.{IsMade, SumsRun, made};
+ghost use Rattle.at_program.specs.Made.{IsMade, SummarizesRun, made};
 ghost use Rattle.at_program.specs.declared.words.Making.{Making};
 ghost use Rattle.at_verify.specs.Right.{IsPlayable, files_in};
 ghost use Rattle.at_program.specs.Loading.{Loaded, MayReach, Spelled, loaded, loaded_shown};
@@ -20,7 +20,7 @@ ghost use Rattle.at_program.specs.Answer.{Prints, PrintsSpelled, TookAll, TookPr
 use crate::delivering::answer_deliver;
 use crate::generating::{Made, generate};
 use crate::loading::{self, load};
-use crate::playing::{lines_of, play};
+use crate::playing::{journal_of, play};
 use crate::verifying::answer_verify;
 use crate::words::{self, Command, Making, form_of, what_to_deliver, what_to_make, what_to_verify};
 use at_io::{Shelf, Sink, put_all};
@@ -54,7 +54,7 @@ fn run_text<R: Threads + Sync, G: Gate + Sync>(
 {
     let loading::Loaded { book, names, files } = loaded;
     let closed = play(rt, alloc, &book, files, gate)?;
-    let lines = lines_of(alloc, &closed)?;
+    let lines = journal_of(alloc, &closed)?;
     let text = report(alloc, &book, &names, lines.as_slice())?;
     Ok(Printed {
         text,
@@ -101,6 +101,8 @@ fn files_text<R: Threads + Sync, F: Shelf, G: Gate + Sync>(
     ensures printed { F.tells shelf.old ≡ true
         → IfOk result
         (λ p. PrintsSpelled (F.file shelf.old) (form_shown form.now) p.closed p.text.items) }
+    ensures prints { IfOk result
+        (λ p. (l : Loaded) × Prints form.now.command l p.closed p.text.items) }
     ensures checks { form.now.command ≡ Command.Check → IfOk result (λ p. p.closed ≡ None) }
     ensures err { IfErr result
         (λ refusal. MayRefuse (F.tells shelf.old) (loaded (F.file shelf.old) (form_shown form.now))
@@ -166,7 +168,10 @@ fn answer<R: Threads + Sync, F: Shelf, O: Sink, G: Gate + Sync>(
     ensures numbered { HasFileNumbers (length form.now.payments.now) result }
     ensures loads { F.tells shelf.old ≡ true → (result ≡ Status.Done) ⊎ (result ≡ Status.WriteFault)
         → (l : Loaded) × (loaded (F.file shelf.old) (form_shown form.now) ≡ Ok l) }
-    ensures ran { F.tells shelf.old ≡ true → (result ≡ Status.Done) ⊎ (result ≡ Status.WriteFault)
+    ensures ran { (result ≡ Status.Done) ⊎ (result ≡ Status.WriteFault)
+        → (l : Loaded) × (text : List ℕ) × Prints form.now.command l kept.new text }
+    ensures ran_spelled { F.tells shelf.old ≡ true
+        → (result ≡ Status.Done) ⊎ (result ≡ Status.WriteFault)
         → (text : List ℕ) × PrintsSpelled (F.file shelf.old) (form_shown form.now) kept.new text }
     ensures checks { form.now.command ≡ Command.Check → kept.new ≡ None }
     ensures untouched { result ≢ Status.Done → result ≢ Status.WriteFault
@@ -195,11 +200,11 @@ fn made_text<R: Threads + Sync, G: Gate + Sync>(
         (λ p. p.text.items ≡ made making.first making.processes making.calls) }
     ensures all { IfOk result
         (λ p. IsMade making.first making.processes making.calls p.text.items) }
-    ensures ran { IfOk result (λ p. SumsRun making p.closed) }
+    ensures ran { IfOk result (λ p. SummarizesRun making p.closed) }
 {
     let Made { book, files } = generate(alloc, making.first, making.processes, making.calls)?;
     let closed = play(rt, alloc, &book, files, gate)?;
-    let lines = lines_of(alloc, &closed)?;
+    let lines = journal_of(alloc, &closed)?;
     let text = summary(alloc, &book, lines.as_slice(), making.first, making.calls)?;
     Ok(Printed {
         text,
@@ -234,7 +239,7 @@ fn answer_made<R: Threads + Sync, O: Sink, G: Gate + Sync>(
     ensures answers { (m : Making) → AskToMake words.now m
         → (result ≡ Status.Done) ⊎ ((result ≡ Status.WriteFault) ⊎ (result ≡ Status.NoMemory)) }
     ensures ran { (m : Making) → AskToMake words.now m
-        → (result ≡ Status.Done) ⊎ (result ≡ Status.WriteFault) → SumsRun m kept.new }
+        → (result ≡ Status.Done) ⊎ (result ≡ Status.WriteFault) → SummarizesRun m kept.new }
     ensures untouched { result ≢ Status.Done → result ≢ Status.WriteFault
         → (out.new ≡ out.old) × (kept.new ≡ None) }
 {
@@ -254,8 +259,9 @@ fn answer_made<R: Threads + Sync, O: Sink, G: Gate + Sync>(
 /// Does all that the program does: reads the files that the words name, one after another, or makes the calls that
 /// they ask for, and writes the command's text to `out`, or the line of the first refusal to `err`. The whole text is
 /// made before the first write. `words` are those after the program's name. `run` and `make` make the calls of all
-/// processes at once on one ledger, each process's in a thread of its own, and leave that ledger, closed, in `kept`; the
-/// gate is told of each call. The work grows with the bytes of the files, or with the calls that are made.
+/// processes at once on one ledger, by a thread for each process where threads can be had; the gate is told of each call.
+/// Under `Done` and a write fault they leave that ledger, closed, in `kept`. The work grows with the bytes of the files, or
+/// with the calls that are made.
 pub fn serve<R: Threads + Sync, F: Shelf, O: Sink, E: Sink, G: Gate + Sync>(
     rt: &R,
     alloc: Global,
@@ -292,13 +298,19 @@ pub fn serve<R: Threads + Sync, F: Shelf, O: Sink, E: Sink, G: Gate + Sync>(
     ensures loads { (form : Form) → HaveForm words.now form → F.tells shelf.old ≡ true
         → (result ≡ Status.Done) ⊎ (result ≡ Status.WriteFault)
         → (l : Loaded) × (loaded (F.file shelf.old) form ≡ Ok l) }
-    ensures ran { (form : Form) → HaveForm words.now form → F.tells shelf.old ≡ true
+    ensures ran_spelled { (form : Form) → HaveForm words.now form → F.tells shelf.old ≡ true
         → (result ≡ Status.Done) ⊎ (result ≡ Status.WriteFault)
         → (text : List ℕ) × PrintsSpelled (F.file shelf.old) form kept.new text }
 
-    // No ledger is kept where nothing was run, or nothing is said of the run.
-    ensures unrun { AskForNoRun words.now → kept.new ≡ None }
-    ensures untold { result ≢ Status.Done → result ≢ Status.WriteFault → kept.new ≡ None }
+    // Also where the shelf doesn't tell its files, the closed ledger is one on which the files that were read were run.
+    ensures ran { (form : Form) → HaveForm words.now form
+        → (result ≡ Status.Done) ⊎ (result ≡ Status.WriteFault)
+        → (l : Loaded) × (text : List ℕ) × Prints form.command l kept.new text }
+
+    // No ledger is kept where the words ask for no run, nor under any answer but `Done` and a write fault.
+    ensures kept_of_no_run { AskForNoRun words.now → kept.new ≡ None }
+    ensures kept_of_refusal { result ≢ Status.Done → result ≢ Status.WriteFault
+        → kept.new ≡ None }
 
     // Of the words of `make`, all bytes that were taken are the text of the three numbers. It is the summary of every
     // legal run of their calls, whatever its order, and in each of these every transfer is done.
@@ -308,7 +320,7 @@ pub fn serve<R: Threads + Sync, F: Shelf, O: Sink, E: Sink, G: Gate + Sync>(
     ensures made_all { (m : Making) → AskToMake words.now m → result ≡ Status.Done
         → IsMade m.first m.processes m.calls (made m.first m.processes m.calls) }
     ensures made_ran { (m : Making) → AskToMake words.now m
-        → (result ≡ Status.Done) ⊎ (result ≡ Status.WriteFault) → SumsRun m kept.new }
+        → (result ≡ Status.Done) ⊎ (result ≡ Status.WriteFault) → SummarizesRun m kept.new }
     ensures made_prefix { (m : Making) → AskToMake words.now m → result ≡ Status.WriteFault
         → O.tells out.old ≡ true
         → TakesPrefix (O.taken out.old) (O.taken out.new) (made m.first m.processes m.calls) }

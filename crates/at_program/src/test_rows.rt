@@ -44,7 +44,7 @@ pub(crate) const FOUR: &str =
 pub(crate) const EIGHT: &str =
     "made 7 8 1000\ndone 5959\nread 2041\nbalances 9\n0 104854\n1 106530\n2 111048\n3 107857\n4 108286\n5 109196\n6 108862\n7 109538\n8 733829\ntotal 1600000\n";
 
-/// A case: the words, the files `book`, `0`, `1` and `2` as far as they are there, the status and the text.
+/// A case: the words, the files `book`, `0`, `1`, `2` and `3` as far as they are there, the status and the text.
 pub(crate) type Case = (&'static str, &'static [&'static [u8]], u8, &'static str);
 
 pub(crate) const RUNS: &[Case] = &[

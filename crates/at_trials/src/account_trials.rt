@@ -25,7 +25,7 @@ use std::sync::ledger::{Blank, Ledger};
 use std::thread::{Threads, join_mut};
 
 /// How often each thread calls.
-const CALLS: u32 = 512;
+pub(crate) const CALLS: u32 = 512;
 
 /// What the shared account 0 opens with.
 const SHARED: u64 = 100;
@@ -37,10 +37,10 @@ const SINGLE: u64 = 300;
 const ACCOUNTS: [(u64, &[u64]); 3] = [(SHARED, &[0, 1]), (0, &[]), (SINGLE, &[2])];
 
 /// What a thread answers: its receipts, or none where a call couldn't be made.
-type Receipts = Option<Vec<Receipt>>;
+pub(crate) type Receipts = Option<Vec<Receipt>>;
 
 /// A book of four processes with these accounts.
-fn crowd_book(alloc: Global) -> Option<Book> {
+pub(crate) fn crowd_book(alloc: Global) -> Option<Book> {
     let mut accounts = Vec::new(alloc);
     for (opening, owners) in ACCOUNTS.as_slice() {
         let owners = owners.to_vec(alloc).ok()?;
@@ -57,7 +57,7 @@ fn crowd_book(alloc: Global) -> Option<Book> {
 }
 
 /// Whether the seat's process shares account 0, and has asked for nothing there.
-fn begins_sharing(board: &Board, seat: &BoardSeat) -> bool
+pub(crate) fn begins_sharing(board: &Board, seat: &BoardSeat) -> bool
     requires { IsIdle board.now seat.now }
     ensures { IsTrue result → HasAllSettled board.now.book seat.now.knows 0 }
 {
@@ -145,7 +145,7 @@ fn read<L: Ledger, X: Ledger>(
 }
 
 /// Pays from the shared account beside the other threads.
-fn pay_shared_often<L: Ledger, X: Ledger>(
+pub(crate) fn pay_shared_often<L: Ledger, X: Ledger>(
     board: &Board,
     alloc: Global,
     seat: &mut BoardSeat,
@@ -172,7 +172,7 @@ fn pay_shared_often<L: Ledger, X: Ledger>(
 }
 
 /// Pays from the single account beside the other threads.
-fn pay_own_often<L: Ledger, X: Ledger>(
+pub(crate) fn pay_own_often<L: Ledger, X: Ledger>(
     board: &Board,
     alloc: Global,
     seat: &mut BoardSeat,
@@ -196,7 +196,7 @@ fn pay_own_often<L: Ledger, X: Ledger>(
 }
 
 /// Reads one account after another beside the other threads.
-fn read_often<L: Ledger, X: Ledger>(
+pub(crate) fn read_often<L: Ledger, X: Ledger>(
     board: &Board,
     alloc: Global,
     seat: &mut BoardSeat,
@@ -316,7 +316,7 @@ fn call_all<R: Threads + Sync>(
 }
 
 /// The four seats of a new board.
-fn seats_of(
+pub(crate) fn seats_of(
     board: &Board,
     seats: &mut Vec<BoardSeat>,
 ) -> Option<(BoardSeat, BoardSeat, BoardSeat, BoardSeat)>

@@ -20,4 +20,6 @@ mod shared_trials;
 #[cfg(test)]
 mod single_trials;
 #[cfg(test)]
+mod stopping_trials;
+#[cfg(test)]
 mod traffic_trials;

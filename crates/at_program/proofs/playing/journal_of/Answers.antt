@@ -3,7 +3,7 @@ use Rattle.at_journal.specs.Calls.{calls_in}
 use Rattle.at_log.specs.ClosingTerms.{ClosingTerms}
 use Rattle.at_program.proofs.JobsRun.{few-calls_in}
 use Rattle.at_program.proofs.RunTotals.{IsLineOn-journal, sum-journal}
-use Rattle.at_program.proofs.playing.lines_of.Goals as goal
+use Rattle.at_program.proofs.playing.journal_of.Goals as goal
 use Rattle.at_verify.specs.Right.{IsPlayable}
 
 pub journal-requires-clause-few : goal.journal-requires-clause-few

@@ -1,0 +1,154 @@
+//! A process that stops for good in the middle of a call holds up no other.
+
+ghost use Rattle.std.specs.Prelude.{◌≡◌, ◌<◌, IfSome};
+ghost use Rattle.at_players.specs.SmallBoard.{IsIdle};
+ghost use Rattle.at_trials.specs.SmallCrowd.{IsAtRest, IsSharer};
+
+use crate::account_trials::{
+    CALLS, Receipts, begins_sharing, crowd_book, pay_own_often, pay_shared_often, read_often,
+    seats_of,
+};
+use crate::fold_trials::new_totals;
+use at_board::{Board, BoardSeat, Steps};
+use at_fold::Totals;
+use at_ledger::Call;
+use at_log::At;
+use at_players::boards::slot_on;
+use at_shared::Helping;
+use std::alloc::Global;
+use std::marker::Brand;
+use std::process::Abort;
+use std::sync::ledger::{Blank, Ledger};
+use std::thread::{Threads, join_mut};
+
+/// Asks for 1 from account 0 and collects the other owners' requests, if the seat's process has a slot and room there, and stops: the
+/// request waits, and its owner never turns.
+fn ask_and_stop<L: Ledger, X: Ledger>(
+    board: &Board,
+    seat: &mut BoardSeat,
+    totals: &mut Totals,
+    steps: &mut Steps<L>,
+    exchanges: &mut Steps<X>,
+) -> Option<()>
+    requires sharer { IsSharer board.now seat.old totals.old }
+{
+    let _slot = slot_on(board.book(), 0, seat.process())?;
+    if board.book().request_room() <= board.announced(seat, 0) || board.book().accounts() < 2 {
+        return None;
+    }
+    let call = Call::Transfer {
+        from: 0,
+        to: 1,
+        amount: 1,
+    };
+    let _waiting = Helping::start(board, seat, totals, 0, &call, steps, exchanges);
+    Some(())
+}
+
+/// Begins a payment from account 0 with counters of its own, and stops in the middle.
+fn stop<L: Ledger, X: Ledger>(
+    board: &Board,
+    alloc: Global,
+    seat: &mut BoardSeat,
+    steps: Blank,
+    exchanges: Blank,
+) -> Option<()>
+    requires names { (steps.name ≡ L.name) × (exchanges.name ≡ X.name) }
+    requires parts { (steps.parts ≡ L.parts) × (exchanges.parts ≡ X.parts) }
+    requires some { (0 < steps.parts) × (0 < exchanges.parts) }
+    requires idle { IsIdle board.now seat.old }
+{
+    let (steps, exchanges) = (&mut Steps::<L>::new(steps), &mut Steps::<X>::new(exchanges));
+    let mut totals = new_totals(alloc, board)?;
+    if !begins_sharing(board, seat) {
+        return None;
+    }
+    ask_and_stop(board, seat, &mut totals, steps, exchanges)
+}
+
+/// Begins a payment, and stops in the middle.
+fn stop_alone(board: &Board, alloc: Global, seat: &mut BoardSeat) -> Option<()>
+    requires idle { IsIdle board.now seat.old }
+{
+    stop::<Brand, Brand>(board, alloc, seat, Blank::new(1), Blank::new(1))
+}
+
+/// Pays from the shared account.
+fn share(board: &Board, alloc: Global, seat: &mut BoardSeat) -> Receipts
+    requires idle { IsIdle board.now seat.old }
+{
+    pay_shared_often::<Brand, Brand>(board, alloc, seat, Blank::new(1), Blank::new(1))
+}
+
+/// Pays from the single account.
+fn own(board: &Board, alloc: Global, seat: &mut BoardSeat) -> Receipts
+    requires idle { IsIdle board.now seat.old }
+{
+    pay_own_often::<Brand, Brand>(board, alloc, seat, Blank::new(1), Blank::new(1))
+}
+
+/// Reads.
+fn read(board: &Board, alloc: Global, seat: &mut BoardSeat) -> Receipts
+    requires idle { IsIdle board.now seat.old }
+{
+    read_often::<Brand, Brand>(board, alloc, seat, Blank::new(1), Blank::new(1))
+}
+
+/// A thread pays from the single account, and another reads.
+fn own_and_read<R: Threads>(
+    rt: &R,
+    board: &Board,
+    alloc: Global,
+    two: &mut BoardSeat,
+    three: &mut BoardSeat,
+) -> (Receipts, Receipts)
+    requires two { IsIdle board.now two.old }
+    requires three { IsIdle board.now three.old }
+{
+    join_mut(
+        rt,
+        &mut || own(board, alloc, two),
+        &mut || read(board, alloc, three),
+    )
+}
+
+/// Whether there is a receipt for each call.
+fn are_all(receipts: &Receipts) -> bool {
+    match receipts {
+        Some(receipts) => receipts.len() == CALLS as usize,
+        None => false,
+    }
+}
+
+/// Whether the first receipt stands in round 1: round 0 went to the request that waits.
+fn is_after_the_first_round(receipts: &Receipts) -> bool {
+    let Some(receipts) = receipts else {
+        return false;
+    };
+    match receipts.first() {
+        Some(receipt) => matches!(receipt.at, At::Round { round: 1, .. }),
+        None => false,
+    }
+}
+
+/// Process 0 stops in the middle of a payment. Then all others make their calls at once, and each of them ends. The request that waits
+/// is decided first, by the other owner.
+fn go_on<R: Threads + Sync + Abort>(rt: &R, alloc: Global) {
+    let book = crowd_book(alloc).expect(rt, "a book");
+    let (board, mut seats) = Board::new(alloc, &book).expect(rt, "a board");
+    let (mut zero, mut one, mut two, mut three) =
+        seats_of(&board, &mut seats).expect(rt, "seats");
+    assert!(rt; stop_alone(&board, alloc, &mut zero).is_some());
+    let (shared, (owned, reads)) = join_mut(
+        rt,
+        &mut || share(&board, alloc, &mut one),
+        &mut || own_and_read(rt, &board, alloc, &mut two, &mut three),
+    );
+    assert!(rt; are_all(&shared) && are_all(&owned) && are_all(&reads));
+    assert!(rt; is_after_the_first_round(&shared));
+}
+
+#[test]
+fn a_process_that_stops_holds_up_no_other(rt: HostRuntime) {
+    go_on(&rt, rt.alloc());
+}
