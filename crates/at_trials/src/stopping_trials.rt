@@ -1,8 +1,8 @@
 //! A process that stops for good in the middle of a call holds up no other.
 
-ghost use Rattle.std.specs.Prelude.{◌≡◌, ◌<◌, IfSome};
+ghost use Rattle.std.specs.Prelude.{◌≡◌, ◌<◌};
 ghost use Rattle.at_players.specs.SmallBoard.{IsIdle};
-ghost use Rattle.at_trials.specs.SmallCrowd.{IsAtRest, IsSharer};
+ghost use Rattle.at_trials.specs.SmallCrowd.{IsSharer};
 
 use crate::account_trials::{
     CALLS, Receipts, begins_sharing, crowd_book, pay_own_often, pay_shared_often, read_often,
@@ -32,8 +32,10 @@ fn ask_and_stop<L: Ledger, X: Ledger>(
 ) -> Option<()>
     requires sharer { IsSharer board.now seat.old totals.old }
 {
-    let _slot = slot_on(board.book(), 0, seat.process())?;
-    if board.book().request_room() <= board.announced(seat, 0) || board.book().accounts() < 2 {
+    let book = board.book();
+    // A process with a slot may ask there.
+    let _slot = slot_on(book, 0, seat.process())?;
+    if book.request_room() <= board.announced(seat, 0) || book.accounts() < 2 {
         return None;
     }
     let call = Call::Transfer {
@@ -112,6 +114,26 @@ fn own_and_read<R: Threads>(
     )
 }
 
+/// All but process 0 call at once.
+fn others_call<R: Threads + Sync>(
+    rt: &R,
+    board: &Board,
+    alloc: Global,
+    one: &mut BoardSeat,
+    two: &mut BoardSeat,
+    three: &mut BoardSeat,
+) -> (Receipts, (Receipts, Receipts))
+    requires one { IsIdle board.now one.old }
+    requires two { IsIdle board.now two.old }
+    requires three { IsIdle board.now three.old }
+{
+    join_mut(
+        rt,
+        &mut || share(board, alloc, one),
+        &mut || own_and_read(rt, board, alloc, two, three),
+    )
+}
+
 /// Whether there is a receipt for each call.
 fn are_all(receipts: &Receipts) -> bool {
     match receipts {
@@ -136,14 +158,9 @@ fn is_after_the_first_round(receipts: &Receipts) -> bool {
 fn go_on<R: Threads + Sync + Abort>(rt: &R, alloc: Global) {
     let book = crowd_book(alloc).expect(rt, "a book");
     let (board, mut seats) = Board::new(alloc, &book).expect(rt, "a board");
-    let (mut zero, mut one, mut two, mut three) =
-        seats_of(&board, &mut seats).expect(rt, "seats");
+    let (mut zero, mut one, mut two, mut three) = seats_of(&board, &mut seats).expect(rt, "seats");
     assert!(rt; stop_alone(&board, alloc, &mut zero).is_some());
-    let (shared, (owned, reads)) = join_mut(
-        rt,
-        &mut || share(&board, alloc, &mut one),
-        &mut || own_and_read(rt, &board, alloc, &mut two, &mut three),
-    );
+    let (shared, (owned, reads)) = others_call(rt, &board, alloc, &mut one, &mut two, &mut three);
     assert!(rt; are_all(&shared) && are_all(&owned) && are_all(&reads));
     assert!(rt; is_after_the_first_round(&shared));
 }
