@@ -12,6 +12,8 @@ mod fold_trials;
 #[cfg(test)]
 mod log_trials;
 #[cfg(test)]
+mod overtaking_trials;
+#[cfg(test)]
 mod payers;
 #[cfg(test)]
 mod scan_trials;

@@ -27,10 +27,10 @@ use std::process::Abort;
 use std::sync::ledger::{Blank, Ledger};
 
 /// What a call answers, and its round and place.
-type InRound = Option<(Reply, u32, u32)>;
+pub(crate) type InRound = Option<(Reply, u32, u32)>;
 
 /// What a receipt answers, and its round and place.
-fn in_round(receipt: &Receipt) -> InRound {
+pub(crate) fn in_round(receipt: &Receipt) -> InRound {
     match &receipt.at {
         At::Round { round, place } => Some((receipt.reply, *round, *place)),
         _ => None,
@@ -315,7 +315,7 @@ fn later_rounds_are_published(rt: HostRuntime) {
 }
 
 /// A request of a payment of 10 from account 0 to account 1, if the seat's process may ask for it.
-fn asks<L: Ledger, X: Ledger>(
+pub(crate) fn asks<L: Ledger, X: Ledger>(
     board: &Board,
     seat: &mut BoardSeat,
     totals: &mut Totals,
@@ -339,7 +339,7 @@ fn asks<L: Ledger, X: Ledger>(
 }
 
 /// What a turn answers where it settles the request, and its round and place.
-fn turns<L: Ledger, X: Ledger>(
+pub(crate) fn turns<L: Ledger, X: Ledger>(
     helping: &mut Helping,
     board: &Board,
     seat: &mut BoardSeat,
@@ -350,6 +350,8 @@ fn turns<L: Ledger, X: Ledger>(
     requires seat { IsOf seat.old board.now }
     requires totals { HasCounted totals.old board.now.book seat.old.knows.seen }
     requires helping { IsHelping board.now.book seat.old.knows helping.old }
+    ensures counted { HasCounted totals.new board.now.book seat.new.knows.seen }
+    ensures board { IsOf seat.new board.now }
 {
     match helping.turn(board, seat, totals, steps, exchanges) {
         HelpTurn::Settled(receipt) => in_round(&receipt),
@@ -358,7 +360,7 @@ fn turns<L: Ledger, X: Ledger>(
 }
 
 /// Whether a turn answers that another request was decided.
-fn turns_more<L: Ledger, X: Ledger>(
+pub(crate) fn turns_more<L: Ledger, X: Ledger>(
     helping: &mut Helping,
     board: &Board,
     seat: &mut BoardSeat,
