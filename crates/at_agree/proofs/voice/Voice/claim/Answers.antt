@@ -1,0 +1,64 @@
+use Rattle.std.proofs.Common.{◌≡◌, ◌+◌, ◌*◌, ◌<◌, List, ap, arith, length, rules, subst, ◌∙◌}
+use Rattle.std.specs.Vec.{vec_capacity}
+use Rattle.at_ledger.specs.declared.call.Call.TheVariants.{Transfer}
+use Rattle.at_log.specs.Receipts.{asks_in}
+use Rattle.at_log.specs.declared.receipt.Receipt.{Receipt}
+use Rattle.at_object.specs.Passes.{IsPassOf, PassTerms, newly_counted}
+use Rattle.at_agree.specs.Council.{shared_account, spent_account}
+use Rattle.at_agree.specs.Plan.{HasAsked}
+use Rattle.at_agree.specs.Voices.{VoiceTerms, process_of}
+use Rattle.at_agree.proofs.VoiceCalls.{HasAsked-claimed, IsVoice-made, in_book, known_in, payment_steps-shared, slots_of-council}
+use Rattle.at_agree.proofs.voice.Voice.claim.Goals as goal
+
+pub transfer-asked-requires-clause-from : goal.transfer-asked-requires-clause-from
+transfer-asked-requires-clause-from g c =
+    in_book c.args.ledger.now c.args.size (2 * c.args.size) c.requires.council c.requires.size (omega arith)
+
+pub transfer-asked-requires-clause-to : goal.transfer-asked-requires-clause-to
+transfer-asked-requires-clause-to g c =
+    in_book c.args.ledger.now c.args.size (2 * c.args.size + 1) c.requires.council c.requires.size (omega arith)
+
+pub invariant_of-self : goal.invariant_of-self
+invariant_of-self g c =
+    let was : IsPassOf c.self.inside.pass c.args.ledger.now = search rules in
+    let more : length c.self.inside.receipts.items < 4 = search rules in
+    IsVoice-made c.args.ledger.now c.self.inside.pass c.transfer-asked.new.pass c.self.inside.receipts.items
+    c.push_reserved.new.self.items c.transfer-asked.result (vec_capacity c.self.inside.receipts)
+    (vec_capacity c.push_reserved.new.self) was c.transfer-asked.ensures.pass c.self.invariant more c.transfer-asked.ensures.stands
+    c.transfer-asked.ensures.calls c.transfer-asked.ensures.process c.push_reserved.ensures.items c.push_reserved.ensures.capacity
+
+pub returns-clause-asked : goal.returns-clause-asked
+returns-clause-asked g c =
+    let council = c.args.ledger.now in
+    let before : PassTerms = c.self.inside.pass in
+    let after : PassTerms = c.transfer-asked.new.pass in
+    let earlier : List Receipt = c.self.inside.receipts.items in
+    let r : Receipt = c.transfer-asked.result in
+    let voice : VoiceTerms = record { pass = before; receipts = earlier } in
+    let was : IsPassOf before council = search rules in
+    let unasked : asks_in (shared_account c.args.size) earlier ≡ 0 = search rules in
+    let p = c.process.result in
+    let known = known_in council voice (vec_capacity c.self.inside.receipts) c.args.size p c.requires.size c.process.ensures was c.self.invariant in
+    let asked : HasAsked c.args.size after.knows.seen p =
+    HasAsked-claimed council before after c.args.size p r earlier c.requires.council c.requires.size known c.process.ensures
+    (c.transfer-asked.ensures.call ∙ ap (λ n. Transfer (shared_account c.args.size) (spent_account c.args.size) n) c.from-claim.ensures) unasked (c.transfer-asked.ensures.placed earlier c.self.invariant.stands) in
+    subst (HasAsked c.args.size after.knows.seen) (c.process.ensures ∙ ap (λ (v : VoiceTerms). process_of v) c.self.view_is) asked
+
+pub returns-clause-steps : goal.returns-clause-steps
+returns-clause-steps g c =
+    let new = ap (λ (v : VoiceTerms). newly_counted v.pass c.transfer-asked.new.pass) c.self.view_is in
+    omega (
+      arith,
+      c.transfer-asked.ensures.steps,
+      new,
+      payment_steps-shared c.args.ledger.now c.args.size c.requires.council c.requires.size,
+    )
+
+pub returns-clause-exchanges : goal.returns-clause-exchanges
+returns-clause-exchanges g c =
+    omega (
+      arith,
+      c.transfer-asked.ensures.exchanges,
+      c.transfer-asked.ensures.decides,
+      slots_of-council c.args.ledger.now c.args.size c.requires.council c.requires.size,
+    )

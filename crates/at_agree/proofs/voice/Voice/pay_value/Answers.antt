@@ -1,0 +1,68 @@
+use Rattle.std.proofs.Common.{◌≡◌, ◌+◌, ◌<◌, List, [], ap, arith, length, rules, subst, ◌∙◌}
+use Rattle.std.specs.Vec.{vec_capacity}
+use Rattle.at_log.specs.declared.receipt.Receipt.{Receipt}
+use Rattle.at_object.specs.Passes.{IsPassOf, PassTerms, Stands, newly_counted}
+use Rattle.at_agree.specs.Plan.{HasProposed}
+use Rattle.at_agree.specs.Voices.{VoiceTerms, process_of}
+use Rattle.at_agree.proofs.VoiceCalls.{HasProposed-paid, IsVoice-made, in_book, is_shared-own, known_in, payment_steps-own}
+use Rattle.at_agree.proofs.voice.Voice.pay_value.Goals as goal
+
+pub transfer-paid-requires-clause-to : goal.transfer-paid-requires-clause-to
+transfer-paid-requires-clause-to g c =
+    let voice : VoiceTerms = record { pass = c.self.inside.pass; receipts = c.self.inside.receipts.items } in
+    let was : IsPassOf c.self.inside.pass c.args.ledger.now = search rules in
+    let known = known_in c.args.ledger.now voice (vec_capacity c.self.inside.receipts) c.args.size c.process-process.result
+    c.requires.size c.process-process.ensures was c.self.invariant in
+    in_book c.args.ledger.now c.args.size (c.args.size + c.process-process.result) c.requires.council c.requires.size (omega (arith, known))
+
+pub invariant_of-self : goal.invariant_of-self
+invariant_of-self g c =
+    let was : IsPassOf c.self.inside.pass c.args.ledger.now = search rules in
+    let none : c.self.inside.receipts.items ≡ [] = search rules in
+    let more : length c.self.inside.receipts.items < 4 = omega (arith, ap (λ (rs : List Receipt). length rs) none) in
+    IsVoice-made c.args.ledger.now c.self.inside.pass c.transfer-paid.new.pass c.self.inside.receipts.items
+    c.push_reserved.new.self.items c.transfer-paid.result (vec_capacity c.self.inside.receipts)
+    (vec_capacity c.push_reserved.new.self) was c.transfer-paid.ensures.pass c.self.invariant more c.transfer-paid.ensures.stands
+    c.transfer-paid.ensures.calls c.transfer-paid.ensures.process c.push_reserved.ensures.items c.push_reserved.ensures.capacity
+
+pub returns-clause-proposed : goal.returns-clause-proposed
+returns-clause-proposed g c =
+    let council = c.args.ledger.now in
+    let before : PassTerms = c.self.inside.pass in
+    let after : PassTerms = c.transfer-paid.new.pass in
+    let r : Receipt = c.transfer-paid.result in
+    let voice : VoiceTerms = record { pass = before; receipts = c.self.inside.receipts.items } in
+    let was : IsPassOf before council = search rules in
+    let none : c.self.inside.receipts.items ≡ [] = search rules in
+    let known = known_in council voice (vec_capacity c.self.inside.receipts) c.args.size c.process-process.result
+    c.requires.size c.process-process.ensures was c.self.invariant in
+    let empty : Stands before [] = subst (λ (rs : List Receipt). Stands before rs) none c.self.invariant.stands in
+    let proposed : HasProposed c.args.size after.knows.seen c.process-process.result c.args.value =
+    HasProposed-paid council before after c.args.size c.process-process.result r c.args.value c.requires.council c.requires.size known
+    c.requires.value c.process-process.ensures c.transfer-paid.ensures.process c.transfer-paid.ensures.call
+    (c.transfer-paid.ensures.placed [] empty) (c.transfer-paid.ensures.stands [] empty) c.transfer-paid.ensures.alone in
+    subst (λ p. HasProposed c.args.size after.knows.seen p c.args.value)
+    (c.process-process.ensures ∙ ap (λ (v : VoiceTerms). process_of v) c.self.view_is) proposed
+
+pub returns-clause-steps : goal.returns-clause-steps
+returns-clause-steps g c =
+    let voice : VoiceTerms = record { pass = c.self.inside.pass; receipts = c.self.inside.receipts.items } in
+    let was : IsPassOf c.self.inside.pass c.args.ledger.now = search rules in
+    let known = known_in c.args.ledger.now voice (vec_capacity c.self.inside.receipts) c.args.size c.process-process.result
+    c.requires.size c.process-process.ensures was c.self.invariant in
+    let new = ap (λ (v : VoiceTerms). newly_counted v.pass c.transfer-paid.new.pass) c.self.view_is in
+    omega (
+      arith,
+      c.transfer-paid.ensures.steps,
+      new,
+      payment_steps-own c.args.ledger.now c.args.size c.process-process.result c.requires.council c.requires.size known,
+    )
+
+pub returns-clause-exchanges : goal.returns-clause-exchanges
+returns-clause-exchanges g c =
+    let voice : VoiceTerms = record { pass = c.self.inside.pass; receipts = c.self.inside.receipts.items } in
+    let was : IsPassOf c.self.inside.pass c.args.ledger.now = search rules in
+    let known = known_in c.args.ledger.now voice (vec_capacity c.self.inside.receipts) c.args.size c.process-process.result
+    c.requires.size c.process-process.ensures was c.self.invariant in
+    c.transfer-paid.ensures.exchanges_single
+    (is_shared-own c.args.ledger.now c.args.size c.process-process.result c.requires.council c.requires.size known)

@@ -1,0 +1,60 @@
+-- What an agreement leaves, and what its threads leave on the way there.
+use Rattle.std.specs.Prelude.{◌≡◌, ℕ, ◌^◌, ◌<◌, List, length, map, slice_index, slice_index_or, All, Contains}
+use Rattle.at_board.specs.Knowledge.Seats.{BoardTerms}
+use Rattle.at_log.specs.ClosingTerms.{receipts_of}
+use Rattle.at_log.specs.Coherent.{Coherent}
+use Rattle.at_object.specs.Closings.{ClosedTerms}
+use Rattle.at_object.specs.Passes.{Stands}
+use Rattle.at_agree.specs.Council.{council_book, size_of}
+use Rattle.at_agree.specs.Plan.{HasVoted}
+use Rattle.at_agree.specs.Voices.{HasNotProposed, IsVoiceOf, process_of}
+use Rattle.at_agree.specs.declared.proposals.Proposal.{Proposal}
+
+-- the closed ledger is that of a council of as many processes as there are values. Each process has made its four calls with its
+-- value, the answer of each is this one value, and it is one of the values
+pub record IsAgreement (values : List ℕ) (closed : ClosedTerms) (value : ℕ) : Type 0 where
+  pub book_is : closed.book ≡ council_book (length values)
+  pub coherent : Coherent closed.book closed.closing
+  pub votes : (p : ℕ) → p < length values → HasVoted (length values) p (slice_index values p) value (receipts_of closed.closing p)
+  pub proposed : Contains values value
+
+-- the voice of a proposal can propose its value to the council
+pub record IsReady (council : BoardTerms) (x : Proposal) : Type 0 where
+  pub of_council : IsVoiceOf x.voice council
+  pub unproposed : HasNotProposed x.voice
+  pub small : x.value < 2 ^ 32
+
+-- it has proposed it, and kept the answer
+pub record IsMade (council : BoardTerms) (before after : Proposal) : Type 0 where
+  pub process_is : process_of after.voice ≡ process_of before.voice
+  pub value_is : after.value ≡ before.value
+  pub of_council : IsVoiceOf after.voice council
+  pub voted : HasVoted (size_of council) (process_of before.voice) before.value after.answer after.voice.receipts
+
+-- the values of proposals
+abbrev pub values_of : List Proposal → List ℕ
+values_of proposals = map (λ x. x.value) proposals
+
+-- one proposal of each process with its value, in order, and none is made yet
+pub record AreReady (council : BoardTerms) (values : List ℕ) (proposals : List Proposal) : Type 0 where
+  pub ready : All (IsReady council) proposals
+  pub count : length proposals ≡ size_of council
+  pub values_are : values_of proposals ≡ values
+  pub processes : (p : ℕ) (d : Proposal) → p < size_of council → process_of (slice_index_or proposals p d).voice ≡ p
+
+-- process p has proposed
+pub record IsMadeBy (council : BoardTerms) (p : ℕ) (x : Proposal) : Type 0 where
+  pub process_is : process_of x.voice ≡ p
+  pub of_council : IsVoiceOf x.voice council
+  pub voted : HasVoted (size_of council) p x.value x.answer x.voice.receipts
+
+-- all processes have, each with a value of its own
+pub record AreMade (council : BoardTerms) (proposals : List Proposal) : Type 0 where
+  pub count : length proposals ≡ size_of council
+  pub small : All (λ x. x.value < 2 ^ 32) proposals
+  pub each : (p : ℕ) (d : Proposal) → p < size_of council → IsMadeBy council p (slice_index_or proposals p d)
+
+-- the receipts of a proposal's voice account for its pass
+pub record StandsByItself (x : Proposal) : Type 0 where
+  pub stands : Stands x.voice.pass x.voice.receipts
+  pub counted : x.voice.pass.calls ≡ length x.voice.receipts

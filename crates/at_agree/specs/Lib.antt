@@ -1,0 +1,4 @@
+pub mod Council
+pub mod Voices
+pub mod Plan
+pub mod Agreement

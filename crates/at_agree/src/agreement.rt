@@ -1,0 +1,80 @@
+//! The agreement of all voices of one council.
+
+ghost use Rattle.std.specs.Prelude.{◌≡◌, ◌<◌, ◌^◌, All, IfOk, length, map};
+ghost use Rattle.std.specs.List.{AllZip};
+ghost use Rattle.at_agree.specs.Agreement.{AreMade, IsAgreement, IsMade, IsReady, StandsByItself, values_of};
+ghost use Rattle.at_agree.specs.Council.{IsSize};
+
+use crate::NoMemory;
+use crate::council::Council;
+use crate::halves::propose_all;
+use crate::proposals::{Proposal, proposals_of};
+use at_log::Receipt;
+use at_object::{Closed, Pass};
+use std::alloc::{AllocError, Global};
+use std::thread::Threads;
+
+/// The value that all processes agreed on, and what is left of their ledger, in which each of their calls stands.
+#[derive(Drop)]
+pub struct Agreed {
+    pub value: u64,
+    pub closed: Closed,
+}
+
+/// Each value is proposed by a process of its own, by threads: the voices are halved until each branch has one. All processes get
+/// one answer, which is one of the values. The closed ledger shows it, whatever the threads' steps were.
+pub fn agree<R: Threads + Sync>(rt: &R, alloc: Global, values: &[u64]) -> Result<Agreed, NoMemory>
+    requires size { IsSize (length values.now) }
+    requires small { All (λ v. v < 2 ^ 32) values.now }
+    ensures { IfOk result (λ a. IsAgreement values.now a.closed a.value) }
+{
+    let (council, voices) = Council::new(alloc, values.len() as u32)?;
+    let mut proposals = proposals_of(alloc, &council, voices, values)?;
+    propose_list(rt, &council, &mut proposals);
+    close(alloc, council, proposals)
+}
+
+/// Makes all proposals, by threads.
+fn propose_list<R: Threads + Sync>(rt: &R, council: &Council, proposals: &mut Vec<Proposal>)
+    requires { All (IsReady council.now) proposals.old.items }
+    ensures { AllZip (IsMade council.now) proposals.old.items proposals.new.items }
+{
+    propose_all(rt, council, proposals.as_mut_slice());
+}
+
+/// Closes the council's ledger with all passes and receipts. The answer is that of process 0, and of all others.
+fn close(alloc: Global, council: Council, proposals: Vec<Proposal>) -> Result<Agreed, NoMemory>
+    requires some { 0 < length proposals.items }
+    requires made { AreMade council proposals.items }
+    ensures { IfOk result (λ a. IsAgreement (values_of proposals.items) a.closed a.value) }
+{
+    let value = proposals[0].answer;
+    let (passes, receipts) = parted(alloc, proposals)?;
+    match council.ledger.close(alloc, passes, receipts) {
+        Ok(closed) => {
+            closed.book().known();
+            Ok(Agreed { value, closed })
+        }
+        Err(_refused) => Err(AllocError),
+    }
+}
+
+/// The passes and the receipts of all processes.
+fn parted(
+    alloc: Global,
+    proposals: Vec<Proposal>,
+) -> Result<(Vec<Pass>, Vec<Vec<Receipt>>), NoMemory>
+    ensures passes { IfOk result (λ r. r.0.items ≡ map (λ x. x.voice.pass) proposals.items) }
+    ensures receipts { IfOk result (λ r. map (λ v. v.items) r.1.items
+        ≡ map (λ x. x.voice.receipts) proposals.items) }
+    ensures stands { IfOk result (λ r. All StandsByItself proposals.items) }
+{
+    let mut passes = Vec::with_capacity(alloc, proposals.len())?;
+    let mut receipts = Vec::with_capacity(alloc, proposals.len())?;
+    for proposal in proposals {
+        let (pass, told) = proposal.voice.split();
+        passes.push(pass)?;
+        receipts.push(told)?;
+    }
+    Ok((passes, receipts))
+}

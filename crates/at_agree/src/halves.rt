@@ -1,0 +1,54 @@
+//! All proposals, made by threads.
+
+ghost use Rattle.std.specs.Prelude.{◌<◌, length, All};
+ghost use Rattle.std.specs.List.{AllZip};
+ghost use Rattle.std.specs.Thread.{IsSync};
+ghost use Rattle.at_agree.specs.Agreement.{IsMade, IsReady};
+
+use crate::council::Council;
+use crate::proposals::{Proposal, propose_one};
+use std::thread::{Threads, join_mut};
+
+/// Makes these proposals: of one alone in this thread, of more by their halves.
+#[cycle(halves)]
+#[tactic(auto, using(crate::proofs::Zipped::all_zip_append))]
+pub(crate) fn propose_all<R: Threads + Sync>(rt: &R, council: &Council, proposals: &mut [Proposal])
+    requires { All (IsReady council.now) proposals.old }
+    ensures { AllZip (IsMade council.now) proposals.old proposals.new }
+{
+    match proposals {
+        [] => {}
+        [proposal] => propose_one(council, proposal),
+        _ => {
+            let (front, back) = proposals.split_at_mut(proposals.len() / 2);
+            propose_both(rt, council, front, back);
+        }
+    }
+}
+
+/// Makes the proposals of both halves at once.
+#[cycle(halves)]
+fn propose_both<R: Threads + Sync>(
+    rt: &R,
+    council: &Council,
+    front: &mut [Proposal],
+    back: &mut [Proposal],
+)
+    requires some { (0 < length front.old) × (0 < length back.old) }
+    requires front { All (IsReady council.now) front.old }
+    requires back { All (IsReady council.now) back.old }
+    ensures front { AllZip (IsMade council.now) front.old front.new }
+    ensures back { AllZip (IsMade council.now) back.old back.new }
+{
+    join_mut(
+        rt,
+        &mut ||
+            requires { IsSync R.row × All (IsReady council.now) front.now }
+            ensures { AllZip (IsMade council.entry.now) front.entry.now front.exit.now }
+        { propose_all(rt, council, front) },
+        &mut ||
+            requires { IsSync R.row × All (IsReady council.now) back.now }
+            ensures { AllZip (IsMade council.entry.now) back.entry.now back.exit.now }
+        { propose_all(rt, council, back) },
+    );
+}

@@ -1,0 +1,177 @@
+//! Processes that propose: one after another, eight at once, and two that race.
+
+ghost use Rattle.std.specs.Prelude.{◌≡◌, ◌^◌, ◌<◌, All, IfSome};
+ghost use Rattle.at_agree.specs.Council.{IsSize};
+ghost use Rattle.at_agree.specs.Voices.{MayPropose};
+
+use crate::{Council, Voice, agree};
+use at_board::Steps;
+use std::alloc::Global;
+use std::marker::Brand;
+use std::sync::atomic::{AtomicU64, Ordering};
+use std::sync::ledger;
+use std::sync::ledger::Blank;
+use std::thread::{Threads, join_mut, yield_now};
+
+/// What eight processes propose.
+const VALUES: [u64; 8] = [11, 22, 33, 0, 4_294_967_295, 44, 44, 55];
+
+/// How often eight processes agree, and how often two race.
+const AGREEMENTS: u32 = 50;
+
+const RACES: u32 = 300;
+
+/// What each of two processes proposes.
+const ZERO: u64 = 100;
+
+const ONE: u64 = 200;
+
+/// How often a process looks whether the other is there before it goes on without it.
+const LOOKS: u32 = 1_000_000;
+
+/// A new council of this size, and its voices.
+#[tactic(auto, using(crate::proofs::NewVoices::new_may_propose))]
+fn new_council(alloc: Global, size: u32) -> Option<(Council, Vec<Voice>)>
+    requires { IsSize size }
+    ensures { IfSome result (λ r. All (MayPropose r.0) r.1.items) }
+{
+    Council::new(alloc, size).ok()
+}
+
+/// The last of the voices that are left.
+fn last_voice(council: &Council, voices: &mut Vec<Voice>) -> Option<Voice>
+    requires { All (MayPropose council.now) voices.old.items }
+    ensures left { All (MayPropose council.now) voices.new.items }
+    ensures voice { IfSome result (MayPropose council.now) }
+{
+    let _ = council;
+    voices.pop()
+}
+
+/// Processes 2, 0 and 1 propose one after another, and these are their answers.
+fn answers_in_turn<L: ledger::Ledger, X: ledger::Ledger>(
+    alloc: Global,
+    steps: Blank,
+    exchanges: Blank,
+) -> Option<[u64; 3]>
+    requires names { (steps.name ≡ L.name) × (exchanges.name ≡ X.name) }
+    requires parts { (steps.parts ≡ L.parts) × (exchanges.parts ≡ X.parts) }
+    requires some { (0 < steps.parts) × (0 < exchanges.parts) }
+{
+    let (steps, exchanges) = (&mut Steps::<L>::new(steps), &mut Steps::<X>::new(exchanges));
+    let (council, mut voices) = new_council(alloc, 3)?;
+    let mut two = last_voice(&council, &mut voices)?;
+    let mut one = last_voice(&council, &mut voices)?;
+    let mut zero = last_voice(&council, &mut voices)?;
+    let first = council.propose(&mut two, 9, steps, exchanges);
+    let second = council.propose(&mut zero, 7, steps, exchanges);
+    let third = council.propose(&mut one, 8, steps, exchanges);
+    Some([first, second, third])
+}
+
+/// Whether eight processes agree on one of their values.
+fn agree_once<R: Threads + Sync>(rt: &R, alloc: Global) -> bool {
+    match agree(rt, alloc, VALUES.as_slice()) {
+        Ok(agreed) => VALUES.contains(&agreed.value),
+        Err(_) => false,
+    }
+}
+
+/// Whether they do each time.
+fn agree_always<R: Threads + Sync>(rt: &R, alloc: Global) -> bool {
+    for _agreement in 0..AGREEMENTS {
+        if !agree_once(rt, alloc) {
+            return false;
+        }
+    }
+    true
+}
+
+/// Proposes once the other process is there too, with new counters.
+fn propose_at<L: ledger::Ledger, X: ledger::Ledger>(
+    council: &Council,
+    gate: &AtomicU64,
+    voice: &mut Voice,
+    value: u64,
+    steps: Blank,
+    exchanges: Blank,
+) -> u64
+    requires names { (steps.name ≡ L.name) × (exchanges.name ≡ X.name) }
+    requires parts { (steps.parts ≡ L.parts) × (exchanges.parts ≡ X.parts) }
+    requires some { (0 < steps.parts) × (0 < exchanges.parts) }
+    requires voice { MayPropose council.now voice.old }
+    requires value { value < 2 ^ 32 }
+{
+    let (steps, exchanges) = (&mut Steps::<L>::new(steps), &mut Steps::<X>::new(exchanges));
+    meet(gate);
+    council.propose(voice, value, steps, exchanges)
+}
+
+/// Waits until both processes are there, or a while where not.
+fn meet(gate: &AtomicU64) {
+    gate.fetch_add(1, Ordering::SeqCst);
+    for look in 0..LOOKS {
+        if gate.load(Ordering::SeqCst) == 2 {
+            return;
+        }
+        if look % 1_024 == 1_023 {
+            yield_now();
+        }
+    }
+}
+
+/// Proposes beside the other process.
+fn race(council: &Council, gate: &AtomicU64, voice: &mut Voice, value: u64) -> u64
+    requires voice { MayPropose council.now voice.old }
+    requires value { value < 2 ^ 32 }
+{
+    propose_at::<Brand, Brand>(council, gate, voice, value, Blank::new(1), Blank::new(1))
+}
+
+/// Two processes propose at once. The value of the first one, if both get one answer.
+fn winner<R: Threads>(rt: &R, alloc: Global) -> Option<u64> {
+    let (council, mut voices) = new_council(alloc, 2)?;
+    let mut one = last_voice(&council, &mut voices)?;
+    let mut zero = last_voice(&council, &mut voices)?;
+    let (gate, council) = (&AtomicU64::new(0), &council);
+    let (a, b) = join_mut(
+        rt,
+        &mut || race(council, gate, &mut zero, ZERO),
+        &mut || race(council, gate, &mut one, ONE),
+    );
+    (a == b).then_some(a)
+}
+
+/// Whether each of two processes was first in some race, if each race had one answer.
+fn winners<R: Threads>(rt: &R, alloc: Global) -> Option<(bool, bool)> {
+    let (mut zero, mut one) = (false, false);
+    for _race in 0..RACES {
+        match winner(rt, alloc)? {
+            ZERO => zero = true,
+            ONE => one = true,
+            _ => return None,
+        }
+    }
+    Some((zero, one))
+}
+
+#[test]
+fn three_voices_in_turn(rt: HostRuntime) {
+    let answers = answers_in_turn::<Brand, Brand>(rt.alloc(), Blank::new(1), Blank::new(1));
+    assert!(rt; answers == Some([9, 9, 9]));
+}
+
+#[test]
+fn eight_values_fifty_times(rt: HostRuntime) {
+    assert!(rt; agree_always(&rt, rt.alloc()));
+}
+
+/// Each race has one answer. Who is first is up to the threads: where one of them never was, a line says so.
+#[test]
+fn two_voices_race(rt: HostRuntime) {
+    let winners = winners(&rt, rt.alloc());
+    assert!(rt; winners.is_some());
+    if winners != Some((true, true)) {
+        let _ = println!(rt; "in {RACES} races one of two processes was never first");
+    }
+}

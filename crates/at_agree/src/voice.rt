@@ -1,0 +1,151 @@
+//! Voices: the right of one process to propose.
+
+ghost use Rattle.std.specs.Prelude.{◌≡◌, ◌+◌, ◌*◌, ◌^◌, ◌<◌, ◌≤◌, length};
+ghost use Rattle.at_agree.specs.Council.{IsCouncil, shared_account, size_of, spent_account, value_account};
+ghost use Rattle.at_agree.specs.Plan.{HasAsked, HasProposed, claim_of};
+ghost use Rattle.at_agree.specs.Voices.{HasMade, HasNotProposed, HasRead, IsVoiceOf, process_of, seen_by};
+ghost use Rattle.at_board.specs.declared.words.TheConstants.{RECORD_WORDS};
+ghost use Rattle.at_ledger.specs.declared.call.Call.{Call};
+ghost use Rattle.at_log.specs.Receipts.{asks_in};
+ghost use Rattle.at_object.specs.Passes.{Stands, newly_counted};
+ghost use Rattle.at_object.specs.Payments.{shared_steps, single_steps};
+ghost use Rattle.at_snapshot.specs.Snapshots.{snapshot_steps};
+
+use at_board::Steps;
+use at_ledger::Reply;
+use at_log::Receipt;
+use at_object::{Ledger, Pass};
+use std::marker::Model;
+use std::sync::ledger;
+
+/// The right of one process of a council to propose a value, once. It has the process's pass, and the memory for the receipts of
+/// its four calls. One thread uses it at a time.
+#[derive(Drop)]
+pub struct Voice {
+    pub(crate) pass: Pass,
+    pub(crate) receipts: Vec<Receipt>,
+}
+
+impl Model for Voice {
+    ghost use Rattle.std.specs.Vec.{vec_capacity};
+    ghost use Rattle.at_agree.specs.Voices.{IsVoice, VoiceTerms};
+
+    ghost Value = { VoiceTerms };
+
+    ghost view = { λ v. record { pass = v.pass; receipts = v.receipts.items } };
+
+    ghost invariant = { λ v. IsVoice (record { pass = v.pass; receipts = v.receipts.items }) (vec_capacity v.receipts) };
+}
+
+impl Voice {
+    /// The process that the voice belongs to.
+    pub(crate) fn process(&self) -> u32
+        ensures process { result ≡ process_of self.now }
+        ensures known { result < self.now.pass.knows.book.processes }
+    {
+        self.pass.process()
+    }
+
+    /// The first call: pays the value from the process's own account into its value account. It is done in every case.
+    pub(crate) fn pay_value<L: ledger::Ledger, X: ledger::Ledger>(
+        &mut self,
+        ledger: &Ledger,
+        size: u32,
+        value: u64,
+        steps: &mut Steps<L>,
+        exchanges: &mut Steps<X>,
+    )
+        requires council { IsCouncil ledger.now }
+        requires size { size ≡ size_of ledger.now }
+        requires voice { IsVoiceOf self.old ledger.now }
+        requires unproposed { HasNotProposed self.old }
+        requires value { value < 2 ^ 32 }
+        ensures made { HasMade ledger.now self.old self.new
+            (Call.Transfer (process_of self.old) (value_account size (process_of self.old)) value) }
+        ensures proposed { HasProposed size (seen_by self.new) (process_of self.old) value }
+        ensures steps { steps.new ≤ steps.old + single_steps size
+            + RECORD_WORDS * newly_counted self.old.pass self.new.pass }
+        ensures exchanges { exchanges.new ≡ exchanges.old }
+    {
+        let process = self.pass.process();
+        let paid = ledger.transfer(
+            &mut self.pass,
+            process,
+            size + process,
+            value,
+            steps,
+            exchanges,
+        );
+        self.receipts.push_reserved(paid);
+    }
+
+    /// The second call: asks for more than half of the shared account. The first such request of all processes is done.
+    pub(crate) fn claim<L: ledger::Ledger, X: ledger::Ledger>(
+        &mut self,
+        ledger: &Ledger,
+        size: u32,
+        steps: &mut Steps<L>,
+        exchanges: &mut Steps<X>,
+    )
+        requires council { IsCouncil ledger.now }
+        requires size { size ≡ size_of ledger.now }
+        requires voice { IsVoiceOf self.old ledger.now }
+        requires some_room { length self.old.receipts < 4 }
+        requires unasked { asks_in (shared_account size) self.old.receipts ≡ 0 }
+        ensures made { HasMade ledger.now self.old self.new
+            (Call.Transfer (shared_account size) (spent_account size)
+            (claim_of size (process_of self.old))) }
+        ensures asked { HasAsked size (seen_by self.new) (process_of self.old) }
+        ensures steps { steps.new ≤ steps.old + shared_steps size size
+            + RECORD_WORDS * newly_counted self.old.pass self.new.pass }
+        ensures exchanges { exchanges.new ≤ exchanges.old + size }
+    {
+        let claim = u64::from(2 * size - (self.pass.process() + 1));
+        let asked = ledger.transfer(
+            &mut self.pass,
+            2 * size,
+            2 * size + 1,
+            claim,
+            steps,
+            exchanges,
+        );
+        self.receipts.push_reserved(asked);
+    }
+
+    /// The third and the fourth call: reads an account.
+    pub(crate) fn find<L: ledger::Ledger, X: ledger::Ledger>(
+        &mut self,
+        ledger: &Ledger,
+        account: u32,
+        steps: &mut Steps<L>,
+        exchanges: &mut Steps<X>,
+    ) -> u64
+        requires voice { IsVoiceOf self.old ledger.now }
+        requires account { account < length ledger.now.book.accounts }
+        requires some_room { length self.old.receipts < 4 }
+        ensures read { HasRead ledger.now self.old self.new account result }
+        ensures stands { Stands self.new.pass self.new.receipts }
+        ensures steps { steps.new ≤ steps.old + snapshot_steps (size_of ledger.now)
+            + RECORD_WORDS * newly_counted self.old.pass self.new.pass }
+        ensures exchanges { exchanges.new ≡ exchanges.old }
+    {
+        let found = ledger.read(&mut self.pass, account, steps, exchanges);
+        let balance = match found.reply {
+            Reply::Balance(balance) => balance,
+            _ => unreachable!(),
+        };
+        self.receipts.push_reserved(found);
+        balance
+    }
+
+    /// The pass and the receipts.
+    pub(crate) fn split(self) -> (Pass, Vec<Receipt>)
+        ensures pass { result.0 ≡ self.pass }
+        ensures receipts { result.1.items ≡ self.receipts }
+        ensures stands { Stands self.pass self.receipts }
+        ensures counted { self.pass.calls ≡ length self.receipts }
+    {
+        let Voice { pass, receipts } = self;
+        (pass, receipts)
+    }
+}
