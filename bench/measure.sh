@@ -1,20 +1,23 @@
 #!/bin/bash
-# Compares the proved program with the plain Rust program of this folder, on the largest input that is accepted.
+# Compares the proved program with the plain Rust program of this folder, on the largest input that is accepted, and
+# measures `deliver`, which has no plain one.
 #
-#   bench/measure.sh PROGRAM [TURNS]
+#   bench/measure.sh PROGRAM [TURNS [deliver]]
 #
 # PROGRAM is the proved one, as crates/at_program/out/at_program. Each figure is the best of TURNS turns (40), in which
-# the programs take turns. The sources of the csv crate are Debian's package librust-csv-dev, which is installed if it
-# isn't there; nothing else is fetched. Everything is made in a new folder, which is removed at the end.
+# the programs take turns. With `deliver` as the third word that command alone is measured, and nothing is built. The
+# sources of the csv crate are Debian's package librust-csv-dev, which is installed if it isn't there; nothing else is
+# fetched. Everything is made in a new folder, which is removed at the end.
 
 set -euo pipefail
 export LC_ALL=C
-if [ $# -lt 1 ] || [ ! -x "$1" ]; then
-    echo "usage: measure.sh PROGRAM [TURNS]" >&2
+if [ $# -lt 1 ] || [ ! -x "$1" ] || [ "${3-deliver}" != deliver ]; then
+    echo "usage: measure.sh PROGRAM [TURNS [deliver]]" >&2
     exit 2
 fi
 proved=$(realpath -- "$1")
 turns=${2:-40}
+part=${3-all}
 here=$(cd -- "$(dirname -- "$0")" && pwd)
 work=$(mktemp -d)
 trap 'rm -rf -- "$work"' EXIT
@@ -133,6 +136,57 @@ make_one_read() {
         }'
 }
 
+# Makes a book of 16 processes and 1,024 accounts of one owner each, so many messages of each process, and the deliveries
+# of all of them to each node. Message m of each process rests on all messages below m. An order is
+#
+#   forwards    by number: each delivery makes its message valid
+#   backwards   by falling number: nothing is valid until the last messages come, which make all the others valid
+#   waiting     by number, after those of the last process, which rest on its own alone. The first message of each other
+#               process is never covered, and is tested again at each delivery
+make_broadcast() {
+    mkdir -p -- "$3"
+    awk -v order="$1" -v messages="$2" -v folder="$3" '
+        function draw(below) { x = x * 16807 % 2147483647; return x % below }
+        function own(p) { return p + 16 * draw(64) }
+        function send(p, m,    line, q) {
+            if (order == "waiting" && p == 15) line = "send," own(p) "," m % 15 "," 1 + draw(1000000)
+            else if (order == "waiting") line = "send," p "," draw(1024) ",1000000000000"
+            else line = "send," own(p) "," draw(1024) "," 1 + draw(1000000)
+            for (q = 0; q < 16; q++) line = line "," (order == "waiting" && q != p ? 0 : m)
+            return line
+        }
+        function deliver(first, last, m,    node, p) {
+            for (node = 0; node < 16; node++)
+                for (p = first; p <= last; p++) print node "," p "," m > file
+        }
+        BEGIN {
+            x = 20190729
+            file = folder "/book.csv"
+            print "book,1\nprocesses,16\nlimits,4,4" > file
+            for (a = 0; a < 1024; a++) print "account," a ",1000000000," a % 16 > file
+            close(file)
+            for (p = 0; p < 16; p++) {
+                file = folder "/send" p ".csv"
+                for (m = 0; m < messages; m++) print send(p, m) > file
+                close(file)
+            }
+            file = folder "/order.csv"
+            if (order == "forwards") for (m = 0; m < messages; m++) deliver(0, 15, m)
+            if (order == "backwards") for (m = messages - 1; m >= 0; m--) deliver(0, 15, m)
+            if (order == "waiting") {
+                for (m = 0; m < messages; m++) deliver(15, 15, m)
+                for (m = 0; m < messages; m++) deliver(0, 14, m)
+            }
+        }'
+}
+
+# The message files of a folder, in process order.
+messages_of() {
+    local p
+    sent=()
+    for ((p = 0; p < 16; p++)); do sent+=("$1/send$p.csv"); done
+}
+
 # The payment files of a folder, in process order.
 payments_of() {
     local p
@@ -243,6 +297,48 @@ check_named() {
     echo "names, check: proved $(milliseconds "proved named"), plain $(milliseconds "plain named"), proved to plain $(ratio "proved named" "plain named")"
 }
 
+# How many lines of a text say that so many messages of each process are validated, or of the last one alone.
+validated_by() {
+    local p line=validated
+    for ((p = 0; p < 15; p++)); do line="$line $([ "$1" = waiting ] && echo 0 || echo "$2")"; done
+    grep -c -x -- "$line $2" "$3"
+}
+
+# Delivers so many messages of each of 16 processes to 16 nodes, in each order and in turns. The nodes have to validate
+# what they are made to, and the same in both orders in which all messages become valid.
+deliver_all() {
+    local turn messages order input
+    for messages in "$@"; do
+        for order in forwards backwards waiting; do make_broadcast "$order" "$messages" "$work/$order$messages"; done
+    done
+    for ((turn = 0; turn < turns; turn++)); do
+        for messages in "$@"; do
+            for order in forwards backwards waiting; do
+                input=$work/$order$messages
+                messages_of "$input"
+                keep_best "$order $messages" "$proved" deliver "$input/book.csv" "$input/order.csv" "${sent[@]}"
+                mv -- "$work/text" "$input/text"
+                [ "$(validated_by "$order" "$messages" "$input/text")" = 16 ] || { echo "not all is validated that should be" >&2; exit 1; }
+            done
+            cmp -- "$work/forwards$messages/text" "$work/backwards$messages/text" || { echo "two orders end in other nodes" >&2; exit 1; }
+        done
+    done
+}
+
+# Measures `deliver` at its limits, and at half as many messages.
+measure_deliver() {
+    local messages order
+    deliver_all 128 256
+    for messages in 128 256; do
+        for order in forwards backwards waiting; do
+            echo "$((256 * messages)) deliveries, $order: $(milliseconds "$order $messages")"
+        done
+    done
+    for order in forwards backwards waiting; do
+        echo "deliver, 65,536 deliveries to 32,768, $order: $(ratio "$order 256" "$order 128")"
+    done
+}
+
 # Refuses a file of so many bytes beside a book of one process.
 refuse_long() {
     local turn
@@ -262,6 +358,10 @@ peak_memory() {
     echo "peak memory of run, $2: $(($(cat "$work/peak") / 1024)) MiB"
 }
 
+if [ "$part" = deliver ]; then
+    measure_deliver
+    exit
+fi
 build_plain
 for n in 8 16; do
     make_input "$n" "$work/input$n" 16384
@@ -294,6 +394,7 @@ for calls in 6144 12288; do
 done
 echo "verify, 12,288 calls to 6,144: $(ratio "verify 12288" "verify 6144")"
 check_named
+measure_deliver
 refuse_long 8388609
 refuse_long 4294967296
 peak_memory "$proved" proved
