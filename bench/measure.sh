@@ -244,13 +244,16 @@ run_named() {
     echo "$1: proved $(milliseconds "proved $1"), plain $(milliseconds "plain $1"), proved to plain $(ratio "proved $1" "plain $1")"
 }
 
-# Where the instructions of a run go, if valgrind is there.
+# Where the instructions of a run go, if valgrind is there: what each part takes of them, with all that it calls.
 count_instructions() {
+    local part
     command -v valgrind >/dev/null || return 0
     payments_of 16 "$work/input16"
     valgrind --tool=callgrind --callgrind-out-file="$work/calls" "$proved" run "$work/input16/book.csv" "${payments[@]}" >/dev/null 2>&1
-    callgrind_annotate --inclusive=yes --threshold=100 "$work/calls" >"$work/counted"
-    grep -E 'at_program..loading..load$|at_workers..play..play_one|at_journal..journal|at_report..run_report..report' "$work/counted" | head -n 8
+    callgrind_annotate --inclusive=yes --threshold=100 "$work/calls" >"$work/counted" 2>/dev/null
+    for part in "reading at_program::loading::load::" "running at_workers::halves::run_half::" "journal at_program::playing::journal_of" "report at_report::lines::push_line"; do
+        echo "instructions of run, ${part% *}: $(grep -m 1 -F -- "${part#* }" "$work/counted" | awk '{ print $2 }')"
+    done
 }
 
 take_turns() {
@@ -372,6 +375,9 @@ compare "much sharing" "$work/shared"
 make_one_read "$work/one_read"
 compare "one account read" "$work/one_read"
 take_turns
+make_input 16 "$work/half" 8192
+run_named "half the calls" "$work/half"
+run_named "all calls" "$work/input16"
 run_named "much sharing" "$work/shared"
 run_named "one account read" "$work/one_read"
 for n in 8 16; do
@@ -381,6 +387,7 @@ done
 echo "run, proved to plain: $(ratio "proved run 16" "plain run 16")"
 echo "check, proved to plain: $(ratio "proved check 16" "plain check 16")"
 echo "check, proved to records alone: $(ratio "proved check 16" "plain records 16")"
+echo "run, all calls to half: $(ratio "proved all calls" "proved half the calls")"
 echo "run, 16 processes to 8: $(ratio "proved run 16" "proved run 8")"
 echo "check, 16 processes to 8: $(ratio "proved check 16" "proved check 8")"
 for calls in 6144 12288; do
@@ -399,3 +406,4 @@ refuse_long 8388609
 refuse_long 4294967296
 peak_memory "$proved" proved
 peak_memory "$plain" plain
+count_instructions
