@@ -62,7 +62,7 @@ impl Totals {
         ensures exchanges { exchanges.new ≡ exchanges.old }
     {
         seat.known();
-        let start = self.upto().get(p);
+        let start = self.counted(p);
         for i in start..end {
             let entry = load_entry(board, seat, p, i, steps, exchanges);
             self.count(p, i + 1, &entry);

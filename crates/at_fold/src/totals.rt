@@ -59,6 +59,14 @@ impl Totals {
         self.upto.copy()
     }
 
+    /// How many records of a process are counted.
+    pub(crate) fn counted(&self, process: u32) -> u32
+        requires { process < length self.now.upto }
+        ensures { result ≡ slice_index self.now.upto process }
+    {
+        self.upto.get(process)
+    }
+
     /// The balance of the account after the prefix of the publications that is counted. By look-up.
     pub fn balance(&self, account: u32) -> u64
         requires { (b : BookTerms) × (seen : List Publication) × CountsAccount self.now b seen account × CountsFront self.now b seen }
