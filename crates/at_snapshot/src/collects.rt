@@ -48,7 +48,12 @@ pub(crate) fn are_equal(counts: &Counts, others: &Counts) -> bool
     requires { length counts.now ≡ length others.now }
     ensures { IsTrue result ↔ (counts.now ≡ others.now) }
 {
-    counts.covers(others) && others.covers(counts)
+    for p in 0..counts.len() {
+        if counts.get(p) != others.get(p) {
+            return false;
+        }
+    }
+    true
 }
 
 /// The least process, other than the given one, whose count is at least two above the first.

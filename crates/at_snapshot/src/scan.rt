@@ -83,29 +83,23 @@ impl Scan {
     {
         seat.known();
         let now = collect(board, seat, steps, exchanges);
-        match self.keep(&now, seat) {
-            None => Turn::Again,
-            Some(before) => before.compare(board, seat, &now, steps, exchanges),
-        }
-    }
-
-    /// Takes a collect of the seat for the last one, and gives the collects before it.
-    fn keep(&mut self, now: &Counts, seat: &BoardSeat) -> Option<Collects>
-        requires { now.now ≡ collect_of seat.now.knows }
-        ensures start { SeesOwnRecords self.old.start }
-        ensures after { self.new ≡ scan_after self.old seat.now.knows }
-        ensures before { result ≡ self.old.collects }
-    {
-        let before = self.collects.take();
-        let first = match &before {
-            None => now.copy(),
-            Some(collects) => collects.first.copy(),
-        };
-        self.collects = Some(Collects {
-            first,
-            last: now.copy(),
-        });
         self.mark = Snapshot::of(seat);
-        before
+        match self.collects.take() {
+            None => {
+                self.collects = Some(Collects {
+                    first: now.copy(),
+                    last: now,
+                });
+                Turn::Again
+            }
+            Some(before) => {
+                let answer = before.compare(board, seat, &now, steps, exchanges);
+                self.collects = Some(Collects {
+                    first: before.first,
+                    last: now,
+                });
+                answer
+            }
+        }
     }
 }
