@@ -1,6 +1,6 @@
 //! The words of records, requests and targets.
 
-ghost use Rattle.std.specs.Prelude.{◌≡◌, ℕ, ◌+◌, ◌*◌, ◌^◌, ◌<◌, ◌++◌, List, length, slice_index};
+ghost use Rattle.std.specs.Prelude.{◌≡◌, ℕ, ◌+◌, ◌*◌, ◌^◌, ◌<◌, ◌≤◌, ◌++◌, List, length, slice_index};
 ghost use Rattle.at_base.specs.Head.{HeadInRange, head_word};
 ghost use Rattle.at_ledger.specs.Call.{AreTargetsOn, TargetPair, target_at};
 ghost use Rattle.at_history.specs.Entries.{targets_of};
@@ -189,10 +189,17 @@ fn entry_from(head: u64, accounts: u64, decision: u64, amounts: [u64; 4]) -> Ent
 pub fn targets_from(word: u64, amounts: [u64; 4]) -> Targets
     ensures { (ts : List TargetPair) → ArePacked (accounts_of ts) → word ≡ targets_word (accounts_of ts) → amounts ≡ amount_words ts → result ≡ ts }
 {
-    let accounts = unpack_targets(word);
-    let mut targets = Targets::one(*accounts.first().unwrap_or(&0), amounts[0]);
-    for k in 1..accounts.len() {
-        targets.push(accounts[k], amounts[k]);
+    let mut targets = Targets::one(account_at(word, 0), amounts[0]);
+    for k in 1..target_count(word) {
+        targets.push(account_at(word, 10 * k), amounts[k as usize]);
     }
     targets
+}
+
+/// How many targets a word has. Of a word that packs no list the answer is some number of them.
+fn target_count(word: u64) -> u32
+    ensures count { (accounts : List ℕ) → ArePacked accounts → targets_word accounts ≡ word → result ≡ length accounts }
+    ensures few { result ≤ 4 }
+{
+    (word >> 40).min(TARGETS_MAX as u64) as u32
 }

@@ -1,5 +1,5 @@
 -- Words that are packed from two records or requests are the same only if these are.
-use Rattle.std.proofs.Common.{◌≡◌, ℕ, ◌+◌, ◌*◌, ◌<◌, ◌≤◌, zero, suc, List, length, get_or, sym, subst, ◌∙◌, arith, inl, inr}
+use Rattle.std.proofs.Common.{◌≡◌, ℕ, ◌+◌, ◌*◌, ◌/◌, ◌%◌, ◌<◌, ◌≤◌, zero, suc, List, length, get_or, sym, subst, ◌∙◌, arith, inl, inr}
 use Rattle.std.proofs.lemmas.Bool.{cases_lt}
 use Rattle.std.proofs.lemmas.List.{get_or-map, get_or_default, get_or_past, length-map, same_lists}
 use Rattle.std.proofs.lemmas.List.Elements.{All-from_get_or, All-get_or}
@@ -16,7 +16,7 @@ use Rattle.at_history.specs.declared.publication.Entry.TheVariants.{Own, Round}
 use Rattle.at_history.specs.declared.publication.Publication.{Publication}
 use Rattle.at_history.specs.declared.request.Request.{Request}
 use Rattle.at_board.specs.Words.Packed.{IsForm, amount_words, decision_word, head_of, record_words, request_words}
-use Rattle.at_board.specs.Words.Targets.{ArePacked, accounts_of, targets_word}
+use Rattle.at_board.specs.Words.Targets.{ArePacked, account_in, accounts_of, targets_word}
 
 pub ArePacked-AreTargets : (b : BookTerms) (targets : List TargetPair) → IsBegun b → AreTargets b targets → ArePacked (accounts_of targets)
 ArePacked-AreTargets b targets begun good = record {
@@ -81,6 +81,18 @@ below_four P a b c d (suc zero) within = b
 below_four P a b c d (suc (suc zero)) within = c
 below_four P a b c d (suc (suc (suc zero))) within = d
 below_four P a b c d (suc (suc (suc (suc k)))) within = absurd (omega arith)
+
+digits : (a b c d n : ℕ) → a < 1024 → b < 1024 → c < 1024 → d < 1024
+    → let w = a + 1024 * b + 1048576 * c + 1073741824 * d + 1099511627776 * n in
+    (w / 1 % 1024 ≡ a) × (w / 1024 % 1024 ≡ b) × (w / 1048576 % 1024 ≡ c) × (w / 1073741824 % 1024 ≡ d)
+digits a b c d n p0 p1 p2 p3 = (omega arith, omega arith, omega arith, omega arith)
+
+-- an account of a word that packs a list
+pub account_in-targets_word : (xs : List ℕ) → ArePacked xs → (m : ℕ) → m < 4 → account_in (targets_word xs) (10 * m) ≡ get_or xs m 0
+account_in-targets_word xs packed =
+    let all = digits (get_or xs 0 0) (get_or xs 1 0) (get_or xs 2 0) (get_or xs 3 0) (length xs)
+    (small_at xs 0 packed) (small_at xs 1 packed) (small_at xs 2 packed) (small_at xs 3 packed) in
+    below_four (λ m. account_in (targets_word xs) (10 * m) ≡ get_or xs m 0) all.0 all.1 all.2 all.3
 
 -- a target by its account and its amount
 same_target : (xs ys : List TargetPair) (k : ℕ) → length xs ≡ length ys → get_or (accounts_of xs) k 0 ≡ get_or (accounts_of ys) k 0

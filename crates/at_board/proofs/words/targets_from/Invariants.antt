@@ -1,4 +1,5 @@
-use Rattle.std.proofs.Common.{◌≡◌, ℕ, ◌<◌, get_or, length}
+use Rattle.std.proofs.Common.{◌≡◌, ℕ, ◌*◌, ◌<◌, get_or, length}
+use Rattle.at_board.specs.Words.Targets.{account_in}
 use Rattle.at_board.proofs.words.targets_from.Given as goal
 
 -- so many targets are made
@@ -6,5 +7,5 @@ abbrev pub invariant-loop-k : goal.invariant-loop-k
 invariant-loop-k l = record {
   some : 0 < l.k;
   sized : length l.targets ≡ l.k;
-  made : (m : ℕ) → m < l.k → get_or l.targets m (0, 0) ≡ (get_or l.accounts.items m 0, get_or l.amounts m 0);
+  made : (m : ℕ) → m < l.k → get_or l.targets m (0, 0) ≡ (account_in l.word (10 * m), get_or l.amounts m 0);
 }
