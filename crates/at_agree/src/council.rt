@@ -5,7 +5,6 @@ ghost use Rattle.at_agree.specs.Council.{IsCouncil, IsSize, council_book, size_o
 ghost use Rattle.at_agree.specs.Plan.{HasAsked, HasProposed, HasVoted, KeepsPlan, chosen, named_account};
 ghost use Rattle.at_agree.specs.Voices.{AreNewVoices, HasNotProposed, IsVoiceOf, process_of, propose_steps, seen_by};
 ghost use Rattle.at_board.specs.declared.words.TheConstants.{RECORD_WORDS};
-ghost use Rattle.at_history.specs.Histories.{IsHistory};
 ghost use Rattle.at_history.specs.Publications.{IsPrefix};
 ghost use Rattle.at_object.specs.Passes.{AreNewPasses, newly_counted};
 
@@ -63,7 +62,7 @@ impl Council {
         requires value { value < 2 ^ 32 }
         ensures proposed { HasProposed (size_of self.now) (seen_by voice.new) (process_of voice.old) value }
         ensures asked { HasAsked (size_of self.now) (seen_by voice.new) (process_of voice.old) }
-        ensures agreed { IsHistory self.now.book (seen_by voice.new) → KeepsPlan (size_of self.now) (seen_by voice.new)
+        ensures agreed { KeepsPlan (size_of self.now) (seen_by voice.new)
             → HasProposed (size_of self.now) (seen_by voice.new)
             (chosen (size_of self.now) (seen_by voice.new)) result }
         ensures voted { HasVoted (size_of self.now) (process_of voice.old) value result voice.new.receipts }

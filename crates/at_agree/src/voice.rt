@@ -5,6 +5,7 @@ ghost use Rattle.at_agree.specs.Council.{IsCouncil, shared_account, size_of, spe
 ghost use Rattle.at_agree.specs.Plan.{HasAsked, HasProposed, claim_of};
 ghost use Rattle.at_agree.specs.Voices.{HasMade, HasNotProposed, HasRead, IsVoiceOf, process_of, seen_by};
 ghost use Rattle.at_board.specs.declared.words.TheConstants.{RECORD_WORDS};
+ghost use Rattle.at_history.specs.Histories.{IsHistory};
 ghost use Rattle.at_ledger.specs.declared.call.Call.{Call};
 ghost use Rattle.at_log.specs.Receipts.{asks_in};
 ghost use Rattle.at_object.specs.Passes.{Stands, newly_counted};
@@ -125,6 +126,7 @@ impl Voice {
         requires some_room { length self.old.receipts < 4 }
         ensures read { HasRead ledger.now self.old self.new account result }
         ensures stands { Stands self.new.pass self.new.receipts }
+        ensures history { IsHistory ledger.now.book (seen_by self.new) }
         ensures steps { steps.new ≤ steps.old + snapshot_steps (size_of ledger.now)
             + RECORD_WORDS * newly_counted self.old.pass self.new.pass }
         ensures exchanges { exchanges.new ≡ exchanges.old }

@@ -4,6 +4,7 @@ ghost use Rattle.std.specs.Prelude.{◌≡◌, ℕ, ◌+◌, ◌*◌, ◌++◌, 
 ghost use Rattle.at_board.specs.declared.words.TheConstants.{RECORD_WORDS};
 ghost use Rattle.at_history.specs.Balances.{balance_after};
 ghost use Rattle.at_history.specs.Fronts.{prefix_of};
+ghost use Rattle.at_history.specs.Histories.{IsHistory};
 ghost use Rattle.at_history.specs.Moves.{AreRuns};
 ghost use Rattle.at_history.specs.Publications.{IsPrefix};
 ghost use Rattle.at_ledger.specs.declared.call.Call.{Call};
@@ -47,6 +48,7 @@ impl Ledger {
         ensures after_seen { StandsAfter (length pass.old.knows.seen) pass.new.knows result }
         ensures begins { IsPrefix pass.old.knows.seen pass.new.knows.seen }
         ensures runs { AreRuns self.now.book pass.new.knows.seen }
+        ensures history { IsHistory self.now.book pass.new.knows.seen }
         ensures process { pass.new.knows.first ≡ pass.old.knows.first }
         ensures pass { IsPassOf pass.new self.now }
         ensures calls { pass.new.calls ≡ one_more_call pass.old.calls }

@@ -1,6 +1,7 @@
 use Rattle.std.proofs.Common.{◌≡◌, ◌*◌, ◌<◌, ap, arith, refl, rules, subst, sym, ◌∙◌}
 use Rattle.at_board.specs.Knowledge.Seats.{BoardTerms}
 use Rattle.at_history.proofs.Laws.Prefixes.{IsPrefix-trans}
+use Rattle.at_history.specs.Histories.{IsHistory}
 use Rattle.at_history.specs.Publications.{IsPrefix}
 use Rattle.at_ledger.specs.declared.call.Call.TheVariants.{Transfer}
 use Rattle.at_agree.specs.Council.{shared_account, size_of, spent_account}
@@ -75,6 +76,7 @@ returns-clause-agreed g c =
     let of_council : IsVoiceOf v4 council = search rules in
     let process_is : process_of v4 ≡ p = search rules in
     let known : p < size_of council = search rules in
-    λ history planned.
+    let history : IsHistory council.book (seen_by v4) = subst (λ (t : BoardTerms). IsHistory t.book (seen_by v4)) c.self.view_is c.find.ensures.history in
+    λ planned.
     HasProposed-answered council v4 (size_of council) p c.args.value c.find.result c.size-size.ensures.council refl known c.requires.value
     of_council process_is c.find.ensures.stands (returns-clause-voted g c) history planned
