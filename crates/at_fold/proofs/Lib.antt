@@ -1,8 +1,5 @@
+pub mod Laws
 pub mod Amounts
-pub mod LoadedRecords
-pub mod CountedRecords
-pub mod CountedPrefix
-pub mod MorePublished
 pub mod NewRound
 pub mod OneMoreRecord
 pub mod NothingCounted

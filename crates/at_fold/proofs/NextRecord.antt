@@ -19,7 +19,7 @@ use Rattle.at_history.specs.Rounds.{firsts, repeats}
 use Rattle.at_history.specs.declared.publication.Entry.{Entry}
 use Rattle.at_history.specs.declared.publication.Entry.TheVariants.{Own, Round}
 use Rattle.at_history.specs.declared.publication.Publication.{Publication}
-use Rattle.at_fold.proofs.CountedRecords.{All-counted_records, HasSameRecords-more, length-counted_records-le}
+use Rattle.at_fold.proofs.Laws.CountedRecords.{All-counted_records, HasSameRecords-more, length-counted_records-le}
 use Rattle.at_fold.proofs.NewRound.{AreSumsOf-new}
 use Rattle.at_fold.proofs.OneMoreRecord.{AreSumsOf-repeat}
 use Rattle.at_fold.proofs.SumsOfLists.{AreSumsOf-same}

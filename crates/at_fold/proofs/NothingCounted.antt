@@ -12,7 +12,7 @@ use Rattle.at_history.specs.Balances.{credit_of, debit_of}
 use Rattle.at_history.specs.Entries.{is_round_on, names}
 use Rattle.at_history.specs.Publications.{publications_of}
 use Rattle.at_history.specs.declared.publication.Publication.{Publication}
-use Rattle.at_fold.proofs.CountedRecords.{part}
+use Rattle.at_fold.proofs.Laws.CountedRecords.{part}
 use Rattle.at_fold.specs.Counted.{IsSettledSo, counted_records}
 use Rattle.at_fold.specs.HasCounted.{AreSumsOf, HasCounted, IsAccountOf, IsSlotOf}
 use Rattle.at_fold.specs.Sums.{no_sums, no_slot, starting_sums, starting_slot}

@@ -19,3 +19,9 @@ pub mod OrderHasRuns
 pub mod Buckets
 pub mod FirstRecords
 pub mod Picks
+-- a record whose words are stored one by one (StoredWords), the last record of a process (LastRecord), records that a seat has seen
+-- (SeenRecords), and records of a closed board (EndedRecords)
+pub mod StoredWords
+pub mod LastRecord
+pub mod SeenRecords
+pub mod EndedRecords

@@ -27,7 +27,7 @@ use Rattle.at_closing.proofs.Laws.Stands.{AsksNothing, HasMoved, IsBetweenCalls-
 use Rattle.at_closing.specs.BetweenCalls.{IsBetweenCalls}
 use Rattle.at_fold.specs.HasCounted.{HasCounted}
 use Rattle.at_fold.specs.Sums.{TotalSums}
-use Rattle.at_log.proofs.LastRecord.{IsLast-Publishes}
+use Rattle.at_log.proofs.Laws.LastRecord.{IsLast-Publishes}
 use Rattle.at_log.specs.LastRecord.{IsLast}
 use Rattle.at_log.specs.Placed.{IsPlaced}
 use Rattle.at_log.specs.Receipts.{is_at_own, is_at_round, is_success}
@@ -38,7 +38,7 @@ use Rattle.at_object.proofs.Looked.{asking-HasLoaded, AsksNothing-HasLoaded, bet
 use Rattle.at_object.specs.Paid.{PaysAlone}
 use Rattle.at_object.specs.Passes.{IsPass}
 use Rattle.at_object.specs.Payments.{IsDecided, place_at, sent_after}
-use Rattle.at_single.proofs.PlacedLaws.{payment_reply-done, payment_reply-short}
+use Rattle.at_single.proofs.Laws.Placed.{payment_reply-done, payment_reply-short}
 use Rattle.at_single.specs.Standing.{StandsAtFront, StandsAtOwn, front_behind, own_record, payment_reply}
 
 -- a payment is short or done

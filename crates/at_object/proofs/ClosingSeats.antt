@@ -12,7 +12,7 @@ use Rattle.at_board.specs.Knowledge.Parts.{own_part}
 use Rattle.at_board.specs.Knowledge.Seats.{BoardTerms, SeatTerms}
 use Rattle.at_closing.specs.BetweenCalls.{IsBetweenCalls}
 use Rattle.at_closing.specs.Standing.{AllStand, IsEndWith}
-use Rattle.at_log.proofs.EndedRecords.{length-records_of}
+use Rattle.at_log.proofs.Laws.EndedRecords.{length-records_of}
 use Rattle.at_log.specs.ClosingTerms.{log_published}
 use Rattle.at_log.specs.Told.{Told}
 use Rattle.at_log.specs.declared.record.Record.{Record}

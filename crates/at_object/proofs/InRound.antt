@@ -37,7 +37,7 @@ use Rattle.at_object.specs.Paid.{PaysInRound}
 use Rattle.at_object.specs.Passes.{IsPass}
 use Rattle.at_object.specs.Payments.{place_at}
 use Rattle.at_shared.specs.Settling.{StandsInRound}
-use Rattle.at_single.proofs.PlacedLaws.{payment_reply-done, payment_reply-short}
+use Rattle.at_single.proofs.Laws.Placed.{payment_reply-done, payment_reply-short}
 use Rattle.at_single.specs.Standing.{payment_reply}
 
 -- so many receipts of one account, each in a round

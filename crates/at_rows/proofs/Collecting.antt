@@ -24,7 +24,7 @@ use Rattle.at_board.specs.declared.knowledge.SeenRequest.{SeenRequest}
 use Rattle.at_board.specs.declared.words.TheConstants.{REQUEST_WORDS}
 use Rattle.at_rows.proofs.Laws.Accounts.{HasAccount}
 use Rattle.at_rows.proofs.Gathering.{LoadsOnly-refl, LoadsOnly-trans, announced-LoadsOnly, asking_on-LoadsOnly, first-LoadsOnly}
-use Rattle.at_rows.proofs.Loading.{Contains-loaded_words, request-loaded_words}
+use Rattle.at_rows.proofs.Laws.Loading.{Contains-loaded_words, request-loaded_words}
 use Rattle.at_rows.specs.Asks.{HasAsked}
 use Rattle.at_rows.specs.Loads.{loaded_words}
 use Rattle.at_rows.specs.OpenRequests.{AreRising, IsAmong, request_in, request_of, seen_of}

@@ -3,3 +3,5 @@
 pub mod Accounts
 -- that the oldest of what was collected is the request that the seat may propose
 pub mod Proposals
+-- loads of announced words and of requests
+pub mod Loading

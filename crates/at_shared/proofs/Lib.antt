@@ -1,7 +1,6 @@
+pub mod Laws
 pub mod After
-pub mod Kept
 pub mod Proposing
-pub mod Placing
 pub mod Starting
 pub mod Added
 pub mod Turning

@@ -1,4 +1,3 @@
-pub mod LookLaws
+pub mod Laws
 pub mod OwnRecords
-pub mod PlacedLaws
 pub mod PaidLaws

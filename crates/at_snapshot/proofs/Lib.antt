@@ -1,6 +1,2 @@
-pub mod LoadedLaws
-pub mod CollectLaws
-pub mod ScanLaws
-pub mod SnapshotLaws
+pub mod Laws
 pub mod UnmovedLaws
-pub mod TurnLaws

@@ -9,7 +9,7 @@ use Rattle.at_history.specs.Entries.{settles}
 use Rattle.at_history.specs.Rounds.{is_settled}
 use Rattle.at_history.specs.declared.publication.Entry.TheVariants.{Round}
 use Rattle.at_history.specs.declared.publication.Publication.{Publication}
-use Rattle.at_fold.proofs.CountedRecords.{All-counted_records}
+use Rattle.at_fold.proofs.Laws.CountedRecords.{All-counted_records}
 use Rattle.at_fold.specs.Counted.{IsDecidedIn, IsSettledSo, counted_records}
 
 settles-round : (a slot number r : ℕ) (d : Decision) (targets : List TargetPair) → d.slot ≡ slot → d.number ≡ number

@@ -26,8 +26,8 @@ use Rattle.at_board.specs.Knowledge.Parts.{no_part, own_part}
 use Rattle.at_log.specs.declared.record.Record.{Record}
 use Rattle.at_log.specs.Appending.{MayAppend}
 use Rattle.at_log.specs.ClosingTerms.{published_by}
-use Rattle.at_fold.proofs.LoadedRecords.{sum-caught}
-use Rattle.at_fold.proofs.CountedPrefix.{ArePublishedBy-IsHistory}
+use Rattle.at_fold.proofs.Laws.LoadedRecords.{sum-caught}
+use Rattle.at_fold.proofs.Laws.CountedPrefix.{ArePublishedBy-IsHistory}
 use Rattle.at_fold.specs.HasCounted.{HasCounted, HasRecords}
 use Rattle.at_trials.specs.SmallFold.{CountsAll, HasOnlyFirst, HasOnlyRecord}
 use Rattle.at_fold.specs.Sums.{TotalSums}

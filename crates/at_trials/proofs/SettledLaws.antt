@@ -20,8 +20,8 @@ use Rattle.at_log.specs.Placed.{IsPlaced, read, not_owner, full, short, done, ro
 use Rattle.at_log.specs.Receipts.{asks_in, is_at_round, is_payout_from, payout_of}
 use Rattle.at_log.specs.declared.receipt.At.{At}
 use Rattle.at_log.specs.declared.receipt.Receipt.{Receipt}
-use Rattle.at_shared.proofs.Kept.{is_settled-IsPrefix}
-use Rattle.at_shared.proofs.Placing.{settles-round}
+use Rattle.at_shared.proofs.Laws.Kept.{is_settled-IsPrefix}
+use Rattle.at_shared.proofs.Laws.Placing.{settles-round}
 use Rattle.at_shared.specs.Helpings.{HasAllSettled}
 
 -- a receipt of a request on account 0

@@ -17,7 +17,7 @@ use Rattle.at_board.specs.declared.knowledge.LoadedWord.{LoadedWord}
 use Rattle.at_board.specs.declared.knowledge.SeenRequest.{SeenRequest}
 use Rattle.at_rows.proofs.Gathering.{LoadsOnly-LoadsRequest, asking_on-LoadsOnly}
 use Rattle.at_rows.proofs.Laws.Accounts.{HasAccount}
-use Rattle.at_rows.proofs.Loading.{request-loaded_words}
+use Rattle.at_rows.proofs.Laws.Loading.{request-loaded_words}
 use Rattle.at_rows.specs.Asks.{HasAsked}
 use Rattle.at_rows.specs.Loads.{LoadsRequest, loaded_words}
 use Rattle.at_rows.specs.Oldest.{IsLeft, IsOldestOf}

@@ -5,8 +5,8 @@ use Rattle.at_board.specs.declared.knowledge.Knowledge.{Knowledge}
 use Rattle.at_board.specs.Words.Addresses.{record_width}
 use Rattle.at_board.specs.Knowledge.Parts.{own_part}
 use Rattle.at_board.specs.Words.Packed.{record_words}
-use Rattle.at_log.proofs.StoredWords.{FitsNext-MayAppend, IsStoring-more, MayPublish-IsStoring, MayStoreWord-IsStoring, Publishes-IsStoring}
-use Rattle.at_log.proofs.LastRecord.{IsLast-Publishes}
+use Rattle.at_log.proofs.Laws.StoredWords.{FitsNext-MayAppend, IsStoring-more, MayPublish-IsStoring, MayStoreWord-IsStoring, Publishes-IsStoring}
+use Rattle.at_log.proofs.Laws.LastRecord.{IsLast-Publishes}
 use Rattle.at_log.specs.declared.record.Record.{Record}
 use Rattle.at_log.specs.ClosingTerms.{published_by}
 use Rattle.at_log.proofs.append_record.append.Given as given

@@ -7,7 +7,7 @@ use Rattle.at_history.specs.declared.publication.Publication.{Publication}
 use Rattle.at_board.specs.Ends.Closing.{records_of}
 use Rattle.at_board.specs.Words.Packed.{entry_words, record_words}
 use Rattle.at_board.specs.declared.words.TheConstants.{RECORD_WORDS}
-use Rattle.at_log.proofs.EndedRecords.{get_or-records_of, length-records_of}
+use Rattle.at_log.proofs.Laws.EndedRecords.{get_or-records_of, length-records_of}
 use Rattle.at_log.proofs.ended_words.ended_entry.Goals as goal
 
 pub returns : goal.returns

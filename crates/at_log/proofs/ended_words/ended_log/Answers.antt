@@ -1,5 +1,5 @@
 use Rattle.std.proofs.Common.{◌+◌, sym, subst, arith}
-use Rattle.at_log.proofs.EndedRecords.{AreFirstRecords, AreFirstRecords-all, AreFirstRecords-more}
+use Rattle.at_log.proofs.Laws.EndedRecords.{AreFirstRecords, AreFirstRecords-all, AreFirstRecords-more}
 use Rattle.at_log.proofs.ended_words.ended_log.Goals as goal
 
 pub loop-i-preserved : goal.loop-i-preserved

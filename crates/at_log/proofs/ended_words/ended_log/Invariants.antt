@@ -1,7 +1,7 @@
 use Rattle.std.proofs.Common.{◌≡◌, ◌≤◌, length}
 use Rattle.std.specs.Vec.{vec_capacity, vec_len}
 use Rattle.at_board.specs.Ends.Closing.{records_of}
-use Rattle.at_log.proofs.EndedRecords.{AreFirstRecords}
+use Rattle.at_log.proofs.Laws.EndedRecords.{AreFirstRecords}
 use Rattle.at_log.proofs.ended_words.ended_log.Given as goal
 
 -- so many records are there, and room for the others

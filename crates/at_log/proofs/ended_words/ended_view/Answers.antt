@@ -1,5 +1,5 @@
 use Rattle.std.proofs.Common.{arith}
-use Rattle.at_log.proofs.EndedRecords.{IsEndedView-IsCounted, small-ended_word}
+use Rattle.at_log.proofs.Laws.EndedRecords.{IsEndedView-IsCounted, small-ended_word}
 use Rattle.at_log.proofs.ended_words.ended_view.Goals as goal
 
 pub overflow_cast-count : goal.overflow_cast-count

@@ -1,5 +1,5 @@
 use Rattle.std.proofs.Common.{◌≡◌, length}
-use Rattle.at_log.proofs.EndedRecords.{IsCounted}
+use Rattle.at_log.proofs.Laws.EndedRecords.{IsCounted}
 use Rattle.at_log.proofs.ended_words.ended_view.Given as goal
 
 -- so many counts are read

@@ -5,7 +5,7 @@ use Rattle.at_board.specs.Knowledge.Records.{IsRecordWord}
 use Rattle.at_board.specs.Knowledge.Seats.{SeatTerms}
 use Rattle.at_history.specs.Histories.{IsHistory}
 use Rattle.at_board.specs.declared.words.TheConstants.{RECORD_WORDS}
-use Rattle.at_log.proofs.SeenRecords.{IsLoaded, IsLoaded-more, IsViewOf-IsLoaded, small-IsRecordWord}
+use Rattle.at_log.proofs.Laws.SeenRecords.{IsLoaded, IsLoaded-more, IsViewOf-IsLoaded, small-IsRecordWord}
 use Rattle.at_log.proofs.load_view_words.load_view.Given as given
 use Rattle.at_log.proofs.load_view_words.load_view.Goals.{After-load_record_word-count, After-processes-processes}
 use Rattle.at_log.proofs.load_view_words.load_view.Goals as goal

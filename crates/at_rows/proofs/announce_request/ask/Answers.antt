@@ -6,7 +6,7 @@ use Rattle.at_board.specs.Words.Packed.{request_words}
 use Rattle.at_board.specs.declared.knowledge.Knowledge.{Knowledge}
 use Rattle.at_rows.proofs.Laws.Accounts.{HasAccount}
 use Rattle.at_rows.proofs.Asking.{Announces-IsStoring, HasAsked-Announces, HasLoadedNothing-Announces, IsOf-Announces, IsStoring-more, IsStoring-start, MayAnnounce-IsStoring, MayStoreRequest-IsStoring, MayAskFor-slot}
-use Rattle.at_rows.proofs.Loading.{AreTargetsOn-AreTargets}
+use Rattle.at_rows.proofs.Laws.Loading.{AreTargetsOn-AreTargets}
 use Rattle.at_rows.specs.Asks.{asked_for}
 use Rattle.at_rows.proofs.announce_request.ask.Given as given
 use Rattle.at_rows.proofs.announce_request.ask.Goals.{After-announce, After-announced-number, After-known-2, After-loop-j}

@@ -4,7 +4,7 @@ use Rattle.at_ledger.specs.Book.{BookTerms, IsBook}
 use Rattle.at_board.specs.Words.Packed.{request_words}
 use Rattle.at_board.specs.declared.words.TheConstants.{REQUEST_WORDS}
 use Rattle.at_rows.proofs.Laws.Accounts.{HasAccount}
-use Rattle.at_rows.proofs.Loading.{ArePacked-AreTargets, IsLoaded-more, IsLoading, KnowsOf-IsLoaded, LoadsRequest-IsLoading, account-KnowsOf, words-IsLoading}
+use Rattle.at_rows.proofs.Laws.Loading.{ArePacked-AreTargets, IsLoaded-more, IsLoading, KnowsOf-IsLoaded, LoadsRequest-IsLoading, account-KnowsOf, words-IsLoading}
 use Rattle.at_rows.proofs.load_request_words.load_request.Given as given
 use Rattle.at_rows.proofs.load_request_words.load_request.Goals.{After-known-2, After-loop-j}
 use Rattle.at_rows.proofs.load_request_words.load_request.Goals as goal

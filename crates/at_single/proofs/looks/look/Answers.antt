@@ -3,9 +3,9 @@ use Rattle.at_ledger.specs.Book.{BookTerms}
 use Rattle.at_history.proofs.Laws.Fronts.{length-IsFront, sum-Covers-le}
 use Rattle.at_board.specs.Knowledge.Seats.{SeatTerms}
 use Rattle.at_board.specs.declared.knowledge.Knowledge.{Knowledge}
-use Rattle.at_fold.proofs.MorePublished.{StaysCounted-HasCounted}
+use Rattle.at_fold.proofs.Laws.MorePublished.{StaysCounted-HasCounted}
 use Rattle.at_fold.specs.Sums.{TotalSums}
-use Rattle.at_single.proofs.LookLaws.{Covers-IsSnapshot, HasRecords-IsFront}
+use Rattle.at_single.proofs.Laws.Looks.{Covers-IsSnapshot, HasRecords-IsFront}
 use Rattle.at_snapshot.specs.Collected.{HasLoaded}
 use Rattle.at_snapshot.specs.Snapshots.{IsSnapshot}
 use Rattle.at_single.proofs.looks.look.Goals as goal

@@ -9,7 +9,7 @@ use Rattle.at_history.specs.Fronts.{place, prefix_of}
 use Rattle.at_history.specs.Publications.{IsPrefix, count_of}
 use Rattle.at_history.specs.Rounds.{firsts}
 use Rattle.at_log.specs.Appending.{MayAppend}
-use Rattle.at_snapshot.proofs.LoadedLaws.{first-HasLoaded}
+use Rattle.at_snapshot.proofs.Laws.Loads.{first-HasLoaded}
 use Rattle.at_snapshot.specs.Collected.{HasLoaded}
 use Rattle.at_trials.specs.SmallScan.{HasPaid, MayPayTwice, one_from_1}
 use Rattle.at_snapshot.specs.Snapshots.{IsSnapshot}

@@ -1,6 +1,6 @@
 use Rattle.std.proofs.Common.{ap, ◌∙◌, arith}
 use Rattle.at_board.specs.declared.knowledge.Part.{Part}
-use Rattle.at_snapshot.proofs.LoadedLaws.{own_part-HasLoaded}
+use Rattle.at_snapshot.proofs.Laws.Loads.{own_part-HasLoaded}
 use Rattle.at_trials.proofs.shared_trials.reads.Goals as goal
 
 pub returns-clause-ready : goal.returns-clause-ready

@@ -14,7 +14,7 @@ use Rattle.at_history.specs.Sound.{IsSoundOwn}
 use Rattle.at_board.specs.Knowledge.Parts.{own_part}
 use Rattle.at_log.specs.declared.record.Record.{Record}
 use Rattle.at_log.specs.Appending.{MayAppend}
-use Rattle.at_snapshot.proofs.LoadedLaws.{first-HasLoaded}
+use Rattle.at_snapshot.proofs.Laws.Loads.{first-HasLoaded}
 use Rattle.at_snapshot.specs.Collected.{HasLoaded}
 use Rattle.at_snapshot.specs.Snapshots.{IsSnapshot}
 use Rattle.at_trials.proofs.traffic_trials.move_nothing.Goals as goal

@@ -5,7 +5,7 @@ use Rattle.at_history.specs.Balances.{balance_after}
 use Rattle.at_history.specs.Fronts.{prefix_of}
 use Rattle.at_fold.specs.HasCounted.{CountsAccount, CountsFront}
 use Rattle.at_fold.specs.Sums.{TotalSums}
-use Rattle.at_fold.proofs.CountedPrefix.{IsBalanced, IsBalanced-front, sums_read}
+use Rattle.at_fold.proofs.Laws.CountedPrefix.{IsBalanced, IsBalanced-front, sums_read}
 use Rattle.at_fold.proofs.totals.Totals.balance.Goals.{After-index}
 use Rattle.at_fold.proofs.totals.Totals.balance.Goals as goal
 

@@ -9,8 +9,8 @@ use Rattle.at_history.proofs.Laws.Counts.{get_or-counts, length-counts}
 use Rattle.at_board.specs.declared.words.TheConstants.{RECORD_WORDS}
 use Rattle.at_fold.specs.HasCounted.{HasCounted}
 use Rattle.at_fold.specs.Sums.{TotalSums}
-use Rattle.at_fold.proofs.LoadedRecords.{sum-caught}
-use Rattle.at_fold.proofs.MorePublished.{StaysCounted-HasCounted}
+use Rattle.at_fold.proofs.Laws.LoadedRecords.{sum-caught}
+use Rattle.at_fold.proofs.Laws.MorePublished.{StaysCounted-HasCounted}
 use Rattle.at_fold.proofs.totals.Totals.catch_up.Given.{Over}
 use Rattle.at_fold.proofs.totals.Totals.catch_up.Goals as goal
 use Rattle.at_fold.proofs.totals.Totals.catch_up.Goals.{then-counted-end, else-counted-end}

@@ -5,7 +5,7 @@ use Rattle.at_history.specs.Publications.{count_of}
 use Rattle.at_board.specs.Knowledge.Seats.{SeatTerms}
 use Rattle.at_history.specs.Histories.{IsHistory}
 use Rattle.at_fold.specs.HasCounted.{HasCounted, MayCount}
-use Rattle.at_fold.proofs.LoadedRecords.{MayCount-loaded}
+use Rattle.at_fold.proofs.Laws.LoadedRecords.{MayCount-loaded}
 use Rattle.at_fold.proofs.totals.Totals.catch_up_with.Goals as goal
 
 pub loop-i-preserved : goal.loop-i-preserved

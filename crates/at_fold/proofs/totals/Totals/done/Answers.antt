@@ -1,6 +1,6 @@
 use Rattle.std.proofs.Common.{◌<◌, length, ap, ◌∙◌, arith}
 use Rattle.at_fold.specs.Sums.{AccountSums, TotalSums, slot_at}
-use Rattle.at_fold.proofs.CountedPrefix.{AreSumsOf-front, sums_read}
+use Rattle.at_fold.proofs.Laws.CountedPrefix.{AreSumsOf-front, sums_read}
 use Rattle.at_fold.proofs.totals.Totals.done.Goals as goal
 
 pub returns-clause-front : goal.returns-clause-front

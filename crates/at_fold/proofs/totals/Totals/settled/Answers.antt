@@ -2,7 +2,7 @@ use Rattle.std.proofs.Common.{◌<◌, length, sym, ap, subst, ◌∙◌, arith}
 use Rattle.at_history.specs.Fronts.{prefix_of}
 use Rattle.at_fold.specs.Counted.{IsSettledSo}
 use Rattle.at_fold.specs.Sums.{AccountSums, TotalSums, answer_at, slot_at}
-use Rattle.at_fold.proofs.CountedPrefix.{AreSumsOf-front, sums_read}
+use Rattle.at_fold.proofs.Laws.CountedPrefix.{AreSumsOf-front, sums_read}
 use Rattle.at_fold.proofs.totals.Totals.settled.Goals as goal
 
 pub returns-clause-front : goal.returns-clause-front

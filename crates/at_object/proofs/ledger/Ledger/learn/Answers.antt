@@ -7,7 +7,7 @@ use Rattle.at_closing.proofs.Laws.Seats.{named-IsBetweenCalls}
 use Rattle.at_closing.proofs.Laws.Stands.{AsksNothing, HasMoved, IsBetweenCalls-still, owns_of-still}
 use Rattle.at_closing.proofs.Laws.Told.{Told-IsPrefix}
 use Rattle.at_closing.specs.BetweenCalls.{IsBetweenCalls}
-use Rattle.at_fold.proofs.MorePublished.{StaysCounted-HasCounted}
+use Rattle.at_fold.proofs.Laws.MorePublished.{StaysCounted-HasCounted}
 use Rattle.at_log.specs.Told.{Told}
 use Rattle.at_object.proofs.Alone.{IsPass-HasMoved}
 use Rattle.at_object.specs.Passes.{PassTerms}

@@ -5,9 +5,9 @@ use Rattle.at_history.proofs.Laws.Histories.{ArePublishedBy-IsHistory}
 use Rattle.at_history.specs.Fronts.{IsFront, prefix_of}
 use Rattle.at_history.specs.Rounds.{rounds}
 use Rattle.at_board.specs.declared.knowledge.Knowledge.{Knowledge}
-use Rattle.at_fold.proofs.MorePublished.{StaysCounted-HasCounted}
+use Rattle.at_fold.proofs.Laws.MorePublished.{StaysCounted-HasCounted}
 use Rattle.at_rounds.specs.Answers.{DecidesAs}
-use Rattle.at_shared.proofs.Placing.{is_owner-HasSlot, is_shared-HasSlot}
+use Rattle.at_shared.proofs.Laws.Placing.{is_owner-HasSlot, is_shared-HasSlot}
 use Rattle.at_shared.specs.HelpTurns.{PublishesRound}
 use Rattle.at_shared.specs.HelpingTerms.{HelpingTerms}
 use Rattle.at_shared.proofs.helping.Helping.decide_next.Given as given

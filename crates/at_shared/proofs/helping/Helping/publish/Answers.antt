@@ -2,7 +2,7 @@ use Rattle.std.proofs.Common.{[], ◌∷◌, ◌++◌, sym, ap, subst, ◌∙◌
 use Rattle.at_ledger.specs.Book.{BookTerms}
 use Rattle.at_history.specs.Publications.{IsPrefix}
 use Rattle.at_board.specs.declared.knowledge.Knowledge.{Knowledge}
-use Rattle.at_fold.proofs.MorePublished.{StaysCounted-HasCounted}
+use Rattle.at_fold.proofs.Laws.MorePublished.{StaysCounted-HasCounted}
 use Rattle.at_fold.specs.HasCounted.{HasCounted}
 use Rattle.at_shared.proofs.helping.Helping.publish.Goals as goal
 

@@ -22,7 +22,7 @@ use Rattle.at_rows.specs.Asks.{asked_for}
 use Rattle.at_rows.specs.OpenRequests.{seen_of}
 use Rattle.at_rows.specs.declared.open_request.OpenRequest.{OpenRequest}
 use Rattle.at_shared.proofs.After.{own_part-HasLoaded}
-use Rattle.at_shared.proofs.Kept.{is_settled-IsPrefix}
+use Rattle.at_shared.proofs.Laws.Kept.{is_settled-IsPrefix}
 use Rattle.at_shared.proofs.Starting.{HasAccount-Keeps, Keeps, Keeps-Announces, Keeps-LoadsOnly, Keeps-HasLoaded, Keeps-trans, heard-Announces, heard-LoadsOnly, same_some}
 use Rattle.at_shared.proofs.helping.Helping.start.Given as given
 use Rattle.at_shared.proofs.helping.Helping.start.Goals.{After-known, After-look-front, After-len-count, After-unwrap-slot, After-ask-number, After-collect_rows-asked}

@@ -15,14 +15,14 @@ use Rattle.at_fold.specs.Counted.{IsDecidedIn}
 use Rattle.at_fold.specs.HasCounted.{CountsAccount, CountsFront, CountsSlot}
 use Rattle.at_rows.proofs.Laws.Accounts.{HasAccount}
 use Rattle.at_shared.proofs.After.{HasAccount-IsAfter, IsAfter, IsAfter-HasLoaded, own_part-HasLoaded}
-use Rattle.at_shared.proofs.Kept.{IsHelpingAt-IsAfter}
-use Rattle.at_shared.proofs.Placing.{IsPlaced-IsSettledBy, IsSettledBy, IsSettledBy-IsDecidedIn, StandsAfter-IsSettledBy, is_settled-IsDecidedIn}
+use Rattle.at_shared.proofs.Laws.Kept.{IsHelpingAt-IsAfter}
+use Rattle.at_shared.proofs.Laws.Placing.{IsPlaced-IsSettledBy, IsSettledBy, IsSettledBy-IsDecidedIn, StandsAfter-IsSettledBy, is_settled-IsDecidedIn}
 use Rattle.at_shared.proofs.Turning.{IsHelping-DecidesNext, IsSettledBy-DecidesNext, heard-DecidesNext, overtaken-DecidesNext, rounds-DecidesNext}
 use Rattle.at_shared.specs.HelpTurns.{NamesOwn}
 use Rattle.at_shared.specs.HelpingTerms.{HelpingTerms}
 use Rattle.at_shared.specs.Helpings.{IsHelping, IsHelpingAt}
 use Rattle.at_shared.specs.contracts.helping.Helping.{the_view}
-use Rattle.at_single.proofs.LookLaws.{CountsAccount-HasLooked, CountsFront-HasLooked, HasCounted-HasLooked}
+use Rattle.at_single.proofs.Laws.Looks.{CountsAccount-HasLooked, CountsFront-HasLooked, HasCounted-HasLooked}
 use Rattle.at_shared.proofs.helping.Helping.turn.Given as given
 use Rattle.at_shared.proofs.helping.Helping.turn.Goals.{After-look-front, Joined-else-decision-self, else-decision-self-via-then-decision-self+else-decision-self-2, else-decision-self-via-else-decision-self}
 use Rattle.at_shared.proofs.helping.Helping.turn.Goals as goal

@@ -2,8 +2,8 @@ use Rattle.std.proofs.Common.{◌≡◌, ◌<◌, None, Option, Some, ap, subst,
 use Rattle.at_ledger.specs.Book.{BookTerms}
 use Rattle.at_board.specs.Knowledge.Seats.{SeatTerms}
 use Rattle.at_board.specs.declared.knowledge.Knowledge.{Knowledge}
-use Rattle.at_snapshot.proofs.ScanLaws.{IsScanOf-after}
-use Rattle.at_snapshot.proofs.SnapshotLaws.{OnCounts-IsVerdict}
+use Rattle.at_snapshot.proofs.Laws.Scans.{IsScanOf-after}
+use Rattle.at_snapshot.proofs.Laws.Snapshots.{OnCounts-IsVerdict}
 use Rattle.at_snapshot.specs.Collected.{collect_of}
 use Rattle.at_snapshot.specs.Scans.{IsScanOf, ScanTerms, SeesOwnRecords, collects_after, scan_after}
 use Rattle.at_snapshot.specs.Snapshots.{IsSnapshot, OnCounts}

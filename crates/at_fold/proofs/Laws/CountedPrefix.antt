@@ -11,7 +11,7 @@ use Rattle.at_history.specs.Histories.{IsHistory}
 use Rattle.at_history.specs.Moves.{IsRun}
 use Rattle.at_history.specs.Publications.{ArePublishedBy, no_publication}
 use Rattle.at_history.specs.declared.publication.Publication.{Publication}
-use Rattle.at_fold.proofs.CountedRecords.{All-counted_records, HasSameRecords-prefix_of, length-counted_records-le}
+use Rattle.at_fold.proofs.Laws.CountedRecords.{All-counted_records, HasSameRecords-prefix_of, length-counted_records-le}
 use Rattle.at_fold.proofs.SumsOfLists.{AreSumsOf-same}
 use Rattle.at_fold.specs.Counted.{counted_records}
 use Rattle.at_fold.specs.HasCounted.{AreSumsOf, CountsAccount, CountsFront, HasCounted}

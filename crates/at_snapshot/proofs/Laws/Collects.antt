@@ -9,7 +9,7 @@ use Rattle.at_board.specs.declared.knowledge.Knowledge.{Knowledge}
 use Rattle.at_history.specs.Publications.{count_of}
 use Rattle.at_board.specs.Steps.LoadLength.{LoadsLength}
 use Rattle.at_board.specs.Knowledge.Parts.{loads_of, own_part}
-use Rattle.at_snapshot.proofs.LoadedLaws.{HasLoaded-LoadsLength, HasLoaded-trans, loads_of-other, loads_of-same, parts-HasLoaded}
+use Rattle.at_snapshot.proofs.Laws.Loads.{HasLoaded-LoadsLength, HasLoaded-trans, loads_of-other, loads_of-same, parts-HasLoaded}
 use Rattle.at_snapshot.specs.Collected.{HasLoaded, IsCollect, collect_of}
 
 -- a collect as far as the process

@@ -28,7 +28,7 @@ use Rattle.at_log.specs.Placed.{IsPlaced, has_no_room, short, done}
 use Rattle.at_log.specs.Receipts.{asks_in, owns_in, payout_of}
 use Rattle.at_log.specs.declared.receipt.At.TheVariants.{Front, Own}
 use Rattle.at_log.specs.declared.receipt.Receipt.{Receipt}
-use Rattle.at_single.proofs.LookLaws.{first-HasLoaded}
+use Rattle.at_single.proofs.Laws.Looks.{first-HasLoaded}
 use Rattle.at_single.specs.Standing.{IsOnlyOwner, payment_reply}
 use Rattle.at_snapshot.specs.Collected.{HasLoaded}
 use Rattle.at_snapshot.specs.Snapshots.{IsSnapshot}

@@ -10,8 +10,8 @@ use Rattle.at_board.specs.Knowledge.Parts.{loads_of, own_part}
 use Rattle.at_snapshot.specs.declared.collects.Collects.{Collects}
 use Rattle.at_snapshot.specs.declared.scan.Turn.{Turn}
 use Rattle.at_snapshot.specs.declared.scan.Turn.TheVariants.{Clean, Borrowed, Again}
-use Rattle.at_snapshot.proofs.LoadedLaws.{HasLoaded-trans, first-HasLoaded, parts-HasLoaded}
-use Rattle.at_snapshot.proofs.ScanLaws.{IsScanOf-after, last_le, length-collect_of}
+use Rattle.at_snapshot.proofs.Laws.Loads.{HasLoaded-trans, first-HasLoaded, parts-HasLoaded}
+use Rattle.at_snapshot.proofs.Laws.Scans.{IsScanOf-after, last_le, length-collect_of}
 use Rattle.at_snapshot.proofs.UnmovedLaws.{unmoved, unmoved-falls, unmoved-same, unmoved-some}
 use Rattle.at_snapshot.specs.Collected.{HasLoaded, IsCollect, collect_of}
 use Rattle.at_snapshot.specs.Scans.{AreCollects, IsScanOf, ScanTerms, SeesOwnRecords, collects_after, scan_after, starting_scan}

@@ -9,7 +9,7 @@ use Rattle.at_board.specs.declared.knowledge.Knowledge.{Knowledge}
 use Rattle.at_history.specs.Publications.{count_of}
 use Rattle.at_board.specs.Knowledge.Parts.{own_part}
 use Rattle.at_snapshot.specs.declared.collects.Collects.{Collects}
-use Rattle.at_snapshot.proofs.LoadedLaws.{first-HasLoaded, published-HasLoaded}
+use Rattle.at_snapshot.proofs.Laws.Loads.{first-HasLoaded, published-HasLoaded}
 use Rattle.at_snapshot.specs.Collected.{HasLoaded, IsCollect, collect_of}
 use Rattle.at_snapshot.specs.Scans.{AreCollects, IsScanOf, ScanTerms, collects_after, scan_after}
 

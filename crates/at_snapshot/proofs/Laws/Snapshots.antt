@@ -18,7 +18,7 @@ use Rattle.at_board.specs.Knowledge.Parts.{loads_of, own_part}
 use Rattle.at_snapshot.specs.declared.collects.Collects.{Collects}
 use Rattle.at_snapshot.specs.declared.scan.Turn.{Turn}
 use Rattle.at_snapshot.specs.declared.scan.Turn.TheVariants.{Clean, Borrowed, Again}
-use Rattle.at_snapshot.proofs.ScanLaws.{AreCollects-IsScanOf, length-collect_of}
+use Rattle.at_snapshot.proofs.Laws.Scans.{AreCollects-IsScanOf, length-collect_of}
 use Rattle.at_snapshot.specs.Collected.{IsCollect, collect_of}
 use Rattle.at_snapshot.specs.Scans.{AreCollects, IsScanOf, ScanTerms, SeesOwnRecords, loads_at_least}
 use Rattle.at_snapshot.specs.Snapshots.{IsSnapshot, OnCounts}

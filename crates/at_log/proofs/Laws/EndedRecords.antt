@@ -12,7 +12,7 @@ use Rattle.at_board.specs.Ends.Closing.{EndTerms, IsEnd, records_of}
 use Rattle.at_board.specs.Knowledge.Seats.{SeatTerms}
 use Rattle.at_board.specs.Words.Packed.{record_words}
 use Rattle.at_board.specs.declared.words.TheConstants.{RECORD_WORDS}
-use Rattle.at_log.proofs.SeenRecords.{IsShownRecord, IsShownRecord-IsHistory, get_or-record_words}
+use Rattle.at_log.proofs.Laws.SeenRecords.{IsShownRecord, IsShownRecord-IsHistory, get_or-record_words}
 use Rattle.at_log.specs.ClosingTerms.{published_by}
 use Rattle.at_log.specs.Ended.{IsEndedEntry, IsEndedView}
 use Rattle.at_log.specs.declared.record.Record.{Record}

@@ -4,7 +4,7 @@ use Rattle.at_ledger.specs.Book.{BookTerms}
 use Rattle.at_history.proofs.Laws.Counts.{get_or-counts, length-counts}
 use Rattle.at_history.proofs.Laws.Prefixes.{IsPrefix-count_of}
 use Rattle.at_history.specs.declared.publication.Publication.{Publication}
-use Rattle.at_fold.proofs.CountedRecords.{counted_records-IsPrefix}
+use Rattle.at_fold.proofs.Laws.CountedRecords.{counted_records-IsPrefix}
 use Rattle.at_fold.specs.HasCounted.{AreSumsOf, HasCounted, StaysCounted}
 use Rattle.at_fold.specs.Sums.{TotalSums}
 
