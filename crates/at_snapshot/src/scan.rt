@@ -84,7 +84,7 @@ impl Scan {
         seat.known();
         let now = collect(board, seat, steps, exchanges);
         self.mark = Snapshot::of(seat);
-        match self.collects.take() {
+        match &mut self.collects {
             None => {
                 self.collects = Some(Collects {
                     first: now.copy(),
@@ -92,12 +92,9 @@ impl Scan {
                 });
                 Turn::Again
             }
-            Some(before) => {
-                let answer = before.compare(board, seat, &now, steps, exchanges);
-                self.collects = Some(Collects {
-                    first: before.first,
-                    last: now,
-                });
+            Some(collects) => {
+                let answer = collects.compare(board, seat, &now, steps, exchanges);
+                collects.last = now;
                 answer
             }
         }

@@ -25,7 +25,7 @@ returns-in-None-clause-scan g c =
     let b : BookTerms = c.args.board.now.book in
     let scan : ScanTerms = c.args.self.now in
     let w : Knowledge = c.collect-now.new.seat.knows in
-    let none : scan.collects ≡ None = sym (ap (λ (s : ScanTerms). s.collects) c.self.view_is) ∙ (sym c.take.ensures.value ∙ c.in-None.is) in
+    let none : scan.collects ≡ None = sym (ap (λ (s : ScanTerms). s.collects) c.self.view_is) ∙ c.in-None.is in
     let counts = c.collect-now.ensures.counts in
     let first = c.copy.ensures ∙ counts in
     let begun : Option Collects = Some (record { first = c.copy.result; last = c.collect-now.result }) in
@@ -40,11 +40,11 @@ returns-in-Some-clause-scan g c =
     let b : BookTerms = c.args.board.now.book in
     let scan : ScanTerms = c.args.self.now in
     let w : Knowledge = c.collect-now.new.seat.knows in
-    let is : scan.collects ≡ Some c.in-Some.before = sym (ap (λ (s : ScanTerms). s.collects) c.self.view_is) ∙ (sym c.take.ensures.value ∙ c.in-Some.is) in
+    let is : scan.collects ≡ Some c.in-Some.collects = sym (ap (λ (s : ScanTerms). s.collects) c.self.view_is) ∙ c.in-Some.is in
     let counts = c.collect-now.ensures.counts in
-    let more : Option Collects = Some (record { first = c.in-Some.before.first; last = c.collect-now.result }) in
+    let more : Option Collects = Some (record { first = c.in-Some.collects.first; last = c.collect-now.result }) in
     let collects : more ≡ Some (collects_after scan.collects (collect_of w)) =
-    subst (λ o. more ≡ Some (collects_after o (collect_of w))) (sym is) (λ i. Some (record { first = c.in-Some.before.first; last = counts i })) in
+    subst (λ o. more ≡ Some (collects_after o (collect_of w))) (sym is) (λ i. Some (record { first = c.in-Some.collects.first; last = counts i })) in
     let start = c.self.inside.start.value.knows in
     let mark = c.of.result.value.knows in
     subst (λ (s : SeatTerms). IsScanOf b (record { start = start; mark = mark; collects = more }) s.knows) (sym c.compare-answer.ensures.same)
@@ -56,10 +56,10 @@ returns-in-Some-clause-snapshot g c =
     let b : BookTerms = c.args.board.now.book in
     let scan : ScanTerms = c.args.self.now in
     let w : Knowledge = c.collect-now.new.seat.knows in
-    let is : scan.collects ≡ Some c.in-Some.before = sym (ap (λ (s : ScanTerms). s.collects) c.self.view_is) ∙ (sym c.take.ensures.value ∙ c.in-Some.is) in
+    let is : scan.collects ≡ Some c.in-Some.collects = sym (ap (λ (s : ScanTerms). s.collects) c.self.view_is) ∙ c.in-Some.is in
     let known : c.args.seat.now.knows.first < b.processes =
     omega (arith, c.known.ensures.seat.known, ap (λ (t : BookTerms). t.processes) c.requires.board.book) in
     let own : SeesOwnRecords scan.start = subst (λ (s : ScanTerms). SeesOwnRecords s.start) c.self.view_is c.self.invariant in
-    let verdict = subst (λ now. IsVerdict c.in-Some.before w now c.compare-answer.result) c.collect-now.ensures.counts c.compare-answer.ensures.answer in
+    let verdict = subst (λ now. IsVerdict c.in-Some.collects w now c.compare-answer.result) c.collect-now.ensures.counts c.compare-answer.ensures.answer in
     subst (λ (s : SeatTerms). OnCounts c.compare-answer.result (IsSnapshot b scan.start s.knows)) (sym c.compare-answer.ensures.same)
-    (OnCounts-IsVerdict b scan c.in-Some.before c.args.seat.now.knows w c.compare-answer.result own c.requires.scan known is c.collect-now.ensures.collect verdict)
+    (OnCounts-IsVerdict b scan c.in-Some.collects c.args.seat.now.knows w c.compare-answer.result own c.requires.scan known is c.collect-now.ensures.collect verdict)
