@@ -23,7 +23,7 @@ build_proved() {
     mkdir -p -- "$program/src" "$program/c" "$program/proofs/journal_of"
     git -C "$work/proved" init --quiet
     cp -- "$here/../HANDLES" "$work/proved/"
-    for crate in at_base at_ledger at_board at_log at_journal; do
+    for crate in at_base at_ledger at_history at_board at_log at_journal; do
         mkdir -- "$work/proved/crates/$crate"
         cp -r -- "$here/../crates/$crate/"{src,specs,proofs} "$work/proved/crates/$crate/"
         grep "^$crate:" "$here/../crates.txt" >>"$work/proved/crates.txt"

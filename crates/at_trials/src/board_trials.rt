@@ -1,6 +1,7 @@
 //! Small boards on which processes ask, decide, publish and tell, and what they end with.
 
-ghost use Rattle.std.specs.Prelude.{◌≡◌, ◌<◌, length, IfSome, IsTrue};
+ghost use Rattle.std.specs.Prelude.{◌≡◌, ◌<◌, ◌≤◌, length, IfSome, IsTrue};
+ghost use Rattle.at_ledger.specs.Book.{HasSlot, account_of};
 ghost use Rattle.at_players.specs.SmallBoard.{AreNewPair, IsIdle, new_seat};
 
 use at_base::{Decision, pack_decision};
@@ -9,7 +10,7 @@ use at_ledger::Targets;
 use at_players::boards::{close_one, close_two, has_record, new_pair, new_single, slot_on};
 use at_players::records::{may_pay, pay, told_words};
 use at_players::requests::{ask, first_amount};
-use at_players::rounds::settle;
+use at_players::rounds::{decide_first, find_first, first_word, publish_round, settle};
 use at_players::words::{TO_ACCOUNT_0, TO_ACCOUNT_1};
 use std::alloc::Global;
 use std::marker::Brand;
@@ -156,6 +157,97 @@ fn settles<L: Ledger, X: Ledger, R: Abort>(rt: &R, alloc: Global, one: Blank, an
 #[test]
 fn a_round_is_settled(rt: HostRuntime) {
     settles::<Brand, Brand, _>(&rt, rt.alloc(), Blank::new(1), Blank::new(1));
+}
+
+/// The slots of processes 0 and 1 on account 0, if a request there to pay 7 to account 1 can be covered.
+fn slots_of_both(board: &Board) -> Option<(u32, u32)>
+    ensures zero { IfSome result (λ slots. HasSlot board.now.book 0 0 slots.0) }
+    ensures one { IfSome result (λ slots. HasSlot board.now.book 1 0 slots.1) }
+    ensures accounts { IfSome result (λ slots. 1 < length board.now.book.accounts) }
+    ensures covered { IfSome result (λ slots. 7 ≤ (account_of board.now.book 0).opening) }
+{
+    if board.book().accounts() < 2 || board.book().opening(0) < 7 {
+        return None;
+    }
+    let zero = slot_on(board.book(), 0, 0)?;
+    let one = slot_on(board.book(), 0, 1)?;
+    Some((zero, one))
+}
+
+/// Whether process 0 decides the first round, then process 1, which finds it decided so, publishes it, and process 0 does so last.
+fn publish_one_round<L: Ledger, X: Ledger>(
+    board: &Board,
+    zero: &mut BoardSeat,
+    one: &mut BoardSeat,
+    steps: &mut Steps<L>,
+    exchanges: &mut Steps<X>,
+) -> bool
+    requires { AreNewPair board.now zero.old one.old }
+    ensures zero { IsTrue result → IsIdle board.now zero.new × (zero.new.knows.first ≡ 0) }
+    ensures one { IsTrue result → IsIdle board.now one.new × (one.new.knows.first ≡ 1) }
+{
+    let Some((slot, other)) = slots_of_both(board) else {
+        return false;
+    };
+    let own = ask(board, zero, slot, steps, exchanges);
+    let Some(oldest) = find_first(board, zero, &own, steps, exchanges) else {
+        return false;
+    };
+    if decide_first(board, zero, oldest, steps, exchanges) != first_word(oldest) {
+        return false;
+    }
+    let helped = settle(board, one, other, steps, exchanges);
+    publish_round(board, zero, oldest, steps, exchanges);
+    helped == (first_of_slot(0), true)
+}
+
+/// The board's end, where both processes have published the first round.
+fn end_of_both<L: Ledger, X: Ledger>(
+    board: Board,
+    alloc: Global,
+    zero: BoardSeat,
+    one: BoardSeat,
+    steps: &mut Steps<L>,
+    exchanges: &mut Steps<X>,
+) -> Option<BoardEnd>
+    requires { AreNewPair board zero one }
+    ensures { IfSome result (λ end. end.book.processes ≡ 2) }
+{
+    let (mut zero, mut one) = (zero, one);
+    if publish_one_round(&board, &mut zero, &mut one, steps, exchanges) {
+        close_two(board, alloc, zero, one)
+    } else {
+        None
+    }
+}
+
+/// Whether the closed board has two records of the first round, one of each process, with the same words and views of nothing.
+fn has_round_twice(end: &BoardEnd) -> bool
+    requires two { end.now.book.processes ≡ 2 }
+{
+    let words = [1, TO_ACCOUNT_1, first_of_slot(0), 7, 0, 0, 0, 0, 0];
+    end.length(0) == 1
+        && end.length(1) == 1
+        && has_record(end, 0, 0, words.as_slice())
+        && has_record(end, 1, 0, words.as_slice())
+}
+
+/// Two processes publish one round, the one that decided it last.
+fn publish_twice<L: Ledger, X: Ledger, R: Abort>(rt: &R, alloc: Global, one: Blank, another: Blank)
+    requires names { (one.name ≡ L.name) × (another.name ≡ X.name) }
+    requires parts { (one.parts ≡ L.parts) × (another.parts ≡ X.parts) }
+    requires some { (0 < one.parts) × (0 < another.parts) }
+{
+    let (steps, exchanges) = (&mut Steps::<L>::new(one), &mut Steps::<X>::new(another));
+    let accounts = [(100, [0, 1].as_slice()), (0, [].as_slice())];
+    let (board, first, second) = new_pair(alloc, 65, accounts.as_slice()).expect(rt, "a board");
+    let end = end_of_both(board, alloc, first, second, steps, exchanges).expect(rt, "an end");
+    assert!(rt; has_round_twice(&end));
+}
+
+#[test]
+fn a_round_is_published_by_both(rt: HostRuntime) {
+    publish_twice::<Brand, Brand, _>(&rt, rt.alloc(), Blank::new(1), Blank::new(1));
 }
 
 /// Whether one process pays, and the other reads what, through notes alone.

@@ -12,7 +12,7 @@ ghost use Rattle.at_shared.specs.Helpings.{HasAllSettled, IsHelping};
 ghost use Rattle.at_trials.specs.SmallFold.{IsNewTotals};
 ghost use Rattle.at_trials.specs.SmallShared.{IsReady};
 
-use crate::fold_trials::{new_totals, said_of_shared};
+use crate::fold_trials::{OwnerSaid, new_totals, said_of_shared};
 use at_base::{Decision, Head, pack_decision, pack_head};
 use at_board::{Board, BoardEnd, BoardSeat, Steps, pack_targets};
 use at_fold::Totals;
@@ -393,6 +393,7 @@ fn turns_after_one<L: Ledger, X: Ledger>(
     requires seat { IsOf seat.old board.now }
     requires totals { HasCounted totals.old board.now.book seat.old.knows.seen }
     requires helping { IsHelping board.now.book seat.old.knows helping.old }
+    ensures counted { HasCounted totals.new board.now.book seat.new.knows.seen }
 {
     if !turns_more(helping, board, seat, totals, steps, exchanges) {
         return None;
@@ -492,7 +493,8 @@ fn a_request_is_overtaken_once_by_each(rt: HostRuntime) {
     overtakes::<Brand, Brand, _>(&rt, rt.alloc(), Blank::new(1), Blank::new(1));
 }
 
-/// Whether the second of two owners that have asked settles first the request of the other, and then its own.
+/// Whether the second of two owners that have asked settles first the request of the other, and then its own, and its totals
+/// tell so of both.
 fn is_overtaken_once<L: Ledger, X: Ledger>(
     board: &Board,
     zero: &mut BoardSeat,
@@ -512,8 +514,22 @@ fn is_overtaken_once<L: Ledger, X: Ledger>(
         return false;
     };
     let late = turns_after_one(&mut last, board, one, second, steps, exchanges);
+    let said = said_of_shared(second, board, one, 0);
     let early = turns(&mut earliest, board, zero, first, steps, exchanges);
-    late == Some((Reply::Done, 1, 1)) && early == Some((Reply::Done, 0, 0))
+    late == Some((Reply::Done, 1, 1))
+        && early == Some((Reply::Done, 0, 0))
+        && said == Some((2, decided_at(0), decided_at(1)))
+}
+
+/// What is said of an owner whose first request alone is decided, and covered, in the round and at the place of its slot.
+fn decided_at(slot: u32) -> OwnerSaid {
+    let decision = Decision {
+        ok: true,
+        slot,
+        number: 0,
+        place: slot,
+    };
+    (1, Some((slot, decision)))
 }
 
 /// Two owners of account 0 ask in their order, and the second turns.
