@@ -18,12 +18,12 @@ use Rattle.at_history.specs.declared.publication.Publication.{Publication}
 use Rattle.at_log.proofs.Laws.FirstRecords.{is_round-true}
 use Rattle.at_log.proofs.Laws.Positions.{round_position-at}
 use Rattle.at_log.specs.Told.{round_position}
-use Rattle.at_agree.proofs.SharedBalance.{amount_of-one, claimed, credits-shared, opening-shared, stands, whole}
+use Rattle.at_agree.proofs.SharedBalance.{amount_of-one, spent, credits-shared, opening-shared, stands, whole}
 use Rattle.at_agree.proofs.Shown.{IsCouncilList, NamesAnew}
 use Rattle.at_agree.proofs.ValueBalance.{balance-value}
 use Rattle.at_agree.proofs.VotedReceipts.{StandsAsVoted}
 use Rattle.at_agree.specs.Council.{IsSize, council_book, shared_account, spent_account, value_account}
-use Rattle.at_agree.specs.Plan.{HasProposed, KeepsPlan, chosen, claim_of, claim_targets, named_account}
+use Rattle.at_agree.specs.Plan.{HasProposed, KeepsPlan, chosen, share_of, share_targets, named_account}
 
 -- the rounds of each prefix are all numbers below their count
 next_at_most : (k : ℕ) (list : List Publication) (m : ℕ) (e : Entry) → IsCouncilList k list → m < length list
@@ -74,15 +74,15 @@ some_round k p value answer list size shown planned anew v =
     let first = round_position-at a v.round list v.position v.within at in
     let j = round_position a v.round list in
     let there = is_round-true a v.round (publication_at list j).entry first.here in
-    let round = shown.round v.position v.round v.decision (claim_targets k p) v.within v.entry in
+    let round = shown.round v.position v.round v.decision (share_targets k p) v.within v.entry in
     elim (cases_Bool v.decision.ok) as (λ _. 1 ≤ rounds a (take v.found list)) [
       | inl ok ↦ omega (arith, round-below k list j v.found v.round there.0 there.1 shown (v.found_done ok) first.within there.2)
       | inr refused ↦
           let later : 1 ≤ v.round = elim (stands k list v.decision.place size shown planned anew round.place_in) as (λ _. 1 ≤ v.round) [
             | whole none untouched ↦
-                let covered : v.decision.ok ≡ true = round.ok (omega (arith, untouched, amount_of-one (spent_account k) (claim_of k p), opening-shared k)) in
+                let covered : v.decision.ok ≡ true = round.ok (omega (arith, untouched, amount_of-one (spent_account k) (share_of k p), opening-shared k)) in
                 absurd (cc (sym covered ∙ refused))
-            | claimed some taken known naming proposed ↦ omega (arith, some, round.next)
+            | spent some taken known naming proposed ↦ omega (arith, some, round.next)
           ] in
           omega (arith, later, round.next, rounds-take_mono a v.decision.place v.found list (v.found_short refused))
     ]
@@ -94,7 +94,7 @@ answered-chosen k p value answer list size shown planned anew v =
     let w = chosen k list in
     elim (stands k list v.found size shown planned anew v.found_in) as (λ _. HasProposed k list w answer) [
       | whole none untouched ↦ absurd (omega (arith, none, some_round k p value answer list size shown planned anew v))
-      | claimed some taken known naming proposed ↦
+      | spent some taken known naming proposed ↦
           let left_is : v.left ≡ w + 1 =
           omega (arith, v.found_is, taken, known, opening-shared k, credits-shared k list v.found shown planned v.found_in) in
           let account_is : named_account k p v.left ≡ value_account k w =

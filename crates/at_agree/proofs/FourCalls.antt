@@ -17,7 +17,7 @@ use Rattle.at_agree.proofs.Answered.{answered-chosen}
 use Rattle.at_agree.proofs.HistoryShown.{IsCouncilList-IsHistory, NamesAnew-IsHistory}
 use Rattle.at_agree.proofs.VotedReceipts.{asks_not, stands_as_voted}
 use Rattle.at_agree.specs.Council.{IsCouncil, IsSize, council_book, shared_account, size_of, spent_account, value_account}
-use Rattle.at_agree.specs.Plan.{HasAsked, HasProposed, HasVoted, KeepsPlan, chosen, claim_of, named_account}
+use Rattle.at_agree.specs.Plan.{HasShareDecided, HasProposed, HasVoted, KeepsPlan, chosen, share_of, named_account}
 use Rattle.at_agree.specs.Voices.{HasMade, HasNotProposed, HasRead, IsVoiceOf, VoiceTerms, process_of, seen_by}
 
 -- what stands in a list stands in each that begins with it
@@ -38,8 +38,8 @@ HasProposed-IsPrefix k p value xs ys before proposed =
       entry = ap (λ (x : Publication). x.entry) same ∙ proposed.entry;
     }
 
-pub HasAsked-IsPrefix : (k p : ℕ) (xs ys : List Publication) → IsPrefix xs ys → HasAsked k xs p → HasAsked k ys p
-HasAsked-IsPrefix k p xs ys before asked =
+pub HasShareDecided-IsPrefix : (k p : ℕ) (xs ys : List Publication) → IsPrefix xs ys → HasShareDecided k xs p → HasShareDecided k ys p
+HasShareDecided-IsPrefix k p xs ys before asked =
     let same = same_record xs ys asked.position before asked.within in
     record {
       position = asked.position;
@@ -64,23 +64,23 @@ asks_in-paid council v0 v1 k p value known none made =
 -- the four receipts
 module _ (council : BoardTerms) (v0 v1 v2 v3 v4 : VoiceTerms) (k p value left answer : ℕ) where
   pub HasVoted-made : HasNotProposed v0 → HasMade council v0 v1 (Transfer p (value_account k p) value)
-      → HasMade council v1 v2 (Transfer (shared_account k) (spent_account k) (claim_of k p))
+      → HasMade council v1 v2 (Transfer (shared_account k) (spent_account k) (share_of k p))
       → HasRead council v2 v3 (shared_account k) left → HasRead council v3 v4 (named_account k p left) answer
       → HasVoted k p value answer v4.receipts
-  HasVoted-made none paid claimed found last =
+  HasVoted-made none paid asked found last =
       let r0 = paid.receipt in
-      let r1 = claimed.receipt in
+      let r1 = asked.receipt in
       let r2 = found.made.receipt in
       let r3 = last.made.receipt in
       let push : Receipt → List Receipt → List Receipt = λ r rs. rs ++ r ∷ [] in
       let one : v1.receipts ≡ r0 ∷ [] = paid.receipts ∙ ap (push r0) none in
-      let two : v2.receipts ≡ r0 ∷ r1 ∷ [] = claimed.receipts ∙ ap (push r1) one in
+      let two : v2.receipts ≡ r0 ∷ r1 ∷ [] = asked.receipts ∙ ap (push r1) one in
       let three : v3.receipts ≡ r0 ∷ r1 ∷ r2 ∷ [] = found.made.receipts ∙ ap (push r2) two in
       let four : v4.receipts ≡ r0 ∷ r1 ∷ r2 ∷ r3 ∷ [] = last.made.receipts ∙ ap (push r3) three in
       record {
         left = left;
         calls = ap (map (λ (r : Receipt). r.call)) four
-            ∙ (λ t. paid.call_is t ∷ claimed.call_is t ∷ found.made.call_is t ∷ last.made.call_is t ∷ []);
+            ∙ (λ t. paid.call_is t ∷ asked.call_is t ∷ found.made.call_is t ∷ last.made.call_is t ∷ []);
         found = ap (λ (rs : List Receipt). (receipt_at rs 2).reply) four ∙ found.found;
         answered = ap (λ (rs : List Receipt). (receipt_at rs 3).reply) four ∙ last.found;
       }

@@ -26,7 +26,7 @@ use Rattle.at_agree.proofs.CouncilBook.{owner-shared}
 use Rattle.at_agree.proofs.Shown.{IsCouncilList, NamesAnew}
 use Rattle.at_agree.proofs.VotedReceipts.{StandsAsVoted}
 use Rattle.at_agree.specs.Council.{shared_account}
-use Rattle.at_agree.specs.Plan.{IsPlanned, KeepsPlan, claim_targets, value_targets, winner_of}
+use Rattle.at_agree.specs.Plan.{IsPlanned, KeepsPlan, share_targets, value_targets, winner_of}
 
 -- all votes of a council
 abbrev pub AllVoted : ℕ → List Publication → Type 0
@@ -178,11 +178,11 @@ planned_round k r list m d targets q shown voted within is =
     let vote = all.2 in
     let winner_is : winner_of k d ≡ p = owner-shared k p law.slot_in in
     let first = first_for k list m r d targets shown within is in
-    let theirs = first_for k list vote.position vote.round vote.decision (claim_targets k p) shown vote.within vote.entry in
+    let theirs = first_for k list vote.position vote.round vote.decision (share_targets k p) shown vote.within vote.entry in
     let its : IsFirstFor k list vote.round p (round_position a vote.round list) =
     subst (λ s. IsFirstFor k list vote.round s (round_position a vote.round list)) vote.slot_is theirs in
     let round_is : r ≡ vote.round = same_round k list r vote.round p (NamesAnew-AllVoted k list shown voted) first its in
-    let agree : AgreeOnRound (Round a r d targets) (Round a vote.round vote.decision (claim_targets k p)) =
+    let agree : AgreeOnRound (Round a r d targets) (Round a vote.round vote.decision (share_targets k p)) =
     subst (λ e. AgreeOnRound (Round a r d targets) e) vote.entry
     (subst (λ e. AgreeOnRound e (publication_at list vote.position).entry) is (shown.agree m vote.position within vote.within)) in
     let same = agree refl round_is in
@@ -201,7 +201,7 @@ planned_round k r list m d targets q shown voted within is =
       | inl ok ↦ omega (arith, vote.paid_done ok, ap (λ n. round_position a n list) round_is, first_below, apart)
       | inr refused ↦ elim (cases_lt m vote.decision.place) as (λ _. j < m) [
         | inl early ↦
-            let theirs_next = (shown.round vote.position vote.round vote.decision (claim_targets k p) vote.within vote.entry).next in
+            let theirs_next = (shown.round vote.position vote.round vote.decision (share_targets k p) vote.within vote.entry).next in
             absurd (omega (arith, round-below k list m vote.decision.place r d targets shown early within is, theirs_next, round_is))
         | inr late ↦ omega (arith, vote.paid_short refused, late)
       ]
@@ -215,7 +215,7 @@ planned_round k r list m d targets q shown voted within is =
       ap f (get_or-take m list j no_publication before),
       get_or-le-sum_by f (take m list) j no_publication (omega (arith, before, length-take m list, within)),
     ) in
-    (refl, same.1 ∙ ap (claim_targets k) (sym winner_is), omega (arith, counted, ap (λ n. owns_of n (take m list)) winner_is))
+    (refl, same.1 ∙ ap (share_targets k) (sym winner_is), omega (arith, counted, ap (λ n. owns_of n (take m list)) winner_is))
 
 planned_entry : (k : ℕ) (list : List Publication) (m : ℕ) (e : Entry) → IsCouncilList k list → AllVoted k list → m < length list
     → (publication_at list m).entry ≡ e → IsPlanned k (take m list) (publication_at list m).process e

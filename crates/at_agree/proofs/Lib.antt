@@ -19,7 +19,7 @@ pub mod OneAnswer
 pub mod NewVoices
 pub mod VoiceCalls
 pub mod FourCalls
--- the proposals of all voices
-pub mod AllProposals
+-- the votes of all voices
+pub mod AllVotes
 -- lists that are related element by element
 pub mod Zipped

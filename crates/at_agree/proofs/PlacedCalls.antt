@@ -31,7 +31,7 @@ use Rattle.at_agree.proofs.CouncilBook.{account_of-own, is_owner-own, is_owner-s
 use Rattle.at_agree.proofs.SharedBalance.{amount_of-one, sum_by-firsts_none}
 use Rattle.at_agree.proofs.Shown.{IsCouncilList}
 use Rattle.at_agree.specs.Council.{IsSize, council_book, most_value, shared_account, spent_account, value_account}
-use Rattle.at_agree.specs.Plan.{HasAsked, HasProposed, claim_of, claim_targets, value_targets}
+use Rattle.at_agree.specs.Plan.{HasShareDecided, HasProposed, share_of, share_targets, value_targets}
 
 -- a weight that nothing in a list has, in any prefix
 pub sum_by-firsts_never : (f : Publication → ℕ) (list : List Publication) (m : ℕ)
@@ -133,21 +133,21 @@ value_placed k p value list r known small shown call_is unpaid placed =
     ]
 
 -- the request stands in a round
-pub claim_placed : (k p : ℕ) (list : List Publication) (earlier : List Receipt) (r : Receipt) → p < k → IsSize k
-    → r.call ≡ Transfer (shared_account k) (spent_account k) (claim_of k p) → asks_in (shared_account k) earlier ≡ 0
-    → IsPlaced (council_book k) p list earlier r → IsAtRound (council_book k) p list earlier (shared_account k) (claim_targets k p) r
-claim_placed k p list earlier r known size call_is unasked placed =
+pub share_placed : (k p : ℕ) (list : List Publication) (earlier : List Receipt) (r : Receipt) → p < k → IsSize k
+    → r.call ≡ Transfer (shared_account k) (spent_account k) (share_of k p) → asks_in (shared_account k) earlier ≡ 0
+    → IsPlaced (council_book k) p list earlier r → IsAtRound (council_book k) p list earlier (shared_account k) (share_targets k p) r
+share_placed k p list earlier r known size call_is unasked placed =
     let b = council_book k in
     let a = shared_account k in
-    let asked : payout_of r.call ≡ Some (a, claim_targets k p) = ap payout_of call_is in
+    let asked : payout_of r.call ≡ Some (a, share_targets k p) = ap payout_of call_is in
     let same : (source : ℕ) (targets : List TargetPair) → payout_of r.call ≡ Some (source, targets)
-    → ◌≡◌ {A = ℕ × List TargetPair} (a, claim_targets k p) (source, targets) =
-    λ source targets is. same_payout (a, claim_targets k p) (source, targets) (sym asked ∙ is) in
+    → ◌≡◌ {A = ℕ × List TargetPair} (a, share_targets k p) (source, targets) =
+    λ source targets is. same_payout (a, share_targets k p) (source, targets) (sym asked ∙ is) in
     let joint : (source : ℕ) (targets : List TargetPair) → payout_of r.call ≡ Some (source, targets) → is_single (account_of b source) ≡ true → ⊥ =
     λ source targets is single.
     let wrong : false ≡ true = sym (is_single-shared k size.some) ∙ (ap (λ (x : ℕ × List TargetPair). is_single (account_of b x.0)) (same source targets is) ∙ single) in
     cc wrong in
-    let result = IsAtRound b p list earlier a (claim_targets k p) r in
+    let result = IsAtRound b p list earlier a (share_targets k p) r in
     elim placed as (λ _. result) [
       | read account balance call reply at ↦ absurd (cc (sym call_is ∙ call))
       | not_owner source targets payout owner reply at ↦
@@ -183,12 +183,12 @@ position-HasProposed k p value list earlier r at = refl
 
 -- the slot of a round that stands for a process is the process
 pub slot-IsAtRound : (k p : ℕ) (list : List Publication) (earlier : List Receipt) (r : Receipt) → p < k
-    → (at : IsAtRound (council_book k) p list earlier (shared_account k) (claim_targets k p) r) → at.decision.slot ≡ p
+    → (at : IsAtRound (council_book k) p list earlier (shared_account k) (share_targets k p) r) → at.decision.slot ≡ p
 slot-IsAtRound k p list earlier r known at = cc (sym (slot-shared k p known) ∙ at.slot)
 
-pub HasAsked-IsAtRound : (k p : ℕ) (list : List Publication) (earlier : List Receipt) (r : Receipt) → p < k
-    → IsAtRound (council_book k) p list earlier (shared_account k) (claim_targets k p) r → HasAsked k list p
-HasAsked-IsAtRound k p list earlier r known at =
+pub HasShareDecided-IsAtRound : (k p : ℕ) (list : List Publication) (earlier : List Receipt) (r : Receipt) → p < k
+    → IsAtRound (council_book k) p list earlier (shared_account k) (share_targets k p) r → HasShareDecided k list p
+HasShareDecided-IsAtRound k p list earlier r known at =
     let slot_is : at.decision.slot ≡ p = slot-IsAtRound k p list earlier r known at in
     record {
       position = at.position;

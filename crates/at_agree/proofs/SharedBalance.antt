@@ -23,7 +23,7 @@ use Rattle.at_log.specs.Told.{round_position}
 use Rattle.at_agree.proofs.CouncilBook.{account_of-shared, owner-shared}
 use Rattle.at_agree.proofs.Shown.{IsCouncilList, NamesAnew}
 use Rattle.at_agree.specs.Council.{IsSize, council_book, shared_account, spent_account}
-use Rattle.at_agree.specs.Plan.{IsPlanned, KeepsPlan, chosen, claim_of, winner_in, winner_of}
+use Rattle.at_agree.specs.Plan.{IsPlanned, KeepsPlan, chosen, share_of, winner_in, winner_of}
 
 -- a weight that nothing in a prefix has
 pub sum_by-firsts_none : (f : Publication → ℕ) (list : List Publication) (m : ℕ) → m ≤ length list
@@ -44,7 +44,7 @@ credit_of-shared k before p (Own from targets) known (value, from_is, targets_is
     ap (amount_for (2 * k)) targets_is ∙ (amount_for-one (2 * k) (k + p) value
     ∙ ap (λ t. cond t value 0) (ne_eqb (k + p) (2 * k) (λ e. omega (arith, e, known))))
 credit_of-shared k before p (Round account round d targets) known (account_is, targets_is, proposed) =
-    let c = claim_of k (winner_of k d) in
+    let c = share_of k (winner_of k d) in
     let none : amount_for (2 * k) targets ≡ 0 = ap (amount_for (2 * k)) targets_is ∙ (amount_for-one (2 * k) (2 * k + 1) c
     ∙ ap (λ t. cond t c 0) (ne_eqb (2 * k + 1) (2 * k) (λ e. omega (arith, e)))) in
     ap (λ n. cond d.ok n 0) none ∙ cond_both {A = ℕ} d.ok 0 0 (λ n. n ≡ 0) (λ e. refl) (λ e. refl)
@@ -57,9 +57,9 @@ debit_of-shared_own k before p from targets known (value, from_is, targets_is) =
 
 debit_of-shared_round : (k : ℕ) (before : List Publication) (p round : ℕ) (d : Decision) (targets : List TargetPair)
     → IsPlanned k before p (Round (shared_account k) round d targets)
-    → debit_of (shared_account k) (Round (shared_account k) round d targets) ≡ cond d.ok (claim_of k (winner_of k d)) 0
+    → debit_of (shared_account k) (Round (shared_account k) round d targets) ≡ cond d.ok (share_of k (winner_of k d)) 0
 debit_of-shared_round k before p round d targets (account_is, targets_is, proposed) =
-    let whole : amount_of targets ≡ claim_of k (winner_of k d) = ap amount_of targets_is ∙ amount_of-one (spent_account k) (claim_of k (winner_of k d)) in
+    let whole : amount_of targets ≡ share_of k (winner_of k d) = ap amount_of targets_is ∙ amount_of-one (spent_account k) (share_of k (winner_of k d)) in
     both d.ok (2 * k == 2 * k) (eq-eqb (2 * k) (2 * k) refl) ∙ ap (λ n. cond d.ok n 0) whole
   where
     both : (ok same : Bool) → same ≡ true → cond (ok && same) (amount_of targets) 0 ≡ cond ok (amount_of targets) 0
@@ -84,7 +84,7 @@ chosen-round k list m d targets shown within is =
 -- what stands of the shared account after a prefix: no round, or the first one, which was done, and its winner has proposed there
 pub data Stands (k : ℕ) (list : List Publication) (m : ℕ) : Type 0 where
   whole : rounds (shared_account k) (take m list) ≡ 0 → debits (shared_account k) (take m list) ≡ 0 → Stands k list m
-  claimed : 1 ≤ rounds (shared_account k) (take m list) → debits (shared_account k) (take m list) ≡ claim_of k (chosen k list)
+  spent : 1 ≤ rounds (shared_account k) (take m list) → debits (shared_account k) (take m list) ≡ share_of k (chosen k list)
       → chosen k list < k → 1 ≤ named (shared_account k) (chosen k list) (take m list) → 1 ≤ owns_of (chosen k list) (take m list)
       → Stands k list m
 
@@ -114,8 +114,8 @@ stands_still k list m within before still light =
     omega (arith, owns_of-more w (take m list) x, ap (owns_of w) more) in
     elim before as (λ _. Stands k list (m + 1)) [
       | whole none untouched ↦ whole (rounds_is ∙ none) (debits_is ∙ untouched)
-      | claimed some taken known naming_one proposed ↦
-          claimed (omega (arith, some, rounds_is)) (debits_is ∙ taken) known (omega (arith, naming_one, named_is)) (omega (arith, proposed, owns_is))
+      | spent some taken known naming_one proposed ↦
+          spent (omega (arith, some, rounds_is)) (debits_is ∙ taken) known (omega (arith, naming_one, named_is)) (omega (arith, proposed, owns_is))
     ]
   where
     names_off : (a slot : ℕ) (e : Entry) → is_round_on a e ≡ false → names a slot e ≡ false
@@ -135,10 +135,10 @@ opening-shared k = ap (λ (t : AccountTerms). t.opening) (account_of-shared k)
 
 -- one more publication that is a new round
 module _ (k : ℕ) (list : List Publication) (m r : ℕ) (d : Decision) (targets : List TargetPair) where
-  stands_claimed : IsSize k → IsCouncilList k list → KeepsPlan k list → NamesAnew k list → m < length list
+  stands_asked : IsSize k → IsCouncilList k list → KeepsPlan k list → NamesAnew k list → m < length list
       → (publication_at list m).entry ≡ Round (shared_account k) r d targets
       → repeats (publication_at list m) (firsts (take m list)) ≡ false → Stands k list m → Stands k list (m + 1)
-  stands_claimed size shown planned anew within is new before =
+  stands_asked size shown planned anew within is new before =
       let a = shared_account k in
       let x : Publication = publication_at list m in
       let w = chosen k list in
@@ -149,20 +149,20 @@ module _ (k : ℕ) (list : List Publication) (m r : ℕ) (d : Decision) (targets
       let on : Publication → ℕ = λ y. one_if (is_round_on a y.entry) in
       let takes : Publication → ℕ = λ y. debit_of a y.entry in
       let here : on x ≡ 1 = ap (λ e. one_if (is_round_on a e)) is ∙ ap one_if (eq-eqb a a refl) in
-      let takes_here : takes x ≡ cond d.ok (claim_of k (winner_of k d)) 0 =
+      let takes_here : takes x ≡ cond d.ok (share_of k (winner_of k d)) 0 =
       ap (debit_of a) is ∙ debit_of-shared_round k (take m list) x.process r d targets plan in
       let names_here : one_if (names a d.slot x.entry) ≡ 1 =
       ap (λ e. one_if (names a d.slot e)) is ∙ (λ t. one_if (eq-eqb a a refl t && eq-eqb d.slot d.slot refl t)) in
       let rounds_is : rounds a (take (m + 1) list) ≡ rounds a (take m list) + 1 =
       omega (arith, ap (rounds a) more, sum_by-firsts_new on (take m list) x new, here) in
-      let debits_is : debits a (take (m + 1) list) ≡ debits a (take m list) + cond d.ok (claim_of k (winner_of k d)) 0 =
+      let debits_is : debits a (take (m + 1) list) ≡ debits a (take m list) + cond d.ok (share_of k (winner_of k d)) 0 =
       omega (arith, ap (debits a) more, sum_by-firsts_new takes (take m list) x new, takes_here) in
       let named_here : named a d.slot (take (m + 1) list) ≡ named a d.slot (take m list) + 1 =
       omega (arith, ap (named a d.slot) more, sum_by-firsts_new (λ y. one_if (names a d.slot y.entry)) (take m list) x new, names_here) in
       let owns_is : (p : ℕ) → owns_of p (take m list) ≤ owns_of p (take (m + 1) list) =
       λ p. omega (arith, owns_of-more p (take m list) x, ap (owns_of p) more) in
-      let claim_is : amount_of targets ≡ claim_of k (winner_of k d) =
-      ap amount_of plan.1 ∙ amount_of-one (spent_account k) (claim_of k (winner_of k d)) in
+      let share_is : amount_of targets ≡ share_of k (winner_of k d) =
+      ap amount_of plan.1 ∙ amount_of-one (spent_account k) (share_of k (winner_of k d)) in
       elim before as (λ _. Stands k list (m + 1)) [
         | whole none untouched ↦
             let first : r ≡ 0 = omega (arith, round.at_most, none) in
@@ -171,26 +171,26 @@ module _ (k : ℕ) (list : List Publication) (m r : ℕ) (d : Decision) (targets
               | inr early ↦ early
             ] in
             let free : debits a (take d.place list) ≡ 0 = omega (arith, untouched, sum_by-firsts-take_mono takes list d.place m behind) in
-            let ok : d.ok ≡ true = round.ok (omega (arith, free, claim_is, opening-shared k)) in
+            let ok : d.ok ≡ true = round.ok (omega (arith, free, share_is, opening-shared k)) in
             let chosen_is : w ≡ winner_of k d = chosen-round k list m d targets shown within (is ∙ ap (λ n. Round a n d targets) first) in
-            let taken : debits a (take (m + 1) list) ≡ claim_of k w =
-            omega (arith, debits_is, untouched, ap (λ t. cond t (claim_of k (winner_of k d)) 0) ok, ap (claim_of k) chosen_is) in
+            let taken : debits a (take (m + 1) list) ≡ share_of k w =
+            omega (arith, debits_is, untouched, ap (λ t. cond t (share_of k (winner_of k d)) 0) ok, ap (share_of k) chosen_is) in
             let slot_is : w ≡ d.slot = chosen_is ∙ q_is in
-            claimed (omega (arith, rounds_is)) taken (omega (arith, slot_is, round.slot_in))
+            spent (omega (arith, rounds_is)) taken (omega (arith, slot_is, round.slot_in))
             (omega (arith, named_here, ap (λ s. named a s (take (m + 1) list)) slot_is))
             (omega (arith, owns_is w, plan.2, ap (λ p. owns_of p (take m list)) chosen_is))
-        | claimed some taken known naming_one proposed ↦
+        | spent some taken known naming_one proposed ↦
             let late : d.ok ≡ false = elim (cases_Bool d.ok) as (λ _. d.ok ≡ false) [
               | inl ok ↦
                   let room = shown.covered (m + 1) (omega arith) in
-                  let both : debits a (take (m + 1) list) ≡ claim_of k w + claim_of k (winner_of k d) =
-                  omega (arith, debits_is, taken, ap (λ t. cond t (claim_of k (winner_of k d)) 0) ok) in
+                  let both : debits a (take (m + 1) list) ≡ share_of k w + share_of k (winner_of k d) =
+                  omega (arith, debits_is, taken, ap (λ t. cond t (share_of k (winner_of k d)) 0) ok) in
                   let same : w ≡ d.slot =
                   omega (arith, both, room, opening-shared k, credits-shared k list (m + 1) shown planned (omega arith), known, round.slot_in, q_is) in
                   absurd (omega (arith, naming_one, anew m r d targets within is new, ap (λ s. named a s (take m list)) same))
               | inr refused ↦ refused
             ] in
-            claimed (omega (arith, some, rounds_is)) (omega (arith, debits_is, taken, ap (λ t. cond t (claim_of k (winner_of k d)) 0) late)) known
+            spent (omega (arith, some, rounds_is)) (omega (arith, debits_is, taken, ap (λ t. cond t (share_of k (winner_of k d)) 0) late)) known
             (omega (arith, naming_one, sum_by-firsts-take_mono (λ y. one_if (names a w y.entry)) list m (m + 1) (omega arith)))
             (omega (arith, proposed, owns_is w))
       ]
@@ -214,7 +214,7 @@ stands-more k list m (Round account r d targets) size shown planned anew within 
       | inl again ↦
           stands_still k list m within before (λ f weightless. sum_by-firsts_nothing f (take m list) x (inl again))
           (λ off. absurd (cc (sym on ∙ off)))
-      | inr new ↦ stands_claimed k list m r d targets size shown planned anew within (is ∙ ap (λ c. Round c r d targets) account_is) new before
+      | inr new ↦ stands_asked k list m r d targets size shown planned anew within (is ∙ ap (λ c. Round c r d targets) account_is) new before
     ]
 
 pub stands : (k : ℕ) (list : List Publication) (m : ℕ) → IsSize k → IsCouncilList k list → KeepsPlan k list → NamesAnew k list

@@ -18,7 +18,7 @@ use Rattle.at_agree.proofs.CouncilBook.{account_of-value}
 use Rattle.at_agree.proofs.SharedBalance.{amount_for-one, sum_by-firsts_none}
 use Rattle.at_agree.proofs.Shown.{IsCouncilList}
 use Rattle.at_agree.specs.Council.{council_book, value_account}
-use Rattle.at_agree.specs.Plan.{HasProposed, IsPlanned, KeepsPlan, claim_of, value_targets, winner_of}
+use Rattle.at_agree.specs.Plan.{HasProposed, IsPlanned, KeepsPlan, share_of, value_targets, winner_of}
 
 -- what a record that is planned gives a value account
 credit_of-own : (k p q from value : ℕ) (targets : List TargetPair) → targets ≡ value_targets k q value
@@ -34,7 +34,7 @@ credit_of-round : (k p : ℕ) (before : List Publication) (q : ℕ) (e : Entry) 
     → credit_of (value_account k p) e ≡ 0
 credit_of-round k p before q (Own from targets) known other plan = absurd (cc other)
 credit_of-round k p before q (Round account round d targets) known other (account_is, targets_is, proposed) =
-    let c = claim_of k (winner_of k d) in
+    let c = share_of k (winner_of k d) in
     let none : amount_for (k + p) targets ≡ 0 = ap (amount_for (k + p)) targets_is ∙ (amount_for-one (k + p) (2 * k + 1) c
     ∙ ap (λ t. cond t c 0) (ne_eqb (2 * k + 1) (k + p) (λ e. omega (arith, e, known)))) in
     ap (λ n. cond d.ok n 0) none ∙ cond_both {A = ℕ} d.ok 0 0 (λ n. n ≡ 0) (λ e. refl) (λ e. refl)

@@ -15,10 +15,10 @@ use Rattle.at_object.specs.Passes.{IsPassOf, PassTerms, Stands, one_more_call}
 use Rattle.at_object.specs.Payments.{IsDecided, payment_steps, shared_steps, single_steps}
 use Rattle.at_agree.proofs.CouncilBook.{account_of-own, is_shared-shared, length-accounts, slots_of-shared}
 use Rattle.at_agree.proofs.HistoryShown.{IsCouncilList-IsHistory}
-use Rattle.at_agree.proofs.PlacedCalls.{HasAsked-IsAtRound, HasProposed-IsAtOwn, claim_placed, paid, refused, value_decided, value_placed}
+use Rattle.at_agree.proofs.PlacedCalls.{HasShareDecided-IsAtRound, HasProposed-IsAtOwn, share_placed, paid, refused, value_decided, value_placed}
 use Rattle.at_agree.proofs.VotedReceipts.{short-is_at_own}
 use Rattle.at_agree.specs.Council.{IsCouncil, IsSize, council_book, shared_account, size_of, spent_account, value_account}
-use Rattle.at_agree.specs.Plan.{HasAsked, HasProposed, claim_of}
+use Rattle.at_agree.specs.Plan.{HasShareDecided, HasProposed, share_of}
 use Rattle.at_agree.specs.Voices.{IsVoice, IsVoiceOf, VoiceTerms, process_of}
 
 -- the voice's process is one of the council's
@@ -85,16 +85,16 @@ module _ (council : BoardTerms) (before after : PassTerms) (k p : ℕ) (r : Rece
       HasProposed-IsAtOwn k p value list [] r (value_placed k p value list r known small shown call_is unpaid placed_so)
 
   -- the request has left a round
-  pub HasAsked-claimed : (earlier : List Receipt) → IsCouncil council → k ≡ size_of council → p < k → p ≡ before.knows.first
-      → r.call ≡ Transfer (shared_account k) (spent_account k) (claim_of k p) → asks_in (shared_account k) earlier ≡ 0
-      → IsPlaced council.book before.knows.first after.knows.seen earlier r → HasAsked k after.knows.seen p
-  HasAsked-claimed earlier is size_is known process_is call_is unasked placed =
+  pub HasShareDecided-asked : (earlier : List Receipt) → IsCouncil council → k ≡ size_of council → p < k → p ≡ before.knows.first
+      → r.call ≡ Transfer (shared_account k) (spent_account k) (share_of k p) → asks_in (shared_account k) earlier ≡ 0
+      → IsPlaced council.book before.knows.first after.knows.seen earlier r → HasShareDecided k after.knows.seen p
+  HasShareDecided-asked earlier is size_is known process_is call_is unasked placed =
       let list = after.knows.seen in
       let book_is : council.book ≡ council_book k = is.book_is ∙ ap council_book (sym size_is) in
       let placed_so : IsPlaced (council_book k) p list earlier r =
       subst (λ (b : BookTerms). IsPlaced b p list earlier r) book_is (subst (λ q. IsPlaced council.book q list earlier r) (sym process_is) placed) in
-      HasAsked-IsAtRound k p list earlier r known
-      (claim_placed k p list earlier r known (subst IsSize (sym size_is) is.size) call_is unasked placed_so)
+      HasShareDecided-IsAtRound k p list earlier r known
+      (share_placed k p list earlier r known (subst IsSize (sym size_is) is.size) call_is unasked placed_so)
 
 -- the bounds of the two payments
 pub payment_steps-own : (council : BoardTerms) (k p : ℕ) → IsCouncil council → k ≡ size_of council → p < k

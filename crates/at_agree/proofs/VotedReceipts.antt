@@ -22,10 +22,10 @@ use Rattle.at_log.specs.Told.{Told, key_at, key_of, keys_from, own_position, rou
 use Rattle.at_log.specs.declared.receipt.At.{At}
 use Rattle.at_log.specs.declared.receipt.Receipt.{Receipt}
 use Rattle.at_agree.proofs.CouncilBook.{length-accounts, slot-shared, slots_of-shared}
-use Rattle.at_agree.proofs.PlacedCalls.{HasProposed-IsAtOwn, claim_placed, position-HasProposed, slot-IsAtRound, value_placed}
+use Rattle.at_agree.proofs.PlacedCalls.{HasProposed-IsAtOwn, share_placed, position-HasProposed, slot-IsAtRound, value_placed}
 use Rattle.at_agree.proofs.Shown.{IsCouncilList}
 use Rattle.at_agree.specs.Council.{IsSize, council_book, shared_account, spent_account, value_account}
-use Rattle.at_agree.specs.Plan.{HasProposed, HasVoted, claim_of, claim_targets, named_account}
+use Rattle.at_agree.specs.Plan.{HasProposed, HasVoted, share_of, share_targets, named_account}
 
 -- four receipts by their calls
 pub record AreFour (receipts : List Receipt) (c0 c1 c2 c3 : Call) : Type 0 where
@@ -110,7 +110,7 @@ pub record StandsAsVoted (k p value answer : ℕ) (list : List Publication) : Ty
   pub decision : Decision
   pub position : ℕ
   pub within : position < length list
-  pub entry : (publication_at list position).entry ≡ Round (shared_account k) round decision (claim_targets k p)
+  pub entry : (publication_at list position).entry ≡ Round (shared_account k) round decision (share_targets k p)
   pub slot_is : decision.slot ≡ p
   pub owns_one : owns_of p list ≡ 1
   pub named_one : named (shared_account k) p list ≡ 1
@@ -215,7 +215,7 @@ key_of-own p previous number list r at_is = ap (λ at. key_at p list previous r.
 -- what the receipts of four such calls say
 module _ (k p value left answer : ℕ) (list : List Publication) (r0 r1 r2 r3 : Receipt) where
   stands_by_four : IsSize k → p < k → value < 2 ^ 32 → IsCouncilList k list → Told (council_book k) p list (r0 ∷ r1 ∷ r2 ∷ r3 ∷ [])
-      → r0.call ≡ Transfer p (value_account k p) value → r1.call ≡ Transfer (shared_account k) (spent_account k) (claim_of k p)
+      → r0.call ≡ Transfer p (value_account k p) value → r1.call ≡ Transfer (shared_account k) (spent_account k) (share_of k p)
       → r2.call ≡ Read (shared_account k) → r3.call ≡ Read (named_account k p left) → r2.reply ≡ Balance left → r3.reply ≡ Balance answer
       → StandsAsVoted k p value answer list
   stands_by_four size known small shown told call0 call1 call2 call3 reply2 reply3 =
@@ -225,7 +225,7 @@ module _ (k p value left answer : ℕ) (list : List Publication) (r0 r1 r2 r3 : 
       let asks0 : (is_at_round r0.at && is_payout_from a r0.call) ≡ false = asks_not a r0 (Transfer p (value_account k p) value) call0 elsewhere in
       let unasked : asks_in a (r0 ∷ []) ≡ 0 = omega (arith, ap (λ t. cond {A = ℕ} t 1 0) asks0) in
       let placed1 : IsPlaced b p list (r0 ∷ []) r1 = told.placed 1 (omega arith) in
-      let asked = claim_placed k p list (r0 ∷ []) r1 known size call1 unasked placed1 in
+      let asked = share_placed k p list (r0 ∷ []) r1 known size call1 unasked placed1 in
       let read2 = read_placed k p a left list (r0 ∷ r1 ∷ []) r2 shown call2 reply2 (told.placed 2 (omega arith)) in
       let read3 = read_placed k p (named_account k p left) answer list (r0 ∷ r1 ∷ r2 ∷ []) r3 shown call3 reply3 (told.placed 3 (omega arith)) in
       let placed0 : IsPlaced b p list [] r0 = told.placed 0 (omega arith) in
@@ -242,7 +242,7 @@ module _ (k p value left answer : ℕ) (list : List Publication) (r0 r1 r2 r3 : 
       let last_key = key_of-front p order.key2 read3.front list r3 read3.at_is in
       let ok = asked.decision.ok in
       let done_key : ok ≡ true → key_of p list order.key0 r1 ≡ 2 * round_position a asked.round list + 1 =
-      λ (e : ok ≡ true). key_of-done p asked.round asked.decision.place order.key0 a (spent_account k) (claim_of k p) list r1 ok call1 asked.at asked.reply e in
+      λ (e : ok ≡ true). key_of-done p asked.round asked.decision.place order.key0 a (spent_account k) (share_of k p) list r1 ok call1 asked.at asked.reply e in
       let short_key : ok ≡ false → key_of p list order.key0 r1 ≡ 2 * asked.decision.place =
       λ (e : ok ≡ false). key_of-short p asked.round asked.decision.place order.key0 list r1 ok asked.at asked.reply e in
       record {
@@ -274,7 +274,7 @@ module _ (k p value left answer : ℕ) (list : List Publication) (r0 r1 r2 r3 : 
 pub stands_as_voted : (k p value answer : ℕ) (list : List Publication) (receipts : List Receipt) → IsSize k → p < k → value < 2 ^ 32
     → IsCouncilList k list → Told (council_book k) p list receipts → HasVoted k p value answer receipts → StandsAsVoted k p value answer list
 stands_as_voted k p value answer list receipts size known small shown told voted =
-    let four = four_of receipts (Transfer p (value_account k p) value) (Transfer (shared_account k) (spent_account k) (claim_of k p))
+    let four = four_of receipts (Transfer p (value_account k p) value) (Transfer (shared_account k) (spent_account k) (share_of k p))
     (Read (shared_account k)) (Read (named_account k p voted.left)) voted.calls in
     let reply2 : four.r2.reply ≡ Balance voted.left = ap (λ rs. (receipt_at rs 2).reply) (sym four.list_is) ∙ voted.found in
     let reply3 : four.r3.reply ≡ Balance answer = ap (λ rs. (receipt_at rs 3).reply) (sym four.list_is) ∙ voted.answered in

@@ -8,7 +8,7 @@ use Rattle.at_object.specs.Passes.{Stands}
 use Rattle.at_agree.specs.Council.{council_book, size_of}
 use Rattle.at_agree.specs.Plan.{HasVoted}
 use Rattle.at_agree.specs.Voices.{HasNotProposed, IsVoiceOf, process_of}
-use Rattle.at_agree.specs.declared.proposals.Proposal.{Proposal}
+use Rattle.at_agree.specs.declared.votes.Vote.{Vote}
 
 -- the closed ledger is that of a council of as many processes as there are values. Each process has made its four calls with its
 -- value, the answer of each is this one value, and it is one of the values
@@ -18,43 +18,43 @@ pub record IsAgreement (values : List ℕ) (closed : ClosedTerms) (value : ℕ) 
   pub votes : (p : ℕ) → p < length values → HasVoted (length values) p (slice_index values p) value (receipts_of closed.closing p)
   pub proposed : Contains values value
 
--- the voice of a proposal can propose its value to the council
-pub record IsReady (council : BoardTerms) (x : Proposal) : Type 0 where
+-- the voice of a vote can propose its value to the council
+pub record IsReady (council : BoardTerms) (x : Vote) : Type 0 where
   pub of_council : IsVoiceOf x.voice council
   pub unproposed : HasNotProposed x.voice
   pub small : x.value < 2 ^ 32
 
 -- it has proposed it, and kept the answer
-pub record IsMade (council : BoardTerms) (before after : Proposal) : Type 0 where
+pub record IsMade (council : BoardTerms) (before after : Vote) : Type 0 where
   pub process_is : process_of after.voice ≡ process_of before.voice
   pub value_is : after.value ≡ before.value
   pub of_council : IsVoiceOf after.voice council
   pub voted : HasVoted (size_of council) (process_of before.voice) before.value after.answer after.voice.receipts
 
--- the values of proposals
-abbrev pub values_of : List Proposal → List ℕ
-values_of proposals = map (λ x. x.value) proposals
+-- the values of votes
+abbrev pub values_of : List Vote → List ℕ
+values_of votes = map (λ x. x.value) votes
 
--- one proposal of each process with its value, in order, and none is made yet
-pub record AreReady (council : BoardTerms) (values : List ℕ) (proposals : List Proposal) : Type 0 where
-  pub ready : All (IsReady council) proposals
-  pub count : length proposals ≡ size_of council
-  pub values_are : values_of proposals ≡ values
-  pub processes : (p : ℕ) (d : Proposal) → p < size_of council → process_of (slice_index_or proposals p d).voice ≡ p
+-- one vote of each process with its value, in order, and none is made yet
+pub record AreReady (council : BoardTerms) (values : List ℕ) (votes : List Vote) : Type 0 where
+  pub ready : All (IsReady council) votes
+  pub count : length votes ≡ size_of council
+  pub values_are : values_of votes ≡ values
+  pub processes : (p : ℕ) (d : Vote) → p < size_of council → process_of (slice_index_or votes p d).voice ≡ p
 
 -- process p has proposed
-pub record IsMadeBy (council : BoardTerms) (p : ℕ) (x : Proposal) : Type 0 where
+pub record IsMadeBy (council : BoardTerms) (p : ℕ) (x : Vote) : Type 0 where
   pub process_is : process_of x.voice ≡ p
   pub of_council : IsVoiceOf x.voice council
   pub voted : HasVoted (size_of council) p x.value x.answer x.voice.receipts
 
--- all processes have, each with a value of its own
-pub record AreMade (council : BoardTerms) (proposals : List Proposal) : Type 0 where
-  pub count : length proposals ≡ size_of council
-  pub small : All (λ x. x.value < 2 ^ 32) proposals
-  pub each : (p : ℕ) (d : Proposal) → p < size_of council → IsMadeBy council p (slice_index_or proposals p d)
+-- all processes have, each with its value
+pub record AreMade (council : BoardTerms) (votes : List Vote) : Type 0 where
+  pub count : length votes ≡ size_of council
+  pub small : All (λ x. x.value < 2 ^ 32) votes
+  pub each : (p : ℕ) (d : Vote) → p < size_of council → IsMadeBy council p (slice_index_or votes p d)
 
--- the receipts of a proposal's voice account for its pass
-pub record StandsByItself (x : Proposal) : Type 0 where
+-- the receipts of a vote's voice account for its pass
+pub record StandsByItself (x : Vote) : Type 0 where
   pub stands : Stands x.voice.pass x.voice.receipts
   pub counted : x.voice.pass.calls ≡ length x.voice.receipts

@@ -16,9 +16,9 @@ use Rattle.at_log.specs.Told.{round_position}
 use Rattle.at_log.specs.declared.receipt.Receipt.{Receipt}
 use Rattle.at_agree.specs.Council.{council_book, shared_account, spent_account, value_account}
 
--- what process p asks for from the shared account: more than half of it, so that one request alone is done, and p + 1 are left then
-abbrev pub claim_of : ℕ → ℕ → ℕ
-claim_of k p = 2 * k - (p + 1)
+-- what process p asks for from the shared account: at least half of it, and no two of these fit into it, so that one request alone is done, and p + 1 are left then
+abbrev pub share_of : ℕ → ℕ → ℕ
+share_of k p = 2 * k - (p + 1)
 
 -- the account that the fourth call of process p reads, where the third one has found so much in the shared account
 abbrev pub named_account : ℕ → ℕ → ℕ → ℕ
@@ -28,7 +28,7 @@ named_account k p left = if nat_le 1 left && nat_le left k then value_account k 
 abbrev pub plan_of : ℕ → ℕ → ℕ → ℕ → List Call
 plan_of k p value left =
     Transfer p (value_account k p) value
-    ∷ Transfer (shared_account k) (spent_account k) (claim_of k p)
+    ∷ Transfer (shared_account k) (spent_account k) (share_of k p)
     ∷ Read (shared_account k)
     ∷ Read (named_account k p left)
     ∷ []
@@ -44,8 +44,8 @@ pub record HasVoted (k p value answer : ℕ) (receipts : List Receipt) : Type 0 
 abbrev pub value_targets : ℕ → ℕ → ℕ → List TargetPair
 value_targets k p value = (value_account k p, value) ∷ []
 
-abbrev pub claim_targets : ℕ → ℕ → List TargetPair
-claim_targets k p = (spent_account k, claim_of k p) ∷ []
+abbrev pub share_targets : ℕ → ℕ → List TargetPair
+share_targets k p = (spent_account k, share_of k p) ∷ []
 
 -- the process whose slot a decision on the shared account names
 abbrev pub winner_of : ℕ → Decision → ℕ
@@ -59,12 +59,12 @@ pub record HasProposed (k : ℕ) (list : List Publication) (p value : ℕ) : Typ
   pub entry : (publication_at list position).entry ≡ Own p (value_targets k p value)
 
 -- the list has a round of the shared account that decided the request of process p
-pub record HasAsked (k : ℕ) (list : List Publication) (p : ℕ) : Type 0 where
+pub record HasShareDecided (k : ℕ) (list : List Publication) (p : ℕ) : Type 0 where
   pub position : ℕ
   pub within : position < length list
   pub round : ℕ
   pub decision : Decision
-  pub entry : (publication_at list position).entry ≡ Round (shared_account k) round decision (claim_targets k p)
+  pub entry : (publication_at list position).entry ≡ Round (shared_account k) round decision (share_targets k p)
   pub winner : winner_of k decision ≡ p
 
 -- an own record of a process is that of its value, and a round's is of the request of the process that its decision names, which
@@ -72,14 +72,14 @@ pub record HasAsked (k : ℕ) (list : List Publication) (p : ℕ) : Type 0 where
 abbrev pub IsPlanned : ℕ → List Publication → ℕ → Entry → Type 0
 IsPlanned k before process (Own from targets) = (value : ℕ) × (from ≡ process) × (targets ≡ value_targets k process value)
 IsPlanned k before process (Round account round decision targets) =
-    (account ≡ shared_account k) × (targets ≡ claim_targets k (winner_of k decision)) × (1 ≤ owns_of (winner_of k decision) before)
+    (account ≡ shared_account k) × (targets ≡ share_targets k (winner_of k decision)) × (1 ≤ owns_of (winner_of k decision) before)
 
 -- each publication of the list keeps to the plan
 abbrev pub KeepsPlan : ℕ → List Publication → Type 0
 KeepsPlan k list = (m : ℕ) → m < length list → let x : Publication = publication_at list m in
     IsPlanned k (take m list) x.process x.entry
 
--- the process whose request was decided first: the winner of round 0 of the shared account
+-- the process whose request was decided first: the winner of round 0 of the shared account. An own record names no winner, and gives 0
 abbrev pub winner_in : ℕ → Entry → ℕ
 winner_in k (Own from targets) = 0
 winner_in k (Round account round decision targets) = winner_of k decision

@@ -8,7 +8,7 @@ ghost use Rattle.at_agree.specs.Council.{IsSize};
 use crate::NoMemory;
 use crate::council::Council;
 use crate::halves::propose_all;
-use crate::proposals::{Proposal, proposals_of};
+use crate::votes::{Vote, votes_of};
 use at_log::Receipt;
 use at_object::{Closed, Pass};
 use std::alloc::{AllocError, Global};
@@ -29,27 +29,27 @@ pub fn agree<R: Threads + Sync>(rt: &R, alloc: Global, values: &[u64]) -> Result
     ensures { IfOk result (λ a. IsAgreement values.now a.closed a.value) }
 {
     let (council, voices) = Council::new(alloc, values.len() as u32)?;
-    let mut proposals = proposals_of(alloc, &council, voices, values)?;
-    propose_list(rt, &council, &mut proposals);
-    close(alloc, council, proposals)
+    let mut votes = votes_of(alloc, &council, voices, values)?;
+    propose_list(rt, &council, &mut votes);
+    close(alloc, council, votes)
 }
 
-/// Makes all proposals, by threads.
-fn propose_list<R: Threads + Sync>(rt: &R, council: &Council, proposals: &mut Vec<Proposal>)
-    requires { All (IsReady council.now) proposals.old.items }
-    ensures { AllZip (IsMade council.now) proposals.old.items proposals.new.items }
+/// Makes all votes, by threads.
+fn propose_list<R: Threads + Sync>(rt: &R, council: &Council, votes: &mut Vec<Vote>)
+    requires { All (IsReady council.now) votes.old.items }
+    ensures { AllZip (IsMade council.now) votes.old.items votes.new.items }
 {
-    propose_all(rt, council, proposals.as_mut_slice());
+    propose_all(rt, council, votes.as_mut_slice());
 }
 
 /// Closes the council's ledger with all passes and receipts. The answer is that of process 0, and of all others.
-fn close(alloc: Global, council: Council, proposals: Vec<Proposal>) -> Result<Agreed, NoMemory>
-    requires some { 0 < length proposals.items }
-    requires made { AreMade council proposals.items }
-    ensures { IfOk result (λ a. IsAgreement (values_of proposals.items) a.closed a.value) }
+fn close(alloc: Global, council: Council, votes: Vec<Vote>) -> Result<Agreed, NoMemory>
+    requires some { 0 < length votes.items }
+    requires made { AreMade council votes.items }
+    ensures { IfOk result (λ a. IsAgreement (values_of votes.items) a.closed a.value) }
 {
-    let value = proposals[0].answer;
-    let (passes, receipts) = parted(alloc, proposals)?;
+    let value = votes[0].answer;
+    let (passes, receipts) = parted(alloc, votes)?;
     match council.ledger.close(alloc, passes, receipts) {
         Ok(closed) => {
             closed.book().known();
@@ -62,17 +62,17 @@ fn close(alloc: Global, council: Council, proposals: Vec<Proposal>) -> Result<Ag
 /// The passes and the receipts of all processes.
 fn parted(
     alloc: Global,
-    proposals: Vec<Proposal>,
+    votes: Vec<Vote>,
 ) -> Result<(Vec<Pass>, Vec<Vec<Receipt>>), NoMemory>
-    ensures passes { IfOk result (λ r. r.0.items ≡ map (λ x. x.voice.pass) proposals.items) }
+    ensures passes { IfOk result (λ r. r.0.items ≡ map (λ x. x.voice.pass) votes.items) }
     ensures receipts { IfOk result (λ r. map (λ v. v.items) r.1.items
-        ≡ map (λ x. x.voice.receipts) proposals.items) }
-    ensures stands { IfOk result (λ r. All StandsByItself proposals.items) }
+        ≡ map (λ x. x.voice.receipts) votes.items) }
+    ensures stands { IfOk result (λ r. All StandsByItself votes.items) }
 {
-    let mut passes = Vec::with_capacity(alloc, proposals.len())?;
-    let mut receipts = Vec::with_capacity(alloc, proposals.len())?;
-    for proposal in proposals {
-        let (pass, told) = proposal.voice.split();
+    let mut passes = Vec::with_capacity(alloc, votes.len())?;
+    let mut receipts = Vec::with_capacity(alloc, votes.len())?;
+    for vote in votes {
+        let (pass, told) = vote.voice.split();
         passes.push(pass)?;
         receipts.push(told)?;
     }

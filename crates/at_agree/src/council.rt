@@ -2,7 +2,7 @@
 
 ghost use Rattle.std.specs.Prelude.{◌≡◌, ◌+◌, ◌*◌, ◌^◌, ◌<◌, ◌≤◌, IfOk};
 ghost use Rattle.at_agree.specs.Council.{IsCouncil, IsSize, council_book, size_of};
-ghost use Rattle.at_agree.specs.Plan.{HasAsked, HasProposed, HasVoted, KeepsPlan, chosen, named_account};
+ghost use Rattle.at_agree.specs.Plan.{HasShareDecided, HasProposed, HasVoted, KeepsPlan, chosen, named_account};
 ghost use Rattle.at_agree.specs.Voices.{AreNewVoices, HasNotProposed, IsVoiceOf, process_of, propose_steps, seen_by};
 ghost use Rattle.at_board.specs.declared.words.TheConstants.{RECORD_WORDS};
 ghost use Rattle.at_history.specs.Publications.{IsPrefix};
@@ -36,19 +36,19 @@ impl Model for Council {
 
 impl Council {
     /// A council of this size, and one voice for each process, in order. Takes the memory of all later calls.
-    pub fn new(alloc: Global, k: u32) -> Result<(Council, Vec<Voice>), NoMemory>
-        requires { IsSize k }
-        ensures book { IfOk result (λ r. r.0.book ≡ council_book k) }
+    pub fn new(alloc: Global, size: u32) -> Result<(Council, Vec<Voice>), NoMemory>
+        requires { IsSize size }
+        ensures book { IfOk result (λ r. r.0.book ≡ council_book size) }
         ensures voices { IfOk result (λ r. AreNewVoices r.0 r.1.items) }
     {
-        let book = book_for(alloc, k)?;
+        let book = book_for(alloc, size)?;
         let (ledger, passes) = Ledger::new(alloc, &book)?;
         let voices = voices_for(alloc, &ledger, passes)?;
         Ok((Council { ledger }, voices))
     }
 
-    /// Proposes a value, and answers the value that is chosen: where all processes keep to the plan, as they do when each calls
-    /// this, it is that of the process whose request was decided first. One voice can't see what others will do, so this is a premise.
+    /// Proposes a value, and answers the value that is chosen: where all processes keep to the plan, it is that of the process
+    /// whose request was decided first. One voice can't see what others will do, so this is a premise.
     /// Takes no memory.
     pub fn propose<L: ledger::Ledger, X: ledger::Ledger>(
         &self,
@@ -61,7 +61,7 @@ impl Council {
         requires unproposed { HasNotProposed voice.old }
         requires value { value < 2 ^ 32 }
         ensures proposed { HasProposed (size_of self.now) (seen_by voice.new) (process_of voice.old) value }
-        ensures asked { HasAsked (size_of self.now) (seen_by voice.new) (process_of voice.old) }
+        ensures asked { HasShareDecided (size_of self.now) (seen_by voice.new) (process_of voice.old) }
         ensures agreed { KeepsPlan (size_of self.now) (seen_by voice.new)
             → HasProposed (size_of self.now) (seen_by voice.new)
             (chosen (size_of self.now) (seen_by voice.new)) result }
@@ -76,7 +76,7 @@ impl Council {
         let size = self.size();
         let process = voice.process();
         voice.pay_value(&self.ledger, size, value, steps, exchanges);
-        voice.claim(&self.ledger, size, steps, exchanges);
+        voice.ask_for_share(&self.ledger, size, steps, exchanges);
         let left = voice.find(&self.ledger, 2 * size, steps, exchanges);
         let account = named_account(size, process, left);
         voice.find(&self.ledger, account, steps, exchanges)

@@ -1,4 +1,4 @@
-//! All proposals, made by threads.
+//! All votes, made by threads.
 
 ghost use Rattle.std.specs.Prelude.{◌<◌, length, All};
 ghost use Rattle.std.specs.List.{AllZip};
@@ -6,33 +6,33 @@ ghost use Rattle.std.specs.Thread.{IsSync};
 ghost use Rattle.at_agree.specs.Agreement.{IsMade, IsReady};
 
 use crate::council::Council;
-use crate::proposals::{Proposal, propose_one};
+use crate::votes::{Vote, propose_one};
 use std::thread::{Threads, join_mut};
 
-/// Makes these proposals: of one alone in this thread, of more by their halves.
+/// Makes these votes: of one alone in this thread, of more by their halves.
 #[cycle(halves)]
 #[tactic(auto, using(crate::proofs::Zipped::all_zip_append))]
-pub(crate) fn propose_all<R: Threads + Sync>(rt: &R, council: &Council, proposals: &mut [Proposal])
-    requires { All (IsReady council.now) proposals.old }
-    ensures { AllZip (IsMade council.now) proposals.old proposals.new }
+pub(crate) fn propose_all<R: Threads + Sync>(rt: &R, council: &Council, votes: &mut [Vote])
+    requires { All (IsReady council.now) votes.old }
+    ensures { AllZip (IsMade council.now) votes.old votes.new }
 {
-    match proposals {
+    match votes {
         [] => {}
-        [proposal] => propose_one(council, proposal),
+        [vote] => propose_one(council, vote),
         _ => {
-            let (front, back) = proposals.split_at_mut(proposals.len() / 2);
+            let (front, back) = votes.split_at_mut(votes.len() / 2);
             propose_both(rt, council, front, back);
         }
     }
 }
 
-/// Makes the proposals of both halves at once.
+/// Makes the votes of both halves at once.
 #[cycle(halves)]
 fn propose_both<R: Threads + Sync>(
     rt: &R,
     council: &Council,
-    front: &mut [Proposal],
-    back: &mut [Proposal],
+    front: &mut [Vote],
+    back: &mut [Vote],
 )
     requires some { (0 < length front.old) × (0 < length back.old) }
     requires front { All (IsReady council.now) front.old }

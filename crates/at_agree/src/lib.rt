@@ -1,8 +1,8 @@
-//! Agreement by one shared account: up to eight processes each propose a value, and all get one of these values as the answer.
+//! Agreement by one shared account: two to eight processes each propose a value, and all get one of these values as the answer.
 //!
 //! A council is a ledger of its own book. Each process makes the same four calls: it pays its value into an account of its own,
-//! asks for more than half of the shared account, reads what is left there, which names the process whose request came first, and
-//! reads that process's value. `propose` makes these calls with one voice, and `agree` with all voices at once, by threads.
+//! asks for at least half of the shared account, reads what is left there, which names the process whose request came first, and
+//! reads that process's value. `propose` makes these calls with one voice, and `agree` with all voices, by threads.
 //!
 //! The definitions read best in this order: `Council`, the book; `Plan`, the four calls and the value that is chosen; `Voices`;
 //! `Agreement`.
@@ -13,7 +13,7 @@ mod book;
 mod council;
 mod crossing;
 mod halves;
-mod proposals;
+mod votes;
 #[cfg(test)]
 mod tests;
 mod voice;

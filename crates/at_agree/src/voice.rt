@@ -2,7 +2,7 @@
 
 ghost use Rattle.std.specs.Prelude.{◌≡◌, ◌+◌, ◌*◌, ◌^◌, ◌<◌, ◌≤◌, length};
 ghost use Rattle.at_agree.specs.Council.{IsCouncil, shared_account, size_of, spent_account, value_account};
-ghost use Rattle.at_agree.specs.Plan.{HasAsked, HasProposed, claim_of};
+ghost use Rattle.at_agree.specs.Plan.{HasShareDecided, HasProposed, share_of};
 ghost use Rattle.at_agree.specs.Voices.{HasMade, HasNotProposed, HasRead, IsVoiceOf, process_of, seen_by};
 ghost use Rattle.at_board.specs.declared.words.TheConstants.{RECORD_WORDS};
 ghost use Rattle.at_history.specs.Histories.{IsHistory};
@@ -80,8 +80,8 @@ impl Voice {
         self.receipts.push_reserved(paid);
     }
 
-    /// The second call: asks for more than half of the shared account. The first such request of all processes is done.
-    pub(crate) fn claim<L: ledger::Ledger, X: ledger::Ledger>(
+    /// The second call: asks for at least half of the shared account.
+    pub(crate) fn ask_for_share<L: ledger::Ledger, X: ledger::Ledger>(
         &mut self,
         ledger: &Ledger,
         size: u32,
@@ -95,18 +95,18 @@ impl Voice {
         requires unasked { asks_in (shared_account size) self.old.receipts ≡ 0 }
         ensures made { HasMade ledger.now self.old self.new
             (Call.Transfer (shared_account size) (spent_account size)
-            (claim_of size (process_of self.old))) }
-        ensures asked { HasAsked size (seen_by self.new) (process_of self.old) }
+            (share_of size (process_of self.old))) }
+        ensures asked { HasShareDecided size (seen_by self.new) (process_of self.old) }
         ensures steps { steps.new ≤ steps.old + shared_steps size size
             + RECORD_WORDS * newly_counted self.old.pass self.new.pass }
         ensures exchanges { exchanges.new ≤ exchanges.old + size }
     {
-        let claim = u64::from(2 * size - (self.pass.process() + 1));
+        let share = u64::from(2 * size - (self.pass.process() + 1));
         let asked = ledger.transfer(
             &mut self.pass,
             2 * size,
             2 * size + 1,
-            claim,
+            share,
             steps,
             exchanges,
         );

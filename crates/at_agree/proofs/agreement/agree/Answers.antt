@@ -3,25 +3,25 @@ use Rattle.std.specs.Prelude.{IfOk}
 use Rattle.std.proofs.lemmas.List.{length-map}
 use Rattle.at_agree.specs.Agreement.{IsAgreement}
 use Rattle.at_agree.specs.declared.agreement.Agreed.{Agreed}
-use Rattle.at_agree.specs.declared.proposals.Proposal.{Proposal}
-use Rattle.at_agree.proofs.AllProposals.{AreMade-all}
+use Rattle.at_agree.specs.declared.votes.Vote.{Vote}
+use Rattle.at_agree.proofs.AllVotes.{AreMade-all}
 use Rattle.at_agree.proofs.agreement.agree.Goals as goal
 
 pub close-requires : goal.close-requires
 close-requires g c =
-    let all = AreMade-all c.in_ok-council.council c.args.values.now c.in_ok-proposals.proposals.items c.propose_list.new.proposals.items
-    c.in_ok-proposals.ensures c.propose_list.ensures in
-    let some : 0 < length c.propose_list.new.proposals.items =
+    let all = AreMade-all c.in_ok-council.council c.args.values.now c.in_ok-votes.votes.items c.propose_list.new.votes.items
+    c.in_ok-votes.ensures c.propose_list.ensures in
+    let some : 0 < length c.propose_list.new.votes.items =
     omega (
       arith,
       c.requires.size.some,
       ap (λ (values : List ℕ). length values) all.1,
-      length-map c.propose_list.new.proposals.items (λ (x : Proposal). x.value),
+      length-map c.propose_list.new.votes.items (λ (x : Vote). x.value),
     ) in
     record { some = some; made = all.0 }
 
 pub returns : goal.returns
 returns g c =
-    let all = AreMade-all c.in_ok-council.council c.args.values.now c.in_ok-proposals.proposals.items c.propose_list.new.proposals.items
-    c.in_ok-proposals.ensures c.propose_list.ensures in
+    let all = AreMade-all c.in_ok-council.council c.args.values.now c.in_ok-votes.votes.items c.propose_list.new.votes.items
+    c.in_ok-votes.ensures c.propose_list.ensures in
     subst (λ (values : List ℕ). IfOk c.close.result (λ (a : Agreed). IsAgreement values a.closed a.value)) all.1 c.close.ensures

@@ -5,22 +5,22 @@ use Rattle.std.proofs.lemmas.List.Elements.{All-push}
 use Rattle.at_log.specs.declared.receipt.Receipt.{Receipt}
 use Rattle.at_object.specs.Passes.{PassTerms}
 use Rattle.at_agree.specs.Agreement.{StandsByItself}
-use Rattle.at_agree.specs.declared.proposals.Proposal.{Proposal}
+use Rattle.at_agree.specs.declared.votes.Vote.{Vote}
 use Rattle.at_agree.proofs.agreement.parted.Goals as goal
 
-pub loop-proposal-preserved : goal.loop-proposal-preserved
-loop-proposal-preserved c =
-    let done : List Proposal = c.loop-proposal.yielded in
-    let x : Proposal = c.in-Some.proposal in
-    let pass : Proposal → PassTerms = λ y. y.voice.pass in
-    let told : Proposal → List Receipt = λ y. y.voice.receipts in
+pub loop-vote-preserved : goal.loop-vote-preserved
+loop-vote-preserved c =
+    let done : List Vote = c.loop-vote.yielded in
+    let x : Vote = c.in-Some.vote in
+    let pass : Vote → PassTerms = λ y. y.voice.pass in
+    let told : Vote → List Receipt = λ y. y.voice.receipts in
     let items : Vec Receipt Global → List Receipt = λ v. v.items in
     record {
       passes = c.in_ok-push.ensures.items
-          ∙ ((λ t. c.loop-proposal.invariant.passes t ++ c.split-pass.ensures.pass t ∷ []) ∙ sym (map-append pass done (x ∷ [])));
+          ∙ ((λ t. c.loop-vote.invariant.passes t ++ c.split-pass.ensures.pass t ∷ []) ∙ sym (map-append pass done (x ∷ [])));
       receipts = ap (map items) c.in_ok-push-2.ensures.items
-          ∙ (map-append items c.loop-proposal.receipts.items (c.split-pass.result.1 ∷ [])
-          ∙ ((λ t. c.loop-proposal.invariant.receipts t ++ c.split-pass.ensures.receipts t ∷ []) ∙ sym (map-append told done (x ∷ []))));
-      stands = All-push StandsByItself done x c.loop-proposal.invariant.stands
+          ∙ (map-append items c.loop-vote.receipts.items (c.split-pass.result.1 ∷ [])
+          ∙ ((λ t. c.loop-vote.invariant.receipts t ++ c.split-pass.ensures.receipts t ∷ []) ∙ sym (map-append told done (x ∷ []))));
+      stands = All-push StandsByItself done x c.loop-vote.invariant.stands
           (record { stands = c.split-pass.ensures.stands; counted = c.split-pass.ensures.counted });
     }

@@ -2,7 +2,7 @@ use Rattle.std.proofs.Common.{◌+◌, ◌*◌, length}
 use Rattle.at_agree.proofs.halves.+halves.Given as goal
 
 abbrev pub decreases-propose_all : goal.decreases-propose_all
-decreases-propose_all g l = 2 * length l.proposals.now + 1
+decreases-propose_all g l = 2 * length l.votes.now + 1
 
 abbrev pub decreases-propose_both : goal.decreases-propose_both
 decreases-propose_both g l = 2 * (length l.front.now + length l.back.now)

@@ -5,9 +5,9 @@ use Rattle.at_history.specs.Histories.{IsHistory}
 use Rattle.at_history.specs.Publications.{IsPrefix}
 use Rattle.at_ledger.specs.declared.call.Call.TheVariants.{Transfer}
 use Rattle.at_agree.specs.Council.{shared_account, size_of, spent_account}
-use Rattle.at_agree.specs.Plan.{HasAsked, HasProposed, HasVoted, claim_of, named_account}
+use Rattle.at_agree.specs.Plan.{HasShareDecided, HasProposed, HasVoted, share_of, named_account}
 use Rattle.at_agree.specs.Voices.{HasMade, HasRead, IsVoiceOf, VoiceTerms, process_of, seen_by}
-use Rattle.at_agree.proofs.FourCalls.{HasAsked-IsPrefix, HasProposed-IsPrefix, HasProposed-answered, HasVoted-made}
+use Rattle.at_agree.proofs.FourCalls.{HasShareDecided-IsPrefix, HasProposed-IsPrefix, HasProposed-answered, HasVoted-made}
 use Rattle.at_agree.proofs.VoiceCalls.{in_book}
 use Rattle.at_agree.proofs.council.Council.propose.Goals as goal
 
@@ -25,47 +25,47 @@ find-requires-clause-account g c =
 pub returns-clause-proposed : goal.returns-clause-proposed
 returns-clause-proposed g c =
     let v1 : VoiceTerms = c.pay_value.new.self in
-    let v2 : VoiceTerms = c.claim.new.self in
+    let v2 : VoiceTerms = c.ask_for_share.new.self in
     let v3 : VoiceTerms = c.find-left.new.self in
     let v4 : VoiceTerms = c.find.new.self in
     let p = process_of c.args.voice.now in
     let later : IsPrefix (seen_by v2) (seen_by v4) =
     IsPrefix-trans (seen_by v2) (seen_by v3) (seen_by v4) c.find-left.ensures.read.made.begins c.find.ensures.read.made.begins in
-    let begins : IsPrefix (seen_by v1) (seen_by v4) = IsPrefix-trans (seen_by v1) (seen_by v2) (seen_by v4) c.claim.ensures.made.begins later in
+    let begins : IsPrefix (seen_by v1) (seen_by v4) = IsPrefix-trans (seen_by v1) (seen_by v2) (seen_by v4) c.ask_for_share.ensures.made.begins later in
     subst (λ k. HasProposed k (seen_by v4) p c.args.value) c.size-size.ensures.size
     (HasProposed-IsPrefix c.size-size.result p c.args.value (seen_by v1) (seen_by v4) begins c.pay_value.ensures.proposed)
 
 pub returns-clause-asked : goal.returns-clause-asked
 returns-clause-asked g c =
-    let v2 : VoiceTerms = c.claim.new.self in
+    let v2 : VoiceTerms = c.ask_for_share.new.self in
     let v3 : VoiceTerms = c.find-left.new.self in
     let v4 : VoiceTerms = c.find.new.self in
     let later : IsPrefix (seen_by v2) (seen_by v4) =
     IsPrefix-trans (seen_by v2) (seen_by v3) (seen_by v4) c.find-left.ensures.read.made.begins c.find.ensures.read.made.begins in
-    let asked : HasAsked c.size-size.result (seen_by v2) (process_of c.args.voice.now) =
-    subst (λ q. HasAsked c.size-size.result (seen_by v2) q) c.pay_value.ensures.made.process_is c.claim.ensures.asked in
-    subst (λ k. HasAsked k (seen_by v4) (process_of c.args.voice.now)) c.size-size.ensures.size
-    (HasAsked-IsPrefix c.size-size.result (process_of c.args.voice.now) (seen_by v2) (seen_by v4) later asked)
+    let asked : HasShareDecided c.size-size.result (seen_by v2) (process_of c.args.voice.now) =
+    subst (λ q. HasShareDecided c.size-size.result (seen_by v2) q) c.pay_value.ensures.made.process_is c.ask_for_share.ensures.asked in
+    subst (λ k. HasShareDecided k (seen_by v4) (process_of c.args.voice.now)) c.size-size.ensures.size
+    (HasShareDecided-IsPrefix c.size-size.result (process_of c.args.voice.now) (seen_by v2) (seen_by v4) later asked)
 
 pub returns-clause-voted : goal.returns-clause-voted
 returns-clause-voted g c =
     let council : BoardTerms = c.self.inside.ledger in
     let v0 : VoiceTerms = c.args.voice.now in
     let v1 : VoiceTerms = c.pay_value.new.self in
-    let v2 : VoiceTerms = c.claim.new.self in
+    let v2 : VoiceTerms = c.ask_for_share.new.self in
     let v3 : VoiceTerms = c.find-left.new.self in
     let v4 : VoiceTerms = c.find.new.self in
     let k = c.size-size.result in
     let p = process_of v0 in
     let left = c.find-left.result in
-    let claimed : HasMade council v1 v2 (Transfer (shared_account k) (spent_account k) (claim_of k p)) =
-    subst (λ q. HasMade council v1 v2 (Transfer (shared_account k) (spent_account k) (claim_of k q))) c.pay_value.ensures.made.process_is c.claim.ensures.made in
+    let asked : HasMade council v1 v2 (Transfer (shared_account k) (spent_account k) (share_of k p)) =
+    subst (λ q. HasMade council v1 v2 (Transfer (shared_account k) (spent_account k) (share_of k q))) c.pay_value.ensures.made.process_is c.ask_for_share.ensures.made in
     let account : c.named_account-account.result ≡ named_account k p left =
     c.named_account-account.ensures.account ∙ ap (λ q. named_account k q left) c.process-process.ensures.process in
     let last : HasRead council v3 v4 (named_account k p left) c.find.result =
     subst (λ a. HasRead council v3 v4 a c.find.result) account c.find.ensures.read in
     subst (λ n. HasVoted n p c.args.value c.find.result v4.receipts) c.size-size.ensures.size
-    (HasVoted-made council v0 v1 v2 v3 v4 k p c.args.value left c.find.result c.requires.unproposed c.pay_value.ensures.made claimed
+    (HasVoted-made council v0 v1 v2 v3 v4 k p c.args.value left c.find.result c.requires.unproposed c.pay_value.ensures.made asked
     c.find-left.ensures.read last)
 
 pub returns-clause-agreed : goal.returns-clause-agreed

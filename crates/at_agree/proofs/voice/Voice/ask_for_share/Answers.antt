@@ -5,10 +5,10 @@ use Rattle.at_log.specs.Receipts.{asks_in}
 use Rattle.at_log.specs.declared.receipt.Receipt.{Receipt}
 use Rattle.at_object.specs.Passes.{IsPassOf, PassTerms, newly_counted}
 use Rattle.at_agree.specs.Council.{shared_account, spent_account}
-use Rattle.at_agree.specs.Plan.{HasAsked}
+use Rattle.at_agree.specs.Plan.{HasShareDecided}
 use Rattle.at_agree.specs.Voices.{VoiceTerms, process_of}
-use Rattle.at_agree.proofs.VoiceCalls.{HasAsked-claimed, IsVoice-made, in_book, known_in, payment_steps-shared, slots_of-council}
-use Rattle.at_agree.proofs.voice.Voice.claim.Goals as goal
+use Rattle.at_agree.proofs.VoiceCalls.{HasShareDecided-asked, IsVoice-made, in_book, known_in, payment_steps-shared, slots_of-council}
+use Rattle.at_agree.proofs.voice.Voice.ask_for_share.Goals as goal
 
 pub transfer-asked-requires-clause-from : goal.transfer-asked-requires-clause-from
 transfer-asked-requires-clause-from g c =
@@ -39,10 +39,10 @@ returns-clause-asked g c =
     let unasked : asks_in (shared_account c.args.size) earlier ≡ 0 = search rules in
     let p = c.process.result in
     let known = known_in council voice (vec_capacity c.self.inside.receipts) c.args.size p c.requires.size c.process.ensures was c.self.invariant in
-    let asked : HasAsked c.args.size after.knows.seen p =
-    HasAsked-claimed council before after c.args.size p r earlier c.requires.council c.requires.size known c.process.ensures
-    (c.transfer-asked.ensures.call ∙ ap (λ n. Transfer (shared_account c.args.size) (spent_account c.args.size) n) c.from-claim.ensures) unasked (c.transfer-asked.ensures.placed earlier c.self.invariant.stands) in
-    subst (HasAsked c.args.size after.knows.seen) (c.process.ensures ∙ ap (λ (v : VoiceTerms). process_of v) c.self.view_is) asked
+    let asked : HasShareDecided c.args.size after.knows.seen p =
+    HasShareDecided-asked council before after c.args.size p r earlier c.requires.council c.requires.size known c.process.ensures
+    (c.transfer-asked.ensures.call ∙ ap (λ n. Transfer (shared_account c.args.size) (spent_account c.args.size) n) c.from-share.ensures) unasked (c.transfer-asked.ensures.placed earlier c.self.invariant.stands) in
+    subst (HasShareDecided c.args.size after.knows.seen) (c.process.ensures ∙ ap (λ (v : VoiceTerms). process_of v) c.self.view_is) asked
 
 pub returns-clause-steps : goal.returns-clause-steps
 returns-clause-steps g c =

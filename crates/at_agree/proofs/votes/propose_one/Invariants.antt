@@ -1,4 +1,4 @@
-use Rattle.at_agree.proofs.proposals.propose_one.Given as goal
+use Rattle.at_agree.proofs.votes.propose_one.Given as goal
 
 abbrev pub ghosts-propose-L-Ledger : goal.ghosts-propose-L-Ledger
 ghosts-propose-L-Ledger a = record { name = a.steps.name; parts = a.steps.parts }

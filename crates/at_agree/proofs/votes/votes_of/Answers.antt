@@ -2,14 +2,14 @@ use Rattle.std.proofs.Common.{◌≡◌, ◌++◌, ℕ, List, [], ◌∷◌, ap,
 use Rattle.std.proofs.lemmas.List.{map-append, nil_from_length, take_all, take_more}
 use Rattle.at_agree.specs.Agreement.{values_of}
 use Rattle.at_agree.specs.Voices.{VoiceTerms}
-use Rattle.at_agree.specs.declared.proposals.Proposal.{Proposal}
-use Rattle.at_agree.proofs.AllProposals.{AreReady-all, voice_left, voices_of}
-use Rattle.at_agree.proofs.proposals.proposals_of.Goals as goal
+use Rattle.at_agree.specs.declared.votes.Vote.{Vote}
+use Rattle.at_agree.proofs.AllVotes.{AreReady-all, voice_left, voices_of}
+use Rattle.at_agree.proofs.votes.votes_of.Goals as goal
 
 pub returns : goal.returns
 returns c =
     let values : List ℕ = c.args.values.now in
-    AreReady-all c.args.council.now values c.args.voices.items c.loop-value.rest.rest.items c.loop-value.proposals.items
+    AreReady-all c.args.council.now values c.args.voices.items c.loop-value.rest.rest.items c.loop-value.votes.items
     c.requires.voices c.requires.count c.requires.small c.loop-value.invariant.voices
     (c.loop-value.invariant.values ∙ take_all c.loop-value.value-index values c.loop-value-test.false)
 
@@ -17,23 +17,23 @@ pub unreachable-requires : goal.unreachable-requires
 unreachable-requires c =
     let rest : List VoiceTerms = c.loop-value.rest.rest.items in
     let none : rest ≡ [] = nil_from_length rest (omega (arith, c.loop-value.rest.rest.ok.0, c.in_default.ensures.cases.0)) in
-    voice_left c.loop-value.proposals.items rest c.args.voices.items c.args.values.now c.loop-value.value-index
+    voice_left c.loop-value.votes.items rest c.args.voices.items c.args.values.now c.loop-value.value-index
     c.loop-value.invariant.voices c.loop-value.invariant.values c.loop-value-test.true c.requires.count none
 
 pub loop-value-preserved : goal.loop-value-preserved
 loop-value-preserved c =
-    let proposals : List Proposal = c.loop-value.proposals.items in
+    let votes : List Vote = c.loop-value.votes.items in
     let values : List ℕ = c.args.values.now in
     let rest : List VoiceTerms = c.next.new.self.rest.items in
     let n = c.loop-value.value-index in
-    let x : Proposal = record { voice = c.in-Some.voice; value = get_or values n 0; answer = 0 } in
-    let more : c.push.new.self.items ≡ proposals ++ x ∷ [] = c.in_ok-push.ensures.items in
+    let x : Vote = record { voice = c.in-Some.voice; value = get_or values n 0; answer = 0 } in
+    let more : c.push.new.self.items ≡ votes ++ x ∷ [] = c.in_ok-push.ensures.items in
     record {
-      voices = ap (λ (ps : List Proposal). voices_of ps ++ rest) more
-          ∙ (ap (λ (vs : List VoiceTerms). vs ++ rest) (map-append (λ (y : Proposal). y.voice) proposals (x ∷ []))
-          ∙ (append_assoc (voices_of proposals) (x.voice ∷ []) rest
-          ∙ (ap (λ (vs : List VoiceTerms). voices_of proposals ++ vs) (sym c.in-Some.ensures.items) ∙ c.loop-value.invariant.voices)));
+      voices = ap (λ (ps : List Vote). voices_of ps ++ rest) more
+          ∙ (ap (λ (vs : List VoiceTerms). vs ++ rest) (map-append (λ (y : Vote). y.voice) votes (x ∷ []))
+          ∙ (append_assoc (voices_of votes) (x.voice ∷ []) rest
+          ∙ (ap (λ (vs : List VoiceTerms). voices_of votes ++ vs) (sym c.in-Some.ensures.items) ∙ c.loop-value.invariant.voices)));
       values = ap values_of more
-          ∙ (map-append (λ (y : Proposal). y.value) proposals (x ∷ [])
+          ∙ (map-append (λ (y : Vote). y.value) votes (x ∷ [])
           ∙ (ap (λ (vs : List ℕ). vs ++ x.value ∷ []) c.loop-value.invariant.values ∙ sym (take_more values n 0 c.loop-value-test.true)));
     }

@@ -1,4 +1,4 @@
-//! Proposals: a voice with the value that it proposes, and the answer.
+//! Votes: a voice with the value that it proposes, and the answer.
 
 ghost use Rattle.std.specs.Prelude.{◌≡◌, ◌<◌, ◌^◌, All, IfOk, length};
 ghost use Rattle.at_agree.specs.Agreement.{AreReady, IsMade, IsReady};
@@ -15,60 +15,60 @@ use std::sync::ledger::Blank;
 
 /// A voice with the value that it proposes. The answer is 0 until it has proposed.
 #[derive(Drop)]
-pub(crate) struct Proposal {
+pub(crate) struct Vote {
     pub(crate) voice: Voice,
     pub(crate) value: u64,
     pub(crate) answer: u64,
 }
 
-/// One proposal for each voice, in order.
-pub(crate) fn proposals_of(
+/// One vote for each voice, in order.
+pub(crate) fn votes_of(
     alloc: Global,
     council: &Council,
     voices: Vec<Voice>,
     values: &[u64],
-) -> Result<Vec<Proposal>, NoMemory>
+) -> Result<Vec<Vote>, NoMemory>
     requires voices { AreNewVoices council.now voices.items }
     requires count { length values.now ≡ length voices.items }
     requires small { All (λ v. v < 2 ^ 32) values.now }
-    ensures { IfOk result (λ proposals. AreReady council.now values.now proposals.items) }
+    ensures { IfOk result (λ votes. AreReady council.now values.now votes.items) }
 {
-    let mut proposals = Vec::with_capacity(alloc, values.len())?;
+    let mut votes = Vec::with_capacity(alloc, values.len())?;
     let mut rest = voices.into_iter();
     for value in values {
         let Some(voice) = rest.next() else {
             unreachable!()
         };
-        proposals.push(Proposal {
+        votes.push(Vote {
             voice,
             value: *value,
             answer: 0,
         })?;
     }
-    Ok(proposals)
+    Ok(votes)
 }
 
 /// Proposes, with new counters.
 fn propose<L: ledger::Ledger, X: ledger::Ledger>(
     council: &Council,
-    proposal: &mut Proposal,
+    vote: &mut Vote,
     steps: Blank,
     exchanges: Blank,
 )
-    requires ready { IsReady council.now proposal.old }
+    requires ready { IsReady council.now vote.old }
     requires names { (steps.name ≡ L.name) × (exchanges.name ≡ X.name) }
     requires parts { (steps.parts ≡ L.parts) × (exchanges.parts ≡ X.parts) }
     requires some { (0 < steps.parts) × (0 < exchanges.parts) }
-    ensures { IsMade council.now proposal.old proposal.new }
+    ensures { IsMade council.now vote.old vote.new }
 {
     let (steps, exchanges) = (&mut Steps::<L>::new(steps), &mut Steps::<X>::new(exchanges));
-    proposal.answer = council.propose(&mut proposal.voice, proposal.value, steps, exchanges);
+    vote.answer = council.propose(&mut vote.voice, vote.value, steps, exchanges);
 }
 
 /// Proposes. Nobody reads how many steps it takes.
-pub(crate) fn propose_one(council: &Council, proposal: &mut Proposal)
-    requires { IsReady council.now proposal.old }
-    ensures { IsMade council.now proposal.old proposal.new }
+pub(crate) fn propose_one(council: &Council, vote: &mut Vote)
+    requires { IsReady council.now vote.old }
+    ensures { IsMade council.now vote.old vote.new }
 {
-    propose::<Brand, Brand>(council, proposal, Blank::new(1), Blank::new(1));
+    propose::<Brand, Brand>(council, vote, Blank::new(1), Blank::new(1));
 }

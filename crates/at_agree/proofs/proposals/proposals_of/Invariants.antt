@@ -1,9 +1,0 @@
-use Rattle.std.proofs.Common.{◌≡◌, ◌++◌, map, take}
-use Rattle.at_agree.specs.Agreement.{values_of}
-use Rattle.at_agree.proofs.proposals.proposals_of.Given as goal
-
-abbrev pub invariant-loop-value : goal.invariant-loop-value
-invariant-loop-value l = record {
-  voices : map (λ x. x.voice) l.proposals.items ++ l.rest.rest.items ≡ l.fn.voices.items;
-  values : values_of l.proposals.items ≡ take l.value-index l.values;
-}
