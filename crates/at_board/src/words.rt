@@ -170,17 +170,16 @@ fn entry_from(head: u64, accounts: u64, decision: u64, amounts: [u64; 4]) -> Ent
     ensures { (e : Entry) → IsForm e → head ≡ head_of e → accounts ≡ targets_word (accounts_of (targets_of e)) → decision ≡ decision_word e → amounts ≡ amount_words (targets_of e) → result ≡ e }
 {
     let head = unpack_head(head);
-    let targets = targets_from(accounts, amounts);
     match unpack_decision(decision) {
         Some(decision) => Entry::Round {
             account: head.from,
             round: head.round,
             decision,
-            targets,
+            targets: targets_from(accounts, amounts),
         },
         None => Entry::Own {
             from: head.from,
-            targets,
+            targets: targets_from(accounts, amounts),
         },
     }
 }
