@@ -82,14 +82,24 @@ refused 'a delivery of no message' 10 'order: line 1: unknown message'
 run deliver "$deliver/book.csv" order.csv "$deliver/send0.csv" "$deliver/order.csv"
 refused 'messages of another form' 11 'messages 1: line 1: shape'
 
+# These files hold words. Which of different values is agreed on depends on how the threads' steps fall.
+agree=$examples/agree
+run agree $(cat "$agree/equal.values")
+printed 'the example agree, of equal values' "$agree/equal.line"
+run agree $(cat "$agree/three.values")
+grep -Fxf "$agree/three.lines" out >one || echo none >one
+printed 'the example agree, of three values' one
+
 yes read,0 | head -n 16384 >reads.csv
 echo 'checked 1 2 16384' >checked
 run check "$usual/book.csv" reads.csv
 printed 'a file of many pieces' checked
 
-usage='usage: run BOOK PAY... | check BOOK PAY... | make NUMBER PROCESSES CALLS | deliver BOOK ORDER MSG... | verify BOOK REPORT PAY...'
+usage='usage: run BOOK PAY... | check BOOK PAY... | make NUMBER PROCESSES CALLS | agree VALUE... | deliver BOOK ORDER MSG... | verify BOOK REPORT PAY...'
 run --help
 refused 'words of no form' 2 "$usage"
+run agree 5
+refused 'one value alone' 2 "$usage"
 run run "$(printf '\377')"
 refused 'words that are not text' 2 "$usage"
 run run "$usual/book.csv"
@@ -117,6 +127,9 @@ refused 'a full device' 6 'write fault'
 "$program" make 7 1 2 >/dev/full 2>err
 status=$?
 refused 'a full device for make' 6 'write fault'
+"$program" agree 5 5 >/dev/full 2>err
+status=$?
+refused 'a full device for agree' 6 'write fault'
 {
     "$program" run "$usual/book.csv" reads.csv 2>err
     echo $? >ended

@@ -11,7 +11,8 @@ use at_files::{
 };
 use at_ledger::{Book, BookError, Call, Line, Reply};
 use at_report::{
-    ScheduleWhy, Status, UsageFault, checked_text, fault_text, report, summary, verified_text,
+    ScheduleWhy, Status, UsageFault, agreed_text, checked_text, fault_text, report, summary,
+    verified_text,
 };
 use std::alloc::Global;
 use std::test::Fail;
@@ -21,7 +22,7 @@ const REFUSALS: &[(Status, u8, &str)] = &[
     (
         Status::Usage(UsageFault::Words),
         2,
-        "usage: run BOOK PAY... | check BOOK PAY... | make NUMBER PROCESSES CALLS | deliver BOOK ORDER MSG... | verify BOOK REPORT PAY...\n",
+        "usage: run BOOK PAY... | check BOOK PAY... | make NUMBER PROCESSES CALLS | agree VALUE... | deliver BOOK ORDER MSG... | verify BOOK REPORT PAY...\n",
     ),
     (
         Status::Usage(UsageFault::Files {
@@ -181,6 +182,13 @@ fn a_check(rt: HostRuntime) -> Result<(), Fail> {
 fn a_verified_report(rt: HostRuntime) -> Result<(), Fail> {
     let text = verified_text(rt.alloc(), 3)?;
     assert!(rt; text.as_slice() == b"verified 3\n".as_slice());
+    Ok(())
+}
+
+#[test]
+fn an_agreement(rt: HostRuntime) -> Result<(), Fail> {
+    let text = agreed_text(rt.alloc(), 3, 9)?;
+    assert!(rt; text.as_slice() == b"agreed 3 9\n".as_slice());
     Ok(())
 }
 

@@ -8,6 +8,7 @@ pub mod NodesGiven
 pub mod DeliveringLaws
 pub mod ClaimLaws
 pub mod FormLaws
+pub mod ValueLaws
 pub mod GeneratorLaws
 pub mod GeneratedBook
 pub mod LineSums

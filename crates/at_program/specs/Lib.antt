@@ -9,3 +9,4 @@ pub mod Nodes
 pub mod Delivering
 pub mod Generator
 pub mod Made
+pub mod Agreed

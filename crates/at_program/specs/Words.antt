@@ -1,6 +1,7 @@
 -- The forms of the words of the command line.
-use Rattle.std.specs.Prelude.{◌≡◌, ℕ, List, [], ◌∷◌, map, codes, bytes_eq, Option, Some, None, option_map, if◌then◌else◌, String, string_bytes}
+use Rattle.std.specs.Prelude.{◌≡◌, ℕ, ◌&&◌, List, [], ◌∷◌, length, map, codes, bytes_eq, nat_le, Option, Some, None, option_map, if◌then◌else◌, String, string_bytes}
 use Rattle.std.specs.Global.{Global}
+use Rattle.at_agree.specs.Council.{most_value}
 use Rattle.at_base.specs.Numbers.{number_of}
 use Rattle.at_ledger.specs.Draft.{is_within}
 use Rattle.at_report.specs.Lines.{Word}
@@ -10,7 +11,7 @@ use Rattle.at_program.specs.declared.words.Verifying as verifying
 use Rattle.at_program.specs.declared.words.Command.{Command}
 use Rattle.at_program.specs.declared.words.Command.TheVariants.{Run, Check}
 use Rattle.at_program.specs.declared.words.Making.{Making}
-use Rattle.at_program.specs.Limits.{most_made_calls, most_made_processes}
+use Rattle.at_program.specs.Limits.{least_values, most_made_calls, most_made_processes, most_values}
 
 -- a command, the name of the book, and the names of the payment files in process order
 pub record Form : Type 0 where
@@ -104,7 +105,34 @@ AskToDeliver words asked = deliver_of (words_of words) ≡ Some asked
 abbrev pub delivering_shown : delivering.Delivering → Delivering
 delivering_shown asked = record { book = asked.book.now; order = asked.order.now; messages = words_of asked.messages.now }
 
--- the words ask for no run: they have neither the form of `run` nor that of `make`
+-- a number that a process can propose
+abbrev pub small : Option ℕ → Option ℕ
+small (Some n) = if nat_le n most_value then Some n else None
+small None = None
+
+-- a value, and those after it
+abbrev pub before_values : Option ℕ → Option (List ℕ) → Option (List ℕ)
+before_values (Some value) (Some values) = Some (value ∷ values)
+before_values (Some value) None = None
+before_values None values = None
+
+-- the values that the words are, if each is one
+abbrev pub values_named : List Word → Option (List ℕ)
+values_named [] = Some []
+values_named (word ∷ words) = before_values (small (number_of word)) (values_named words)
+
+-- the words of `agree`: the command, and the values that are proposed, one for each process
+abbrev pub agree_of : List Word → Option (List ℕ)
+agree_of (word ∷ values) =
+    if bytes_eq word (codes "agree") && (nat_le least_values (length values) && nat_le (length values) most_values) then values_named values else None
+agree_of [] = None
+
+-- the words ask `agree` for these values
+abbrev pub AskToAgree : List (String Global) → List ℕ → Type 0
+AskToAgree words values = agree_of (words_of words) ≡ Some values
+
+-- the words ask for no run: they have neither the form of `run`, nor that of `make`, nor that of `agree`
 pub record AskForNoRun (words : List (String Global)) : Type 0 where
   pub checks : (form : Form) → HaveForm words form → form.command ≡ Check
   pub makes_none : make_of (words_of words) ≡ None
+  pub agrees_none : agree_of (words_of words) ≡ None

@@ -5,7 +5,7 @@ ghost use Rattle.at_files.specs.Names.{AreNamesOf};
 ghost use Rattle.at_io.specs.Faults.{Rose};
 ghost use Rattle.at_io.specs.Shelf.{SameFiles};
 ghost use Rattle.at_io.specs.Sink.{TakesPrefix};
-ghost use Rattle.at_program.specs.Words.{AskForNoRun, AskToDeliver, AskToMake, AskToVerify, Delivering, HaveForm, Form, Verifying, deliver_of, form_of, form_shown, make_of, verify_of, words_of};
+ghost use Rattle.at_program.specs.Words.{AskForNoRun, AskToAgree, AskToDeliver, AskToMake, AskToVerify, Delivering, HaveForm, Form, Verifying, agree_of, deliver_of, form_of, form_shown, make_of, verify_of, words_of};
 ghost use Rattle.at_program.specs.Generator.{MayMake};
 ghost use Rattle.at_program.specs.Made.{IsMade, SummarizesRun, made};
 ghost use Rattle.at_program.specs.declared.words.Making.{Making};
@@ -15,14 +15,18 @@ ghost use Rattle.at_program.specs.Faults.{Answers, HasFileNumbers, HasFurtherNum
 ghost use Rattle.at_program.specs.Claims.{AnswersVerify, Claim, IsRight, IsRightClaim, MayReachClaim, MayRefuseClaim, SpellsClaim, TookVerified, TookVerifiedPrefix, claimed};
 ghost use Rattle.at_program.specs.Delivering.{MayReachBroadcast, SpellsBroadcast, TookDelivered, TookDeliveredPrefix, broadcast};
 ghost use Rattle.at_program.specs.Nodes.{Broadcast};
+ghost use Rattle.at_program.specs.Agreed.{KeepsAgreement, TookAgreed, TookAgreedPrefix};
 ghost use Rattle.at_program.specs.Answer.{Prints, PrintsSpelled, TookAll, TookPrefix, TookLine};
 
+use crate::agreeing::answer_agree;
 use crate::delivering::answer_deliver;
 use crate::generating::{Made, generate};
 use crate::loading::{self, load};
 use crate::playing::{journal_of, play};
 use crate::verifying::answer_verify;
-use crate::words::{self, Command, Making, form_of, what_to_deliver, what_to_make, what_to_verify};
+use crate::words::{
+    self, Command, Making, form_of, what_to_agree, what_to_deliver, what_to_make, what_to_verify,
+};
 use at_io::{Shelf, Sink, put_all};
 use at_ledger::Call;
 use at_object::Closed;
@@ -32,11 +36,11 @@ use at_workers::Gate;
 use std::alloc::{AllocError, Global};
 use std::thread::Threads;
 
-/// What a command prints, and the closed ledger on which it ran files, if it did.
+/// What a command prints, and the closed ledger on which it made calls, if it did.
 #[derive(Drop)]
-struct Printed {
-    text: Vec<u8>,
-    closed: Option<Closed>,
+pub struct Printed {
+    pub text: Vec<u8>,
+    pub closed: Option<Closed>,
 }
 
 /// The report of a run of the files, all of them at once.
@@ -212,8 +216,47 @@ fn made_text<R: Threads + Sync, G: Gate + Sync>(
     })
 }
 
-/// Does what words of no file ask: those of `make`, and no others.
+/// Does what the words of `make` ask.
 fn answer_made<R: Threads + Sync, O: Sink, G: Gate + Sync>(
+    rt: &R,
+    alloc: Global,
+    making: Making,
+    out: &mut O,
+    gate: &G,
+    kept: &mut Option<Closed>,
+) -> Status
+    requires kept { kept.old ≡ None }
+    requires may { MayMake making.processes making.calls }
+    ensures later { O.faults out.old ≤ O.faults out.new }
+    ensures as_told { O.tells out.new ≡ O.tells out.old }
+    ensures done { result ≡ Status.Done → O.tells out.old ≡ true
+        → O.taken out.new ≡ O.taken out.old ++ made making.first making.processes making.calls }
+    ensures all { result ≡ Status.Done
+        → IsMade making.first making.processes making.calls
+        (made making.first making.processes making.calls) }
+    ensures done_kept { result ≡ Status.Done → O.faults out.new ≡ O.faults out.old }
+    ensures write_fault { result ≡ Status.WriteFault → Rose (O.faults out.old) (O.faults out.new) }
+    ensures prefix { result ≡ Status.WriteFault → O.tells out.old ≡ true
+        → TakesPrefix (O.taken out.old) (O.taken out.new)
+        (made making.first making.processes making.calls) }
+    ensures answers { (result ≡ Status.Done) ⊎ ((result ≡ Status.WriteFault) ⊎ (result ≡ Status.NoMemory)) }
+    ensures ran { (result ≡ Status.Done) ⊎ (result ≡ Status.WriteFault)
+        → SummarizesRun making kept.new }
+    ensures untouched { result ≢ Status.Done → result ≢ Status.WriteFault
+        → (out.new ≡ out.old) × (kept.new ≡ None) }
+{
+    let Ok(printed) = made_text(rt, alloc, making, gate) else {
+        return Status::NoMemory;
+    };
+    *kept = printed.closed;
+    match put_all(out, printed.text.as_slice()) {
+        Ok(()) => Status::Done,
+        Err(_) => Status::WriteFault,
+    }
+}
+
+/// Does what words of no file ask: those of `make` and of `agree`, and no others.
+fn answer_unread<R: Threads + Sync, O: Sink, G: Gate + Sync>(
     rt: &R,
     alloc: Global,
     words: &[String],
@@ -225,14 +268,14 @@ fn answer_made<R: Threads + Sync, O: Sink, G: Gate + Sync>(
     ensures later { O.faults out.old ≤ O.faults out.new }
     ensures as_told { O.tells out.new ≡ O.tells out.old }
     ensures words { (result ≡ Status.Usage UsageFault.Words)
-        ↔ (make_of (words_of words.now) ≡ None) }
+        ↔ ((make_of (words_of words.now) ≡ None) × (agree_of (words_of words.now) ≡ None)) }
+    ensures done_kept { result ≡ Status.Done → O.faults out.new ≡ O.faults out.old }
+    ensures write_fault { result ≡ Status.WriteFault → Rose (O.faults out.old) (O.faults out.new) }
     ensures done { (m : Making) → AskToMake words.now m → result ≡ Status.Done
         → O.tells out.old ≡ true
         → O.taken out.new ≡ O.taken out.old ++ made m.first m.processes m.calls }
     ensures all { (m : Making) → AskToMake words.now m → result ≡ Status.Done
         → IsMade m.first m.processes m.calls (made m.first m.processes m.calls) }
-    ensures done_kept { result ≡ Status.Done → O.faults out.new ≡ O.faults out.old }
-    ensures write_fault { result ≡ Status.WriteFault → Rose (O.faults out.old) (O.faults out.new) }
     ensures prefix { (m : Making) → AskToMake words.now m → result ≡ Status.WriteFault
         → O.tells out.old ≡ true
         → TakesPrefix (O.taken out.old) (O.taken out.new) (made m.first m.processes m.calls) }
@@ -240,28 +283,35 @@ fn answer_made<R: Threads + Sync, O: Sink, G: Gate + Sync>(
         → (result ≡ Status.Done) ⊎ ((result ≡ Status.WriteFault) ⊎ (result ≡ Status.NoMemory)) }
     ensures ran { (m : Making) → AskToMake words.now m
         → (result ≡ Status.Done) ⊎ (result ≡ Status.WriteFault) → SummarizesRun m kept.new }
+    ensures agree_done { (values : List ℕ) → AskToAgree words.now values → result ≡ Status.Done
+        → O.tells out.old ≡ true
+        → TookAgreed values kept.new (O.taken out.old) (O.taken out.new) }
+    ensures agree_prefix { (values : List ℕ) → AskToAgree words.now values
+        → result ≡ Status.WriteFault → O.tells out.old ≡ true
+        → TookAgreedPrefix values kept.new (O.taken out.old) (O.taken out.new) }
+    ensures agree_answers { (values : List ℕ) → AskToAgree words.now values
+        → (result ≡ Status.Done) ⊎ ((result ≡ Status.WriteFault) ⊎ (result ≡ Status.NoMemory)) }
+    ensures agree_ran { (values : List ℕ) → AskToAgree words.now values
+        → (result ≡ Status.Done) ⊎ (result ≡ Status.WriteFault)
+        → (value : ℕ) × KeepsAgreement values kept.new value }
     ensures untouched { result ≢ Status.Done → result ≢ Status.WriteFault
         → (out.new ≡ out.old) × (kept.new ≡ None) }
 {
-    let Some(making) = what_to_make(words) else {
+    if let Some(making) = what_to_make(words) {
+        return answer_made(rt, alloc, making, out, gate, kept);
+    }
+    let Some(values) = what_to_agree(words) else {
         return Status::Usage(UsageFault::Words);
     };
-    let Ok(printed) = made_text(rt, alloc, making, gate) else {
-        return Status::NoMemory;
-    };
-    *kept = printed.closed;
-    match put_all(out, printed.text.as_slice()) {
-        Ok(()) => Status::Done,
-        Err(_) => Status::WriteFault,
-    }
+    answer_agree(rt, alloc, values.as_slice(), out, kept)
 }
 
 /// Does all that the program does: reads the files that the words name, one after another, or makes the calls that
 /// they ask for, and writes the command's text to `out`, or the line of the first refusal to `err`. The whole text is
 /// made before the first write. `words` are those after the program's name. `run` and `make` make the calls of all
 /// processes at once on one ledger, by a thread for each process where threads can be had; the gate is told of each call.
-/// Under `Done` and a write fault they leave that ledger, closed, in `kept`. The work grows with the bytes of the files, or
-/// with the calls that are made.
+/// `agree` makes those of a council so, and no gate is told. Under `Done` and a write fault they leave that ledger, closed,
+/// in `kept`. The work grows with the bytes of the files, or with the calls that are made.
 pub fn serve<R: Threads + Sync, F: Shelf, O: Sink, E: Sink, G: Gate + Sync>(
     rt: &R,
     alloc: Global,
@@ -280,10 +330,11 @@ pub fn serve<R: Threads + Sync, F: Shelf, O: Sink, E: Sink, G: Gate + Sync>(
     ensures as_told { (O.tells out.new ≡ O.tells out.old) × (E.tells err.new ≡ E.tells err.old) }
 
     // The words have a form exactly where they are not refused, and every other answer is about that form: one of
-    // files, that of `verify`, that of `deliver`, or that of `make`, which reads none.
+    // files, that of `verify`, that of `deliver`, or those of `make` and `agree`, which read none.
     ensures words { (result ≡ Status.Usage UsageFault.Words)
         ↔ ((form_of (words_of words.now) ≡ None) × (verify_of (words_of words.now) ≡ None)
-        × (deliver_of (words_of words.now) ≡ None) × (make_of (words_of words.now) ≡ None)) }
+        × (deliver_of (words_of words.now) ≡ None) × (make_of (words_of words.now) ≡ None)
+        × (agree_of (words_of words.now) ≡ None)) }
 
     ensures unread { result ≡ Status.Usage UsageFault.Words → shelf.new ≡ shelf.old }
 
@@ -327,6 +378,22 @@ pub fn serve<R: Threads + Sync, F: Shelf, O: Sink, E: Sink, G: Gate + Sync>(
     ensures made_answers { (m : Making) → AskToMake words.now m
         → (result ≡ Status.Done) ⊎ ((result ≡ Status.WriteFault) ⊎ (result ≡ Status.NoMemory)) }
     ensures made_unread { (m : Making) → AskToMake words.now m → shelf.new ≡ shelf.old }
+
+    // Of the words of `agree`, all bytes that were taken are the line of one of their values. It is the value that the last
+    // receipt of every process gives in the closed ledger that is kept, on which each made its four calls with its value.
+    ensures agree_done { (values : List ℕ) → AskToAgree words.now values → result ≡ Status.Done
+        → O.tells out.old ≡ true
+        → TookAgreed values kept.new (O.taken out.old) (O.taken out.new) }
+    ensures agree_prefix { (values : List ℕ) → AskToAgree words.now values
+        → result ≡ Status.WriteFault → O.tells out.old ≡ true
+        → TookAgreedPrefix values kept.new (O.taken out.old) (O.taken out.new) }
+    ensures agree_ran { (values : List ℕ) → AskToAgree words.now values
+        → (result ≡ Status.Done) ⊎ (result ≡ Status.WriteFault)
+        → (value : ℕ) × KeepsAgreement values kept.new value }
+    ensures agree_answers { (values : List ℕ) → AskToAgree words.now values
+        → (result ≡ Status.Done) ⊎ ((result ≡ Status.WriteFault) ⊎ (result ≡ Status.NoMemory)) }
+    ensures agree_unread { (values : List ℕ) → AskToAgree words.now values
+        → shelf.new ≡ shelf.old }
 
     // What could not be written whole was written as a prefix.
     ensures write_fault { result ≡ Status.WriteFault
@@ -436,7 +503,7 @@ pub fn serve<R: Threads + Sync, F: Shelf, O: Sink, E: Sink, G: Gate + Sync>(
     } else if let Some(asked) = what_to_deliver(words) {
         answer_deliver(alloc, shelf, out, &asked)
     } else {
-        answer_made(rt, alloc, words, out, gate, kept)
+        answer_unread(rt, alloc, words, out, gate, kept)
     };
     if status != Status::Done {
         tell(err, &status);

@@ -1,11 +1,13 @@
 //! The words of the command line.
 
-ghost use Rattle.std.specs.Prelude.{◌≡◌, option_map, IfSome};
-ghost use Rattle.at_program.specs.Limits.{most_made_calls, most_made_processes};
+ghost use Rattle.std.specs.Prelude.{◌≡◌, ◌^◌, ◌<◌, ◌≤◌, length, option_map, All, IfSome};
+ghost use Rattle.at_agree.specs.Council.{IsSize};
+ghost use Rattle.at_program.specs.Limits.{most_made_calls, most_made_processes, most_values};
 ghost use Rattle.at_base.specs.Numbers.{number_of};
 ghost use Rattle.at_program.specs.Generator.{MayMake};
-ghost use Rattle.at_program.specs.Words.{command_named, deliver_of, delivering_shown, form_of, form_shown, make_of, making_of, verify_of, verifying_shown, within, words_of};
+ghost use Rattle.at_program.specs.Words.{agree_of, command_named, deliver_of, delivering_shown, form_of, form_shown, make_of, making_of, small, values_named, verify_of, verifying_shown, within, words_of};
 
+use arrayvec::ArrayVec;
 use at_base::parse_number;
 
 /// The most processes whose calls are made.
@@ -13,6 +15,15 @@ pub const MADE_PROCESSES_MAX: u32 = 8;
 
 /// The most calls that are made for each process.
 pub const MADE_CALLS_MAX: u32 = 1_000;
+
+/// The fewest values that processes can agree on one of.
+pub const VALUES_MIN: usize = 2;
+
+/// The most.
+pub const VALUES_MAX: usize = 8;
+
+/// The largest of them.
+pub const VALUE_MAX: u64 = 4_294_967_295;
 
 /// What the program is asked to do.
 #[derive(Clone, Copy, Debug, PartialEq, Eq)]
@@ -160,4 +171,45 @@ pub fn what_to_deliver(words: &[String]) -> Option<Delivering<'_>>
         order: order.as_str(),
         messages,
     })
+}
+
+/// The values of `agree`, one for each process.
+pub type Values = ArrayVec<u64, VALUES_MAX>;
+
+/// The value that the word is, where it is one that a process can propose.
+fn value_of(word: &str) -> Option<u64>
+    ensures value { result ≡ small (number_of word.now) }
+    ensures below { IfSome result (λ value. value < 2 ^ 32) }
+{
+    let n = parse_number(word.as_bytes())?;
+    if n <= VALUE_MAX { Some(n) } else { None }
+}
+
+/// The values that the words are, if each is one.
+fn values_of(words: &[String]) -> Option<Values>
+    requires { length words.now ≤ most_values }
+    ensures values { option_map (λ v. v.items) result ≡ values_named (words_of words.now) }
+    ensures count { IfSome result (λ v. length v.items ≡ length words.now) }
+    ensures below { IfSome result (λ v. All (λ value. value < 2 ^ 32) v.items) }
+{
+    let mut values = ArrayVec::new();
+    for word in words {
+        values.push(value_of(word.as_str())?);
+    }
+    Some(values)
+}
+
+/// What values the words of `agree` propose, if they have its form. It takes no memory.
+pub fn what_to_agree(words: &[String]) -> Option<Values>
+    ensures asked { option_map (λ v. v.items) result ≡ agree_of (words_of words.now) }
+    ensures size { IfSome result (λ v. IsSize (length v.items)) }
+    ensures below { IfSome result (λ v. All (λ value. value < 2 ^ 32) v.items) }
+{
+    let [command, values @ ..] = words else {
+        return None;
+    };
+    if command.as_str() != "agree" || values.len() < VALUES_MIN || values.len() > VALUES_MAX {
+        return None;
+    }
+    values_of(values)
 }

@@ -1,4 +1,4 @@
--- The report of a run, the line of a check, and that of a verified report.
+-- The report of a run, and the lines of a check, of a verified report and of an agreement.
 use Rattle.std.specs.Prelude.{ℕ, ◌<◌, ◌^◌, ⊤, List, [], ◌∷◌, ◌++◌, length, map, codes, decimal, sum}
 use Rattle.std.specs.List.{range_with_len}
 use Rattle.at_ledger.specs.Book.{BookTerms}
@@ -45,6 +45,10 @@ checked_line b calls = line_text (codes "checked" ∷ decimal b.processes ∷ de
 -- of how many lines a report is
 abbrev pub verified_line : ℕ → List ℕ
 verified_line count = line_text (codes "verified" ∷ decimal count ∷ [])
+
+-- how many values were proposed, and the one that all agreed on
+abbrev pub agreed_line : ℕ → ℕ → List ℕ
+agreed_line count value = line_text (codes "agreed" ∷ decimal count ∷ decimal value ∷ [])
 
 -- a balance in a reply is a number of 64 bits
 abbrev pub HasBalance : Reply → Type 0

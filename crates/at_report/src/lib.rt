@@ -1,5 +1,5 @@
-//! Printed texts: the report and the summary of a run, the lines of a check and of a verified report, the output of
-//! nodes, and the one line of each refusal, with the exit status.
+//! Printed texts: the report and the summary of a run, the lines of a check, of a verified report and of an agreement,
+//! the output of nodes, and the one line of each refusal, with the exit status.
 //!
 //! Whoever reads a report line by line has the calls for its parts: `push_heading`, `push_line` and `push_audit`, and
 //! `process_of`, which tells whose line a text begins with.
@@ -20,7 +20,9 @@ pub use crate::first_word::process_of;
 pub use crate::lines::push_line;
 pub use crate::nodes::nodes_text;
 pub use crate::refusal::{FaultText, fault_text};
-pub use crate::run_report::{checked_text, push_audit, push_heading, report, verified_text};
+pub use crate::run_report::{
+    agreed_text, checked_text, push_audit, push_heading, report, verified_text,
+};
 pub use crate::run_summary::summary;
 pub use crate::status::{ScheduleWhy, Status, UsageFault};
 pub use at_base::NoMemory;

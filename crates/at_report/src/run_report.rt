@@ -1,11 +1,11 @@
-//! The report of a run, and the line of a check.
+//! The report of a run, and the lines of a check, of a verified report and of an agreement.
 
 ghost use Rattle.std.specs.Prelude.{◌≡◌, ◌^◌, ◌<◌, ◌++◌, List, length, All, IfOk, OnOk};
 ghost use Rattle.at_ledger.specs.Call.{IsLineOn};
 ghost use Rattle.at_ledger.specs.declared.call.Line.{Line};
 ghost use Rattle.at_files.specs.Names.{AreNamesOf};
 ghost use Rattle.at_report.specs.Lines.{line_text, lines_text};
-ghost use Rattle.at_report.specs.Report.{IsPrinted, audit_lines, balance_lines, checked_line, heading_words, printed_journal, report_text, verified_line};
+ghost use Rattle.at_report.specs.Report.{IsPrinted, agreed_line, audit_lines, balance_lines, checked_line, heading_words, printed_journal, report_text, verified_line};
 
 use crate::NoMemory;
 use crate::lines::{push_line, push_number, push_numbered};
@@ -126,6 +126,17 @@ pub fn verified_text(alloc: Global, lines: u32) -> Result<Vec<u8>, NoMemory>
 {
     let mut out = Vec::from_slice(alloc, b"verified")?;
     push_number(&mut out, u64::from(lines))?;
+    out.push(b'\n')?;
+    Ok(out)
+}
+
+/// The line of an agreement: how many values were proposed, and the one that all agreed on.
+pub fn agreed_text(alloc: Global, count: u32, value: u64) -> Result<Vec<u8>, NoMemory>
+    ensures { IfOk result (λ text. text.items ≡ agreed_line count value) }
+{
+    let mut out = Vec::from_slice(alloc, b"agreed")?;
+    push_number(&mut out, u64::from(count))?;
+    push_number(&mut out, value)?;
     out.push(b'\n')?;
     Ok(out)
 }

@@ -1,0 +1,31 @@
+-- What `agree` prints, and the closed ledger that it keeps.
+use Rattle.std.specs.Prelude.{◌≡◌, ℕ, List, ◌++◌, length, Option, Some}
+use Rattle.at_agree.specs.Agreement.{IsAgreement}
+use Rattle.at_io.specs.Sink.{TakesPrefix}
+use Rattle.at_object.specs.Closings.{ClosedTerms}
+use Rattle.at_report.specs.Report.{agreed_line}
+
+-- the closed ledger of a council is kept, on which each process made its four calls with its value. The last receipt of every process
+-- gives this one value, and it is one of the values
+pub record KeepsAgreement (values : List ℕ) (kept : Option ClosedTerms) (value : ℕ) : Type 0 where
+  pub closed : ClosedTerms
+  pub is_kept : kept ≡ Some closed
+  pub agreement : IsAgreement values closed value
+
+-- the text is the line of the value that is agreed on in what is kept
+pub record PrintsAgreed (values : List ℕ) (kept : Option ClosedTerms) (text : List ℕ) : Type 0 where
+  pub value : ℕ
+  pub agreed : KeepsAgreement values kept value
+  pub printed : text ≡ agreed_line (length values) value
+
+-- a sink has taken all of such a text
+pub record TookAgreed (values : List ℕ) (kept : Option ClosedTerms) (before after : List ℕ) : Type 0 where
+  pub text : List ℕ
+  pub printed : PrintsAgreed values kept text
+  pub taken : after ≡ before ++ text
+
+-- a sink has taken a prefix of such a text, and not all of it
+pub record TookAgreedPrefix (values : List ℕ) (kept : Option ClosedTerms) (before after : List ℕ) : Type 0 where
+  pub text : List ℕ
+  pub printed : PrintsAgreed values kept text
+  pub taken : TakesPrefix before after text
