@@ -131,8 +131,8 @@ agree_of [] = None
 abbrev pub AskToAgree : List (String Global) → List ℕ → Type 0
 AskToAgree words values = agree_of (words_of words) ≡ Some values
 
--- the words ask for no run: they have neither the form of `run`, nor that of `make`, nor that of `agree`
-pub record AskForNoRun (words : List (String Global)) : Type 0 where
+-- the words ask for nothing that leaves a ledger: they have neither the form of `run`, nor that of `make`, nor that of `agree`
+pub record AskForNoLedger (words : List (String Global)) : Type 0 where
   pub checks : (form : Form) → HaveForm words form → form.command ≡ Check
   pub makes_none : make_of (words_of words) ≡ None
   pub agrees_none : agree_of (words_of words) ≡ None

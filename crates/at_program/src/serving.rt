@@ -5,7 +5,7 @@ ghost use Rattle.at_files.specs.Names.{AreNamesOf};
 ghost use Rattle.at_io.specs.Faults.{Rose};
 ghost use Rattle.at_io.specs.Shelf.{SameFiles};
 ghost use Rattle.at_io.specs.Sink.{TakesPrefix};
-ghost use Rattle.at_program.specs.Words.{AskForNoRun, AskToAgree, AskToDeliver, AskToMake, AskToVerify, Delivering, HaveForm, Form, Verifying, agree_of, deliver_of, form_of, form_shown, make_of, verify_of, words_of};
+ghost use Rattle.at_program.specs.Words.{AskForNoLedger, AskToAgree, AskToDeliver, AskToMake, AskToVerify, Delivering, HaveForm, Form, Verifying, agree_of, deliver_of, form_of, form_shown, make_of, verify_of, words_of};
 ghost use Rattle.at_program.specs.Generator.{MayMake};
 ghost use Rattle.at_program.specs.Made.{IsMade, SummarizesRun, made};
 ghost use Rattle.at_program.specs.declared.words.Making.{Making};
@@ -358,8 +358,8 @@ pub fn serve<R: Threads + Sync, F: Shelf, O: Sink, E: Sink, G: Gate + Sync>(
         → (result ≡ Status.Done) ⊎ (result ≡ Status.WriteFault)
         → (l : Loaded) × (text : List ℕ) × Prints form.command l kept.new text }
 
-    // No ledger is kept where the words ask for no run, nor under any answer but `Done` and a write fault.
-    ensures kept_of_no_run { AskForNoRun words.now → kept.new ≡ None }
+    // No ledger is kept where the words ask for nothing that leaves one, nor under any answer but `Done` and a write fault.
+    ensures kept_of_no_ledger { AskForNoLedger words.now → kept.new ≡ None }
     ensures kept_of_refusal { result ≢ Status.Done → result ≢ Status.WriteFault
         → kept.new ≡ None }
 
