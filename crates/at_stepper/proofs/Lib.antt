@@ -1,0 +1,4 @@
+pub mod CollectingLaws
+pub mod LoadingLaws
+pub mod AppendingLaws
+pub mod SnappingLaws

@@ -1,0 +1,116 @@
+use Rattle.std.proofs.Common.{◌≡◌, ◌+◌, ◌-◌, ◌<◌, ℕ, Option, Some, get_or, refl, ap, subst, sym, ◌∙◌}
+use Rattle.at_ledger.specs.Book.{BookTerms}
+use Rattle.at_board.specs.Knowledge.Seats.{SeatTerms}
+use Rattle.at_board.specs.declared.knowledge.Knowledge.{Knowledge}
+use Rattle.at_snapshot.specs.Collected.{IsCollect, collect_of}
+use Rattle.at_stepper.proofs.SnappingLaws.{IsSnapped-Repeated, IsSnappingSo-Lent, IsSnappingSo-Undecided, left_of-Undecided}
+use Rattle.at_stepper.specs.Collecting.{CollectingTerms, starting_collecting}
+use Rattle.at_stepper.specs.Loading.{LoadingTerms, starting_loading}
+use Rattle.at_stepper.specs.KeptSnapshots.{IsSnapped, IsSnappingSo}
+use Rattle.at_stepper.specs.Snapping.{SnappingTerms, left_of}
+use Rattle.at_stepper.specs.Verdicts.{IsVerdictOn, collects_with}
+use Rattle.at_stepper.specs.declared.collects.Collects.{Collects}
+use Rattle.at_stepper.specs.declared.collects.Verdict.TheVariants.{Repeated}
+use Rattle.at_stepper.specs.declared.stage.Stage.TheVariants.{Borrow, Collect}
+use Rattle.at_stepper.proofs.snapping.Snapping.turn.Given as given
+use Rattle.at_stepper.proofs.snapping.Snapping.turn.Goals.{After-compare, After-with_one_more}
+use Rattle.at_stepper.proofs.snapping.Snapping.turn.Goals as goal
+
+-- the snapshot before the turn
+before : (g : given.Over) (c : After-compare g)
+    → IsSnappingSo c.self.inside.start.value.knows c.self.inside.mark.value.knows c.self.inside.collects c.self.inside.collected (Collect c.in-Collect.collecting)
+before g c =
+    subst (IsSnappingSo c.self.inside.start.value.knows c.self.inside.mark.value.knows c.self.inside.collects c.self.inside.collected) c.in-Collect.is c.self.invariant
+
+-- its seat is the board's
+book : (g : given.Over) (c : After-compare g) → c.args.board.now.book ≡ c.self.inside.start.value.knows.book
+book g c =
+    sym c.requires.board.book
+    ∙ (ap (λ (v : Knowledge). v.book) (c.requires.mark ∙ sym (ap (λ (s : SnappingTerms). s.mark) c.self.view_is)) ∙ (before g c).book)
+
+book_after : (g : given.Over) (c : After-compare g) → c.turn-collected.new.seat.knows.book ≡ c.self.inside.start.value.knows.book
+book_after g c = c.turn-collected.ensures.board.book ∙ book g c
+
+-- the collect that the turn has ended
+told : (g : given.Over) (c : After-compare g)
+    → IsCollect c.self.inside.start.value.knows.book c.in-Collect.collecting.start c.turn-collected.new.seat.knows
+told g c =
+    subst (λ (b : BookTerms). IsCollect b c.in-Collect.collecting.start c.turn-collected.new.seat.knows) (book g c) c.in_ok-now-in-Collect.ensures.collect
+
+-- what it says
+says : (g : given.Over) (c : After-compare g)
+    → IsVerdictOn c.self.inside.collects c.turn-collected.new.seat.knows.first (collect_of c.turn-collected.new.seat.knows) c.compare.result
+says g c =
+    subst (λ xs. IsVerdictOn c.self.inside.collects c.turn-collected.new.seat.knows.first xs c.compare.result) c.in_ok-now-in-Collect.ensures.counts
+    (subst (λ p. IsVerdictOn c.self.inside.collects p c.in_ok-now-in-Collect.now c.compare.result) c.process.ensures.process c.compare.ensures)
+
+-- its counts serve
+snapped : (g : given.Over) (c : After-compare g) → c.compare.result ≡ Repeated
+    → IsSnapped c.args.board.now.book c.args.self.now.start c.turn-collected.new.seat.knows c.in_ok-now-in-Collect.now
+snapped g c is =
+    let start : Knowledge = c.self.inside.start.value.knows in
+    let w : Knowledge = c.turn-collected.new.seat.knows in
+    let repeated = subst (IsVerdictOn c.self.inside.collects w.first (collect_of w)) is (says g c) in
+    let here = IsSnapped-Repeated start c.self.inside.mark.value.knows w c.self.inside.collects c.self.inside.collected c.in-Collect.collecting (before g c) (told g c) repeated in
+    subst (λ (v : Knowledge). IsSnapped c.args.board.now.book v w c.in_ok-now-in-Collect.now) (ap (λ (s : SnappingTerms). s.start) c.self.view_is)
+    (subst (IsSnapped c.args.board.now.book start w) (sym c.in_ok-now-in-Collect.ensures.counts)
+    (subst (λ (b : BookTerms). IsSnapped b start w (collect_of w)) (sym (book g c)) here))
+
+pub returns-in-Repeated-clause-snapshot : goal.returns-in-Repeated-clause-snapshot
+returns-in-Repeated-clause-snapshot g c = (snapped g (goal.at.returns-in-Repeated-clause-snapshot g c).After-compare c.in-Repeated.is).snapshot
+
+pub returns-in-Repeated-clause-loads : goal.returns-in-Repeated-clause-loads
+returns-in-Repeated-clause-loads g c = (snapped g (goal.at.returns-in-Repeated-clause-loads g c).After-compare c.in-Repeated.is).loads
+
+pub returns-in-Repeated-clause-collects : goal.returns-in-Repeated-clause-collects
+returns-in-Repeated-clause-collects g c = (snapped g (goal.at.returns-in-Repeated-clause-collects g c).After-compare c.in-Repeated.is).collects
+
+pub invariant_of-self-in-Lent : goal.invariant_of-self-in-Lent
+invariant_of-self-in-Lent g c =
+    let at = (goal.at.invariant_of-self-in-Lent g c).After-compare in
+    let start : Knowledge = c.self.inside.start.value.knows in
+    let w : Knowledge = c.turn-collected.new.seat.knows in
+    let lent = subst (IsVerdictOn c.self.inside.collects w.first (collect_of w)) c.in-Lent.is (says g at) in
+    let here = IsSnappingSo-Lent start c.self.inside.mark.value.knows w c.self.inside.collects c.self.inside.collected c.in-Collect.collecting c.in-Lent.p (before g at) (book_after g at) (told g at) lent in
+    let last : c.get-last.result - 1 ≡ get_or (collect_of w) c.in-Lent.p 0 - 1 =
+    ap (λ k. k - 1) (c.get-last.ensures ∙ ap (λ xs. get_or xs c.in-Lent.p 0) c.in_ok-now-in-Collect.ensures.counts) in
+    subst (λ (s : SeatTerms). IsSnappingSo start s.knows c.self.inside.collects c.self.inside.collected (Borrow c.start.result)) (sym c.of.ensures)
+    (subst (λ (t : LoadingTerms). IsSnappingSo start w c.self.inside.collects c.self.inside.collected (Borrow t)) (sym c.start.ensures)
+    (subst (λ i. IsSnappingSo start w c.self.inside.collects c.self.inside.collected (Borrow (starting_loading w c.in-Lent.p i))) (sym last) here))
+
+-- the collects with this one
+with_this : (g : given.Over) (c : After-with_one_more g)
+    → c.with_one_more.result ≡ collects_with c.self.inside.collects (collect_of c.turn-collected.new.seat.knows)
+with_this g c =
+    c.with_one_more.ensures
+    ∙ (ap (λ (cs : Option Collects). collects_with cs c.in_ok-now-in-Collect.now) c.take.ensures.value
+    ∙ ap (collects_with c.self.inside.collects) c.in_ok-now-in-Collect.ensures.counts)
+
+pub invariant_of-self-in-Undecided : goal.invariant_of-self-in-Undecided
+invariant_of-self-in-Undecided g c =
+    let at = (goal.at.invariant_of-self-in-Undecided g c).After-compare in
+    let start : Knowledge = c.self.inside.start.value.knows in
+    let w : Knowledge = c.turn-collected.new.seat.knows in
+    let open_yet = subst (IsVerdictOn c.self.inside.collects w.first (collect_of w)) c.in-Undecided.is (says g at) in
+    let here = IsSnappingSo-Undecided start c.self.inside.mark.value.knows w c.self.inside.collects c.self.inside.collected c.in-Collect.collecting (before g at) (book_after g at) (told g at) open_yet in
+    subst (λ (s : SeatTerms). IsSnappingSo start s.knows (Some c.with_one_more.result) (c.self.inside.collected + 1) (Collect c.start-in-Undecided.result)) (sym c.of.ensures)
+    (subst (λ (t : CollectingTerms). IsSnappingSo start w (Some c.with_one_more.result) (c.self.inside.collected + 1) (Collect t)) (sym c.start-in-Undecided.ensures)
+    (subst (λ (k : Collects). IsSnappingSo start w (Some k) (c.self.inside.collected + 1) (Collect (starting_collecting w)))
+    (sym (with_this g (goal.at.invariant_of-self-in-Undecided g c).After-with_one_more)) here))
+
+pub returns-in-Undecided-clause-left : goal.returns-in-Undecided-clause-left
+returns-in-Undecided-clause-left g c =
+    let at = (goal.at.returns-in-Undecided-clause-left g c).After-compare in
+    let start : Knowledge = c.self.inside.start.value.knows in
+    let n : ℕ = start.book.processes in
+    let w : Knowledge = c.turn-collected.new.seat.knows in
+    let open_yet = subst (IsVerdictOn c.self.inside.collects w.first (collect_of w)) c.in-Undecided.is (says g at) in
+    let whole : c.in-Collect.collecting.loaded + 1 ≡ n =
+    ap (λ (t : CollectingTerms). t.loaded) (sym c.in_ok-now-in-Collect.ensures.after)
+    ∙ (c.in_ok-now-in-Collect.ensures.ends.0 refl ∙ ap (λ (b : BookTerms). b.processes) (book g at)) in
+    let here = left_of-Undecided start c.self.inside.mark.value.knows w c.self.inside.collects c.self.inside.collected c.in-Collect.collecting (before g at) whole (told g at) open_yet in
+    let is : left_of n c.self.inside.collected (Collect c.in-Collect.collecting) ≡ c.args.self.now.left =
+    ap (left_of n c.self.inside.collected) (sym c.in-Collect.is) ∙ ap (λ (s : SnappingTerms). s.left) c.self.view_is in
+    subst (λ k. left_of n (c.self.inside.collected + 1) (Collect c.start-in-Undecided.result) < k) is
+    (subst (λ (t : CollectingTerms). left_of n (c.self.inside.collected + 1) (Collect t) < left_of n c.self.inside.collected (Collect c.in-Collect.collecting))
+    (sym c.start-in-Undecided.ensures) here)

@@ -1,0 +1,30 @@
+-- Appends that are made one store a turn.
+use Rattle.std.specs.Prelude.{ℕ, ◌+◌, slice_index}
+use Rattle.at_history.specs.declared.publication.Publication.{Publication}
+use Rattle.at_board.specs.declared.knowledge.Knowledge.{Knowledge}
+use Rattle.at_board.specs.Steps.StoreRecordWord.{StoresWord}
+use Rattle.at_board.specs.Words.Packed.{record_words}
+use Rattle.at_log.specs.declared.record.Record.{Record}
+use Rattle.at_log.specs.ClosingTerms.{published_by}
+
+-- an append by what its seat knew at the start and after the last turn, by its record, and by how many stores were made
+pub record AppendingTerms : Type 0 where
+  pub start : Knowledge
+  pub mark : Knowledge
+  pub rec : Record
+  pub stored : ℕ
+
+abbrev pub starting_appending : Knowledge → Record → AppendingTerms
+starting_appending v x = record { start = v; mark = v; rec = x; stored = 0 }
+
+-- the append after one more turn
+abbrev pub appending_after : AppendingTerms → Knowledge → AppendingTerms
+appending_after a v = record { start = a.start; mark = v; rec = a.rec; stored = a.stored + 1 }
+
+-- what it publishes
+abbrev pub publication_of : AppendingTerms → Publication
+publication_of a = published_by a.start.first a.rec
+
+-- the seat has then stored the next word of the record, and nothing else
+abbrev pub StoresNextWord : AppendingTerms → Knowledge → Type 0
+StoresNextWord a v = StoresWord a.mark v a.stored (slice_index (record_words (publication_of a)) a.stored)

@@ -1,0 +1,23 @@
+-- Collects that are made one load a turn.
+use Rattle.std.specs.Prelude.{ℕ, ◌+◌}
+use Rattle.at_ledger.specs.Book.{BookTerms}
+use Rattle.at_board.specs.declared.knowledge.Knowledge.{Knowledge}
+use Rattle.at_board.specs.Knowledge.Parts.{loads_of, own_part}
+use Rattle.at_board.specs.Steps.LoadLength.{LoadsLength}
+
+-- a collect by what its seat knew at the start and after the last turn, and by how many lengths are loaded
+pub record CollectingTerms : Type 0 where
+  pub start : Knowledge
+  pub mark : Knowledge
+  pub loaded : ℕ
+
+abbrev pub starting_collecting : Knowledge → CollectingTerms
+starting_collecting v = record { start = v; mark = v; loaded = 0 }
+
+-- the collect after one more turn
+abbrev pub collecting_after : CollectingTerms → Knowledge → CollectingTerms
+collecting_after c v = record { start = c.start; mark = v; loaded = c.loaded + 1 }
+
+-- the seat has loaded the length of one process, and nothing else
+abbrev pub LoadsLengthOf : BookTerms → Knowledge → Knowledge → ℕ → Type 0
+LoadsLengthOf b before after p = LoadsLength b before after p (loads_of (own_part after) p).last

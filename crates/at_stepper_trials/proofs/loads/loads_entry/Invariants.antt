@@ -1,0 +1,14 @@
+use Rattle.std.proofs.Common.{◌≡◌, ◌-◌, ◌<◌}
+use Rattle.at_board.specs.declared.words.TheConstants.{RECORD_WORDS}
+use Rattle.at_stepper_trials.proofs.loads.loads_entry.Given as goal
+
+-- the load by this seat isn't ended
+abbrev pub invariant-loop-entry : goal.invariant-loop-entry
+invariant-loop-entry g l = record {
+  same : l.seat ≡ l.fn.seat;
+  mark : l.seat.knows ≡ l.loading.knows;
+  left : l.loading.loaded < RECORD_WORDS;
+}
+
+abbrev pub decreases-loop-entry : goal.decreases-loop-entry
+decreases-loop-entry g l = RECORD_WORDS - l.loading.loaded

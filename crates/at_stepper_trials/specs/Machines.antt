@@ -1,0 +1,15 @@
+-- State machines in the tests.
+use Rattle.std.specs.Prelude.{◌≡◌, ℕ, ◌<◌, ◌≤◌, List, length, slice_index}
+use Rattle.at_history.specs.Publications.{count_of}
+use Rattle.at_board.specs.Knowledge.Seats.{BoardTerms, IsOf, SeatTerms}
+use Rattle.at_stepper.specs.Snapping.{SnappingTerms}
+
+-- the snapshot of this seat isn't ended
+pub record GoesOn (board : BoardTerms) (seat : SeatTerms) (snapping : SnappingTerms) : Type 0 where
+  pub of_board : IsOf seat board
+  pub mark : seat.knows ≡ snapping.mark
+  pub left : 0 < snapping.left
+
+-- the seat has seen so many records of each process
+abbrev pub HasSeen : SeatTerms → List ℕ → Type 0
+HasSeen seat counts = (p : ℕ) → p < length counts → slice_index counts p ≤ count_of p seat.knows.seen

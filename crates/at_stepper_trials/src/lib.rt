@@ -1,0 +1,9 @@
+//! Tests of the state machines of single steps, over the players of at_players. There is nothing else here.
+#![tactic(auto)]
+
+#[cfg(test)]
+mod loads;
+#[cfg(test)]
+mod machine_trials;
+#[cfg(test)]
+mod movers;

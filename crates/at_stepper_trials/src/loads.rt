@@ -1,0 +1,97 @@
+//! A collect and the loads of a record, by state machines to their end.
+
+ghost use Rattle.std.specs.Prelude.{◌≡◌};
+ghost use Rattle.at_board.specs.Knowledge.Records.{SeesRecord};
+ghost use Rattle.at_board.specs.Knowledge.Seats.{IsOf};
+ghost use Rattle.at_stepper_trials.specs.Machines.{HasSeen};
+
+use at_base::Counts;
+use at_board::{Board, BoardSeat, Steps};
+use at_log::{Entry, Record};
+use at_stepper::{Collecting, LoadingEntry, LoadingView};
+use std::sync::ledger::Ledger;
+
+/// The counts of a collect, and how many turns it took.
+fn collects<L: Ledger, X: Ledger>(
+    board: &Board,
+    seat: &mut BoardSeat,
+    steps: &mut Steps<L>,
+    exchanges: &mut Steps<X>,
+) -> (Counts, u32)
+    requires { IsOf seat.old board.now }
+    ensures board { IsOf seat.new board.now }
+    ensures seen { HasSeen seat.new result.0 }
+{
+    board.book().known();
+    let mut collecting = Collecting::start(board, seat);
+    let mut turns: u32 = 1;
+    loop {
+        match collecting.turn(board, seat, steps, exchanges) {
+            Some(counts) => return (counts, turns),
+            None => turns = turns.saturating_add(1),
+        }
+    }
+}
+
+/// The entry of the first record of a process, and how many turns its load took.
+fn loads_entry<L: Ledger, X: Ledger>(
+    board: &Board,
+    seat: &mut BoardSeat,
+    p: u32,
+    steps: &mut Steps<L>,
+    exchanges: &mut Steps<X>,
+) -> (Entry, u32)
+    requires board { IsOf seat.old board.now }
+    requires record { SeesRecord seat.old.knows p 0 }
+    ensures { seat.new ≡ seat.old }
+{
+    let mut loading = LoadingEntry::start(seat, p, 0);
+    let mut turns: u32 = 1;
+    loop {
+        match loading.turn(board, seat, steps, exchanges) {
+            Some(entry) => return (entry, turns),
+            None => turns = turns.saturating_add(1),
+        }
+    }
+}
+
+/// The view of that record, and how many turns its load took.
+fn loads_view<L: Ledger, X: Ledger>(
+    board: &Board,
+    seat: &mut BoardSeat,
+    p: u32,
+    steps: &mut Steps<L>,
+    exchanges: &mut Steps<X>,
+) -> (Counts, u32)
+    requires board { IsOf seat.old board.now }
+    requires record { SeesRecord seat.old.knows p 0 }
+{
+    board.book().known();
+    let mut loading = LoadingView::start(board, seat, p, 0);
+    let mut turns: u32 = 1;
+    loop {
+        match loading.turn(board, seat, steps, exchanges) {
+            Some(view) => return (view, turns),
+            None => turns = turns.saturating_add(1),
+        }
+    }
+}
+
+/// The first record of process 0, where a collect counts it, and how many turns the collect and the loads of its entry and its view
+/// took.
+pub(crate) fn loads_first<L: Ledger, X: Ledger>(
+    board: &Board,
+    seat: &mut BoardSeat,
+    steps: &mut Steps<L>,
+    exchanges: &mut Steps<X>,
+) -> Option<(Record, (u32, u32, u32))>
+    requires { IsOf seat.old board.now }
+{
+    let (counts, lengths) = collects(board, seat, steps, exchanges);
+    if counts.get(0) == 0 {
+        return None;
+    }
+    let (entry, words) = loads_entry(board, seat, 0, steps, exchanges);
+    let (view, loads) = loads_view(board, seat, 0, steps, exchanges);
+    Some((Record { entry, view }, (lengths, words, loads)))
+}
