@@ -60,10 +60,7 @@ fn close(alloc: Global, council: Council, votes: Vec<Vote>) -> Result<Agreed, No
 }
 
 /// The passes and the receipts of all processes.
-fn parted(
-    alloc: Global,
-    votes: Vec<Vote>,
-) -> Result<(Vec<Pass>, Vec<Vec<Receipt>>), NoMemory>
+fn parted(alloc: Global, votes: Vec<Vote>) -> Result<(Vec<Pass>, Vec<Vec<Receipt>>), NoMemory>
     ensures passes { IfOk result (λ r. r.0.items ≡ map (λ x. x.voice.pass) votes.items) }
     ensures receipts { IfOk result (λ r. map (λ v. v.items) r.1.items
         ≡ map (λ x. x.voice.receipts) votes.items) }

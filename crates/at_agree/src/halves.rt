@@ -28,12 +28,7 @@ pub(crate) fn propose_all<R: Threads + Sync>(rt: &R, council: &Council, votes: &
 
 /// Makes the votes of both halves at once.
 #[cycle(halves)]
-fn propose_both<R: Threads + Sync>(
-    rt: &R,
-    council: &Council,
-    front: &mut [Vote],
-    back: &mut [Vote],
-)
+fn propose_both<R: Threads + Sync>(rt: &R, council: &Council, front: &mut [Vote], back: &mut [Vote])
     requires some { (0 < length front.old) × (0 < length back.old) }
     requires front { All (IsReady council.now) front.old }
     requires back { All (IsReady council.now) back.old }

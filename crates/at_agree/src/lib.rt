@@ -13,10 +13,10 @@ mod book;
 mod council;
 mod crossing;
 mod halves;
-mod votes;
 #[cfg(test)]
 mod tests;
 mod voice;
+mod votes;
 
 pub use crate::agreement::{Agreed, agree};
 pub use crate::council::Council;

@@ -361,7 +361,12 @@ pub(crate) const WORDS: &[Case] = &[
     ("make 7 1 2 3", &[], 2, USAGE),
     ("agree 5 5", &[], 0, "agreed 2 5\n"),
     ("agree 5 5 5 5 5 5 5 5", &[], 0, "agreed 8 5\n"),
-    ("agree 4294967295 4294967295", &[], 0, "agreed 2 4294967295\n"),
+    (
+        "agree 4294967295 4294967295",
+        &[],
+        0,
+        "agreed 2 4294967295\n",
+    ),
     ("agree 05 5", &[], 2, USAGE),
     ("agree 5", &[], 2, USAGE),
     ("agree 5 5 5 5 5 5 5 5 5", &[], 2, USAGE),
