@@ -1,6 +1,6 @@
 //! A snapshot, a load a turn.
 
-ghost use Rattle.std.specs.Prelude.{◌≡◌, ◌+◌, ◌<◌, ◌⊎◌, IfSome, IsSome};
+ghost use Rattle.std.specs.Prelude.{◌≡◌, ◌+◌, ◌<◌, ◌↔◌, IfSome, IsSome};
 ghost use Rattle.at_board.specs.Knowledge.Seats.{IsOf};
 ghost use Rattle.at_snapshot.specs.Collected.{HasLoaded};
 ghost use Rattle.at_snapshot.specs.Snapshots.{HasCollected, IsSnapshot, snapshot_steps};
@@ -72,7 +72,7 @@ impl Snapping {
         ensures start { self.new.start ≡ self.old.start }
         ensures mark { self.new.mark ≡ seat.new.knows }
         ensures left { self.new.left < self.old.left }
-        ensures ends { IsSome result ⊎ (0 < self.new.left) }
+        ensures ends { IsSome result ↔ (self.new.left ≡ 0) }
         ensures snapshot { IfSome result (IsSnapshot board.now.book self.old.start seat.new.knows) }
         ensures loads { IfSome result (λ counts. HasLoaded board.now.book self.old.start seat.new.knows) }
         ensures collects { IfSome result (λ counts. HasCollected board.now.book self.old.start seat.new.knows (board.now.book.processes + 1)) }
@@ -109,8 +109,8 @@ impl Snapping {
                 self.stage = Stage::Ended;
                 Some(view)
             }
-            // Some turn is left, so it isn't ended.
-            Stage::Ended => None,
+            // Some turn is left, and of an ended snapshot none is.
+            Stage::Ended => unreachable!(),
         }
     }
 }
