@@ -1,5 +1,5 @@
 -- What the type of a snapshot in the making keeps of its fields, which no caller sees.
-use Rattle.std.specs.Prelude.{◌≡◌, ℕ, ◌+◌, ◌<◌, List, Option, Some, None}
+use Rattle.std.specs.Prelude.{◌≡◌, ℕ, ◌+◌, ◌<◌, ◌⊎◌, List, Option, Some, None}
 use Rattle.at_ledger.specs.Book.{BookTerms}
 use Rattle.at_history.specs.BoardState.{publication_at}
 use Rattle.at_history.specs.Publications.{publications_of}
@@ -29,10 +29,15 @@ pub record IsSnapped (b : BookTerms) (before after : Knowledge) (counts : List �
   pub loads : HasLoaded b before after
   pub collects : HasCollected b before after (b.processes + 1)
 
+-- since the start nothing was loaded yet, or lengths alone were
+abbrev pub HasLoadedSoFar : BookTerms → Knowledge → Knowledge → Type 0
+HasLoadedSoFar b start mark = (mark ≡ start) ⊎ HasLoaded b start mark
+
 -- of a stage: a collect is the next of a scan of so many turns; a view that is loaded serves
 abbrev pub IsStageSo : BookTerms → Knowledge → Knowledge → Option Collects → ℕ → Stage → Type 0
 IsStageSo b start mark collects collected (Collect c) =
-    (c.mark ≡ mark) × (c.loaded < b.processes) × ((steps : ℕ) × IsSnapping b start (scan_of start c.start collects) c.start 0 steps collected)
+    (c.mark ≡ mark) × (c.loaded < b.processes) × HasLoadedSoFar b start mark
+    × ((steps : ℕ) × IsSnapping b start (scan_of start c.start collects) c.start 0 steps collected)
 IsStageSo b start mark collects collected (Borrow l) =
     (l.knows ≡ mark) × (l.loaded < b.processes) × IsSnapped b start mark (publication_at (publications_of l.process mark.seen) l.number).view
 IsStageSo b start mark collects collected Ended = Unit {0}

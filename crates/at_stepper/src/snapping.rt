@@ -4,6 +4,7 @@ ghost use Rattle.std.specs.Prelude.{◌≡◌, ◌+◌, ◌<◌, ◌↔◌, IfSo
 ghost use Rattle.at_board.specs.Knowledge.Seats.{IsOf};
 ghost use Rattle.at_snapshot.specs.Collected.{HasLoaded};
 ghost use Rattle.at_snapshot.specs.Snapshots.{HasCollected, IsSnapshot, snapshot_steps};
+ghost use Rattle.at_stepper.specs.Snapping.{MakesLoad, MayFollow, length_of};
 
 use crate::collecting::Collecting;
 use crate::collects::{Collects, Verdict, compare, with_one_more};
@@ -31,11 +32,11 @@ pub struct Snapping {
 
 impl Model for Snapping {
     ghost use Rattle.at_stepper.specs.KeptSnapshots.{IsSnappingSo};
-    ghost use Rattle.at_stepper.specs.Snapping.{SnappingTerms, left_of};
+    ghost use Rattle.at_stepper.specs.Snapping.{SnappingTerms, left_of, next_of};
 
     ghost Value = { SnappingTerms };
 
-    ghost view = { λ s. record { start = s.start.value.knows; mark = s.mark.value.knows; left = left_of s.start.value.knows.book.processes s.collected s.stage } };
+    ghost view = { λ s. record { start = s.start.value.knows; mark = s.mark.value.knows; next = next_of s.stage; left = left_of s.start.value.knows.book.processes s.collected s.stage } };
 
     ghost invariant = { λ s. IsSnappingSo s.start.value.knows s.mark.value.knows s.collects s.collected s.stage };
 }
@@ -46,6 +47,7 @@ impl Snapping {
         requires { IsOf seat.now board.now }
         ensures start { result.start ≡ seat.now.knows }
         ensures mark { result.mark ≡ seat.now.knows }
+        ensures next { result.next ≡ length_of 0 }
         ensures left { result.left ≡ snapshot_steps board.now.book.processes }
     {
         seat.known();
@@ -71,10 +73,12 @@ impl Snapping {
         requires left { 0 < self.old.left }
         ensures start { self.new.start ≡ self.old.start }
         ensures mark { self.new.mark ≡ seat.new.knows }
+        ensures load { MakesLoad board.now.book self.old.next seat.old seat.new }
+        ensures loads { HasLoaded board.now.book self.old.start seat.new.knows }
+        ensures next { MayFollow board.now.book.processes self.old.next self.new.next }
         ensures left { self.new.left < self.old.left }
         ensures ends { IsSome result ↔ (self.new.left ≡ 0) }
         ensures snapshot { IfSome result (IsSnapshot board.now.book self.old.start seat.new.knows) }
-        ensures loads { IfSome result (λ counts. HasLoaded board.now.book self.old.start seat.new.knows) }
         ensures collects { IfSome result (λ counts. HasCollected board.now.book self.old.start seat.new.knows (board.now.book.processes + 1)) }
         ensures board { IsOf seat.new board.now }
         ensures steps { steps.new ≡ steps.old + 1 }

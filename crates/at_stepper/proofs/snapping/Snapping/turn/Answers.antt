@@ -1,10 +1,10 @@
-use Rattle.std.proofs.Common.{◌≡◌, ◌+◌, ◌-◌, ◌<◌, ℕ, Option, Some, get_or, refl, ap, subst, sym, ◌∙◌}
+use Rattle.std.proofs.Common.{◌≡◌, ◌≢◌, ◌+◌, ◌-◌, ◌<◌, ℕ, Option, Some, get_or, refl, ap, subst, sym, ◌∙◌, arith, true, false}
 use Rattle.at_ledger.specs.Book.{BookTerms}
 use Rattle.at_board.specs.Knowledge.Seats.{SeatTerms}
 use Rattle.at_board.specs.declared.knowledge.Knowledge.{Knowledge}
-use Rattle.at_snapshot.specs.Collected.{IsCollect, collect_of}
-use Rattle.at_stepper.proofs.SnappingLaws.{IsSnapped-Repeated, IsSnappingSo-Lent, IsSnappingSo-Undecided, left_of-Undecided}
-use Rattle.at_stepper.specs.Collecting.{CollectingTerms, starting_collecting}
+use Rattle.at_snapshot.specs.Collected.{HasLoaded, IsCollect, collect_of}
+use Rattle.at_stepper.proofs.SnappingLaws.{HasLoaded-IsSnappingSo, IsSnapped-Repeated, IsSnappingSo-Lent, IsSnappingSo-Undecided, IsSnappingSo-load, left_of-Undecided}
+use Rattle.at_stepper.specs.Collecting.{CollectingTerms, LoadsLengthOf, starting_collecting}
 use Rattle.at_stepper.specs.Loading.{LoadingTerms, starting_loading}
 use Rattle.at_stepper.specs.KeptSnapshots.{IsSnapped, IsSnappingSo}
 use Rattle.at_stepper.specs.Snapping.{SnappingTerms, left_of}
@@ -13,29 +13,68 @@ use Rattle.at_stepper.specs.declared.collects.Collects.{Collects}
 use Rattle.at_stepper.specs.declared.collects.Verdict.TheVariants.{Repeated}
 use Rattle.at_stepper.specs.declared.stage.Stage.TheVariants.{Borrow, Collect}
 use Rattle.at_stepper.proofs.snapping.Snapping.turn.Given as given
-use Rattle.at_stepper.proofs.snapping.Snapping.turn.Goals.{After-compare, After-with_one_more}
+use Rattle.at_stepper.proofs.snapping.Snapping.turn.Goals.{After-compare, After-turn-collected, After-with_one_more}
 use Rattle.at_stepper.proofs.snapping.Snapping.turn.Goals as goal
 
 -- the snapshot before the turn
-before : (g : given.Over) (c : After-compare g)
+before : (g : given.Over) (c : After-turn-collected g)
     → IsSnappingSo c.self.inside.start.value.knows c.self.inside.mark.value.knows c.self.inside.collects c.self.inside.collected (Collect c.in-Collect.collecting)
 before g c =
     subst (IsSnappingSo c.self.inside.start.value.knows c.self.inside.mark.value.knows c.self.inside.collects c.self.inside.collected) c.in-Collect.is c.self.invariant
 
--- its seat is the board's
-book : (g : given.Over) (c : After-compare g) → c.args.board.now.book ≡ c.self.inside.start.value.knows.book
-book g c =
-    sym c.requires.board.book
-    ∙ (ap (λ (v : Knowledge). v.book) (c.requires.mark ∙ sym (ap (λ (s : SnappingTerms). s.mark) c.self.view_is)) ∙ (before g c).book)
+-- what its seat knows
+known_before : (g : given.Over) (c : After-turn-collected g) → c.args.seat.now.knows ≡ c.self.inside.mark.value.knows
+known_before g c = c.requires.mark ∙ sym (ap (λ (s : SnappingTerms). s.mark) c.self.view_is)
 
-book_after : (g : given.Over) (c : After-compare g) → c.turn-collected.new.seat.knows.book ≡ c.self.inside.start.value.knows.book
+-- its seat is the board's
+book : (g : given.Over) (c : After-turn-collected g) → c.args.board.now.book ≡ c.self.inside.start.value.knows.book
+book g c = sym c.requires.board.book ∙ (ap (λ (v : Knowledge). v.book) (known_before g c) ∙ (before g c).book)
+
+book_after : (g : given.Over) (c : After-turn-collected g) → c.turn-collected.new.seat.knows.book ≡ c.self.inside.start.value.knows.book
 book_after g c = c.turn-collected.ensures.board.book ∙ book g c
+
+-- lengths alone are loaded
+loaded : (g : given.Over) (c : After-turn-collected g)
+    → HasLoaded c.self.inside.start.value.knows.book c.self.inside.start.value.knows c.turn-collected.new.seat.knows
+loaded g c =
+    let b : BookTerms = c.args.board.now.book in
+    let w : Knowledge = c.turn-collected.new.seat.knows in
+    let load = subst (λ (v : Knowledge). LoadsLengthOf b v w c.in-Collect.collecting.loaded) (known_before g c) c.turn-collected.ensures.load in
+    HasLoaded-IsSnappingSo b c.self.inside.start.value.knows c.self.inside.mark.value.knows w c.self.inside.collects c.self.inside.collected c.in-Collect.collecting
+    (before g c) (book g c) load
+
+pub invariant_of-self : goal.invariant_of-self
+invariant_of-self g c =
+    let at = (goal.at.invariant_of-self g c).After-turn-collected in
+    let start : Knowledge = c.self.inside.start.value.knows in
+    let w : Knowledge = c.turn-collected.new.seat.knows in
+    let collecting : CollectingTerms = c.in-Collect.collecting in
+    let after = c.turn-collected.ensures.after in
+    let goes_on : collecting.loaded + 1 ≢ c.args.board.now.book.processes = λ whole.
+    let wrong : false ≡ true = c.in_err-now-in-Collect.ensures.ends.1 (ap (λ (t : CollectingTerms). t.loaded) after ∙ whole) in absurd (cc wrong) in
+    let left : collecting.loaded + 1 < start.book.processes =
+    omega (arith, goes_on, (before g at).stage_so.1, ap (λ (b : BookTerms). b.processes) (book g at)) in
+    let here = IsSnappingSo-load start c.self.inside.mark.value.knows w c.self.inside.collects c.self.inside.collected collecting (before g at) (book_after g at) left (loaded g at) in
+    subst (λ (s : SeatTerms). IsSnappingSo start s.knows c.self.inside.collects c.self.inside.collected (Collect c.turn-collected.new.self)) (sym c.of.ensures)
+    (subst (λ (t : CollectingTerms). IsSnappingSo start w c.self.inside.collects c.self.inside.collected (Collect t)) (sym after) here)
+
+pub returns-in_err-now-in-Collect-clause-loads : goal.returns-in_err-now-in-Collect-clause-loads
+returns-in_err-now-in-Collect-clause-loads g c =
+    let at = (goal.at.returns-in_err-now-in-Collect-clause-loads g c).After-turn-collected in
+    let w : Knowledge = c.turn-collected.new.seat.knows in
+    subst (λ (v : Knowledge). HasLoaded c.args.board.now.book v w) (ap (λ (s : SnappingTerms). s.start) c.self.view_is)
+    (subst (λ (b : BookTerms). HasLoaded b c.self.inside.start.value.knows w) (sym (book g at)) (loaded g at))
+
+-- the snapshot before a turn that ends a collect
+before_end : (g : given.Over) (c : After-compare g)
+    → IsSnappingSo c.self.inside.start.value.knows c.self.inside.mark.value.knows c.self.inside.collects c.self.inside.collected (Collect c.in-Collect.collecting)
+before_end g c = before g (goal.at.After-compare g c).After-turn-collected
 
 -- the collect that the turn has ended
 told : (g : given.Over) (c : After-compare g)
     → IsCollect c.self.inside.start.value.knows.book c.in-Collect.collecting.start c.turn-collected.new.seat.knows
 told g c =
-    subst (λ (b : BookTerms). IsCollect b c.in-Collect.collecting.start c.turn-collected.new.seat.knows) (book g c) c.in_ok-now-in-Collect.ensures.collect
+    subst (λ (b : BookTerms). IsCollect b c.in-Collect.collecting.start c.turn-collected.new.seat.knows) (book g (goal.at.After-compare g c).After-turn-collected) c.in_ok-now-in-Collect.ensures.collect
 
 -- what it says
 says : (g : given.Over) (c : After-compare g)
@@ -51,16 +90,13 @@ snapped g c is =
     let start : Knowledge = c.self.inside.start.value.knows in
     let w : Knowledge = c.turn-collected.new.seat.knows in
     let repeated = subst (IsVerdictOn c.self.inside.collects w.first (collect_of w)) is (says g c) in
-    let here = IsSnapped-Repeated start c.self.inside.mark.value.knows w c.self.inside.collects c.self.inside.collected c.in-Collect.collecting (before g c) (told g c) repeated in
+    let here = IsSnapped-Repeated start c.self.inside.mark.value.knows w c.self.inside.collects c.self.inside.collected c.in-Collect.collecting (before_end g c) (told g c) repeated in
     subst (λ (v : Knowledge). IsSnapped c.args.board.now.book v w c.in_ok-now-in-Collect.now) (ap (λ (s : SnappingTerms). s.start) c.self.view_is)
     (subst (IsSnapped c.args.board.now.book start w) (sym c.in_ok-now-in-Collect.ensures.counts)
-    (subst (λ (b : BookTerms). IsSnapped b start w (collect_of w)) (sym (book g c)) here))
+    (subst (λ (b : BookTerms). IsSnapped b start w (collect_of w)) (sym (book g (goal.at.After-compare g c).After-turn-collected)) here))
 
 pub returns-in-Repeated-clause-snapshot : goal.returns-in-Repeated-clause-snapshot
 returns-in-Repeated-clause-snapshot g c = (snapped g (goal.at.returns-in-Repeated-clause-snapshot g c).After-compare c.in-Repeated.is).snapshot
-
-pub returns-in-Repeated-clause-loads : goal.returns-in-Repeated-clause-loads
-returns-in-Repeated-clause-loads g c = (snapped g (goal.at.returns-in-Repeated-clause-loads g c).After-compare c.in-Repeated.is).loads
 
 pub returns-in-Repeated-clause-collects : goal.returns-in-Repeated-clause-collects
 returns-in-Repeated-clause-collects g c = (snapped g (goal.at.returns-in-Repeated-clause-collects g c).After-compare c.in-Repeated.is).collects
@@ -71,7 +107,7 @@ invariant_of-self-in-Lent g c =
     let start : Knowledge = c.self.inside.start.value.knows in
     let w : Knowledge = c.turn-collected.new.seat.knows in
     let lent = subst (IsVerdictOn c.self.inside.collects w.first (collect_of w)) c.in-Lent.is (says g at) in
-    let here = IsSnappingSo-Lent start c.self.inside.mark.value.knows w c.self.inside.collects c.self.inside.collected c.in-Collect.collecting c.in-Lent.p (before g at) (book_after g at) (told g at) lent in
+    let here = IsSnappingSo-Lent start c.self.inside.mark.value.knows w c.self.inside.collects c.self.inside.collected c.in-Collect.collecting c.in-Lent.p (before_end g at) (book_after g (goal.at.After-compare g at).After-turn-collected) (told g at) lent in
     let last : c.get-last.result - 1 ≡ get_or (collect_of w) c.in-Lent.p 0 - 1 =
     ap (λ k. k - 1) (c.get-last.ensures ∙ ap (λ xs. get_or xs c.in-Lent.p 0) c.in_ok-now-in-Collect.ensures.counts) in
     subst (λ (s : SeatTerms). IsSnappingSo start s.knows c.self.inside.collects c.self.inside.collected (Borrow c.start.result)) (sym c.of.ensures)
@@ -92,7 +128,7 @@ invariant_of-self-in-Undecided g c =
     let start : Knowledge = c.self.inside.start.value.knows in
     let w : Knowledge = c.turn-collected.new.seat.knows in
     let open_yet = subst (IsVerdictOn c.self.inside.collects w.first (collect_of w)) c.in-Undecided.is (says g at) in
-    let here = IsSnappingSo-Undecided start c.self.inside.mark.value.knows w c.self.inside.collects c.self.inside.collected c.in-Collect.collecting (before g at) (book_after g at) (told g at) open_yet in
+    let here = IsSnappingSo-Undecided start c.self.inside.mark.value.knows w c.self.inside.collects c.self.inside.collected c.in-Collect.collecting (before_end g at) (book_after g (goal.at.After-compare g at).After-turn-collected) (told g at) open_yet in
     subst (λ (s : SeatTerms). IsSnappingSo start s.knows (Some c.with_one_more.result) (c.self.inside.collected + 1) (Collect c.start-in-Undecided.result)) (sym c.of.ensures)
     (subst (λ (t : CollectingTerms). IsSnappingSo start w (Some c.with_one_more.result) (c.self.inside.collected + 1) (Collect t)) (sym c.start-in-Undecided.ensures)
     (subst (λ (k : Collects). IsSnappingSo start w (Some k) (c.self.inside.collected + 1) (Collect (starting_collecting w)))
@@ -107,8 +143,8 @@ returns-in-Undecided-clause-left g c =
     let open_yet = subst (IsVerdictOn c.self.inside.collects w.first (collect_of w)) c.in-Undecided.is (says g at) in
     let whole : c.in-Collect.collecting.loaded + 1 ≡ n =
     ap (λ (t : CollectingTerms). t.loaded) (sym c.in_ok-now-in-Collect.ensures.after)
-    ∙ (c.in_ok-now-in-Collect.ensures.ends.0 refl ∙ ap (λ (b : BookTerms). b.processes) (book g at)) in
-    let here = left_of-Undecided start c.self.inside.mark.value.knows w c.self.inside.collects c.self.inside.collected c.in-Collect.collecting (before g at) whole (told g at) open_yet in
+    ∙ (c.in_ok-now-in-Collect.ensures.ends.0 refl ∙ ap (λ (b : BookTerms). b.processes) (book g (goal.at.After-compare g at).After-turn-collected)) in
+    let here = left_of-Undecided start c.self.inside.mark.value.knows w c.self.inside.collects c.self.inside.collected c.in-Collect.collecting (before_end g at) whole (told g at) open_yet in
     let is : left_of n c.self.inside.collected (Collect c.in-Collect.collecting) ≡ c.args.self.now.left =
     ap (left_of n c.self.inside.collected) (sym c.in-Collect.is) ∙ ap (λ (s : SnappingTerms). s.left) c.self.view_is in
     subst (λ k. left_of n (c.self.inside.collected + 1) (Collect c.start-in-Undecided.result) < k) is
