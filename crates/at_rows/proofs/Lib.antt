@@ -1,5 +1,2 @@
 pub mod Laws
-pub mod Asking
-pub mod Gathering
-pub mod Collecting
 pub mod Ages

@@ -21,6 +21,10 @@ request_in list i = slice_index_or list i (record { slot = 0; number = 0; target
 abbrev pub AreRising : List OpenRequest → Type 0
 AreRising list = (i j : ℕ) → i < j → j < length list → (request_in list i).slot < (request_in list j).slot
 
+-- the slots of all of them are below this one
+abbrev pub AreBelow : List OpenRequest → ℕ → Type 0
+AreBelow list slot = (k : ℕ) → k < length list → (request_in list k).slot < slot
+
 -- it is one of the list, on this account
 abbrev pub IsAmong : ℕ → List OpenRequest → SeenRequest → Type 0
 IsAmong a list y = (x : OpenRequest) × Contains list x × (y ≡ seen_of a x)

@@ -45,7 +45,7 @@ pub fn ask<L: Ledger, X: Ledger>(
     seat.known();
     let number = board.announced(seat, account);
     for j in 0..REQUEST_WORDS {
-        let word = word_of(targets, since, j);
+        let word = request_word(targets, since, j);
         // Right here: no other seat reads the words of a request that isn't announced, whatever others do meanwhile.
         board.store_request_word(seat, account, j, word, steps, exchanges);
     }
@@ -56,7 +56,7 @@ pub fn ask<L: Ledger, X: Ledger>(
 }
 
 /// A word of a request: its targets, four amounts, and its `since`.
-fn word_of(targets: &Targets, since: u32, j: u32) -> u64
+pub fn request_word(targets: &Targets, since: u32, j: u32) -> u64
     requires targets { AreTargetsOn (2 ^ 10) targets.now }
     requires word { j < REQUEST_WORDS }
     ensures { result ≡ slice_index (request_words (asked_for targets.now since)) j }

@@ -1,7 +1,8 @@
 //! The last requests of the owners of an account, and which of them is the oldest.
 
-ghost use Rattle.std.specs.Prelude.{◌≡◌, ℕ, ◌+◌, ◌<◌, ◌≤◌, length, All, Contains};
-ghost use Rattle.at_rows.specs.OpenRequests.{AreRising};
+ghost use Rattle.std.specs.Prelude.{◌≡◌, ℕ, ◌+◌, ◌<◌, ◌≤◌, ◌++◌, [], length, All, Contains, IfSome};
+ghost use Rattle.std.specs.Option.{option_to_list};
+ghost use Rattle.at_rows.specs.OpenRequests.{AreBelow, AreRising};
 ghost use Rattle.at_rows.specs.Oldest.{IsFirstBelow, IsLeft, IsOldestOf};
 ghost use Rattle.at_rows.specs.declared.open_request.OpenRequest.{OpenRequest};
 
@@ -29,6 +30,26 @@ impl Model for Asked {
 }
 
 impl Asked {
+    /// No requests.
+    pub fn empty() -> Asked
+        ensures { result ≡ [] }
+    {
+        Asked {
+            list: ArrayVec::new(),
+        }
+    }
+
+    /// Adds a request behind the others, if there is one.
+    pub fn add(&mut self, found: Option<OpenRequest>)
+        requires room { length self.old < 8 }
+        requires above { IfSome found (λ x. AreBelow self.old x.slot) }
+        ensures { self.new ≡ self.old ++ option_to_list found }
+    {
+        if let Some(x) = found {
+            self.list.push(x);
+        }
+    }
+
     /// Tells a proof what the type keeps. It does nothing when it runs.
     pub fn known(&self)
         ensures few { length self.now ≤ 8 }

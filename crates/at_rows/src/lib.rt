@@ -11,8 +11,8 @@ mod load_request_words;
 mod load_rows;
 mod open_request;
 
-pub use crate::announce_request::ask;
+pub use crate::announce_request::{ask, request_word};
 pub use crate::asked::{Asked, oldest};
-pub use crate::load_request_words::load_request;
+pub use crate::load_request_words::{load_request, request_from};
 pub use crate::load_rows::collect_rows;
 pub use crate::open_request::OpenRequest;

@@ -1,9 +1,13 @@
 //! A load of an announced request.
 
-ghost use Rattle.std.specs.Prelude.{◌≡◌, ◌+◌};
+ghost use Rattle.std.specs.Prelude.{◌≡◌, ◌+◌, ◌^◌, ◌<◌, slice_index};
 ghost use Rattle.at_board.specs.Knowledge.Seats.{IsOf};
 ghost use Rattle.at_board.specs.Steps.LoadRequestWord.{KnowsOf};
+ghost use Rattle.at_board.specs.Words.Packed.{request_words};
+ghost use Rattle.at_board.specs.Words.Targets.{ArePacked, accounts_of};
 ghost use Rattle.at_board.specs.declared.words.TheConstants.{REQUEST_WORDS};
+ghost use Rattle.at_history.specs.declared.request.Request.{Request};
+ghost use Rattle.at_rows.specs.Asks.{opened};
 ghost use Rattle.at_rows.specs.Loads.{LoadsRequest};
 
 use crate::open_request::OpenRequest;
@@ -38,6 +42,17 @@ pub fn load_request<L: Ledger, X: Ledger>(
             seat, account, slot, number, j, steps, exchanges,
         );
     }
+    request_from(slot, number, words)
+}
+
+/// The request of these words, by its slot and its number. For words that no request has, the answer is some request.
+pub fn request_from(slot: u32, number: u32, words: [u64; REQUEST_WORDS as usize]) -> OpenRequest
+    requires since { slice_index words 5 < 2 ^ 32 }
+    ensures request { (r : Request) → ArePacked (accounts_of r.targets) → words ≡ request_words r
+        → result ≡ opened slot number r.targets r.since }
+    ensures slot { result.slot ≡ slot }
+    ensures number { result.number ≡ number }
+{
     OpenRequest {
         slot,
         number,

@@ -1,7 +1,6 @@
 //! What the owners of an account have asked last.
 
-ghost use Rattle.std.specs.Prelude.{◌≡◌, ◌+◌, ◌-◌, ◌*◌, ◌<◌, ◌≤◌, ◌++◌, length};
-ghost use Rattle.arrayvec.specs.ArrayVec.{array_vec_len};
+ghost use Rattle.std.specs.Prelude.{◌≡◌, ◌+◌, ◌-◌, ◌*◌, ◌<◌, ◌≤◌, length};
 ghost use Rattle.at_board.specs.Knowledge.Candidates.{HasLoadedRows};
 ghost use Rattle.at_board.specs.Knowledge.Parts.{SeesRequest};
 ghost use Rattle.at_board.specs.Knowledge.Seats.{IsOf};
@@ -11,12 +10,10 @@ ghost use Rattle.at_ledger.specs.Book.{account_of};
 ghost use Rattle.at_rows.specs.Asks.{HasAsked};
 ghost use Rattle.at_rows.specs.OpenRequests.{request_of};
 ghost use Rattle.at_rows.specs.Rows.{AreCandidates, CollectsRows, LoadsRow, row_steps};
-ghost use Rattle.std.specs.Option.{option_to_list};
 
 use crate::asked::Asked;
 use crate::load_request_words::load_request;
 use crate::open_request::OpenRequest;
-use arrayvec::ArrayVec;
 use at_board::{Board, BoardSeat, Steps};
 use std::sync::ledger::Ledger;
 
@@ -48,12 +45,12 @@ pub fn collect_rows<L: Ledger, X: Ledger>(
 {
     board.book().known();
     seat.known();
-    let mut list = ArrayVec::new();
+    let mut asked = Asked::empty();
     for slot in 0..board.book().slot_count(account) {
         let found = load_row(board, seat, account, slot, own, steps, exchanges);
-        add(&mut list, found);
+        asked.add(found);
     }
-    Asked { list }
+    asked
 }
 
 /// One owner's row: its announced word, and of another owner than the caller the last request that the word counts.
@@ -89,14 +86,4 @@ fn load_row<L: Ledger, X: Ledger>(
     let number = count - 1;
     let last = load_request(board, seat, account, slot, number, steps, exchanges);
     Some(last)
-}
-
-/// Adds a request to a list, if there is one.
-fn add(list: &mut ArrayVec<OpenRequest, 8>, found: Option<OpenRequest>)
-    requires { array_vec_len list.old < 8 }
-    ensures { list.new.items ≡ list.old.items ++ option_to_list found }
-{
-    if let Some(x) = found {
-        list.push(x);
-    }
 }

@@ -1,5 +1,5 @@
 -- The words of an announced request that are loaded one after another.
-use Rattle.std.proofs.Common.{◌≡◌, ℕ, ◌+◌, ◌<◌, ◌≤◌, ◌^◌, List, [], ◌∷◌, ◌++◌, length, get_or, set, replicate, refl, sym, ap, subst, ◌∙◌, arith, below_more, inl, inr}
+use Rattle.std.proofs.Common.{◌≡◌, ℕ, ◌+◌, ◌<◌, ◌^◌, List, [], ◌∷◌, ◌++◌, length, get_or, set, replicate, refl, sym, ap, subst, ◌∙◌, arith, below_more, inl, inr}
 use Rattle.std.proofs.lemmas.Bool.{cases_lt}
 use Rattle.std.proofs.lemmas.Grind.{replicate_next, same_number_lists}
 use Rattle.std.proofs.lemmas.List.{append_assoc, get_or-replicate, get_or-set_other, get_or-set_same, length-map, length-replicate}
@@ -8,7 +8,6 @@ use Rattle.std.proofs.lemmas.List.FromFn.{get_or-map-range_with_len, length-map-
 use Rattle.std.specs.List.{Contains}
 use Rattle.at_ledger.specs.Book.{BookTerms, IsBook}
 use Rattle.at_ledger.specs.Call.{AreTargetsOn, TargetPair}
-use Rattle.at_history.specs.Fronts.{places_max}
 use Rattle.at_history.specs.Sound.{AreTargets}
 use Rattle.at_history.specs.declared.request.Request.{Request}
 use Rattle.at_board.specs.Knowledge.Agreement.{DecisionInRange, RequestInRange, SeesInRange}
@@ -24,6 +23,8 @@ use Rattle.at_board.specs.declared.words.TheConstants.{REQUEST_WORDS}
 use Rattle.at_rows.proofs.Laws.Accounts.{HasAccount, asking_on-with_asking, with_asking-again}
 use Rattle.at_rows.specs.Asks.{opened}
 use Rattle.at_rows.specs.Loads.{LoadsRequest, first_words, with_words, loaded_words}
+use Rattle.at_rows.specs.Loading.{IsLoaded, IsLoading, with_first}
+use Rattle.at_rows.specs.declared.open_request.OpenRequest.{OpenRequest}
 
 -- the account of a request that the seat knows of is one of the book's
 pub account-KnowsOf : (v : Knowledge) (a slot number : ℕ) → SeesInRange v → KnowsOf v a slot number → a < length v.book.accounts
@@ -31,25 +32,6 @@ account-KnowsOf v a slot number range (inl (r, sees)) =
     (All-contains (RequestInRange v.book) v.requests (seen_as a slot number r) range.requests sees).words.0
 account-KnowsOf v a slot number range (inr (round, d, sees, slot_is, number_is)) =
     (All-contains (DecisionInRange v.book) v.decisions (record { account = a; round = round; decision = d }) range.decisions sees).words.0
-
--- the seat after loads of the first j words of a request
-abbrev pub with_first : Knowledge → ℕ → SeenRequest → ℕ → Knowledge
-with_first v a x j =
-    with_asking (record v { requests = v.requests ++ replicate j x }) a (with_words (asking_on (own_part v) a) (first_words x j))
-
--- the first j words of a request were loaded, and they are these
-pub record IsLoading (b : BookTerms) (v u : Knowledge) (a slot number : ℕ) (words : List ℕ) (j : ℕ) : Type 0 where
-  pub request : Request
-  pub known : (q : Request) → SeesRequest v a slot number q → q ≡ request
-  pub targets : AreTargets b request.targets
-  pub since : request.since ≤ places_max
-  pub same : u ≡ with_first v a (seen_as a slot number request) j
-  pub words_so_far : (k : ℕ) → k < j → get_or words k 0 ≡ get_or (request_words request) k 0
-
--- before the first load, or after some
-pub record IsLoaded (b : BookTerms) (v u : Knowledge) (a slot number : ℕ) (words : List ℕ) (j : ℕ) : Type 0 where
-  pub start : j ≡ 0 → u ≡ v
-  pub loading : 0 < j → IsLoading b v u a slot number words j
 
 pub IsLoaded-start : (b : BookTerms) (v : Knowledge) (a slot number : ℕ) (words : List ℕ) → IsLoaded b v v a slot number words 0
 IsLoaded-start b v a slot number words = record { start = λ none. refl; loading = λ some. absurd (omega (arith, some)) }
@@ -181,14 +163,6 @@ pub words-IsLoading : (b : BookTerms) (v w : Knowledge) (a slot number : ℕ) (w
 words-IsLoading b v w a slot number words sized loading =
     same_number_lists words (request_words loading.request) sized (λ k within. loading.words_so_far k (omega (arith, within, sized)))
 
-pub LoadsRequest-IsLoading : (b : BookTerms) (v w : Knowledge) (a slot number : ℕ) (words : List ℕ) (targets : List TargetPair) (since : ℕ) → HasAccount v a
-    → (loading : IsLoading b v w a slot number words REQUEST_WORDS) → targets ≡ loading.request.targets → since ≡ loading.request.since
-    → LoadsRequest b v w a slot number (opened slot number targets since)
-LoadsRequest-IsLoading b v w a slot number words targets since has loading targets_is since_is =
-    subst (λ (ts : List TargetPair). LoadsRequest b v w a slot number (opened slot number ts since)) (sym targets_is)
-    (subst (λ n. LoadsRequest b v w a slot number (opened slot number loading.request.targets n)) (sym since_is)
-    (LoadsRequest-whole b v w a slot number words has loading))
-
 -- and each of them is of that request
 pub request-loaded_words : (x : SeenRequest) (l : LoadedWord) → Contains (loaded_words x) l → l.request ≡ x
 request-loaded_words x l (k, within, is) =
@@ -209,3 +183,19 @@ ArePacked-AreTargets b targets book are = record {
   few = omega (arith, are.few, length-map targets (λ (t : TargetPair). t.0));
   small = All-map (λ account. account < 2 ^ 10) (λ (t : TargetPair). t.0) targets (AreTargetsOn-AreTargets b targets book are);
 }
+
+-- the last word is small enough for a number of 32 bits
+pub since-IsLoading : (b : BookTerms) (v w : Knowledge) (a slot number : ℕ) (words : List ℕ) → IsLoading b v w a slot number words REQUEST_WORDS
+    → get_or words 5 0 < 2 ^ 32
+since-IsLoading b v w a slot number words loading = omega (arith, loading.since, loading.words_so_far 5 (omega arith))
+
+-- so the request of these words is the one that was announced
+pub LoadsRequest-IsLoading : (b : BookTerms) (v w : Knowledge) (a slot number : ℕ) (words : List ℕ) (x : OpenRequest) → IsBook b → HasAccount v a
+    → length words ≡ REQUEST_WORDS → IsLoading b v w a slot number words REQUEST_WORDS
+    → ((r : Request) → ArePacked (accounts_of r.targets) → words ≡ request_words r → x ≡ opened slot number r.targets r.since)
+    → LoadsRequest b v w a slot number x
+LoadsRequest-IsLoading b v w a slot number words x book has sized loading told =
+    let r : Request = loading.request in
+    subst (LoadsRequest b v w a slot number)
+    (sym (told r (ArePacked-AreTargets b r.targets book loading.targets) (words-IsLoading b v w a slot number words sized loading)))
+    (LoadsRequest-whole b v w a slot number words has loading)

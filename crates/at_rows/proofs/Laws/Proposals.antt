@@ -15,7 +15,7 @@ use Rattle.at_board.specs.declared.knowledge.Asking.{Asking}
 use Rattle.at_board.specs.declared.knowledge.Knowledge.{Knowledge}
 use Rattle.at_board.specs.declared.knowledge.LoadedWord.{LoadedWord}
 use Rattle.at_board.specs.declared.knowledge.SeenRequest.{SeenRequest}
-use Rattle.at_rows.proofs.Gathering.{LoadsOnly-LoadsRequest, asking_on-LoadsOnly}
+use Rattle.at_rows.proofs.Laws.Rows.{LoadsOnly-LoadsRequest, asking_on-LoadsOnly}
 use Rattle.at_rows.proofs.Laws.Accounts.{HasAccount}
 use Rattle.at_rows.proofs.Laws.Loading.{request-loaded_words}
 use Rattle.at_rows.specs.Asks.{HasAsked}

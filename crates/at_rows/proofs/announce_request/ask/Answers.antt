@@ -5,7 +5,7 @@ use Rattle.at_board.specs.Steps.Announce.{Announces, MayAnnounce}
 use Rattle.at_board.specs.Words.Packed.{request_words}
 use Rattle.at_board.specs.declared.knowledge.Knowledge.{Knowledge}
 use Rattle.at_rows.proofs.Laws.Accounts.{HasAccount}
-use Rattle.at_rows.proofs.Asking.{Announces-IsStoring, HasAsked-Announces, HasLoadedNothing-Announces, IsOf-Announces, IsStoring-more, IsStoring-start, MayAnnounce-IsStoring, MayStoreRequest-IsStoring, MayAskFor-slot}
+use Rattle.at_rows.proofs.Laws.Asking.{Announces-IsStoringRequest, HasAsked-Announces, HasLoadedNothing-Announces, IsOf-Announces, IsStoringRequest-more, IsStoringRequest-start, MayAnnounce-IsStoringRequest, MayStoreRequest-IsStoringRequest, MayAskFor-slot}
 use Rattle.at_rows.proofs.Laws.Loading.{AreTargetsOn-AreTargets}
 use Rattle.at_rows.specs.Asks.{asked_for}
 use Rattle.at_rows.proofs.announce_request.ask.Given as given
@@ -24,7 +24,7 @@ has g c =
 may : (g : given.Over) (c : After-loop-j g)
     → MayAnnounce c.args.board.now.book c.loop-j.seat.knows c.args.account c.requires.request.0 (asked_for c.args.targets.now c.args.since)
 may g c =
-    MayAnnounce-IsStoring c.args.board.now.book c.args.seat.now.knows c.loop-j.seat.knows c.args.account c.requires.request.0 (asked_for c.args.targets.now c.args.since) c.loop-j.j
+    MayAnnounce-IsStoringRequest c.args.board.now.book c.args.seat.now.knows c.loop-j.seat.knows c.args.account c.requires.request.0 (asked_for c.args.targets.now c.args.since) c.loop-j.j
     (has g (goal.at.After-loop-j g c).After-known-2) c.requires.request.1 c.loop-j.invariant.storing (omega (arith, c.loop-j-test.false, c.loop-j.auto.j-end))
 
 -- it is announced
@@ -35,9 +35,9 @@ told g c slot slot_in =
     let b : BookTerms = c.args.board.now.book in
     let r : Request = asked_for c.args.targets.now c.args.since in
     let asks = MayAskFor-slot b c.args.seat.now.knows c.args.account c.requires.request.0 slot r c.requires.request.1 slot_in in
-    let all = MayAnnounce-IsStoring b c.args.seat.now.knows c.loop-j.seat.knows c.args.account slot r c.loop-j.j (has g (goal.at.After-loop-j g before).After-known-2) asks
+    let all = MayAnnounce-IsStoringRequest b c.args.seat.now.knows c.loop-j.seat.knows c.args.account slot r c.loop-j.j (has g (goal.at.After-loop-j g before).After-known-2) asks
     c.loop-j.invariant.storing (omega (arith, c.loop-j-test.false, c.loop-j.auto.j-end)) in
-    Announces-IsStoring b c.args.seat.now.knows c.loop-j.seat.knows c.announce.new.seat.knows c.args.account slot r (request_words r) c.loop-j.j
+    Announces-IsStoringRequest b c.args.seat.now.knows c.loop-j.seat.knows c.announce.new.seat.knows c.args.account slot r (request_words r) c.loop-j.j
     (has g (goal.at.After-loop-j g before).After-known-2) c.loop-j.invariant.storing (c.announce.ensures.announced slot r all)
 
 mine : (g : given.Over) (c : After-announce g)
@@ -51,20 +51,20 @@ loop-j-init g c =
     subst (λ (t : BookTerms). HasSlot t v.first c.args.account c.requires.request.0) (sym c.requires.board.book) c.requires.request.1.asks.slot_in in
     record {
       board = refl;
-      storing = IsStoring-start v c.args.account (request_words (asked_for c.args.targets.now c.args.since))
+      storing = IsStoringRequest-start v c.args.account (request_words (asked_for c.args.targets.now c.args.since))
           (c.known-2.ensures.seat.next_words c.args.account c.requires.request.0 slot_in);
       steps = omega arith;
       exchanges = refl;
     }
 
-pub word_of-word-requires-clause-targets : goal.word_of-word-requires-clause-targets
-word_of-word-requires-clause-targets g c =
+pub request_word-word-requires-clause-targets : goal.request_word-word-requires-clause-targets
+request_word-word-requires-clause-targets g c =
     AreTargetsOn-AreTargets c.args.board.now.book c.args.targets.now (subst IsBook c.book.ensures c.known.ensures.checked) c.requires.request.1.targets
 
 pub store_request_word-requires-clause-asks : goal.store_request_word-requires-clause-asks
 store_request_word-requires-clause-asks g c = (
   c.requires.request.0,
-  MayStoreRequest-IsStoring c.args.board.now.book c.args.seat.now.knows c.loop-j.seat.knows c.args.account c.requires.request.0
+  MayStoreRequest-IsStoringRequest c.args.board.now.book c.args.seat.now.knows c.loop-j.seat.knows c.args.account c.requires.request.0
       (request_words (asked_for c.args.targets.now c.args.since)) c.loop-j.j
       (has g (goal.at.store_request_word-requires-clause-asks g c).After-known-2) c.loop-j.invariant.storing c.requires.request.1.asks,
 )
@@ -72,9 +72,9 @@ store_request_word-requires-clause-asks g c = (
 pub loop-j-preserved : goal.loop-j-preserved
 loop-j-preserved g c = record {
   board = c.store_request_word.ensures.board ∙ c.loop-j.invariant.board;
-  storing = IsStoring-more c.args.seat.now.knows c.loop-j.seat.knows c.store_request_word.new.seat.knows c.args.account
-      (request_words (asked_for c.args.targets.now c.args.since)) c.loop-j.j c.word_of-word.result
-      (has g (goal.at.loop-j-preserved g c).After-known-2) c.loop-j-test.true c.loop-j.invariant.storing c.word_of-word.ensures c.store_request_word.ensures.stored;
+  storing = IsStoringRequest-more c.args.seat.now.knows c.loop-j.seat.knows c.store_request_word.new.seat.knows c.args.account
+      (request_words (asked_for c.args.targets.now c.args.since)) c.loop-j.j c.request_word-word.result
+      (has g (goal.at.loop-j-preserved g c).After-known-2) c.loop-j-test.true c.loop-j.invariant.storing c.request_word-word.ensures c.store_request_word.ensures.stored;
   steps = omega (arith, c.store_request_word.ensures.steps, c.loop-j.invariant.steps);
   exchanges = c.store_request_word.ensures.exchanges ∙ c.loop-j.invariant.exchanges;
 }

@@ -1,6 +1,6 @@
 use Rattle.std.proofs.Common.{◌≡◌, ◌+◌}
 use Rattle.at_board.specs.Words.Packed.{request_words}
-use Rattle.at_rows.proofs.Asking.{IsStoring}
+use Rattle.at_rows.specs.Storing.{IsStoringRequest}
 use Rattle.at_rows.specs.Asks.{asked_for}
 use Rattle.at_rows.proofs.announce_request.ask.Given as goal
 
@@ -8,7 +8,7 @@ use Rattle.at_rows.proofs.announce_request.ask.Given as goal
 abbrev pub invariant-loop-j : goal.invariant-loop-j
 invariant-loop-j g l = record {
   board : l.seat.board ≡ l.fn.seat.board;
-  storing : IsStoring l.fn.seat.knows l.seat.knows l.account (request_words (asked_for l.targets l.since)) l.j;
+  storing : IsStoringRequest l.fn.seat.knows l.seat.knows l.account (request_words (asked_for l.targets l.since)) l.j;
   steps : l.steps ≡ l.fn.steps + l.j;
   exchanges : l.exchanges ≡ l.fn.exchanges;
 }

@@ -1,10 +1,10 @@
-use Rattle.std.proofs.Common.{◌≡◌, ◌∷◌, [], List, ℕ, get_or, ap, subst, ◌∙◌, arith}
+use Rattle.std.proofs.Common.{◌≡◌, subst, ◌∙◌, arith}
 use Rattle.std.proofs.lemmas.List.{length-set}
-use Rattle.at_ledger.specs.Book.{BookTerms, IsBook}
-use Rattle.at_board.specs.Words.Packed.{request_words}
+use Rattle.at_ledger.specs.Book.{IsBook}
 use Rattle.at_board.specs.declared.words.TheConstants.{REQUEST_WORDS}
 use Rattle.at_rows.proofs.Laws.Accounts.{HasAccount}
-use Rattle.at_rows.proofs.Laws.Loading.{ArePacked-AreTargets, IsLoaded-more, IsLoading, KnowsOf-IsLoaded, LoadsRequest-IsLoading, account-KnowsOf, words-IsLoading}
+use Rattle.at_rows.proofs.Laws.Loading.{IsLoaded-more, KnowsOf-IsLoaded, LoadsRequest-IsLoading, account-KnowsOf, since-IsLoading}
+use Rattle.at_rows.specs.Loading.{IsLoading}
 use Rattle.at_rows.proofs.load_request_words.load_request.Given as given
 use Rattle.at_rows.proofs.load_request_words.load_request.Goals.{After-known-2, After-loop-j}
 use Rattle.at_rows.proofs.load_request_words.load_request.Goals as goal
@@ -47,15 +47,15 @@ loop-j-preserved g c = record {
   exchanges = c.load_request_word.ensures.exchanges ∙ c.loop-j.invariant.exchanges;
 }
 
+pub request_from-requires : goal.request_from-requires
+request_from-requires g c = record {
+  since = since-IsLoading c.args.board.now.book c.args.seat.now.knows c.loop-j.seat.knows c.args.account c.args.slot c.args.number c.loop-j.words
+      (whole g (goal.at.request_from-requires g c).After-loop-j);
+}
+
 pub returns-clause-loaded : goal.returns-clause-loaded
 returns-clause-loaded g c =
     let before : After-known-2 g = (goal.at.returns-clause-loaded g c).After-known-2 in
-    let b : BookTerms = c.args.board.now.book in
-    let loading = whole g (goal.at.returns-clause-loaded g c).After-loop-j in
-    let words = words-IsLoading b c.args.seat.now.knows c.loop-j.seat.knows c.args.account c.args.slot c.args.number c.loop-j.words c.loop-j.invariant.sized loading in
-    let at : (k : ℕ) → get_or c.loop-j.words k 0 ≡ get_or (request_words loading.request) k 0 = λ k. ap (λ (ws : List ℕ). get_or ws k 0) words in
-    LoadsRequest-IsLoading b c.args.seat.now.knows c.loop-j.seat.knows c.args.account c.args.slot c.args.number c.loop-j.words c.targets_from.result (get_or c.loop-j.words 5 0)
-    (has g before) loading
-    (c.targets_from.ensures loading.request.targets (ArePacked-AreTargets b loading.request.targets (book g before) loading.targets) (at 0)
-    (λ t. at 1 t ∷ at 2 t ∷ at 3 t ∷ at 4 t ∷ []))
-    (at 5)
+    LoadsRequest-IsLoading c.args.board.now.book c.args.seat.now.knows c.loop-j.seat.knows c.args.account c.args.slot c.args.number c.loop-j.words
+    c.request_from.result (book g before) (has g before) c.loop-j.invariant.sized (whole g (goal.at.returns-clause-loaded g c).After-loop-j)
+    c.request_from.ensures.request

@@ -1,6 +1,6 @@
 use Rattle.std.proofs.Common.{◌≡◌, ◌+◌, length}
 use Rattle.at_board.specs.declared.words.TheConstants.{REQUEST_WORDS}
-use Rattle.at_rows.proofs.Laws.Loading.{IsLoaded}
+use Rattle.at_rows.specs.Loading.{IsLoaded}
 use Rattle.at_rows.proofs.load_request_words.load_request.Given as goal
 
 -- so many words are loaded, a step for each

@@ -5,7 +5,9 @@ use Rattle.at_ledger.specs.Book.{BookTerms, account_of}
 use Rattle.at_board.specs.Knowledge.Parts.{own_part}
 use Rattle.at_board.specs.declared.knowledge.Knowledge.{Knowledge}
 use Rattle.at_rows.proofs.Laws.Accounts.{HasAccount}
-use Rattle.at_rows.proofs.Collecting.{AreCandidates-IsCollecting, CollectsRows-IsCollecting, HasAsked-IsCollecting, HasLoadedRows-IsCollecting, IsCollecting, SeesRequest-HasAsked, IsCollecting-row, IsCollecting-start}
+use Rattle.at_rows.proofs.Laws.Collecting.{AreBelow-LoadsRow, AreCandidates-IsCollectingRows, CollectsRows-IsCollectingRows, HasAsked-IsCollectingRows, HasLoadedRows-IsCollectingRows, SeesRequest-HasAsked, IsCollectingRows-row, IsCollectingRows-start}
+use Rattle.at_rows.specs.Collecting.{IsCollectingRows}
+use Rattle.at_rows.specs.Rows.{row_steps}
 use Rattle.at_rows.specs.declared.open_request.OpenRequest.{OpenRequest}
 use Rattle.at_rows.proofs.load_rows.collect_rows.Given as given
 use Rattle.at_rows.proofs.load_rows.collect_rows.Goals.{After-known-2, After-loop-slot}
@@ -34,8 +36,8 @@ loop-slot-init g c =
     let v : Knowledge = c.args.seat.now.knows in
     record {
       board = refl;
-      collecting = subst (λ (l : List OpenRequest). IsCollecting v v c.args.account c.args.own.now l 0 c.args.steps.now c.args.steps.now) (sym c.new-list.ensures)
-          (IsCollecting-start v c.args.account c.args.own.now c.args.steps.now (SeesRequest-HasAsked c.args.board.now.book v c.args.account c.args.own.now
+      collecting = subst (λ (l : List OpenRequest). IsCollectingRows v v c.args.account c.args.own.now l 0 c.args.steps.now c.args.steps.now) (sym c.empty-asked.ensures)
+          (IsCollectingRows-start v c.args.account c.args.own.now c.args.steps.now (SeesRequest-HasAsked c.args.board.now.book v c.args.account c.args.own.now
           c.requires.board.book v.first (own_part v).published c.known-2.ensures.seat c.requires.own));
       exchanges = refl;
     }
@@ -46,35 +48,41 @@ loop-slot-preserved g c =
     let w : Knowledge = c.load_row-found.new.seat.knows in
     let a = c.args.account in
     let own : OpenRequest = c.args.own.now in
-    let more = IsCollecting-row v c.loop-slot.seat.knows w a own c.loop-slot.list.items c.loop-slot.slot c.args.steps.now c.loop-slot.steps c.load_row-found.result
+    let more = IsCollectingRows-row v c.loop-slot.seat.knows w a own c.loop-slot.asked c.loop-slot.slot c.args.steps.now c.loop-slot.steps c.load_row-found.result
     (has g (goal.at.loop-slot-preserved g c).After-known-2) c.loop-slot.invariant.collecting c.load_row-found.ensures.row in
     record {
       board = c.load_row-found.ensures.board.id ∙ sym c.requires.board.id;
-      collecting = subst (λ (l : List OpenRequest). IsCollecting v w a own l (c.loop-slot.slot + 1) c.args.steps.now c.load_row-found.new.steps) (sym c.add.ensures)
-          (subst (λ n. IsCollecting v w a own (c.loop-slot.list.items ++ option_to_list c.load_row-found.result) (c.loop-slot.slot + 1) c.args.steps.now n)
-          (sym c.load_row-found.ensures.steps) more);
+      collecting = subst (λ (l : List OpenRequest). IsCollectingRows v w a own l (c.loop-slot.slot + 1) c.args.steps.now c.load_row-found.new.steps)
+          {x = c.loop-slot.asked ++ option_to_list c.load_row-found.result} (sym c.add.ensures)
+          (subst (λ n. IsCollectingRows v w a own (c.loop-slot.asked ++ option_to_list c.load_row-found.result) (c.loop-slot.slot + 1) c.args.steps.now n)
+          {x = c.loop-slot.steps + row_steps own.slot c.loop-slot.slot c.load_row-found.result} (sym c.load_row-found.ensures.steps) more);
       exchanges = c.load_row-found.ensures.exchanges ∙ c.loop-slot.invariant.exchanges;
     }
 
 pub returns-clause-collected : goal.returns-clause-collected
 returns-clause-collected g c =
-    HasLoadedRows-IsCollecting c.args.board.now.book c.args.seat.now.knows c.loop-slot.seat.knows c.args.account c.args.own.now c.loop-slot.list.items c.loop-slot.slot
+    HasLoadedRows-IsCollectingRows c.args.board.now.book c.args.seat.now.knows c.loop-slot.seat.knows c.args.account c.args.own.now c.loop-slot.asked c.loop-slot.slot
     c.args.steps.now c.loop-slot.steps (has g (goal.at.returns-clause-collected g c).After-known-2) c.requires.own c.loop-slot.invariant.collecting (visited g c)
 
 pub returns-clause-rows : goal.returns-clause-rows
 returns-clause-rows g c =
-    CollectsRows-IsCollecting c.args.board.now.book c.args.seat.now.knows c.loop-slot.seat.knows c.args.account c.args.own.now c.loop-slot.list.items c.loop-slot.slot
+    CollectsRows-IsCollectingRows c.args.board.now.book c.args.seat.now.knows c.loop-slot.seat.knows c.args.account c.args.own.now c.loop-slot.asked c.loop-slot.slot
     c.args.steps.now c.loop-slot.steps c.requires.own c.loop-slot.invariant.collecting (visited g c)
 
 pub returns-clause-candidates : goal.returns-clause-candidates
 returns-clause-candidates g c =
-    AreCandidates-IsCollecting c.args.board.now.book c.args.seat.now.knows c.loop-slot.seat.knows c.args.account c.args.own.now c.loop-slot.list.items c.loop-slot.slot
+    AreCandidates-IsCollectingRows c.args.board.now.book c.args.seat.now.knows c.loop-slot.seat.knows c.args.account c.args.own.now c.loop-slot.asked c.loop-slot.slot
     c.args.steps.now c.loop-slot.steps (has g (goal.at.returns-clause-candidates g c).After-known-2) c.requires.own c.loop-slot.invariant.collecting (visited g c)
 
 pub returns-clause-own : goal.returns-clause-own
 returns-clause-own g c =
-    HasAsked-IsCollecting c.args.board.now.book c.args.seat.now.knows c.loop-slot.seat.knows c.args.account c.args.own.now c.loop-slot.list.items c.loop-slot.slot
+    HasAsked-IsCollectingRows c.args.board.now.book c.args.seat.now.knows c.loop-slot.seat.knows c.args.account c.args.own.now c.loop-slot.asked c.loop-slot.slot
     c.args.steps.now c.loop-slot.steps (has g (goal.at.returns-clause-own g c).After-known-2) c.requires.own c.loop-slot.invariant.collecting
 
 pub load_row-found-requires-clause-own : goal.load_row-found-requires-clause-own
 load_row-found-requires-clause-own g c = c.loop-slot.invariant.collecting.own_seen
+
+pub add-requires-clause-above : goal.add-requires-clause-above
+add-requires-clause-above g c =
+    AreBelow-LoadsRow c.loop-slot.seat.knows c.load_row-found.new.seat.knows c.args.account c.loop-slot.slot c.args.own.now c.loop-slot.asked
+    c.load_row-found.result c.loop-slot.invariant.collecting.below c.load_row-found.ensures.row

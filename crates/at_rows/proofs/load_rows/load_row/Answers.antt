@@ -1,8 +1,8 @@
-use Rattle.std.proofs.Common.{◌-◌, [], length, refl, sym, ap, subst, arith, inl}
+use Rattle.std.proofs.Common.{◌-◌, Some, length, sym, ap, subst, arith}
 use Rattle.at_ledger.specs.Book.{BookTerms}
 use Rattle.at_rows.proofs.Laws.Accounts.{HasAccount}
-use Rattle.at_rows.proofs.Gathering.{LoadsOnly-LoadsAnnounced, SeesAsked-own, KnowsOf-LoadsAnnounced, LoadsRow-other}
-use Rattle.at_rows.specs.Rows.{SeesAsked}
+use Rattle.at_rows.proofs.Laws.Rows.{KnowsOf-LoadsAnnounced, LoadsRow-none, LoadsRow-other, LoadsRow-own}
+use Rattle.at_rows.specs.Rows.{LoadsRow}
 use Rattle.at_rows.proofs.load_rows.load_row.Given as given
 use Rattle.at_rows.proofs.load_rows.load_row.Goals.{After-known}
 use Rattle.at_rows.proofs.load_rows.load_row.Goals as goal
@@ -15,26 +15,15 @@ has g c =
     record { part = omega (arith, seat.one_part); inside = omega (arith, seat.accounts, c.requires.account, same) }
 
 pub returns-then-slot-own-clause-row : goal.returns-then-slot-own-clause-row
-returns-then-slot-own-clause-row g c = record {
-  count = c.load_announced-count.result;
-  words = [];
-  loads = LoadsOnly-LoadsAnnounced c.args.board.now.book c.args.seat.now.knows c.load_announced-count.new.seat.knows c.args.account c.args.slot c.load_announced-count.result
-      c.load_announced-count.ensures.told;
-  is_found = inl (c.if-slot-own.true, c.copy.ensures, refl);
-  seen = subst (SeesAsked c.load_announced-count.new.seat.knows c.args.account) (sym c.copy.ensures)
-      (SeesAsked-own c.args.board.now.book c.args.seat.now.knows c.load_announced-count.new.seat.knows c.args.account c.args.slot c.load_announced-count.result c.args.own.now
-      c.if-slot-own.true c.requires.own c.load_announced-count.ensures.told);
-}
+returns-then-slot-own-clause-row g c =
+    subst (λ x. LoadsRow c.args.seat.now.knows c.load_announced-count.new.seat.knows c.args.account c.args.slot c.args.own.now (Some x)) (sym c.copy.ensures)
+    (LoadsRow-own c.args.board.now.book c.args.seat.now.knows c.load_announced-count.new.seat.knows c.args.account c.args.slot c.load_announced-count.result
+    c.args.own.now c.if-slot-own.true c.requires.own c.load_announced-count.ensures.told)
 
 pub returns-then-count-eq0-clause-row : goal.returns-then-count-eq0-clause-row
-returns-then-count-eq0-clause-row g c = record {
-  count = c.load_announced-count.result;
-  words = [];
-  loads = LoadsOnly-LoadsAnnounced c.args.board.now.book c.args.seat.now.knows c.load_announced-count.new.seat.knows c.args.account c.args.slot c.load_announced-count.result
-      c.load_announced-count.ensures.told;
-  is_found = (c.if-slot-own.false, omega arith, refl);
-  seen = tt;
-}
+returns-then-count-eq0-clause-row g c =
+    LoadsRow-none c.args.board.now.book c.args.seat.now.knows c.load_announced-count.new.seat.knows c.args.account c.args.slot c.load_announced-count.result
+    c.args.own.now c.if-slot-own.false (omega arith) c.load_announced-count.ensures.told
 
 pub load_request-last-requires-clause-request : goal.load_request-last-requires-clause-request
 load_request-last-requires-clause-request g c =

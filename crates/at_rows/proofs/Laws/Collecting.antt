@@ -1,5 +1,5 @@
 -- The rows of the owners, one after another.
-use Rattle.std.proofs.Common.{IfSome, map, refl, get_or, ◌≡◌, ◌≢◌, ◌⊎◌, ℕ, if◌then◌else◌, ◌+◌, ◌*◌, ◌<◌, ◌≤◌, List, [], ◌∷◌, ◌++◌, length, Option, Some, None, sym, ap, subst, ◌∙◌, arith, inl, inr}
+use Rattle.std.proofs.Common.{IfSome, map, refl, get_or, ◌≡◌, ◌≢◌, ◌⊎◌, ℕ, if◌then◌else◌, ◌+◌, ◌*◌, ◌<◌, List, [], ◌∷◌, ◌++◌, length, Option, Some, None, sym, ap, subst, ◌∙◌, arith, inl, inr}
 use Rattle.std.proofs.lemmas.Bool.{cases_eq, cases_lt, eq-eqb, ne_eqb}
 use Rattle.std.proofs.lemmas.Grind.{same_number_lists}
 use Rattle.std.proofs.lemmas.List.{append-nil, get_or_append_left, get_or_default, get_or_push, length_push, map-append}
@@ -23,47 +23,17 @@ use Rattle.at_board.specs.declared.knowledge.LoadedWord.{LoadedWord}
 use Rattle.at_board.specs.declared.knowledge.SeenRequest.{SeenRequest}
 use Rattle.at_board.specs.declared.words.TheConstants.{REQUEST_WORDS}
 use Rattle.at_rows.proofs.Laws.Accounts.{HasAccount}
-use Rattle.at_rows.proofs.Gathering.{LoadsOnly-refl, LoadsOnly-trans, announced-LoadsOnly, asking_on-LoadsOnly, first-LoadsOnly}
+use Rattle.at_rows.proofs.Laws.Rows.{LoadsOnly-refl, LoadsOnly-trans, announced-LoadsOnly, asking_on-LoadsOnly, first-LoadsOnly}
 use Rattle.at_rows.proofs.Laws.Loading.{Contains-loaded_words, request-loaded_words}
 use Rattle.at_rows.specs.Asks.{HasAsked}
+use Rattle.at_rows.specs.Collecting.{AreWords, HasRow, IsCollectingRows, IsLast}
 use Rattle.at_rows.specs.Loads.{loaded_words}
-use Rattle.at_rows.specs.OpenRequests.{AreRising, IsAmong, request_in, request_of, seen_of}
+use Rattle.at_rows.specs.OpenRequests.{AreBelow, AreRising, IsAmong, request_in, request_of, seen_of}
 use Rattle.at_rows.specs.Rows.{AreCandidates, CollectsRows, LoadsOnly, WordCounts, SeesAsked, IsFound, LoadsRow, row_steps}
 use Rattle.at_rows.specs.declared.open_request.OpenRequest.{OpenRequest}
 
--- each word of the request is among these
-abbrev pub AreWords : List LoadedWord → SeenRequest → Type 0
-AreWords words y = (j : ℕ) → j < REQUEST_WORDS → Contains words (record { request = y; word = j })
-
--- what an element is: the seat's own request, or the last one that was counted in the row of another owner, whole
-abbrev pub IsLast : ℕ → OpenRequest → List SeenRow → List LoadedWord → OpenRequest → Type 0
-IsLast a own rows words x = (x ≡ own) ⊎ ((x.slot ≢ own.slot) × WordCounts rows x.slot (x.number + 1) × AreWords words (seen_of a x))
-
--- the row of another owner was loaded, and the last request that it counts is in the list
-abbrev pub HasRow : List SeenRow → List OpenRequest → ℕ → Type 0
-HasRow rows list slot = (n : ℕ) × WordCounts rows slot n
-    × ((number : ℕ) → number + 1 ≡ n → (x : OpenRequest) × Contains list x × (x.slot ≡ slot) × (x.number ≡ number))
-
--- the rows of the owners at the slots below s were loaded, from so many steps on
-pub record IsCollecting (v w : Knowledge) (a : ℕ) (own : OpenRequest) (list : List OpenRequest) (s start steps : ℕ) : Type 0 where
-  pub rows : List SeenRow
-  pub words : List LoadedWord
-  pub loads : LoadsOnly v w a rows words
-  pub rising : AreRising list
-  pub below : (k : ℕ) → k < length list → (request_in list k).slot < s
-  pub few : length list ≤ s
-  pub own_in : own.slot < s → Contains list own
-  pub last : (x : OpenRequest) → Contains list x → IsLast a own rows words x
-  pub counted : (slot : ℕ) → slot < s → slot ≢ own.slot → HasRow rows list slot
-  pub only : (l : LoadedWord) → Contains words l → IsAmong a list l.request
-  pub slots : map (λ r. r.slot) rows ≡ range_with_len 0 s
-  pub own_seen : SeesRequest w a own.slot own.number (request_of own)
-  pub seen : (x : OpenRequest) → Contains list x → SeesAsked w a x
-  pub steps_before : s ≤ own.slot → steps ≡ start + s + REQUEST_WORDS * length list
-  pub steps_after : own.slot < s → steps + REQUEST_WORDS ≡ start + s + REQUEST_WORDS * length list
-
-pub IsCollecting-start : (v : Knowledge) (a : ℕ) (own : OpenRequest) (start : ℕ) → SeesRequest v a own.slot own.number (request_of own) → IsCollecting v v a own [] 0 start start
-IsCollecting-start v a own start sees = record {
+pub IsCollectingRows-start : (v : Knowledge) (a : ℕ) (own : OpenRequest) (start : ℕ) → SeesRequest v a own.slot own.number (request_of own) → IsCollectingRows v v a own [] 0 start start
+IsCollectingRows-start v a own start sees = record {
   rows = [];
   words = [];
   loads = LoadsOnly-refl v a;
@@ -109,7 +79,7 @@ request_in-push list x i within = get_or_append_left list (x ∷ []) _ i within
 request_in-last : (list : List OpenRequest) (x : OpenRequest) (i : ℕ) → i ≡ length list → request_in (list ++ x ∷ []) i ≡ x
 request_in-last list x i at = get_or_push list x _ i (sym at)
 
-AreRising-push : (list : List OpenRequest) (x : OpenRequest) (s : ℕ) → AreRising list → ((k : ℕ) → k < length list → (request_in list k).slot < s) → x.slot ≡ s
+AreRising-push : (list : List OpenRequest) (x : OpenRequest) (s : ℕ) → AreRising list → AreBelow list s → x.slot ≡ s
     → AreRising (list ++ x ∷ [])
 AreRising-push list x s rising below at i j less within =
     let size = length_push list x in
@@ -122,8 +92,7 @@ AreRising-push list x s rising below at i j less within =
           omega (arith, below i (omega (arith, less, last)), slot_here, at, ap (λ (t : OpenRequest). t.slot) (request_in-last list x j last))
     ]
 
-below-push : (list : List OpenRequest) (x : OpenRequest) (s : ℕ) → ((k : ℕ) → k < length list → (request_in list k).slot < s) → x.slot ≡ s
-    → (k : ℕ) → k < length (list ++ x ∷ []) → (request_in (list ++ x ∷ []) k).slot < s + 1
+below-push : (list : List OpenRequest) (x : OpenRequest) (s : ℕ) → AreBelow list s → x.slot ≡ s → AreBelow (list ++ x ∷ []) (s + 1)
 below-push list x s below at k within =
     elim (cases_lt k (length list)) as (λ _. (request_in (list ++ x ∷ []) k).slot < s + 1) [
       | inl inside ↦ omega (arith, below k inside, ap (λ (t : OpenRequest). t.slot) (request_in-push list x k inside))
@@ -160,10 +129,10 @@ SeesAsked-LoadsOnly u w a rows words x told has = record {
 }
 
 -- a row of which nothing is loaded besides
-IsCollecting-none : (v u w : Knowledge) (a : ℕ) (own : OpenRequest) (list : List OpenRequest) (s start steps count : ℕ) (found : List LoadedWord) → HasAccount v a
-    → IsCollecting v u a own list s start steps → LoadsOnly u w a (record { slot = s; count = count } ∷ []) found → s ≢ own.slot → count ≡ 0 → found ≡ []
-    → IsCollecting v w a own list (s + 1) start (steps + 1)
-IsCollecting-none v u w a own list s start steps count found has so_far told apart zero none =
+IsCollectingRows-none : (v u w : Knowledge) (a : ℕ) (own : OpenRequest) (list : List OpenRequest) (s start steps count : ℕ) (found : List LoadedWord) → HasAccount v a
+    → IsCollectingRows v u a own list s start steps → LoadsOnly u w a (record { slot = s; count = count } ∷ []) found → s ≢ own.slot → count ≡ 0 → found ≡ []
+    → IsCollectingRows v w a own list (s + 1) start (steps + 1)
+IsCollectingRows-none v u w a own list s start steps count found has so_far told apart zero none =
     let row : SeenRow = record { slot = s; count = count } in
     let rows : List SeenRow = so_far.rows ++ row ∷ [] in
     record {
@@ -191,10 +160,10 @@ IsCollecting-none v u w a own list s start steps count found has so_far told apa
     }
 
 -- the seat's own row
-IsCollecting-own : (v u w : Knowledge) (a : ℕ) (own : OpenRequest) (list : List OpenRequest) (s start steps count : ℕ) (found : List LoadedWord) → HasAccount v a
-    → IsCollecting v u a own list s start steps → LoadsOnly u w a (record { slot = s; count = count } ∷ []) found → s ≡ own.slot → found ≡ []
-    → SeesAsked w a own → IsCollecting v w a own (list ++ own ∷ []) (s + 1) start (steps + 1)
-IsCollecting-own v u w a own list s start steps count found has so_far told at none own_has =
+IsCollectingRows-own : (v u w : Knowledge) (a : ℕ) (own : OpenRequest) (list : List OpenRequest) (s start steps count : ℕ) (found : List LoadedWord) → HasAccount v a
+    → IsCollectingRows v u a own list s start steps → LoadsOnly u w a (record { slot = s; count = count } ∷ []) found → s ≡ own.slot → found ≡ []
+    → SeesAsked w a own → IsCollectingRows v w a own (list ++ own ∷ []) (s + 1) start (steps + 1)
+IsCollectingRows-own v u w a own list s start steps count found has so_far told at none own_has =
     let row : SeenRow = record { slot = s; count = count } in
     let rows : List SeenRow = so_far.rows ++ row ∷ [] in
     let all : List OpenRequest = list ++ own ∷ [] in
@@ -228,10 +197,10 @@ IsCollecting-own v u w a own list s start steps count found has so_far told at n
     }
 
 -- the row of another owner that has asked
-IsCollecting-other : (v u w : Knowledge) (a : ℕ) (own : OpenRequest) (list : List OpenRequest) (s start steps count : ℕ) (found : List LoadedWord) (x : OpenRequest)
-    → HasAccount v a → IsCollecting v u a own list s start steps → LoadsOnly u w a (record { slot = s; count = count } ∷ []) found → s ≢ own.slot → x.slot ≡ s
-    → x.number + 1 ≡ count → found ≡ loaded_words (seen_of a x) → SeesAsked w a x → IsCollecting v w a own (list ++ x ∷ []) (s + 1) start (steps + (1 + REQUEST_WORDS))
-IsCollecting-other v u w a own list s start steps count found x has so_far told apart at last whole x_has =
+IsCollectingRows-other : (v u w : Knowledge) (a : ℕ) (own : OpenRequest) (list : List OpenRequest) (s start steps count : ℕ) (found : List LoadedWord) (x : OpenRequest)
+    → HasAccount v a → IsCollectingRows v u a own list s start steps → LoadsOnly u w a (record { slot = s; count = count } ∷ []) found → s ≢ own.slot → x.slot ≡ s
+    → x.number + 1 ≡ count → found ≡ loaded_words (seen_of a x) → SeesAsked w a x → IsCollectingRows v w a own (list ++ x ∷ []) (s + 1) start (steps + (1 + REQUEST_WORDS))
+IsCollectingRows-other v u w a own list s start steps count found x has so_far told apart at last whole x_has =
     let row : SeenRow = record { slot = s; count = count } in
     let rows : List SeenRow = so_far.rows ++ row ∷ [] in
     let words : List LoadedWord = so_far.words ++ found in
@@ -275,39 +244,48 @@ IsCollecting-other v u w a own list s start steps count found x has so_far told 
     }
 
 -- one more row
-IsCollecting-found : (v u w : Knowledge) (a : ℕ) (own : OpenRequest) (list : List OpenRequest) (s start steps count : ℕ) (words : List LoadedWord) (found : Option OpenRequest)
-    → HasAccount v a → IsCollecting v u a own list s start steps → LoadsOnly u w a (record { slot = s; count = count } ∷ []) words → IsFound a s own count words found → IfSome found (SeesAsked w a)
-    → IsCollecting v w a own (list ++ option_to_list found) (s + 1) start (steps + row_steps own.slot s found)
-IsCollecting-found v u w a own list s start steps count words None has so_far told (apart, zero, none) seen =
-    subst (λ (l : List OpenRequest). IsCollecting v w a own l (s + 1) start (steps + 1)) (sym (append-nil list))
-    (IsCollecting-none v u w a own list s start steps count words has so_far told apart zero none)
-IsCollecting-found v u w a own list s start steps count words (Some x) has so_far told (inl (at, is, none)) seen =
+IsCollectingRows-found : (v u w : Knowledge) (a : ℕ) (own : OpenRequest) (list : List OpenRequest) (s start steps count : ℕ) (words : List LoadedWord) (found : Option OpenRequest)
+    → HasAccount v a → IsCollectingRows v u a own list s start steps → LoadsOnly u w a (record { slot = s; count = count } ∷ []) words → IsFound a s own count words found → IfSome found (SeesAsked w a)
+    → IsCollectingRows v w a own (list ++ option_to_list found) (s + 1) start (steps + row_steps own.slot s found)
+IsCollectingRows-found v u w a own list s start steps count words None has so_far told (apart, zero, none) seen =
+    subst (λ (l : List OpenRequest). IsCollectingRows v w a own l (s + 1) start (steps + 1)) (sym (append-nil list))
+    (IsCollectingRows-none v u w a own list s start steps count words has so_far told apart zero none)
+IsCollectingRows-found v u w a own list s start steps count words (Some x) has so_far told (inl (at, is, none)) seen =
     let cost : row_steps own.slot s (Some x) ≡ 1 = ap (λ t. if t then 1 else 1 + REQUEST_WORDS) (eq-eqb s own.slot at) in
-    subst (λ n. IsCollecting v w a own (list ++ x ∷ []) (s + 1) start (steps + n)) (sym cost)
-    (subst (λ (y : OpenRequest). IsCollecting v w a own (list ++ y ∷ []) (s + 1) start (steps + 1)) (sym is)
-    (IsCollecting-own v u w a own list s start steps count words has so_far told at none (subst (SeesAsked w a) is seen)))
-IsCollecting-found v u w a own list s start steps count words (Some x) has so_far told (inr (apart, at, last, whole)) seen =
+    subst (λ n. IsCollectingRows v w a own (list ++ x ∷ []) (s + 1) start (steps + n)) (sym cost)
+    (subst (λ (y : OpenRequest). IsCollectingRows v w a own (list ++ y ∷ []) (s + 1) start (steps + 1)) (sym is)
+    (IsCollectingRows-own v u w a own list s start steps count words has so_far told at none (subst (SeesAsked w a) is seen)))
+IsCollectingRows-found v u w a own list s start steps count words (Some x) has so_far told (inr (apart, at, last, whole)) seen =
     let cost : row_steps own.slot s (Some x) ≡ 1 + REQUEST_WORDS = ap (λ t. if t then 1 else 1 + REQUEST_WORDS) (ne_eqb s own.slot apart) in
-    subst (λ n. IsCollecting v w a own (list ++ x ∷ []) (s + 1) start (steps + n)) (sym cost)
-    (IsCollecting-other v u w a own list s start steps count words x has so_far told apart at last whole seen)
+    subst (λ n. IsCollectingRows v w a own (list ++ x ∷ []) (s + 1) start (steps + n)) (sym cost)
+    (IsCollectingRows-other v u w a own list s start steps count words x has so_far told apart at last whole seen)
 
-pub IsCollecting-row : (v u w : Knowledge) (a : ℕ) (own : OpenRequest) (list : List OpenRequest) (s start steps : ℕ) (found : Option OpenRequest) → HasAccount v a
-    → IsCollecting v u a own list s start steps → LoadsRow u w a s own found
-    → IsCollecting v w a own (list ++ option_to_list found) (s + 1) start (steps + row_steps own.slot s found)
-IsCollecting-row v u w a own list s start steps found has so_far told =
-    IsCollecting-found v u w a own list s start steps told.count told.words found has so_far told.loads told.is_found told.seen
+pub IsCollectingRows-row : (v u w : Knowledge) (a : ℕ) (own : OpenRequest) (list : List OpenRequest) (s start steps : ℕ) (found : Option OpenRequest) → HasAccount v a
+    → IsCollectingRows v u a own list s start steps → LoadsRow u w a s own found
+    → IsCollectingRows v w a own (list ++ option_to_list found) (s + 1) start (steps + row_steps own.slot s found)
+IsCollectingRows-row v u w a own list s start steps found has so_far told =
+    IsCollectingRows-found v u w a own list s start steps told.count told.words found has so_far told.loads told.is_found told.seen
+
+-- what is found in the next row stands above the list
+pub AreBelow-LoadsRow : (u w : Knowledge) (a s : ℕ) (own : OpenRequest) (list : List OpenRequest) (found : Option OpenRequest) → AreBelow list s
+    → LoadsRow u w a s own found → IfSome found (λ x. AreBelow list x.slot)
+AreBelow-LoadsRow u w a s own list None below told = tt
+AreBelow-LoadsRow u w a s own list (Some x) below told = elim told.is_found as (λ _. AreBelow list x.slot) [
+  | inl mine ↦ subst (AreBelow list) (mine.0 ∙ sym (ap (λ (t : OpenRequest). t.slot) mine.1)) below
+  | inr other ↦ subst (AreBelow list) (sym other.1) below
+]
 
 -- all rows were loaded: what is on the account then
-rows-IsCollecting : (v w : Knowledge) (a : ℕ) (own : OpenRequest) (list : List OpenRequest) (s start steps slot n : ℕ) → HasAccount v a
-    → (all : IsCollecting v w a own list s start steps) → WordCounts all.rows slot n → WordCounts (asking_on (own_part w) a).rows slot n
-rows-IsCollecting v w a own list s start steps slot n has all counted =
+rows-IsCollectingRows : (v w : Knowledge) (a : ℕ) (own : OpenRequest) (list : List OpenRequest) (s start steps slot n : ℕ) → HasAccount v a
+    → (all : IsCollectingRows v w a own list s start steps) → WordCounts all.rows slot n → WordCounts (asking_on (own_part w) a).rows slot n
+rows-IsCollectingRows v w a own list s start steps slot n has all counted =
     let old : Asking = asking_on (own_part v) a in
     let there = asking_on-LoadsOnly v w a all.rows all.words has all.loads in
     subst (λ (t : Asking). WordCounts t.rows slot n) (sym there) (Contains-append_right old.rows all.rows (record { slot = slot; count = n }) counted)
 
-words-IsCollecting : (v w : Knowledge) (a : ℕ) (own : OpenRequest) (list : List OpenRequest) (s start steps : ℕ) (y : SeenRequest) → HasAccount v a
-    → (all : IsCollecting v w a own list s start steps) → AreWords all.words y → HasLoadedRequest (asking_on (own_part w) a) y
-words-IsCollecting v w a own list s start steps y has all words =
+words-IsCollectingRows : (v w : Knowledge) (a : ℕ) (own : OpenRequest) (list : List OpenRequest) (s start steps : ℕ) (y : SeenRequest) → HasAccount v a
+    → (all : IsCollectingRows v w a own list s start steps) → AreWords all.words y → HasLoadedRequest (asking_on (own_part w) a) y
+words-IsCollectingRows v w a own list s start steps y has all words =
     let old : Asking = asking_on (own_part v) a in
     let there = asking_on-LoadsOnly v w a all.rows all.words has all.loads in
     λ j within. subst (λ (t : Asking). Contains t.loaded (record { request = y; word = j })) (sym there)
@@ -319,18 +297,18 @@ whole-IsLast : (a : ℕ) (own : OpenRequest) (rows : List SeenRow) (words : List
 whole-IsLast a own rows words x (inl is) apart = absurd (apart (ap (λ (t : OpenRequest). t.slot) is))
 whole-IsLast a own rows words x (inr (other, counted, whole)) apart = whole
 
-pub HasLoadedRows-IsCollecting : (b : BookTerms) (v w : Knowledge) (a : ℕ) (own : OpenRequest) (list : List OpenRequest) (s start steps : ℕ) → HasAccount v a
-    → HasAsked b v a own → IsCollecting v w a own list s start steps → s ≡ slots_of (account_of b a) → HasLoadedRows b w a own.slot
-HasLoadedRows-IsCollecting b v w a own list s start steps has asked all whole = record {
+pub HasLoadedRows-IsCollectingRows : (b : BookTerms) (v w : Knowledge) (a : ℕ) (own : OpenRequest) (list : List OpenRequest) (s start steps : ℕ) → HasAccount v a
+    → HasAsked b v a own → IsCollectingRows v w a own list s start steps → s ≡ slots_of (account_of b a) → HasLoadedRows b w a own.slot
+HasLoadedRows-IsCollectingRows b v w a own list s start steps has asked all whole = record {
   slot_in = subst (λ p. HasSlot b p a own.slot) (sym (first-LoadsOnly v w a all.rows all.words all.loads)) asked.slot_in;
   rows = λ other within apart.
       let (n, counted, last) = all.counted other (omega (arith, within, whole)) apart in (
         n,
-        rows-IsCollecting v w a own list s start steps other n has all counted,
+        rows-IsCollectingRows v w a own list s start steps other n has all counted,
         λ number is.
             let (x, there, slot_is, number_is) = last number is in
             let here : x.slot ≢ own.slot = λ same. apart (sym slot_is ∙ same) in
-            let loaded = words-IsCollecting v w a own list s start steps (seen_of a x) has all (whole-IsLast a own all.rows all.words x (all.last x there) here) in (
+            let loaded = words-IsCollectingRows v w a own list s start steps (seen_of a x) has all (whole-IsLast a own all.rows all.words x (all.last x there) here) in (
               request_of x,
               subst (λ k. HasLoadedRequest (asking_on (own_part w) a) (seen_as a k number (request_of x))) slot_is
                   (subst (λ k. HasLoadedRequest (asking_on (own_part w) a) (seen_as a x.slot k (request_of x))) number_is loaded),
@@ -338,9 +316,9 @@ HasLoadedRows-IsCollecting b v w a own list s start steps has asked all whole = 
       );
 }
 
-pub CollectsRows-IsCollecting : (b : BookTerms) (v w : Knowledge) (a : ℕ) (own : OpenRequest) (list : List OpenRequest) (s start steps : ℕ)
-    → HasAsked b v a own → IsCollecting v w a own list s start steps → s ≡ slots_of (account_of b a) → CollectsRows b v w a own list
-CollectsRows-IsCollecting b v w a own list s start steps asked all whole = record {
+pub CollectsRows-IsCollectingRows : (b : BookTerms) (v w : Knowledge) (a : ℕ) (own : OpenRequest) (list : List OpenRequest) (s start steps : ℕ)
+    → HasAsked b v a own → IsCollectingRows v w a own list s start steps → s ≡ slots_of (account_of b a) → CollectsRows b v w a own list
+CollectsRows-IsCollectingRows b v w a own list s start steps asked all whole = record {
   rows = all.rows;
   words = all.words;
   loads = all.loads;
@@ -376,9 +354,9 @@ candidate-cases b v w a own y asked same (inl (number, last, is)) =
     ∙ ap (λ (r : Request). seen_as a own.slot own.number r) (ap (λ (row : List Request). request_at row own.number) same ∙ asked.same)))
 candidate-cases b v w a own y asked same (inr loaded) = inr loaded
 
-pub AreCandidates-IsCollecting : (b : BookTerms) (v w : Knowledge) (a : ℕ) (own : OpenRequest) (list : List OpenRequest) (s start steps : ℕ) → HasAccount v a
-    → HasAsked b v a own → IsCollecting v w a own list s start steps → s ≡ slots_of (account_of b a) → AreCandidates v w a own.slot list
-AreCandidates-IsCollecting b v w a own list s start steps has asked all whole =
+pub AreCandidates-IsCollectingRows : (b : BookTerms) (v w : Knowledge) (a : ℕ) (own : OpenRequest) (list : List OpenRequest) (s start steps : ℕ) → HasAccount v a
+    → HasAsked b v a own → IsCollectingRows v w a own list s start steps → s ≡ slots_of (account_of b a) → AreCandidates v w a own.slot list
+AreCandidates-IsCollectingRows b v w a own list s start steps has asked all whole =
     let old : Asking = asking_on (own_part v) a in
     let now : Asking = asking_on (own_part w) a in
     let there = asking_on-LoadsOnly v w a all.rows all.words has all.loads in
@@ -390,7 +368,7 @@ AreCandidates-IsCollecting b v w a own list s start steps has asked all whole =
     record {
       each = λ y (x, among, is). subst (IsCandidate now a own.slot) (sym is) (elim (all.last x among) as (λ _. IsCandidate now a own.slot (seen_of a x)) [
         | inl own_is ↦ subst (λ (t : OpenRequest). IsCandidate now a own.slot (seen_of a t)) (sym own_is) (candidate-own b v w a own asked same)
-        | inr other ↦ inr (words-IsCollecting v w a own list s start steps (seen_of a x) has all other.2)
+        | inr other ↦ inr (words-IsCollectingRows v w a own list s start steps (seen_of a x) has all other.2)
       ]);
       only = only;
       all = λ none y candidate. elim (candidate-cases b v w a own y asked same candidate) as (λ _. IsAmong a list y) [
@@ -404,16 +382,16 @@ AreCandidates-IsCollecting b v w a own list s start steps has asked all whole =
     }
 
 -- in so many steps
-pub steps-IsCollecting : (b : BookTerms) (v w : Knowledge) (a : ℕ) (own : OpenRequest) (list : List OpenRequest) (s start steps : ℕ) → HasAsked b v a own
-    → IsCollecting v w a own list s start steps → s ≡ slots_of (account_of b a)
+pub steps-IsCollectingRows : (b : BookTerms) (v w : Knowledge) (a : ℕ) (own : OpenRequest) (list : List OpenRequest) (s start steps : ℕ) → HasAsked b v a own
+    → IsCollectingRows v w a own list s start steps → s ≡ slots_of (account_of b a)
     → steps + REQUEST_WORDS ≡ start + slots_of (account_of b a) + REQUEST_WORDS * length list
-steps-IsCollecting b v w a own list s start steps asked all whole =
+steps-IsCollectingRows b v w a own list s start steps asked all whole =
     omega (arith, whole, all.steps_after (omega (arith, whole, asked.slot_in.within)))
 
 -- the seat's own request is the last one still
-pub HasAsked-IsCollecting : (b : BookTerms) (v w : Knowledge) (a : ℕ) (own : OpenRequest) (list : List OpenRequest) (s start steps : ℕ) → HasAccount v a
-    → HasAsked b v a own → IsCollecting v w a own list s start steps → HasAsked b w a own
-HasAsked-IsCollecting b v w a own list s start steps has asked all =
+pub HasAsked-IsCollectingRows : (b : BookTerms) (v w : Knowledge) (a : ℕ) (own : OpenRequest) (list : List OpenRequest) (s start steps : ℕ) → HasAccount v a
+    → HasAsked b v a own → IsCollectingRows v w a own list s start steps → HasAsked b w a own
+HasAsked-IsCollectingRows b v w a own list s start steps has asked all =
     let same = announced-LoadsOnly v w a all.rows all.words has all.loads in
     record {
       slot_in = subst (λ p. HasSlot b p a own.slot) (sym (first-LoadsOnly v w a all.rows all.words all.loads)) asked.slot_in;

@@ -1,5 +1,5 @@
 -- Loads of rows and requests, one after another, and what they leave as it was.
-use Rattle.std.proofs.Common.{◌≡◌, ◌≢◌, ℕ, ◌+◌, ◌<◌, ◌≤◌, Some, inl, inr, List, [], ◌∷◌, ◌++◌, length, replicate, refl, sym, ap, subst, ◌∙◌, arith}
+use Rattle.std.proofs.Common.{◌≡◌, ◌≢◌, ℕ, ◌+◌, ◌<◌, ◌≤◌, Some, None, inl, inr, List, [], ◌∷◌, ◌++◌, length, replicate, refl, sym, ap, subst, ◌∙◌, arith}
 use Rattle.std.proofs.lemmas.List.{append-nil, append_assoc}
 use Rattle.std.proofs.lemmas.List.Elements.{Contains-append_left, Contains-append_right}
 use Rattle.std.proofs.lemmas.List.FromFn.{get_or-map-range_with_len, length-map-range_with_len}
@@ -171,3 +171,25 @@ LoadsRow-other b v u w a slot n number own x has apart last first second =
         since = omega (arith, since, ap (λ (r : Request). r.since) is, ap (λ (t : Knowledge). length t.seen) second.same);
       };
     }
+
+-- the row of the seat's own process
+pub LoadsRow-own : (b : BookTerms) (v w : Knowledge) (a slot n : ℕ) (own : OpenRequest) → slot ≡ own.slot
+    → SeesRequest v a own.slot own.number (request_of own) → LoadsAnnounced b v w a slot n → LoadsRow v w a slot own (Some own)
+LoadsRow-own b v w a slot n own at sees told = record {
+  count = n;
+  words = [];
+  loads = LoadsOnly-LoadsAnnounced b v w a slot n told;
+  is_found = inl (at, refl, refl);
+  seen = SeesAsked-own b v w a slot n own at sees told;
+}
+
+-- the row of an owner that has asked nothing
+pub LoadsRow-none : (b : BookTerms) (v w : Knowledge) (a slot n : ℕ) (own : OpenRequest) → slot ≢ own.slot → n ≡ 0 → LoadsAnnounced b v w a slot n
+    → LoadsRow v w a slot own None
+LoadsRow-none b v w a slot n own apart zero told = record {
+  count = n;
+  words = [];
+  loads = LoadsOnly-LoadsAnnounced b v w a slot n told;
+  is_found = (apart, zero, refl);
+  seen = tt;
+}

@@ -18,20 +18,10 @@ use Rattle.at_board.specs.declared.knowledge.Part.{Part}
 use Rattle.at_board.specs.declared.words.TheConstants.{REQUEST_WORDS}
 use Rattle.at_rows.proofs.Laws.Accounts.{HasAccount, asking_on-with_asking, own_part-with_asking, with_asking-again, with_asking-self}
 use Rattle.at_rows.specs.Asks.{HasAsked, HasLoadedNothing, MayAskFor, asked_for, opened}
+use Rattle.at_rows.specs.Storing.{IsStoringRequest, with_stored}
 
--- what it has on the account, with these words of the next request
-abbrev pub with_stored : Asking → List ℕ → Asking
-with_stored w stored = record w { stored = stored }
-
--- the first j words are stored, and nothing else has changed
-pub record IsStoring (before after : Knowledge) (a : ℕ) (words : List ℕ) (j : ℕ) : Type 0 where
-  pub stored : List ℕ
-  pub sized : length stored ≡ REQUEST_WORDS
-  pub same : after ≡ with_asking before a (with_stored (asking_on (own_part before) a) stored)
-  pub words_so_far : (k : ℕ) → k < j → get_or stored k 0 ≡ get_or words k 0
-
-pub IsStoring-start : (v : Knowledge) (a : ℕ) (words : List ℕ) → length (asking_on (own_part v) a).stored ≡ REQUEST_WORDS → IsStoring v v a words 0
-IsStoring-start v a words sized = record {
+pub IsStoringRequest-start : (v : Knowledge) (a : ℕ) (words : List ℕ) → length (asking_on (own_part v) a).stored ≡ REQUEST_WORDS → IsStoringRequest v v a words 0
+IsStoringRequest-start v a words sized = record {
   stored = (asking_on (own_part v) a).stored;
   sized = sized;
   same = sym (with_asking-self v a);
@@ -39,9 +29,9 @@ IsStoring-start v a words sized = record {
 }
 
 -- one more word is stored
-pub IsStoring-more : (v u w : Knowledge) (a : ℕ) (words : List ℕ) (j n : ℕ) → HasAccount v a → j < REQUEST_WORDS → IsStoring v u a words j
-    → n ≡ get_or words j 0 → StoresRequestWord u w a j n → IsStoring v w a words (j + 1)
-IsStoring-more v u w a words j n has inside storing word told =
+pub IsStoringRequest-more : (v u w : Knowledge) (a : ℕ) (words : List ℕ) (j n : ℕ) → HasAccount v a → j < REQUEST_WORDS → IsStoringRequest v u a words j
+    → n ≡ get_or words j 0 → StoresRequestWord u w a j n → IsStoringRequest v w a words (j + 1)
+IsStoringRequest-more v u w a words j n has inside storing word told =
     let q : Asking = with_stored (asking_on (own_part v) a) storing.stored in
     let next : Asking = with_request_word q j n in
     let there : asking_on (own_part u) a ≡ q = ap (λ t. asking_on (own_part t) a) storing.same ∙ asking_on-with_asking v a q has in
@@ -56,9 +46,9 @@ IsStoring-more v u w a words j n has inside storing word told =
     }
 
 -- the seat may go on
-pub MayStoreRequest-IsStoring : (b : BookTerms) (v u : Knowledge) (a slot : ℕ) (words : List ℕ) (j : ℕ) → HasAccount v a → IsStoring v u a words j → MayStoreRequest b v a slot
+pub MayStoreRequest-IsStoringRequest : (b : BookTerms) (v u : Knowledge) (a slot : ℕ) (words : List ℕ) (j : ℕ) → HasAccount v a → IsStoringRequest v u a words j → MayStoreRequest b v a slot
     → MayStoreRequest b u a slot
-MayStoreRequest-IsStoring b v u a slot words j has storing may =
+MayStoreRequest-IsStoringRequest b v u a slot words j has storing may =
     let q : Asking = with_stored (asking_on (own_part v) a) storing.stored in
     subst (λ t. MayStoreRequest b t a slot) (sym storing.same)
     (record {
@@ -74,9 +64,9 @@ MayAskFor-slot b v a slot other r may has =
     subst (λ k. MayAskFor b v a k r) same may
 
 -- all words are stored
-pub MayAnnounce-IsStoring : (b : BookTerms) (v u : Knowledge) (a slot : ℕ) (r : Request) (j : ℕ) → HasAccount v a → MayAskFor b v a slot r
-    → IsStoring v u a (request_words r) j → j ≡ REQUEST_WORDS → MayAnnounce b u a slot r
-MayAnnounce-IsStoring b v u a slot r j has may storing all =
+pub MayAnnounce-IsStoringRequest : (b : BookTerms) (v u : Knowledge) (a slot : ℕ) (r : Request) (j : ℕ) → HasAccount v a → MayAskFor b v a slot r
+    → IsStoringRequest v u a (request_words r) j → j ≡ REQUEST_WORDS → MayAnnounce b u a slot r
+MayAnnounce-IsStoringRequest b v u a slot r j has may storing all =
     let q : Asking = with_stored (asking_on (own_part v) a) storing.stored in
     let there = asking_on-with_asking v a q has in
     let words : storing.stored ≡ request_words r = same_number_lists storing.stored (request_words r) storing.sized
@@ -94,9 +84,9 @@ MayAnnounce-IsStoring b v u a slot r j has may storing all =
     })
 
 -- the request is announced, as if in one step
-pub Announces-IsStoring : (b : BookTerms) (v u w : Knowledge) (a slot : ℕ) (r : Request) (words : List ℕ) (j : ℕ) → HasAccount v a → IsStoring v u a words j
+pub Announces-IsStoringRequest : (b : BookTerms) (v u w : Knowledge) (a slot : ℕ) (r : Request) (words : List ℕ) (j : ℕ) → HasAccount v a → IsStoringRequest v u a words j
     → Announces b u w a slot r → Announces b v w a slot r
-Announces-IsStoring b v u w a slot r words j has storing told =
+Announces-IsStoringRequest b v u w a slot r words j has storing told =
     let old : Asking = asking_on (own_part v) a in
     let q : Asking = with_stored old storing.stored in
     let mid : Knowledge = with_asking v a q in

@@ -1,0 +1,43 @@
+-- Collecting the rows of an account, between them.
+use Rattle.std.specs.Prelude.{◌≡◌, ◌≢◌, ℕ, ◌+◌, ◌*◌, ◌<◌, ◌≤◌, ◌⊎◌, List, length, map, Contains}
+use Rattle.std.specs.List.{range_with_len}
+use Rattle.at_history.specs.declared.request.SeenRow.{SeenRow}
+use Rattle.at_board.specs.Knowledge.Parts.{SeesRequest}
+use Rattle.at_board.specs.declared.knowledge.Knowledge.{Knowledge}
+use Rattle.at_board.specs.declared.knowledge.LoadedWord.{LoadedWord}
+use Rattle.at_board.specs.declared.knowledge.SeenRequest.{SeenRequest}
+use Rattle.at_board.specs.declared.words.TheConstants.{REQUEST_WORDS}
+use Rattle.at_rows.specs.OpenRequests.{AreBelow, AreRising, IsAmong, request_of, seen_of}
+use Rattle.at_rows.specs.Rows.{LoadsOnly, SeesAsked, WordCounts}
+use Rattle.at_rows.specs.declared.open_request.OpenRequest.{OpenRequest}
+
+-- each word of the request is among these
+abbrev pub AreWords : List LoadedWord → SeenRequest → Type 0
+AreWords words y = (j : ℕ) → j < REQUEST_WORDS → Contains words (record { request = y; word = j })
+
+-- what an element is: the seat's own request, or the last one that was counted in the row of another owner, whole
+abbrev pub IsLast : ℕ → OpenRequest → List SeenRow → List LoadedWord → OpenRequest → Type 0
+IsLast a own rows words x = (x ≡ own) ⊎ ((x.slot ≢ own.slot) × WordCounts rows x.slot (x.number + 1) × AreWords words (seen_of a x))
+
+-- the row of another owner was loaded, and the last request that it counts is in the list
+abbrev pub HasRow : List SeenRow → List OpenRequest → ℕ → Type 0
+HasRow rows list slot = (n : ℕ) × WordCounts rows slot n
+    × ((number : ℕ) → number + 1 ≡ n → (x : OpenRequest) × Contains list x × (x.slot ≡ slot) × (x.number ≡ number))
+
+-- the rows of the owners at the slots below s were loaded, from so many steps on
+pub record IsCollectingRows (v w : Knowledge) (a : ℕ) (own : OpenRequest) (list : List OpenRequest) (s start steps : ℕ) : Type 0 where
+  pub rows : List SeenRow
+  pub words : List LoadedWord
+  pub loads : LoadsOnly v w a rows words
+  pub rising : AreRising list
+  pub below : AreBelow list s
+  pub few : length list ≤ s
+  pub own_in : own.slot < s → Contains list own
+  pub last : (x : OpenRequest) → Contains list x → IsLast a own rows words x
+  pub counted : (slot : ℕ) → slot < s → slot ≢ own.slot → HasRow rows list slot
+  pub only : (l : LoadedWord) → Contains words l → IsAmong a list l.request
+  pub slots : map (λ r. r.slot) rows ≡ range_with_len 0 s
+  pub own_seen : SeesRequest w a own.slot own.number (request_of own)
+  pub seen : (x : OpenRequest) → Contains list x → SeesAsked w a x
+  pub steps_before : s ≤ own.slot → steps ≡ start + s + REQUEST_WORDS * length list
+  pub steps_after : own.slot < s → steps + REQUEST_WORDS ≡ start + s + REQUEST_WORDS * length list
