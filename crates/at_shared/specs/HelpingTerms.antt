@@ -9,3 +9,6 @@ pub record HelpingTerms : Type 0 where
   pub account : ℕ
   pub own : OpenRequest
   pub asked : List OpenRequest
+
+abbrev pub helping_of : Call → ℕ → OpenRequest → List OpenRequest → HelpingTerms
+helping_of call a own asked = record { call = call; account = a; own = own; asked = asked }

@@ -1,5 +1,6 @@
 pub mod HelpingTerms
 pub mod Helpings
+pub mod Starting
 pub mod HelpTurns
 pub mod PaymentTurns
 pub mod Settling

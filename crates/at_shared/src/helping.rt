@@ -1,22 +1,26 @@
 //! A request that waits, and the turns by which it is settled.
 
-ghost use Rattle.std.specs.Prelude.{◌≡◌, ◌≢◌, ℕ, ◌+◌, ◌*◌, ◌<◌, ◌≤◌, List, length, slice_index, sum, None, Some, if◌then◌else◌};
+ghost use Rattle.std.specs.Prelude.{◌≡◌, ◌≢◌, ◌↔◌, ℕ, ◌+◌, ◌*◌, ◌<◌, ◌≤◌, true, List, length, slice_index, sum, None, Some, if◌then◌else◌};
 ghost use Rattle.at_base.specs.declared.decision.Decision.{Decision};
 ghost use Rattle.at_board.specs.Knowledge.Parts.{asking_on, own_part};
 ghost use Rattle.at_board.specs.Knowledge.Seats.{IsOf};
 ghost use Rattle.at_board.specs.Steps.StoreRequestWord.{MayStoreRequest};
 ghost use Rattle.at_board.specs.declared.words.TheConstants.{RECORD_WORDS};
-ghost use Rattle.at_fold.specs.HasCounted.{HasCounted};
+ghost use Rattle.at_fold.specs.Counted.{IsSettledSo};
+ghost use Rattle.at_fold.specs.HasCounted.{CountsFront, CountsSlot, HasCounted};
+ghost use Rattle.at_history.specs.Fronts.{prefix_of};
 ghost use Rattle.at_history.specs.Publications.{IsPrefix};
 ghost use Rattle.at_history.specs.Rounds.{rounds};
+ghost use Rattle.at_history.specs.declared.publication.Publication.{Publication};
 ghost use Rattle.at_ledger.specs.Account.{slots_of};
-ghost use Rattle.at_ledger.specs.Book.{account_of};
+ghost use Rattle.at_ledger.specs.Book.{BookTerms, account_of};
 ghost use Rattle.at_ledger.specs.Call.{TargetPair};
 ghost use Rattle.at_log.specs.Placed.{IsPlaced};
 ghost use Rattle.at_log.specs.Receipts.{asks_in, payout_of};
 ghost use Rattle.at_log.specs.declared.receipt.At.{At};
 ghost use Rattle.at_log.specs.declared.receipt.Receipt.{Receipt};
 ghost use Rattle.at_shared.specs.HelpTurns.{HelpAnswers, NamesOwn, OnSettled};
+ghost use Rattle.at_shared.specs.HelpingTerms.{helping_of};
 ghost use Rattle.at_shared.specs.Helpings.{HasAllSettled, HasStarted, IsHelping, IsPayoutFrom, decides_made, decides_on, heard_on};
 ghost use Rattle.at_shared.specs.Settling.{StandsAfter, StandsInRound, asking_steps, round_steps};
 ghost use Rattle.at_single.specs.Standing.{newly_counted};
@@ -59,6 +63,46 @@ impl Model for Helping {
 }
 
 impl Helping {
+    /// A request that waits, of its parts.
+    pub fn of(call: Call, account: u32, own: OpenRequest, asked: Asked) -> Helping
+        ensures { result ≡ helping_of call account own asked }
+    {
+        Helping {
+            call,
+            account,
+            own,
+            asked,
+        }
+    }
+
+    /// The account that the call pays from.
+    pub fn account(&self) -> u32
+        ensures { result ≡ self.now.account }
+    {
+        self.account
+    }
+
+    /// The round that has decided the request and its decision, where the records that the totals have counted tell. By look-up.
+    pub fn settled(&self, totals: &Totals) -> Option<(u32, Decision)>
+        requires { (b : BookTerms) × (seen : List Publication)
+            × CountsSlot totals.now b seen self.now.account self.now.own.slot
+            × (self.now.own.number < b.request_room) }
+        ensures front { (b : BookTerms) (seen : List Publication)
+            → CountsSlot totals.now b seen self.now.account self.now.own.slot
+            → self.now.own.number < b.request_room → CountsFront totals.now b seen
+            → IsSettledSo (prefix_of totals.now.upto seen) self.now.account self.now.own.slot
+            self.now.own.number result }
+    {
+        totals.settled(self.account, self.own.slot, self.own.number)
+    }
+
+    /// Is it the own request that was decided?
+    pub fn is_own(&self, decision: &Decision) -> bool
+        ensures { (result ≡ true) ↔ NamesOwn self.now decision.now }
+    {
+        decision.slot == self.own.slot && decision.number == self.own.number
+    }
+
     /// Asks for a pay-out from a shared account: takes a snapshot, announces the request with the place of that as its `since`,
     /// and collects the last requests of the other owners.
     pub fn start<L: Ledger, X: Ledger>(
@@ -116,12 +160,7 @@ impl Helping {
         // Others may ask at once after each load here. Whoever isn't found asked after this request was announced, and waits less
         // long.
         let asked = collect_rows(board, seat, account, &own, steps, exchanges);
-        Helping {
-            call: call.copy(),
-            account,
-            own,
-            asked,
-        }
+        Helping::of(call.copy(), account, own, asked)
     }
 
     /// Takes a snapshot. Where the request is settled there, the call is answered. Else the oldest unsettled request is proposed to
@@ -187,17 +226,13 @@ impl Helping {
         seat.known();
         let front = look(board, seat, totals, steps, exchanges);
         seat.known();
-        if let Some((round, decision)) = totals.settled(
-            self.account,
-            self.own.slot,
-            self.own.number,
-        ) {
+        if let Some((round, decision)) = self.settled(totals) {
             return HelpTurn::Settled(self.receipt(round, &decision));
         }
         let round = totals.rounds(self.account);
         let decision = self.decide_next(board, seat, totals, &front, steps, exchanges);
         seat.known();
-        if decision.slot == self.own.slot && decision.number == self.own.number {
+        if self.is_own(&decision) {
             HelpTurn::Settled(self.receipt(round, &decision))
         } else {
             HelpTurn::More
@@ -205,7 +240,7 @@ impl Helping {
     }
 
     /// The receipt of the call, where a round has decided its request so.
-    fn receipt(&self, round: u32, decision: &Decision) -> Receipt
+    pub fn receipt(&self, round: u32, decision: &Decision) -> Receipt
         ensures call { result.call ≡ self.now.call }
         ensures reply { result.reply ≡ (if decision.now.ok then Reply.Done else Reply.Short) }
         ensures at { result.at ≡ At.Round round decision.now.place }
@@ -226,7 +261,7 @@ impl Helping {
 }
 
 /// The targets of a pay-out.
-fn targets_of(call: &Call) -> Targets
+pub fn targets_of(call: &Call) -> Targets
     requires payout { (a : ℕ) × (targets : List TargetPair)
         × (payout_of call.now ≡ Some (a, targets)) }
     ensures { (a : ℕ) (targets : List TargetPair) → payout_of call.now ≡ Some (a, targets)

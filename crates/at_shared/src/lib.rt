@@ -15,5 +15,5 @@ mod helping;
 mod payments;
 mod rounds;
 
-pub use crate::helping::{HelpTurn, Helping};
+pub use crate::helping::{HelpTurn, Helping, targets_of};
 pub use crate::payments::{pay_shared, transfer_shared};

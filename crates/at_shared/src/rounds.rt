@@ -77,7 +77,13 @@ impl Helping {
 
     /// What the next round should decide: the oldest request that is unsettled at the front, done where the balance there covers
     /// it.
-    fn proposal(&self, board: &Board, seat: &BoardSeat, totals: &Totals, front: &Counts) -> Decision
+    pub fn proposal(
+        &self,
+        board: &Board,
+        seat: &BoardSeat,
+        totals: &Totals,
+        front: &Counts,
+    ) -> Decision
         requires seat { IsOf seat.now board.now }
         requires totals { HasCounted totals.now board.now.book seat.now.knows.seen }
         requires at_front { CountsFront totals.now board.now.book seat.now.knows.seen }

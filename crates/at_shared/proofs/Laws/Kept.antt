@@ -21,7 +21,7 @@ use Rattle.at_board.specs.declared.knowledge.Knowledge.{Knowledge}
 use Rattle.at_board.specs.declared.knowledge.LoadedWord.{LoadedWord}
 use Rattle.at_board.specs.declared.knowledge.SeenRequest.{SeenRequest}
 use Rattle.at_rows.specs.OpenRequests.{IsAmong, seen_of}
-use Rattle.at_shared.proofs.After.{IsAfter, with_more}
+use Rattle.at_shared.proofs.Laws.After.{IsAfter, with_more}
 use Rattle.at_shared.specs.HelpingTerms.{HelpingTerms}
 use Rattle.at_shared.specs.Helpings.{IsHelpingAt}
 

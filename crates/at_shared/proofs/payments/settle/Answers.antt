@@ -11,11 +11,11 @@ use Rattle.at_board.specs.declared.knowledge.Knowledge.{Knowledge}
 use Rattle.at_log.specs.Receipts.{asks_in}
 use Rattle.at_rows.proofs.Laws.Accounts.{HasAccount, HasAccount-IsSeat}
 use Rattle.at_rows.specs.OpenRequests.{request_of}
-use Rattle.at_shared.proofs.Added.{Adds, Adds-HasLoaded, Adds-HasStarted, Adds-refl, Adds-trans, HasAccount-Adds}
-use Rattle.at_shared.proofs.Counting.{steps_after}
+use Rattle.at_shared.proofs.Laws.Added.{Adds, Adds-HasLoaded, Adds-HasStarted, Adds-refl, Adds-trans, HasAccount-Adds}
+use Rattle.at_shared.proofs.Laws.Counting.{steps_after}
 use Rattle.at_shared.proofs.Laws.Kept.{is_settled-IsPrefix}
-use Rattle.at_shared.proofs.Starting.{same_some}
-use Rattle.at_shared.proofs.Turning.{Adds-HelpAnswers, settled-HelpAnswers}
+use Rattle.at_shared.proofs.Laws.Starting.{same_some}
+use Rattle.at_shared.proofs.Laws.Turning.{Adds-HelpAnswers, settled-HelpAnswers}
 use Rattle.at_shared.specs.HelpingTerms.{HelpingTerms}
 use Rattle.at_shared.specs.HelpTurns.{HelpAnswers}
 use Rattle.at_shared.specs.Helpings.{IsHelping, decides_made, decides_on, heard_on}

@@ -7,7 +7,7 @@ use Rattle.at_board.specs.Knowledge.Parts.{own_part}
 use Rattle.at_board.specs.Knowledge.Seats.{IsOf}
 use Rattle.at_board.specs.declared.words.TheConstants.{RECORD_WORDS}
 use Rattle.at_fold.specs.HasCounted.{HasCounted}
-use Rattle.at_shared.proofs.Added.{Adds}
+use Rattle.at_shared.proofs.Laws.Added.{Adds}
 use Rattle.at_shared.specs.Helpings.{IsHelping, decides_made, decides_on, heard_on}
 use Rattle.at_shared.specs.PaymentTurns.{HasTurned}
 use Rattle.at_shared.specs.Settling.{asking_steps, round_steps}

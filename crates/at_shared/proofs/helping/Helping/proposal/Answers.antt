@@ -15,7 +15,7 @@ use Rattle.at_board.specs.Steps.Decide.{MayPropose}
 use Rattle.at_board.specs.declared.knowledge.Knowledge.{Knowledge}
 use Rattle.at_rows.specs.OpenRequests.{request_of}
 use Rattle.at_rows.specs.declared.open_request.OpenRequest.{OpenRequest}
-use Rattle.at_shared.proofs.Proposing.{AreDone, MayPropose-IsOldestOf, own_left}
+use Rattle.at_shared.proofs.Laws.Proposing.{AreDone, MayPropose-IsOldestOf, own_left}
 use Rattle.at_shared.specs.HelpingTerms.{HelpingTerms}
 use Rattle.at_shared.specs.Helpings.{IsHelpingAt}
 use Rattle.at_shared.specs.contracts.helping.Helping.{the_view}

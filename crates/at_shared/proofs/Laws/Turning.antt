@@ -31,8 +31,8 @@ use Rattle.at_rows.proofs.Laws.Accounts.{HasAccount}
 use Rattle.at_rows.proofs.Laws.Loading.{request-loaded_words}
 use Rattle.at_rows.specs.Loads.{loaded_words}
 use Rattle.at_rows.specs.OpenRequests.{seen_of}
-use Rattle.at_shared.proofs.Added.{Adds, Adds-Decides, Adds-LoadsRequest, Adds-Publishes, Adds-HasLoaded, HasAccount-Adds, Adds-trans}
-use Rattle.at_shared.proofs.After.{HasAccount-IsAfter, IsAfter, IsAfter-Decides, IsAfter-LoadsRequest, IsAfter-Publishes, IsAfter-trans, own_part-Decides, own_part-LoadsRequest, own_part-Publishes}
+use Rattle.at_shared.proofs.Laws.Added.{Adds, Adds-Decides, Adds-LoadsRequest, Adds-Publishes, Adds-HasLoaded, HasAccount-Adds, Adds-trans}
+use Rattle.at_shared.proofs.Laws.After.{HasAccount-IsAfter, IsAfter, IsAfter-Decides, IsAfter-LoadsRequest, IsAfter-Publishes, IsAfter-trans, own_part-Decides, own_part-LoadsRequest, own_part-Publishes}
 use Rattle.at_shared.proofs.Laws.Kept.{AreKnownWords, IsHelpingAt-IsAfter, is_settled-IsPrefix}
 use Rattle.at_shared.proofs.Laws.Placing.{IsSettledBy, settles-round}
 use Rattle.at_shared.specs.HelpTurns.{DecidesNext, FindsSettled, HelpAnswers, HelpsDecide, NamesOwn, round_record}

@@ -29,8 +29,8 @@ use Rattle.at_rows.specs.Loads.{LoadsRequest, loaded_words}
 use Rattle.at_rows.specs.OpenRequests.{request_of, seen_of}
 use Rattle.at_rows.specs.Rows.{LoadsOnly, with_loads}
 use Rattle.at_rows.specs.declared.open_request.OpenRequest.{OpenRequest}
-use Rattle.at_shared.proofs.After.{IsAfter, IsAfter-Decides, IsAfter-HasLoaded, IsAfter-LoadsRequest, IsAfter-Publishes, own_part-Decides, own_part-HasLoaded, own_part-LoadsRequest, own_part-Publishes}
-use Rattle.at_shared.proofs.Starting.{HasAccount-Keeps, Keeps, Keeps-Announces, Keeps-HasLoaded, Keeps-LoadsOnly}
+use Rattle.at_shared.proofs.Laws.After.{IsAfter, IsAfter-Decides, IsAfter-HasLoaded, IsAfter-LoadsRequest, IsAfter-Publishes, own_part-Decides, own_part-HasLoaded, own_part-LoadsRequest, own_part-Publishes}
+use Rattle.at_shared.proofs.Laws.Starting.{HasAccount-Keeps, Keeps, Keeps-Announces, Keeps-HasLoaded, Keeps-LoadsOnly}
 use Rattle.at_shared.specs.HelpingTerms.{HelpingTerms}
 use Rattle.at_shared.specs.Helpings.{HasStarted}
 use Rattle.at_snapshot.specs.Collected.{HasLoaded}

@@ -16,7 +16,7 @@ use Rattle.at_board.specs.declared.knowledge.LoadedWord.{LoadedWord}
 use Rattle.at_board.specs.declared.knowledge.Part.{Part}
 use Rattle.at_rows.proofs.Laws.Accounts.{HasAccount}
 use Rattle.at_rows.specs.Rows.{LoadsOnly, with_loads}
-use Rattle.at_shared.proofs.After.{IsAfter-HasLoaded, own_part-HasLoaded}
+use Rattle.at_shared.proofs.Laws.After.{IsAfter-HasLoaded, own_part-HasLoaded}
 use Rattle.at_shared.specs.Helpings.{decides_on}
 use Rattle.at_snapshot.specs.Collected.{HasLoaded}
 

@@ -1,0 +1,147 @@
+-- A turn of its parts: a snapshot, and where the own request is unsettled at its front one round.
+use Rattle.std.proofs.Common.{◌≡◌, ◌≢◌, ℕ, ◌+◌, ◌≤◌, cond, List, [], ◌++◌, None, sym, ap, subst, ◌∙◌, arith}
+use Rattle.at_base.specs.declared.decision.Decision.{Decision}
+use Rattle.at_ledger.specs.Account.{slots_of}
+use Rattle.at_ledger.specs.Book.{BookTerms, account_of}
+use Rattle.at_ledger.specs.declared.call.Reply.TheVariants.{Done, Short}
+use Rattle.at_history.proofs.Laws.Rounds.{rounds-IsPrefix}
+use Rattle.at_history.specs.Fronts.{place, prefix_of}
+use Rattle.at_history.specs.Publications.{IsPrefix}
+use Rattle.at_history.specs.Rounds.{rounds}
+use Rattle.at_board.specs.Knowledge.Agreement.{AgreesWithSeen}
+use Rattle.at_board.specs.Knowledge.Parts.{own_part}
+use Rattle.at_board.specs.Knowledge.Seats.{IsKept}
+use Rattle.at_board.specs.declared.knowledge.Asking.{Asking}
+use Rattle.at_board.specs.declared.knowledge.Knowledge.{Knowledge}
+use Rattle.at_board.specs.declared.knowledge.LoadedWord.{LoadedWord}
+use Rattle.at_board.specs.declared.knowledge.Part.{Part}
+use Rattle.at_fold.specs.Counted.{IsDecidedIn}
+use Rattle.at_log.specs.Placed.{IsPlaced}
+use Rattle.at_log.specs.Receipts.{asks_in}
+use Rattle.at_log.specs.declared.receipt.At.{At}
+use Rattle.at_log.specs.declared.receipt.Receipt.{Receipt}
+use Rattle.at_rows.proofs.Laws.Accounts.{HasAccount}
+use Rattle.at_rows.specs.Loads.{loaded_words}
+use Rattle.at_rows.specs.OpenRequests.{seen_of}
+use Rattle.at_shared.proofs.Laws.After.{HasAccount-IsAfter, IsAfter, IsAfter-HasLoaded, IsAfter-trans, own_part-HasLoaded}
+use Rattle.at_shared.proofs.Laws.Kept.{IsHelpingAt-IsAfter}
+use Rattle.at_shared.proofs.Laws.Placing.{IsPlaced-IsSettledBy, IsSettledBy, IsSettledBy-IsDecidedIn, StandsAfter-IsSettledBy, is_settled-IsDecidedIn}
+use Rattle.at_shared.proofs.Laws.Started.{place-IsSnapshot-le}
+use Rattle.at_shared.proofs.Laws.Turning.{IsAfter-DecidesNext, IsHelping-DecidesNext, IsSettledBy-DecidesNext, free-DecidesNext, overtaken-DecidesNext, published-DecidesNext, rounds-DecidesNext}
+use Rattle.at_shared.specs.HelpTurns.{DecidesNext, FindsSettled, HelpsDecide, NamesOwn}
+use Rattle.at_shared.specs.HelpingTerms.{HelpingTerms}
+use Rattle.at_shared.specs.Helpings.{IsHelping, IsHelpingAt, decides_on, heard_on}
+use Rattle.at_shared.specs.Settling.{StandsAfter}
+use Rattle.at_snapshot.specs.Collected.{HasLoaded}
+use Rattle.at_snapshot.specs.Snapshots.{IsSnapshot}
+
+module _ (b : BookTerms) (v w : Knowledge) (h : HelpingTerms) (front : List ℕ) (has : HasAccount v h.account) (snapshot : IsSnapshot b v w front)
+    (loads : HasLoaded b v w) (is : IsHelping b v h) where
+  after_look : IsAfter v w h.account 0 []
+  after_look = IsAfter-HasLoaded b v w h.account has.part loads
+
+  pub HasAccount-turn : HasAccount w h.account
+  HasAccount-turn = HasAccount-IsAfter v w h.account 0 [] after_look has
+
+  -- the helping waits at the front
+  pub IsHelpingAt-turn : IsHelpingAt b w (prefix_of front w.seen) h
+  IsHelpingAt-turn =
+      IsHelpingAt-IsAfter b v w v.seen (prefix_of front w.seen) h 0 [] after_look
+      (ap (λ (q : Part). q.held) (own_part-HasLoaded b v w has.part loads) ∙ is.free) snapshot.begins (λ l there. absurd (omega (arith, there.1))) is
+
+  -- where its request is decided in the front's records, the turn has found it settled
+  pub FindsSettled-turn : (r : ℕ) (d : Decision) → IsDecidedIn (prefix_of front w.seen) h.account h.own.slot h.own.number r d → FindsSettled b v w h
+  FindsSettled-turn r d found = record {
+    front = front;
+    snapshot = snapshot;
+    loads = loads;
+    settled = is_settled-IsDecidedIn (prefix_of front w.seen) h.account h.own.slot h.own.number r d found;
+  }
+
+  -- and that round's receipt is right, and stands at or after the request's `since`
+  pub IsPlaced-turn-found : (r : ℕ) (d : Decision) (receipt : Receipt) → AgreesWithSeen w
+      → IsDecidedIn (prefix_of front w.seen) h.account h.own.slot h.own.number r d → receipt.call ≡ h.call → receipt.reply ≡ cond d.ok Done Short
+      → receipt.at ≡ At.Round r d.place → (earlier : List Receipt) → asks_in h.account earlier ≡ h.own.number → IsPlaced b w.first w.seen earlier receipt
+  IsPlaced-turn-found r d receipt agrees found call reply at =
+      IsPlaced-IsSettledBy b w (prefix_of front w.seen) h r d loads.history agrees IsHelpingAt-turn (IsSettledBy-IsDecidedIn w h r (place front) d found) receipt
+      call reply at
+
+  pub StandsAfter-turn-found : (r : ℕ) (d : Decision) (receipt : Receipt) → AgreesWithSeen w
+      → IsDecidedIn (prefix_of front w.seen) h.account h.own.slot h.own.number r d → receipt.call ≡ h.call → receipt.at ≡ At.Round r d.place
+      → StandsAfter h.own.since w receipt
+  StandsAfter-turn-found r d receipt agrees found call at =
+      StandsAfter-IsSettledBy b w (prefix_of front w.seen) h r d loads.history agrees IsHelpingAt-turn (IsSettledBy-IsDecidedIn w h r (place front) d found) receipt
+      call at
+
+  -- else it decides and publishes one round
+  module _ (z : Knowledge) (d : Decision) (next : DecidesNext b w z h front d) where
+    pub HelpsDecide-turn : HelpsDecide b v z h d
+    HelpsDecide-turn = record { front = front; looked = w; snapshot = snapshot; loads = loads; next = next }
+
+    abbrev words_loaded : List LoadedWord
+    words_loaded = loaded_words (seen_of h.account next.publishes.request) ++ []
+
+    after_turn : IsAfter v z h.account 1 words_loaded
+    after_turn = IsAfter-trans v w z h.account 0 1 [] words_loaded after_look (IsAfter-DecidesNext b w z h front d next HasAccount-turn)
+
+    -- the request is waited for still
+    pub IsHelping-turn : IsHelping b z h
+    IsHelping-turn = IsHelping-DecidesNext b w z h front d next HasAccount-turn IsHelpingAt-turn
+
+    pub free-turn : (own_part z).held ≡ None
+    free-turn = free-DecidesNext b w z h front d next HasAccount-turn
+
+    pub begins-turn : IsPrefix v.seen z.seen
+    begins-turn = after_turn.more
+
+    pub process-turn : z.first ≡ v.first
+    process-turn = after_turn.first
+
+    pub decides-turn : decides_on z h.account ≡ decides_on v h.account + 1
+    decides-turn = ap (λ (t : Asking). t.decides) after_turn.asking
+
+    pub decides_elsewhere-turn : (a : ℕ) → a ≢ h.account → decides_on z a ≡ decides_on v a
+    decides_elsewhere-turn a other = ap (λ (t : Asking). t.decides) (after_turn.elsewhere a other)
+
+    pub heard-turn : heard_on z h.account ≡ heard_on v h.account
+    heard-turn = ap (λ (t : Asking). t.heard) after_turn.asking
+
+    pub published-turn : (own_part z).published ≡ (own_part v).published + 1
+    published-turn =
+        published-DecidesNext b w z h front d next HasAccount-turn
+        ∙ ap (λ (q : Part). q.published + 1) (own_part-HasLoaded b v w has.part loads)
+
+    -- one round more
+    pub rounds-turn : rounds h.account v.seen + 1 ≤ rounds h.account z.seen
+    rounds-turn =
+        omega (
+          arith,
+          rounds-IsPrefix h.account v.seen (prefix_of front w.seen) snapshot.begins,
+          rounds-DecidesNext b w z h front d next HasAccount-turn,
+        )
+
+    -- and where another request was decided, one is left at least of those that may be decided before it
+    pub overtaken-turn : IsKept z → z.book ≡ b → ¬ NamesOwn h d
+        → rounds h.account v.seen + 2 ≤ heard_on v h.account + slots_of (account_of b h.account)
+    overtaken-turn kept book other =
+        omega (
+          arith,
+          rounds-IsPrefix h.account v.seen (prefix_of front w.seen) snapshot.begins,
+          overtaken-DecidesNext b w z h front d next HasAccount-turn (place-IsSnapshot-le b v w front snapshot loads) kept book IsHelpingAt-turn other,
+          heard-turn,
+        )
+
+    -- where the own request was, the receipt of that round is right, and stands at or after the request's `since`
+    settled_by : (r : ℕ) → r ≡ rounds h.account (prefix_of front w.seen) → NamesOwn h d → IsSettledBy z h r d
+    settled_by r round own = subst (λ k. IsSettledBy z h k d) (sym round) (IsSettledBy-DecidesNext b w z h front d next HasAccount-turn own)
+
+    pub IsPlaced-turn-own : (r : ℕ) (receipt : Receipt) → AgreesWithSeen z → r ≡ rounds h.account (prefix_of front w.seen) → NamesOwn h d
+        → receipt.call ≡ h.call → receipt.reply ≡ cond d.ok Done Short → receipt.at ≡ At.Round r d.place
+        → (earlier : List Receipt) → asks_in h.account earlier ≡ h.own.number → IsPlaced b z.first z.seen earlier receipt
+    IsPlaced-turn-own r receipt agrees round own call reply at =
+        IsPlaced-IsSettledBy b z z.seen h r d next.publishes.published.history agrees IsHelping-turn (settled_by r round own) receipt call reply at
+
+    pub StandsAfter-turn-own : (r : ℕ) (receipt : Receipt) → AgreesWithSeen z → r ≡ rounds h.account (prefix_of front w.seen) → NamesOwn h d
+        → receipt.call ≡ h.call → receipt.at ≡ At.Round r d.place → StandsAfter h.own.since z receipt
+    StandsAfter-turn-own r receipt agrees round own call at =
+        StandsAfter-IsSettledBy b z z.seen h r d next.publishes.published.history agrees IsHelping-turn (settled_by r round own) receipt call at
