@@ -1,3 +1,4 @@
 pub mod Sums
 pub mod Counted
 pub mod HasCounted
+pub mod CatchingUp

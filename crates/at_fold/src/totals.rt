@@ -59,8 +59,9 @@ impl Totals {
         self.upto.copy()
     }
 
-    /// How many records of a process are counted.
-    pub(crate) fn counted(&self, process: u32) -> u32
+    /// How many records of a process are counted: the number of its first one that isn't. By look-up, and without the copy that
+    /// `upto` makes.
+    pub fn counted(&self, process: u32) -> u32
         requires { process < length self.now.upto }
         ensures { result ≡ slice_index self.now.upto process }
     {
@@ -114,8 +115,9 @@ impl Totals {
         self.count(seat.process(), seat.published(), entry);
     }
 
-    /// Counts the next record of a process, of which so many are counted then.
-    pub(crate) fn count(&mut self, process: u32, upto: u32, entry: &Entry)
+    /// Counts the next record of a process, of which so many are counted then. Makes no step. It is for callers that load the
+    /// entries themselves, word by word; `catch_up` loads and counts all at once.
+    pub fn count(&mut self, process: u32, upto: u32, entry: &Entry)
         requires next { (b : BookTerms) × (seen : List Publication) × MayCount self.old b seen process entry.now }
         requires upto { upto ≡ slice_index self.old.upto process + 1 }
         ensures counted { (b : BookTerms) (seen : List Publication) → MayCount self.old b seen process entry.now → HasCounted self.new b seen }

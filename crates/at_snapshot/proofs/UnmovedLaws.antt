@@ -1,10 +1,7 @@
 -- How many counts have not moved since the first collect.
-use Rattle.std.proofs.Common.{◌≡◌, ◌≢◌, ℕ, ◌+◌, ◌<◌, ◌≤◌, ◌==◌, zero, suc, cond, List, [], ◌∷◌, length, get_or, refl, ap, arith, inl, inr}
+use Rattle.std.proofs.Common.{◌≡◌, ◌≢◌, ℕ, ◌+◌, ◌<◌, ◌≤◌, zero, suc, cond, List, [], ◌∷◌, length, get_or, refl, ap, arith, inl, inr}
 use Rattle.std.proofs.lemmas.Bool.{cases_eq, eq-eqb, ne_eqb}
-
--- one where two numbers are equal
-one_if_same : ℕ → ℕ → ℕ
-one_if_same f l = cond (f == l) 1 0
+use Rattle.at_snapshot.specs.Snapping.{one_if_same, unmoved}
 
 one_if_same-equal : (f l : ℕ) → f ≡ l → one_if_same f l ≡ 1
 unfolding one_if_same
@@ -13,12 +10,6 @@ one_if_same-equal f l e = ap (λ c. cond c 1 0) (eq-eqb f l e)
 one_if_same-apart : (f l : ℕ) → f ≢ l → one_if_same f l ≡ 0
 unfolding one_if_same
 one_if_same-apart f l e = ap (λ c. cond c 1 0) (ne_eqb f l e)
-
--- how many positions of two lists have the same number
-pub unmoved : List ℕ → List ℕ → ℕ
-unmoved [] ls = 0
-unmoved (f ∷ fs) [] = 0
-unmoved (f ∷ fs) (l ∷ ls) = one_if_same f l + unmoved fs ls
 
 pub unmoved-same : (fs : List ℕ) → unmoved fs fs ≡ length fs
 unfolding unmoved

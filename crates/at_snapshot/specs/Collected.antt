@@ -26,3 +26,15 @@ pub record IsCollect (b : BookTerms) (before after : Knowledge) : Type 0 where
   pub times : (p : ℕ) → p < b.processes → (loads_of (own_part after) p).times ≡ (loads_of (own_part before) p).times + 1
   pub least : (p : ℕ) → p < b.processes → count_of p before.seen ≤ slice_index (collect_of after) p
   pub most : (p : ℕ) → p < b.processes → slice_index (collect_of after) p ≤ count_of p after.seen
+
+-- a collect in the making: the lengths of the processes before p are loaded, each once and nothing else since, and the counts have
+-- their numbers
+pub record IsCollecting (b : BookTerms) (before after : Knowledge) (counts : List ℕ) (p : ℕ) : Type 0 where
+  pub sized : length counts ≡ b.processes
+  pub start : p ≡ 0 → after ≡ before
+  pub loaded : 0 < p → HasLoaded b before after
+  pub done : (q : ℕ) → q < p → (loads_of (own_part after) q).times ≡ (loads_of (own_part before) q).times + 1
+  pub left : (q : ℕ) → p ≤ q → (loads_of (own_part after) q).times ≡ (loads_of (own_part before) q).times
+  pub last : (q : ℕ) → q < p → (loads_of (own_part after) q).last ≡ slice_index counts q
+  pub least : (q : ℕ) → q < p → count_of q before.seen ≤ slice_index counts q
+  pub most : (q : ℕ) → q < p → slice_index counts q ≤ count_of q after.seen

@@ -1,4 +1,6 @@
 pub mod Collected
 pub mod Scans
 pub mod Turns
+pub mod Verdicts
+pub mod Snapping
 pub mod Snapshots

@@ -1,10 +1,13 @@
-//! Collects, and how a scan's collect compares with those before it.
+//! Collects, and how a whole one compares with those before it.
 
-ghost use Rattle.std.specs.Prelude.{◌≡◌, ℕ, ◌+◌, ◌<◌, ◌≤◌, ◌↔◌, length, slice_index, IsTrue, MatchOption};
+ghost use Rattle.std.specs.Prelude.{◌≡◌, ℕ, ◌+◌, ◌<◌, ◌≤◌, length, slice_index, MatchOption, Option};
 ghost use Rattle.at_history.specs.Publications.{count_of};
 ghost use Rattle.at_board.specs.Knowledge.Seats.{IsOf};
+ghost use Rattle.at_snapshot.specs.declared.collects.Collects.{Collects};
 ghost use Rattle.at_snapshot.specs.Collected.{IsCollect, collect_of};
-ghost use Rattle.at_snapshot.specs.Turns.{HasRisen, IsLeastRisen, IsVerdict, view_steps};
+ghost use Rattle.at_snapshot.specs.Scans.{collects_after};
+ghost use Rattle.at_snapshot.specs.Turns.{HasRisen, IsLeastRisen, view_steps};
+ghost use Rattle.at_snapshot.specs.Verdicts.{AreAsLong, IsVerdictOn, answer_of};
 
 use crate::scan::Turn;
 use at_base::Counts;
@@ -12,11 +15,22 @@ use at_board::{Board, BoardSeat, Steps};
 use at_log::load_view;
 use std::sync::ledger::Ledger;
 
-/// The first collect of a scan and the last one so far.
+/// The first collect of a snapshot and the last one so far.
 #[derive(Drop)]
 pub struct Collects {
     pub(crate) first: Counts,
     pub(crate) last: Counts,
+}
+
+/// What a whole collect says beside those before it.
+#[derive(Drop)]
+pub enum Verdict {
+    /// It equals the last one, and its counts serve.
+    Repeated,
+    /// This process has published twice since the first one, and the view of the last record counted of it serves.
+    Lent(u32),
+    /// One more is needed.
+    Undecided,
 }
 
 /// Loads each length once, in the order of the processes.
@@ -43,21 +57,8 @@ pub(crate) fn collect<L: Ledger, X: Ledger>(
     counts
 }
 
-/// Whether two lists of equally many counts are equal.
-pub(crate) fn are_equal(counts: &Counts, others: &Counts) -> bool
-    requires { length counts.now ≡ length others.now }
-    ensures { IsTrue result ↔ (counts.now ≡ others.now) }
-{
-    for p in 0..counts.len() {
-        if counts.get(p) != others.get(p) {
-            return false;
-        }
-    }
-    true
-}
-
 /// The least process, other than the given one, whose count is at least two above the first.
-pub(crate) fn risen(first: &Counts, now: &Counts, process: u32) -> Option<u32>
+fn risen(first: &Counts, now: &Counts, process: u32) -> Option<u32>
     requires { length first.now ≡ length now.now }
     ensures { MatchOption result
         ((p : ℕ) → ¬ HasRisen process first.now now.now p)
@@ -71,10 +72,38 @@ pub(crate) fn risen(first: &Counts, now: &Counts, process: u32) -> Option<u32>
     None
 }
 
-impl Collects {
-    /// What a later collect answers, by the collects before it.
-    pub(crate) fn compare<L: Ledger, X: Ledger>(
-        &self,
+/// What a whole collect of a process says, by those before it: nothing yet where there are none.
+pub fn compare(collects: &Option<Collects>, now: &Counts, process: u32) -> Verdict
+    requires { AreAsLong collects.now now.now }
+    ensures { IsVerdictOn collects.now process now.now result }
+{
+    let Some(collects) = collects else {
+        return Verdict::Undecided;
+    };
+    if collects.last.covers(now) && now.covers(&collects.last) {
+        return Verdict::Repeated;
+    }
+    match risen(&collects.first, now, process) {
+        Some(p) => Verdict::Lent(p),
+        None => Verdict::Undecided,
+    }
+}
+
+/// The collects with one more, which is the first where there was none. Of those between the first and the last nothing is kept.
+pub fn with_one_more(collects: Option<Collects>, now: Counts) -> Collects
+    ensures { result ≡ collects_after collects now }
+{
+    let first = match collects {
+        None => now.copy(),
+        Some(collects) => collects.first,
+    };
+    Collects { first, last: now }
+}
+
+impl Verdict {
+    /// What a scan's turn answers by it. A view that is lent is loaded.
+    pub(crate) fn answer<L: Ledger, X: Ledger>(
+        self,
         board: &Board,
         seat: &mut BoardSeat,
         now: &Counts,
@@ -82,21 +111,19 @@ impl Collects {
         exchanges: &mut Steps<X>,
     ) -> Turn
         requires board { IsOf seat.old board.now }
-        requires lengths { (length self.now.first ≡ length now.now) × (length self.now.last ≡ length now.now) }
+        requires verdict { (collects : Option Collects) × IsVerdictOn collects seat.old.knows.first now.now self }
         requires seen { (p : ℕ) → p < length now.now → slice_index now.now p ≤ count_of p seat.old.knows.seen }
-        ensures answer { IsVerdict self.now seat.old.knows now.now result }
+        ensures answer { result ≡ answer_of self seat.old.knows now.now }
         ensures same { seat.new ≡ seat.old }
         ensures steps { steps.new ≡ steps.old + view_steps board.now.book.processes result }
         ensures exchanges { exchanges.new ≡ exchanges.old }
     {
-        if are_equal(&self.last, now) {
-            return Turn::Clean(now.copy());
-        }
-        match risen(&self.first, now, seat.process()) {
-            None => Turn::Again,
-            Some(p) => {
+        match self {
+            Verdict::Repeated => Turn::Clean(now.copy()),
+            Verdict::Lent(p) => {
                 Turn::Borrowed(load_view(board, seat, p, now.get(p) - 1, steps, exchanges))
             }
+            Verdict::Undecided => Turn::Again,
         }
     }
 }

@@ -10,5 +10,6 @@ mod collects;
 mod scan;
 mod snapshots;
 
+pub use crate::collects::{Collects, Verdict, compare, with_one_more};
 pub use crate::scan::{Scan, Turn};
 pub use crate::snapshots::snapshot;

@@ -8,7 +8,7 @@ ghost use Rattle.at_snapshot.specs.Scans.{IsScanOf, SeesOwnRecords, scan_after, 
 ghost use Rattle.at_snapshot.specs.Snapshots.{IsSnapshot, OnCounts};
 ghost use Rattle.at_snapshot.specs.Turns.{IsAnswer, view_steps};
 
-use crate::collects::{Collects, collect};
+use crate::collects::{Collects, collect, compare, with_one_more};
 use at_base::Counts;
 use at_board::{Board, BoardSeat, Steps};
 use std::marker::Model;
@@ -84,19 +84,9 @@ impl Scan {
         seat.known();
         let now = collect(board, seat, steps, exchanges);
         self.mark = Snapshot::of(seat);
-        match &mut self.collects {
-            None => {
-                self.collects = Some(Collects {
-                    first: now.copy(),
-                    last: now,
-                });
-                Turn::Again
-            }
-            Some(collects) => {
-                let answer = collects.compare(board, seat, &now, steps, exchanges);
-                collects.last = now;
-                answer
-            }
-        }
+        let verdict = compare(&self.collects, &now, seat.process());
+        let answer = verdict.answer(board, seat, &now, steps, exchanges);
+        self.collects = Some(with_one_more(self.collects.take(), now));
+        answer
     }
 }

@@ -13,8 +13,8 @@ use Rattle.at_board.specs.Words.Packed.{IsForm, record_words}
 use Rattle.at_board.specs.declared.knowledge.Part.{Part}
 use Rattle.at_board.specs.declared.knowledge.Knowledge.{Knowledge}
 use Rattle.at_log.proofs.Laws.LastRecord.{IsLast-Publishes}
-use Rattle.at_log.proofs.Laws.StoredWords.{FitsNext-MayAppend, IsStoring, IsStoring-more, MayPublish-IsStoring, MayStoreWord-IsStoring, Publishes-IsStoring}
-use Rattle.at_log.specs.Appending.{MayAppend}
+use Rattle.at_log.proofs.Laws.StoredWords.{FitsNext-MayAppend, IsStoring-more, MayPublish-IsStoring, MayStoreWord-IsStoring, Publishes-IsStoring}
+use Rattle.at_log.specs.Appending.{IsStoring, MayAppend}
 use Rattle.at_log.specs.LastRecord.{IsLast}
 use Rattle.at_log.specs.declared.record.Record.{Record}
 use Rattle.at_stepper.specs.Kept.{IsAppendingSo}

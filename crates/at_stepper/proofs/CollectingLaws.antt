@@ -5,9 +5,9 @@ use Rattle.at_ledger.specs.Book.{BookTerms}
 use Rattle.at_board.specs.declared.knowledge.Loads.{Loads}
 use Rattle.at_board.specs.declared.knowledge.Knowledge.{Knowledge}
 use Rattle.at_board.specs.Steps.LoadLength.{LoadsLength}
-use Rattle.at_snapshot.proofs.Laws.Collects.{IsCollect-IsCollecting, IsCollecting, IsCollecting-load, collect_of-IsCollecting}
+use Rattle.at_snapshot.proofs.Laws.Collects.{IsCollect-IsCollecting, IsCollecting-load, collect_of-IsCollecting}
 use Rattle.at_snapshot.proofs.Laws.Loads.{loads_of-same}
-use Rattle.at_snapshot.specs.Collected.{IsCollect, collect_of}
+use Rattle.at_snapshot.specs.Collected.{IsCollect, IsCollecting, collect_of}
 use Rattle.at_stepper.specs.Kept.{IsCollectingSo}
 use Rattle.at_stepper.specs.Collecting.{CollectingTerms, LoadsLengthOf, collecting_after, starting_collecting}
 

@@ -5,9 +5,8 @@ use Rattle.at_board.specs.Knowledge.Seats.{IsKept}
 use Rattle.at_board.specs.Steps.Publish.{FitsNext}
 use Rattle.at_board.specs.Words.Addresses.{record_width}
 use Rattle.at_board.specs.Words.Packed.{record_words}
-use Rattle.at_log.specs.Appending.{MayAppend}
-use Rattle.at_log.proofs.Laws.StoredWords.{IsStoring}
-use Rattle.at_snapshot.proofs.Laws.Collects.{IsCollecting}
+use Rattle.at_log.specs.Appending.{IsStoring, MayAppend}
+use Rattle.at_snapshot.specs.Collected.{IsCollecting}
 use Rattle.at_stepper.specs.Appending.{AppendingTerms, publication_of}
 use Rattle.at_stepper.specs.Collecting.{CollectingTerms}
 use Rattle.at_stepper.specs.Loading.{LoadingTerms}

@@ -1,27 +1,21 @@
 -- What the type of a snapshot in the making keeps of its fields, which no caller sees.
-use Rattle.std.specs.Prelude.{◌≡◌, ℕ, ◌+◌, ◌<◌, ◌⊎◌, List, Option, Some, None}
+use Rattle.std.specs.Prelude.{◌≡◌, ℕ, ◌+◌, ◌<◌, ◌⊎◌, List, Option}
 use Rattle.at_ledger.specs.Book.{BookTerms}
 use Rattle.at_history.specs.BoardState.{publication_at}
 use Rattle.at_history.specs.Publications.{publications_of}
 use Rattle.at_board.specs.declared.knowledge.Knowledge.{Knowledge}
 use Rattle.at_board.specs.Knowledge.Seats.{IsKept}
-use Rattle.at_snapshot.specs.declared.collects.Collects.{Collects as ScanCollects}
+use Rattle.at_snapshot.specs.declared.collects.Collects.{Collects}
 use Rattle.at_snapshot.specs.Scans.{ScanTerms}
 use Rattle.at_snapshot.specs.Collected.{HasLoaded}
 use Rattle.at_snapshot.specs.Snapshots.{HasCollected, IsSnapshot}
-use Rattle.at_snapshot.proofs.Laws.Turns.{IsSnapping}
-use Rattle.at_stepper.specs.declared.collects.Collects.{Collects}
+use Rattle.at_snapshot.specs.Snapping.{IsSnapping}
 use Rattle.at_stepper.specs.declared.stage.Stage.{Stage}
 use Rattle.at_stepper.specs.declared.stage.Stage.TheVariants.{Borrow, Collect, Ended}
 
--- the collects as those of a scan
-abbrev pub scanned : Option Collects → Option ScanCollects
-scanned None = None
-scanned (Some c) = Some (record { first = c.first; last = c.last })
-
 -- the scan whose turns were the whole collects so far
 abbrev pub scan_of : Knowledge → Knowledge → Option Collects → ScanTerms
-scan_of start mark collects = record { start = start; mark = mark; collects = scanned collects }
+scan_of start mark collects = record { start = start; mark = mark; collects = collects }
 
 -- the counts are a snapshot, made by loads of lengths alone, and few of each
 pub record IsSnapped (b : BookTerms) (before after : Knowledge) (counts : List ℕ) : Type 0 where

@@ -1,7 +1,6 @@
 pub mod Collecting
 pub mod Loading
 pub mod Appending
-pub mod Verdicts
 pub mod Snapping
 pub mod Kept
 pub mod KeptSnapshots

@@ -9,7 +9,6 @@
 
 mod appending;
 mod collecting;
-mod collects;
 mod loading_entry;
 mod loading_view;
 mod snapping;

@@ -7,11 +7,11 @@ ghost use Rattle.at_snapshot.specs.Snapshots.{HasCollected, IsSnapshot, snapshot
 ghost use Rattle.at_stepper.specs.Snapping.{MakesLoad, MayFollow, length_of};
 
 use crate::collecting::Collecting;
-use crate::collects::{Collects, Verdict, compare, with_one_more};
 use crate::loading_view::LoadingView;
 use crate::stage::Stage;
 use at_base::Counts;
 use at_board::{Board, BoardSeat, Steps};
+use at_snapshot::{Collects, Verdict, compare, with_one_more};
 use std::marker::Model;
 use std::snapshot::Snapshot;
 use std::sync::ledger::Ledger;

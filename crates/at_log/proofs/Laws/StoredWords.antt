@@ -13,20 +13,9 @@ use Rattle.at_board.specs.Words.Addresses.{record_width}
 use Rattle.at_board.specs.Words.Packed.{IsForm, record_words}
 use Rattle.at_board.specs.declared.knowledge.Knowledge.{Knowledge}
 use Rattle.at_board.specs.declared.knowledge.Part.{Part}
-use Rattle.at_log.specs.Appending.{MayAppend}
+use Rattle.at_log.specs.Appending.{IsStoring, MayAppend, with_stored}
 use Rattle.at_log.specs.ClosingTerms.{published_by}
 use Rattle.at_log.specs.declared.record.Record.{Record}
-
--- the part with these words in place of those stored
-abbrev pub with_stored : Part → List ℕ → Part
-with_stored q stored = record q { stored = stored }
-
--- the first j words are stored, and nothing else has changed
-pub record IsStoring (before after : Knowledge) (words : List ℕ) (j : ℕ) : Type 0 where
-  pub stored : List ℕ
-  pub sized : length stored ≡ length (own_part before).stored
-  pub same : after ≡ with_part before (with_stored (own_part before) stored)
-  pub words_so_far : (k : ℕ) → k < j → get_or stored k 0 ≡ get_or words k 0
 
 set_first-again : {X : Type 0} (xs : List X) (x y : X) → set (set xs 0 x) 0 y ≡ set xs 0 y
 set_first-again [] x y = refl

@@ -10,18 +10,7 @@ use Rattle.at_history.specs.Publications.{count_of}
 use Rattle.at_board.specs.Steps.LoadLength.{LoadsLength}
 use Rattle.at_board.specs.Knowledge.Parts.{loads_of, own_part}
 use Rattle.at_snapshot.proofs.Laws.Loads.{HasLoaded-LoadsLength, HasLoaded-trans, loads_of-other, loads_of-same, parts-HasLoaded}
-use Rattle.at_snapshot.specs.Collected.{HasLoaded, IsCollect, collect_of}
-
--- a collect as far as the process
-pub record IsCollecting (b : BookTerms) (v w : Knowledge) (counts : List ℕ) (p : ℕ) : Type 0 where
-  pub sized : length counts ≡ b.processes
-  pub start : p ≡ 0 → w ≡ v
-  pub loaded : 0 < p → HasLoaded b v w
-  pub done : (q : ℕ) → q < p → (loads_of (own_part w) q).times ≡ (loads_of (own_part v) q).times + 1
-  pub left : (q : ℕ) → p ≤ q → (loads_of (own_part w) q).times ≡ (loads_of (own_part v) q).times
-  pub last : (q : ℕ) → q < p → (loads_of (own_part w) q).last ≡ get_or counts q 0
-  pub least : (q : ℕ) → q < p → count_of q v.seen ≤ get_or counts q 0
-  pub most : (q : ℕ) → q < p → get_or counts q 0 ≤ count_of q w.seen
+use Rattle.at_snapshot.specs.Collected.{HasLoaded, IsCollect, IsCollecting, collect_of}
 
 -- what stands before a load: as it was, or after loads
 pub record IsBefore (b : BookTerms) (v u : Knowledge) : Type 0 where

@@ -1,27 +1,22 @@
 -- The turns of a snapshot: how many there may be.
-use Rattle.std.proofs.Common.{◌≡◌, ℕ, ◌+◌, ◌*◌, ◌<◌, ◌≤◌, length, get_or, refl, sym, ap, subst, ◌∙◌, arith, inl, inr, Option, Some, None}
+use Rattle.std.proofs.Common.{◌≡◌, ℕ, ◌+◌, ◌<◌, ◌≤◌, length, get_or, refl, sym, ap, subst, ◌∙◌, arith, inl, inr, Option, Some, None}
 use Rattle.std.proofs.lemmas.Bool.{cases_eq, cases_lt}
 use Rattle.std.proofs.lemmas.Nat.{mul-le}
 use Rattle.at_ledger.specs.Book.{BookTerms}
 use Rattle.at_history.proofs.Laws.Prefixes.{IsPrefix-count_of}
 use Rattle.at_board.specs.declared.knowledge.Knowledge.{Knowledge}
 use Rattle.at_history.specs.Publications.{count_of}
-use Rattle.at_board.specs.Knowledge.Parts.{loads_of, own_part}
 use Rattle.at_snapshot.specs.declared.collects.Collects.{Collects}
 use Rattle.at_snapshot.specs.declared.scan.Turn.{Turn}
 use Rattle.at_snapshot.specs.declared.scan.Turn.TheVariants.{Clean, Borrowed, Again}
 use Rattle.at_snapshot.proofs.Laws.Loads.{HasLoaded-trans, first-HasLoaded, parts-HasLoaded}
 use Rattle.at_snapshot.proofs.Laws.Scans.{IsScanOf-after, last_le, length-collect_of}
-use Rattle.at_snapshot.proofs.UnmovedLaws.{unmoved, unmoved-falls, unmoved-same, unmoved-some}
+use Rattle.at_snapshot.proofs.UnmovedLaws.{unmoved-falls, unmoved-same, unmoved-some}
 use Rattle.at_snapshot.specs.Collected.{HasLoaded, IsCollect, collect_of}
 use Rattle.at_snapshot.specs.Scans.{AreCollects, IsScanOf, ScanTerms, SeesOwnRecords, collects_after, scan_after, starting_scan}
+use Rattle.at_snapshot.specs.Snapping.{IsSnapping, turns_left, unmoved}
 use Rattle.at_snapshot.specs.Snapshots.{HasCollected, snapshot_steps}
 use Rattle.at_snapshot.specs.Turns.{IsAnswer, IsUndecided, view_steps}
-
--- how many turns may answer Again
-abbrev pub turns_left : ℕ → Option Collects → ℕ
-turns_left n None = n + 1
-turns_left n (Some c) = unmoved c.first c.last
 
 -- no count is two above the first
 close_to_first : (b : BookTerms) (scan : ScanTerms) (c : Collects) (v w : Knowledge) (p : ℕ) → SeesOwnRecords scan.start
@@ -85,17 +80,6 @@ turns_left-some b start mark (Some c) v known own so loaded =
       (loaded c refl).own,
     ) in
     unmoved-some c.first c.last p (are.last_length ∙ sym are.first_length) (omega (arith, known, are.first_length)) same
-
--- a snapshot after so many turns, from what the seat knew and a number of steps
-pub record IsSnapping (b : BookTerms) (begun : Knowledge) (scan : ScanTerms) (v : Knowledge) (before steps turns : ℕ) : Type 0 where
-  pub scan_of : IsScanOf b scan v
-  pub start : scan.start ≡ begun
-  pub own : SeesOwnRecords scan.start
-  pub new : scan.collects ≡ None → v ≡ begun
-  pub loaded : (c : Collects) → scan.collects ≡ Some c → HasLoaded b begun v
-  pub times : (p : ℕ) → p < b.processes → (loads_of (own_part v) p).times ≡ (loads_of (own_part begun) p).times + turns
-  pub steps_are : steps ≡ before + turns * b.processes
-  pub few : turns + turns_left b.processes scan.collects ≤ b.processes + 1
 
 -- after one more collect all loads are loads of lengths
 pub HasLoaded-more : (b : BookTerms) (begun v w : Knowledge) (cs : Option Collects) → 0 < length begun.parts → (cs ≡ None → v ≡ begun)

@@ -1,6 +1,6 @@
 use Rattle.std.proofs.Common.{◌≡◌, ◌+◌}
 use Rattle.at_board.specs.Words.Packed.{record_words}
-use Rattle.at_log.proofs.Laws.StoredWords.{IsStoring}
+use Rattle.at_log.specs.Appending.{IsStoring}
 use Rattle.at_log.specs.ClosingTerms.{published_by}
 use Rattle.at_log.proofs.append_record.append.Given as goal
 

@@ -1,6 +1,6 @@
 use Rattle.std.proofs.Common.{◌≡◌, ◌+◌}
 use Rattle.at_board.specs.Knowledge.Seats.{IsOf}
-use Rattle.at_snapshot.proofs.Laws.Collects.{IsCollecting}
+use Rattle.at_snapshot.specs.Collected.{IsCollecting}
 use Rattle.at_snapshot.proofs.collects.collect.Given as goal
 
 -- so many lengths are loaded

@@ -1,6 +1,6 @@
 use Rattle.std.proofs.Common.{◌≡◌, ℕ}
 use Rattle.at_board.specs.Knowledge.Seats.{IsOf}
-use Rattle.at_snapshot.proofs.Laws.Turns.{IsSnapping, turns_left}
+use Rattle.at_snapshot.specs.Snapping.{IsSnapping, turns_left}
 use Rattle.at_snapshot.proofs.snapshots.snapshot.Given as goal
 
 -- so many turns answered Again

@@ -1,14 +1,16 @@
-use Rattle.std.proofs.Common.{◌≡◌, ◌<◌, None, Option, Some, ap, subst, sym, ◌∙◌, arith}
+use Rattle.std.proofs.Common.{◌≡◌, ◌<◌, Option, Some, ap, subst, sym, ◌∙◌, arith}
 use Rattle.at_ledger.specs.Book.{BookTerms}
 use Rattle.at_board.specs.Knowledge.Seats.{SeatTerms}
 use Rattle.at_board.specs.declared.knowledge.Knowledge.{Knowledge}
 use Rattle.at_snapshot.proofs.Laws.Scans.{IsScanOf-after}
-use Rattle.at_snapshot.proofs.Laws.Snapshots.{OnCounts-IsVerdict}
+use Rattle.at_snapshot.proofs.Laws.Verdicts.{IsAnswer-IsVerdictOn, OnCounts-IsAnswer}
 use Rattle.at_snapshot.specs.Collected.{collect_of}
 use Rattle.at_snapshot.specs.Scans.{IsScanOf, ScanTerms, SeesOwnRecords, collects_after, scan_after}
 use Rattle.at_snapshot.specs.Snapshots.{IsSnapshot, OnCounts}
-use Rattle.at_snapshot.specs.Turns.{IsVerdict}
+use Rattle.at_snapshot.specs.Verdicts.{IsVerdictOn, answer_of}
 use Rattle.at_snapshot.specs.declared.collects.Collects.{Collects}
+use Rattle.at_snapshot.specs.declared.collects.Verdict.{Verdict}
+use Rattle.at_snapshot.specs.declared.scan.Turn.{Turn}
 use Rattle.at_snapshot.proofs.scan.Scan.turn.Goals as goal
 
 -- a scan by its parts
@@ -20,46 +22,40 @@ IsScanOf-parts b scan w start mark collects one two three of =
     λ i. record { start = one i; mark = two i; collects = three i } in
     subst (λ (s : ScanTerms). IsScanOf b s w) (sym same) of
 
-pub returns-in-None-clause-scan : goal.returns-in-None-clause-scan
-returns-in-None-clause-scan g c =
+pub returns-clause-scan : goal.returns-clause-scan
+returns-clause-scan g c =
     let b : BookTerms = c.args.board.now.book in
     let scan : ScanTerms = c.args.self.now in
     let w : Knowledge = c.collect-now.new.seat.knows in
-    let none : scan.collects ≡ None = sym (ap (λ (s : ScanTerms). s.collects) c.self.view_is) ∙ c.in-None.is in
-    let counts = c.collect-now.ensures.counts in
-    let first = c.copy.ensures ∙ counts in
-    let begun : Option Collects = Some (record { first = c.copy.result; last = c.collect-now.result }) in
-    let collects : begun ≡ Some (collects_after scan.collects (collect_of w)) =
-    subst (λ o. begun ≡ Some (collects_after o (collect_of w))) (sym none) (λ i. Some (record { first = first i; last = counts i })) in
-    IsScanOf-parts b scan w c.self.inside.start.value.knows c.of.result.value.knows begun
-    (ap (λ (s : ScanTerms). s.start) c.self.view_is) (ap (λ (s : SeatTerms). s.knows) c.of.ensures) collects
-    (IsScanOf-after b scan c.args.seat.now.knows w (omega (arith, c.known.ensures.seat.one_part)) c.requires.scan c.collect-now.ensures.collect)
-
-pub returns-in-Some-clause-scan : goal.returns-in-Some-clause-scan
-returns-in-Some-clause-scan g c =
-    let b : BookTerms = c.args.board.now.book in
-    let scan : ScanTerms = c.args.self.now in
-    let w : Knowledge = c.collect-now.new.seat.knows in
-    let is : scan.collects ≡ Some c.in-Some.collects = sym (ap (λ (s : ScanTerms). s.collects) c.self.view_is) ∙ c.in-Some.is in
-    let counts = c.collect-now.ensures.counts in
-    let more : Option Collects = Some (record { first = c.in-Some.collects.first; last = c.collect-now.result }) in
-    let collects : more ≡ Some (collects_after scan.collects (collect_of w)) =
-    subst (λ o. more ≡ Some (collects_after o (collect_of w))) (sym is) (λ i. Some (record { first = c.in-Some.collects.first; last = counts i })) in
-    let start = c.self.inside.start.value.knows in
-    let mark = c.of.result.value.knows in
-    subst (λ (s : SeatTerms). IsScanOf b (record { start = start; mark = mark; collects = more }) s.knows) (sym c.compare-answer.ensures.same)
-    (IsScanOf-parts b scan w start mark more (ap (λ (s : ScanTerms). s.start) c.self.view_is) (ap (λ (s : SeatTerms). s.knows) c.of.ensures) collects
+    let start : Knowledge = c.self.inside.start.value.knows in
+    let mark : Knowledge = c.of.result.value.knows in
+    let same : c.self.inside.collects ≡ scan.collects = ap (λ (s : ScanTerms). s.collects) c.self.view_is in
+    let more : c.with_one_more.result ≡ collects_after scan.collects (collect_of w) =
+    c.with_one_more.ensures
+    ∙ (ap (λ (cs : Option Collects). collects_after cs c.collect-now.result) (c.take.ensures.value ∙ same)
+    ∙ ap (collects_after scan.collects) c.collect-now.ensures.counts) in
+    subst (λ (s : SeatTerms). IsScanOf b (record { start = start; mark = mark; collects = Some c.with_one_more.result }) s.knows) (sym c.answer-answer.ensures.same)
+    (IsScanOf-parts b scan w start mark (Some c.with_one_more.result) (ap (λ (s : ScanTerms). s.start) c.self.view_is)
+    (ap (λ (s : SeatTerms). s.knows) c.of.ensures) (ap (λ (k : Collects). Some k) more)
     (IsScanOf-after b scan c.args.seat.now.knows w (omega (arith, c.known.ensures.seat.one_part)) c.requires.scan c.collect-now.ensures.collect))
 
-pub returns-in-Some-clause-snapshot : goal.returns-in-Some-clause-snapshot
-returns-in-Some-clause-snapshot g c =
+pub returns-clause-snapshot : goal.returns-clause-snapshot
+returns-clause-snapshot g c =
     let b : BookTerms = c.args.board.now.book in
     let scan : ScanTerms = c.args.self.now in
+    let v : Knowledge = c.args.seat.now.knows in
     let w : Knowledge = c.collect-now.new.seat.knows in
-    let is : scan.collects ≡ Some c.in-Some.collects = sym (ap (λ (s : ScanTerms). s.collects) c.self.view_is) ∙ c.in-Some.is in
-    let known : c.args.seat.now.knows.first < b.processes =
-    omega (arith, c.known.ensures.seat.known, ap (λ (t : BookTerms). t.processes) c.requires.board.book) in
+    let verdict : Verdict = c.compare-verdict.result in
+    let known : v.first < b.processes = omega (arith, c.known.ensures.seat.known, ap (λ (t : BookTerms). t.processes) c.requires.board.book) in
     let own : SeesOwnRecords scan.start = subst (λ (s : ScanTerms). SeesOwnRecords s.start) c.self.view_is c.self.invariant in
-    let verdict = subst (λ now. IsVerdict c.in-Some.collects w now c.compare-answer.result) c.collect-now.ensures.counts c.compare-answer.ensures.answer in
-    subst (λ (s : SeatTerms). OnCounts c.compare-answer.result (IsSnapshot b scan.start s.knows)) (sym c.compare-answer.ensures.same)
-    (OnCounts-IsVerdict b scan c.in-Some.collects c.args.seat.now.knows w c.compare-answer.result own c.requires.scan known is c.collect-now.ensures.collect verdict)
+    let same : c.self.inside.collects ≡ scan.collects = ap (λ (s : ScanTerms). s.collects) c.self.view_is in
+    let says : IsVerdictOn scan.collects w.first (collect_of w) verdict =
+    subst (λ (cs : Option Collects). IsVerdictOn cs w.first (collect_of w) verdict) same
+    (subst (λ xs. IsVerdictOn c.self.inside.collects w.first xs verdict) c.collect-now.ensures.counts
+    (subst (λ p. IsVerdictOn c.self.inside.collects p c.collect-now.result verdict) c.process.ensures.process c.compare-verdict.ensures)) in
+    let answered : c.answer-answer.result ≡ answer_of verdict w (collect_of w) =
+    c.answer-answer.ensures.answer ∙ ap (answer_of verdict w) c.collect-now.ensures.counts in
+    subst (λ (s : SeatTerms). OnCounts c.answer-answer.result (IsSnapshot b scan.start s.knows)) (sym c.answer-answer.ensures.same)
+    (subst (λ (t : Turn). OnCounts t (IsSnapshot b scan.start w)) (sym answered)
+    (OnCounts-IsAnswer b scan.start scan.mark scan.collects v w (answer_of verdict w (collect_of w)) own c.requires.scan known c.collect-now.ensures.collect
+    (IsAnswer-IsVerdictOn scan.start scan.mark scan.collects w verdict says)))

@@ -3,14 +3,15 @@ use Rattle.at_ledger.specs.Book.{BookTerms}
 use Rattle.at_board.specs.Knowledge.Seats.{SeatTerms}
 use Rattle.at_board.specs.declared.knowledge.Knowledge.{Knowledge}
 use Rattle.at_snapshot.specs.Collected.{HasLoaded, IsCollect, collect_of}
+use Rattle.at_snapshot.specs.Scans.{collects_after}
+use Rattle.at_snapshot.specs.Verdicts.{IsVerdictOn}
+use Rattle.at_snapshot.specs.declared.collects.Collects.{Collects}
+use Rattle.at_snapshot.specs.declared.collects.Verdict.TheVariants.{Repeated}
 use Rattle.at_stepper.proofs.SnappingLaws.{HasLoaded-IsSnappingSo, IsSnapped-Repeated, IsSnappingSo-Lent, IsSnappingSo-Undecided, IsSnappingSo-load, left_of-Undecided}
 use Rattle.at_stepper.specs.Collecting.{CollectingTerms, LoadsLengthOf, starting_collecting}
 use Rattle.at_stepper.specs.Loading.{LoadingTerms, starting_loading}
 use Rattle.at_stepper.specs.KeptSnapshots.{IsSnapped, IsSnappingSo}
 use Rattle.at_stepper.specs.Snapping.{SnappingTerms, left_of}
-use Rattle.at_stepper.specs.Verdicts.{IsVerdictOn, collects_with}
-use Rattle.at_stepper.specs.declared.collects.Collects.{Collects}
-use Rattle.at_stepper.specs.declared.collects.Verdict.TheVariants.{Repeated}
 use Rattle.at_stepper.specs.declared.stage.Stage.TheVariants.{Borrow, Collect}
 use Rattle.at_stepper.proofs.snapping.Snapping.turn.Given as given
 use Rattle.at_stepper.proofs.snapping.Snapping.turn.Goals.{After-compare, After-turn-collected, After-with_one_more}
@@ -116,11 +117,11 @@ invariant_of-self-in-Lent g c =
 
 -- the collects with this one
 with_this : (g : given.Over) (c : After-with_one_more g)
-    → c.with_one_more.result ≡ collects_with c.self.inside.collects (collect_of c.turn-collected.new.seat.knows)
+    → c.with_one_more.result ≡ collects_after c.self.inside.collects (collect_of c.turn-collected.new.seat.knows)
 with_this g c =
     c.with_one_more.ensures
-    ∙ (ap (λ (cs : Option Collects). collects_with cs c.in_ok-now-in-Collect.now) c.take.ensures.value
-    ∙ ap (collects_with c.self.inside.collects) c.in_ok-now-in-Collect.ensures.counts)
+    ∙ (ap (λ (cs : Option Collects). collects_after cs c.in_ok-now-in-Collect.now) c.take.ensures.value
+    ∙ ap (collects_after c.self.inside.collects) c.in_ok-now-in-Collect.ensures.counts)
 
 pub invariant_of-self-in-Undecided : goal.invariant_of-self-in-Undecided
 invariant_of-self-in-Undecided g c =

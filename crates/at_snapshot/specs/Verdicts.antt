@@ -1,9 +1,14 @@
 -- What a whole collect says, by those before it.
-use Rattle.std.specs.Prelude.{◌≡◌, ◌≢◌, ℕ, List, length, Option, Some, None}
+use Rattle.std.specs.Prelude.{◌≡◌, ◌≢◌, ℕ, ◌-◌, List, length, slice_index, Option, Some, None}
+use Rattle.at_board.specs.declared.knowledge.Knowledge.{Knowledge}
+use Rattle.at_history.specs.BoardState.{publication_at}
+use Rattle.at_history.specs.Publications.{publications_of}
+use Rattle.at_snapshot.specs.declared.collects.Collects.{Collects}
+use Rattle.at_snapshot.specs.declared.collects.Verdict.{Verdict}
+use Rattle.at_snapshot.specs.declared.collects.Verdict.TheVariants.{Lent, Repeated, Undecided}
+use Rattle.at_snapshot.specs.declared.scan.Turn.{Turn}
+use Rattle.at_snapshot.specs.declared.scan.Turn.TheVariants.{Clean, Borrowed, Again}
 use Rattle.at_snapshot.specs.Turns.{HasRisen, IsLeastRisen}
-use Rattle.at_stepper.specs.declared.collects.Collects.{Collects}
-use Rattle.at_stepper.specs.declared.collects.Verdict.{Verdict}
-use Rattle.at_stepper.specs.declared.collects.Verdict.TheVariants.{Lent, Repeated, Undecided}
 
 -- each of the collects before has as many counts
 abbrev pub AreAsLong : Option Collects → List ℕ → Type 0
@@ -22,7 +27,8 @@ abbrev pub IsVerdictOn : Option Collects → ℕ → List ℕ → Verdict → Ty
 IsVerdictOn None process now verdict = verdict ≡ Undecided
 IsVerdictOn (Some c) process now verdict = IsVerdictBy c process now verdict
 
--- the collects after one more, which is the first where there was none
-abbrev pub collects_with : Option Collects → List ℕ → Collects
-collects_with None now = record { first = now; last = now }
-collects_with (Some c) now = record { first = c.first; last = now }
+-- what a scan's turn answers by what its collect says: the view that is lent is that of the last record counted of its process
+abbrev pub answer_of : Verdict → Knowledge → List ℕ → Turn
+answer_of Repeated v now = Clean now
+answer_of (Lent p) v now = Borrowed (publication_at (publications_of p v.seen) (slice_index now p - 1)).view
+answer_of Undecided v now = Again
