@@ -14,5 +14,7 @@ pub mod Started
 -- the round of a turn, and a turn of its parts
 pub mod Turning
 pub mod Turned
+-- the publishing of a turn's round, and turns in a row
+pub mod Turns
 -- the steps of a call, turn by turn
 pub mod Counting

@@ -1,20 +1,16 @@
-use Rattle.std.proofs.Common.{◌≡◌, ◌+◌, ◌*◌, ◌<◌, suc, true, List, [], ◌∷◌, length, refl, sym, ap, subst, ◌∙◌, arith, inl, inr}
-use Rattle.std.proofs.lemmas.Bool.{cases_lt}
-use Rattle.std.proofs.lemmas.List.{length_push}
-use Rattle.at_ledger.specs.Account.{slot_in, slots_of}
+use Rattle.std.proofs.Common.{◌≡◌, ◌+◌, ◌*◌, ◌<◌, suc, true, [], ◌∷◌, length, refl, sym, ap, subst, ◌∙◌, arith}
+use Rattle.at_ledger.specs.Account.{slots_of}
 use Rattle.at_ledger.specs.Book.{BookTerms, HasSlot, account_of}
 use Rattle.at_history.proofs.Laws.Prefixes.{IsPrefix-trans}
 use Rattle.at_history.specs.Rounds.{is_settled, rounds}
-use Rattle.at_history.specs.declared.request.Request.{Request}
-use Rattle.at_board.specs.Knowledge.Parts.{asking_on, own_part}
+use Rattle.at_board.specs.Knowledge.Parts.{own_part}
 use Rattle.at_board.specs.declared.knowledge.Knowledge.{Knowledge}
 use Rattle.at_log.specs.Receipts.{asks_in}
 use Rattle.at_rows.proofs.Laws.Accounts.{HasAccount, HasAccount-IsSeat}
 use Rattle.at_rows.specs.OpenRequests.{request_of}
 use Rattle.at_shared.proofs.Laws.Added.{Adds, Adds-HasLoaded, Adds-HasStarted, Adds-refl, Adds-trans, HasAccount-Adds}
 use Rattle.at_shared.proofs.Laws.Counting.{steps_after}
-use Rattle.at_shared.proofs.Laws.Kept.{is_settled-IsPrefix}
-use Rattle.at_shared.proofs.Laws.Starting.{same_some}
+use Rattle.at_shared.proofs.Laws.Turns.{AsksOnce-Adds}
 use Rattle.at_shared.proofs.Laws.Turning.{Adds-HelpAnswers, settled-HelpAnswers}
 use Rattle.at_shared.specs.HelpingTerms.{HelpingTerms}
 use Rattle.at_shared.specs.HelpTurns.{HelpAnswers}
@@ -241,7 +237,6 @@ returns-in-Settled-clause-asked g c =
     let a = c.args.account in
     let told = c.start-helping.ensures in
     let own = c.start-helping.result.own in
-    let row : List Request = (asking_on (own_part v) a).announced in
     let adds : Adds b v z a (request_of own ∷ []) =
     Adds-trans b v (looked_of g before) z a [] (request_of own ∷ []) (adds_look g before) (adds_since g before) in
     let helping : HelpingTerms = c.loop-receipt.helping in
@@ -252,27 +247,9 @@ returns-in-Settled-clause-asked g c =
     let settled_own : is_settled a own.slot own.number z.seen ≡ true =
     subst (λ t. is_settled t own.slot own.number z.seen ≡ true) account
     (subst (λ (h : HelpingTerms). is_settled helping.account h.own.slot h.own.number z.seen ≡ true) same settled_here) in
-    record {
-      request = request_of own;
-      announced = adds.announced;
-      since = told.since;
-      elsewhere = adds.elsewhere;
-      settled = λ slot number slot_has within. elim (cases_lt number (length row)) as (λ _. is_settled a slot number z.seen ≡ true) [
-        | inl earlier ↦
-            is_settled-IsPrefix a slot number v.seen z.seen adds.more
-            (c.requires.settled slot number (subst (λ p. HasSlot b p a slot) adds.first slot_has) earlier)
-        | inr last ↦
-            let count : number ≡ own.number =
-            omega (arith, within, last, ap (λ (rs : List Request). length rs) adds.announced, length_push row (request_of own), told.number) in
-            let slot_own = subst (λ t. HasSlot b u.first t own.slot) told.account told.helping.asked.slot_in in
-            let slots : slot ≡ own.slot =
-            same_some slot own.slot
-            (sym slot_has.owner ∙ (ap (slot_in (account_of b a)) (adds.first ∙ sym told.process) ∙ slot_own.owner)) in
-            subst (λ s. is_settled a s number z.seen ≡ true) (sym slots) (subst (λ n. is_settled a own.slot n z.seen ≡ true) (sym count) settled_own)
-      ];
-      owns = adds.owns c.known.ensures.seat.own;
-      gained = adds.gained;
-    }
+    let slot_own = subst (λ t. HasSlot b u.first t own.slot) told.account told.helping.asked.slot_in in
+    AsksOnce-Adds b v z a own adds c.known.ensures.seat.own c.requires.settled (subst (λ p. HasSlot b p a own.slot) told.process slot_own) told.number told.since
+    settled_own
 
 pub returns-in-Settled-clause-more : goal.returns-in-Settled-clause-more
 returns-in-Settled-clause-more g c = omega (arith, c.loop-receipt.invariant.more, c.turn.ensures.more)

@@ -1,13 +1,11 @@
-use Rattle.std.proofs.Common.{◌≡◌, ◌<◌, true, length, sym, ap, subst, ◌∙◌}
-use Rattle.at_ledger.specs.Book.{BookTerms, is_owner}
-use Rattle.at_history.proofs.Laws.Fronts.{prefix_of-IsPrefix}
-use Rattle.at_history.proofs.Laws.Histories.{ArePublishedBy-IsHistory}
+use Rattle.std.proofs.Common.{◌≡◌, ◌<◌, length, sym, ap, subst, ◌∙◌}
+use Rattle.at_ledger.specs.Book.{BookTerms}
 use Rattle.at_history.specs.Fronts.{IsFront, prefix_of}
 use Rattle.at_history.specs.Rounds.{rounds}
 use Rattle.at_board.specs.declared.knowledge.Knowledge.{Knowledge}
 use Rattle.at_fold.proofs.Laws.MorePublished.{StaysCounted-HasCounted}
 use Rattle.at_rounds.specs.Answers.{DecidesAs}
-use Rattle.at_shared.proofs.Laws.Placing.{is_owner-HasSlot, is_shared-HasSlot}
+use Rattle.at_shared.proofs.Laws.Turns.{IsSoundRound-Decides}
 use Rattle.at_shared.specs.HelpTurns.{PublishesRound}
 use Rattle.at_shared.specs.HelpingTerms.{HelpingTerms}
 use Rattle.at_shared.proofs.helping.Helping.decide_next.Given as given
@@ -38,19 +36,12 @@ pub publish-requires-clause-round : goal.publish-requires-clause-round
 publish-requires-clause-round g c =
     let b : BookTerms = c.args.board.now.book in
     let v : Knowledge = c.args.seat.now.knows in
-    let x : Knowledge = c.propose-decided.new.seat.knows in
-    let a = c.args.self.now.account in
     let front = c.args.front.now in
-    let decides = c.propose-decided.ensures.decided.decides in
-    let has = c.requires.helping.asked.slot_in in
-    let is_front = subst (λ f. IsFront b.processes f v.seen) c.requires.front c.requires.at_front.front in
-    let same = prefix_of-IsPrefix b.processes front v.seen x.seen is_front (ArePublishedBy-IsHistory b v.seen c.requires.at_front.history) decides.more in
-    record {
-      account_in = has.account_in;
-      shared = is_shared-HasSlot b v.first a c.args.self.now.own.slot has;
-      owner = subst (λ p. is_owner b p a ≡ true) (sym (ap (λ (t : Knowledge). t.first) decides.same)) (is_owner-HasSlot b v.first a c.args.self.now.own.slot has);
-      next = ap (rounds a) same ∙ sym (round_is g (goal.at.publish-requires-clause-round g c).After-rounds-round);
-    }
+    IsSoundRound-Decides b v c.propose-decided.new.seat.knows c.args.self.now.account c.args.self.now.own.slot _ c.rounds-round.result _ _ front
+    c.requires.at_front.history (subst (λ f. IsFront b.processes f v.seen) c.requires.front c.requires.at_front.front) c.requires.helping.asked.slot_in
+    (round_is g (goal.at.publish-requires-clause-round g c).After-rounds-round)
+    (subst (λ (h : HelpingTerms). DecidesAs b v c.propose-decided.new.seat.knows h.account c.rounds-round.result c.proposal-proposal.result c.propose-decided.result)
+    c.self.view_is c.propose-decided.ensures.decided).decides
 
 pub returns-clause-decided : goal.returns-clause-decided
 returns-clause-decided g c =
