@@ -13,9 +13,9 @@ pub loop-pass-preserved : goal.loop-pass-preserved
 loop-pass-preserved c =
     let seats = c.loop-pass.seats.items in
     let rests = c.loop-pass.rests.items in
-    let pass = c.pass.inside in
-    let seat : SeatTerms = pass.seat in
-    let rest : Rest = record { totals = pass.totals; sent = pass.sent; calls = pass.calls } in
+    let seat : SeatTerms = c.into_parts-seat.result.0 in
+    let rest : Rest = c.into_parts-seat.result.1 in
+    let one = c.into_parts-seat.ensures.kept in
     let kept = c.loop-pass.invariant in
     let more_seats : c.push_reserved.new.self.items ≡ seats ++ seat ∷ [] = c.push_reserved.ensures.items in
     let more_rests : c.push_reserved-in-loop-pass.new.self.items ≡ rests ++ rest ∷ [] = c.push_reserved-in-loop-pass.ensures.items in
@@ -25,14 +25,14 @@ loop-pass-preserved c =
       finite = tt;
       passes =
           kept.passes
-          ∙ (ap (λ (ps : List PassTerms). passes_of seats rests ++ ps) (next ∙ ap (λ (p : PassTerms). p ∷ c.next.new.self.rest.items) (sym c.pass.view_is))
+          ∙ (ap (λ (ps : List PassTerms). passes_of seats rests ++ ps) (next ∙ ap (λ (p : PassTerms). p ∷ c.next.new.self.rest.items) (sym c.into_parts-seat.ensures.pass))
           ∙ (sym (append_assoc (passes_of seats rests) (pass_of seat rest ∷ []) c.next.new.self.rest.items)
           ∙ ap (λ (ps : List PassTerms). ps ++ c.next.new.self.rest.items)
           (sym (passes_of-push seats rests seat rest kept.parts) ∙ λ t. passes_of (sym more_seats t) (sym more_rests t))));
       at_rest = subst (All IsAtRest) (sym more_seats)
-          (All-push IsAtRest seats seat kept.at_rest (record { kept = c.known.ensures.seat; between = c.pass.invariant.between }));
+          (All-push IsAtRest seats seat kept.at_rest (record { kept = c.known.ensures.seat; between = one.between }));
       parts = subst (AreParts c.push_reserved.new.self.items) (sym more_rests)
-          (subst (λ ss. AreParts ss (rests ++ rest ∷ [])) (sym more_seats) (AreParts-push seats rests seat rest kept.parts c.pass.invariant));
+          (subst (λ ss. AreParts ss (rests ++ rest ∷ [])) (sym more_seats) (AreParts-push seats rests seat rest kept.parts one));
       seats_room = omega (arith, kept.seats_room, c.push_reserved.ensures.len, c.push_reserved.ensures.capacity, c.in-Some.ensures.steps.1);
       rests_room = omega (
         arith,
