@@ -7,11 +7,13 @@ ghost use Rattle.at_log.specs.Coherent.{Coherent};
 ghost use Rattle.at_log.specs.JournalOrder.{journal_order, line_of};
 ghost use Rattle.at_log.specs.Receipts.{is_success, receipt_at};
 ghost use Rattle.at_log.specs.Told.{first_account, key_of, keys_of};
-ghost use Rattle.at_journal.specs.Positions.{AreReceipts, AreRecords, HasStarts, HasRoundPositions, published_in};
+ghost use Rattle.at_journal.specs.Order.{AreRecords, published_in};
+ghost use Rattle.at_journal.specs.Positions.{AreReceipts, HasStarts, HasRoundPositions};
 
 use crate::NoMemory;
 use crate::fronts::place_of;
 use crate::keyed::Keyed;
+use crate::order::Numbered;
 use crate::positions::own_positions;
 use at_ledger::{Book, Call, Line, Reply};
 use at_log::{At, Closing};
@@ -101,7 +103,7 @@ pub(crate) fn line_keys(
     alloc: Global,
     book: &Book,
     closing: &Closing,
-    order: &[Keyed],
+    order: &[Numbered],
     starts: &[Vec<u64>],
 ) -> Result<Vec<Vec<u64>>, NoMemory>
     requires coherent { Coherent book.now closing.now }
