@@ -7,7 +7,7 @@ use Rattle.std.proofs.lemmas.Option.{none-some, same_Some}
 use Rattle.std.proofs.Math.ListN.{set}
 use Rattle.std.specs.List.{Contains, cons_option, filter_map, flat_map}
 use Rattle.std.proofs.lemmas.List.{get_or-replicate, get_or-set_other, get_or_past, length-replicate, length-set, map-append, take_more}
-use Rattle.std.proofs.lemmas.List.Elements.{Contains-append_left, Contains-push, Contains-push_cases, filter_map-append}
+use Rattle.std.proofs.lemmas.List.Elements.{Contains-append_cases, Contains-append_left, Contains-append_right, Contains-push, Contains-push_cases, filter_map-append}
 use Rattle.at_history.specs.Fronts.{place}
 use Rattle.at_log.specs.ClosingTerms.{ClosingTerms, log_lengths}
 use Rattle.at_log.specs.HeldFronts.{front_at}
@@ -29,10 +29,13 @@ pushed-filter_map pick xs i d start old new within before more =
     ∙ (append_assoc start (filter_map pick (take i xs)) (cons_option (pick (get_or xs i d)) [])
     ∙ ap (λ ys. start ++ ys) (sym (filter_map-take_more pick xs i d within))))
 
--- the held fronts but for the lengths of the logs, in any order
-abbrev pub all_but_lengths : ClosingTerms → List (List ℕ)
-all_but_lengths c =
-    flat_map (λ log. map (λ x. x.view) log) c.logs ++ flat_map (λ receipts. filter_map (λ r. front_at r.at) receipts) c.receipts
+-- the views of all records
+abbrev pub record_views : ClosingTerms → List (List ℕ)
+record_views c = flat_map (λ log. map (λ x. x.view) log) c.logs
+
+-- the fronts of all receipts
+abbrev pub receipt_fronts : ClosingTerms → List (List ℕ)
+receipt_fronts c = flat_map (λ receipts. filter_map (λ r. front_at r.at) receipts) c.receipts
 
 -- no view, and no front at any place
 AreByPlace-nil : (total : ℕ) → AreByPlace total [] (replicate total None)
@@ -123,8 +126,20 @@ AreByPlace-next_beyond total held k one fronts placed within is so beyond =
     subst (λ views. AreByPlace total views fronts) (sym (counts_in-next held k one within is))
     (AreByPlace-beyond total (counts_in (take k held)) fronts one.counts.now so (omega (arith, placed-next held k one placed within is, beyond)))
 
--- with the lengths of the logs, which count all
-pub AreHeld-by_place : (c : ClosingTerms) (views : List (List ℕ)) (fronts : List (Option (List ℕ))) → views ≡ all_but_lengths c
-    → AreByPlace (sum (log_lengths c)) views fronts → AreHeld c fronts
-AreHeld-by_place c views fronts are so =
-    AreByPlace-beyond (sum (log_lengths c)) (all_but_lengths c) fronts (log_lengths c) (subst (λ vs. AreByPlace (sum (log_lengths c)) vs fronts) are so) (omega arith)
+Contains-swapped : {X : Type 0} (xs ys : List X) (x : X) → Contains (xs ++ ys) x → Contains (ys ++ xs) x
+Contains-swapped xs ys x there =
+    elim (Contains-append_cases xs ys x there) as (λ _. Contains (ys ++ xs) x) [
+      | inl first ↦ Contains-append_right ys xs x first
+      | inr second ↦ Contains-append_left ys xs x second
+    ]
+
+-- the views of the records, the fronts of the receipts, and the lengths of the logs, which count all
+pub AreHeld-by_place : (c : ClosingTerms) (fronts : List (Option (List ℕ))) → AreByPlace (sum (log_lengths c)) (receipt_fronts c ++ record_views c) fronts → AreHeld c fronts
+AreHeld-by_place c fronts so =
+    let total = sum (log_lengths c) in
+    let swapped : AreByPlace total (record_views c ++ receipt_fronts c) fronts = record {
+      sized = so.sized;
+      held = λ k view is. (Contains-swapped (receipt_fronts c) (record_views c) view (so.held k view is).0, (so.held k view is).1);
+      all = λ view there. so.all view (Contains-swapped (record_views c) (receipt_fronts c) view there);
+    } in
+    AreByPlace-beyond total (record_views c ++ receipt_fronts c) fronts (log_lengths c) swapped (omega arith)

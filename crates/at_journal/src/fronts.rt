@@ -127,7 +127,8 @@ fn by_place<'c>(
     Ok(fronts)
 }
 
-/// The held fronts by their places.
+/// The held fronts by their places. The views come last, so they are the ones that are kept: what reads the order next
+/// reads their records.
 pub(crate) fn held_fronts<'c>(
     alloc: Global,
     closing: &'c Closing,
@@ -137,7 +138,7 @@ pub(crate) fn held_fronts<'c>(
     ensures { IfOk result (λ fronts. AreHeld closing.now (map option_copied fronts.items)) }
 {
     let mut held = Vec::new(alloc);
-    push_all_views(&mut held, closing)?;
     push_all_fronts(&mut held, closing)?;
+    push_all_views(&mut held, closing)?;
     by_place(alloc, held.as_slice(), total)
 }

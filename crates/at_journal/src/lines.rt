@@ -89,9 +89,10 @@ fn process_keys(
     requires small { length (journal_order closing.now) ≤ 2 ^ 36 }
     ensures { IfOk result (λ keys. keys.items ≡ keys_of p (journal_order closing.now) (receipts_of closing.now p)) }
 {
-    let mut keys = Vec::new(alloc);
+    let count = closing.receipts(p).len();
+    let mut keys = Vec::with_capacity(alloc, count)?;
     let mut previous = 0;
-    for i in 0..closing.receipts(p).len() {
+    for i in 0..count {
         previous = key_of(closing, p, i, own, starts, previous);
         keys.push(previous)?;
     }
