@@ -1,6 +1,6 @@
 pub mod FrontLists
 pub mod OrderedLaws
-pub mod KeySteps
+pub mod OrderSteps
 pub mod LogViews
 pub mod LineKeys
 pub mod KeepLaws

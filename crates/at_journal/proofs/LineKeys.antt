@@ -45,6 +45,26 @@ module _ (f : ℕ → ℕ) (limit : ℕ) where
             ]
       ]
 
+  -- it is the number that parts the values below the limit from the others
+  pub reach-is : (n m : ℕ) → m ≤ n → ((i : ℕ) → i < m → f i < limit) → ((i : ℕ) → m ≤ i → i < n → limit ≤ f i) → reach f limit n ≡ m
+  unfolding reach
+  reach-is zero m few below above = omega (arith, few)
+  reach-is (suc n) m few below above =
+      elim (cases_lt (f n) limit) as (λ _. cond (nat_lt (f n) limit) (suc n) (reach f limit n) ≡ m) [
+        | inl less ↦
+            elim (cases_lt n m) as (λ _. cond (nat_lt (f n) limit) (suc n) (reach f limit n) ≡ m) [
+              | inl last ↦ omega (arith, ap (λ t. cond t (suc n) (reach f limit n)) (lt-ltb (f n) limit less), last, few)
+              | inr beyond ↦ absurd (omega (arith, above n beyond (omega arith), less))
+            ]
+        | inr more ↦
+            elim (cases_lt n m) as (λ _. cond (nat_lt (f n) limit) (suc n) (reach f limit n) ≡ m) [
+              | inl last ↦ absurd (omega (arith, below n last, more))
+              | inr beyond ↦
+                  ap (λ t. cond t (suc n) (reach f limit n)) (le-ltb (f n) limit more)
+                  ∙ reach-is n m beyond below (λ i from within. above i from (omega (arith, within)))
+            ]
+      ]
+
 -- the numbers between two limits, where the test passes at just these
 filter-between : (test : ℕ → Bool) (a n from to : ℕ) → ((i : ℕ) → a ≤ i → i < from → test i ≡ false) → ((i : ℕ) → from ≤ i → i < to → test i ≡ true)
     → ((i : ℕ) → to ≤ i → i < a + n → test i ≡ false) → a ≤ from → from ≤ to → to ≤ a + n

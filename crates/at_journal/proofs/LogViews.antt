@@ -7,7 +7,7 @@ use Rattle.at_history.specs.Publications.{no_publication}
 use Rattle.at_log.specs.ClosingTerms.{ClosingTerms, log_of, log_published, published_by}
 use Rattle.at_log.specs.declared.record.Record.{Record}
 use Rattle.at_log.proofs.Laws.Views.{Contains-view}
-use Rattle.at_journal.specs.Keys.{AreNumbered, AreWithin}
+use Rattle.at_journal.specs.Order.{AreNumbered, AreWithin}
 
 view_at : (c : ClosingTerms) (p i : ℕ) (log : List Record) (d : Record) → log ≡ log_of c p → i < length (log_of c p)
     → (get_or log i d).view ≡ (publication_at (log_published c p) i).view

@@ -13,8 +13,9 @@ use Rattle.at_log.specs.ClosingTerms.{ClosingTerms, log_published}
 use Rattle.at_log.specs.Told.{own_position}
 use Rattle.at_journal.proofs.NamedLaws.{process-published_in}
 use Rattle.at_log.proofs.Laws.Positions.{own_position-at}
-use Rattle.at_journal.specs.Positions.{AreRecords, HasOwnPositions, no_keyed, positions_of, published_in}
-use Rattle.at_journal.specs.declared.keyed.Keyed.{Keyed}
+use Rattle.at_journal.specs.Order.{AreRecords, no_number, published_in}
+use Rattle.at_journal.specs.Positions.{HasOwnPositions, positions_of}
+use Rattle.at_journal.specs.declared.order.Numbered.{Numbered}
 
 -- a record of a process stands where so many of the process stand before it
 own_position-is : (p m : ℕ) (list : List Publication) → m < length list → (publication_at list m).process ≡ p
@@ -35,34 +36,34 @@ own_position-is p m list within own =
     ]
 
 -- whether the record at a position is the process's
-abbrev is_own_at : ℕ → List Keyed → ℕ → Bool
-is_own_at p order m = (get_or order m no_keyed).process == p
+abbrev is_own_at : ℕ → List Numbered → ℕ → Bool
+is_own_at p order m = (get_or order m no_number).process == p
 
 -- its positions below a limit
-abbrev positions : ℕ → List Keyed → ℕ → List ℕ
+abbrev positions : ℕ → List Numbered → ℕ → List ℕ
 positions p order k = filter (is_own_at p order) (range_with_len 0 k)
 
-positions-more : (p : ℕ) (order : List Keyed) (k : ℕ) → positions p order (k + 1) ≡ positions p order k ++ cond (is_own_at p order k) (k ∷ []) []
+positions-more : (p : ℕ) (order : List Numbered) (k : ℕ) → positions p order (k + 1) ≡ positions p order k ++ cond (is_own_at p order k) (k ∷ []) []
 positions-more p order k =
     let from_zero : 0 + k ≡ k = omega arith in
     ap (filter (is_own_at p order)) (range_with_len-more 0 k ∙ ap (λ j. range_with_len 0 k ++ j ∷ []) from_zero)
     ∙ filter-append (is_own_at p order) (range_with_len 0 k) (k ∷ [])
 
 -- a record more
-pub positions-own : (p : ℕ) (order : List Keyed) (k : ℕ) → (get_or order k no_keyed).process ≡ p
-    → filter (λ m. (get_or order m no_keyed).process == p) (range_with_len 0 (k + 1)) ≡ filter (λ m. (get_or order m no_keyed).process == p) (range_with_len 0 k) ++ k ∷ []
+pub positions-own : (p : ℕ) (order : List Numbered) (k : ℕ) → (get_or order k no_number).process ≡ p
+    → filter (λ m. (get_or order m no_number).process == p) (range_with_len 0 (k + 1)) ≡ filter (λ m. (get_or order m no_number).process == p) (range_with_len 0 k) ++ k ∷ []
 positions-own p order k own =
     positions-more p order k
-    ∙ ap (λ t. filter (λ m. (get_or order m no_keyed).process == p) (range_with_len 0 k) ++ cond t (k ∷ []) []) (eq-eqb (get_or order k no_keyed).process p own)
+    ∙ ap (λ t. filter (λ m. (get_or order m no_number).process == p) (range_with_len 0 k) ++ cond t (k ∷ []) []) (eq-eqb (get_or order k no_number).process p own)
 
-pub positions-other : (p : ℕ) (order : List Keyed) (k : ℕ) → ((get_or order k no_keyed).process ≡ p → ⊥)
-    → filter (λ m. (get_or order m no_keyed).process == p) (range_with_len 0 (k + 1)) ≡ filter (λ m. (get_or order m no_keyed).process == p) (range_with_len 0 k)
+pub positions-other : (p : ℕ) (order : List Numbered) (k : ℕ) → ((get_or order k no_number).process ≡ p → ⊥)
+    → filter (λ m. (get_or order m no_number).process == p) (range_with_len 0 (k + 1)) ≡ filter (λ m. (get_or order m no_number).process == p) (range_with_len 0 k)
 positions-other p order k other =
     positions-more p order k
-    ∙ (ap (λ t. filter (λ m. (get_or order m no_keyed).process == p) (range_with_len 0 k) ++ cond t (k ∷ []) []) (ne_eqb (get_or order k no_keyed).process p other)
-    ∙ append-nil (filter (λ m. (get_or order m no_keyed).process == p) (range_with_len 0 k)))
+    ∙ (ap (λ t. filter (λ m. (get_or order m no_number).process == p) (range_with_len 0 k) ++ cond t (k ∷ []) []) (ne_eqb (get_or order k no_number).process p other)
+    ∙ append-nil (filter (λ m. (get_or order m no_number).process == p) (range_with_len 0 k)))
 
-module _ (p : ℕ) (order : List Keyed) (list : List Publication) (same : (m : ℕ) → m < length order → (publication_at list m).process ≡ (get_or order m no_keyed).process)
+module _ (p : ℕ) (order : List Numbered) (list : List Publication) (same : (m : ℕ) → m < length order → (publication_at list m).process ≡ (get_or order m no_number).process)
     (sized : length list ≡ length order) where
   -- the positions among the first records
   record HasFirst (k : ℕ) (found : List ℕ) : Type 0 where
@@ -79,7 +80,7 @@ module _ (p : ℕ) (order : List Keyed) (list : List Publication) (same : (m : �
       let so = HasFirst-positions k (omega arith) in
       let inside : k < length list = omega (arith, within, sized) in
       let process_is = same k (omega (arith, within)) in
-      subst (λ n. HasFirst n (positions p order n)) next (elim (cases_eq (get_or order k no_keyed).process p) as (λ _. HasFirst (k + 1) (positions p order (k + 1))) [
+      subst (λ n. HasFirst n (positions p order n)) next (elim (cases_eq (get_or order k no_number).process p) as (λ _. HasFirst (k + 1) (positions p order (k + 1))) [
         | inl own ↦
             let before = positions p order k in
             let counts = count_of-take_more_own p k list no_publication inside (process_is ∙ own) in
@@ -102,10 +103,10 @@ module _ (p : ℕ) (order : List Keyed) (list : List Publication) (same : (m : �
       ])
 
 -- the positions of a process's records in an order
-pub HasOwnPositions-positions_of : (p : ℕ) (c : ClosingTerms) (order : List Keyed) (list : List Publication) → published_in c order ≡ list → AreRecords c order
+pub HasOwnPositions-positions_of : (p : ℕ) (c : ClosingTerms) (order : List Numbered) (list : List Publication) → published_in c order ≡ list → AreRecords c order
     → HasOwnPositions p list (positions_of p order)
 HasOwnPositions-positions_of p c order list are records =
-    let size : length list ≡ length order = ap length (sym are) ∙ length-map order (λ (x : Keyed). publication_at (log_published c x.process) x.number) in
+    let size : length list ≡ length order = ap length (sym are) ∙ length-map order (λ (x : Numbered). publication_at (log_published c x.process) x.number) in
     let so = HasFirst-positions p order list (λ m within. ap (λ xs. (publication_at xs m).process) (sym are) ∙ process-published_in c order m records within) size
     (length order) (omega arith) in
     record {

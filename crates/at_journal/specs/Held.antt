@@ -1,6 +1,5 @@
--- The fronts that a closing holds, in the order of their places.
-use Rattle.std.specs.Prelude.{◌≡◌, ℕ, ◌⊎◌, List, map, All, Contains}
-use Rattle.std.specs.List.Sorted.{IsNonDecreasingBy}
+-- The fronts that a closing holds, by their places.
+use Rattle.std.specs.Prelude.{◌≡◌, ℕ, ◌<◌, List, length, map, slice_index_or, sum, All, Contains, Option, Some, None}
 use Rattle.at_history.specs.Fronts.{place}
 use Rattle.at_log.specs.ClosingTerms.{ClosingTerms, log_lengths}
 use Rattle.at_log.specs.HeldFronts.{held_fronts}
@@ -14,9 +13,12 @@ counts_in fronts = map (λ f. f.counts.now) fronts
 abbrev pub ArePlaced : List HeldFront → Type 0
 ArePlaced fronts = All (λ f. f.place ≡ place f.counts.now) fronts
 
--- all held fronts but for the lengths of the logs, from the least place up
-pub record AreHeld (c : ClosingTerms) (fronts : List HeldFront) : Type 0 where
-  pub sorted : IsNonDecreasingBy (λ f. f.place) fronts
-  pub placed : ArePlaced fronts
-  pub held : (view : List ℕ) → Contains (counts_in fronts) view → Contains (held_fronts c) view
-  pub all : (view : List ℕ) → Contains (held_fronts c) view → (view ≡ log_lengths c) ⊎ Contains (counts_in fronts) view
+-- at each place below a total stands one of these views that counts so many, or none where no view counts so many
+pub record AreByPlace (total : ℕ) (views : List (List ℕ)) (fronts : List (Option (List ℕ))) : Type 0 where
+  pub sized : length fronts ≡ total
+  pub held : (k : ℕ) (view : List ℕ) → slice_index_or fronts k None ≡ Some view → Contains views view × (place view ≡ k)
+  pub all : (view : List ℕ) → Contains views view → place view < total → slice_index_or fronts (place view) None ≡ None → ⊥
+
+-- the held fronts by their places, but for those of all publications
+abbrev pub AreHeld : ClosingTerms → List (Option (List ℕ)) → Type 0
+AreHeld c fronts = AreByPlace (sum (log_lengths c)) (held_fronts c) fronts

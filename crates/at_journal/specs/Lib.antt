@@ -1,6 +1,6 @@
 pub mod Held
 pub mod Calls
-pub mod Keys
+pub mod Order
 pub mod Ordered
 pub mod SmallClosings
 pub mod Positions

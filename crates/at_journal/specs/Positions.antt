@@ -1,38 +1,27 @@
 -- Where the records of a closing stand in the order of its publications.
 use Rattle.std.specs.Prelude.{◌≡◌, ℕ, ◌<◌, ◌==◌, ◌++◌, List, [], ◌∷◌, length, map, filter, slice_index, slice_index_or, slice_set, All, ⊤, if◌then◌else◌, true}
 use Rattle.std.specs.List.{range_with_len}
-use Rattle.at_history.specs.BoardState.{publication_at}
 use Rattle.at_history.specs.Publications.{count_of}
 use Rattle.at_history.specs.Rounds.{rounds}
 use Rattle.at_history.specs.declared.publication.Entry.{Entry}
 use Rattle.at_history.specs.declared.publication.Entry.TheVariants.{Own, Round}
 use Rattle.at_history.specs.declared.publication.Publication.{Publication}
-use Rattle.at_log.specs.ClosingTerms.{ClosingTerms, log_of, log_published, receipts_of}
+use Rattle.at_log.specs.ClosingTerms.{ClosingTerms, receipts_of}
 use Rattle.at_log.specs.Receipts.{is_success}
 use Rattle.at_log.specs.Told.{first_account, own_position, round_position}
 use Rattle.at_log.specs.declared.receipt.At.{At}
 use Rattle.at_log.specs.declared.receipt.Receipt.{Receipt}
+use Rattle.at_journal.specs.Order.{no_number}
 use Rattle.at_journal.specs.declared.keyed.Keyed.{Keyed}
-
--- a number with its key that no list holds
-abbrev pub no_keyed : Keyed
-no_keyed = record { key = 0; process = 0; number = 0 }
-
--- the publications that these numbers name
-abbrev pub published_in : ClosingTerms → List Keyed → List Publication
-published_in c all = map (λ x. publication_at (log_published c x.process) x.number) all
-
--- each is the number of a record
-abbrev pub AreRecords : ClosingTerms → List Keyed → Type 0
-AreRecords c all = All (λ x. x.process < length c.logs × x.number < length (log_of c x.process)) all
+use Rattle.at_journal.specs.declared.order.Numbered.{Numbered}
 
 -- each is the number of a receipt
 abbrev pub AreReceipts : ClosingTerms → List Keyed → Type 0
 AreReceipts c all = All (λ x. x.process < length c.receipts × x.number < length (receipts_of c x.process)) all
 
 -- where those of a process stand
-abbrev pub positions_of : ℕ → List Keyed → List ℕ
-positions_of process all = filter (λ m. (slice_index_or all m no_keyed).process == process) (range_with_len 0 (length all))
+abbrev pub positions_of : ℕ → List Numbered → List ℕ
+positions_of process all = filter (λ m. (slice_index_or all m no_number).process == process) (range_with_len 0 (length all))
 
 -- a round's record is of one of so many accounts
 abbrev pub IsOnAccount : ℕ → Entry → Type 0

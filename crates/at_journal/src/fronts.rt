@@ -1,10 +1,12 @@
 //! The fronts that a closing holds.
 
-ghost use Rattle.std.specs.Prelude.{◌≡◌, ◌++◌, ◌^◌, ◌<◌, [], ◌∷◌, map, OnOk, IfOk};
+ghost use Rattle.std.specs.Prelude.{◌≡◌, ◌++◌, ◌^◌, ◌<◌, [], ◌∷◌, map, sum, OnOk, IfOk};
 ghost use Rattle.std.specs.List.{cons_option, filter_map, flat_map};
+ghost use Rattle.std.specs.Option.{option_copied};
 ghost use Rattle.at_history.specs.Fronts.{place};
+ghost use Rattle.at_log.specs.ClosingTerms.{log_lengths};
 ghost use Rattle.at_log.specs.HeldFronts.{front_at};
-ghost use Rattle.at_journal.specs.Held.{AreHeld, ArePlaced, counts_in};
+ghost use Rattle.at_journal.specs.Held.{AreByPlace, AreHeld, ArePlaced, counts_in};
 
 use crate::NoMemory;
 use at_base::Counts;
@@ -13,9 +15,9 @@ use std::alloc::Global;
 
 /// A held front with its place.
 #[derive(Drop)]
-pub(crate) struct HeldFront<'c> {
-    pub(crate) place: u64,
-    pub(crate) counts: &'c Counts,
+struct HeldFront<'c> {
+    place: u64,
+    counts: &'c Counts,
 }
 
 /// How many publications a front counts.
@@ -106,16 +108,37 @@ fn push_all_fronts<'c>(
     Ok(())
 }
 
-/// All held fronts but for the lengths of the logs, from the least place up.
+/// Fronts by their places. Those of one place count the same, and one of them is kept; one that counts all has no place here.
+fn by_place<'c>(
+    alloc: Global,
+    held: &[HeldFront<'c>],
+    total: u64,
+) -> Result<Vec<Option<&'c Counts>>, NoMemory>
+    requires { ArePlaced held.now }
+    ensures { IfOk result (λ fronts. AreByPlace total (counts_in held.now) (map option_copied fronts.items)) }
+{
+    let mut fronts = Vec::new(alloc);
+    fronts.resize(total as usize, None)?;
+    for front in held {
+        if front.place < total {
+            fronts[front.place as usize] = Some(front.counts);
+        }
+    }
+    Ok(fronts)
+}
+
+/// The held fronts by their places. The views come last, so they are the ones that are kept: what reads the order next
+/// reads their records.
 pub(crate) fn held_fronts<'c>(
     alloc: Global,
     closing: &'c Closing,
-) -> Result<Vec<HeldFront<'c>>, NoMemory>
-    ensures { IfOk result (λ fronts. AreHeld closing.now fronts.items) }
+    total: u64,
+) -> Result<Vec<Option<&'c Counts>>, NoMemory>
+    requires total { total ≡ sum (log_lengths closing.now) }
+    ensures { IfOk result (λ fronts. AreHeld closing.now (map option_copied fronts.items)) }
 {
-    let mut fronts = Vec::new(alloc);
-    push_all_views(&mut fronts, closing)?;
-    push_all_fronts(&mut fronts, closing)?;
-    fronts.sort_by_key(|front| front.place)?;
-    Ok(fronts)
+    let mut held = Vec::new(alloc);
+    push_all_fronts(&mut held, closing)?;
+    push_all_views(&mut held, closing)?;
+    by_place(alloc, held.as_slice(), total)
 }

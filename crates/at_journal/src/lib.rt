@@ -8,8 +8,8 @@ mod fronts;
 #[cfg(test)]
 mod journal_tests;
 mod keyed;
-mod keys;
 mod lines;
+mod order;
 mod positions;
 #[cfg(test)]
 mod slow_order;
@@ -26,9 +26,9 @@ ghost use Rattle.at_journal.specs.Calls.{calls_in};
 
 use crate::fronts::held_fronts;
 use crate::keyed::in_order;
-use crate::keys::total_of;
 use crate::lines::{line_keys, lines};
-use crate::positions::{order_of, round_positions};
+use crate::order::{order_of, total_of};
+use crate::positions::round_positions;
 pub use at_base::NoMemory;
 use at_ledger::{Book, Line};
 use at_log::Closing;
@@ -47,9 +47,8 @@ pub fn journal(alloc: Global, book: &Book, closing: &Closing) -> Result<Vec<Line
     ensures legal { IfOk result (λ lines. Legal book.now lines.items) }
     ensures balances { IfOk result (λ lines. (a : ℕ) → a < length book.now.accounts → balance_of (last_state book.now lines.items) a ≡ balance_after book.now (journal_order closing.now) a) }
 {
-    let fronts = held_fronts(alloc, closing)?;
-    let total = total_of(closing);
-    let order = order_of(alloc, closing, fronts.as_slice(), total)?;
+    let fronts = held_fronts(alloc, closing, total_of(closing))?;
+    let order = order_of(alloc, closing, fronts.as_slice())?;
     let starts = round_positions(alloc, book, closing, order.as_slice())?;
     let keys = line_keys(alloc, book, closing, order.as_slice(), starts.as_slice())?;
     let calls = in_order(alloc, keys.as_slice())?;

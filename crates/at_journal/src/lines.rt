@@ -7,11 +7,13 @@ ghost use Rattle.at_log.specs.Coherent.{Coherent};
 ghost use Rattle.at_log.specs.JournalOrder.{journal_order, line_of};
 ghost use Rattle.at_log.specs.Receipts.{is_success, receipt_at};
 ghost use Rattle.at_log.specs.Told.{first_account, key_of, keys_of};
-ghost use Rattle.at_journal.specs.Positions.{AreReceipts, AreRecords, HasStarts, HasRoundPositions, published_in};
+ghost use Rattle.at_journal.specs.Order.{AreRecords, published_in};
+ghost use Rattle.at_journal.specs.Positions.{AreReceipts, HasStarts, HasRoundPositions};
 
 use crate::NoMemory;
 use crate::fronts::place_of;
 use crate::keyed::Keyed;
+use crate::order::Numbered;
 use crate::positions::own_positions;
 use at_ledger::{Book, Call, Line, Reply};
 use at_log::{At, Closing};
@@ -87,9 +89,10 @@ fn process_keys(
     requires small { length (journal_order closing.now) ≤ 2 ^ 36 }
     ensures { IfOk result (λ keys. keys.items ≡ keys_of p (journal_order closing.now) (receipts_of closing.now p)) }
 {
-    let mut keys = Vec::new(alloc);
+    let count = closing.receipts(p).len();
+    let mut keys = Vec::with_capacity(alloc, count)?;
     let mut previous = 0;
-    for i in 0..closing.receipts(p).len() {
+    for i in 0..count {
         previous = key_of(closing, p, i, own, starts, previous);
         keys.push(previous)?;
     }
@@ -101,7 +104,7 @@ pub(crate) fn line_keys(
     alloc: Global,
     book: &Book,
     closing: &Closing,
-    order: &[Keyed],
+    order: &[Numbered],
     starts: &[Vec<u64>],
 ) -> Result<Vec<Vec<u64>>, NoMemory>
     requires coherent { Coherent book.now closing.now }

@@ -1,43 +1,22 @@
 //! Where the records of a closing stand in the order of its publications.
 
-ghost use Rattle.std.specs.Prelude.{◌≡◌, ◌<◌, length, map, sum, OnOk, IfOk};
+ghost use Rattle.std.specs.Prelude.{◌≡◌, [], length, map, replicate, OnOk, IfOk};
 ghost use Rattle.at_ledger.specs.Book.{IsBook};
-ghost use Rattle.at_log.specs.ClosingTerms.{log_lengths};
 ghost use Rattle.at_log.specs.Coherent.{Coherent};
 ghost use Rattle.at_log.specs.JournalOrder.{journal_order};
-ghost use Rattle.at_journal.specs.Held.{AreHeld};
-ghost use Rattle.at_journal.specs.Keys.{AreWithin};
-ghost use Rattle.at_journal.specs.Positions.{AreRecords, HasRoundPositions, IsOnAccount, positions_of, published_in, with_position};
+ghost use Rattle.at_journal.specs.Order.{AreRecords, published_in};
+ghost use Rattle.at_journal.specs.Positions.{HasRoundPositions, IsOnAccount, positions_of, with_position};
 
 use crate::NoMemory;
-use crate::fronts::HeldFront;
-use crate::keyed::{Keyed, empty_lists, in_order};
-use crate::keys::publication_keys;
+use crate::order::Numbered;
 use at_ledger::Book;
 use at_log::{Closing, Entry};
 use std::alloc::Global;
 
-/// The order of the publications.
-pub(crate) fn order_of(
-    alloc: Global,
-    closing: &Closing,
-    fronts: &[HeldFront<'_>],
-    total: u64,
-) -> Result<Vec<Keyed>, NoMemory>
-    requires held { AreHeld closing.now fronts.now }
-    requires within { AreWithin closing.now }
-    requires total { total ≡ sum (log_lengths closing.now) }
-    ensures order { IfOk result (λ order. published_in closing.now order.items ≡ journal_order closing.now) }
-    ensures records { IfOk result (λ order. AreRecords closing.now order.items) }
-{
-    let keys = publication_keys(alloc, closing, fronts, total)?;
-    in_order(alloc, keys.as_slice())
-}
-
 /// Where the records of a process stand in the order.
 pub(crate) fn own_positions(
     alloc: Global,
-    order: &[Keyed],
+    order: &[Numbered],
     process: u32,
 ) -> Result<Vec<u64>, NoMemory>
     ensures { IfOk result (λ positions. positions.items ≡ positions_of process order.now) }
@@ -68,12 +47,23 @@ fn note_position(starts: &mut Vec<Vec<u64>>, entry: &Entry, position: u64) -> Re
     }
 }
 
+/// So many lists with nothing in them.
+fn empty_lists(alloc: Global, count: u32) -> Result<Vec<Vec<u64>>, NoMemory>
+    ensures { IfOk result (λ lists. map (λ v. v.items) lists.items ≡ replicate count []) }
+{
+    let mut lists = Vec::new(alloc);
+    for _list in 0..count {
+        lists.push(Vec::new(alloc))?;
+    }
+    Ok(lists)
+}
+
 /// Where the first record of each round stands in the order, account by account.
 pub(crate) fn round_positions(
     alloc: Global,
     book: &Book,
     closing: &Closing,
-    order: &[Keyed],
+    order: &[Numbered],
 ) -> Result<Vec<Vec<u64>>, NoMemory>
     requires coherent { Coherent book.now closing.now }
     requires order { published_in closing.now order.now ≡ journal_order closing.now }

@@ -15,7 +15,7 @@ use Rattle.at_journal.proofs.journal.Goals as goal
 
 pub line_keys-requires-clause-small : goal.line_keys-requires-clause-small
 line_keys-requires-clause-small c =
-    omega (arith, length-journal_order c.args.closing.now, c.total_of-total.ensures.total, c.total_of-total.ensures.small)
+    omega (arith, length-journal_order c.args.closing.now, c.total_of.ensures.total, c.total_of.ensures.small)
 
 pub lines-requires-clause-receipts : goal.lines-requires-clause-receipts
 lines-requires-clause-receipts c =

@@ -17,13 +17,13 @@ loop-i-preserved c =
     let is : c.key_of-previous.result ≡ key = c.key_of-previous.ensures in
     let pushed : c.push.new.self.items ≡ c.loop-i.keys.items ++ key ∷ [] = c.in_ok-push.ensures.items ∙ ap (λ k. c.loop-i.keys.items ++ k ∷ []) is in
     (λ t. pushed t ++ keys_from p order (is t) (drop (i + 1) receipts))
-    ∙ (keys_from-more p order c.loop-i.previous receipts i c.loop-i.keys.items (omega (arith, ap length c.receipts-i-end.ensures)) ∙ c.loop-i.invariant)
+    ∙ (keys_from-more p order c.loop-i.previous receipts i c.loop-i.keys.items (omega (arith, ap length c.receipts-count.ensures)) ∙ c.loop-i.invariant)
 
 pub returns : goal.returns
 returns c =
     let p = c.args.p in
     let order = journal_order c.args.closing.now in
     let receipts = receipts_of c.args.closing.now p in
-    let all : c.loop-i.i ≡ length receipts = omega (arith, ap length c.receipts-i-end.ensures) in
+    let all : c.loop-i.i ≡ length receipts = omega (arith, ap length c.receipts-count.ensures) in
     sym (keys_from-all p order c.loop-i.previous receipts c.loop-i.keys.items)
     ∙ (ap (λ i. c.loop-i.keys.items ++ keys_from p order c.loop-i.previous (drop i receipts)) (sym all) ∙ c.loop-i.invariant)

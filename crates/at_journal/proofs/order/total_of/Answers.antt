@@ -3,7 +3,7 @@ use Rattle.std.proofs.lemmas.List.{length-map}
 use Rattle.std.proofs.lemmas.List.Sums.{sum_by_more}
 use Rattle.at_log.specs.ClosingTerms.{log_lengths}
 use Rattle.at_log.proofs.Laws.PublicationKeys.{get_or-log_lengths}
-use Rattle.at_journal.proofs.keys.total_of.Goals as goal
+use Rattle.at_journal.proofs.order.total_of.Goals as goal
 
 pub loop-p-preserved : goal.loop-p-preserved
 loop-p-preserved c =

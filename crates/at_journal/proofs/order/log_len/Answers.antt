@@ -2,7 +2,7 @@ use Rattle.std.proofs.Common.{◌≡◌, ◌==◌, ℕ, false, sym, ◌∙◌, �
 use Rattle.std.proofs.lemmas.Bool.Decides.{nat_tests}
 use Rattle.at_log.specs.ClosingTerms.{log_of}
 use Rattle.at_journal.proofs.LogViews.{get_or-view, length-view}
-use Rattle.at_journal.proofs.keys.log_len.Goals as goal
+use Rattle.at_journal.proofs.order.log_len.Goals as goal
 
 not_empty : (n : ℕ) → n == 0 ≡ false → 0 < n
 not_empty n some = grind (arith, nat_tests)

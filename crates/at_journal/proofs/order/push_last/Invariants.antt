@@ -1,0 +1,7 @@
+use Rattle.std.proofs.Common.{◌≡◌, ◌++◌, get_or, length}
+use Rattle.at_log.specs.ClosingTerms.{log_of}
+use Rattle.at_journal.specs.Order.{records_between}
+use Rattle.at_journal.proofs.order.push_last.Given as goal
+
+abbrev pub invariant-loop-p : goal.invariant-loop-p
+invariant-loop-p l = l.order.items ≡ l.fn.order.items ++ records_between l.p (λ p. get_or l.listed p 0) (λ p. length (log_of l.closing p))

@@ -1,0 +1,111 @@
+//! The order of a closing's publications.
+
+ghost use Rattle.std.specs.Prelude.{◌≡◌, ◌++◌, ◌^◌, ◌<◌, ◌≤◌, length, map, slice_index, sum, OnOk, IfOk};
+ghost use Rattle.std.specs.Option.{option_copied};
+ghost use Rattle.at_log.specs.ClosingTerms.{log_lengths, log_of};
+ghost use Rattle.at_log.specs.JournalOrder.{journal_order};
+ghost use Rattle.at_journal.specs.Held.{AreHeld};
+ghost use Rattle.at_journal.specs.Order.{AreNested, AreNumbered, AreRecords, AreWithin, published_in, records_between, records_of};
+
+use crate::NoMemory;
+use at_base::Counts;
+use at_log::Closing;
+use std::alloc::Global;
+
+/// A record by its process and its number in the log of that.
+#[derive(Drop)]
+pub(crate) struct Numbered {
+    pub(crate) process: u32,
+    pub(crate) number: usize,
+}
+
+/// How many records a process has: its last one says how many stand before it.
+fn log_len(closing: &Closing, p: u32) -> u64
+    requires known { p < length closing.now.logs }
+    requires within { AreWithin closing.now }
+    requires numbered { AreNumbered closing.now }
+    ensures length { result ≡ length (log_of closing.now p) }
+    ensures small { result ≤ 2 ^ 32 }
+{
+    let log = closing.log(p);
+    if log.is_empty() {
+        return 0;
+    }
+    u64::from(log[log.len() - 1].view.get(p)) + 1
+}
+
+/// How many records all processes have.
+pub(crate) fn total_of(closing: &Closing) -> u64
+    requires within { AreWithin closing.now }
+    requires numbered { AreNumbered closing.now }
+    ensures total { result ≡ sum (log_lengths closing.now) }
+    ensures small { result ≤ 2 ^ 36 }
+{
+    let mut total = 0;
+    for p in 0..closing.processes() {
+        total += log_len(closing, p);
+    }
+    total
+}
+
+/// Adds the records of a process from one number up to another.
+fn push_records(
+    order: &mut Vec<Numbered>,
+    process: u32,
+    from: usize,
+    to: usize,
+) -> Result<(), NoMemory>
+    ensures { OnOk result (order.new.items ≡ order.old.items ++ records_of process from to) }
+{
+    for number in from..to {
+        order.push(Numbered { process, number })?;
+    }
+    Ok(())
+}
+
+/// Adds the records that a front counts and that an earlier one doesn't.
+fn push_next(order: &mut Vec<Numbered>, listed: &Counts, front: &Counts) -> Result<(), NoMemory>
+    requires { length listed.now ≡ length front.now }
+    ensures { OnOk result (order.new.items ≡ order.old.items ++ records_between (length front.now) (slice_index listed.now) (slice_index front.now)) }
+{
+    for p in 0..front.len() {
+        push_records(order, p, listed.get(p) as usize, front.get(p) as usize)?;
+    }
+    Ok(())
+}
+
+/// Adds the records that a front doesn't count.
+fn push_last(order: &mut Vec<Numbered>, listed: &Counts, closing: &Closing) -> Result<(), NoMemory>
+    requires { length listed.now ≡ length closing.now.logs }
+    ensures { OnOk result (order.new.items ≡ order.old.items ++ records_between (length closing.now.logs) (slice_index listed.now) (λ p. length (log_of closing.now p))) }
+{
+    for p in 0..closing.processes() {
+        push_records(order, p, listed.get(p) as usize, closing.log(p).len())?;
+    }
+    Ok(())
+}
+
+/// The order of the publications: front by front, and then those that no front but the last counts.
+pub(crate) fn order_of(
+    alloc: Global,
+    closing: &Closing,
+    fronts: &[Option<&Counts>],
+) -> Result<Vec<Numbered>, NoMemory>
+    requires within { AreWithin closing.now }
+    requires nested { AreNested closing.now }
+    requires held { AreHeld closing.now (map option_copied fronts.now) }
+    ensures order { IfOk result (λ order. published_in closing.now order.items ≡ journal_order closing.now) }
+    ensures records { IfOk result (λ order. AreRecords closing.now order.items) }
+{
+    let mut order = Vec::with_capacity(alloc, fronts.len())?;
+    let nothing = Counts::zeros(closing.processes());
+    let mut listed = &nothing;
+    for place in 0..fronts.len() {
+        if let Some(front) = fronts[place] {
+            push_next(&mut order, listed, front)?;
+            listed = front;
+        }
+    }
+    push_last(&mut order, listed, closing)?;
+    Ok(order)
+}
