@@ -29,9 +29,9 @@ use crate::serving::{serve, tell};
 use at_io::{DirShelf, StdSink};
 use at_report::{Status, UsageFault};
 use at_workers::OpenGate;
-use std::io;
 use std::process::ExitCode;
 use std::rt::Env;
+use std::{io, mem};
 
 /// The words after the program's name. Words that are not text have no form.
 fn words_given(rt: &(impl Env + AllocGlobal)) -> Result<Vec<String>, Status>
@@ -57,7 +57,8 @@ fn main(rt: HostRuntime) -> ExitCode {
         Ok(words) => {
             let mut shelf = DirShelf::new(&rt);
             let mut out = StdSink::new(rt.stdout());
-            serve(
+            let mut kept = None;
+            let status = serve(
                 &rt,
                 rt.alloc(),
                 words.as_slice(),
@@ -65,8 +66,11 @@ fn main(rt: HostRuntime) -> ExitCode {
                 &mut out,
                 &mut err,
                 &OpenGate,
-                &mut None,
-            )
+                &mut kept,
+            );
+            // The process ends here, and all its memory is given back at once: no receipt is dropped by itself.
+            mem::forget(kept);
+            status
         }
         Err(status) => {
             tell(&mut err, &status);
