@@ -21,5 +21,3 @@ pub mod VoiceCalls
 pub mod FourCalls
 -- the votes of all voices
 pub mod AllVotes
--- lists that are related element by element
-pub mod Zipped

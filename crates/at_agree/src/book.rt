@@ -21,6 +21,7 @@ pub(crate) fn book_for(alloc: Global, size: u32) -> Result<Book, NoMemory>
     match Book::new(alloc, &draft) {
         Ok(book) => Ok(book),
         Err(BookFault::NoMemory) => Err(AllocError),
+        // Such a book has no fault.
         Err(BookFault::Bad(_)) => unreachable!(),
     }
 }

@@ -11,7 +11,7 @@ use std::thread::{Threads, join_mut};
 
 /// Makes these votes: of one alone in this thread, of more by their halves.
 #[cycle(halves)]
-#[tactic(auto, using(crate::proofs::Zipped::all_zip_append))]
+#[tactic(auto, using(at_object::proofs::Laws::Zipped::all_zip_append))]
 pub(crate) fn propose_all<R: Threads + Sync>(rt: &R, council: &Council, votes: &mut [Vote])
     requires { All (IsReady council.now) votes.old }
     ensures { AllZip (IsMade council.now) votes.old votes.new }

@@ -134,6 +134,7 @@ impl Voice {
         let found = ledger.read(&mut self.pass, account, steps, exchanges);
         let balance = match found.reply {
             Reply::Balance(balance) => balance,
+            // A read is answered a balance.
             _ => unreachable!(),
         };
         self.receipts.push_reserved(found);

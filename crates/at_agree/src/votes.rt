@@ -37,6 +37,7 @@ pub(crate) fn votes_of(
     let mut rest = voices.into_iter();
     for value in values {
         let Some(voice) = rest.next() else {
+            // There is a voice for each value.
             unreachable!()
         };
         votes.push(Vote {

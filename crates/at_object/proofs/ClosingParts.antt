@@ -3,7 +3,7 @@ use Rattle.std.proofs.Common.{◌≡◌, List, [], ◌∷◌, ◌++◌, map, ref
 use Rattle.std.specs.List.{AllZip}
 use Rattle.at_board.specs.Knowledge.Seats.{SeatTerms}
 use Rattle.at_object.specs.Parted.{IsOfOnePass, pass_of, passes_of, seat_of}
-use Rattle.at_object.specs.declared.close.Rest.{Rest}
+use Rattle.at_object.specs.declared.parts.Rest.{Rest}
 
 -- so many seats and rests, each of one pass
 abbrev pub AreParts : List SeatTerms → List Rest → Type 0

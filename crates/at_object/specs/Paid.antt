@@ -22,46 +22,46 @@ use Rattle.at_single.specs.Standing.{StandsAfterFront, StandsAtFront, StandsAtOw
 use Rattle.at_snapshot.specs.Snapshots.{IsSnapshot}
 
 -- a payment from a single account was decided at the front of its snapshot
-pub record PaysAlone (b : BookTerms) (before after : Knowledge) (source : ℕ) (targets : List TargetPair) (call : Call) (r : Receipt) : Type 0 where
-  pub call_is : r.call ≡ call
-  pub reply : r.reply ≡ payment_reply b (prefix_of (front_behind after r.at) after.seen) source targets
-  pub placed : (earlier : List Receipt) → owns_in earlier ≡ owns_of before.first before.seen → IsPlaced b before.first after.seen earlier r
-  pub after_front : StandsAfterFront after r
-  pub snapshot : IsSnapshot b before after (front_behind after r.at)
-  pub short : r.reply ≡ Short → StandsAtFront b before after r.at
-  pub done : r.reply ≡ Done → StandsAtOwn b before after source targets r.at
+pub record PaysAlone (book : BookTerms) (before after : Knowledge) (source : ℕ) (targets : List TargetPair) (call : Call) (receipt : Receipt) : Type 0 where
+  pub call_is : receipt.call ≡ call
+  pub reply : receipt.reply ≡ payment_reply book (prefix_of (front_behind after receipt.at) after.seen) source targets
+  pub placed : (earlier : List Receipt) → owns_in earlier ≡ owns_of before.first before.seen → IsPlaced book before.first after.seen earlier receipt
+  pub after_front : StandsAfterFront after receipt
+  pub snapshot : IsSnapshot book before after (front_behind after receipt.at)
+  pub short : receipt.reply ≡ Short → StandsAtFront book before after receipt.at
+  pub done : receipt.reply ≡ Done → StandsAtOwn book before after source targets receipt.at
 
 -- a payment from a shared account was decided in a round
-pub record PaysInRound (b : BookTerms) (before after : Knowledge) (source : ℕ) (call : Call) (r : Receipt) : Type 0 where
-  pub call_is : r.call ≡ call
-  pub in_round : StandsInRound r
+pub record PaysInRound (book : BookTerms) (before after : Knowledge) (source : ℕ) (call : Call) (receipt : Receipt) : Type 0 where
+  pub call_is : receipt.call ≡ call
+  pub in_round : StandsInRound receipt
   pub placed : (earlier : List Receipt) → asks_in source earlier ≡ length (asking_on (own_part before) source).announced →
-      IsPlaced b after.first after.seen earlier r
-  pub after_start : StandsAfter (length before.seen) after r
-  pub after_snapshot : StandsAfterSnapshot b before after r
-  pub asked : AsksOnce b before after source
+      IsPlaced book after.first after.seen earlier receipt
+  pub after_start : StandsAfter (length before.seen) after receipt
+  pub after_snapshot : StandsAfterSnapshot book before after receipt
+  pub asked : AsksOnce book before after source
   pub free : (own_part after).held ≡ None
   pub begins : IsPrefix before.seen after.seen
   pub process_is : after.first ≡ before.first
 
 -- each length was loaded at least as often as a fresh snapshot needs
 abbrev pub HasLoadedFresh : BookTerms → PassTerms → PassTerms → Type 0
-HasLoadedFresh b before after = (p : ℕ) → p < b.processes →
+HasLoadedFresh book before after = (p : ℕ) → p < book.processes →
     (loads_of (own_part before.knows) p).times + fresh_loads ≤ (loads_of (own_part after.knows) p).times
 
 -- what a payment leaves of its pass
-pub record PaymentMade (b : BookTerms) (before after : PassTerms) (source : ℕ) (targets : List TargetPair) (call : Call) (r : Receipt) : Type 0 where
-  pub call_is : r.call ≡ call
-  pub reply : r.reply ≡ reply_of b before after source targets r
-  pub placed : (earlier : List Receipt) → Stands before earlier → IsPlaced b before.knows.first after.knows.seen earlier r
-  pub stands : (earlier : List Receipt) → Stands before earlier → Stands after (earlier ++ r ∷ [])
-  pub after_seen : IsDecided r → StandsAfter (length before.knows.seen) after.knows r
-  pub loads : IsDecided r → HasLoadedFresh b before after
-  pub alone : IsDecided r → is_single (account_of b source) ≡ true → PaysAlone b before.knows after.knows source targets call r
-  pub in_round : IsDecided r → is_shared (account_of b source) ≡ true → PaysInRound b before.knows after.knows source call r
+pub record PaymentMade (book : BookTerms) (before after : PassTerms) (source : ℕ) (targets : List TargetPair) (call : Call) (receipt : Receipt) : Type 0 where
+  pub call_is : receipt.call ≡ call
+  pub reply : receipt.reply ≡ reply_of book before after source targets receipt
+  pub placed : (earlier : List Receipt) → Stands before earlier → IsPlaced book before.knows.first after.knows.seen earlier receipt
+  pub stands : (earlier : List Receipt) → Stands before earlier → Stands after (earlier ++ receipt ∷ [])
+  pub after_seen : IsDecided receipt → StandsAfter (length before.knows.seen) after.knows receipt
+  pub loads : IsDecided receipt → HasLoadedFresh book before after
+  pub alone : IsDecided receipt → is_single (account_of book source) ≡ true → PaysAlone book before.knows after.knows source targets call receipt
+  pub in_round : IsDecided receipt → is_shared (account_of book source) ≡ true → PaysInRound book before.knows after.knows source call receipt
   pub begins : IsPrefix before.knows.seen after.knows.seen
   pub process_is : after.knows.first ≡ before.knows.first
-  pub refused : IsRefused r → after ≡ record before { calls = one_more_call before.calls }
-  pub refused_at : IsRefused r → r.at ≡ At.Previous
+  pub refused : IsRefused receipt → after ≡ record before { calls = one_more_call before.calls }
+  pub refused_at : IsRefused receipt → receipt.at ≡ At.Previous
   pub asked_elsewhere : (a : ℕ) → a ≢ source → asked_by after a ≡ asked_by before a
   pub counted : others_counted before ≤ others_counted after

@@ -4,7 +4,7 @@ use Rattle.std.specs.Vec.{vec_capacity, vec_len}
 use Rattle.at_board.specs.Knowledge.Seats.{IsKept, SeatTerms}
 use Rattle.at_closing.specs.BetweenCalls.{IsBetweenCalls}
 use Rattle.at_object.specs.Passes.{IsPass, PassTerms}
-use Rattle.at_object.specs.declared.close.Rest.{Rest}
+use Rattle.at_object.specs.declared.parts.Rest.{Rest}
 
 -- the seat of a pass, and the pass that a seat and the rest make
 abbrev pub seat_of : PassTerms → SeatTerms

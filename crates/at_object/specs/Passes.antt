@@ -50,12 +50,12 @@ newly_counted before after = others_counted after - others_counted before
 
 -- a pass's process is between calls. Its totals have counted only what the seat has seen, among it all of its own records, and it
 -- knows how many of these are own records. It has asked for nothing where it has no slot
-pub record IsPass (v : Knowledge) (totals : TotalSums) (sent : ℕ) : Type 0 where
-  pub between : IsBetweenCalls v.book v
-  pub counted : HasCounted totals v.book v.seen
-  pub own_counted : slice_index totals.upto v.first ≡ (own_part v).published
-  pub sent_is : sent ≡ owns_of v.first v.seen
-  pub unasked : (a : ℕ) → ((slot : ℕ) → ¬ HasSlot v.book v.first a slot) → (asking_on (own_part v) a).announced ≡ []
+pub record IsPass (knows : Knowledge) (totals : TotalSums) (sent : ℕ) : Type 0 where
+  pub between : IsBetweenCalls knows.book knows
+  pub counted : HasCounted totals knows.book knows.seen
+  pub own_counted : slice_index totals.upto knows.first ≡ (own_part knows).published
+  pub sent_is : sent ≡ owns_of knows.first knows.seen
+  pub unasked : (a : ℕ) → ((slot : ℕ) → ¬ HasSlot knows.book knows.first a slot) → (asking_on (own_part knows) a).announced ≡ []
 
 -- a pass of a new ledger: nothing is seen, no call was made, and the empty list stands with it
 pub record IsNewPass (ledger : BoardTerms) (process : ℕ) (pass : PassTerms) : Type 0 where

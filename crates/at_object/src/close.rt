@@ -11,10 +11,10 @@ ghost use Rattle.at_object.specs.Parted.{HasRoom, IsAtRest, IsOfOnePass, passes_
 use crate::NoMemory;
 use crate::closed::Closed;
 use crate::ledger::Ledger;
+use crate::parts::Rest;
 use crate::pass::Pass;
 use at_board::BoardSeat;
 use at_closing::closing_of;
-use at_fold::Totals;
 use at_ledger::Book;
 use at_log::{Receipt, Record};
 use std::alloc::Global;
@@ -72,14 +72,6 @@ impl Ledger {
             }),
         }
     }
-}
-
-/// What a pass has beside its seat.
-#[derive(Drop)]
-struct Rest {
-    totals: Totals,
-    sent: u32,
-    calls: u64,
 }
 
 /// What closing a ledger takes memory for: a copy of its book, the records of each process, the passes taken apart, and the same
@@ -142,19 +134,10 @@ fn parted(
     ensures passes { passes_of result.0.items result.1.items ≡ passes.items }
 {
     for pass in passes {
-        let Pass {
-            seat,
-            totals,
-            sent,
-            calls,
-        } = pass;
+        let (seat, rest) = pass.into_parts();
         seat.known();
         seats.push_reserved(seat);
-        rests.push_reserved(Rest {
-            totals,
-            sent,
-            calls,
-        });
+        rests.push_reserved(rest);
     }
     (seats, rests)
 }
@@ -167,22 +150,11 @@ fn put_together(seats: Vec<BoardSeat>, rests: Vec<Rest>, mut passes: Vec<Pass>) 
 {
     let mut others = rests.into_iter();
     for seat in seats {
-        let Some(
-            Rest {
-                totals,
-                sent,
-                calls,
-            },
-        ) = others.next()
-        else {
+        let Some(rest) = others.next() else {
+            // Each seat has the rest of its pass.
             unreachable!()
         };
-        passes.push_reserved(Pass {
-            seat,
-            totals,
-            sent,
-            calls,
-        });
+        passes.push_reserved(Pass::of_parts(seat, rest));
     }
     passes
 }

@@ -44,6 +44,13 @@ impl Ledger {
     {
         self.board.book()
     }
+
+    /// The board that the steps of all calls are made on.
+    pub fn board(&self) -> &Board
+        ensures { result.now ≡ self.now }
+    {
+        &self.board
+    }
 }
 
 /// A pass for each seat of a new board. Takes the memory of its totals.

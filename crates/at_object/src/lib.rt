@@ -13,9 +13,10 @@ mod close;
 mod closed;
 mod crossing;
 mod ledger;
-mod making;
 mod notes;
+mod parts;
 mod pass;
+mod paying;
 mod payments;
 mod reads;
 
@@ -23,5 +24,6 @@ pub use crate::close::CloseRefused;
 pub use crate::closed::Closed;
 pub use crate::ledger::Ledger;
 pub use crate::notes::Note;
+pub use crate::parts::Rest;
 pub use crate::pass::Pass;
 pub use at_base::NoMemory;

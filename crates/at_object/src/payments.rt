@@ -78,7 +78,7 @@ impl Ledger {
             → decides_on pass.new.knows a ≡ decides_on pass.old.knows a }
     {
         let call = Call::Transfer { from, to, amount };
-        self.make(pass, from, &call, steps, exchanges)
+        self.pay_by_call(pass, from, &call, steps, exchanges)
     }
 
     /// Moves each amount from one account to its target, or none of them. The answer is not-owner where the process doesn't own the
@@ -138,6 +138,6 @@ impl Ledger {
             from,
             targets: targets.copy(),
         };
-        self.make(pass, from, &call, steps, exchanges)
+        self.pay_by_call(pass, from, &call, steps, exchanges)
     }
 }

@@ -87,6 +87,7 @@ fn add_account(builder: &mut BookBuilder, opening: u64, owners: &[u64]) -> Resul
     match builder.add(opening, owners) {
         Ok(()) => Ok(()),
         Err(BookFault::NoMemory) => Err(AllocError),
+        // The caller's account has no fault.
         Err(BookFault::Bad(_)) => unreachable!(),
     }
 }
@@ -98,6 +99,7 @@ fn own_accounts(alloc: Global, processes: u32, calls: u32) -> Result<BookBuilder
 {
     let room = u64::from(calls);
     let Ok(mut builder) = BookBuilder::new(alloc, u64::from(processes), room, room) else {
+        // The numbers of `make` are within a book's limits.
         unreachable!()
     };
     for process in 0..processes {
@@ -128,6 +130,7 @@ fn make_book(alloc: Global, processes: u32, calls: u32) -> Result<Book, AllocErr
     let opening = 100 * u64::from(calls) * u64::from(processes);
     add_account(&mut builder, opening, owners.as_slice())?;
     let Ok(book) = builder.finish() else {
+        // It has processes and accounts.
         unreachable!()
     };
     Ok(book)

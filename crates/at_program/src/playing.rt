@@ -35,6 +35,7 @@ fn jobs_for(
     let mut others = passes.into_iter();
     for calls in files {
         let Some(pass) = others.next() else {
+            // There is a pass for each file.
             unreachable!()
         };
         let Ok(job) = Job::new(alloc, pass, calls) else {

@@ -27,7 +27,7 @@ pub fn run_all<R: Threads + Sync, G: Gate + Sync>(
 
 /// Makes the calls of these jobs: of one alone in this thread, of more by their halves.
 #[cycle(halves)]
-#[tactic(auto, using(crate::proofs::Zipped::all_zip_append))]
+#[tactic(auto, using(at_object::proofs::Laws::Zipped::all_zip_append))]
 fn run_half<R: Threads + Sync, G: Gate + Sync>(rt: &R, ledger: &Ledger, gate: &G, jobs: &mut [Job])
     requires { All (IsReady ledger.now) jobs.old }
     ensures { AllZip (Ran ledger.now) jobs.old jobs.new }

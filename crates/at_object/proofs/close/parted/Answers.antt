@@ -6,7 +6,7 @@ use Rattle.at_board.specs.Knowledge.Seats.{SeatTerms}
 use Rattle.at_object.proofs.ClosingParts.{AreParts, AreParts-push, map-passes_of, passes_of-push}
 use Rattle.at_object.specs.Parted.{IsAtRest, passes_of, pass_of, seat_of}
 use Rattle.at_object.specs.Passes.{PassTerms}
-use Rattle.at_object.specs.declared.close.Rest.{Rest}
+use Rattle.at_object.specs.declared.parts.Rest.{Rest}
 use Rattle.at_object.proofs.close.parted.Goals as goal
 
 pub loop-pass-preserved : goal.loop-pass-preserved

@@ -2,7 +2,7 @@ use Rattle.std.proofs.Common.{◌≡◌, List, [], ◌∷◌, ◌++◌, refl, sy
 use Rattle.std.proofs.lemmas.Grind.{common_steps}
 use Rattle.std.proofs.lemmas.List.{length-append}
 use Rattle.at_board.specs.Knowledge.Seats.{SeatTerms}
-use Rattle.at_object.proofs.NewPasses.{AreNewPasses-all, AreNewSoFar, AreNewSoFar-more, IsPass-starting, new_seat-at}
+use Rattle.at_object.proofs.Laws.NewPasses.{AreNewPasses-all, AreNewSoFar, AreNewSoFar-more, IsPass-starting, new_seat-at}
 use Rattle.at_object.specs.Passes.{IsPass, PassTerms}
 use Rattle.at_object.proofs.ledger.passes_for.Goals as goal
 

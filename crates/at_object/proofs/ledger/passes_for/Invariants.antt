@@ -1,5 +1,5 @@
 use Rattle.std.proofs.Common.{◌≡◌, ◌++◌, length}
-use Rattle.at_object.proofs.NewPasses.{AreNewSoFar}
+use Rattle.at_object.proofs.Laws.NewPasses.{AreNewSoFar}
 use Rattle.at_object.proofs.ledger.passes_for.Given as goal
 
 -- a new pass is made for each seat so far

@@ -16,8 +16,8 @@ use Rattle.at_log.specs.Placed.{IsPlaced}
 use Rattle.at_log.specs.Told.{own_position}
 use Rattle.at_log.specs.declared.receipt.At.TheVariants.{Own}
 use Rattle.at_single.proofs.Laws.Looks.{CountsAccount-HasLooked, CountsFront-HasLooked, HasCounted-HasLooked, balance-HasLooked}
-use Rattle.at_single.proofs.OwnRecords.{owns_of-IsPrefix-take}
-use Rattle.at_single.proofs.PaidLaws.{IsPaid, IsSnapshot-IsPaid, begins-IsPaid, front_behind-IsPaid, more-IsPaid, number-IsPaid, place-IsPaid, prefix_of-IsPaid, record-IsPaid, within-IsPaid}
+use Rattle.at_single.proofs.Laws.OwnRecords.{owns_of-IsPrefix-take}
+use Rattle.at_single.proofs.Laws.Paid.{IsPaid, IsSnapshot-IsPaid, begins-IsPaid, front_behind-IsPaid, more-IsPaid, number-IsPaid, place-IsPaid, prefix_of-IsPaid, record-IsPaid, within-IsPaid}
 use Rattle.at_single.proofs.Laws.Placed.{IsPlaced-done, IsPlaced-short, MayAppend-IsSnapshot, payment_reply-done, payment_reply-short}
 use Rattle.at_single.specs.Standing.{front_behind, own_record, payment_reply}
 use Rattle.at_snapshot.specs.Snapshots.{IsSnapshot}

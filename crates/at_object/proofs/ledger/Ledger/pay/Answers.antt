@@ -2,14 +2,14 @@ use Rattle.std.proofs.Common.{Some, ap, subst}
 use Rattle.at_ledger.specs.declared.call.Call.TheVariants.{Pay}
 use Rattle.at_object.specs.Paid.{PaymentMade}
 use Rattle.at_object.proofs.ledger.Ledger.pay.Given as given
-use Rattle.at_object.proofs.ledger.Ledger.pay.Goals.{After-make}
+use Rattle.at_object.proofs.ledger.Ledger.pay.Goals.{After-pay_by_call}
 use Rattle.at_object.proofs.ledger.Ledger.pay.Goals as goal
 
 -- what the payment leaves
-made : (g : given.Over) (c : After-make g) → PaymentMade c.args.self.now.book c.args.pass.now c.make.new.pass c.args.from c.args.targets.now (Pay c.args.from c.args.targets.now) c.make.result
+made : (g : given.Over) (c : After-pay_by_call g) → PaymentMade c.args.self.now.book c.args.pass.now c.pay_by_call.new.pass c.args.from c.args.targets.now (Pay c.args.from c.args.targets.now) c.pay_by_call.result
 made g c =
-    subst (λ k. PaymentMade c.args.self.now.book c.args.pass.now c.make.new.pass c.args.from c.args.targets.now (Pay c.args.from k) c.make.result) c.copy.ensures
-    (c.make.ensures.made c.args.targets.now (ap (λ k. Some (c.args.from, k)) c.copy.ensures))
+    subst (λ k. PaymentMade c.args.self.now.book c.args.pass.now c.pay_by_call.new.pass c.args.from c.args.targets.now (Pay c.args.from k) c.pay_by_call.result) c.copy.ensures
+    (c.pay_by_call.ensures.made c.args.targets.now (ap (λ k. Some (c.args.from, k)) c.copy.ensures))
 
 pub returns-clause-call : goal.returns-clause-call
 returns-clause-call g c = (made g c).call_is

@@ -7,7 +7,7 @@ use Rattle.at_closing.proofs.Laws.Calls.{StandsBehind-front, length-prefix_of-le
 use Rattle.at_log.specs.Placed.{IsPlaced}
 use Rattle.at_log.specs.Receipts.{is_at_own, is_at_round}
 use Rattle.at_log.specs.Told.{Told, key_of}
-use Rattle.at_object.proofs.Looked.{IsPass-HasLoaded, Told-HasLoaded, owns_of-HasLoaded}
+use Rattle.at_object.proofs.Laws.Looked.{IsPass-HasLoaded, Told-HasLoaded, owns_of-HasLoaded}
 use Rattle.at_object.specs.Passes.{PassTerms}
 use Rattle.at_single.specs.Standing.{front_behind}
 use Rattle.at_object.proofs.ledger.Ledger.read.Goals as goal

@@ -3,7 +3,7 @@ use Rattle.at_ledger.specs.Call.{AreTargetsOn}
 use Rattle.at_ledger.specs.declared.call.Call.TheVariants.{Transfer}
 use Rattle.at_object.specs.Paid.{PaymentMade}
 use Rattle.at_object.proofs.ledger.Ledger.transfer.Given as given
-use Rattle.at_object.proofs.ledger.Ledger.transfer.Goals.{After-make}
+use Rattle.at_object.proofs.ledger.Ledger.transfer.Goals.{After-pay_by_call}
 use Rattle.at_object.proofs.ledger.Ledger.transfer.Goals as goal
 
 -- one target
@@ -12,11 +12,11 @@ single accounts to amount known zero d inside = known
 single accounts to amount known (suc i) d inside = absurd (omega (arith, inside))
 
 -- what the payment leaves
-made : (g : given.Over) (c : After-make g) → PaymentMade c.args.self.now.book c.args.pass.now c.make.new.pass c.args.from ((c.args.to, c.args.amount) ∷ []) (Transfer c.args.from c.args.to c.args.amount) c.make.result
-made g c = c.make.ensures.made ((c.args.to, c.args.amount) ∷ []) refl
+made : (g : given.Over) (c : After-pay_by_call g) → PaymentMade c.args.self.now.book c.args.pass.now c.pay_by_call.new.pass c.args.from ((c.args.to, c.args.amount) ∷ []) (Transfer c.args.from c.args.to c.args.amount) c.pay_by_call.result
+made g c = c.pay_by_call.ensures.made ((c.args.to, c.args.amount) ∷ []) refl
 
-pub make-requires-clause-call : goal.make-requires-clause-call
-make-requires-clause-call g c = record {
+pub pay_by_call-requires-clause-call : goal.pay_by_call-requires-clause-call
+pay_by_call-requires-clause-call g c = record {
   targets = (c.args.to, c.args.amount) ∷ [];
   payout = refl;
   accounts = single _ c.args.to c.args.amount c.requires.to;

@@ -7,16 +7,16 @@ use Rattle.at_board.specs.Knowledge.Parts.{asking_on, own_part}
 use Rattle.at_board.specs.declared.knowledge.Asking.{Asking}
 use Rattle.at_board.specs.declared.knowledge.Knowledge.{Knowledge}
 use Rattle.at_log.specs.Receipts.{payout_of}
-use Rattle.at_object.proofs.Alone.{IsPass-alone, asking-alone, decided-alone}
-use Rattle.at_object.proofs.Made.{PaymentMade-alone, others-le}
-use Rattle.at_object.proofs.Room.{sent-room}
+use Rattle.at_object.proofs.Laws.Alone.{IsPass-alone, asking-alone, decided-alone}
+use Rattle.at_object.proofs.Laws.Made.{PaymentMade-alone, others-le}
+use Rattle.at_object.proofs.Laws.Room.{sent-room}
 use Rattle.at_object.specs.Paid.{PaymentMade, PaysAlone}
 use Rattle.at_object.specs.Passes.{IsPass, PassTerms}
 use Rattle.at_object.specs.Payments.{has_used_up}
 use Rattle.at_single.specs.Standing.{IsOnlyOwner}
-use Rattle.at_object.proofs.ledger.Ledger.make_single.Given as given
-use Rattle.at_object.proofs.ledger.Ledger.make_single.Goals.{After-pass-2-1}
-use Rattle.at_object.proofs.ledger.Ledger.make_single.Goals as goal
+use Rattle.at_object.proofs.ledger.Ledger.pay_from_single.Given as given
+use Rattle.at_object.proofs.ledger.Ledger.pay_from_single.Goals.{After-pass-2-1}
+use Rattle.at_object.proofs.ledger.Ledger.pay_from_single.Goals as goal
 
 -- the book that the pass's seat knows is the ledger's
 book : (g : given.Over) (c : After-pass-2-1 g) → c.pass.inside.seat.knows.book ≡ c.self.inside.board.book

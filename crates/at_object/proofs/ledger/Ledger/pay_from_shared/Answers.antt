@@ -6,17 +6,17 @@ use Rattle.at_history.specs.Moves.{AreRuns}
 use Rattle.at_board.specs.Knowledge.Seats.{BoardTerms}
 use Rattle.at_board.specs.declared.knowledge.Knowledge.{Knowledge}
 use Rattle.at_log.specs.Receipts.{payout_of}
-use Rattle.at_object.proofs.InRound.{IsPass-round}
-use Rattle.at_object.proofs.Made.{PaymentMade-round, others-le}
-use Rattle.at_object.proofs.Looked.{between-IsPass}
-use Rattle.at_object.proofs.Room.{HasSlot-is_owner, MayStoreRequest-room}
+use Rattle.at_object.proofs.Laws.InRound.{IsPass-round}
+use Rattle.at_object.proofs.Laws.Made.{PaymentMade-round, others-le}
+use Rattle.at_object.proofs.Laws.Looked.{between-IsPass}
+use Rattle.at_object.proofs.Laws.Room.{HasSlot-is_owner, MayStoreRequest-room}
 use Rattle.at_object.specs.Paid.{PaymentMade}
 use Rattle.at_object.specs.Passes.{PassTerms}
 use Rattle.at_object.specs.Payments.{has_used_up}
 use Rattle.at_shared.specs.Helpings.{decides_on}
-use Rattle.at_object.proofs.ledger.Ledger.make_shared.Given as given
-use Rattle.at_object.proofs.ledger.Ledger.make_shared.Goals.{After-pass-1}
-use Rattle.at_object.proofs.ledger.Ledger.make_shared.Goals as goal
+use Rattle.at_object.proofs.ledger.Ledger.pay_from_shared.Given as given
+use Rattle.at_object.proofs.ledger.Ledger.pay_from_shared.Goals.{After-pass-1}
+use Rattle.at_object.proofs.ledger.Ledger.pay_from_shared.Goals as goal
 
 -- the book that the pass's seat knows is the ledger's
 book : (g : given.Over) (c : After-pass-1 g) → c.pass.inside.seat.knows.book ≡ c.self.inside.board.book

@@ -36,7 +36,7 @@ use std::sync::ledger;
 
 impl Ledger {
     /// Makes a payment, by whichever call.
-    pub(crate) fn make<L: ledger::Ledger, X: ledger::Ledger>(
+    pub(crate) fn pay_by_call<L: ledger::Ledger, X: ledger::Ledger>(
         &self,
         pass: &mut Pass,
         source: u32,
@@ -69,9 +69,9 @@ impl Ledger {
         match self.refusal(pass, source) {
             Some(reply) => refuse(pass, call, reply),
             None if self.book().owner_count(source) == 1 => {
-                self.make_single(pass, source, call, steps, exchanges)
+                self.pay_from_single(pass, source, call, steps, exchanges)
             }
-            None => self.make_shared(pass, source, call, steps, exchanges),
+            None => self.pay_from_shared(pass, source, call, steps, exchanges),
         }
     }
 
@@ -94,7 +94,7 @@ impl Ledger {
     }
 
     /// A payment from an account of one owner.
-    fn make_single<L: ledger::Ledger, X: ledger::Ledger>(
+    fn pay_from_single<L: ledger::Ledger, X: ledger::Ledger>(
         &self,
         pass: &mut Pass,
         source: u32,
@@ -135,7 +135,7 @@ impl Ledger {
     }
 
     /// A payment from a shared account.
-    fn make_shared<L: ledger::Ledger, X: ledger::Ledger>(
+    fn pay_from_shared<L: ledger::Ledger, X: ledger::Ledger>(
         &self,
         pass: &mut Pass,
         source: u32,
@@ -239,6 +239,7 @@ fn pay_alone<L: ledger::Ledger, X: ledger::Ledger>(
         Call::Transfer { from, to, amount } => transfer_own(
             board, seat, totals, *from, *to, *amount, steps, exchanges,
         ),
+        // A payment was asked for.
         Call::Read { account: _ } => unreachable!(),
         Call::Pay { from, targets } => pay_own(
             board, seat, totals, *from, targets, steps, exchanges,
@@ -283,6 +284,7 @@ fn pay_in_round<L: ledger::Ledger, X: ledger::Ledger>(
         Call::Transfer { from, to, amount } => transfer_shared(
             board, seat, totals, *from, *to, *amount, steps, exchanges,
         ),
+        // A payment was asked for.
         Call::Read { account: _ } => unreachable!(),
         Call::Pay { from, targets } => pay_shared(
             board, seat, totals, *from, targets, steps, exchanges,

@@ -20,7 +20,7 @@ use Rattle.at_log.specs.LastRecord.{IsLast}
 use Rattle.at_log.specs.Told.{own_position}
 use Rattle.at_log.specs.declared.receipt.At.TheVariants.{Own}
 use Rattle.at_single.proofs.Laws.Looks.{first-HasLoaded, published-HasLoaded}
-use Rattle.at_single.proofs.OwnRecords.{own_position-IsPrefix}
+use Rattle.at_single.proofs.Laws.OwnRecords.{own_position-IsPrefix}
 use Rattle.at_single.specs.Standing.{front_behind, own_record}
 use Rattle.at_snapshot.specs.Collected.{HasLoaded}
 use Rattle.at_snapshot.specs.Snapshots.{IsSnapshot}

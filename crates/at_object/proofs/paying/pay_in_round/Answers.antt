@@ -4,7 +4,7 @@ use Rattle.at_ledger.specs.declared.call.Call.TheVariants.{Pay, Transfer}
 use Rattle.at_log.proofs.Laws.Replies.{first_account-payout}
 use Rattle.at_log.specs.Told.{first_account}
 use Rattle.at_object.specs.Paid.{PaysInRound}
-use Rattle.at_object.proofs.making.pay_in_round.Goals as goal
+use Rattle.at_object.proofs.paying.pay_in_round.Goals as goal
 
 pub returns-in-Transfer-clause-pays : goal.returns-in-Transfer-clause-pays
 returns-in-Transfer-clause-pays g c =

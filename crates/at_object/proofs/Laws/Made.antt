@@ -29,9 +29,9 @@ use Rattle.at_log.specs.Receipts.{asks_in, is_at_own, is_at_round, owns_in, payo
 use Rattle.at_log.specs.Told.{Told}
 use Rattle.at_log.specs.declared.receipt.At.TheVariants.{Previous}
 use Rattle.at_log.specs.declared.receipt.Receipt.{Receipt}
-use Rattle.at_object.proofs.Alone.{moved-done, moved-short, nothing-done, nothing-short, reply-done, reply-short, short_or_done, told-done, told-short}
-use Rattle.at_object.proofs.InRound.{asks-round, loads-round, moved-round, placed-round, reply-round, told-round}
-use Rattle.at_object.proofs.Room.{HasSlot-is_owner}
+use Rattle.at_object.proofs.Laws.Alone.{moved-done, moved-short, nothing-done, nothing-short, reply-done, reply-short, short_or_done, told-done, told-short}
+use Rattle.at_object.proofs.Laws.InRound.{asks-round, loads-round, moved-round, placed-round, reply-round, told-round}
+use Rattle.at_object.proofs.Laws.Room.{HasSlot-is_owner}
 use Rattle.at_object.specs.Paid.{PaymentMade, PaysAlone, PaysInRound}
 use Rattle.at_object.specs.Passes.{IsPass, PassTerms, Stands, asked_by, one_more_call, others_counted, sent_by}
 use Rattle.at_object.specs.Payments.{IsDecided, IsRefused, has_used_up, prefix_before, refusal_of, reply_of}

@@ -30,9 +30,9 @@ use Rattle.at_log.specs.Receipts.{asks_in, is_at_own, is_at_round, is_success, p
 use Rattle.at_log.specs.Told.{Told, key_of, round_position}
 use Rattle.at_log.specs.declared.receipt.At.TheVariants.{Front, Own, Round, Previous}
 use Rattle.at_log.specs.declared.receipt.Receipt.{Receipt}
-use Rattle.at_object.proofs.Alone.{IsPass-HasMoved}
-use Rattle.at_object.proofs.Covered.{covered-round}
-use Rattle.at_object.proofs.Looked.{between-IsPass}
+use Rattle.at_object.proofs.Laws.Alone.{IsPass-HasMoved}
+use Rattle.at_object.proofs.Laws.Covered.{covered-round}
+use Rattle.at_object.proofs.Laws.Looked.{between-IsPass}
 use Rattle.at_object.specs.Paid.{PaysInRound}
 use Rattle.at_object.specs.Passes.{IsPass}
 use Rattle.at_object.specs.Payments.{place_at}

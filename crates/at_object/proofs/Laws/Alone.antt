@@ -33,8 +33,8 @@ use Rattle.at_log.specs.Placed.{IsPlaced}
 use Rattle.at_log.specs.Receipts.{is_at_own, is_at_round, is_success}
 use Rattle.at_log.specs.Told.{Told, key_of, own_position}
 use Rattle.at_log.specs.declared.receipt.Receipt.{Receipt}
-use Rattle.at_object.proofs.Covered.{covered-own}
-use Rattle.at_object.proofs.Looked.{asking-HasLoaded, AsksNothing-HasLoaded, between-IsPass, own_part-HasLoaded, published-HasLoaded}
+use Rattle.at_object.proofs.Laws.Covered.{covered-own}
+use Rattle.at_object.proofs.Laws.Looked.{asking-HasLoaded, AsksNothing-HasLoaded, between-IsPass, own_part-HasLoaded, published-HasLoaded}
 use Rattle.at_object.specs.Paid.{PaysAlone}
 use Rattle.at_object.specs.Passes.{IsPass}
 use Rattle.at_object.specs.Payments.{IsDecided, place_at, sent_after}

@@ -3,12 +3,12 @@ use Rattle.at_ledger.specs.Book.{BookTerms}
 use Rattle.at_history.specs.Moves.{AreRuns}
 use Rattle.at_board.specs.Knowledge.Seats.{IsKept}
 use Rattle.at_closing.specs.BetweenCalls.{IsBetweenCalls}
-use Rattle.at_object.proofs.Made.{PaymentMade-refused}
+use Rattle.at_object.proofs.Laws.Made.{PaymentMade-refused}
 use Rattle.at_object.specs.Paid.{PaymentMade}
 use Rattle.at_object.specs.Passes.{PassTerms}
-use Rattle.at_object.proofs.ledger.Ledger.make.Given as given
-use Rattle.at_object.proofs.ledger.Ledger.make.Goals.{After-refuse}
-use Rattle.at_object.proofs.ledger.Ledger.make.Goals as goal
+use Rattle.at_object.proofs.ledger.Ledger.pay_by_call.Given as given
+use Rattle.at_object.proofs.ledger.Ledger.pay_by_call.Goals.{After-refuse}
+use Rattle.at_object.proofs.ledger.Ledger.pay_by_call.Goals as goal
 
 -- what the type of the pass keeps of its seat
 kept : (g : given.Over) (c : After-refuse g) → IsKept c.args.pass.now.knows

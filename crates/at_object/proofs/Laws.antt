@@ -1,0 +1,14 @@
+-- The laws that crates above at_object cite, by what they are about.
+
+-- what each kind of call leaves of its pass: loads of lengths, a payment from a single account, one from a shared one, any payment
+pub mod Looked
+pub mod Alone
+pub mod InRound
+pub mod Made
+-- what a payment needs, and why it is done where the balance covers it
+pub mod Room
+pub mod Covered
+-- the passes of a new ledger
+pub mod NewPasses
+-- lists that are related element by element
+pub mod Zipped
