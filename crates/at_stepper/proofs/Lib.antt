@@ -2,3 +2,4 @@ pub mod CollectingLaws
 pub mod LoadingLaws
 pub mod AppendingLaws
 pub mod SnappingLaws
+pub mod CatchingUpLaws

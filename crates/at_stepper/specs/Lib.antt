@@ -4,3 +4,5 @@ pub mod Appending
 pub mod Snapping
 pub mod Kept
 pub mod KeptSnapshots
+pub mod CatchingUp
+pub mod KeptCatchingUp

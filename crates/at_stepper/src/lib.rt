@@ -8,6 +8,7 @@
 #![tactic(auto)]
 
 mod appending;
+mod catching_up;
 mod collecting;
 mod loading_entry;
 mod loading_view;
@@ -15,6 +16,7 @@ mod snapping;
 mod stage;
 
 pub use crate::appending::Appending;
+pub use crate::catching_up::CatchingUp;
 pub use crate::collecting::Collecting;
 pub use crate::loading_entry::LoadingEntry;
 pub use crate::loading_view::LoadingView;
