@@ -3,3 +3,4 @@ pub mod LoadingLaws
 pub mod AppendingLaws
 pub mod SnappingLaws
 pub mod CatchingUpLaws
+pub mod LookingLaws

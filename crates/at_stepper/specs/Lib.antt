@@ -6,3 +6,5 @@ pub mod Kept
 pub mod KeptSnapshots
 pub mod CatchingUp
 pub mod KeptCatchingUp
+pub mod Looking
+pub mod KeptLooking

@@ -12,6 +12,8 @@ mod catching_up;
 mod collecting;
 mod loading_entry;
 mod loading_view;
+mod look_stage;
+mod looking;
 mod snapping;
 mod stage;
 
@@ -20,4 +22,5 @@ pub use crate::catching_up::CatchingUp;
 pub use crate::collecting::Collecting;
 pub use crate::loading_entry::LoadingEntry;
 pub use crate::loading_view::LoadingView;
+pub use crate::looking::Looking;
 pub use crate::snapping::Snapping;
