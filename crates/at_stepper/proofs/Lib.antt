@@ -4,3 +4,5 @@ pub mod AppendingLaws
 pub mod SnappingLaws
 pub mod CatchingUpLaws
 pub mod LookingLaws
+pub mod ReadingLaws
+pub mod PayingAloneLaws

@@ -8,3 +8,6 @@ pub mod CatchingUp
 pub mod KeptCatchingUp
 pub mod Looking
 pub mod KeptLooking
+pub mod Reading
+pub mod KeptReading
+pub mod PayingAlone

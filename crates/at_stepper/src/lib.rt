@@ -14,6 +14,7 @@ mod loading_entry;
 mod loading_view;
 mod look_stage;
 mod looking;
+mod reading;
 mod snapping;
 mod stage;
 
@@ -23,4 +24,5 @@ pub use crate::collecting::Collecting;
 pub use crate::loading_entry::LoadingEntry;
 pub use crate::loading_view::LoadingView;
 pub use crate::looking::Looking;
+pub use crate::reading::Reading;
 pub use crate::snapping::Snapping;
