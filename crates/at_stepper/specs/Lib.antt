@@ -4,3 +4,10 @@ pub mod Appending
 pub mod Snapping
 pub mod Kept
 pub mod KeptSnapshots
+pub mod CatchingUp
+pub mod KeptCatchingUp
+pub mod Looking
+pub mod KeptLooking
+pub mod Reading
+pub mod KeptReading
+pub mod PayingAlone

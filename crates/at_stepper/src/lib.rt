@@ -8,14 +8,21 @@
 #![tactic(auto)]
 
 mod appending;
+mod catching_up;
 mod collecting;
 mod loading_entry;
 mod loading_view;
+mod look_stage;
+mod looking;
+mod reading;
 mod snapping;
 mod stage;
 
 pub use crate::appending::Appending;
+pub use crate::catching_up::CatchingUp;
 pub use crate::collecting::Collecting;
 pub use crate::loading_entry::LoadingEntry;
 pub use crate::loading_view::LoadingView;
+pub use crate::looking::Looking;
+pub use crate::reading::Reading;
 pub use crate::snapping::Snapping;

@@ -1,0 +1,24 @@
+//! Where a look in the making stands.
+
+ghost use Rattle.std.specs.Prelude.{◌≡◌};
+
+use crate::catching_up::CatchingUp;
+use crate::snapping::Snapping;
+
+/// What a look's next turn goes on with.
+#[derive(Drop)]
+pub(crate) enum LookStage {
+    /// The snapshot.
+    Snap(Snapping),
+    /// Counting what the snapshot counts, until nothing is left.
+    CatchUp(CatchingUp),
+}
+
+impl LookStage {
+    /// Goes on with this.
+    pub(crate) fn become_next(&mut self, next: LookStage)
+        ensures { self.new ≡ next }
+    {
+        *self = next;
+    }
+}
