@@ -2,3 +2,5 @@ pub mod CollectingLaws
 pub mod LoadingLaws
 pub mod AppendingLaws
 pub mod SnappingLaws
+pub mod LoadingRequestLaws
+pub mod AskingLaws

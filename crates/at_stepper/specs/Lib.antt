@@ -4,3 +4,7 @@ pub mod Appending
 pub mod Snapping
 pub mod Kept
 pub mod KeptSnapshots
+pub mod LoadingRequest
+pub mod KeptRequests
+pub mod Asking
+pub mod KeptAsking

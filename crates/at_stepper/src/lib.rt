@@ -8,14 +8,18 @@
 #![tactic(auto)]
 
 mod appending;
+mod asking;
 mod collecting;
 mod loading_entry;
+mod loading_request;
 mod loading_view;
 mod snapping;
 mod stage;
 
 pub use crate::appending::Appending;
+pub use crate::asking::Asking;
 pub use crate::collecting::Collecting;
 pub use crate::loading_entry::LoadingEntry;
+pub use crate::loading_request::LoadingRequest;
 pub use crate::loading_view::LoadingView;
 pub use crate::snapping::Snapping;
