@@ -4,3 +4,5 @@ pub mod AppendingLaws
 pub mod SnappingLaws
 pub mod LoadingRequestLaws
 pub mod AskingLaws
+pub mod LoadingRowLaws
+pub mod CollectingRowsLaws

@@ -8,3 +8,6 @@ pub mod LoadingRequest
 pub mod KeptRequests
 pub mod Asking
 pub mod KeptAsking
+pub mod LoadingRow
+pub mod CollectingRows
+pub mod KeptRows

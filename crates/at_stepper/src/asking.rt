@@ -43,8 +43,8 @@ impl Model for Asking {
 impl Asking {
     /// Starts asking for these targets with this `since`, in no step.
     pub fn start(seat: &BoardSeat, account: u32, targets: Targets, since: u32) -> Asking
-        requires { (slot : ℕ) × MayAskFor seat.now.knows.book seat.now.knows account slot (asked_for targets.now since) }
-        ensures { result ≡ starting_asking seat.now.knows account targets.now since }
+        requires { (slot : ℕ) × MayAskFor seat.now.knows.book seat.now.knows account slot (asked_for targets since) }
+        ensures { result ≡ starting_asking seat.now.knows account targets since }
     {
         seat.known();
         Asking {

@@ -10,15 +10,19 @@
 mod appending;
 mod asking;
 mod collecting;
+mod collecting_rows;
 mod loading_entry;
 mod loading_request;
+mod loading_row;
 mod loading_view;
+mod row_stage;
 mod snapping;
 mod stage;
 
 pub use crate::appending::Appending;
 pub use crate::asking::Asking;
 pub use crate::collecting::Collecting;
+pub use crate::collecting_rows::CollectingRows;
 pub use crate::loading_entry::LoadingEntry;
 pub use crate::loading_request::LoadingRequest;
 pub use crate::loading_view::LoadingView;
