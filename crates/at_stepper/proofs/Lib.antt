@@ -6,3 +6,7 @@ pub mod CatchingUpLaws
 pub mod LookingLaws
 pub mod ReadingLaws
 pub mod PayingAloneLaws
+pub mod LoadingRequestLaws
+pub mod AskingLaws
+pub mod LoadingRowLaws
+pub mod CollectingRowsLaws

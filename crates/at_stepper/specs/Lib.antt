@@ -11,3 +11,10 @@ pub mod KeptLooking
 pub mod Reading
 pub mod KeptReading
 pub mod PayingAlone
+pub mod LoadingRequest
+pub mod KeptRequests
+pub mod Asking
+pub mod KeptAsking
+pub mod LoadingRow
+pub mod CollectingRows
+pub mod KeptRows

@@ -8,20 +8,28 @@
 #![tactic(auto)]
 
 mod appending;
+mod asking;
 mod catching_up;
 mod collecting;
+mod collecting_rows;
 mod loading_entry;
+mod loading_request;
+mod loading_row;
 mod loading_view;
 mod look_stage;
 mod looking;
 mod reading;
+mod row_stage;
 mod snapping;
 mod stage;
 
 pub use crate::appending::Appending;
+pub use crate::asking::Asking;
 pub use crate::catching_up::CatchingUp;
 pub use crate::collecting::Collecting;
+pub use crate::collecting_rows::CollectingRows;
 pub use crate::loading_entry::LoadingEntry;
+pub use crate::loading_request::LoadingRequest;
 pub use crate::loading_view::LoadingView;
 pub use crate::looking::Looking;
 pub use crate::reading::Reading;

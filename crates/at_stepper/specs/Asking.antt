@@ -1,0 +1,33 @@
+-- Asking that is made one store a turn.
+use Rattle.std.specs.Prelude.{ℕ, ◌+◌, List, slice_index}
+use Rattle.at_ledger.specs.Call.{TargetPair}
+use Rattle.at_history.specs.declared.request.Request.{Request}
+use Rattle.at_board.specs.Steps.StoreRequestWord.{StoresRequestWord}
+use Rattle.at_board.specs.Words.Packed.{request_words}
+use Rattle.at_board.specs.declared.knowledge.Knowledge.{Knowledge}
+use Rattle.at_rows.specs.Asks.{asked_for}
+
+-- asking by what its seat knew at the start and after the last turn, by the account, the targets and the `since`, and by how many
+-- stores were made
+pub record AskingTerms : Type 0 where
+  pub start : Knowledge
+  pub mark : Knowledge
+  pub account : ℕ
+  pub targets : List TargetPair
+  pub since : ℕ
+  pub stored : ℕ
+
+abbrev pub starting_asking : Knowledge → ℕ → List TargetPair → ℕ → AskingTerms
+starting_asking v a targets since = record { start = v; mark = v; account = a; targets = targets; since = since; stored = 0 }
+
+-- asking after one more turn
+abbrev pub asking_after : AskingTerms → Knowledge → AskingTerms
+asking_after a v = record { start = a.start; mark = v; account = a.account; targets = a.targets; since = a.since; stored = a.stored + 1 }
+
+-- what it announces
+abbrev pub request_in : AskingTerms → Request
+request_in a = asked_for a.targets a.since
+
+-- the seat has then stored the next word of the request, and nothing else
+abbrev pub StoresNextRequestWord : AskingTerms → Knowledge → Type 0
+StoresNextRequestWord a v = StoresRequestWord a.mark v a.account a.stored (slice_index (request_words (request_in a)) a.stored)

@@ -1,0 +1,26 @@
+-- Loads of announced requests that are made one word a turn.
+use Rattle.std.specs.Prelude.{ℕ, ◌+◌}
+use Rattle.at_ledger.specs.Book.{BookTerms}
+use Rattle.at_board.specs.declared.knowledge.Knowledge.{Knowledge}
+use Rattle.at_board.specs.Steps.LoadRequestWord.{LoadsRequestWord}
+
+-- a load by what its seat knew at the start and after the last turn, by the request's account, slot and number, and by how many
+-- words are loaded
+pub record LoadingRequestTerms : Type 0 where
+  pub start : Knowledge
+  pub mark : Knowledge
+  pub account : ℕ
+  pub slot : ℕ
+  pub number : ℕ
+  pub loaded : ℕ
+
+abbrev pub starting_request : Knowledge → ℕ → ℕ → ℕ → LoadingRequestTerms
+starting_request v a slot number = record { start = v; mark = v; account = a; slot = slot; number = number; loaded = 0 }
+
+-- the load after one more turn
+abbrev pub request_after : LoadingRequestTerms → Knowledge → LoadingRequestTerms
+request_after l v = record { start = l.start; mark = v; account = l.account; slot = l.slot; number = l.number; loaded = l.loaded + 1 }
+
+-- the seat has then loaded the next word of the request, whatever it is, and nothing else
+abbrev pub LoadsNextWord : BookTerms → LoadingRequestTerms → Knowledge → Type 0
+LoadsNextWord b l v = (word : ℕ) × LoadsRequestWord b l.mark v l.account l.slot l.number l.loaded word
