@@ -1,8 +1,7 @@
 -- Asking from one turn to the next.
-use Rattle.std.proofs.Common.{◌≡◌, ℕ, ◌+◌, ◌<◌, ◌≤◌, ◌^◌, List, length, get_or, refl, sym, ap, subst, ◌∙◌, arith}
+use Rattle.std.proofs.Common.{◌≡◌, ℕ, ◌<◌, ◌≤◌, ◌^◌, List, length, get_or, refl, sym, ap, subst, ◌∙◌, arith}
 use Rattle.at_ledger.specs.Book.{BookTerms, HasSlot}
 use Rattle.at_ledger.specs.Call.{AreTargetsOn, TargetPair}
-use Rattle.at_history.specs.declared.request.Request.{Request}
 use Rattle.at_board.specs.Knowledge.Parts.{asking_on, own_part}
 use Rattle.at_board.specs.Knowledge.Seats.{IsKept}
 use Rattle.at_board.specs.Steps.Announce.{Announces, MayAnnounce}
@@ -15,7 +14,7 @@ use Rattle.at_rows.proofs.Laws.Accounts.{HasAccount, HasAccount-IsSeat, asking_o
 use Rattle.at_rows.proofs.Laws.Asking.{Announces-IsStoringRequest, HasAsked-Announces, HasLoadedNothing-Announces, IsStoringRequest-more, IsStoringRequest-start, MayAnnounce-IsStoringRequest, MayAskFor-slot, MayStoreRequest-IsStoringRequest}
 use Rattle.at_rows.proofs.Laws.Loading.{AreTargetsOn-AreTargets}
 use Rattle.at_rows.specs.Asks.{HasAsked, HasLoadedNothing, MayAskFor, asked_for, opened}
-use Rattle.at_rows.specs.Storing.{IsStoringRequest, with_stored}
+use Rattle.at_rows.specs.Storing.{with_stored}
 use Rattle.at_stepper.specs.Asking.{AskingTerms, asking_after, request_in, starting_asking}
 use Rattle.at_stepper.specs.KeptAsking.{IsAskingSo}
 

@@ -17,7 +17,7 @@ use Rattle.at_rows.specs.OpenRequests.{AreBelow, request_of}
 use Rattle.at_rows.specs.Rows.{AreCandidates, CollectsRows, LoadsRow, row_steps}
 use Rattle.at_rows.specs.declared.open_request.OpenRequest.{OpenRequest}
 use Rattle.at_stepper.specs.CollectingRows.{CollectingRowsTerms, GoesOn, MakesNextLoad, rows_after}
-use Rattle.at_stepper.specs.KeptRows.{IsAmidRows, IsCollectingRowsSo}
+use Rattle.at_stepper.specs.KeptRows.{IsCollectingRowsSo}
 use Rattle.at_stepper.specs.LoadingRow.{LoadingRowTerms, MakesLoadOf, NextRowLoad, row_after, row_turns, starting_row}
 use Rattle.at_stepper.specs.LoadingRow.NextRowLoad.{announced_word, request_word, nothing}
 

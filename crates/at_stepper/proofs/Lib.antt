@@ -10,3 +10,4 @@ pub mod LoadingRequestLaws
 pub mod AskingLaws
 pub mod LoadingRowLaws
 pub mod CollectingRowsLaws
+pub mod DecidingLaws

@@ -18,3 +18,5 @@ pub mod KeptAsking
 pub mod LoadingRow
 pub mod CollectingRows
 pub mod KeptRows
+pub mod Deciding
+pub mod KeptDeciding

@@ -8,7 +8,7 @@ ghost use Rattle.at_log.specs.Appending.{MayAppend};
 ghost use Rattle.at_log.specs.LastRecord.{IsLast};
 ghost use Rattle.at_stepper.specs.Appending.{StoresNextWord, appending_after, publication_of, starting_appending};
 
-use at_board::{Board, BoardSeat, RECORD_WORDS, Steps, record_word};
+use at_board::{Board, BoardSeat, Entry, RECORD_WORDS, Steps, record_word};
 use at_log::Record;
 use std::marker::Model;
 use std::snapshot::Snapshot;
@@ -51,6 +51,13 @@ impl Appending {
         }
     }
 
+    /// The entry of the record.
+    pub fn entry(&self) -> &Entry
+        ensures { result.now ≡ self.now.rec.entry }
+    {
+        &self.rec.entry
+    }
+
     /// Stores the next word of the record, in one step, and publishes it once all are stored. Whether this turn has published it.
     pub fn turn<L: Ledger, X: Ledger>(
         &mut self,
@@ -65,6 +72,7 @@ impl Appending {
         ensures after { self.new ≡ appending_after self.old seat.new.knows }
         ensures word { self.old.stored < record_width board.now.book → StoresNextWord self.old seat.new.knows }
         ensures ends { IsTrue result ↔ (self.old.stored ≡ record_width board.now.book) }
+        ensures publishes { IsTrue result → Publishes board.now.book self.old.mark seat.new.knows (publication_of self.old) }
         ensures published { IsTrue result → Publishes board.now.book self.old.start seat.new.knows (publication_of self.old) }
         ensures last { IsTrue result → IsLast self.old.start seat.new.knows (publication_of self.old) }
         ensures board { IsOf seat.new board.now }

@@ -101,6 +101,9 @@ from_start g c =
     let at = (goal.at.After-publish g c).After-processes in
     Publishes-IsAppendingSo c.args.board.now.book c.args.self.now c.publish.new.seat.knows (book g at) (all g c) (before g at) (published g c)
 
+pub returns-else-self-processes-clause-publishes : goal.returns-else-self-processes-clause-publishes
+returns-else-self-processes-clause-publishes g c = λ is. published g (goal.at.returns-else-self-processes-clause-publishes g c).After-publish
+
 pub returns-else-self-processes-clause-published : goal.returns-else-self-processes-clause-published
 returns-else-self-processes-clause-published g c = λ is. from_start g (goal.at.returns-else-self-processes-clause-published g c).After-publish
 
