@@ -22,5 +22,5 @@ abbrev pub request_after : LoadingRequestTerms → Knowledge → LoadingRequestT
 request_after l v = record { start = l.start; mark = v; account = l.account; slot = l.slot; number = l.number; loaded = l.loaded + 1 }
 
 -- the seat has then loaded the next word of the request, whatever it is, and nothing else
-abbrev pub LoadsNextWord : BookTerms → LoadingRequestTerms → Knowledge → Type 0
-LoadsNextWord b l v = (word : ℕ) × LoadsRequestWord b l.mark v l.account l.slot l.number l.loaded word
+abbrev pub LoadsNextRequestWord : BookTerms → LoadingRequestTerms → Knowledge → Type 0
+LoadsNextRequestWord b l v = (word : ℕ) × LoadsRequestWord b l.mark v l.account l.slot l.number l.loaded word

@@ -4,7 +4,8 @@
 //! Between two turns the seats of other processes may step. Its own seat makes no other step meanwhile, so that it knows what the
 //! last turn left.
 //!
-//! There are a collect, a snapshot, the loads of a record's entry and of its view, and an append.
+//! A read is a whole call: a look, which is a snapshot and then the loads of the records that it counts. Of payments there are the parts:
+//! an append; asking, the rows of an account and the load of a request; and a round, from its exchange to its record.
 #![tactic(auto)]
 
 mod appending;

@@ -5,7 +5,7 @@ ghost use Rattle.at_board.specs.Knowledge.Seats.{IsOf};
 ghost use Rattle.at_board.specs.Steps.LoadRequestWord.{KnowsOf};
 ghost use Rattle.at_board.specs.declared.words.TheConstants.{REQUEST_WORDS};
 ghost use Rattle.at_rows.specs.Loads.{LoadsRequest};
-ghost use Rattle.at_stepper.specs.LoadingRequest.{LoadsNextWord, request_after, starting_request};
+ghost use Rattle.at_stepper.specs.LoadingRequest.{LoadsNextRequestWord, request_after, starting_request};
 
 use at_board::{Board, BoardSeat, REQUEST_WORDS, Steps};
 use at_rows::{OpenRequest, request_from};
@@ -71,7 +71,7 @@ impl LoadingRequest {
         requires mark { seat.old.knows ≡ self.old.mark }
         requires left { self.old.loaded < REQUEST_WORDS }
         ensures after { self.new ≡ request_after self.old seat.new.knows }
-        ensures load { LoadsNextWord board.now.book self.old seat.new.knows }
+        ensures load { LoadsNextRequestWord board.now.book self.old seat.new.knows }
         ensures ends { IsSome result ↔ (self.new.loaded ≡ REQUEST_WORDS) }
         ensures request { IfSome result (LoadsRequest board.now.book self.old.start seat.new.knows self.old.account self.old.slot self.old.number) }
         ensures board { IsOf seat.new board.now }
