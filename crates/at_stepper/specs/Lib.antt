@@ -11,3 +11,4 @@ pub mod KeptLooking
 pub mod Reading
 pub mod KeptReading
 pub mod PayingAlone
+pub mod KeptPayingAlone

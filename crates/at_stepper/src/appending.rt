@@ -8,7 +8,7 @@ ghost use Rattle.at_log.specs.Appending.{MayAppend};
 ghost use Rattle.at_log.specs.LastRecord.{IsLast};
 ghost use Rattle.at_stepper.specs.Appending.{StoresNextWord, appending_after, publication_of, starting_appending};
 
-use at_board::{Board, BoardSeat, RECORD_WORDS, Steps, record_word};
+use at_board::{Board, BoardSeat, Entry, RECORD_WORDS, Steps, record_word};
 use at_log::Record;
 use std::marker::Model;
 use std::snapshot::Snapshot;
@@ -49,6 +49,13 @@ impl Appending {
             start: Snapshot::of(seat),
             mark: Snapshot::of(seat),
         }
+    }
+
+    /// The entry of its record.
+    pub fn entry(&self) -> &Entry
+        ensures { result.now ≡ self.now.rec.entry }
+    {
+        &self.rec.entry
     }
 
     /// Stores the next word of the record, in one step, and publishes it once all are stored. Whether this turn has published it.

@@ -5,6 +5,7 @@
 //! last turn left.
 //!
 //! There are a collect, a snapshot, the loads of a record's entry and of its view, and an append.
+//! From these are made totals that catch up, a look, a read, and a payment from an account of one owner.
 #![tactic(auto)]
 
 mod appending;
@@ -14,6 +15,8 @@ mod loading_entry;
 mod loading_view;
 mod look_stage;
 mod looking;
+mod pay_stage;
+mod paying_alone;
 mod reading;
 mod snapping;
 mod stage;
@@ -24,5 +27,6 @@ pub use crate::collecting::Collecting;
 pub use crate::loading_entry::LoadingEntry;
 pub use crate::loading_view::LoadingView;
 pub use crate::looking::Looking;
+pub use crate::paying_alone::PayingAlone;
 pub use crate::reading::Reading;
 pub use crate::snapping::Snapping;
