@@ -1,36 +1,28 @@
 -- What a look, and a record after it, let the receipt of a payment be.
-use Rattle.std.proofs.Common.{◌≡◌, ℕ, ◌+◌, ◌-◌, ◌*◌, ◌<◌, ◌≤◌, List, Some, length, get_or, set, refl, sym, ap, subst, ◌∙◌, arith, get_or-set_same}
-use Rattle.std.specs.List.{sum}
+use Rattle.std.proofs.Common.{◌≡◌, ℕ, ◌+◌, ◌<◌, ◌≤◌, List, Some, refl, sym, ap, subst, ◌∙◌, arith}
 use Rattle.at_ledger.specs.Book.{BookTerms}
 use Rattle.at_ledger.specs.Call.{TargetPair, amount_of}
 use Rattle.at_ledger.specs.declared.call.Call.{Call}
 use Rattle.at_ledger.specs.declared.call.Reply.TheVariants.{Done, Short}
 use Rattle.at_history.specs.Balances.{balance_after}
-use Rattle.at_history.specs.BoardState.{publication_at}
 use Rattle.at_history.specs.Fronts.{place, prefix_of}
-use Rattle.at_history.specs.Publications.{publications_of}
 use Rattle.at_history.specs.Rounds.{owns_of}
-use Rattle.at_history.specs.declared.publication.Entry.{Entry}
 use Rattle.at_history.specs.declared.publication.Publication.{Publication}
 use Rattle.at_board.specs.Knowledge.Parts.{own_part}
 use Rattle.at_board.specs.Steps.Publish.{Publishes}
 use Rattle.at_board.specs.declared.knowledge.Knowledge.{Knowledge}
-use Rattle.at_board.specs.declared.words.TheConstants.{RECORD_WORDS}
-use Rattle.at_fold.proofs.Laws.LoadedRecords.{sum-caught}
-use Rattle.at_fold.specs.HasCounted.{HasCounted, IsNext}
+use Rattle.at_fold.specs.HasCounted.{HasCounted}
 use Rattle.at_fold.specs.Sums.{TotalSums}
-use Rattle.at_log.specs.Receipts.{owns_in, payout_of}
-use Rattle.at_log.specs.Told.{own_position}
+use Rattle.at_log.specs.Receipts.{payout_of}
 use Rattle.at_log.specs.declared.receipt.At.TheVariants.{Front, Own}
 use Rattle.at_single.proofs.Laws.Looks.{first-HasLoaded}
 use Rattle.at_single.proofs.Laws.OwnRecords.{owns_of-IsPrefix-take}
-use Rattle.at_single.proofs.Laws.Paid.{IsPaid, IsSnapshot-IsPaid, begins-IsPaid, first-IsPaid, front_behind-IsPaid, more-IsPaid, number-IsPaid, place-IsPaid, prefix_of-IsPaid, record-IsPaid, within-IsPaid}
+use Rattle.at_single.proofs.Laws.Paid.{IsPaid, IsSnapshot-IsPaid, begins-IsPaid, front_behind-IsPaid, more-IsPaid, number-IsPaid, place-IsPaid, prefix_of-IsPaid, record-IsPaid, within-IsPaid}
 use Rattle.at_single.proofs.Laws.Placed.{IsPlaced-done, IsPlaced-short, payment_reply-done, payment_reply-short}
 use Rattle.at_single.specs.Looks.{HasLooked}
 use Rattle.at_single.specs.Standing.{IsOnlyOwner, front_behind, own_record, payment_reply}
-use Rattle.at_snapshot.specs.Snapshots.{IsSnapshot, snapshot_steps}
+use Rattle.at_snapshot.specs.Snapshots.{IsSnapshot}
 use Rattle.at_stepper.specs.PayingAlone.{IsPaidOf}
-use Rattle.at_stepper.specs.Reading.{LeavesTotals}
 
 module _ (b : BookTerms) (v w : Knowledge) (was now : TotalSums) (front : List ℕ) (from : ℕ) (targets : List TargetPair) (call : Call)
     (looked : HasLooked b v w was now front) (payout : payout_of call ≡ Some (from, targets)) (owner : IsOnlyOwner b v.first from)
@@ -82,40 +74,9 @@ module _ (b : BookTerms) (v w : Knowledge) (was now : TotalSums) (front : List �
             subst (λ f. Publishes b w x (own_record v.first f from targets)) (sym behind)
             (subst (λ p. Publishes b w x (own_record p front from targets)) (first-HasLoaded b v w paid.loads) paid.published)
 
-    -- what the totals had counted stays counted, and the record comes next
+    -- what the totals had counted stays counted
     pub HasCounted-IsPaid : HasCounted now b x.seen
     HasCounted-IsPaid = looked.counted x.seen (more-IsPaid b v w x front from targets paid)
 
-    number_is : get_or now.upto x.first 0 ≡ (own_part v).published
-    number_is =
-        ap (λ (xs : List ℕ). get_or xs x.first 0) looked.upto
-        ∙ (ap (λ p. get_or front p 0) (first-IsPaid b v w x front from targets paid) ∙ looked.snapshot.own)
-
-    pub IsNext-IsPaid : v.first < b.processes → IsNext now b x.seen x.first (Entry.Own from targets)
-    IsNext-IsPaid known =
-        let first : x.first ≡ v.first = first-IsPaid b v w x front from targets paid in
-        record {
-          process = omega (arith, known, first);
-          within = omega (arith, number_is, paid.last.within, number-IsPaid b v w x front from targets paid);
-          entry = sym (ap (λ (y : Publication). y.entry) (subst (λ k. publication_at (publications_of x.first x.seen) k ≡ own_record w.first front from targets)
-              (sym (number_is ∙ sym (number-IsPaid b v w x front from targets paid))) paid.last.last));
-        }
-
     pub published-IsPaid : (own_part x).published ≡ (own_part v).published + 1
     published-IsPaid = paid.last.published ∙ ap (λ k. k + 1) (number-IsPaid b v w x front from targets paid)
-
-    -- the record is counted too
-    pub LeavesTotals-IsPaid : (then : TotalSums) (more_steps turns : ℕ) → x.first < length now.upto
-        → then.upto ≡ set now.upto x.first (own_part x).published
-        → turns ≤ snapshot_steps b.processes + more_steps + RECORD_WORDS * (sum front - sum was.upto)
-        → LeavesTotals b v x was then more_steps turns
-    LeavesTotals-IsPaid then more_steps turns inside upto few =
-        let published = published-IsPaid in
-        let total : sum then.upto ≡ sum (set now.upto x.first (own_part x).published) = ap (λ (xs : List ℕ). sum xs) upto in
-        let front_total : sum now.upto ≡ sum front = ap (λ (xs : List ℕ). sum xs) looked.upto in
-        let more = sum-caught now.upto x.first (own_part x).published inside (omega (arith, number_is, published)) in
-        record {
-          more = omega (arith, published, total, front_total, more, number_is, looked.more);
-          own_counted = ap (λ (xs : List ℕ). get_or xs x.first 0) upto ∙ get_or-set_same now.upto x.first (own_part x).published 0 inside;
-          few = omega (arith, few, published, total, front_total, more, number_is, looked.more);
-        }

@@ -11,6 +11,7 @@ pub mod KeptLooking
 pub mod Reading
 pub mod KeptReading
 pub mod PayingAlone
+pub mod KeptPayingAlone
 pub mod LoadingRequest
 pub mod KeptRequests
 pub mod Asking

@@ -1,18 +1,62 @@
 -- Payments from single accounts that are made one step a turn.
-use Rattle.std.specs.Prelude.{◌≡◌, ℕ, ◌+◌, List}
+use Rattle.std.specs.Prelude.{◌≡◌, ℕ, ◌+◌, ◌-◌, ◌<◌, List}
 use Rattle.at_ledger.specs.Book.{BookTerms}
 use Rattle.at_ledger.specs.Call.{TargetPair}
 use Rattle.at_ledger.specs.declared.call.Call.{Call}
 use Rattle.at_ledger.specs.declared.call.Reply.{Reply}
-use Rattle.at_ledger.specs.declared.call.Reply.TheVariants.{Balance, Done, Full, NotOwner, Short}
+use Rattle.at_ledger.specs.declared.call.Reply.TheVariants.{Balance, Done, Full, NotOwner}
 use Rattle.at_history.specs.Fronts.{prefix_of}
 use Rattle.at_history.specs.Rounds.{owns_of}
+use Rattle.at_board.specs.Knowledge.Seats.{SeatTerms}
+use Rattle.at_board.specs.Steps.Publish.{Publishes}
+use Rattle.at_board.specs.Words.Addresses.{record_width}
 use Rattle.at_board.specs.declared.knowledge.Knowledge.{Knowledge}
+use Rattle.at_fold.specs.Sums.{TotalSums}
 use Rattle.at_log.specs.Placed.{IsPlaced}
 use Rattle.at_log.specs.Receipts.{owns_in}
 use Rattle.at_log.specs.declared.receipt.Receipt.{Receipt}
 use Rattle.at_single.specs.Standing.{StandsAfterFront, StandsAtFront, StandsAtOwn, front_behind, payment_reply}
 use Rattle.at_snapshot.specs.Snapshots.{IsSnapshot}
+use Rattle.at_stepper.specs.Appending.{StoresNextWord, publication_of}
+use Rattle.at_stepper.specs.Looking.{MakesLookLoad, turns_left}
+use Rattle.at_stepper.specs.declared.pay_stage.PayStage.{PayStage}
+use Rattle.at_stepper.specs.declared.pay_stage.PayStage.TheVariants.{Append, Look, Short}
+
+-- a payment by its call, its source and its targets, by what the next turn goes on with, by how many turns its look had once it has ended,
+-- and by what its seat knew and its totals had counted at the start and after the last turn
+pub record PayingAloneTerms : Type 0 where
+  pub call : Call
+  pub from : ℕ
+  pub targets : List TargetPair
+  pub stage : PayStage
+  pub looked : ℕ
+  pub start : Knowledge
+  pub mark : Knowledge
+  pub was : TotalSums
+  pub totals : TotalSums
+
+-- the turns that were made
+abbrev pub turns_in : ℕ → PayStage → ℕ
+turns_in looked (Look l) = l.turns
+turns_in looked (Append a) = looked + a.stored
+turns_in looked Short = looked
+
+abbrev pub turns_made : PayingAloneTerms → ℕ
+turns_made t = turns_in t.looked t.stage
+
+-- the turns that are left at most, of a record with so many words
+abbrev pub pay_turns_left : ℕ → PayStage → ℕ
+pay_turns_left width (Look l) = turns_left l.stage + width + 1
+pay_turns_left width (Append a) = width + 1 - a.stored
+pay_turns_left width Short = 0
+
+-- just the step was made that came next: of the look, or of the append
+abbrev pub MakesPayStep : BookTerms → PayStage → SeatTerms → SeatTerms → TotalSums → Type 0
+MakesPayStep b (Look l) before after now = MakesLookLoad b l.stage before after now
+MakesPayStep b (Append a) before after now =
+    (a.stored < record_width b → StoresNextWord a after.knows)
+    × (a.stored ≡ record_width b → Publishes b a.start after.knows (publication_of a))
+MakesPayStep b Short before after now = ⊥
 
 -- the receipt of a payment whose first turn came after what was known before, and that was decided at the front of its snapshot
 pub record IsPaidOf (b : BookTerms) (before after : Knowledge) (from : ℕ) (targets : List TargetPair) (call : Call) (r : Receipt) : Type 0 where
@@ -21,13 +65,13 @@ pub record IsPaidOf (b : BookTerms) (before after : Knowledge) (from : ℕ) (tar
   pub placed : (earlier : List Receipt) → owns_in earlier ≡ owns_of before.first before.seen → IsPlaced b before.first after.seen earlier r
   pub after_front : StandsAfterFront after r
   pub snapshot : IsSnapshot b before after (front_behind after r.at)
-  pub short : r.reply ≡ Short → StandsAtFront b before after r.at
+  pub short : r.reply ≡ Reply.Short → StandsAtFront b before after r.at
   pub done : r.reply ≡ Done → StandsAtOwn b before after from targets r.at
 
 -- the steps of a payment after its look: of a record with so many words, where it is done
 abbrev pub append_steps : ℕ → Reply → ℕ
 append_steps width Done = width + 1
-append_steps width Short = 0
+append_steps width Reply.Short = 0
 append_steps width NotOwner = 0
 append_steps width Full = 0
 append_steps width (Balance amount) = 0

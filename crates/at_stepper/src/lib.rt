@@ -4,8 +4,9 @@
 //! Between two turns the seats of other processes may step. Its own seat makes no other step meanwhile, so that it knows what the
 //! last turn left.
 //!
-//! A read is a whole call: a look, which is a snapshot and then the loads of the records that it counts. Of payments there are the parts:
-//! an append; asking, the rows of an account and the load of a request; and a round, from its exchange to its record.
+//! Whole calls are a read and a payment from an account of one owner. Each begins with a look, which is a snapshot and then the loads of
+//! the records that it counts; the payment ends with an append where it is covered. Of payments from shared accounts there are the parts:
+//! asking, the rows of an account and the load of a request; and a round, from its exchange to its record.
 #![tactic(auto)]
 
 mod appending;
@@ -20,6 +21,8 @@ mod loading_row;
 mod loading_view;
 mod look_stage;
 mod looking;
+mod pay_stage;
+mod paying_alone;
 mod reading;
 mod round_stage;
 mod row_stage;
@@ -36,5 +39,6 @@ pub use crate::loading_entry::LoadingEntry;
 pub use crate::loading_request::LoadingRequest;
 pub use crate::loading_view::LoadingView;
 pub use crate::looking::Looking;
+pub use crate::paying_alone::PayingAlone;
 pub use crate::reading::Reading;
 pub use crate::snapping::Snapping;

@@ -67,6 +67,13 @@ impl Looking {
         }
     }
 
+    /// How many turns were made.
+    pub fn turns(&self) -> u64
+        ensures { result ≡ self.now.turns }
+    {
+        self.turns
+    }
+
     /// Makes the next load of the look, in one step. With the last one, the totals have counted what the snapshot counts, and it
     /// answers the front.
     pub fn turn<L: Ledger, X: Ledger>(
