@@ -2,6 +2,9 @@
 use Rattle.std.specs.Prelude.{◌≡◌, ℕ, ◌<◌, ◌≤◌, List, length, slice_index}
 use Rattle.at_history.specs.Publications.{count_of}
 use Rattle.at_board.specs.Knowledge.Seats.{BoardTerms, IsOf, SeatTerms}
+use Rattle.at_board.specs.Words.Addresses.{record_width}
+use Rattle.at_fold.specs.Sums.{TotalSums}
+use Rattle.at_stepper.specs.PayingAlone.{PayingAloneTerms, pay_turns_left}
 use Rattle.at_stepper.specs.Snapping.{SnappingTerms}
 
 -- the snapshot of this seat isn't ended
@@ -13,3 +16,10 @@ pub record GoesOn (board : BoardTerms) (seat : SeatTerms) (snapping : SnappingTe
 -- the seat has seen so many records of each process
 abbrev pub HasSeen : SeatTerms → List ℕ → Type 0
 HasSeen seat counts = (p : ℕ) → p < length counts → slice_index counts p ≤ count_of p seat.knows.seen
+
+-- the payment of this seat isn't ended, and these are its totals
+pub record IsPaying (board : BoardTerms) (seat : SeatTerms) (totals : TotalSums) (paying : PayingAloneTerms) : Type 0 where
+  pub of_board : IsOf seat board
+  pub mark : seat.knows ≡ paying.mark
+  pub totals_are : totals ≡ paying.totals
+  pub left : 0 < pay_turns_left (record_width board.book) paying.stage

@@ -2,6 +2,10 @@
 #![tactic(auto)]
 
 #[cfg(test)]
+mod call_trials;
+#[cfg(test)]
+mod callers;
+#[cfg(test)]
 mod loads;
 #[cfg(test)]
 mod machine_trials;

@@ -16,7 +16,7 @@ use at_stepper::{Appending, Snapping};
 use std::sync::ledger::Ledger;
 
 /// Whether a process owns the account after that of its number alone.
-fn has_own_account(book: &Book, process: u32) -> bool
+pub(crate) fn has_own_account(book: &Book, process: u32) -> bool
     requires { process < 16 }
     ensures { IsTrue result → HasOwnAccount book.now process }
 {
