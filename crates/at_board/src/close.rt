@@ -1,12 +1,8 @@
 //! Closing a board, when no thread shares it any more.
 
-ghost use Rattle.std.specs.Prelude.{◌≡◌, ◌<◌, ◌≤◌, IfOk, [], IfErr};
-ghost use Rattle.at_board.specs.Words.Addresses.{word_count};
-ghost use Rattle.std.specs.Mem.Slots.{IsFull, slots_items, slots_len};
-ghost use Rattle.std.specs.Vec.{vec_capacity, vec_len};
+ghost use Rattle.std.specs.Prelude.{◌≡◌, ◌<◌, ◌≤◌};
 ghost use Rattle.at_board.specs.Ends.Closing.{AreAllFree, Gathers, IsEnd};
 
-use crate::addresses::{log_starts, slots_before, word_count};
 use crate::board::Board;
 use crate::board_end::BoardEnd;
 use crate::knowledge::Knowledge;
@@ -15,30 +11,17 @@ use crate::plays::Gather;
 use crate::rule::BoardRule;
 use crate::seat::BoardSeat;
 use at_ledger::Book;
-use atomic_table::{Closed, Seat, Shared};
-use std::alloc::Global;
+use atomic_table::{Seat, Shared};
 use std::snapshot::Snapshot;
 
-/// There was no memory to close the board with. The board and its seats come back as they were.
-#[derive(Drop)]
-pub struct BoardRefused {
-    pub board: Board,
-    pub seats: Vec<BoardSeat>,
-}
-
 impl Board {
-    /// Closes the board with all its seats, in order, of which none holds a cell. Takes time in proportion to the words, and
-    /// memory for a copy of them before the board is closed.
-    pub fn close(self, alloc: Global, seats: Vec<BoardSeat>) -> Result<BoardEnd, BoardRefused>
+    /// Closes the board with all its seats, in order, of which none holds a cell. Its words stay where they are. Takes no memory, so
+    /// it isn't refused, and time in proportion to the processes.
+    pub fn close(self, seats: Vec<BoardSeat>) -> BoardEnd
         requires { AreAllFree self seats.items }
-        ensures book { IfOk result (λ e. e.book ≡ self.book) }
-        ensures end { IfOk result (λ e. IsEnd e seats.items) }
-        ensures refused { IfErr result (λ r. (r.board ≡ self) × (r.seats.items ≡ seats.items)) }
+        ensures book { result.book ≡ self.book }
+        ensures end { IsEnd result seats.items }
     {
-        let count = self.table.word_count();
-        let Ok(words) = Vec::with_capacity(alloc, count) else {
-            return Err(BoardRefused { board: self, seats });
-        };
         let Board {
             table,
             book,
@@ -47,11 +30,11 @@ impl Board {
             slots_before: _,
         } = self;
         let last = gather(&table.shared, &book, seats);
-        Ok(BoardEnd {
+        BoardEnd {
             book,
             log_starts,
-            words: words_of(table.close_with(last), count, words),
-        })
+            table: table.close_with(last),
+        }
     }
 }
 
@@ -78,21 +61,4 @@ fn gather(
         shared.join_seat::<Gather>(&mut all, next);
     }
     all
-}
-
-/// The words of a closed table, in memory that was taken before.
-fn words_of(closed: Closed<(), Global>, count: usize, mut words: Vec<u64>) -> Vec<u64>
-    requires full { IsFull closed.words }
-    requires count { slots_len closed.words ≡ count }
-    requires slots { slots_len closed.slots ≡ 0 }
-    requires room { count ≤ vec_capacity words }
-    requires empty { words.items ≡ [] }
-    requires len { vec_len words ≡ 0 }
-    ensures { result.items ≡ slots_items closed.words }
-{
-    for i in 0..count {
-        words.push_reserved(closed.word(i));
-    }
-    closed.free();
-    words
 }

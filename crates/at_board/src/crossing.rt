@@ -1,7 +1,6 @@
 //! What may go to another thread, and what threads may share.
 
 use crate::board::Board;
-use crate::board_end::BoardEnd;
 use crate::note::BoardNote;
 use crate::seat::BoardSeat;
 
@@ -9,8 +8,8 @@ fn is_send<T: Send>() {}
 
 fn is_sync<T: Sync>() {}
 
-/// A board, its seats, its notes and its end may be moved to another thread and shared. A seat that is shared makes no step,
-/// since each step takes it by `&mut`.
+/// A board, its seats and its notes may be moved to another thread and shared. A seat that is shared makes no step, since each
+/// step takes it by `&mut`.
 pub(crate) fn all_cross() {
     is_send::<Board>();
     is_sync::<Board>();
@@ -18,6 +17,4 @@ pub(crate) fn all_cross() {
     is_sync::<BoardSeat>();
     is_send::<BoardNote>();
     is_sync::<BoardNote>();
-    is_send::<BoardEnd>();
-    is_sync::<BoardEnd>();
 }

@@ -1,6 +1,6 @@
 -- The order of the publications, front by front.
 use Rattle.std.proofs.Common.{◌≡◌, ℕ, ◌+◌, ◌-◌, ◌<◌, ◌≤◌, List, [], ◌++◌, length, map, get_or, replicate, sum, refl, sym, ap, subst, append-nil, ◌∷◌, ◌∙◌, arith, inl, inr}
-use Rattle.std.specs.List.{All, Contains, flat_map, range_with_len}
+use Rattle.std.specs.List.{Contains, flat_map, range_with_len}
 use Rattle.std.proofs.lemmas.Bool.{cases_lt}
 use Rattle.std.proofs.lemmas.List.{length-map, length-replicate, map-append}
 use Rattle.std.proofs.lemmas.List.Elements.{All-append, Contains-get_or}

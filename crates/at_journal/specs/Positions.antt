@@ -1,5 +1,5 @@
 -- Where the records of a closing stand in the order of its publications.
-use Rattle.std.specs.Prelude.{◌≡◌, ℕ, ◌<◌, ◌==◌, ◌++◌, List, [], ◌∷◌, length, map, filter, slice_index, slice_index_or, slice_set, All, ⊤, if◌then◌else◌, true}
+use Rattle.std.specs.Prelude.{◌≡◌, ℕ, ◌<◌, ◌==◌, ◌++◌, List, [], ◌∷◌, length, filter, slice_index, slice_index_or, slice_set, All, ⊤, if◌then◌else◌, true}
 use Rattle.std.specs.List.{range_with_len}
 use Rattle.at_history.specs.Publications.{count_of}
 use Rattle.at_history.specs.Rounds.{rounds}

@@ -1,4 +1,3 @@
 pub mod Laws
--- closing: passes taken apart, and what the seats give
-pub mod ClosingParts
+-- closing: what the seats give
 pub mod ClosingSeats

@@ -1,5 +1,5 @@
 -- Passes taken apart, into their seats and what is kept beside these.
-use Rattle.std.specs.Prelude.{◌≡◌, ℕ, ◌≤◌, List, [], ◌∷◌, Vec}
+use Rattle.std.specs.Prelude.{◌≡◌, ℕ, ◌≤◌, [], Vec}
 use Rattle.std.specs.Vec.{vec_capacity, vec_len}
 use Rattle.at_board.specs.Knowledge.Seats.{IsKept, SeatTerms}
 use Rattle.at_closing.specs.BetweenCalls.{IsBetweenCalls}
@@ -12,12 +12,6 @@ seat_of pass = record { board = pass.board; knows = pass.knows }
 
 abbrev pub pass_of : SeatTerms → Rest → PassTerms
 pass_of seat rest = record { board = seat.board; knows = seat.knows; counted = rest.totals.upto; calls = rest.calls }
-
-abbrev pub passes_of : List SeatTerms → List Rest → List PassTerms
-passes_of [] [] = []
-passes_of [] (rest ∷ rests) = []
-passes_of (seat ∷ seats) [] = []
-passes_of (seat ∷ seats) (rest ∷ rests) = pass_of seat rest ∷ passes_of seats rests
 
 -- they are of one pass
 abbrev pub IsOfOnePass : SeatTerms → Rest → Type 0

@@ -40,7 +40,7 @@ impl Pass {
     }
 
     /// The pass of a seat and the rest of it, whose process is between two calls.
-    pub fn of_parts(seat: BoardSeat, rest: Rest) -> Pass
+    pub fn from_parts(seat: BoardSeat, rest: Rest) -> Pass
         requires { IsOfOnePass seat rest }
         ensures { result ≡ pass_of seat rest }
     {

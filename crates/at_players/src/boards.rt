@@ -174,10 +174,7 @@ pub fn close_one(board: Board, alloc: Global, seat: BoardSeat) -> Option<BoardEn
     let Ok(seats) = Vec::from_array(alloc, [seat]) else {
         return None;
     };
-    match board.close(alloc, seats) {
-        Ok(end) => Some(end),
-        Err(_) => None,
-    }
+    Some(board.close(seats))
 }
 
 /// Closes a board with its two seats.
@@ -190,10 +187,7 @@ pub fn close_two(board: Board, alloc: Global, zero: BoardSeat, one: BoardSeat) -
     let Ok(seats) = Vec::from_array(alloc, [zero, one]) else {
         return None;
     };
-    match board.close(alloc, seats) {
-        Ok(end) => Some(end),
-        Err(_) => None,
-    }
+    Some(board.close(seats))
 }
 
 /// Whether a record of a closed board begins with these words.

@@ -335,8 +335,5 @@ pub fn close_four(
     let Ok(seats) = Vec::from_array(alloc, [zero, one, two, three]) else {
         return None;
     };
-    match board.close(alloc, seats) {
-        Ok(end) => Some(end),
-        Err(_) => None,
-    }
+    Some(board.close(seats))
 }

@@ -1,6 +1,6 @@
 //! Collects, and how a whole one compares with those before it.
 
-ghost use Rattle.std.specs.Prelude.{◌≡◌, ℕ, ◌+◌, ◌<◌, ◌≤◌, length, slice_index, MatchOption, Option};
+ghost use Rattle.std.specs.Prelude.{◌≡◌, ℕ, ◌+◌, ◌<◌, ◌≤◌, ◌↔◌, length, slice_index, IsTrue, MatchOption, Option, Some};
 ghost use Rattle.at_history.specs.Publications.{count_of};
 ghost use Rattle.at_board.specs.Knowledge.Seats.{IsOf};
 ghost use Rattle.at_snapshot.specs.declared.collects.Collects.{Collects};
@@ -57,6 +57,19 @@ pub(crate) fn collect<L: Ledger, X: Ledger>(
     counts
 }
 
+/// Whether two lists of equally many counts are equal.
+fn are_equal(counts: &Counts, others: &Counts) -> bool
+    requires { length counts.now ≡ length others.now }
+    ensures { IsTrue result ↔ (counts.now ≡ others.now) }
+{
+    for p in 0..counts.len() {
+        if counts.get(p) != others.get(p) {
+            return false;
+        }
+    }
+    true
+}
+
 /// The least process, other than the given one, whose count is at least two above the first.
 fn risen(first: &Counts, now: &Counts, process: u32) -> Option<u32>
     requires { length first.now ≡ length now.now }
@@ -80,7 +93,7 @@ pub fn compare(collects: &Option<Collects>, now: &Counts, process: u32) -> Verdi
     let Some(collects) = collects else {
         return Verdict::Undecided;
     };
-    if collects.last.covers(now) && now.covers(&collects.last) {
+    if are_equal(&collects.last, now) {
         return Verdict::Repeated;
     }
     match risen(&collects.first, now, process) {
@@ -89,15 +102,19 @@ pub fn compare(collects: &Option<Collects>, now: &Counts, process: u32) -> Verdi
     }
 }
 
-/// The collects with one more, which is the first where there was none. Of those between the first and the last nothing is kept.
-pub fn with_one_more(collects: Option<Collects>, now: Counts) -> Collects
-    ensures { result ≡ collects_after collects now }
+/// Takes in one more collect, which is the first where there was none. Of those between the first and the last nothing is kept.
+pub fn add_collect(collects: &mut Option<Collects>, now: Counts)
+    ensures { collects.new ≡ Some (collects_after collects.old now) }
 {
-    let first = match collects {
-        None => now.copy(),
-        Some(collects) => collects.first,
-    };
-    Collects { first, last: now }
+    match collects {
+        None => {
+            *collects = Some(Collects {
+                first: now.copy(),
+                last: now,
+            });
+        }
+        Some(collects) => collects.last = now,
+    }
 }
 
 impl Verdict {

@@ -10,6 +10,6 @@ mod collects;
 mod scan;
 mod snapshots;
 
-pub use crate::collects::{Collects, Verdict, compare, with_one_more};
+pub use crate::collects::{Collects, Verdict, add_collect, compare};
 pub use crate::scan::{Scan, Turn};
 pub use crate::snapshots::snapshot;

@@ -8,7 +8,7 @@ ghost use Rattle.at_snapshot.specs.Scans.{IsScanOf, SeesOwnRecords, scan_after, 
 ghost use Rattle.at_snapshot.specs.Snapshots.{IsSnapshot, OnCounts};
 ghost use Rattle.at_snapshot.specs.Turns.{IsAnswer, view_steps};
 
-use crate::collects::{Collects, collect, compare, with_one_more};
+use crate::collects::{Collects, add_collect, collect, compare};
 use at_base::Counts;
 use at_board::{Board, BoardSeat, Steps};
 use std::marker::Model;
@@ -86,7 +86,7 @@ impl Scan {
         self.mark = Snapshot::of(seat);
         let verdict = compare(&self.collects, &now, seat.process());
         let answer = verdict.answer(board, seat, &now, steps, exchanges);
-        self.collects = Some(with_one_more(self.collects.take(), now));
+        add_collect(&mut self.collects, now);
         answer
     }
 }

@@ -11,7 +11,7 @@ use crate::loading_view::LoadingView;
 use crate::stage::Stage;
 use at_base::Counts;
 use at_board::{Board, BoardSeat, Steps};
-use at_snapshot::{Collects, Verdict, compare, with_one_more};
+use at_snapshot::{Collects, Verdict, add_collect, compare};
 use std::marker::Model;
 use std::snapshot::Snapshot;
 use std::sync::ledger::Ledger;
@@ -101,7 +101,7 @@ impl Snapping {
                         None
                     }
                     Verdict::Undecided => {
-                        self.collects = Some(with_one_more(self.collects.take(), now));
+                        add_collect(&mut self.collects, now);
                         self.collected += 1;
                         self.stage = Stage::Collect(Collecting::start(board, seat));
                         None

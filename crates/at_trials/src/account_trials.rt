@@ -352,10 +352,7 @@ fn close_free(
     let Ok(seats) = Vec::from_array(alloc, [zero, one, two, three]) else {
         return None;
     };
-    match board.close(alloc, seats) {
-        Ok(end) => Some(end),
-        Err(_) => None,
-    }
+    Some(board.close(seats))
 }
 
 /// Closes a board with its seats, if they are those of processes 0 to 3, and there are no others.

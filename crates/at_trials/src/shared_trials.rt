@@ -214,10 +214,7 @@ fn close_pair(board: Board, alloc: Global, zero: BoardSeat, one: BoardSeat) -> O
     let Ok(seats) = Vec::from_array(alloc, [zero, one]) else {
         return None;
     };
-    match board.close(alloc, seats) {
-        Ok(end) => Some(end),
-        Err(_) => None,
-    }
+    Some(board.close(seats))
 }
 
 /// The board's end, where process 0 has paid from account 0 until it was short.

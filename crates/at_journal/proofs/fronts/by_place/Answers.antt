@@ -1,6 +1,5 @@
-use Rattle.std.proofs.Common.{rules, ◌≡◌, ◌+◌, ◌++◌, ◌-◌, [], ◌∷◌, ℕ, List, ap, arith, get_or, length, map, refl, replicate, subst, sym, take, ◌∙◌, zero, suc}
-use Rattle.std.specs.Prelude.{Option, None, Some}
-use Rattle.std.specs.Borrow.{Bor}
+use Rattle.std.proofs.Common.{rules, ◌≡◌, ◌+◌, ◌++◌, ◌-◌, ap, arith, get_or, map, refl, replicate, subst, sym, take, ◌∙◌}
+use Rattle.std.specs.Prelude.{None, Some}
 use Rattle.std.specs.Option.{option_copied}
 use Rattle.std.proofs.lemmas.List.{map-set}
 use Rattle.std.proofs.Math.Seq.{take-nil}

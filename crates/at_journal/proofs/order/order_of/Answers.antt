@@ -1,9 +1,8 @@
-use Rattle.std.proofs.Common.{rules, ◌≡◌, ◌<◌, ◌+◌, ◌++◌, ℕ, ap, arith, length, map, get_or, replicate, subst, subst₂, sym, ◌∙◌, sum}
-use Rattle.std.specs.Prelude.{Option, None, Some}
+use Rattle.std.proofs.Common.{◌≡◌, ◌+◌, ◌++◌, ap, arith, length, map, get_or, replicate, subst, subst₂, sym, ◌∙◌, sum}
+use Rattle.std.specs.Prelude.{None, Some}
 use Rattle.std.specs.Option.{option_copied}
 use Rattle.std.proofs.lemmas.List.{get_or-map, length-map}
-use Rattle.std.proofs.lemmas.Result.{IfOk-weaker}
-use Rattle.at_log.specs.ClosingTerms.{log_lengths, log_of}
+use Rattle.at_log.specs.ClosingTerms.{log_lengths}
 use Rattle.at_journal.specs.Order.{AreRecords, published_in, records_between}
 use Rattle.at_journal.proofs.OrderSteps.{AreRecords-last, HasOrder, HasOrder-front, HasOrder-none, HasOrder-zeros, published_in-last}
 use Rattle.at_journal.proofs.order.order_of.Goals as goal

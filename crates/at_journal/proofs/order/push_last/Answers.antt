@@ -1,4 +1,4 @@
-use Rattle.std.proofs.Common.{◌≡◌, ◌++◌, ap, arith, length, get_or, ◌∙◌}
+use Rattle.std.proofs.Common.{◌++◌, length, get_or, ◌∙◌}
 use Rattle.at_log.specs.ClosingTerms.{log_of}
 use Rattle.at_journal.specs.Order.{records_of}
 use Rattle.at_journal.proofs.OrderedLaws.{pushed-flat_range}

@@ -1,4 +1,4 @@
-use Rattle.std.proofs.Common.{◌≡◌, ◌++◌, get_or, length}
+use Rattle.std.proofs.Common.{◌≡◌, ◌++◌, get_or}
 use Rattle.at_journal.specs.Order.{records_between}
 use Rattle.at_journal.proofs.order.push_next.Given as goal
 

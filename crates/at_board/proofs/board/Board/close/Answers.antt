@@ -3,7 +3,6 @@ use Rattle.std.specs.Mem.Slots.{slots_items}
 use Rattle.at_ledger.specs.Book.{BookTerms}
 use Rattle.at_board.proofs.EndLaws.Closed.{IsEnd-Final, IsLast}
 use Rattle.at_board.proofs.StepLaws.Note.{word_count-some}
-use Rattle.at_board.specs.Ends.Closing.{IsEnd, end_of}
 use Rattle.at_board.specs.Knowledge.Seats.{BoardTerms}
 use Rattle.at_board.proofs.board.Board.close.Goals as goal
 
@@ -18,5 +17,4 @@ returns-clause-end c =
     let all = c.requires.count ∙ sym (ap (λ (t : BoardTerms). t.book.processes) c.self.view_is) in
     let last : IsLast b c.gather-last.result.id c.gather-last.result.me.0 words slots =
     subst (λ (k : BookTerms). IsLast k c.gather-last.result.id c.gather-last.result.me.0 words slots) c.self.invariant.0 c.close_with.ensures.values.2 in
-    subst (λ ws. IsEnd (end_of b ws) c.args.seats.items) (sym c.words_of.ensures)
-    (IsEnd-Final b words slots c.gather-last.result.id c.gather-last.result.me.0 c.args.seats.items c.self.invariant.2 c.gather-last.ensures.seats all last)
+    IsEnd-Final b words slots c.gather-last.result.id c.gather-last.result.me.0 c.args.seats.items c.self.invariant.2 c.gather-last.ensures.seats all last

@@ -1,9 +1,10 @@
 use Rattle.std.proofs.Common.{◌≡◌, ℕ, ◌<◌, [], List, length, get_or, map, sym, ap, subst, ◌∙◌, arith}
 use Rattle.std.specs.List.{range_with_len}
-use Rattle.std.proofs.lemmas.List.{get_or_read}
 use Rattle.std.proofs.lemmas.List.FromFn.{get_or-map-range_with_len, length-map-range_with_len}
+use Rattle.std.specs.Mem.Slots.{slots_counts, slots_items}
 use Rattle.at_ledger.specs.Book.{BookTerms}
 use Rattle.at_board.proofs.EndLaws.Closed.{records_of-end_of}
+use Rattle.at_board.proofs.EndLaws.Reading.{get_or-get_elem}
 use Rattle.at_board.proofs.WordLaws.Addresses.{index_of-below}
 use Rattle.at_board.specs.Ends.Closing.{EndTerms, HasWords, end_of, records_in, records_of}
 use Rattle.at_board.specs.Words.Addresses.{IsAddress, length_of, record_width, record_word, word_at}
@@ -27,27 +28,35 @@ is_place b words e p i j same has process record_is word_is =
 
 pub record_index-requires-clause-place : goal.record_index-requires-clause-place
 record_index-requires-clause-place c =
-    is_place c.self.inside.book c.self.inside.words.items c.args.self.now c.args.p c.args.i c.args.j c.self.view_is c.self.invariant.0
+    is_place c.self.inside.book (slots_items c.self.inside.table.words) c.args.self.now c.args.p c.args.i c.args.j c.self.view_is c.self.invariant.0
     c.requires.process c.requires.record c.requires.word
 
-pub index-requires : goal.index-requires
-index-requires c =
+pub word-requires : goal.word-requires
+word-requires c =
     let b : BookTerms = c.self.inside.book in
-    let is = is_place b c.self.inside.words.items c.args.self.now c.args.p c.args.i c.args.j c.self.view_is c.self.invariant.0
-    c.requires.process c.requires.record c.requires.word in
-    omega (arith, c.self.inside.words.ok, c.self.invariant.0.sized, c.record_index.ensures, index_of-below b (record_word c.args.p c.args.i c.args.j) is)
+    let words = slots_items c.self.inside.table.words in
+    let is = is_place b words c.args.self.now c.args.p c.args.i c.args.j c.self.view_is c.self.invariant.0
+    c.requires.process c.requires.record c.requires.word in (
+      omega (
+        arith,
+        (slots_counts c.self.inside.table.words).0,
+        c.self.invariant.0.sized,
+        c.record_index.ensures,
+        index_of-below b (record_word c.args.p c.args.i c.args.j) is,
+      ),
+      c.self.invariant.2,
+    )
 
 pub returns : goal.returns
 returns c =
     let b : BookTerms = c.self.inside.book in
-    let words = c.self.inside.words.items in
+    let words = slots_items c.self.inside.table.words in
     let p = c.args.p in
     let i = c.args.i in
     let j = c.args.j in
     let is = is_place b words c.args.self.now p i j c.self.view_is c.self.invariant.0 c.requires.process c.requires.record c.requires.word in
-    let inside : c.record_index.result < length words = omega (arith, c.self.invariant.0.sized, c.record_index.ensures, index_of-below b (record_word p i j) is) in
-    let read : c.index.result.now ≡ word_at b words (record_word p i j) =
-    get_or_read words c.record_index.result c.index.result.now inside c.index.ensures 0 ∙ ap (λ n. get_or words n 0) c.record_index.ensures in
+    let read : c.word.result ≡ word_at b words (record_word p i j) =
+    sym (get_or-get_elem words c.record_index.result c.word.result 0 c.word.ensures) ∙ ap (λ n. get_or words n 0) c.record_index.ensures in
     let here : records_of (end_of b words) p ≡ records_in b words p = records_of-end_of b words p is.0 in
     let within : i < length (records_in b words p) =
     subst (λ rs. i < length rs) here (subst (λ (t : EndTerms). i < length (records_of t p)) (sym c.self.view_is) c.requires.record) in

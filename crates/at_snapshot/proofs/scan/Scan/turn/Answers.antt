@@ -30,13 +30,13 @@ returns-clause-scan g c =
     let start : Knowledge = c.self.inside.start.value.knows in
     let mark : Knowledge = c.of.result.value.knows in
     let same : c.self.inside.collects ≡ scan.collects = ap (λ (s : ScanTerms). s.collects) c.self.view_is in
-    let more : c.with_one_more.result ≡ collects_after scan.collects (collect_of w) =
-    c.with_one_more.ensures
-    ∙ (ap (λ (cs : Option Collects). collects_after cs c.collect-now.result) (c.take.ensures.value ∙ same)
-    ∙ ap (collects_after scan.collects) c.collect-now.ensures.counts) in
-    subst (λ (s : SeatTerms). IsScanOf b (record { start = start; mark = mark; collects = Some c.with_one_more.result }) s.knows) (sym c.answer-answer.ensures.same)
-    (IsScanOf-parts b scan w start mark (Some c.with_one_more.result) (ap (λ (s : ScanTerms). s.start) c.self.view_is)
-    (ap (λ (s : SeatTerms). s.knows) c.of.ensures) (ap (λ (k : Collects). Some k) more)
+    let more : c.add_collect.new.collects ≡ Some (collects_after scan.collects (collect_of w)) =
+    c.add_collect.ensures
+    ∙ (ap (λ (cs : Option Collects). Some (collects_after cs c.collect-now.result)) same
+    ∙ ap (λ xs. Some (collects_after scan.collects xs)) c.collect-now.ensures.counts) in
+    subst (λ (s : SeatTerms). IsScanOf b (record { start = start; mark = mark; collects = c.add_collect.new.collects }) s.knows) (sym c.answer-answer.ensures.same)
+    (IsScanOf-parts b scan w start mark c.add_collect.new.collects (ap (λ (s : ScanTerms). s.start) c.self.view_is)
+    (ap (λ (s : SeatTerms). s.knows) c.of.ensures) more
     (IsScanOf-after b scan c.args.seat.now.knows w (omega (arith, c.known.ensures.seat.one_part)) c.requires.scan c.collect-now.ensures.collect))
 
 pub returns-clause-snapshot : goal.returns-clause-snapshot

@@ -14,7 +14,7 @@ use Rattle.at_stepper.specs.KeptSnapshots.{IsSnapped, IsSnappingSo}
 use Rattle.at_stepper.specs.Snapping.{SnappingTerms, left_of}
 use Rattle.at_stepper.specs.declared.stage.Stage.TheVariants.{Borrow, Collect}
 use Rattle.at_stepper.proofs.snapping.Snapping.turn.Given as given
-use Rattle.at_stepper.proofs.snapping.Snapping.turn.Goals.{After-compare, After-turn-collected, After-with_one_more}
+use Rattle.at_stepper.proofs.snapping.Snapping.turn.Goals.{After-add_collect, After-compare, After-turn-collected}
 use Rattle.at_stepper.proofs.snapping.Snapping.turn.Goals as goal
 
 -- the snapshot before the turn
@@ -116,24 +116,23 @@ invariant_of-self-in-Lent g c =
     (subst (λ i. IsSnappingSo start w c.self.inside.collects c.self.inside.collected (Borrow (starting_loading w c.in-Lent.p i))) (sym last) here))
 
 -- the collects with this one
-with_this : (g : given.Over) (c : After-with_one_more g)
-    → c.with_one_more.result ≡ collects_after c.self.inside.collects (collect_of c.turn-collected.new.seat.knows)
+with_this : (g : given.Over) (c : After-add_collect g)
+    → c.add_collect.new.collects ≡ Some (collects_after c.self.inside.collects (collect_of c.turn-collected.new.seat.knows))
 with_this g c =
-    c.with_one_more.ensures
-    ∙ (ap (λ (cs : Option Collects). collects_after cs c.in_ok-now-in-Collect.now) c.take.ensures.value
-    ∙ ap (collects_after c.self.inside.collects) c.in_ok-now-in-Collect.ensures.counts)
+    c.add_collect.ensures ∙ ap (λ xs. Some (collects_after c.self.inside.collects xs)) c.in_ok-now-in-Collect.ensures.counts
 
 pub invariant_of-self-in-Undecided : goal.invariant_of-self-in-Undecided
 invariant_of-self-in-Undecided g c =
     let at = (goal.at.invariant_of-self-in-Undecided g c).After-compare in
     let start : Knowledge = c.self.inside.start.value.knows in
     let w : Knowledge = c.turn-collected.new.seat.knows in
+    let now : Option Collects = c.add_collect.new.collects in
     let open_yet = subst (IsVerdictOn c.self.inside.collects w.first (collect_of w)) c.in-Undecided.is (says g at) in
     let here = IsSnappingSo-Undecided start c.self.inside.mark.value.knows w c.self.inside.collects c.self.inside.collected c.in-Collect.collecting (before_end g at) (book_after g (goal.at.After-compare g at).After-turn-collected) (told g at) open_yet in
-    subst (λ (s : SeatTerms). IsSnappingSo start s.knows (Some c.with_one_more.result) (c.self.inside.collected + 1) (Collect c.start-in-Undecided.result)) (sym c.of.ensures)
-    (subst (λ (t : CollectingTerms). IsSnappingSo start w (Some c.with_one_more.result) (c.self.inside.collected + 1) (Collect t)) (sym c.start-in-Undecided.ensures)
-    (subst (λ (k : Collects). IsSnappingSo start w (Some k) (c.self.inside.collected + 1) (Collect (starting_collecting w)))
-    (sym (with_this g (goal.at.invariant_of-self-in-Undecided g c).After-with_one_more)) here))
+    subst (λ (s : SeatTerms). IsSnappingSo start s.knows now (c.self.inside.collected + 1) (Collect c.start-in-Undecided.result)) (sym c.of.ensures)
+    (subst (λ (t : CollectingTerms). IsSnappingSo start w now (c.self.inside.collected + 1) (Collect t)) (sym c.start-in-Undecided.ensures)
+    (subst (λ (k : Option Collects). IsSnappingSo start w k (c.self.inside.collected + 1) (Collect (starting_collecting w)))
+    (sym (with_this g (goal.at.invariant_of-self-in-Undecided g c).After-add_collect)) here))
 
 pub returns-in-Undecided-clause-left : goal.returns-in-Undecided-clause-left
 returns-in-Undecided-clause-left g c =
