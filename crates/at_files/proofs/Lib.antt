@@ -19,4 +19,5 @@ pub mod NumberFields
 pub mod SpelledWalk
 pub mod SpelledLaws
 pub mod DeliveryLaws
+pub mod ScheduleLaws
 pub mod MessageLaws

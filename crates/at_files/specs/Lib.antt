@@ -10,3 +10,4 @@ pub mod BookFile
 pub mod Spelled
 pub mod Messages
 pub mod Deliveries
+pub mod Schedule

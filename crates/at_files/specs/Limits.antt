@@ -16,3 +16,7 @@ most_messages = 256
 -- deliveries of one file
 abbrev pub most_deliveries : ℕ
 most_deliveries = 65536
+
+-- turns of one schedule
+abbrev pub most_turns : ℕ
+most_turns = 1000000
