@@ -15,6 +15,7 @@ pub mod TargetLaws
 pub mod PaymentsWalk
 pub mod PaymentsSpelled
 pub mod PaymentsAccepted
+pub mod ReplayLaws
 pub mod NumberFields
 pub mod SpelledWalk
 pub mod SpelledLaws

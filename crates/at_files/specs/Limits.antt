@@ -5,6 +5,10 @@ use Rattle.std.specs.Prelude.{ℕ}
 abbrev pub most_calls : ℕ
 most_calls = 16384
 
+-- calls of one payment file for a replay
+abbrev pub most_replay_calls : ℕ
+most_replay_calls = 64
+
 -- bytes of a name
 abbrev pub most_name_bytes : ℕ
 most_name_bytes = 16
