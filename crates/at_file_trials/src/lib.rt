@@ -9,6 +9,8 @@ mod message_tests;
 #[cfg(test)]
 mod node_tests;
 #[cfg(test)]
+mod replay_tests;
+#[cfg(test)]
 mod report_tests;
 #[cfg(test)]
 mod verify_tests;

@@ -79,7 +79,7 @@ fn good_messages(rt: HostRuntime) -> Result<(), Fail> {
 }
 
 /// So many records that are the same.
-fn repeated(alloc: Global, record: &[u8], count: u32) -> Result<Vec<u8>, AllocError> {
+pub(crate) fn repeated(alloc: Global, record: &[u8], count: u32) -> Result<Vec<u8>, AllocError> {
     let mut text = Vec::new(alloc);
     for _ in 0..count {
         text.extend_from_slice(record)?;

@@ -7,12 +7,11 @@ ghost use Rattle.at_files.specs.Names.{AreNamesOf};
 
 use at_files::{
     BadBook, BadPayments, BookWhy, MessagesWhy, Names, OrderWhy, PaymentsWhy, ReadBookFault,
-    read_book,
+    ScheduleWhy, read_book,
 };
 use at_ledger::{Book, BookError, Call, Line, Reply};
 use at_report::{
-    ScheduleWhy, Status, UsageFault, agreed_text, checked_text, fault_text, report, summary,
-    verified_text,
+    Status, UsageFault, agreed_text, checked_text, fault_text, report, summary, verified_text,
 };
 use std::alloc::Global;
 use std::test::Fail;

@@ -18,6 +18,12 @@ length-has_shape word count fields h = eqb-true _ _ (both_tests (length fields =
 pub first-has_shape : (word : List ℕ) (count : ℕ) (fields : Fields) → has_shape word count fields ≡ true → field_of fields 0 ≡ word
 first-has_shape word count fields h = (bytes_eq-Decides (field_of fields 0) word).0 (both_tests (length fields == count) (bytes_eq (field_of fields 0) word) h).1
 
+pub one_field : (fields : Fields) → length fields ≡ 1 → fields ≡ field_of fields 0 ∷ []
+unfolding field_at
+one_field [] h = absurd (omega arith)
+one_field (a ∷ []) h = refl
+one_field (a ∷ b ∷ fields) h = absurd (omega arith)
+
 pub two_fields : (fields : Fields) → length fields ≡ 2 → fields ≡ field_of fields 0 ∷ field_of fields 1 ∷ []
 unfolding field_at
 two_fields [] h = absurd (omega arith)

@@ -15,8 +15,10 @@ pub mod TargetLaws
 pub mod PaymentsWalk
 pub mod PaymentsSpelled
 pub mod PaymentsAccepted
+pub mod ReplayLaws
 pub mod NumberFields
 pub mod SpelledWalk
 pub mod SpelledLaws
 pub mod DeliveryLaws
+pub mod ScheduleLaws
 pub mod MessageLaws

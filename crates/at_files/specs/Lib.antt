@@ -5,8 +5,10 @@ pub mod NameSet
 pub mod Records
 pub mod Reading
 pub mod Payments
+pub mod ReplayPayments
 pub mod BookRecords
 pub mod BookFile
 pub mod Spelled
 pub mod Messages
 pub mod Deliveries
+pub mod Schedule

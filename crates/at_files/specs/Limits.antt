@@ -5,6 +5,10 @@ use Rattle.std.specs.Prelude.{ℕ}
 abbrev pub most_calls : ℕ
 most_calls = 16384
 
+-- calls of one payment file for a replay
+abbrev pub most_replay_calls : ℕ
+most_replay_calls = 64
+
 -- bytes of a name
 abbrev pub most_name_bytes : ℕ
 most_name_bytes = 16
@@ -16,3 +20,7 @@ most_messages = 256
 -- deliveries of one file
 abbrev pub most_deliveries : ℕ
 most_deliveries = 65536
+
+-- turns of one schedule
+abbrev pub most_turns : ℕ
+most_turns = 1000000

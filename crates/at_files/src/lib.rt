@@ -17,6 +17,8 @@ mod owners;
 mod payments;
 mod payments_fault;
 mod records;
+mod replay_payments;
+mod schedule;
 mod spelled;
 
 pub use crate::book::read_book;
@@ -28,5 +30,7 @@ pub use crate::messages::{BadMessages, MessagesWhy, ReadMessagesFault, read_mess
 pub use crate::names::Names;
 pub use crate::payments::read_payments;
 pub use crate::payments_fault::{BadPayments, CALLS_MAX, PaymentsWhy, ReadPaymentsFault};
+pub use crate::replay_payments::{REPLAY_CALLS_MAX, read_replay_payments};
+pub use crate::schedule::{BadSchedule, ReadScheduleFault, ScheduleWhy, TURNS_MAX, read_schedule};
 pub use crate::spelled::{BadRecord, ReadFault};
 pub use at_base::NoMemory;

@@ -10,8 +10,8 @@ use Rattle.at_report.specs.declared.status.Status.{Status}
 use Rattle.at_report.specs.declared.status.Status.TheVariants.{Done, Usage, BadBook, BadPayments, ReadFault, WriteFault, NoMemory, TooLong, BadSchedule, BadOrder, BadMessages, NotLegal}
 use Rattle.at_report.specs.declared.status.UsageFault.{UsageFault}
 use Rattle.at_report.specs.declared.status.UsageFault.TheVariants as usage
-use Rattle.at_report.specs.declared.status.ScheduleWhy.{ScheduleWhy}
-use Rattle.at_report.specs.declared.status.ScheduleWhy.TheVariants as schedule
+use Rattle.at_files.specs.declared.schedule.ScheduleWhy.{ScheduleWhy}
+use Rattle.at_files.specs.declared.schedule.ScheduleWhy.TheVariants as schedule
 use Rattle.at_files.specs.declared.deliveries.OrderWhy.{OrderWhy}
 use Rattle.at_files.specs.declared.deliveries.OrderWhy.TheVariants as order
 use Rattle.at_files.specs.declared.messages.MessagesWhy.{MessagesWhy}

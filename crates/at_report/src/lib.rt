@@ -24,5 +24,5 @@ pub use crate::run_report::{
     agreed_text, checked_text, push_audit, push_heading, report, verified_text,
 };
 pub use crate::run_summary::summary;
-pub use crate::status::{ScheduleWhy, Status, UsageFault};
+pub use crate::status::{Status, UsageFault};
 pub use at_base::NoMemory;

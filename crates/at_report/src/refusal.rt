@@ -3,9 +3,9 @@
 ghost use Rattle.std.specs.Prelude.{◌≡◌, ◌+◌, ◌≤◌, [], ◌++◌, length, decimal};
 ghost use Rattle.at_report.specs.FaultText.{fault_line, limit_text, book_cause, payments_cause, schedule_cause, order_cause, messages_cause, usage_text, line_and_cause, fault_words};
 
-use crate::status::{ScheduleWhy, Status, UsageFault};
+use crate::status::{Status, UsageFault};
 use arrayvec::ArrayVec;
-use at_files::{BookWhy, MessagesWhy, OrderWhy, PaymentsWhy};
+use at_files::{BookWhy, MessagesWhy, OrderWhy, PaymentsWhy, ScheduleWhy};
 use at_ledger::BookError;
 
 /// The text of a refusal: one line, with its newline.

@@ -2,7 +2,7 @@
 
 ghost use Rattle.std.specs.Prelude.{◌≡◌};
 
-use at_files::{BadBook, BadPayments, MessagesWhy, OrderWhy};
+use at_files::{BadBook, BadPayments, MessagesWhy, OrderWhy, ScheduleWhy};
 
 /// What is wrong with the words of the command line.
 #[derive(Clone, Copy, Debug, PartialEq, Eq)]
@@ -11,15 +11,6 @@ pub enum UsageFault {
     Words,
     /// There are not as many files as the book has processes.
     Files { wanted: u32, given: u64 },
-}
-
-/// The cause of a schedule's first fault.
-#[derive(Clone, Copy, Debug, PartialEq, Eq)]
-pub enum ScheduleWhy {
-    TooManyTurns,
-    Shape,
-    Number,
-    UnknownProcess,
 }
 
 /// What the program answers. File 0 is the book, file p + 1 the payment or message file of process p, and a

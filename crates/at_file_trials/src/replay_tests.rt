@@ -1,0 +1,98 @@
+//! Schedules and payments of a replay that are read, and those that are refused, each with its line and cause.
+
+use crate::message_tests::repeated;
+use at_files::{
+    BadPayments, BadRecord, PaymentsWhy, ReadFault, ReadPaymentsFault, ScheduleWhy, read_book,
+    read_replay_payments, read_schedule,
+};
+use std::alloc::{AllocError, Global};
+
+/// Whether the schedule of two processes is refused for this fault.
+fn is_bad_schedule(alloc: Global, text: &[u8], line: u32, why: ScheduleWhy) -> bool {
+    match read_schedule(alloc, 2, text) {
+        Ok(_) => false,
+        Err(fault) => fault == ReadFault::Bad(BadRecord { line, why }),
+    }
+}
+
+/// Whether these are the turns of the schedule of two processes.
+fn are_turns(alloc: Global, text: &[u8], turns: &[u32]) -> bool {
+    match read_schedule(alloc, 2, text) {
+        Ok(read) => read.as_slice() == turns,
+        Err(_) => false,
+    }
+}
+
+const BAD_SCHEDULES: &[(&[u8], u32, ScheduleWhy)] = &[
+    (b"0,0\n", 1, ScheduleWhy::Shape),
+    (b"x,\n", 1, ScheduleWhy::Shape),
+    (b"0\n\n1\n\n0,\n", 3, ScheduleWhy::Shape),
+    (b"\"\"\n", 1, ScheduleWhy::Number),
+    (b"1\n01\n", 2, ScheduleWhy::Number),
+    (b"18446744073709551616\n", 1, ScheduleWhy::Number),
+    (b"18446744073709551615\n", 1, ScheduleWhy::UnknownProcess),
+    (b"0\n1\n2\nx\n", 3, ScheduleWhy::UnknownProcess),
+];
+
+#[test]
+fn bad_schedules(rt: HostRuntime) {
+    for (text, line, why) in BAD_SCHEDULES {
+        assert!(rt; is_bad_schedule(rt.alloc(), text, *line, *why), "{text:?}");
+    }
+}
+
+const SCHEDULES: &[(&[u8], &[u32])] = &[
+    (b"", &[]),
+    (b"\n\n", &[]),
+    (b"1\n0\n0\n1", &[1, 0, 0, 1]),
+    (b"\"1\"\r\n\r\n0\r\n", &[1, 0]),
+];
+
+#[test]
+fn good_schedules(rt: HostRuntime) {
+    for (text, turns) in SCHEDULES {
+        assert!(rt; are_turns(rt.alloc(), text, turns), "{text:?}");
+    }
+}
+
+const BOOK: &[u8] = b"book,1\nprocesses,1\nlimits,4,4\naccount,0,100,0\n";
+
+/// How many calls the payment file for a replay has, or why it is refused.
+fn replay_calls(alloc: Global, text: &[u8]) -> Result<usize, ReadPaymentsFault> {
+    let Ok((book, names)) = read_book(alloc, BOOK) else {
+        return Err(ReadPaymentsFault::NoMemory);
+    };
+    match read_replay_payments(alloc, &book, &names, text) {
+        Ok(calls) => Ok(calls.len()),
+        Err(fault) => Err(fault),
+    }
+}
+
+/// Whether the payment file for a replay is refused for this fault.
+fn is_bad_replay(alloc: Global, text: &[u8], line: u32, why: PaymentsWhy) -> bool {
+    match replay_calls(alloc, text) {
+        Ok(_) => false,
+        Err(fault) => fault == ReadPaymentsFault::Bad(BadPayments { line, why }),
+    }
+}
+
+#[test]
+fn most_replay_calls(rt: HostRuntime) -> Result<(), AllocError> {
+    let alloc = rt.alloc();
+    let most = repeated(alloc, b"read,0\n", 64)?;
+    let more = repeated(alloc, b"read,0\n", 70)?;
+    assert!(rt;
+        replay_calls(alloc, &most) == Ok(64)
+            && is_bad_replay(alloc, &more, 65, PaymentsWhy::TooManyCalls)
+    );
+    Ok(())
+}
+
+/// A fault behind the most calls comes before their number.
+#[test]
+fn fault_behind_the_most_replay_calls(rt: HostRuntime) -> Result<(), AllocError> {
+    let mut text = repeated(rt.alloc(), b"read,0\n", 69)?;
+    text.extend_from_slice(b"read,9\n")?;
+    assert!(rt; is_bad_replay(rt.alloc(), &text, 70, PaymentsWhy::UnknownAccount));
+    Ok(())
+}
