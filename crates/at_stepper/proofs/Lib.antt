@@ -11,3 +11,6 @@ pub mod AskingLaws
 pub mod LoadingRowLaws
 pub mod CollectingRowsLaws
 pub mod DecidingLaws
+pub mod StartingLaws
+pub mod TurningLaws
+pub mod PayingSharedLaws

@@ -21,3 +21,9 @@ pub mod CollectingRows
 pub mod KeptRows
 pub mod Deciding
 pub mod KeptDeciding
+pub mod Starting
+pub mod KeptStarting
+pub mod Turning
+pub mod KeptTurning
+pub mod PayingShared
+pub mod KeptPayingShared

@@ -11,7 +11,7 @@ ghost use Rattle.at_stepper.specs.Asking.{StoresNextRequestWord, asking_after, r
 
 use at_board::{Board, BoardSeat, REQUEST_WORDS, Steps};
 use at_ledger::Targets;
-use at_rows::request_word;
+use at_rows::{OpenRequest, request_word};
 use std::marker::Model;
 use std::snapshot::Snapshot;
 use std::sync::ledger::Ledger;
@@ -54,6 +54,18 @@ impl Asking {
             stored: 0,
             start: Snapshot::of(seat),
             mark: Snapshot::of(seat),
+        }
+    }
+
+    /// The request, where it was announced with this number in this slot.
+    pub(crate) fn opened(&self, slot: u32, number: u32) -> OpenRequest
+        ensures { result ≡ opened slot number self.now.targets self.now.since }
+    {
+        OpenRequest {
+            slot,
+            number,
+            targets: self.targets.copy(),
+            since: self.since,
         }
     }
 

@@ -56,6 +56,13 @@ impl CollectingRows {
         }
     }
 
+    /// The caller's own request.
+    pub(crate) fn own(&self) -> OpenRequest
+        ensures { result ≡ self.now.own }
+    {
+        self.row.own()
+    }
+
     /// Makes the next load, in one step. After the last one it answers the requests that were found.
     pub fn turn<L: Ledger, X: Ledger>(
         &mut self,

@@ -9,7 +9,7 @@ ghost use Rattle.at_history.specs.Rounds.{is_settled};
 ghost use Rattle.at_history.specs.declared.publication.Entry.{Entry};
 ghost use Rattle.at_shared.specs.HelpTurns.{DecidesNext};
 ghost use Rattle.at_shared.specs.Helpings.{IsHelpingAt};
-ghost use Rattle.at_stepper.specs.Deciding.{MakesRoundStep, deciding_after, exchanges_in, starting_deciding};
+ghost use Rattle.at_stepper.specs.Deciding.{MakesRoundStep, deciding_after, exchanges_in, round_in, starting_deciding};
 
 use crate::appending::Appending;
 use crate::loading_request::LoadingRequest;
@@ -85,6 +85,13 @@ impl Deciding {
             totals: Snapshot::of(totals),
             helping: Snapshot::of(helping),
         }
+    }
+
+    /// The round of the account that is decided.
+    pub fn round(&self) -> u32
+        ensures { result ≡ round_in self.now }
+    {
+        self.round
     }
 
     /// Makes the next step of the round, in one step. The last one publishes and counts its record, and answers the decision.

@@ -4,9 +4,10 @@
 //! Between two turns the seats of other processes may step. Its own seat makes no other step meanwhile, so that it knows what the
 //! last turn left.
 //!
-//! Whole calls are a read and a payment from an account of one owner. Each begins with a look, which is a snapshot and then the loads of
-//! the records that it counts; the payment ends with an append where it is covered. Of payments from shared accounts there are the parts:
-//! asking, the rows of an account and the load of a request; and a round, from its exchange to its record.
+//! Whole calls are a read and a payment. Each begins with a look, which is a snapshot and then the loads of the records that it counts. A
+//! payment from an account of one owner ends with an append where it is covered. One from a shared account asks after its look and loads
+//! the rows of the account, which is its start, and then makes turns of helping until its request is settled: each is a look, and then a
+//! round, from its exchange to its record.
 #![tactic(auto)]
 
 mod appending;
@@ -23,11 +24,17 @@ mod look_stage;
 mod looking;
 mod pay_stage;
 mod paying_alone;
+mod paying_shared;
 mod reading;
 mod round_stage;
 mod row_stage;
+mod share_stage;
 mod snapping;
 mod stage;
+mod start_stage;
+mod starting;
+mod turn_stage;
+mod turning;
 
 pub use crate::appending::Appending;
 pub use crate::asking::Asking;
@@ -40,5 +47,8 @@ pub use crate::loading_request::LoadingRequest;
 pub use crate::loading_view::LoadingView;
 pub use crate::looking::Looking;
 pub use crate::paying_alone::PayingAlone;
+pub use crate::paying_shared::PayingShared;
 pub use crate::reading::Reading;
 pub use crate::snapping::Snapping;
+pub use crate::starting::Starting;
+pub use crate::turning::Turning;
