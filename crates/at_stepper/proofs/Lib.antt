@@ -11,6 +11,8 @@ pub mod AskingLaws
 pub mod LoadingRowLaws
 pub mod CollectingRowsLaws
 pub mod DecidingLaws
+pub mod CallingLaws
+pub mod CallingTurns
 pub mod StartingLaws
 pub mod TurningLaws
 pub mod PayingSharedLaws

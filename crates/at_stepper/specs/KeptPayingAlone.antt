@@ -13,7 +13,7 @@ use Rattle.at_single.specs.Looks.{HasLooked}
 use Rattle.at_single.specs.Standing.{IsOnlyOwner}
 use Rattle.at_stepper.specs.Appending.{AppendingTerms}
 use Rattle.at_stepper.specs.Looking.{IsWithin, LookingTerms, turns_left}
-use Rattle.at_stepper.specs.PayingAlone.{PayingAloneTerms}
+use Rattle.at_stepper.specs.PayingAlone.{HasSameAsking, PayingAloneTerms}
 use Rattle.at_stepper.specs.declared.pay_stage.PayStage.{PayStage}
 use Rattle.at_stepper.specs.declared.pay_stage.PayStage.TheVariants.{Append, Look, Short}
 
@@ -32,6 +32,7 @@ pub record IsAppendingThen (t : PayingAloneTerms) (a : AppendingTerms) : Type 0 
   pub entry : a.rec.entry ≡ Entry.Own t.from t.targets
   pub enough : amount_of t.targets ≤ balance_after t.start.book (prefix_of a.rec.view a.start.seen) t.from
   pub few : IsWithin t.start.book.processes t.was (sum a.rec.view) t.looked
+  pub seen : sum a.rec.view ≤ length t.mark.seen
 
 abbrev pub IsPayStageSo : PayingAloneTerms → PayStage → Type 0
 IsPayStageSo t (Look l) = IsLookingFirst t l
@@ -42,6 +43,7 @@ IsPayStageSo t Short = Unit {0}
 pub record IsPayingAloneSo (t : PayingAloneTerms) : Type 0 where
   pub kept : IsKept t.start
   pub book : t.mark.book ≡ t.start.book
+  pub asks : HasSameAsking t.start t.mark
   pub payout : payout_of t.call ≡ Some (t.from, t.targets)
   pub owner : IsOnlyOwner t.start.book t.start.first t.from
   pub account_in : t.from < length t.start.book.accounts

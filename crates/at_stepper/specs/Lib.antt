@@ -21,6 +21,8 @@ pub mod CollectingRows
 pub mod KeptRows
 pub mod Deciding
 pub mod KeptDeciding
+pub mod Calling
+pub mod KeptCalling
 pub mod Starting
 pub mod KeptStarting
 pub mod Turning

@@ -1,22 +1,18 @@
 -- Payments from single accounts that are made one step a turn.
-use Rattle.std.specs.Prelude.{◌≡◌, ℕ, ◌+◌, ◌-◌, ◌<◌, List}
+use Rattle.std.specs.Prelude.{◌≡◌, ℕ, ◌+◌, ◌-◌, ◌*◌, ◌<◌, ◌≤◌, List, sum}
 use Rattle.at_ledger.specs.Book.{BookTerms}
 use Rattle.at_ledger.specs.Call.{TargetPair}
 use Rattle.at_ledger.specs.declared.call.Call.{Call}
 use Rattle.at_ledger.specs.declared.call.Reply.{Reply}
 use Rattle.at_ledger.specs.declared.call.Reply.TheVariants.{Balance, Done, Full, NotOwner}
-use Rattle.at_history.specs.Fronts.{prefix_of}
-use Rattle.at_history.specs.Rounds.{owns_of}
+use Rattle.at_board.specs.Knowledge.Parts.{asking_on, own_part}
 use Rattle.at_board.specs.Knowledge.Seats.{SeatTerms}
 use Rattle.at_board.specs.Steps.Publish.{Publishes}
 use Rattle.at_board.specs.Words.Addresses.{record_width}
 use Rattle.at_board.specs.declared.knowledge.Knowledge.{Knowledge}
+use Rattle.at_board.specs.declared.words.TheConstants.{RECORD_WORDS}
 use Rattle.at_fold.specs.Sums.{TotalSums}
-use Rattle.at_log.specs.Placed.{IsPlaced}
-use Rattle.at_log.specs.Receipts.{owns_in}
-use Rattle.at_log.specs.declared.receipt.Receipt.{Receipt}
-use Rattle.at_single.specs.Standing.{StandsAfterFront, StandsAtFront, StandsAtOwn, front_behind, payment_reply}
-use Rattle.at_snapshot.specs.Snapshots.{IsSnapshot}
+use Rattle.at_object.specs.Payments.{single_steps}
 use Rattle.at_stepper.specs.Appending.{StoresNextWord, publication_of}
 use Rattle.at_stepper.specs.Looking.{MakesLookLoad, turns_left}
 use Rattle.at_stepper.specs.declared.pay_stage.PayStage.{PayStage}
@@ -58,16 +54,6 @@ MakesPayStep b (Append a) before after now =
     × (a.stored ≡ record_width b → Publishes b a.start after.knows (publication_of a))
 MakesPayStep b Short before after now = ⊥
 
--- the receipt of a payment whose first turn came after what was known before, and that was decided at the front of its snapshot
-pub record IsPaidOf (b : BookTerms) (before after : Knowledge) (from : ℕ) (targets : List TargetPair) (call : Call) (r : Receipt) : Type 0 where
-  pub call_is : r.call ≡ call
-  pub reply : r.reply ≡ payment_reply b (prefix_of (front_behind after r.at) after.seen) from targets
-  pub placed : (earlier : List Receipt) → owns_in earlier ≡ owns_of before.first before.seen → IsPlaced b before.first after.seen earlier r
-  pub after_front : StandsAfterFront after r
-  pub snapshot : IsSnapshot b before after (front_behind after r.at)
-  pub short : r.reply ≡ Reply.Short → StandsAtFront b before after r.at
-  pub done : r.reply ≡ Done → StandsAtOwn b before after from targets r.at
-
 -- the steps of a payment after its look: of a record with so many words, where it is done
 abbrev pub append_steps : ℕ → Reply → ℕ
 append_steps width Done = width + 1
@@ -75,3 +61,12 @@ append_steps width Reply.Short = 0
 append_steps width NotOwner = 0
 append_steps width Full = 0
 append_steps width (Balance amount) = 0
+
+-- so many turns are at most those of a snapshot and of an append, and of the loads of the records that are among so many and weren't
+-- counted before
+abbrev pub IsPayWithin : ℕ → TotalSums → ℕ → ℕ → Type 0
+IsPayWithin n was records turns = turns ≤ single_steps n + RECORD_WORDS * (records - sum was.upto)
+
+-- nothing that the seat's process has on any account has changed: it has asked for nothing, and decided nothing
+abbrev pub HasSameAsking : Knowledge → Knowledge → Type 0
+HasSameAsking before after = (a : ℕ) → asking_on (own_part after) a ≡ asking_on (own_part before) a

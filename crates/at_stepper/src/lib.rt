@@ -7,11 +7,13 @@
 //! Whole calls are a read and a payment. Each begins with a look, which is a snapshot and then the loads of the records that it counts. A
 //! payment from an account of one owner ends with an append where it is covered. One from a shared account asks after its look and loads
 //! the rows of the account, which is its start, and then makes turns of helping until its request is settled: each is a look, and then a
-//! round, from its exchange to its record.
+//! round, from its exchange to its record. A `Calling` is any call of a pass that was taken apart into its parts, a refusal too.
 #![tactic(auto)]
 
 mod appending;
 mod asking;
+mod call_stage;
+mod calling;
 mod catching_up;
 mod collecting;
 mod collecting_rows;
@@ -38,6 +40,7 @@ mod turning;
 
 pub use crate::appending::Appending;
 pub use crate::asking::Asking;
+pub use crate::calling::Calling;
 pub use crate::catching_up::CatchingUp;
 pub use crate::collecting::Collecting;
 pub use crate::collecting_rows::CollectingRows;

@@ -7,8 +7,9 @@ ghost use Rattle.at_fold.specs.HasCounted.{HasCounted, StaysCounted};
 ghost use Rattle.at_history.specs.Rounds.{owns_of};
 ghost use Rattle.at_ledger.specs.Call.{AreTargetsOn};
 ghost use Rattle.at_log.specs.Receipts.{payout_of};
+ghost use Rattle.at_object.specs.Paid.{PaysAlone};
 ghost use Rattle.at_single.specs.Standing.{IsOnlyOwner};
-ghost use Rattle.at_stepper.specs.PayingAlone.{IsPaidOf, MakesPayStep, append_steps, pay_turns_left, turns_made};
+ghost use Rattle.at_stepper.specs.PayingAlone.{HasSameAsking, IsPayWithin, MakesPayStep, append_steps, pay_turns_left, turns_made};
 ghost use Rattle.at_stepper.specs.Reading.{LeavesTotals};
 
 use crate::appending::Appending;
@@ -120,7 +121,9 @@ impl PayingAlone {
         ensures step { MakesPayStep board.now.book self.old.stage seat.old seat.new totals.new }
         ensures left { pay_turns_left (record_width board.now.book) self.new.stage < pay_turns_left (record_width board.now.book) self.old.stage }
         ensures ends { IsSome result ↔ (pay_turns_left (record_width board.now.book) self.new.stage ≡ 0) }
-        ensures answer { IfSome result (IsPaidOf board.now.book self.old.start seat.new.knows self.old.from self.old.targets self.old.call) }
+        ensures so_far { IsPayWithin board.now.book.processes self.old.was (length seat.new.knows.seen) (turns_made self.new) }
+        ensures asks { HasSameAsking self.old.start seat.new.knows }
+        ensures answer { IfSome result (PaysAlone board.now.book self.old.start seat.new.knows self.old.from self.old.targets self.old.call) }
         ensures counted { IfSome result (λ r. StaysCounted totals.new board.now.book seat.new.knows.seen) }
         ensures leaves { IfSome result (λ r. LeavesTotals board.now.book self.old.start seat.new.knows self.old.was totals.new (append_steps (record_width board.now.book) r.reply) (turns_made self.new)) }
         ensures board { IsOf seat.new board.now }
@@ -149,6 +152,7 @@ impl PayingAlone {
                 None
             }
             PayStage::Append(appending) => {
+                seat.known();
                 let is_published = appending.turn(board, seat, steps, exchanges);
                 self.mark = Snapshot::of(seat);
                 if !is_published {

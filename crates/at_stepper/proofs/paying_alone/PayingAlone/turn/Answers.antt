@@ -1,13 +1,17 @@
-use Rattle.std.proofs.Common.{◌≡◌, IsTrue, ℕ, ◌-◌, ◌<◌, ◌≤◌, List, length, sym, ap, subst, ◌∙◌, arith}
+use Rattle.std.proofs.Common.{◌≡◌, IsTrue, ℕ, ◌+◌, ◌-◌, ◌<◌, ◌≤◌, List, length, set, sym, ap, subst, ◌∙◌, arith}
+use Rattle.std.specs.List.{sum}
 use Rattle.at_ledger.specs.Book.{BookTerms}
 use Rattle.at_ledger.specs.Call.{TargetPair, amount_of}
 use Rattle.at_ledger.specs.declared.call.Call.{Call}
+use Rattle.at_ledger.specs.declared.call.Reply.{Reply}
 use Rattle.at_ledger.specs.declared.call.Reply.TheVariants.{Done, Short}
 use Rattle.at_history.specs.Balances.{balance_after}
 use Rattle.at_history.specs.Fronts.{prefix_of}
+use Rattle.at_history.specs.Rounds.{owns_of}
 use Rattle.at_history.specs.declared.publication.Entry.{Entry}
 use Rattle.at_history.specs.declared.publication.Publication.{Publication}
 use Rattle.at_board.specs.Knowledge.Parts.{own_part}
+use Rattle.at_board.specs.Knowledge.Seats.{SeatTerms}
 use Rattle.at_board.specs.Steps.Publish.{Publishes}
 use Rattle.at_board.specs.Words.Addresses.{record_width}
 use Rattle.at_board.specs.declared.knowledge.Knowledge.{Knowledge}
@@ -16,14 +20,20 @@ use Rattle.at_fold.specs.Sums.{TotalSums}
 use Rattle.at_log.specs.Appending.{MayAppend}
 use Rattle.at_log.specs.LastRecord.{IsLast}
 use Rattle.at_log.specs.declared.receipt.At.TheVariants.{Front, Own}
+use Rattle.at_log.specs.declared.receipt.Receipt.{Receipt}
+use Rattle.at_object.specs.Paid.{PaysAlone}
 use Rattle.at_single.proofs.Laws.Looks.{CountsAccount-HasLooked, CountsFront-HasLooked, balance-HasLooked}
 use Rattle.at_single.proofs.Laws.Paid.{IsPaid}
 use Rattle.at_single.proofs.Laws.Placed.{MayAppend-IsSnapshot}
 use Rattle.at_single.specs.Looks.{HasLooked}
-use Rattle.at_stepper.proofs.PayingAloneLaws.{HasCounted-IsPaid, IsPaidOf-done, IsPaidOf-short, published-IsPaid}
-use Rattle.at_stepper.specs.Appending.{AppendingTerms}
+use Rattle.at_single.specs.Standing.{IsOnlyOwner}
+use Rattle.at_stepper.proofs.PayingAloneLaws.{HasCounted-IsPaid, IsPayingAloneSo-append, LeavesTotals-IsPaid, PaysAlone-done, PaysAlone-short, length-Publishes-le, next_append, paying_next, published-IsPaid}
+use Rattle.at_stepper.specs.Appending.{AppendingTerms, publication_of, starting_appending}
 use Rattle.at_stepper.specs.KeptPayingAlone.{IsAppendingThen, IsLookingFirst, IsPayStageSo, IsPayingAloneSo}
-use Rattle.at_stepper.specs.PayingAlone.{IsPaidOf, PayingAloneTerms, pay_turns_left}
+use Rattle.at_stepper.specs.Looking.{IsWithin}
+use Rattle.at_stepper.specs.PayingAlone.{PayingAloneTerms, append_steps, pay_turns_left}
+use Rattle.at_stepper.specs.Reading.{LeavesTotals}
+use Rattle.at_stepper.specs.declared.pay_stage.PayStage.{PayStage}
 use Rattle.at_stepper.specs.declared.pay_stage.PayStage.TheVariants.{Append}
 use Rattle.at_stepper.proofs.paying_alone.PayingAlone.turn.Given as given
 use Rattle.at_stepper.proofs.paying_alone.PayingAlone.turn.Goals.{After-balance, After-known, After-turn-is_published, After-turn-looked}
@@ -101,10 +111,10 @@ returns-then-from-sum-clause-answer g c =
       c.if-from-sum.true,
       ap (λ (s : PayingAloneTerms). amount_of s.targets) c.self.view_is,
     ) in
-    let here = IsPaidOf-short t.start.book t.start w t.was c.turn-looked.new.totals front t.from t.targets t.call (looked g known) so.payout so.owner so.room less in
-    subst (IsPaidOf c.args.board.now.book t.start w t.from t.targets t.call)
+    let here = PaysAlone-short t.start.book t.start w t.was c.turn-looked.new.totals front t.from t.targets t.call (looked g known) so.payout so.owner so.room less in
+    subst (PaysAlone c.args.board.now.book t.start w t.from t.targets t.call)
     (sym (c.receipt_of.ensures ∙ ap (λ (s : PayingAloneTerms). record { call = s.call; reply = Short; at = Front front }) c.self.view_is))
-    (subst (λ (b : BookTerms). IsPaidOf b t.start w t.from t.targets t.call (record { call = t.call; reply = Short; at = Front front })) (book g at) here)
+    (subst (λ (b : BookTerms). PaysAlone b t.start w t.from t.targets t.call (record { call = t.call; reply = Short; at = Front front })) (book g at) here)
 
 pub start-appending-requires : goal.start-appending-requires
 start-appending-requires g c =
@@ -129,6 +139,55 @@ start-appending-requires g c =
     (subst (λ (n : ℕ). MayAppend t.start.book w (record { entry = Entry.Own n c.copy.result; view = front })) (sym (from g known))
     (subst (λ (xs : List TargetPair). MayAppend t.start.book w (record { entry = Entry.Own t.from xs; view = front }))
     (sym (c.copy.ensures ∙ ap (λ (s : PayingAloneTerms). s.targets) c.self.view_is)) here))
+
+-- its append comes next
+pub invariant_of-self-in-Look : goal.invariant_of-self-in-Look
+invariant_of-self-in-Look g c =
+    let known = (goal.at.invariant_of-self-in-Look g c).After-known in
+    let at = (goal.at.invariant_of-self-in-Look g c).After-turn-looked in
+    let t : PayingAloneTerms = c.args.self.now in
+    let w : Knowledge = c.turn-looked.new.seat.knows in
+    let now : TotalSums = c.turn-looked.new.totals in
+    let front : List ℕ = c.in_ok-view-in-Look.view in
+    let turns : ℕ = c.turn-looked.new.self.turns in
+    let so = kept g at in
+    let enough : amount_of t.targets ≤ balance_after t.start.book (prefix_of front w.seen) t.from =
+    omega (
+      arith,
+      balance g (goal.at.invariant_of-self-in-Look g c).After-balance,
+      c.from.ensures,
+      c.sum.ensures.sum,
+      c.if-from-sum.false,
+      ap (λ (s : PayingAloneTerms). amount_of s.targets) c.self.view_is,
+    ) in
+    let within : IsWithin t.start.book.processes t.was (sum front) turns =
+    subst (λ (b : BookTerms). IsWithin b.processes t.was (sum front) turns) (sym (book g at))
+    (subst (λ (s : TotalSums). IsWithin c.args.board.now.book.processes s (sum front) turns) (looks g at).was_is c.in_ok-view-in-Look.ensures.within) in
+    let same : w.book ≡ t.start.book = c.turn-looked.ensures.board.book ∙ sym (book g at) in
+    let next : IsPayingAloneSo (paying_next t (next_append t w front) turns w now) =
+    IsPayingAloneSo-append t w now front turns so same (looked g known) enough within in
+    let s : PayingAloneTerms = record {
+      call = c.self.inside.call;
+      from = c.self.inside.from;
+      targets = c.self.inside.targets;
+      stage = c.self.inside.stage;
+      looked = c.self.inside.looked;
+      start = c.self.inside.start.value.knows;
+      mark = c.self.inside.mark.value.knows;
+      was = c.self.inside.was.value;
+      totals = c.self.inside.totals.value;
+    } in
+    let here : IsPayingAloneSo (paying_next s (next_append s w front) turns w now) =
+    subst (λ (q : PayingAloneTerms). IsPayingAloneSo (paying_next q (next_append q w front) turns w now)) (sym c.self.view_is) next in
+    let stage : c.become_next-in-Look.new.self ≡ next_append s w front =
+    c.become_next-in-Look.ensures
+    ∙ (ap Append c.start-appending.ensures
+    ∙ ap (λ (xs : List TargetPair). Append (starting_appending w (record { entry = Entry.Own c.self.inside.from xs; view = front }))) c.copy.ensures) in
+    subst (λ (k : PayStage). IsPayingAloneSo (paying_next s k c.turns-self-inside.result c.of.result.value.knows c.of-in-Look.result.value)) (sym stage)
+    (subst (λ (n : ℕ). IsPayingAloneSo (paying_next s (next_append s w front) n c.of.result.value.knows c.of-in-Look.result.value))
+    (sym c.turns-self-inside.ensures)
+    (subst (λ (m : SeatTerms). IsPayingAloneSo (paying_next s (next_append s w front) turns m.knows c.of-in-Look.result.value)) (sym c.of.ensures)
+    (subst (λ (q : TotalSums). IsPayingAloneSo (paying_next s (next_append s w front) turns w q)) (sym c.of-in-Look.ensures) here)))
 
 -- the payment before a turn of its append
 kept_then : (g : given.Over) (c : After-turn-is_published g) → IsPayingAloneSo c.args.self.now
@@ -186,15 +245,64 @@ returns-else-not-is_published-clause-answer g c =
     let done = paid g at c.if-not-is_published.false in
     let looked_at = (appends g at).looked_at in
     let front : List ℕ = a.rec.view in
-    let here = IsPaidOf-done t.start.book t.start a.start t.was t.totals front t.from t.targets t.call looked_at so.payout so.owner so.room x done (appends g at).enough in
+    let here = PaysAlone-done t.start.book t.start a.start t.was t.totals front t.from t.targets t.call looked_at so.payout so.owner so.room x done (appends g at).enough in
     let number : (own_part t.start).published ≡ c.published.result - 1 =
     omega (arith, c.published.ensures, published-IsPaid t.start.book t.start a.start t.was t.totals front t.from t.targets t.call looked_at so.payout so.owner so.room x done) in
-    subst (IsPaidOf c.args.board.now.book t.start x t.from t.targets t.call)
+    subst (PaysAlone c.args.board.now.book t.start x t.from t.targets t.call)
     (sym (c.receipt_of-in-Append.ensures ∙ ap (λ (s : PayingAloneTerms). record { call = s.call; reply = Done; at = Own (c.published.result - 1) }) c.self.view_is))
-    (subst (λ (k : ℕ). IsPaidOf c.args.board.now.book t.start x t.from t.targets t.call (record { call = t.call; reply = Done; at = Own k })) number
-    (subst (λ (b : BookTerms). IsPaidOf b t.start x t.from t.targets t.call (record { call = t.call; reply = Done; at = Own (own_part t.start).published }))
+    (subst (λ (k : ℕ). PaysAlone c.args.board.now.book t.start x t.from t.targets t.call (record { call = t.call; reply = Done; at = Own k })) number
+    (subst (λ (b : BookTerms). PaysAlone b t.start x t.from t.targets t.call (record { call = t.call; reply = Done; at = Own (own_part t.start).published }))
     (book_then g at) here))
 
 pub returns-else-not-is_published-clause-counted : goal.returns-else-not-is_published-clause-counted
 returns-else-not-is_published-clause-counted g c =
     subst (λ (b : BookTerms). StaysCounted c.count_own.new.self b c.turn-is_published.new.seat.knows.seen) c.turn-is_published.ensures.board.book c.count_own.ensures.stays
+
+-- the turns so far, by the words that were stored
+stored : (g : given.Over) (c : After-turn-is_published g) → c.turn-is_published.new.self.stored ≡ c.in-Append.appending.stored + 1
+stored g c = ap (λ (a : AppendingTerms). a.stored) c.turn-is_published.ensures.after
+
+few_looked : (g : given.Over) (c : After-turn-is_published g)
+    → IsWithin c.args.board.now.book.processes c.args.self.now.was (sum c.in-Append.appending.rec.view) c.self.inside.looked
+few_looked g c =
+    let t : PayingAloneTerms = c.args.self.now in
+    let view : List ℕ = c.in-Append.appending.rec.view in
+    subst (λ (b : BookTerms). IsWithin b.processes t.was (sum view) c.self.inside.looked) (book_then g c)
+    (subst (λ (n : ℕ). IsWithin t.start.book.processes t.was (sum view) n) (sym (ap (λ (s : PayingAloneTerms). s.looked) c.self.view_is)) (appends g c).few)
+
+pub returns-else-not-is_published-clause-so_far : goal.returns-else-not-is_published-clause-so_far
+returns-else-not-is_published-clause-so_far g c =
+    let at = (goal.at.returns-else-not-is_published-clause-so_far g c).After-turn-is_published in
+    let a : AppendingTerms = c.in-Append.appending in
+    let x : Knowledge = c.turn-is_published.new.seat.knows in
+    omega (
+      arith,
+      few_looked g at,
+      stored g at,
+      c.turn-is_published.ensures.ends.0 c.if-not-is_published.false,
+      (appends g at).seen,
+      ap (λ (v : Knowledge). length v.seen) (appends g at).mark_is,
+      length-Publishes-le c.args.board.now.book a.mark x (publication_of a) (c.turn-is_published.ensures.publishes c.if-not-is_published.false),
+    )
+
+pub returns-else-not-is_published-clause-leaves : goal.returns-else-not-is_published-clause-leaves
+returns-else-not-is_published-clause-leaves g c =
+    let at = (goal.at.returns-else-not-is_published-clause-leaves g c).After-turn-is_published in
+    let b : BookTerms = c.args.board.now.book in
+    let t : PayingAloneTerms = c.args.self.now in
+    let a : AppendingTerms = c.in-Append.appending in
+    let x : Knowledge = c.turn-is_published.new.seat.knows in
+    let so = kept_then g at in
+    let same = book_then g at in
+    let looked_at = subst (λ (b : BookTerms). HasLooked b t.start a.start t.was t.totals a.rec.view) same (appends g at).looked_at in
+    let done = subst (λ (b : BookTerms). IsPaid b t.start a.start x a.rec.view t.from t.targets) same (paid g at c.if-not-is_published.false) in
+    let owner = subst (λ (b : BookTerms). IsOnlyOwner b t.start.first t.from) same so.owner in
+    let room = subst (λ (b : BookTerms). owns_of t.start.first t.start.seen < b.own_room) same so.room in
+    let next : c.count_own.new.self.upto ≡ set t.totals.upto x.first (own_part x).published =
+    c.count_own.ensures.upto ∙ ap (λ (s : TotalSums). set s.upto x.first (own_part x).published) c.requires.totals in
+    subst (λ (k : Reply). LeavesTotals b t.start x t.was c.count_own.new.self (append_steps (record_width b) k) (c.self.inside.looked + c.turn-is_published.new.self.stored))
+    (sym (ap (λ (r : Receipt). r.reply) c.receipt_of-in-Append.ensures))
+    (LeavesTotals-IsPaid b t.start a.start t.was t.totals a.rec.view t.from t.targets t.call looked_at so.payout owner room x done c.count_own.new.self next
+    (record_width b) c.self.inside.looked c.turn-is_published.new.self.stored (few_looked g at)
+    (omega (arith, stored g at, c.turn-is_published.ensures.ends.0 c.if-not-is_published.false))
+    (omega (arith, so.kept.known, ap (λ (q : BookTerms). q.processes) same)))
