@@ -5,6 +5,7 @@ use Rattle.at_board.specs.Knowledge.Seats.{BoardTerms, IsOf, SeatTerms}
 use Rattle.at_board.specs.Words.Addresses.{record_width}
 use Rattle.at_fold.specs.Sums.{TotalSums}
 use Rattle.at_stepper.specs.PayingAlone.{PayingAloneTerms, pay_turns_left}
+use Rattle.at_stepper.specs.PayingShared.{PayingSharedTerms, share_turns_left}
 use Rattle.at_stepper.specs.Snapping.{SnappingTerms}
 
 -- the snapshot of this seat isn't ended
@@ -23,3 +24,10 @@ pub record IsPaying (board : BoardTerms) (seat : SeatTerms) (totals : TotalSums)
   pub mark : seat.knows ≡ paying.mark
   pub totals_are : totals ≡ paying.totals
   pub left : 0 < pay_turns_left (record_width board.book) paying.stage
+
+-- so does the payment from a shared account
+pub record IsSharing (board : BoardTerms) (seat : SeatTerms) (totals : TotalSums) (paying : PayingSharedTerms) : Type 0 where
+  pub of_board : IsOf seat board
+  pub mark : seat.knows ≡ paying.mark
+  pub totals_are : totals ≡ paying.totals
+  pub left : 0 < share_turns_left board.book paying

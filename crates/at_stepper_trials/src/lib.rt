@@ -11,3 +11,7 @@ mod loads;
 mod machine_trials;
 #[cfg(test)]
 mod movers;
+#[cfg(test)]
+mod share_trials;
+#[cfg(test)]
+mod sharers;

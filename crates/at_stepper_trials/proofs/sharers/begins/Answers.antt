@@ -1,0 +1,15 @@
+use Rattle.std.proofs.Common.{rules, ℕ, ◌<◌, zero, suc, [], ◌∷◌, length, refl, arith}
+use Rattle.at_ledger.specs.Call.{AreTargetsOn}
+use Rattle.at_stepper_trials.proofs.sharers.begins.Goals as goal
+
+-- one target
+AreTargetsOn-one : (accounts to amount : ℕ) → to < accounts → AreTargetsOn accounts ((to, amount) ∷ [])
+AreTargetsOn-one accounts to amount known zero d inside = known
+AreTargetsOn-one accounts to amount known (suc i) d inside = absurd (omega (arith, inside))
+
+pub start-requires-clause-payout : goal.start-requires-clause-payout
+start-requires-clause-payout c = record {
+  targets = (1, c.args.amount) ∷ [];
+  payout = refl;
+  accounts = AreTargetsOn-one (length c.args.board.now.book.accounts) 1 c.args.amount (search rules);
+}

@@ -1,0 +1,96 @@
+//! Payments from shared accounts by state machines to their end.
+
+ghost use Rattle.std.specs.Prelude.{◌≡◌, ℕ, ◌<◌, None, IfSome, IsTrue, length};
+ghost use Rattle.at_board.specs.Knowledge.Parts.{own_part};
+ghost use Rattle.at_board.specs.Knowledge.Seats.{IsOf};
+ghost use Rattle.at_board.specs.Steps.StoreRequestWord.{MayStoreRequest};
+ghost use Rattle.at_fold.specs.HasCounted.{HasCounted};
+ghost use Rattle.at_shared.specs.Helpings.{HasAllSettled};
+ghost use Rattle.at_stepper_trials.specs.Machines.{IsSharing};
+
+use at_board::{Board, BoardSeat, Steps};
+use at_fold::Totals;
+use at_ledger::Call;
+use at_log::Receipt;
+use at_players::boards::slot_on;
+use at_stepper::PayingShared;
+use std::sync::ledger::Ledger;
+
+/// Whether the seat's process shares account 0 and has asked for nothing there.
+fn may_ask_first(board: &Board, seat: &BoardSeat) -> bool
+    requires { IsOf seat.now board.now }
+    ensures accounts { IsTrue result → 1 < length board.now.book.accounts }
+    ensures asks { IsTrue result
+        → (slot : ℕ) × MayStoreRequest board.now.book seat.now.knows 0 slot }
+    ensures settled { IsTrue result → HasAllSettled board.now.book seat.now.knows 0 }
+{
+    let Some(_slot) = slot_on(board.book(), 0, seat.process()) else {
+        return false;
+    };
+    let asked = seat.announced(0);
+    1 < board.book().accounts() && asked == 0 && asked < board.book().request_room()
+}
+
+/// A payment from account 0 to account 1 that isn't ended, where the seat's process has asked for nothing yet.
+pub(crate) fn begins(
+    board: &Board,
+    seat: &BoardSeat,
+    totals: &Totals,
+    amount: u64,
+) -> Option<PayingShared>
+    requires board { IsOf seat.now board.now }
+    requires totals { HasCounted totals.now board.now.book seat.now.knows.seen }
+    requires free { (own_part seat.now.knows).held ≡ None }
+    ensures { IfSome result (IsSharing board.now seat.now totals.now) }
+{
+    if !may_ask_first(board, seat) {
+        return None;
+    }
+    let call = Call::Transfer {
+        from: 0,
+        to: 1,
+        amount,
+    };
+    Some(PayingShared::start(board, seat, totals, 0, call))
+}
+
+/// Whether so many turns don't end a payment.
+pub(crate) fn goes_on_sharing<L: Ledger, X: Ledger>(
+    paying: &mut PayingShared,
+    board: &Board,
+    seat: &mut BoardSeat,
+    totals: &mut Totals,
+    turns: u32,
+    steps: &mut Steps<L>,
+    exchanges: &mut Steps<X>,
+) -> bool
+    requires { IsSharing board.now seat.old totals.old paying.old }
+    ensures { IsTrue result → IsSharing board.now seat.new totals.new paying.new }
+{
+    for _turn in 0..turns {
+        if paying.turn(board, seat, totals, steps, exchanges).is_some() {
+            return false;
+        }
+    }
+    true
+}
+
+/// The receipt of a payment that isn't ended, and in how many more turns it ends.
+pub(crate) fn ends_sharing<L: Ledger, X: Ledger>(
+    mut paying: PayingShared,
+    board: &Board,
+    seat: &mut BoardSeat,
+    totals: &mut Totals,
+    steps: &mut Steps<L>,
+    exchanges: &mut Steps<X>,
+) -> (Receipt, u32)
+    requires { IsSharing board.now seat.old totals.old paying }
+{
+    let mut turns: u32 = 1;
+    loop {
+        match paying.turn(board, seat, totals, steps, exchanges) {
+            Some(receipt) => return (receipt, turns),
+            None => turns = turns.saturating_add(1),
+        }
+    }
+}
