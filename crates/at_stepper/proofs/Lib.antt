@@ -16,3 +16,6 @@ pub mod CallingTurns
 pub mod StartingLaws
 pub mod TurningLaws
 pub mod PayingSharedLaws
+pub mod CallerLaws
+pub mod SteppingLaws
+pub mod ReplayLaws

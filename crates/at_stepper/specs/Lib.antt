@@ -29,3 +29,9 @@ pub mod Turning
 pub mod KeptTurning
 pub mod PayingShared
 pub mod KeptPayingShared
+pub mod Callers
+pub mod KeptCallers
+pub mod Stepping
+pub mod KeptStepping
+pub mod Schedules
+pub mod Replays

@@ -1,0 +1,263 @@
+-- The callers of a run, as they are begun, as one of them turns, and as they are split at the end.
+use Rattle.std.proofs.Common.{◌≡◌, ℕ, ◌+◌, ◌^◌, ◌<◌, ◌≤◌, List, [], ◌∷◌, ◌++◌, drop, length, get_or, map, set, slice_index, take, Vec, refl, sym, ap, subst, ◌∙◌, arith, inl, inr, length-set}
+use Rattle.std.proofs.lemmas.Bool.{cases_eq, cases_lt}
+use Rattle.std.proofs.lemmas.List.{drop_more, get_or-map, get_or-set_other, get_or-set_same, get_or_append_left, get_or_past, get_or_push, length-drop, length-map, length_push, map-append, map-set, set-get_or, take_all, take_more}
+use Rattle.std.proofs.lemmas.List.Elements.{All-push}
+use Rattle.std.proofs.lemmas.List.Sums.{sum_by-set}
+use Rattle.std.specs.Global.{Global}
+use Rattle.std.specs.Prelude.{All}
+use Rattle.at_ledger.specs.declared.call.Call.{Call}
+use Rattle.at_board.specs.Knowledge.Seats.{BoardTerms, IsOf, SeatTerms}
+use Rattle.at_log.specs.declared.receipt.Receipt.{Receipt}
+use Rattle.at_object.specs.Closings.{AreAccountedFor, IsAccountedFor}
+use Rattle.at_object.specs.Parted.{HasRoom}
+use Rattle.at_object.specs.Passes.{AreNewPasses, IsNewPass, PassTerms, Stands}
+use Rattle.at_stepper.specs.Callers.{CallerTerms, IsFile, IsNewCaller, answers_in, caller_turns_left, calls_left_of}
+use Rattle.at_stepper.specs.KeptCallers.{calls_of}
+use Rattle.at_stepper.specs.KeptStepping.{AreCallersOn, AreSplit, AreStartsFor, ChangesOne, IsCallerOn, IsSplit, IsTurned, TurnsOne, passes_in}
+use Rattle.at_stepper.specs.Stepping.{AreBegunCallers, IsBegunCaller, files_in}
+use Rattle.at_stepper.specs.declared.caller.Start.{Start}
+use Rattle.at_stepper.specs.declared.turned.Turned.{Turned}
+
+-- what holds of each at its place, with one more
+pub each_push : {X : Type 0} (holds : ℕ → X → Type 0) (xs : List X) (x : X) → ((p : ℕ) (d : X) → p < length xs → holds p (get_or xs p d))
+    → holds (length xs) x → (p : ℕ) (d : X) → p < length (xs ++ x ∷ []) → holds p (get_or (xs ++ x ∷ []) p d)
+each_push holds xs x each last p d within =
+    elim (cases_eq p (length xs)) as (λ _. holds p (get_or (xs ++ x ∷ []) p d)) [
+      | inl here ↦ subst (λ q. holds q (get_or (xs ++ x ∷ []) q d)) (sym here)
+          (subst (holds (length xs)) (sym (get_or_push xs x d (length xs) refl)) last)
+      | inr other ↦
+          let before : p < length xs = omega (arith, within, length_push xs x, other) in
+          subst (holds p) (sym (get_or_append_left xs (x ∷ []) d p before)) (each p d before)
+    ]
+
+-- an element of a list that has one
+pub some_of : {X : Type 0} (xs : List X) (p : ℕ) → p < length xs → X
+some_of [] p within = absurd (omega (arith, within))
+some_of (x ∷ xs) p within = x
+
+-- the element that comes next, and what is left then
+pub known_next : {X : Type 0} (xs : List X) (n : ℕ) (x : X) (rest : List X) → drop n xs ≡ x ∷ rest → n < length xs
+known_next xs n x rest is = omega (arith, length-drop n xs, ap (λ ys. length ys) is)
+
+pub get_or_next : {X : Type 0} (xs : List X) (n : ℕ) (x : X) (rest : List X) (d : X) → drop n xs ≡ x ∷ rest → get_or xs n d ≡ x
+get_or_next xs n x rest d is =
+    ap (λ ys. get_or ys 0 d) (sym (drop_more xs n d (known_next xs n x rest is)) ∙ is)
+
+pub rest_next : {X : Type 0} (xs : List X) (n : ℕ) (x : X) (rest : List X) → drop n xs ≡ x ∷ rest → rest ≡ drop (n + 1) xs
+rest_next xs n x rest is =
+    sym (ap (λ ys. drop 1 ys) (sym (drop_more xs n x (known_next xs n x rest is)) ∙ is))
+
+-- the start and the file that come next
+module _ (ledger : BoardTerms) (starts : List Start) (files : List (Vec Call Global)) (n : ℕ) (start : Start) (others : List Start)
+    (file : Vec Call Global) (left : List (Vec Call Global)) (start_is : drop n starts ≡ start ∷ others) (file_is : drop n files ≡ file ∷ left) where
+  pub IsNewPass-next : AreNewPasses ledger (passes_in starts) → IsNewPass ledger n start.pass
+  IsNewPass-next new =
+      let within : n < length starts = known_next starts n start others start_is in
+      subst (IsNewPass ledger n)
+      (get_or-map (λ (s : Start). s.pass) starts n start start.pass within
+      ∙ ap (λ (s : Start). s.pass) (get_or_next starts n start others start start_is))
+      (new.each n start.pass (omega (arith, within, new.count, length-map starts (λ (s : Start). s.pass))))
+
+  pub file_next : (d : List Call) → get_or (files_in files) n d ≡ file.items
+  file_next d =
+      get_or-map (λ (f : Vec Call Global). f.items) files n file d (known_next files n file left file_is)
+      ∙ ap (λ (f : Vec Call Global). f.items) (get_or_next files n file left file file_is)
+
+  known_file : n < length (files_in files)
+  known_file = omega (arith, known_next files n file left file_is, length-map files (λ (f : Vec Call Global). f.items))
+
+  pub IsFile-next : (accounts : ℕ) → All (IsFile accounts) (files_in files) → IsFile accounts file.items
+  IsFile-next accounts known = subst (IsFile accounts) (file_next []) (known n [] known_file)
+
+  pub HasRoom-next : AreStartsFor (files_in files) starts → HasRoom start.receipts (length file.items)
+  HasRoom-next rooms =
+      subst (λ (calls : List Call). HasRoom start.receipts (length calls)) (file_next [])
+      (subst (λ (s : Start). HasRoom s.receipts (length (get_or (files_in files) n []))) (get_or_next starts n start others start start_is)
+      (rooms.room n [] start known_file))
+
+  -- and the callers with that of this start and file
+  module _ (callers : List CallerTerms) (caller : CallerTerms) (count : length callers ≡ n) (is_new : IsNewCaller ledger.book start.pass file.items caller) where
+    pub made-next : AreNewPasses ledger (passes_in starts)
+        → ((p : ℕ) (f : List Call) (d : CallerTerms) → p < length callers → IsBegunCaller ledger p (get_or (files_in files) p f) (get_or callers p d))
+        → (p : ℕ) (f : List Call) (d : CallerTerms) → p < length (callers ++ caller ∷ [])
+        → IsBegunCaller ledger p (get_or (files_in files) p f) (get_or (callers ++ caller ∷ []) p d)
+    made-next new made p f d within =
+        let last : IsBegunCaller ledger n file.items caller = record {
+          pass = subst (IsNewPass ledger n) (sym is_new.pass_is) (IsNewPass-next new);
+          is_new = subst (λ (pass : PassTerms). IsNewCaller ledger.book pass file.items caller) (sym is_new.pass_is) is_new;
+        } in
+        each_push (λ q c. IsBegunCaller ledger q (get_or (files_in files) q f) c) callers caller (λ q e inside. made q f e inside)
+        (subst (λ q. IsBegunCaller ledger q (get_or (files_in files) q f) caller) (sym count)
+        (subst (λ (calls : List Call). IsBegunCaller ledger n calls caller) (sym (file_next f)) last)) p d within
+
+    pub calls-next : map (λ (c : CallerTerms). c.calls) callers ≡ take (length callers) (files_in files)
+        → map (λ (c : CallerTerms). c.calls) (callers ++ caller ∷ []) ≡ take (length (callers ++ caller ∷ [])) (files_in files)
+    calls-next were =
+        map-append (λ (c : CallerTerms). c.calls) callers (caller ∷ [])
+        ∙ (ap (λ (cs : List (List Call)). cs ++ caller.calls ∷ []) (were ∙ ap (λ k. take k (files_in files)) count)
+        ∙ (ap (λ (calls : List Call). take n (files_in files) ++ calls ∷ []) (is_new.calls_are ∙ sym (file_next []))
+        ∙ (sym (take_more (files_in files) n [] known_file)
+        ∙ ap (λ k. take k (files_in files)) (ap (λ k. k + 1) (sym count) ∙ sym (length_push callers caller)))))
+
+-- the callers of all files
+pub AreBegunCallers-all : (ledger : BoardTerms) (files : List (List Call)) (callers : List CallerTerms) → length files ≤ length callers
+    → map (λ (c : CallerTerms). c.calls) callers ≡ take (length callers) files
+    → ((p : ℕ) (f : List Call) (d : CallerTerms) → p < length callers → IsBegunCaller ledger p (get_or files p f) (get_or callers p d))
+    → AreBegunCallers ledger files callers
+AreBegunCallers-all ledger files callers all calls made =
+    let whole : map (λ (c : CallerTerms). c.calls) callers ≡ files = calls ∙ take_all (length callers) files all in
+    let count : length callers ≡ length files =
+    sym (length-map callers (λ (c : CallerTerms). c.calls)) ∙ ap (λ (fs : List (List Call)). length fs) whole in record {
+      count = count;
+      calls = whole;
+      each = λ p f d within. made p f d (omega (arith, within, count));
+    }
+
+-- room for a receipt of each call of a file that was read
+pub room_of_file : (files : List (Vec Call Global)) (n m calls : ℕ) (file : Vec Call Global) (capacity : ℕ) → n < length files → m ≡ n
+    → file ≡ get_or files m file → calls ≡ file.len → calls ≤ capacity → length (get_or (files_in files) n []) ≤ capacity
+room_of_file files n m calls file capacity within same read count fits =
+    let is : get_or (files_in files) n [] ≡ file.items =
+    get_or-map (λ (f : Vec Call Global). f.items) files n file [] within
+    ∙ ap (λ (f : Vec Call Global). f.items) (ap (λ k. get_or files k file) (sym same) ∙ sym read) in
+    omega (arith, ap (λ (calls : List Call). length calls) is, file.ok.0, count, fits)
+
+-- a process that has calls left has a caller
+pub known-calls_left : (callers : List CallerTerms) (p : ℕ) → 0 < slice_index (map calls_left_of callers) p → p < length callers
+known-calls_left callers p left =
+    elim (cases_lt p (length callers)) as (λ _. p < length callers) [
+      | inl within ↦ within
+      | inr past ↦ absurd (omega (arith, left, get_or_past (map calls_left_of callers) p 0 (omega (arith, past, length-map callers calls_left_of))))
+    ]
+
+-- the calls that a caller has left
+pub calls_left-at : (callers : List CallerTerms) (p : ℕ) (d : CallerTerms) → p < length callers
+    → slice_index (map calls_left_of callers) p ≡ calls_left_of (get_or callers p d)
+calls_left-at callers p d within = get_or-map calls_left_of callers p d 0 within
+
+-- one of the callers has turned
+module _ (ledger : BoardTerms) (callers : List CallerTerms) (process : ℕ) (after : CallerTerms) (within : process < length callers) where
+  pub AreCallersOn-set : AreCallersOn ledger callers → IsCallerOn ledger process after → AreCallersOn ledger (set callers process after)
+  AreCallersOn-set were is = record {
+    count = length-set callers process after ∙ were.count;
+    each = λ p d inside.
+        elim (cases_eq p process) as (λ _. IsCallerOn ledger p (get_or (set callers process after) p d)) [
+          | inl here ↦ subst (λ q. IsCallerOn ledger q (get_or (set callers process after) q d)) (sym here)
+              (subst (IsCallerOn ledger process) (sym (get_or-set_same callers process after d within)) is)
+          | inr other ↦ subst (IsCallerOn ledger p) (sym (get_or-set_other callers process p after d other))
+              (were.each p d (omega (arith, inside, length-set callers process after)))
+        ];
+  }
+
+  ChangesOne-set : (changes : CallerTerms → CallerTerms → Type 0) → ((d : CallerTerms) → changes (get_or callers process d) after)
+      → ChangesOne changes process callers (set callers process after)
+  ChangesOne-set changes changed = record {
+    count = length-set callers process after;
+    here = λ d. subst (changes (get_or callers process d)) (sym (get_or-set_same callers process after d within)) (changed d);
+    others = λ q d apart. get_or-set_other callers process q after d apart;
+  }
+
+  calls-set : after.calls ≡ (get_or callers process after).calls
+      → map (λ (c : CallerTerms). c.calls) (set callers process after) ≡ map (λ (c : CallerTerms). c.calls) callers
+  calls-set same =
+      map-set (λ (c : CallerTerms). c.calls) callers process after
+      ∙ (ap (λ (file : List Call). set (map (λ (c : CallerTerms). c.calls) callers) process file)
+      (same ∙ sym (get_or-map (λ (c : CallerTerms). c.calls) callers process after [] within))
+      ∙ set-get_or (map (λ (c : CallerTerms). c.calls) callers) process [])
+
+  pub TurnsOne-set : (turned : Turned) → ((d : CallerTerms) → IsTurned ledger.book turned (get_or callers process d) after)
+      → TurnsOne process turned (record { ledger = ledger; callers = callers }) (record { ledger = ledger; callers = set callers process after })
+  TurnsOne-set turned changed =
+      let one = changed after in
+      let inside : process < length (set callers process after) = omega (arith, within, length-set callers process after) in record {
+        ledger = refl;
+        changes = ChangesOne-set (IsTurned ledger.book turned) changed;
+        files = calls-set one.calls;
+        left =
+            calls_left-at callers process after within
+            ∙ (one.left
+            ∙ ap (λ n. n + answers_in turned)
+            (sym (calls_left-at (set callers process after) process after inside ∙ ap calls_left_of (get_or-set_same callers process after after within))));
+        others_left = λ q apart.
+            ap (λ ns. slice_index ns q) (map-set calls_left_of callers process after)
+            ∙ get_or-set_other (map calls_left_of callers) process q (calls_left_of after) 0 apart;
+        turns_left = omega (arith, one.turns_left, sum_by-set (caller_turns_left ledger.book) callers process after after within);
+      }
+
+-- callers that are begun are those of the ledger
+pub AreCallersOn-begun : (ledger : BoardTerms) (files : List (List Call)) (callers : List CallerTerms) → AreBegunCallers ledger files callers
+    → length files ≡ ledger.book.processes → AreCallersOn ledger callers
+AreCallersOn-begun ledger files callers begun count = record {
+  count = begun.count ∙ count;
+  each = λ p d within.
+      let one = begun.each p [] d (omega (arith, within, begun.count)) in record {
+        seat = subst (λ (s : SeatTerms). IsOf s ledger) (sym one.is_new.seat_is) one.pass.of_ledger;
+        pass = one.pass.of_ledger;
+        process_is = one.pass.process_is;
+      };
+}
+
+-- a caller is split
+pub IsSplit-told : (caller : CallerTerms) (pass : PassTerms) (list : List Receipt) → pass ≡ caller.pass → list ≡ caller.receipts
+    → Stands caller.pass caller.receipts → caller.pass.calls ≡ length caller.receipts → calls_of caller.receipts ≡ caller.calls
+    → length caller.receipts < 2 ^ 32 → IsSplit caller pass list
+IsSplit-told caller pass list pass_is list_is stands counted made few = record {
+  pass_is = pass_is;
+  made = ap calls_of list_is ∙ made;
+  stands = subst (λ (p : PassTerms). Stands p list) (sym pass_is) (subst (λ (rs : List Receipt). Stands caller.pass rs) (sym list_is) stands);
+  counted = ap (λ (p : PassTerms). p.calls) pass_is ∙ (counted ∙ sym (ap (λ (rs : List Receipt). length rs) list_is));
+  few = omega (arith, few, ap (λ (rs : List Receipt). length rs) list_is);
+}
+
+-- one more caller is split
+pub AreSplit-push : (callers : List CallerTerms) (passes : List PassTerms) (receipts : List (List Receipt)) (caller : CallerTerms) (pass : PassTerms)
+    (list : List Receipt) → AreSplit callers passes receipts → IsSplit caller pass list
+    → AreSplit (callers ++ caller ∷ []) (passes ++ pass ∷ []) (receipts ++ list ∷ [])
+AreSplit-push callers passes receipts caller pass list were is = record {
+  passes_count = length_push passes pass ∙ (ap (λ n. n + 1) were.passes_count ∙ sym (length_push callers caller));
+  receipts_count = length_push receipts list ∙ (ap (λ n. n + 1) were.receipts_count ∙ sym (length_push callers caller));
+  made =
+      map-append calls_of receipts (list ∷ [])
+      ∙ (ap (λ (files : List (List Call)). files ++ calls_of list ∷ []) were.made
+      ∙ (ap (λ (file : List Call). map (λ (c : CallerTerms). c.calls) callers ++ file ∷ []) is.made
+      ∙ sym (map-append (λ (c : CallerTerms). c.calls) callers (caller ∷ []))));
+  few = All-push (λ (rs : List Receipt). length rs < 2 ^ 32) receipts list were.few is.few;
+  each = λ p d e within.
+      elim (cases_eq p (length callers)) as (λ _.
+      IsSplit (get_or (callers ++ caller ∷ []) p d) (get_or (passes ++ pass ∷ []) p e) (get_or (receipts ++ list ∷ []) p [])) [
+        | inl here ↦
+            subst (λ (c : CallerTerms). IsSplit c (get_or (passes ++ pass ∷ []) p e) (get_or (receipts ++ list ∷ []) p []))
+            (sym (get_or_push callers caller d p (sym here)))
+            (subst (λ (x : PassTerms). IsSplit caller x (get_or (receipts ++ list ∷ []) p []))
+            (sym (get_or_push passes pass e p (were.passes_count ∙ sym here)))
+            (subst (λ (rs : List Receipt). IsSplit caller pass rs) (sym (get_or_push receipts list [] p (were.receipts_count ∙ sym here))) is))
+        | inr other ↦
+            let before : p < length callers = omega (arith, within, length_push callers caller, other) in
+            subst (λ (c : CallerTerms). IsSplit c (get_or (passes ++ pass ∷ []) p e) (get_or (receipts ++ list ∷ []) p []))
+            (sym (get_or_append_left callers (caller ∷ []) d p before))
+            (subst (λ (x : PassTerms). IsSplit (get_or callers p d) x (get_or (receipts ++ list ∷ []) p []))
+            (sym (get_or_append_left passes (pass ∷ []) e p (omega (arith, before, were.passes_count))))
+            (subst (λ (rs : List Receipt). IsSplit (get_or callers p d) (get_or passes p e) rs)
+            (sym (get_or_append_left receipts (list ∷ []) [] p (omega (arith, before, were.receipts_count)))) (were.each p d e before)))
+      ];
+}
+
+-- the passes and receipts of all callers are those of all processes
+pub AreAccountedFor-split : (ledger : BoardTerms) (callers : List CallerTerms) (passes : List PassTerms) (receipts : List (List Receipt))
+    → AreCallersOn ledger callers → AreSplit callers passes receipts → AreAccountedFor ledger passes receipts
+AreAccountedFor-split ledger callers passes receipts on split = record {
+  passes_count = split.passes_count ∙ on.count;
+  receipts_count = split.receipts_count ∙ on.count;
+  each = λ p d below.
+      let within : p < length callers = omega (arith, below, on.count) in
+      let some = some_of callers p within in
+      let one = split.each p some d within in
+      let caller = on.each p some within in
+      subst (λ (pass : PassTerms). IsAccountedFor ledger p pass (get_or receipts p [])) (sym one.pass_is) (record {
+        of_ledger = caller.pass;
+        process_is = caller.process_is;
+        stands = subst (λ (pass : PassTerms). Stands pass (get_or receipts p [])) one.pass_is one.stands;
+        counted = sym (ap (λ (pass : PassTerms). pass.calls) one.pass_is) ∙ one.counted;
+      });
+}

@@ -1,0 +1,88 @@
+use Rattle.std.proofs.Common.{◌≡◌, ◌∙◌, ℕ, ◌+◌, ◌<◌, ◌≤◌, ◌++◌, ◌∷◌, [], List, Vec, Global, ap, arith, drop, get_or, length, map, refl, subst, sym, take}
+use Rattle.std.proofs.lemmas.Grind.{common_steps}
+use Rattle.std.proofs.lemmas.List.{length-drop, length-map, length_push}
+use Rattle.at_ledger.specs.declared.call.Call.{Call}
+use Rattle.at_stepper.proofs.SteppingLaws.{AreBegunCallers-all, HasRoom-next, IsFile-next, IsNewPass-next, calls-next, made-next, rest_next}
+use Rattle.at_stepper.proofs.beginning.callers_for.Goals as goal
+use Rattle.at_stepper.specs.Callers.{CallerTerms}
+use Rattle.at_stepper.specs.Stepping.{IsBegunCaller, files_in}
+
+pub new-requires-clause-pass : goal.new-requires-clause-pass
+new-requires-clause-pass c =
+    (IsNewPass-next c.args.board.now c.args.starts.items c.args.files.items (length c.loop-calls.callers.items) c.in-Some-next.start
+    c.next-in-loop-calls.new.self.rest.items c.in-Some.calls c.next.new.self.rest.items
+    (sym c.loop-calls.invariant.starts ∙ c.in-Some-next.ensures.items) (sym c.loop-calls.invariant.files ∙ c.in-Some.ensures.steps.0)
+    c.requires.passes).of_ledger
+
+pub new-requires-clause-stands : goal.new-requires-clause-stands
+new-requires-clause-stands c =
+    (IsNewPass-next c.args.board.now c.args.starts.items c.args.files.items (length c.loop-calls.callers.items) c.in-Some-next.start
+    c.next-in-loop-calls.new.self.rest.items c.in-Some.calls c.next.new.self.rest.items
+    (sym c.loop-calls.invariant.starts ∙ c.in-Some-next.ensures.items) (sym c.loop-calls.invariant.files ∙ c.in-Some.ensures.steps.0)
+    c.requires.passes).stands
+
+pub new-requires-clause-uncounted : goal.new-requires-clause-uncounted
+new-requires-clause-uncounted c =
+    (IsNewPass-next c.args.board.now c.args.starts.items c.args.files.items (length c.loop-calls.callers.items) c.in-Some-next.start
+    c.next-in-loop-calls.new.self.rest.items c.in-Some.calls c.next.new.self.rest.items
+    (sym c.loop-calls.invariant.starts ∙ c.in-Some-next.ensures.items) (sym c.loop-calls.invariant.files ∙ c.in-Some.ensures.steps.0)
+    c.requires.passes).calls_are
+
+pub new-requires-clause-file : goal.new-requires-clause-file
+new-requires-clause-file c =
+    IsFile-next c.args.board.now c.args.starts.items c.args.files.items (length c.loop-calls.callers.items) c.in-Some-next.start
+    c.next-in-loop-calls.new.self.rest.items c.in-Some.calls c.next.new.self.rest.items
+    (sym c.loop-calls.invariant.starts ∙ c.in-Some-next.ensures.items) (sym c.loop-calls.invariant.files ∙ c.in-Some.ensures.steps.0)
+    (length c.args.board.now.book.accounts) c.requires.known
+
+pub new-requires-clause-room : goal.new-requires-clause-room
+new-requires-clause-room c =
+    HasRoom-next c.args.board.now c.args.starts.items c.args.files.items (length c.loop-calls.callers.items) c.in-Some-next.start
+    c.next-in-loop-calls.new.self.rest.items c.in-Some.calls c.next.new.self.rest.items
+    (sym c.loop-calls.invariant.starts ∙ c.in-Some-next.ensures.items) (sym c.loop-calls.invariant.files ∙ c.in-Some.ensures.steps.0)
+    c.requires.rooms
+
+pub loop-calls-preserved : goal.loop-calls-preserved
+loop-calls-preserved c =
+    let ledger = c.args.board.now in
+    let starts = c.args.starts.items in
+    let files = c.args.files.items in
+    let callers = c.loop-calls.callers.items in
+    let n : ℕ = length callers in
+    let start = c.in-Some-next.start in
+    let others = c.next-in-loop-calls.new.self.rest.items in
+    let file = c.in-Some.calls in
+    let left = c.next.new.self.rest.items in
+    let caller : CallerTerms = c.new.result in
+    let kept = c.loop-calls.invariant in
+    let start_is : drop n starts ≡ start ∷ others = sym kept.starts ∙ c.in-Some-next.ensures.items in
+    let file_is : drop n files ≡ file ∷ left = sym kept.files ∙ c.in-Some.ensures.steps.0 in
+    let more : c.push_reserved.new.self.items ≡ callers ++ caller ∷ [] = c.push_reserved.ensures.items in
+    let count : n + 1 ≡ length c.push_reserved.new.self.items =
+    sym (ap (λ (cs : List CallerTerms). length cs) more ∙ length_push callers caller) in
+    record {
+      next = tt;
+      finite = tt;
+      starts = rest_next starts n start others start_is ∙ ap (λ k. drop k starts) count;
+      files = rest_next files n file left file_is ∙ ap (λ k. drop k files) count;
+      calls = subst (λ (cs : List CallerTerms). map (λ (x : CallerTerms). x.calls) cs ≡ take (length cs) (files_in files)) (sym more)
+          (calls-next ledger starts files n start others file left start_is file_is callers caller refl c.new.ensures kept.calls);
+      made = subst (λ (cs : List CallerTerms). (p : ℕ) (f : List Call) (d : CallerTerms) → p < length cs
+          → IsBegunCaller ledger p (get_or (files_in files) p f) (get_or cs p d)) (sym more)
+          (made-next ledger starts files n start others file left start_is file_is callers caller refl c.new.ensures c.requires.passes kept.made);
+      room = omega (arith, kept.room, c.push_reserved.ensures.len, c.push_reserved.ensures.capacity, c.in-Some.ensures.steps.1);
+    }
+
+pub returns : goal.returns
+returns c =
+    let files = c.args.files.items in
+    let callers = c.loop-calls.callers.items in
+    let none : c.loop-calls.calls-iterator.rest.items ≡ [] = grind (arith, common_steps) in
+    let all : length (files_in files) ≤ length callers =
+    omega (
+      arith,
+      length-map files (λ (f : Vec Call Global). f.items),
+      length-drop (length callers) files,
+      ap (λ (fs : List (Vec Call Global)). length fs) (sym c.loop-calls.invariant.files ∙ none),
+    ) in
+    AreBegunCallers-all c.args.board.now (files_in files) callers all c.loop-calls.invariant.calls c.loop-calls.invariant.made

@@ -1,0 +1,25 @@
+use Rattle.std.proofs.Common.{◌∙◌, ◌+◌, ◌<◌, ◌∷◌, [], List, ap, arith, slice_index, subst, sym}
+use Rattle.std.proofs.lemmas.Bool.{eqb-false, eqb-true}
+use Rattle.at_stepper.proofs.ReplayLaws.{TurnBy-idle, TurnBy-turned, answers-cond}
+use Rattle.at_stepper.specs.Replays.{TurnBy}
+use Rattle.at_stepper.specs.Stepping.{calls_left}
+use Rattle.at_stepper.specs.declared.replaying.TurnMade.{TurnMade}
+use Rattle.at_stepper.proofs.replaying.turn_unless_idle.Goals as goal
+
+pub returns-then-idle-clause-turned : goal.returns-then-idle-clause-turned
+returns-then-idle-clause-turned g c =
+    TurnBy-idle c.args.turns.now.items c.args.stepper.now c.args.process (eqb-true _ 0 (sym c.idle.ensures ∙ c.if-idle.true))
+
+pub returns-clause-turned : goal.returns-clause-turned
+returns-clause-turned g c =
+    let p = c.args.process in
+    let before = c.args.stepper.now in
+    let after = c.turn.new.self in
+    let turns = c.args.turns.now.items in
+    let apart = eqb-false (slice_index (calls_left before) p) 0 (sym c.idle.ensures ∙ c.if-idle.false) in
+    let busy : 0 < slice_index (calls_left before) p = omega (arith, apart) in
+    subst (λ (all : List TurnMade). TurnBy (p ∷ []) turns before all after) (sym c.in_ok-push.ensures.items)
+    (TurnBy-turned turns before after p c.is_answer-answered.result busy
+    (c.turn.ensures.left
+    ∙ ap (λ n. slice_index (calls_left after) p + n) (answers-cond c.turn.result c.is_answer-answered.result c.is_answer-answered.ensures))
+    c.turn.ensures.others_left)

@@ -1,0 +1,50 @@
+-- Runs of the calls of all processes by turns.
+use Rattle.std.specs.Prelude.{◌≡◌, ℕ, ◌<◌, List, length, map, slice_index, slice_index_or, sum_by, Vec}
+use Rattle.std.specs.Global.{Global}
+use Rattle.at_ledger.specs.Book.{BookTerms}
+use Rattle.at_ledger.specs.declared.call.Call.{Call}
+use Rattle.at_board.specs.Knowledge.Seats.{BoardTerms}
+use Rattle.at_object.specs.Passes.{IsNewPass}
+use Rattle.at_stepper.specs.Callers.{CallerTerms, IsNewCaller, calls_left_of, caller_turns_left}
+
+-- a run by its ledger and the callers of all processes, in order
+pub record StepperTerms : Type 0 where
+  pub ledger : BoardTerms
+  pub callers : List CallerTerms
+
+-- the calls of each file, as they are handed in
+abbrev pub files_in : List (Vec Call Global) → List (List Call)
+files_in files = map (λ (file : Vec Call Global). file.items) files
+
+-- the calls of each process
+abbrev pub files_of : StepperTerms → List (List Call)
+files_of s = map (λ (caller : CallerTerms). caller.calls) s.callers
+
+-- how many calls are left to each process
+abbrev pub calls_left : StepperTerms → List ℕ
+calls_left s = map calls_left_of s.callers
+
+-- each process has answered all its calls
+abbrev pub IsOver : StepperTerms → Type 0
+IsOver s = (p : ℕ) → slice_index (calls_left s) p ≡ 0
+
+-- the turns that are left at most, of all processes
+abbrev pub turns_left : StepperTerms → ℕ
+turns_left s = sum_by (caller_turns_left s.ledger.book) s.callers
+
+-- the caller of a new pass of the ledger, with all calls of a file to make
+pub record IsBegunCaller (ledger : BoardTerms) (process : ℕ) (file : List Call) (caller : CallerTerms) : Type 0 where
+  pub pass : IsNewPass ledger process caller.pass
+  pub is_new : IsNewCaller ledger.book caller.pass file caller
+
+-- one for each file, in order
+pub record AreBegunCallers (ledger : BoardTerms) (files : List (List Call)) (callers : List CallerTerms) : Type 0 where
+  pub count : length callers ≡ length files
+  pub calls : map (λ (caller : CallerTerms). caller.calls) callers ≡ files
+  pub each : (p : ℕ) (file : List Call) (d : CallerTerms) → p < length files →
+      IsBegunCaller ledger p (slice_index_or files p file) (slice_index_or callers p d)
+
+-- a run of files on a new ledger of the book, of which no turn was made
+pub record IsNewStepper (b : BookTerms) (files : List (List Call)) (s : StepperTerms) : Type 0 where
+  pub book_is : s.ledger.book ≡ b
+  pub callers : AreBegunCallers s.ledger files s.callers

@@ -1,0 +1,83 @@
+//! The callers that a run starts with.
+
+ghost use Rattle.std.specs.Prelude.{◌≡◌, ℕ, ◌<◌, All, IfOk, length, slice_index_or};
+ghost use Rattle.at_object.specs.Parted.{HasRoom};
+ghost use Rattle.at_object.specs.Passes.{AreNewPasses};
+ghost use Rattle.at_stepper.specs.Callers.{IsFile};
+ghost use Rattle.at_stepper.specs.KeptStepping.{AreStartsFor, passes_in};
+ghost use Rattle.at_stepper.specs.Stepping.{AreBegunCallers, files_in};
+
+use crate::caller::{Caller, Start};
+use at_board::Board;
+use at_ledger::{Book, Call};
+use at_object::{Ledger, NoMemory, Pass};
+use std::alloc::Global;
+
+/// What a run takes memory for: the ledger, what each caller starts with, and the list of the callers.
+#[derive(Drop)]
+pub(crate) struct Memory {
+    pub(crate) ledger: Ledger,
+    pub(crate) starts: Vec<Start>,
+    pub(crate) callers: Vec<Caller>,
+}
+
+/// All memory of a run of the files.
+pub(crate) fn memory_for(
+    alloc: Global,
+    book: &Book,
+    files: &[Vec<Call>],
+) -> Result<Memory, NoMemory>
+    requires count { length files.now ≡ book.now.processes }
+    ensures book { IfOk result (λ m. m.ledger.book ≡ book.now) }
+    ensures passes { IfOk result (λ m. AreNewPasses m.ledger (passes_in m.starts.items)) }
+    ensures rooms { IfOk result (λ m. AreStartsFor (files_in files.now) m.starts.items) }
+    ensures room { IfOk result (λ m. HasRoom m.callers (length files.now)) }
+{
+    let (ledger, passes) = Ledger::new(alloc, book)?;
+    Ok(Memory {
+        ledger,
+        starts: starts_for(alloc, passes, files)?,
+        callers: Vec::with_capacity(alloc, files.len())?,
+    })
+}
+
+/// What each caller starts with: its pass, and the memory for a receipt of each call of its file.
+fn starts_for(alloc: Global, passes: Vec<Pass>, files: &[Vec<Call>]) -> Result<Vec<Start>, NoMemory>
+    requires count { length passes.items ≡ length files.now }
+    ensures passes { IfOk result (λ starts. passes_in starts.items ≡ passes.items) }
+    ensures rooms { IfOk result (λ starts. AreStartsFor (files_in files.now) starts.items) }
+{
+    let mut starts = Vec::with_capacity(alloc, files.len())?;
+    for pass in passes {
+        let calls = files[starts.len()].len();
+        starts.push(Start {
+            pass,
+            receipts: Vec::with_capacity(alloc, calls)?,
+        })?;
+    }
+    Ok(starts)
+}
+
+/// The callers of the files, in memory that was taken before.
+pub(crate) fn callers_for(
+    board: &Board,
+    starts: Vec<Start>,
+    files: Vec<Vec<Call>>,
+    mut callers: Vec<Caller>,
+) -> Vec<Caller>
+    requires passes { AreNewPasses board.now (passes_in starts.items) }
+    requires rooms { AreStartsFor (files_in files.items) starts.items }
+    requires known { All (IsFile (length board.now.book.accounts)) (files_in files.items) }
+    requires room { HasRoom callers (length files.items) }
+    ensures { AreBegunCallers board.now (files_in files.items) result.items }
+{
+    let mut others = starts.into_iter();
+    for calls in files {
+        let Some(start) = others.next() else {
+            // There is a start for each file.
+            unreachable!()
+        };
+        callers.push_reserved(Caller::new(board, start, calls));
+    }
+    callers
+}

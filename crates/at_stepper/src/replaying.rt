@@ -1,0 +1,174 @@
+//! Runs by a schedule.
+
+ghost use Rattle.std.specs.Prelude.{◌≡◌, ◌⊎◌, ◌<◌, [], ◌∷◌, All, IfOk, IsTrue, OnOk, length, slice_index};
+ghost use Rattle.std.specs.List.{range_with_len};
+ghost use Rattle.at_ledger.specs.Run.{Legal, Whole};
+ghost use Rattle.at_stepper.specs.Callers.{IsFile};
+ghost use Rattle.at_stepper.specs.Replays.{IsSameRun, IsUnturned, TurnBy, TurnInRounds};
+ghost use Rattle.at_stepper.specs.Schedules.{AreTurnsOf};
+ghost use Rattle.at_stepper.specs.Stepping.{IsOver, calls_left, files_in, files_of, turns_left};
+
+use crate::stepper::Stepper;
+use at_board::Steps;
+use at_ledger::{Book, Call, Line};
+use at_object::NoMemory;
+use std::alloc::{AllocError, Global};
+use std::marker::Brand;
+use std::sync::ledger::{Blank, Ledger};
+
+/// A turn of a process, and whether it answered a call.
+#[derive(Drop)]
+pub struct TurnMade {
+    pub process: u32,
+    pub answered: bool,
+}
+
+/// What a run by a schedule leaves: its journal, and its turns in order.
+#[derive(Drop)]
+pub struct Replayed {
+    pub lines: Vec<Line>,
+    pub turns: Vec<TurnMade>,
+}
+
+/// Makes the calls of the files on a new ledger of the book by turns: those of the schedule, and then those of processes 0, 1 and so on
+/// in turn until all are idle. An entry whose process is idle by then makes no turn. All turns together are at most those that the
+/// bounds of the calls allow.
+pub fn replay(
+    alloc: Global,
+    book: &Book,
+    files: Vec<Vec<Call>>,
+    schedule: &[u32],
+) -> Result<Replayed, NoMemory>
+    requires count { length files.items ≡ book.now.processes }
+    requires known { All (IsFile (length book.now.accounts)) (files_in files.items) }
+    requires schedule { All (λ process. process < book.now.processes) schedule.now }
+    ensures turns { IfOk result
+        (λ r. AreTurnsOf (files_in files.items) schedule.now r.turns.items) }
+    ensures legal { IfOk result (λ r. Legal book.now r.lines.items) }
+    ensures whole { IfOk result (λ r. Whole (files_in files.items) r.lines.items) }
+{
+    let Ok(mut stepper) = Stepper::new(alloc, book, files) else {
+        return Err(AllocError);
+    };
+    let turns = turns_of::<Brand, Brand>(
+        alloc,
+        &mut stepper,
+        book.processes(),
+        schedule,
+        Blank::new(1),
+        Blank::new(1),
+    )?;
+    match stepper.finish(alloc) {
+        Ok(lines) => Ok(Replayed { lines, turns }),
+        Err(_) => Err(AllocError),
+    }
+}
+
+/// Makes all turns of a new run, with new counters.
+fn turns_of<L: Ledger, X: Ledger>(
+    alloc: Global,
+    stepper: &mut Stepper,
+    processes: u32,
+    schedule: &[u32],
+    steps: Blank,
+    exchanges: Blank,
+) -> Result<Vec<TurnMade>, NoMemory>
+    requires unturned { IsUnturned stepper.old }
+    requires count { length stepper.old.callers ≡ processes }
+    requires schedule { All (λ process. process < processes) schedule.now }
+    requires names { (steps.name ≡ L.name) × (exchanges.name ≡ X.name) }
+    requires parts { (steps.parts ≡ L.parts) × (exchanges.parts ≡ X.parts) }
+    requires some { (0 < steps.parts) × (0 < exchanges.parts) }
+    ensures turns { IfOk result
+        (λ turns. AreTurnsOf (files_of stepper.old) schedule.now turns.items) }
+    ensures over { OnOk result (IsOver stepper.new) }
+    ensures same { IsSameRun stepper.old stepper.new }
+{
+    let (steps, exchanges) = (&mut Steps::<L>::new(steps), &mut Steps::<X>::new(exchanges));
+    let mut turns = Vec::new(alloc);
+    for process in schedule {
+        turn_unless_idle(stepper, *process, &mut turns, steps, exchanges)?;
+    }
+    run_out(stepper, processes, &mut turns, steps, exchanges)?;
+    Ok(turns)
+}
+
+/// Makes turns of processes 0, 1 and so on in turn, again and again, until all are idle.
+fn run_out<L: Ledger, X: Ledger>(
+    stepper: &mut Stepper,
+    processes: u32,
+    turns: &mut Vec<TurnMade>,
+    steps: &mut Steps<L>,
+    exchanges: &mut Steps<X>,
+) -> Result<(), NoMemory>
+    requires count { length stepper.old.callers ≡ processes }
+    ensures turned { OnOk result (TurnInRounds processes turns.old.items stepper.old
+        turns.new.items stepper.new) }
+    ensures over { OnOk result (IsOver stepper.new) }
+    ensures same { IsSameRun stepper.old stepper.new }
+{
+    while !is_over(stepper, processes) {
+        make_round(stepper, processes, turns, steps, exchanges)?;
+    }
+    Ok(())
+}
+
+/// Whether all processes are idle.
+fn is_over(stepper: &Stepper, processes: u32) -> bool
+    requires { length stepper.now.callers ≡ processes }
+    ensures over { IsTrue result → IsOver stepper.now }
+    ensures some { IsOver stepper.now → IsTrue result }
+{
+    for process in 0..processes {
+        if !stepper.idle(process) {
+            return false;
+        }
+    }
+    true
+}
+
+/// Makes a turn of each process that isn't idle by then.
+fn make_round<L: Ledger, X: Ledger>(
+    stepper: &mut Stepper,
+    processes: u32,
+    turns: &mut Vec<TurnMade>,
+    steps: &mut Steps<L>,
+    exchanges: &mut Steps<X>,
+) -> Result<(), NoMemory>
+    requires count { length stepper.old.callers ≡ processes }
+    ensures turned { OnOk result (TurnBy (range_with_len 0 processes) turns.old.items stepper.old
+        turns.new.items stepper.new) }
+    ensures left { OnOk result (IsOver stepper.old
+        ⊎ (turns_left stepper.new < turns_left stepper.old)) }
+    ensures same { IsSameRun stepper.old stepper.new }
+{
+    for process in 0..processes {
+        turn_unless_idle(stepper, process, turns, steps, exchanges)?;
+    }
+    Ok(())
+}
+
+/// Makes the process's next turn, unless it is idle.
+fn turn_unless_idle<L: Ledger, X: Ledger>(
+    stepper: &mut Stepper,
+    process: u32,
+    turns: &mut Vec<TurnMade>,
+    steps: &mut Steps<L>,
+    exchanges: &mut Steps<X>,
+) -> Result<(), NoMemory>
+    requires { process < length stepper.old.callers }
+    ensures turned { OnOk result (TurnBy (process ∷ []) turns.old.items stepper.old
+        turns.new.items stepper.new) }
+    ensures idle { slice_index (calls_left stepper.old) process ≡ 0
+        → stepper.new ≡ stepper.old }
+    ensures left { 0 < slice_index (calls_left stepper.old) process
+        → turns_left stepper.new < turns_left stepper.old }
+    ensures same { IsSameRun stepper.old stepper.new }
+{
+    if stepper.idle(process) {
+        return Ok(());
+    }
+    let answered = stepper.turn(process, steps, exchanges).is_answer();
+    turns.push(TurnMade { process, answered })?;
+    Ok(())
+}

@@ -1,0 +1,49 @@
+//! What a run is made with.
+
+ghost use Rattle.std.specs.Prelude.{◌≡◌, ◌+◌, ◌<◌, ◌==◌, length, slice_index, slice_index_or};
+ghost use Rattle.at_stepper.specs.Callers.{CallerTerms, steps_in};
+ghost use Rattle.at_stepper.specs.Calling.{exchanges_of};
+ghost use Rattle.at_stepper.specs.KeptStepping.{AreCallersOn, TurnsOne, terms_of};
+ghost use Rattle.at_stepper.specs.Stepping.{calls_left};
+
+use crate::caller::Caller;
+use crate::turned::Turned;
+use at_board::Steps;
+use at_object::Ledger;
+use std::sync::ledger;
+
+/// The ledger, and the callers of all processes, in order.
+#[derive(Drop)]
+pub(crate) struct Run {
+    pub(crate) ledger: Ledger,
+    pub(crate) callers: Vec<Caller>,
+}
+
+impl Run {
+    /// Whether the process has answered all its calls.
+    pub(crate) fn is_idle(&self, process: u32) -> bool
+        requires { process < length self.now.callers.items }
+        ensures { result ≡ (slice_index (calls_left (terms_of self.now)) process == 0) }
+    {
+        self.callers[process as usize].is_idle()
+    }
+
+    /// Makes the process's next turn.
+    pub(crate) fn turn<L: ledger::Ledger, X: ledger::Ledger>(
+        &mut self,
+        process: u32,
+        steps: &mut Steps<L>,
+        exchanges: &mut Steps<X>,
+    ) -> Turned
+        requires callers { AreCallersOn self.old.ledger self.old.callers.items }
+        requires left { 0 < slice_index (calls_left (terms_of self.old)) process }
+        ensures turned { TurnsOne process result (terms_of self.old) (terms_of self.new) }
+        ensures callers { AreCallersOn self.new.ledger self.new.callers.items }
+        ensures steps { steps.new ≡ steps.old + steps_in result }
+        ensures exchanges { (d : CallerTerms) → exchanges.new ≡ exchanges.old
+            + exchanges_of (slice_index_or self.old.callers.items process d).stage }
+    {
+        let caller = &mut self.callers[process as usize];
+        caller.turn(self.ledger.board(), steps, exchanges)
+    }
+}
