@@ -12,6 +12,8 @@ mod machine_trials;
 #[cfg(test)]
 mod movers;
 #[cfg(test)]
+mod replay_trials;
+#[cfg(test)]
 mod share_trials;
 #[cfg(test)]
 mod sharers;
