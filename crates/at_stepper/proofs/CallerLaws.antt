@@ -17,10 +17,10 @@ use Rattle.at_object.specs.Passes.{PassTerms, Stands, one_more_call}
 use Rattle.at_object.specs.Payments.{IsRefused, has_used_up}
 use Rattle.at_object.specs.declared.parts.Rest.{Rest}
 use Rattle.at_stepper.specs.Callers.{CallerTerms, GoesOn, IsAnswered, IsFile, caller_turns_left, calls_left_of, is_refused, most_turns, next_call, steps_in}
-use Rattle.at_stepper.specs.Calling.{CallMade, CallingTerms, IsCallWithin, IsWay, StaysWithin, call_steps, call_turns_left, exchanges_made, exchanges_of, pass_before, refusal_in, steps_made, steps_of}
+use Rattle.at_calling.specs.Calling.{CallMade, CallingTerms, IsCallWithin, IsWay, StaysWithin, call_steps, call_turns_left, exchanges_made, exchanges_of, pass_before, refusal_in, steps_made, steps_of}
 use Rattle.at_stepper.specs.KeptCallers.{IsBegun, IsCallerOf, IsMakingSo, IsNextInMaking, caller_of, calls_of, pass_in, stage_in}
-use Rattle.at_stepper.specs.declared.call_stage.CallStage.{CallStage}
-use Rattle.at_stepper.specs.declared.call_stage.CallStage.TheVariants.{PayAlone, PayShared, Read as ReadOn, Refuse, Refused}
+use Rattle.at_calling.specs.declared.call_stage.CallStage.{CallStage}
+use Rattle.at_calling.specs.declared.call_stage.CallStage.TheVariants.{PayAlone, PayShared, Read as ReadOn, Refuse, Refused}
 use Rattle.at_stepper.specs.declared.turned.Turned.TheVariants.{Answer}
 
 -- a turn that isn't a call's last makes a step

@@ -8,9 +8,9 @@ use Rattle.at_object.specs.Parted.{IsOfOnePass, pass_of}
 use Rattle.at_object.specs.Passes.{PassTerms, Stands}
 use Rattle.at_object.specs.declared.parts.Rest.{Rest}
 use Rattle.at_stepper.specs.Callers.{CallerTerms, IsFile, next_call}
-use Rattle.at_stepper.specs.Calling.{CallingTerms, IsWay, call_turns_left, exchanges_made, pass_before, steps_made}
-use Rattle.at_stepper.specs.declared.call_stage.CallStage.{CallStage}
-use Rattle.at_stepper.specs.declared.call_stage.CallStage.TheVariants.{Refused}
+use Rattle.at_calling.specs.Calling.{CallingTerms, IsWay, call_turns_left, exchanges_made, pass_before, steps_made}
+use Rattle.at_calling.specs.declared.call_stage.CallStage.{CallStage}
+use Rattle.at_calling.specs.declared.call_stage.CallStage.TheVariants.{Refused}
 
 -- the pass between calls, and what the next turn goes on with, by the call in the making
 abbrev pub pass_in : SeatTerms → Rest → Option CallingTerms → PassTerms

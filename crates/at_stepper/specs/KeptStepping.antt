@@ -9,7 +9,7 @@ use Rattle.at_object.specs.Closings.{AreAccountedFor}
 use Rattle.at_object.specs.Parted.{HasRoom}
 use Rattle.at_object.specs.Passes.{IsPassOf, PassTerms, Stands}
 use Rattle.at_stepper.specs.Callers.{CallerTerms, LeavesCaller, answers_in, caller_turns_left, calls_left_of}
-use Rattle.at_stepper.specs.Calling.{MakesCallStep}
+use Rattle.at_calling.specs.Calling.{MakesCallStep}
 use Rattle.at_stepper.specs.KeptCallers.{calls_of}
 use Rattle.at_stepper.specs.Stepping.{IsOver, StepperTerms, calls_left, files_of, turns_left}
 use Rattle.at_stepper.specs.declared.caller.Start.{Start}

@@ -7,10 +7,10 @@ ghost use Rattle.at_ledger.specs.declared.call.Call.{Call};
 ghost use Rattle.at_object.specs.Parted.{HasRoom, IsOfOnePass, seat_of};
 ghost use Rattle.at_object.specs.Passes.{IsPassOf, Stands};
 ghost use Rattle.at_stepper.specs.Callers.{IsFile, IsNewCaller, LeavesCaller, answers_in, caller_turns_left, calls_left_of, steps_in};
-ghost use Rattle.at_stepper.specs.Calling.{MakesCallStep, exchanges_of};
+ghost use Rattle.at_calling.specs.Calling.{MakesCallStep, exchanges_of};
 ghost use Rattle.at_stepper.specs.KeptCallers.{IsBegun, calls_of};
 
-use crate::calling::Calling;
+use at_calling::Calling;
 use crate::turned::Turned;
 use at_board::{Board, BoardSeat, Steps};
 use at_ledger::Call;

@@ -2,7 +2,7 @@
 
 ghost use Rattle.std.specs.Prelude.{◌≡◌, ◌+◌, ◌<◌, ◌==◌, length, slice_index, slice_index_or};
 ghost use Rattle.at_stepper.specs.Callers.{CallerTerms, steps_in};
-ghost use Rattle.at_stepper.specs.Calling.{exchanges_of};
+ghost use Rattle.at_calling.specs.Calling.{exchanges_of};
 ghost use Rattle.at_stepper.specs.KeptStepping.{AreCallersOn, TurnsOne, terms_of};
 ghost use Rattle.at_stepper.specs.Stepping.{calls_left};
 

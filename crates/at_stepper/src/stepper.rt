@@ -2,7 +2,7 @@
 
 ghost use Rattle.std.specs.Prelude.{◌≡◌, ◌≢◌, ℕ, ◌+◌, ◌<◌, ◌==◌, All, IfErr, IfOk, length, slice_index, slice_index_or};
 ghost use Rattle.at_stepper.specs.Callers.{CallerTerms, IsFile, LeavesCaller, answers_in, steps_in};
-ghost use Rattle.at_stepper.specs.Calling.{MakesCallStep, exchanges_of};
+ghost use Rattle.at_calling.specs.Calling.{MakesCallStep, exchanges_of};
 ghost use Rattle.at_stepper.specs.Stepping.{IsNewStepper, calls_left, files_in, files_of, turns_left};
 
 use crate::beginning::{Memory, callers_for, memory_for};

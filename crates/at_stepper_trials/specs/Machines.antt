@@ -4,9 +4,9 @@ use Rattle.at_history.specs.Publications.{count_of}
 use Rattle.at_board.specs.Knowledge.Seats.{BoardTerms, IsOf, SeatTerms}
 use Rattle.at_board.specs.Words.Addresses.{record_width}
 use Rattle.at_fold.specs.Sums.{TotalSums}
-use Rattle.at_stepper.specs.PayingAlone.{PayingAloneTerms, pay_turns_left}
-use Rattle.at_stepper.specs.PayingShared.{PayingSharedTerms, share_turns_left}
-use Rattle.at_stepper.specs.Snapping.{SnappingTerms}
+use Rattle.at_calling.specs.PayingAlone.{PayingAloneTerms, pay_turns_left}
+use Rattle.at_calling.specs.PayingShared.{PayingSharedTerms, share_turns_left}
+use Rattle.at_machines.specs.Snapping.{SnappingTerms}
 
 -- the snapshot of this seat isn't ended
 pub record GoesOn (board : BoardTerms) (seat : SeatTerms) (snapping : SnappingTerms) : Type 0 where

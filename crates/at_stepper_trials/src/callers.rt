@@ -10,7 +10,7 @@ use at_board::{Board, BoardSeat, Steps};
 use at_fold::Totals;
 use at_ledger::{Call, Targets};
 use at_log::Receipt;
-use at_stepper::{PayingAlone, Reading};
+use at_calling::{PayingAlone, Reading};
 use std::sync::ledger::Ledger;
 
 /// The receipt of a payment to account 0 from the process's own account, where there is room, and how many turns it took.

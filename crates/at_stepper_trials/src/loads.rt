@@ -8,7 +8,7 @@ ghost use Rattle.at_stepper_trials.specs.Machines.{HasSeen};
 use at_base::Counts;
 use at_board::{Board, BoardSeat, Steps};
 use at_log::{Entry, Record};
-use at_stepper::{Collecting, LoadingEntry, LoadingView};
+use at_machines::{Collecting, LoadingEntry, LoadingView};
 use std::sync::ledger::Ledger;
 
 /// The counts of a collect, and how many turns it took.

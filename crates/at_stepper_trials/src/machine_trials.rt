@@ -10,7 +10,7 @@ use at_base::Counts;
 use at_board::{Board, BoardSeat, Steps};
 use at_log::{Entry, Record};
 use at_players::boards::new_pair;
-use at_stepper::Snapping;
+use at_machines::Snapping;
 use std::alloc::Global;
 use std::marker::Brand;
 use std::process::Abort;

@@ -12,7 +12,7 @@ use at_base::Counts;
 use at_board::{Board, BoardSeat, Steps};
 use at_ledger::{Book, Targets};
 use at_log::{Entry, Record};
-use at_stepper::{Appending, Snapping};
+use at_machines::{Appending, Snapping};
 use std::sync::ledger::Ledger;
 
 /// Whether a process owns the account after that of its number alone.

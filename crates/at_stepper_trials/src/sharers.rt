@@ -13,7 +13,7 @@ use at_fold::Totals;
 use at_ledger::Call;
 use at_log::Receipt;
 use at_players::boards::slot_on;
-use at_stepper::PayingShared;
+use at_calling::PayingShared;
 use std::sync::ledger::Ledger;
 
 /// Whether the seat's process shares account 0 and has asked for nothing there.

@@ -1,5 +1,5 @@
 use Rattle.at_board.specs.Words.Addresses.{record_width}
-use Rattle.at_stepper.specs.PayingAlone.{pay_turns_left}
+use Rattle.at_calling.specs.PayingAlone.{pay_turns_left}
 use Rattle.at_stepper_trials.specs.Machines.{IsPaying}
 use Rattle.at_stepper_trials.proofs.callers.ends_paying.Given as goal
 

@@ -1,6 +1,6 @@
 use Rattle.std.proofs.Common.{◌≡◌, ◌<◌}
 use Rattle.at_board.specs.Knowledge.Seats.{IsOf}
-use Rattle.at_stepper.specs.Looking.{turns_left}
+use Rattle.at_machines.specs.Looking.{turns_left}
 use Rattle.at_stepper_trials.proofs.callers.reads.Given as goal
 
 abbrev pub invariant-loop-receipt : goal.invariant-loop-receipt

@@ -1,4 +1,4 @@
-use Rattle.at_stepper.specs.PayingShared.{share_turns_left}
+use Rattle.at_calling.specs.PayingShared.{share_turns_left}
 use Rattle.at_stepper_trials.specs.Machines.{IsSharing}
 use Rattle.at_stepper_trials.proofs.sharers.ends_sharing.Given as goal
 

@@ -4,7 +4,7 @@ use Rattle.at_ledger.specs.declared.call.Call.{Call}
 use Rattle.at_log.specs.declared.receipt.Receipt.{Receipt}
 use Rattle.at_stepper.proofs.CallerLaws.{IsAnswered-turned, IsCallerOf-answered, process-answered, steps_of-answered}
 use Rattle.at_stepper.specs.Callers.{CallerTerms, IsAnswered, steps_in}
-use Rattle.at_stepper.specs.Calling.{CallingTerms}
+use Rattle.at_calling.specs.Calling.{CallingTerms}
 use Rattle.at_stepper.specs.KeptCallers.{IsBegun, IsCallerOf, caller_of}
 use Rattle.at_stepper.specs.declared.turned.Turned.TheVariants.{Answer}
 use Rattle.at_stepper.proofs.caller.Caller.turn.Given.{Over}

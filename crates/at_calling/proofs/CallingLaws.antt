@@ -1,0 +1,328 @@
+-- What a call leaves of its pass, whichever way it was made.
+use Rattle.std.proofs.Common.{◌≡◌, ℕ, ◌+◌, ◌*◌, ◌<◌, ◌≤◌, Bool, true, false, cond, List, [], ◌∷◌, ◌++◌, length, None, Some, refl, sym, ap, subst, ◌∙◌, arith, inl, inr}
+use Rattle.std.proofs.lemmas.Bool.{cases_Bool}
+use Rattle.std.proofs.lemmas.List.Sums.{get_or-le-sum_by}
+use Rattle.std.specs.Prelude.{slice_index, sum}
+use Rattle.at_ledger.specs.Account.{is_shared, is_single, slots_of}
+use Rattle.at_ledger.specs.Book.{BookTerms, HasSlot, account_of, is_owner}
+use Rattle.at_ledger.specs.Call.{IsCallOn, TargetPair}
+use Rattle.at_ledger.specs.declared.call.Call.{Call}
+use Rattle.at_ledger.specs.declared.call.Call.TheVariants.{Pay, Read, Transfer}
+use Rattle.at_ledger.specs.declared.call.Reply.{Reply}
+use Rattle.at_ledger.specs.declared.call.Reply.TheVariants.{Balance, Done, Full, NotOwner, Short}
+use Rattle.at_history.proofs.Laws.Covers.{single_or_shared}
+use Rattle.at_history.proofs.Laws.Prefixes.{IsPrefix-refl}
+use Rattle.at_history.specs.Fronts.{place}
+use Rattle.at_history.specs.Histories.{IsHistory}
+use Rattle.at_history.specs.Rounds.{owns_of}
+use Rattle.at_board.specs.Knowledge.Seats.{IsKept, SeatTerms}
+use Rattle.at_board.specs.Steps.StoreRequestWord.{MayStoreRequest}
+use Rattle.at_board.specs.Words.Addresses.{record_width}
+use Rattle.at_board.specs.declared.knowledge.Knowledge.{Knowledge}
+use Rattle.at_board.specs.declared.knowledge.Asking.{Asking}
+use Rattle.at_board.specs.declared.words.TheConstants.{RECORD_WORDS}
+use Rattle.at_closing.proofs.Laws.Calls.{StandsBehind-front, length-prefix_of-le}
+use Rattle.at_closing.specs.BetweenCalls.{IsBetweenCalls}
+use Rattle.at_fold.specs.HasCounted.{HasCounted, StaysCounted}
+use Rattle.at_fold.specs.Sums.{TotalSums}
+use Rattle.at_log.proofs.Laws.Replies.{first_account-payout, same_payout}
+use Rattle.at_log.specs.Placed.{IsPlaced}
+use Rattle.at_log.specs.Receipts.{is_at_own, is_at_round, payout_of}
+use Rattle.at_log.specs.Told.{first_account, key_of}
+use Rattle.at_log.specs.declared.receipt.Receipt.{Receipt}
+use Rattle.at_object.proofs.Laws.Alone.{IsPass-alone, asking-alone, decided-alone}
+use Rattle.at_object.proofs.Laws.InRound.{IsPass-round}
+use Rattle.at_object.proofs.Laws.Looked.{IsPass-HasLoaded, between-IsPass, Told-HasLoaded, asking-HasLoaded, owns_of-HasLoaded}
+use Rattle.at_object.proofs.Laws.Made.{PaymentMade-alone, PaymentMade-round, others-le}
+use Rattle.at_object.proofs.Laws.Room.{HasSlot-is_owner, MayStoreRequest-room, sent-room}
+use Rattle.at_object.specs.Paid.{PaymentMade, PaysAlone, PaysInRound}
+use Rattle.at_object.specs.Parted.{IsOfOnePass, pass_of}
+use Rattle.at_object.specs.Passes.{IsPass, PassTerms, Stands, newly_counted, others_counted}
+use Rattle.at_object.specs.Payments.{IsDecided, IsRefused, has_used_up, payment_steps, refusal_of, sent_after, shared_steps, single_steps}
+use Rattle.at_object.specs.declared.parts.Rest.{Rest}
+use Rattle.at_shared.specs.Helpings.{HasAllSettled, decides_made}
+use Rattle.at_single.specs.Standing.{front_behind}
+use Rattle.at_single.specs.Standing as single
+use Rattle.at_snapshot.specs.Snapshots.{snapshot_steps}
+use Rattle.at_calling.specs.Calling.{CallMade, ReadMade, StaysWithin, call_steps, refusal_in}
+use Rattle.at_calling.specs.PayingAlone.{HasSameAsking, append_steps}
+use Rattle.at_calling.specs.PayingShared.{DecidesFew, settling_steps}
+use Rattle.at_calling.specs.Reading.{IsReadOf, LeavesTotals}
+
+-- no call is both decided and refused
+pub decided_or_refused : (r : Receipt) → IsDecided r → IsRefused r → ⊥
+decided_or_refused r (inl done) (inl refused) = let both : Done ≡ NotOwner = sym done ∙ refused in absurd (cc both)
+decided_or_refused r (inl done) (inr refused) = let both : Done ≡ Full = sym done ∙ refused in absurd (cc both)
+decided_or_refused r (inr short) (inl refused) = let both : Short ≡ NotOwner = sym short ∙ refused in absurd (cc both)
+decided_or_refused r (inr short) (inr refused) = let both : Short ≡ Full = sym short ∙ refused in absurd (cc both)
+
+-- nor is a read refused
+pub read_or_refused : (r : Receipt) (balance : ℕ) → r.reply ≡ Balance balance → IsRefused r → ⊥
+read_or_refused r balance told (inl refused) = let both : Balance balance ≡ NotOwner = sym told ∙ refused in absurd (cc both)
+read_or_refused r balance told (inr refused) = let both : Balance balance ≡ Full = sym told ∙ refused in absurd (cc both)
+
+-- why a payment is not refused
+pub refusal_of-None : (owner used : Bool) → cond owner (cond used (Some Full) None) (Some NotOwner) ≡ None → (owner ≡ true) × (used ≡ false)
+refusal_of-None true true is = absurd (cc is)
+refusal_of-None true false is = (refl, refl)
+refusal_of-None false used is = absurd (cc is)
+
+-- what a payment that isn't refused may do
+module _ (b : BookTerms) (seat : SeatTerms) (rest : Rest) (source : ℕ) (kept : IsKept seat.knows) (book : seat.knows.book ≡ b)
+    (pass : IsOfOnePass seat rest) (may : refusal_of b (pass_of seat rest) source ≡ None) where
+  abbrev allowed : (is_owner b seat.knows.first source ≡ true) × (has_used_up b (pass_of seat rest) source ≡ false)
+  allowed = refusal_of-None (is_owner b seat.knows.first source) (has_used_up b (pass_of seat rest) source) may
+
+  pub owner-refusal_of : is_owner b seat.knows.first source ≡ true
+  owner-refusal_of = allowed.0
+
+  between : IsBetweenCalls b seat.knows
+  between = between-IsPass b seat.knows rest.totals rest.sent book pass
+
+  pub room-refusal_of : is_single (account_of b source) ≡ true → owns_of seat.knows.first seat.knows.seen < b.own_room
+  room-refusal_of single =
+      sent-room b (pass_of seat rest) source single allowed.1
+      (omega (arith, kept.history.own_room seat.knows.first, ap (λ (t : BookTerms). t.own_room) book))
+
+  pub small-refusal_of : is_single (account_of b source) ≡ true → rest.sent < 4096
+  small-refusal_of single =
+      omega (arith, room-refusal_of single, pass.sent_is, kept.book.begun.own_room, ap (λ (t : BookTerms). t.own_room) book)
+
+  pub asks-refusal_of : source < length b.accounts → is_shared (account_of b source) ≡ true → (slot : ℕ) × MayStoreRequest b seat.knows source slot
+  asks-refusal_of known shared =
+      let has = HasSlot-is_owner b seat.knows.first source known shared allowed.0 in (
+        has.0,
+        MayStoreRequest-room b (pass_of seat rest) source has.0 (subst (λ t. IsHistory t seat.knows.seen) book kept.history) between has.1 shared allowed.1,
+      )
+
+  pub settled-refusal_of : HasAllSettled b seat.knows source
+  settled-refusal_of = λ slot number has below. between.settled source slot number has below
+
+module _ (b : BookTerms) (source : ℕ) (targets : List TargetPair) where
+  -- what a payment is by its call
+  pub CallMade-payout : (before after : PassTerms) (call : Call) (r : Receipt) → payout_of call ≡ Some (source, targets)
+      → PaymentMade b before after source targets call r → CallMade b before after call r
+  CallMade-payout before after (Transfer from to amount) r payout made =
+      subst (λ (x : ℕ × List TargetPair). PaymentMade b before after x.0 x.1 (Transfer from to amount) r)
+      (sym (same_payout (from, (to, amount) ∷ []) (source, targets) payout)) made
+  CallMade-payout before after (Read account) r payout made = absurd (cc payout)
+  CallMade-payout before after (Pay from ts) r payout made =
+      subst (λ (x : ℕ × List TargetPair). PaymentMade b before after x.0 x.1 (Pay from ts) r) (sym (same_payout (from, ts) (source, targets) payout)) made
+
+  pub call_steps-payout : (call : Call) → payout_of call ≡ Some (source, targets) → call_steps b call ≡ payment_steps b source
+  call_steps-payout (Transfer from to amount) payout =
+      ap (λ (x : ℕ × List TargetPair). payment_steps b x.0) (same_payout (from, (to, amount) ∷ []) (source, targets) payout)
+  call_steps-payout (Read account) payout = absurd (cc payout)
+  call_steps-payout (Pay from ts) payout = ap (λ (x : ℕ × List TargetPair). payment_steps b x.0) (same_payout (from, ts) (source, targets) payout)
+
+  pub refusal_in-payout : (before : PassTerms) (call : Call) → payout_of call ≡ Some (source, targets)
+      → refusal_in b before call ≡ refusal_of b before source
+  refusal_in-payout before (Transfer from to amount) payout =
+      ap (λ (x : ℕ × List TargetPair). refusal_of b before x.0) (same_payout (from, (to, amount) ∷ []) (source, targets) payout)
+  refusal_in-payout before (Read account) payout = absurd (cc payout)
+  refusal_in-payout before (Pay from ts) payout =
+      ap (λ (x : ℕ × List TargetPair). refusal_of b before x.0) (same_payout (from, ts) (source, targets) payout)
+
+-- the steps of a payment from an account of one owner
+pub payment_steps-single : (b : BookTerms) (source : ℕ) → is_single (account_of b source) ≡ true → payment_steps b source ≡ single_steps b.processes
+payment_steps-single b source single =
+    elim (cases_Bool (is_shared (account_of b source))) as (λ _. payment_steps b source ≡ single_steps b.processes) [
+      | inl shared ↦ absurd (single_or_shared (account_of b source) single shared)
+      | inr other ↦ ap (λ t. cond t (shared_steps b.processes (slots_of (account_of b source))) (single_steps b.processes)) other
+    ]
+
+pub payment_steps-shared : (b : BookTerms) (source : ℕ) → is_shared (account_of b source) ≡ true
+    → payment_steps b source ≡ shared_steps b.processes (slots_of (account_of b source))
+payment_steps-shared b source shared =
+    ap (λ t. cond t (shared_steps b.processes (slots_of (account_of b source))) (single_steps b.processes)) shared
+
+-- each call's receipt is placed, and stands with the pass
+pub placed-CallMade : (b : BookTerms) (before after : PassTerms) (call : Call) (r : Receipt) → CallMade b before after call r
+    → (earlier : List Receipt) → Stands before earlier → IsPlaced b before.knows.first after.knows.seen earlier r
+placed-CallMade b before after (Transfer from to amount) r made = made.placed
+placed-CallMade b before after (Read account) r made = made.placed
+placed-CallMade b before after (Pay from targets) r made = made.placed
+
+pub stands-CallMade : (b : BookTerms) (before after : PassTerms) (call : Call) (r : Receipt) → CallMade b before after call r
+    → (earlier : List Receipt) → Stands before earlier → Stands after (earlier ++ r ∷ [])
+stands-CallMade b before after (Transfer from to amount) r made = made.stands
+stands-CallMade b before after (Read account) r made = made.stands
+stands-CallMade b before after (Pay from targets) r made = made.stands
+
+-- an append has few steps
+pub append_steps-le : (width : ℕ) (reply : Reply) → append_steps width reply ≤ width + 1
+append_steps-le width Done = omega arith
+append_steps-le width Short = omega arith
+append_steps-le width NotOwner = omega arith
+append_steps-le width Full = omega arith
+append_steps-le width (Balance amount) = omega arith
+
+-- what stays counted is counted
+pub HasCounted-StaysCounted : (b : BookTerms) (v : Knowledge) (now : TotalSums) → StaysCounted now b v.seen → HasCounted now b v.seen
+HasCounted-StaysCounted b v now stays = stays v.seen (IsPrefix-refl v.seen)
+
+module _ (b : BookTerms) (start : SeatTerms) (was : Rest) (seat : SeatTerms) (rest : Rest) (kept : IsKept start.knows) (keeps : IsKept seat.knows)
+    (book : start.knows.book ≡ b) (same_book : seat.knows.book ≡ b) (pass : IsOfOnePass start was) where
+  abbrev before : PassTerms
+  before = pass_of start was
+
+  abbrev after : PassTerms
+  after = pass_of seat rest
+
+  abbrev v : Knowledge
+  v = start.knows
+
+  abbrev w : Knowledge
+  w = seat.knows
+
+  module _ (more_steps turns : ℕ) (leaves : LeavesTotals b v w was.totals rest.totals more_steps turns) where
+    pub others_counted-LeavesTotals : others_counted before ≤ others_counted after
+    others_counted-LeavesTotals = others-le before after was.totals rest.totals pass.own_counted leaves.own_counted leaves.more
+
+    -- what was counted before of the own records is among all that was counted
+    own_among : slice_index was.totals.upto v.first ≤ sum was.totals.upto
+    own_among =
+        get_or-le-sum_by (λ (n : ℕ). n) was.totals.upto v.first 0
+        (omega (arith, kept.known, pass.counted.processes))
+
+    newly : single.newly_counted v w was.totals rest.totals ≤ newly_counted before after
+    newly = omega (arith, own_among, pass.own_counted, leaves.own_counted, leaves.more)
+
+    pub few-LeavesTotals : turns ≤ snapshot_steps b.processes + more_steps + RECORD_WORDS * newly_counted before after
+    few-LeavesTotals = omega (arith, leaves.few, newly)
+
+    -- a call that decides nothing on any account
+    pub StaysWithin-LeavesTotals : (call : Call) (r : Receipt) → (IsRefused r → ⊥) → HasSameAsking v w
+        → snapshot_steps b.processes + more_steps ≤ call_steps b call → StaysWithin b before after call turns 0 r
+    StaysWithin-LeavesTotals call r decided asks within = record {
+      few = omega (arith, few-LeavesTotals, within);
+      refused = λ refused. absurd (decided refused);
+      decided = omega (arith, ap (λ (t : Asking). t.decides) (asks (first_account call)));
+      few_decided = omega arith;
+      decides_elsewhere = λ a apart. ap (λ (t : Asking). t.decides) (asks a);
+    }
+
+    module _ (account : ℕ) (r : Receipt) (read : IsReadOf b v w account r) where
+      first : w.first ≡ v.first
+      first = ap (λ (t : Knowledge). t.first) read.at_front.loads.same
+
+      abbrev front : List ℕ
+      front = front_behind w r.at
+
+      pub ReadMade-IsReadOf : ReadMade b before after account r
+      ReadMade-IsReadOf = record {
+        call_is = read.call;
+        at_front = read.at_front.at_front;
+        reply = read.reply;
+        snapshot = read.snapshot;
+        placed = λ earlier stands. read.placed earlier;
+        stands = λ earlier stands.
+            Told-HasLoaded b v w kept keeps book same_book read.at_front.loads was.totals rest.totals was.sent pass earlier r stands
+            (read.placed earlier)
+            (StandsBehind-front v.first v.seen w.seen r front read.snapshot.begins
+            (λ previous. subst (λ p. 2 * place front ≤ key_of p w.seen previous r) first (read.after_front previous)))
+            (ap is_at_own read.at_front.at_front) (ap is_at_round read.at_front.at_front);
+        after_seen = λ previous. omega (arith, read.after_front previous, length-prefix_of-le front v.seen w.seen read.snapshot.begins);
+        begins = read.at_front.loads.more;
+        history = read.at_front.loads.history;
+        process_is = first;
+        asked = λ a. ap (λ (t : Asking). length t.announced) (asking-HasLoaded b v w kept keeps book same_book read.at_front.loads a);
+        sent = ap (λ p. owns_of p w.seen) first
+            ∙ owns_of-HasLoaded b v w kept keeps book same_book read.at_front.loads was.totals rest.totals was.sent pass;
+        counted = others_counted-LeavesTotals;
+      }
+
+      pub IsOfOnePass-IsReadOf : StaysCounted rest.totals b w.seen → rest.sent ≡ was.sent → IsOfOnePass seat rest
+      IsOfOnePass-IsReadOf stays sent =
+          subst (IsPass w rest.totals) (sym sent)
+          (IsPass-HasLoaded b v w kept keeps book same_book read.at_front.loads was.totals rest.totals was.sent pass
+          (HasCounted-StaysCounted b w rest.totals stays) leaves.own_counted)
+
+      pub asks-IsReadOf : HasSameAsking v w
+      asks-IsReadOf = asking-HasLoaded b v w kept keeps book same_book read.at_front.loads
+
+      pub StaysWithin-IsReadOf : more_steps ≡ 0 → StaysWithin b before after (Read account) turns 0 r
+      StaysWithin-IsReadOf none =
+          StaysWithin-LeavesTotals (Read account) r (read_or_refused r _ read.reply) asks-IsReadOf (omega (arith, none))
+
+    -- a payment from an account of one owner
+    module _ (source : ℕ) (targets : List TargetPair) (call : Call) (r : Receipt) (paid : PaysAlone b v w source targets call r)
+        (payout : payout_of call ≡ Some (source, targets)) (single : is_single (account_of b source) ≡ true)
+        (may : refusal_in b before call ≡ None) where
+      abbrev why_not : (is_owner b v.first source ≡ true) × (has_used_up b before source ≡ false)
+      why_not =
+          refusal_of-None (is_owner b v.first source) (has_used_up b before source) (sym (refusal_in-payout b source targets before call payout) ∙ may)
+
+      pub CallMade-PaysAlone : source < length b.accounts → CallMade b before after call r
+      CallMade-PaysAlone known =
+          CallMade-payout b source targets before after call r payout
+          (PaymentMade-alone b before after source targets call r kept keeps book same_book was.totals was.sent pass why_not.1
+          others_counted-LeavesTotals known (record { single = single; owner = why_not.0 }) paid)
+
+      pub IsOfOnePass-PaysAlone : StaysCounted rest.totals b w.seen → rest.sent ≡ sent_after was.sent r.reply → IsOfOnePass seat rest
+      IsOfOnePass-PaysAlone stays sent =
+          subst (IsPass w rest.totals) (sym sent)
+          (IsPass-alone b v w kept keeps book same_book was.totals was.sent pass source targets call r paid rest.totals
+          (HasCounted-StaysCounted b w rest.totals stays) leaves.own_counted)
+
+      pub StaysWithin-PaysAlone : more_steps ≡ append_steps (record_width b) r.reply → StaysWithin b before after call turns 0 r
+      StaysWithin-PaysAlone most =
+          StaysWithin-LeavesTotals call r
+          (decided_or_refused r (decided-alone b v w kept keeps book same_book was.totals was.sent pass source targets call r paid))
+          (asking-alone b v w kept keeps book same_book was.totals was.sent pass source targets call r paid)
+          (omega (
+            arith,
+            most,
+            append_steps-le (record_width b) r.reply,
+            call_steps-payout b source targets call payout,
+            payment_steps-single b source single,
+          ))
+
+    -- a payment from a shared account
+    module _ (source : ℕ) (targets : List TargetPair) (call : Call) (r : Receipt) (paid : PaysInRound b v w source call r)
+        (payout : payout_of call ≡ Some (source, targets)) (shared : is_shared (account_of b source) ≡ true)
+        (may : refusal_in b before call ≡ None) (known : source < length b.accounts) where
+      abbrev why_allowed : (is_owner b v.first source ≡ true) × (has_used_up b before source ≡ false)
+      why_allowed =
+          refusal_of-None (is_owner b v.first source) (has_used_up b before source) (sym (refusal_in-payout b source targets before call payout) ∙ may)
+
+      abbrev slot : (s : ℕ) × HasSlot b v.first source s
+      slot = HasSlot-is_owner b v.first source known shared why_allowed.0
+
+      pub CallMade-PaysInRound : CallMade b before after call r
+      CallMade-PaysInRound =
+          CallMade-payout b source targets before after call r payout
+          (PaymentMade-round b before after source targets call r kept keeps book same_book was.totals was.sent pass why_allowed.1
+          others_counted-LeavesTotals slot.0 slot.1 why_allowed.0 shared paid (ap payout_of paid.call_is ∙ payout))
+
+      pub IsOfOnePass-PaysInRound : HasCounted rest.totals b w.seen → rest.sent ≡ was.sent → IsOfOnePass seat rest
+      IsOfOnePass-PaysInRound counted sent =
+          subst (IsPass w rest.totals) (sym sent)
+          (IsPass-round b v w kept keeps book same_book was.totals was.sent pass source slot.0 slot.1 call r paid rest.totals counted leaves.own_counted)
+
+      pub StaysWithin-PaysInRound : (exchanges : ℕ) → more_steps ≡ settling_steps b source → DecidesFew b v w source
+          → exchanges ≡ decides_made source v w → StaysWithin b before after call turns exchanges r
+      StaysWithin-PaysInRound exchanges most few decided =
+          let first = first_account-payout source targets call payout in
+          record {
+            few = omega (
+              arith,
+              few-LeavesTotals,
+              most,
+              call_steps-payout b source targets call payout,
+              payment_steps-shared b source shared,
+            );
+            refused = λ refused. absurd (decided_or_refused r paid.in_round.reply refused);
+            decided = decided ∙ ap (λ a. decides_made a v w) (sym first);
+            few_decided = subst (λ a. exchanges ≤ slots_of (account_of b a)) (sym first) (omega (arith, decided, few.few));
+            decides_elsewhere = λ a apart. few.elsewhere a (λ same. apart (same ∙ sym first));
+          }
+
+-- the source of a call on accounts that are there is one of them
+pub source-IsCallOn : (accounts source : ℕ) (targets : List TargetPair) (call : Call) → payout_of call ≡ Some (source, targets) → IsCallOn accounts call
+    → source < accounts
+source-IsCallOn accounts source targets (Transfer from to amount) payout known =
+    subst (λ (x : ℕ × List TargetPair). x.0 < accounts) (same_payout (from, (to, amount) ∷ []) (source, targets) payout) known.0
+source-IsCallOn accounts source targets (Read account) payout known = absurd (cc payout)
+source-IsCallOn accounts source targets (Pay from ts) payout known =
+    subst (λ (x : ℕ × List TargetPair). x.0 < accounts) (same_payout (from, ts) (source, targets) payout) known.0

@@ -1,0 +1,249 @@
+-- A call from one turn to the next, and what its answer leaves.
+use Rattle.std.proofs.Common.{◌≡◌, ℕ, ◌+◌, ◌-◌, ◌<◌, ◌≤◌, [], ◌∷◌, length, Some, refl, sym, ap, subst, ◌∙◌, arith}
+use Rattle.at_ledger.specs.Account.{is_shared}
+use Rattle.at_ledger.specs.Book.{BookTerms, account_of}
+use Rattle.at_ledger.specs.Call.{IsCallOn}
+use Rattle.at_ledger.specs.declared.call.Call.{Call}
+use Rattle.at_ledger.specs.declared.call.Reply.{Reply}
+use Rattle.at_history.specs.Fronts.{places_max}
+use Rattle.at_board.specs.Knowledge.Seats.{BoardTerms, IsKept, IsOf, SeatTerms}
+use Rattle.at_board.specs.Words.Addresses.{record_width}
+use Rattle.at_board.specs.declared.knowledge.Knowledge.{Knowledge}
+use Rattle.at_closing.specs.BetweenCalls.{IsBetweenCalls}
+use Rattle.at_fold.specs.HasCounted.{HasCounted, StaysCounted}
+use Rattle.at_fold.specs.Sums.{TotalSums}
+use Rattle.at_log.specs.declared.receipt.At.TheVariants.{Previous}
+use Rattle.at_log.specs.declared.receipt.Receipt.{Receipt}
+use Rattle.at_object.proofs.Laws.Looked.{between-IsPass}
+use Rattle.at_object.proofs.Laws.Made.{PaymentMade-refused}
+use Rattle.at_object.specs.Paid.{PaysAlone, PaysInRound}
+use Rattle.at_object.specs.Parted.{IsOfOnePass, pass_of}
+use Rattle.at_object.specs.Passes.{PassTerms, one_more_call}
+use Rattle.at_object.specs.Payments.{sent_after}
+use Rattle.at_object.specs.declared.parts.Rest.{Rest}
+use Rattle.at_shared.specs.Helpings.{IsPayoutFrom, decides_made}
+use Rattle.at_calling.proofs.CallingLaws.{CallMade-PaysAlone, CallMade-PaysInRound, IsOfOnePass-IsReadOf, IsOfOnePass-PaysAlone, IsOfOnePass-PaysInRound, ReadMade-IsReadOf, StaysWithin-IsReadOf, StaysWithin-PaysAlone, StaysWithin-PaysInRound, refusal_in-payout, small-refusal_of, source-IsCallOn}
+use Rattle.at_calling.specs.Calling.{CallMade, CallingTerms, IsWay, StaysWithin, pass_before, refusal_in}
+use Rattle.at_calling.specs.KeptCalling.{IsCallStageSo, IsCallingSo, IsMakingStill}
+use Rattle.at_machines.specs.Looking.{turns_left}
+use Rattle.at_calling.specs.PayingAlone.{PayingAloneTerms, append_steps, pay_turns_left}
+use Rattle.at_calling.specs.PayingShared.{DecidesFew, IsShareWithin, PayingSharedTerms, settling_steps, share_exchanges_made, share_turns_left, share_turns_most, unless_settled, unless_starting}
+use Rattle.at_calling.specs.Reading.{IsReadOf, LeavesTotals, ReadingTerms}
+use Rattle.at_calling.specs.declared.call_stage.CallStage.{CallStage}
+use Rattle.at_calling.specs.declared.call_stage.CallStage.TheVariants.{PayAlone, PayShared, Read, Refuse}
+use Rattle.at_calling.specs.declared.share_stage.ShareStage.{ShareStage}
+use Rattle.at_calling.specs.declared.share_stage.ShareStage.TheVariants.{Ended, Help, Start}
+
+-- the call that goes on with this stage, of this seat and this rest of its pass
+abbrev pub calling_next : CallingTerms → CallStage → SeatTerms → Rest → CallingTerms
+calling_next t stage mark rest = record { call = t.call; stage = stage; start = t.start; was = t.was; mark = mark; rest = rest }
+
+-- what an answer leaves
+pub record Leaves (b : BookTerms) (t : CallingTerms) (after : SeatTerms) (rest : Rest) (steps exchanges : ℕ) (r : Receipt) : Type 0 where
+  pub made : CallMade b (pass_before t) (pass_of after rest) t.call r
+  pub kept : IsOfOnePass after rest
+  pub within : StaysWithin b (pass_before t) (pass_of after rest) t.call steps exchanges r
+
+-- a refused call leaves its pass as it was, but for the count of its calls
+CallMade-refused : (b : BookTerms) (before : PassTerms) (call : Call) (r : Receipt) → IsKept before.knows → before.knows.book ≡ b
+    → IsBetweenCalls b before.knows → IsCallOn (length b.accounts) call → r.call ≡ call → r.at ≡ Previous → refusal_in b before call ≡ Some r.reply
+    → CallMade b before (record before { calls = one_more_call before.calls }) call r
+CallMade-refused b before (Call.Transfer from to amount) r kept book between known call_is at because =
+    PaymentMade-refused b before from kept book between known.0 ((to, amount) ∷ []) (Call.Transfer from to amount) r call_is at refl because
+CallMade-refused b before (Call.Read account) r kept book between known call_is at because = absurd (cc because)
+CallMade-refused b before (Call.Pay from targets) r kept book between known call_is at because =
+    PaymentMade-refused b before from kept book between known.0 targets (Call.Pay from targets) r call_is at refl because
+
+module _ (board : BoardTerms) (t : CallingTerms) (so : IsCallingSo t) (seat : SeatTerms) (same : seat ≡ t.mark) (of_board : IsOf seat board) where
+  pub book-IsCallingSo : t.start.knows.book ≡ board.book
+  book-IsCallingSo = sym so.book ∙ (ap (λ (s : SeatTerms). s.knows.book) (sym same) ∙ of_board.book)
+
+  known : IsCallOn (length board.book.accounts) t.call
+  known = subst (λ (b : BookTerms). IsCallOn (length b.accounts) t.call) book-IsCallingSo so.call_on
+
+  way_on : IsWay board.book (pass_before t) t.call t.stage
+  way_on = subst (λ (b : BookTerms). IsWay b (pass_before t) t.call t.stage) book-IsCallingSo so.way
+
+  -- the refusal
+  module _ (reply : Reply) (stage : t.stage ≡ Refuse reply) where
+    because : refusal_in board.book (pass_before t) t.call ≡ Some reply
+    because = subst (IsWay board.book (pass_before t) t.call) stage way_on
+
+    unmoved : (t.mark ≡ t.start) × (t.rest ≡ t.was)
+    unmoved = subst (IsCallStageSo t) stage so.stage_so
+
+    module _ (r : Receipt) (call_is : r.call ≡ t.call) (reply_is : r.reply ≡ reply) (at : r.at ≡ Previous) where
+      here : Leaves board.book t t.start (record t.was { calls = one_more_call t.was.calls }) 0 0 r
+      here = record {
+        made = CallMade-refused board.book (pass_before t) t.call r so.kept book-IsCallingSo
+            (between-IsPass board.book t.start.knows t.was.totals t.was.sent book-IsCallingSo so.pass) known call_is at (because ∙ ap Some (sym reply_is));
+        kept = so.pass;
+        within = record {
+          few = omega arith;
+          refused = λ refused. refl;
+          decided = omega arith;
+          few_decided = omega arith;
+          decides_elsewhere = λ a apart. refl;
+        };
+      }
+
+      pub Leaves-refused : Leaves board.book t seat (record t.rest { calls = one_more_call t.rest.calls }) 0 0 r
+      Leaves-refused =
+          subst (λ (s : SeatTerms). Leaves board.book t s (record t.rest { calls = one_more_call t.rest.calls }) 0 0 r) (sym (same ∙ unmoved.0))
+          (subst (λ (q : Rest). Leaves board.book t t.start (record q { calls = one_more_call q.calls }) 0 0 r) (sym unmoved.1) here)
+
+  -- after a turn with a step
+  module _ (after : SeatTerms) (of_after : IsOf after board) where
+    board_is : after.board ≡ t.start.board
+    board_is = of_after.id ∙ (sym of_board.id ∙ (ap (λ (s : SeatTerms). s.board) same ∙ so.board))
+
+    book_is : after.knows.book ≡ t.start.knows.book
+    book_is = of_after.book ∙ sym book-IsCallingSo
+
+    next_so : (stage : CallStage) (rest : Rest) → IsWay t.start.knows.book (pass_before t) t.call stage
+        → IsCallStageSo (calling_next t stage after rest) stage → IsCallingSo (calling_next t stage after rest)
+    next_so stage rest way stage_so = record {
+      kept = so.kept;
+      pass = so.pass;
+      board = board_is;
+      book = book_is;
+      call_on = so.call_on;
+      way = way;
+      stage_so = stage_so;
+    }
+
+    -- of a read
+    module _ (r : ReadingTerms) (stage : t.stage ≡ Read r) (left : 0 < turns_left r.looking.stage) where
+      pub still-read : IsMakingStill t r.looking.start r.looking.mark r.looking.was r.looking.totals
+      still-read = subst (IsCallStageSo t) stage so.stage_so left
+
+      pub way-read : t.call ≡ Call.Read r.account
+      way-read = subst (IsWay t.start.knows.book (pass_before t) t.call) stage so.way
+
+      pub Leaves-read : (rest : Rest) (turns : ℕ) (receipt : Receipt) → IsKept after.knows
+          → IsReadOf board.book r.looking.start after.knows r.account receipt
+          → LeavesTotals board.book r.looking.start after.knows r.looking.was rest.totals 0 turns
+          → StaysCounted rest.totals board.book after.knows.seen → rest.sent ≡ t.rest.sent → Leaves board.book t after rest turns 0 receipt
+      Leaves-read rest turns receipt keeps read leaves stays sent =
+          let v : Knowledge = t.start.knows in
+          let read_on = subst (λ (u : Knowledge). IsReadOf board.book u after.knows r.account receipt) still-read.start_is read in
+          let leaves_on = subst (λ (s : TotalSums). LeavesTotals board.book v after.knows s rest.totals 0 turns) still-read.was_is
+          (subst (λ (u : Knowledge). LeavesTotals board.book u after.knows r.looking.was rest.totals 0 turns) still-read.start_is leaves) in
+          record {
+            made = subst (λ (k : Call). CallMade board.book (pass_before t) (pass_of after rest) k receipt) (sym way-read)
+                (ReadMade-IsReadOf board.book t.start t.was after rest so.kept keeps book-IsCallingSo of_after.book so.pass 0 turns leaves_on r.account receipt read_on);
+            kept = IsOfOnePass-IsReadOf board.book t.start t.was after rest so.kept keeps book-IsCallingSo of_after.book so.pass 0 turns leaves_on r.account receipt
+                read_on stays (sent ∙ still-read.sent_is);
+            within = subst (λ (k : Call). StaysWithin board.book (pass_before t) (pass_of after rest) k turns 0 receipt) (sym way-read)
+                (StaysWithin-IsReadOf board.book t.start t.was after rest so.kept keeps book-IsCallingSo of_after.book so.pass 0 turns leaves_on r.account receipt
+                read_on refl);
+          }
+
+    -- of a payment from an account of one owner
+    module _ (p : PayingAloneTerms) (stage : t.stage ≡ PayAlone p) (left : 0 < pay_turns_left (record_width board.book) p.stage) where
+      pub still-alone : IsMakingStill t p.start p.mark p.was p.totals
+      still-alone =
+          subst (IsCallStageSo t) stage so.stage_so
+          (subst (λ (b : BookTerms). 0 < pay_turns_left (record_width b) p.stage) (sym book-IsCallingSo) left)
+
+      pub way-alone : IsWay board.book (pass_before t) t.call (PayAlone p)
+      way-alone = subst (IsWay board.book (pass_before t) t.call) stage way_on
+
+      -- its process has room for one more record
+      pub small-alone : t.was.sent < 4096
+      small-alone =
+          small-refusal_of board.book t.start t.was p.from so.kept book-IsCallingSo so.pass
+          (sym (refusal_in-payout board.book p.from p.targets (pass_before t) t.call way-alone.0) ∙ way-alone.2) way-alone.3
+
+      pub Leaves-alone : (rest : Rest) (turns : ℕ) (receipt : Receipt) → IsKept after.knows
+          → PaysAlone board.book p.start after.knows p.from p.targets p.call receipt
+          → LeavesTotals board.book p.start after.knows p.was rest.totals (append_steps (record_width board.book) receipt.reply) turns
+          → StaysCounted rest.totals board.book after.knows.seen → rest.sent ≡ sent_after t.rest.sent receipt.reply
+          → Leaves board.book t after rest turns 0 receipt
+      Leaves-alone rest turns receipt keeps paid leaves stays sent =
+          let v : Knowledge = t.start.knows in
+          let more = append_steps (record_width board.book) receipt.reply in
+          let paid_on = subst (λ (k : Call). PaysAlone board.book v after.knows p.from p.targets k receipt) way-alone.1
+          (subst (λ (u : Knowledge). PaysAlone board.book u after.knows p.from p.targets p.call receipt) still-alone.start_is paid) in
+          let leaves_on = subst (λ (s : TotalSums). LeavesTotals board.book v after.knows s rest.totals more turns) still-alone.was_is
+          (subst (λ (u : Knowledge). LeavesTotals board.book u after.knows p.was rest.totals more turns) still-alone.start_is leaves) in
+          let source_in = source-IsCallOn (length board.book.accounts) p.from p.targets t.call way-alone.0 known in
+          record {
+            made = CallMade-PaysAlone board.book t.start t.was after rest so.kept keeps book-IsCallingSo of_after.book so.pass more turns leaves_on p.from p.targets
+                t.call receipt paid_on way-alone.0 way-alone.3 way-alone.2 source_in;
+            kept = IsOfOnePass-PaysAlone board.book t.start t.was after rest so.kept keeps book-IsCallingSo of_after.book so.pass more turns leaves_on p.from p.targets
+                t.call receipt paid_on way-alone.0 way-alone.3 way-alone.2 stays (sent ∙ ap (λ (n : ℕ). sent_after n receipt.reply) still-alone.sent_is);
+            within = StaysWithin-PaysAlone board.book t.start t.was after rest so.kept keeps book-IsCallingSo of_after.book so.pass more turns leaves_on p.from p.targets
+                t.call receipt paid_on way-alone.0 way-alone.3 way-alone.2 refl;
+          }
+
+    -- of a payment from a shared account
+    module _ (p : PayingSharedTerms) (stage : t.stage ≡ PayShared p) (left : 0 < share_turns_left board.book p) where
+      pub still-shared : IsMakingStill t p.start p.mark p.was p.totals
+      still-shared =
+          subst (IsCallStageSo t) stage so.stage_so
+          (subst (λ (b : BookTerms). 0 < share_turns_left b p) (sym book-IsCallingSo) left)
+
+      pub way-shared : IsWay board.book (pass_before t) t.call (PayShared p)
+      way-shared = subst (IsWay board.book (pass_before t) t.call) stage way_on
+
+      pub IsCallingSo-shared : (q : PayingSharedTerms) (rest : Rest) → q.call ≡ p.call → q.account ≡ p.account
+          → q.start ≡ p.start → q.mark ≡ after.knows → q.was ≡ p.was
+          → (0 < share_turns_left board.book q → (q.totals ≡ rest.totals) × (rest.sent ≡ t.rest.sent) × (rest.calls ≡ t.rest.calls))
+          → IsCallingSo (calling_next t (PayShared q) after rest)
+      IsCallingSo-shared q rest call account start mark was others =
+          next_so (PayShared q) rest
+          (subst (λ (b : BookTerms). IsWay b (pass_before t) t.call (PayShared q)) (sym book-IsCallingSo) (
+            subst (λ (a : ℕ). IsPayoutFrom board.book a t.call) (sym account) way-shared.0,
+            call ∙ way-shared.1,
+            way-shared.2,
+            ap (λ (a : ℕ). is_shared (account_of board.book a)) account ∙ way-shared.3,
+          ))
+          (λ more.
+          let rest_is = others (subst (λ (b : BookTerms). 0 < share_turns_left b q) book-IsCallingSo more) in
+          record {
+            start_is = start ∙ still-shared.start_is;
+            mark_is = mark;
+            was_is = was ∙ still-shared.was_is;
+            totals_are = rest_is.0;
+            sent_is = rest_is.1 ∙ still-shared.sent_is;
+            calls_are = rest_is.2 ∙ still-shared.calls_are;
+          })
+
+      pub Leaves-shared : (rest : Rest) (turns exchanges : ℕ) (receipt : Receipt) → IsKept after.knows
+          → PaysInRound board.book p.start after.knows p.account p.call receipt
+          → LeavesTotals board.book p.start after.knows p.was rest.totals (settling_steps board.book p.account) turns
+          → HasCounted rest.totals board.book after.knows.seen → DecidesFew board.book p.start after.knows p.account
+          → exchanges ≡ decides_made p.account p.start after.knows → rest.sent ≡ t.rest.sent → Leaves board.book t after rest turns exchanges receipt
+      Leaves-shared rest turns exchanges receipt keeps paid leaves counted few decided sent =
+          let v : Knowledge = t.start.knows in
+          let more = settling_steps board.book p.account in
+          let targets = way-shared.0.targets in
+          let payout = way-shared.0.payout in
+          let paid_on = subst (λ (k : Call). PaysInRound board.book v after.knows p.account k receipt) way-shared.1
+          (subst (λ (u : Knowledge). PaysInRound board.book u after.knows p.account p.call receipt) still-shared.start_is paid) in
+          let leaves_on = subst (λ (s : TotalSums). LeavesTotals board.book v after.knows s rest.totals more turns) still-shared.was_is
+          (subst (λ (u : Knowledge). LeavesTotals board.book u after.knows p.was rest.totals more turns) still-shared.start_is leaves) in
+          let few_on = subst (λ (u : Knowledge). DecidesFew board.book u after.knows p.account) still-shared.start_is few in
+          let decided_on = subst (λ (u : Knowledge). exchanges ≡ decides_made p.account u after.knows) still-shared.start_is decided in
+          let source_in = source-IsCallOn (length board.book.accounts) p.account targets t.call payout known in
+          record {
+            made = CallMade-PaysInRound board.book t.start t.was after rest so.kept keeps book-IsCallingSo of_after.book so.pass more turns leaves_on p.account
+                targets t.call receipt paid_on payout way-shared.3 way-shared.2 source_in;
+            kept = IsOfOnePass-PaysInRound board.book t.start t.was after rest so.kept keeps book-IsCallingSo of_after.book so.pass more turns leaves_on p.account
+                targets t.call receipt paid_on payout way-shared.3 way-shared.2 source_in counted (sent ∙ still-shared.sent_is);
+            within = StaysWithin-PaysInRound board.book t.start t.was after rest so.kept keeps book-IsCallingSo of_after.book so.pass more turns leaves_on p.account
+                targets t.call receipt paid_on payout way-shared.3 way-shared.2 source_in exchanges refl few_on decided_on;
+          }
+
+-- the exchanges that were made, once the request is settled
+unless_settled-ended : (most made : ℕ) (stage : ShareStage) → 0 < most → unless_settled most stage ≡ 0 → unless_starting made stage ≡ made
+unless_settled-ended most made (Start s) some none = absurd (omega (arith, some, none))
+unless_settled-ended most made (Help h u) some none = refl
+unless_settled-ended most made Ended some none = refl
+
+pub share_exchanges_made-ended : (b : BookTerms) (q : PayingSharedTerms) (records : ℕ) → IsShareWithin b q records → records ≤ places_max
+    → share_turns_left b q ≡ 0 → share_exchanges_made q ≡ decides_made q.account q.start q.mark
+share_exchanges_made-ended b q records few room none =
+    unless_settled-ended (share_turns_most b q.account places_max + 1 - q.turns) (decides_made q.account q.start q.mark) q.stage
+    (omega (arith, few, room)) none

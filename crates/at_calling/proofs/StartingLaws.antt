@@ -1,0 +1,281 @@
+-- A start from one turn to the next.
+use Rattle.std.proofs.Common.{◌≡◌, ℕ, ◌+◌, ◌-◌, ◌*◌, ◌<◌, ◌≤◌, List, Some, length, get_or, refl, sym, ap, subst, ◌∙◌, arith}
+use Rattle.std.specs.List.{sum}
+use Rattle.at_ledger.specs.Account.{slot_in, slots_of}
+use Rattle.at_ledger.specs.Book.{BookTerms, HasSlot, account_of}
+use Rattle.at_ledger.specs.Call.{TargetPair}
+use Rattle.at_history.proofs.Laws.Prefixes.{IsPrefix-length, IsPrefix-refl, IsPrefix-trans}
+use Rattle.at_history.specs.Fronts.{place, places_max}
+use Rattle.at_history.specs.Publications.{IsPrefix}
+use Rattle.at_history.specs.Sound.{AreTargets}
+use Rattle.at_board.specs.Knowledge.Candidates.{HasLoadedRows}
+use Rattle.at_board.specs.Knowledge.Parts.{asking_on, own_part}
+use Rattle.at_board.specs.Steps.Announce.{Announces}
+use Rattle.at_board.specs.declared.knowledge.Knowledge.{Knowledge}
+use Rattle.at_board.specs.declared.words.TheConstants.{REQUEST_WORDS}
+use Rattle.at_fold.proofs.Laws.MorePublished.{StaysCounted-HasCounted}
+use Rattle.at_fold.specs.HasCounted.{StaysCounted}
+use Rattle.at_fold.specs.Sums.{TotalSums}
+use Rattle.at_log.specs.Receipts.{payout_of}
+use Rattle.at_rows.proofs.Laws.Accounts.{HasAccount, HasAccount-IsSeat}
+use Rattle.at_rows.specs.Asks.{HasAsked, HasLoadedNothing, MayAskFor, asked_for, opened}
+use Rattle.at_rows.specs.Rows.{AreCandidates, CollectsRows}
+use Rattle.at_rows.specs.declared.open_request.OpenRequest.{OpenRequest}
+use Rattle.at_shared.proofs.Laws.Started.{HasStarted-StartsBy, IsHelping-StartsBy, Keeps-StartsBy, MayAskFor-IsSnapshot, number-StartsBy, own_counted-StartsBy, place-IsSnapshot-le, since-StartsBy}
+use Rattle.at_shared.proofs.Laws.Starting.{Keeps-HasLoaded}
+use Rattle.at_shared.specs.HelpingTerms.{helping_of}
+use Rattle.at_shared.specs.Starting.{StartsBy}
+use Rattle.at_single.specs.Looks.{HasLooked}
+use Rattle.at_machines.specs.Asking.{AskingTerms, StoresNextRequestWord, asking_after, request_in, starting_asking}
+use Rattle.at_machines.specs.CollectingRows.{CollectingRowsTerms, MakesNextLoad, rows_after, starting_rows}
+use Rattle.at_calling.specs.KeptStarting.{HasLookedToAsk, IsAskingThen, IsCollectingThen, IsStartStageSo, IsStartingSo}
+use Rattle.at_machines.specs.LoadingRow.{MakesLoadOf, NextRowLoad}
+use Rattle.at_machines.specs.LoadingRow.NextRowLoad.{announced_word, request_word, nothing}
+use Rattle.at_machines.specs.Looking.{IsWithin}
+use Rattle.at_calling.specs.Reading.{LeavesTotals}
+use Rattle.at_calling.specs.Starting.{IsStartOf, IsStartWithin, StartingTerms, asking_steps_of, start_turns_in}
+use Rattle.at_calling.specs.declared.start_stage.StartStage.{StartStage}
+use Rattle.at_calling.specs.declared.start_stage.StartStage.TheVariants.{Ask, Collect}
+
+-- a load of a row adds to what was seen
+IsPrefix-MakesLoadOf : (b : BookTerms) (v w : Knowledge) (a slot own : ℕ) (this next : NextRowLoad) → MakesLoadOf b v w a slot own this next → IsPrefix v.seen w.seen
+IsPrefix-MakesLoadOf b v w a slot own announced_word next (count, told, follows) = told.more
+IsPrefix-MakesLoadOf b v w a slot own (request_word number word) next (n, told, follows) =
+    subst (IsPrefix v.seen) (sym (ap (λ (k : Knowledge). k.seen) told.same)) (IsPrefix-refl v.seen)
+IsPrefix-MakesLoadOf b v w a slot own nothing next told = absurd told
+
+pub IsPrefix-MakesNextLoad : (b : BookTerms) (c after : CollectingRowsTerms) → MakesNextLoad b c after → IsPrefix c.mark.seen after.mark.seen
+IsPrefix-MakesNextLoad b c after told = IsPrefix-MakesLoadOf b c.mark after.mark c.account c.slot c.own.slot c.next told.row_next told.load
+
+-- a start in this stage, with this known
+abbrev pub start_after : StartingTerms → StartStage → Knowledge → StartingTerms
+start_after t stage w = record t { stage = stage; mark = w }
+
+-- and with the look ended in so many turns
+abbrev pub start_after_look : StartingTerms → StartStage → Knowledge → TotalSums → ℕ → StartingTerms
+start_after_look t stage w now turns = record t { stage = stage; mark = w; totals = now; looked = turns }
+
+module _ (t : StartingTerms) (so : IsStartingSo t) where
+  -- the slot that the process has on the account
+  abbrev pub slot_of_start : ℕ
+  slot_of_start = so.asks.0
+
+  -- the seat has something on the account
+  has : HasAccount t.start t.account
+  has = HasAccount-IsSeat t.start t.start.first (own_part t.start).published t.account so.kept so.asks.1.slot_in.account_in
+
+  pub HasSlot-IsStartingSo : HasSlot t.start.book t.start.first t.account slot_of_start
+  HasSlot-IsStartingSo = so.asks.1.slot_in
+
+  -- the look has ended
+  module _ (w : Knowledge) (now : TotalSums) (front : List ℕ) (looked : HasLooked t.start.book t.start w t.was now front) where
+    pub place-HasLooked-le : place front ≤ length w.seen
+    place-HasLooked-le = place-IsSnapshot-le t.start.book t.start w front looked.snapshot looked.loads
+
+    pub place-HasLooked-few : place front ≤ places_max
+    place-HasLooked-few = omega (arith, place-HasLooked-le, looked.loads.history.few)
+
+    pub MayAskFor-HasLooked : (targets : List TargetPair) → AreTargets t.start.book targets
+        → MayAskFor t.start.book w t.account slot_of_start (asked_for targets (place front))
+    MayAskFor-HasLooked targets are =
+        MayAskFor-IsSnapshot t.start.book t.start w t.account slot_of_start targets front has looked.snapshot looked.loads so.asks.1 so.settled are
+
+    pub IsStartingSo-ask : (targets : List TargetPair) (turns : ℕ) → payout_of t.call ≡ Some (t.account, targets)
+        → IsWithin t.start.book.processes t.was (sum front) turns
+        → IsStartingSo (start_after_look t (Ask (starting_asking w t.account targets (place front))) w now turns)
+    IsStartingSo-ask targets turns payout few = record {
+      kept = so.kept;
+      book = ap (λ (k : Knowledge). k.book) looked.loads.same;
+      payout = so.payout;
+      asks = so.asks;
+      settled = so.settled;
+      free = so.free;
+      stage_so = record {
+        mark_is = refl;
+        left = omega arith;
+        to_ask = record {
+          account_is = refl;
+          payout = payout;
+          front = front;
+          looked_at = looked;
+          since_is = refl;
+          few = few;
+          more = IsPrefix-refl w.seen;
+        };
+      };
+    }
+
+  -- since the look ended
+  module _ (looked : Knowledge) (account : ℕ) (targets : List TargetPair) (since : ℕ) (to_ask : HasLookedToAsk t looked account targets since)
+      (w : Knowledge) (more : IsPrefix looked.seen w.seen) where
+    -- what was counted stays so
+    pub StaysCounted-HasLookedToAsk : StaysCounted t.totals t.start.book w.seen
+    StaysCounted-HasLookedToAsk = StaysCounted-HasCounted t.totals t.start.book w.seen (to_ask.looked_at.counted w.seen more)
+
+    -- the turns are few
+    pub IsStartWithin-HasLookedToAsk : (stage : StartStage) → start_turns_in t.looked stage ≤ t.looked + asking_steps_of t.start.book t
+        → IsStartWithin t.start.book (start_after t stage w) (length w.seen)
+    IsStartWithin-HasLookedToAsk stage few =
+        omega (
+          arith,
+          few,
+          to_ask.few,
+          place-IsSnapshot-le t.start.book t.start looked to_ask.front to_ask.looked_at.snapshot to_ask.looked_at.loads,
+          IsPrefix-length looked.seen w.seen more,
+        )
+
+    -- the same with this known
+    pub HasLookedToAsk-more : (stage : StartStage) → HasLookedToAsk (start_after t stage w) looked account targets since
+    HasLookedToAsk-more stage = record {
+      account_is = to_ask.account_is;
+      payout = to_ask.payout;
+      front = to_ask.front;
+      looked_at = to_ask.looked_at;
+      since_is = to_ask.since_is;
+      few = to_ask.few;
+      more = more;
+    }
+
+  -- another stage
+  IsStartingSo-stage : (stage : StartStage) (w : Knowledge) → w.book ≡ t.start.book → IsStartStageSo (start_after t stage w) stage
+      → IsStartingSo (start_after t stage w)
+  IsStartingSo-stage stage w book stage_so = record {
+    kept = so.kept;
+    book = book;
+    payout = so.payout;
+    asks = so.asks;
+    settled = so.settled;
+    free = so.free;
+    stage_so = stage_so;
+  }
+
+  -- the request is stored
+  module _ (a : AskingTerms) (is : IsAskingThen t a) (w : Knowledge) where
+    -- a store of a word leaves what was seen
+    pub IsPrefix-word : StoresNextRequestWord a w → IsPrefix a.start.seen w.seen
+    IsPrefix-word told =
+        subst (IsPrefix a.start.seen) (ap (λ (k : Knowledge). k.seen) (sym is.mark_is) ∙ sym (ap (λ (k : Knowledge). k.seen) told)) is.to_ask.more
+
+    pub IsStartingSo-word : a.stored < REQUEST_WORDS → w.book ≡ t.start.book → StoresNextRequestWord a w
+        → IsStartingSo (start_after t (Ask (asking_after a w)) w)
+    IsStartingSo-word left book told =
+        IsStartingSo-stage (Ask (asking_after a w)) w book (record {
+          mark_is = refl;
+          left = omega (arith, left);
+          to_ask = HasLookedToAsk-more a.start a.account a.targets a.since is.to_ask w (IsPrefix-word told) (Ask (asking_after a w));
+        })
+
+    -- the slot is that of the seat's process still
+    pub HasSlot-IsAskingThen : HasSlot t.start.book a.start.first a.account slot_of_start
+    HasSlot-IsAskingThen =
+        subst (λ p. HasSlot t.start.book p a.account slot_of_start) (sym (Keeps-HasLoaded t.start.book t.start a.start has.part is.to_ask.looked_at.loads).first)
+        (subst (λ n. HasSlot t.start.book t.start.first n slot_of_start) (sym is.to_ask.account_is) HasSlot-IsStartingSo)
+
+    -- the request is announced
+    module _ (told : Announces t.start.book a.start w a.account slot_of_start (request_in a)) where
+      pub slot_in-Announces : slot_in (account_of t.start.book a.account) w.first ≡ Some slot_of_start
+      slot_in-Announces = ap (slot_in (account_of t.start.book a.account)) (ap (λ (k : Knowledge). k.first) told.same) ∙ HasSlot-IsAskingThen.owner
+
+      pub IsStartingSo-collect : (number : ℕ) → w.book ≡ t.start.book → number ≡ length (asking_on (own_part a.start) a.account).announced
+          → HasLoadedNothing w a.account
+          → IsStartingSo (start_after t (Collect (starting_rows w a.account (opened slot_of_start number a.targets a.since))) w)
+      IsStartingSo-collect number book counted nothing_loaded =
+          let own : OpenRequest = opened slot_of_start number a.targets a.since in
+          let stage : StartStage = Collect (starting_rows w a.account own) in
+          IsStartingSo-stage stage w book (record {
+            mark_is = refl;
+            left = omega (arith, HasSlot-IsStartingSo.within);
+            looked = a.start;
+            to_ask = HasLookedToAsk-more a.start a.account a.targets a.since is.to_ask w told.more stage;
+            number = counted;
+            announced = told;
+            nothing_loaded = nothing_loaded;
+          })
+
+  -- the rows are loaded
+  module _ (c : CollectingRowsTerms) (is : IsCollectingThen t c) (w : Knowledge) where
+    more-rows : IsPrefix c.mark.seen w.seen → IsPrefix is.looked.seen w.seen
+    more-rows more = IsPrefix-trans is.looked.seen c.mark.seen w.seen (subst (λ (k : Knowledge). IsPrefix is.looked.seen k.seen) (sym is.mark_is) is.to_ask.more) more
+
+    pub StaysCounted-IsCollectingThen : IsPrefix c.mark.seen w.seen → StaysCounted t.totals t.start.book w.seen
+    StaysCounted-IsCollectingThen more =
+        StaysCounted-HasLookedToAsk is.looked c.account c.own.targets c.own.since is.to_ask w (more-rows more)
+
+    pub IsStartWithin-IsCollectingThen : (stage : StartStage) → IsPrefix c.mark.seen w.seen
+        → start_turns_in t.looked stage ≤ t.looked + asking_steps_of t.start.book t → IsStartWithin t.start.book (start_after t stage w) (length w.seen)
+    IsStartWithin-IsCollectingThen stage more few =
+        IsStartWithin-HasLookedToAsk is.looked c.account c.own.targets c.own.since is.to_ask w (more-rows more) stage few
+
+    pub IsStartingSo-rows : (slot : ℕ) (next : NextRowLoad) → w.book ≡ t.start.book → IsPrefix c.mark.seen w.seen
+        → c.made + 1 ≤ slots_of (account_of t.start.book c.account) + REQUEST_WORDS * (slots_of (account_of t.start.book c.account) - 1)
+        → IsStartingSo (start_after t (Collect (rows_after c w slot next)) w)
+    IsStartingSo-rows slot next book more most =
+        let stage : StartStage = Collect (rows_after c w slot next) in
+        IsStartingSo-stage stage w book (record {
+          mark_is = refl;
+          left = omega (arith, most, HasSlot-IsStartingSo.within, ap (λ n. slots_of (account_of t.start.book n)) is.to_ask.account_is);
+          looked = is.looked;
+          to_ask = HasLookedToAsk-more is.looked c.account c.own.targets c.own.since is.to_ask w (more-rows more) stage;
+          number = is.number;
+          announced = is.announced;
+          nothing_loaded = is.nothing_loaded;
+        })
+
+    -- and all of them
+    module _ (asked : List OpenRequest) (rows : CollectsRows t.start.book c.start w c.account c.own asked)
+        (candidates : AreCandidates c.start w c.account c.own.slot asked) (collected : HasLoadedRows t.start.book w c.account c.own.slot)
+        (last : HasAsked t.start.book w c.account c.own) where
+      parts : StartsBy t.start.book t.start w c.account c.own asked
+      parts = record {
+        front = is.to_ask.front;
+        looked = is.looked;
+        snapshot = is.to_ask.looked_at.snapshot;
+        loads = is.to_ask.looked_at.loads;
+        since = is.to_ask.since_is;
+        number = is.number;
+        asked = c.start;
+        announced = is.announced;
+        nothing = is.nothing_loaded;
+        rows = rows;
+        candidates = candidates;
+        collected = collected;
+        last = last;
+      }
+
+      has_there : HasAccount t.start c.account
+      has_there = subst (HasAccount t.start) (sym is.to_ask.account_is) has
+
+      pub IsStartOf-CollectsRows : IsStartOf t.start.book t.start w t.account t.call (helping_of t.call t.account c.own asked)
+      IsStartOf-CollectsRows =
+          let b : BookTerms = t.start.book in
+          let kept = Keeps-StartsBy b t.start w c.account c.own asked parts has_there in
+          let number = number-StartsBy b t.start w c.account c.own asked parts has_there in
+          let room : c.own.number < b.request_room =
+          omega (arith, number, so.asks.1.room, ap (λ n. length (asking_on (own_part t.start) n).announced) is.to_ask.account_is) in
+          let payout = subst (λ n. payout_of t.call ≡ Some (n, c.own.targets)) (sym is.to_ask.account_is) is.to_ask.payout in
+          let here : IsStartOf b t.start w c.account t.call (helping_of t.call c.account c.own asked) = record {
+            call_is = refl;
+            account_is = refl;
+            started = HasStarted-StartsBy b t.start w c.account c.own asked parts has_there t.call;
+            helping = IsHelping-StartsBy b t.start w c.account c.own asked parts has_there t.call payout room so.free;
+            number = number;
+            since = since-StartsBy b t.start w c.account c.own asked parts has_there;
+            begins = kept.more;
+            process = kept.first;
+            decides = kept.decides;
+            published = kept.published;
+          } in
+          subst (λ n. IsStartOf b t.start w n t.call (helping_of t.call n c.own asked)) is.to_ask.account_is here
+
+      pub LeavesTotals-CollectsRows : (turns steps : ℕ) → turns ≤ t.looked + steps
+          → LeavesTotals t.start.book t.start w t.was t.totals steps turns
+      unfolding parts
+      LeavesTotals-CollectsRows turns steps few =
+          let b : BookTerms = t.start.book in
+          let kept = Keeps-StartsBy b t.start w c.account c.own asked parts has_there in
+          let looked_at = is.to_ask.looked_at in
+          record {
+            more = omega (arith, kept.published, looked_at.more, ap sum looked_at.upto);
+            own_counted = ap (λ (upto : List ℕ). get_or upto w.first 0) looked_at.upto ∙ own_counted-StartsBy b t.start w c.account c.own asked parts has_there;
+            few = omega (arith, few, is.to_ask.few, kept.published, looked_at.more, ap sum looked_at.upto);
+          }

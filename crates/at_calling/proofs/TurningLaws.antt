@@ -1,0 +1,276 @@
+-- What a look, and a round after it, let the answer of a turn of helping be.
+use Rattle.std.proofs.Common.{◌≡◌, ◌⊎◌, ℕ, ◌+◌, ◌-◌, ◌*◌, ◌<◌, ◌≤◌, Bool, true, false, cond, List, [], ◌∷◌, ◌++◌, length, set, get_or, get_or-set_same, refl, sym, ap, subst, ◌∙◌, arith, inl, inr}
+use Rattle.std.proofs.lemmas.Bool.{cases_lt}
+use Rattle.std.proofs.lemmas.List.{length-take}
+use Rattle.std.specs.List.{sum}
+use Rattle.at_base.specs.Decision.{word_of}
+use Rattle.at_base.specs.declared.decision.Decision.{Decision}
+use Rattle.at_ledger.specs.Book.{BookTerms}
+use Rattle.at_ledger.specs.declared.call.Reply.{Reply}
+use Rattle.at_ledger.specs.declared.call.Reply.TheVariants.{Done, Short}
+use Rattle.at_history.proofs.Laws.Fronts.{length-IsFront}
+use Rattle.at_history.proofs.Laws.Prefixes.{IsPrefix-length}
+use Rattle.at_history.specs.Fronts.{prefix_of}
+use Rattle.at_history.specs.Rounds.{rounds}
+use Rattle.at_board.specs.Knowledge.Agreement.{AgreesWithSeen}
+use Rattle.at_board.specs.Knowledge.Parts.{asking_on, no_part, own_part, seen_as}
+use Rattle.at_board.specs.Knowledge.Seats.{IsKept}
+use Rattle.at_board.specs.Steps.LoadRequestWord.{LoadsRequestWord, with_loaded}
+use Rattle.at_board.specs.Steps.StoreRecordWord.{StoresWord, with_word}
+use Rattle.at_board.specs.Words.Addresses.{record_width}
+use Rattle.at_board.specs.declared.knowledge.Asking.{Asking}
+use Rattle.at_board.specs.declared.knowledge.Knowledge.{Knowledge}
+use Rattle.at_board.specs.declared.knowledge.LoadedWord.{LoadedWord}
+use Rattle.at_board.specs.declared.knowledge.Part.{Part}
+use Rattle.at_board.specs.declared.knowledge.SeenRequest.{SeenRequest}
+use Rattle.at_fold.proofs.Laws.LoadedRecords.{sum-caught}
+use Rattle.at_fold.specs.Counted.{IsDecidedIn}
+use Rattle.at_fold.specs.Sums.{TotalSums}
+use Rattle.at_log.specs.declared.receipt.At.{At}
+use Rattle.at_log.specs.declared.receipt.Receipt.{Receipt}
+use Rattle.at_rows.proofs.Laws.Accounts.{HasAccount, asking_on-with_asking}
+use Rattle.at_shared.proofs.Laws.After.{IsAfter, IsAfter-Decides, IsAfter-Publishes}
+use Rattle.at_shared.proofs.Laws.Turned.{FindsSettled-turn, HelpsDecide-turn, IsHelping-turn, IsPlaced-turn-found, IsPlaced-turn-own, StandsAfter-turn-found, StandsAfter-turn-own, begins-turn, decides-turn, decides_elsewhere-turn, free-turn, heard-turn, overtaken-turn, process-turn, published-turn, rounds-turn}
+use Rattle.at_shared.specs.HelpTurns.{DecidesNext, NamesOwn}
+use Rattle.at_shared.specs.HelpingTerms.{HelpingTerms}
+use Rattle.at_shared.specs.Helpings.{IsHelping, decides_made, decides_on}
+use Rattle.at_shared.specs.Settling.{StandsInRound, round_steps}
+use Rattle.at_shared.specs.declared.helping.HelpTurn.TheVariants.{Settled, More}
+use Rattle.at_single.specs.Looks.{HasLooked}
+use Rattle.at_snapshot.specs.Snapshots.{snapshot_steps}
+use Rattle.at_machines.specs.Deciding.{DecidingTerms, MakesRoundStep, MakesStep, NextOfRound, deciding_after, exchanges_in, left_of_round, round_in}
+use Rattle.at_machines.specs.Deciding.NextOfRound.{exchange, request_word, record_word, nothing}
+use Rattle.at_calling.specs.KeptTurning.{IsDecidingThen}
+use Rattle.at_machines.specs.Looking.{IsWithin}
+use Rattle.at_calling.specs.Reading.{LeavesTotals}
+use Rattle.at_calling.specs.Turning.{IsHelpOf, IsHelpWithin, LeavesSeat, TurningTerms, WaitsOn}
+use Rattle.at_calling.specs.declared.turn_stage.TurnStage.TheVariants.{Decide}
+
+-- a decision's reply is one of two
+reply_in : (ok : Bool) (reply : Reply) → reply ≡ cond ok Done Short → (reply ≡ Done) ⊎ (reply ≡ Short)
+reply_in true reply is = inl is
+reply_in false reply is = inr is
+
+-- the receipt of a decision stands in its round
+StandsInRound-receipt : (r : ℕ) (d : Decision) (receipt : Receipt) → receipt.reply ≡ cond d.ok Done Short → receipt.at ≡ At.Round r d.place → StandsInRound receipt
+StandsInRound-receipt r d receipt reply at = record { round = r; place = d.place; at = at; reply = reply_in d.ok receipt.reply reply }
+
+-- a round has so many steps, and its exchange is the first
+pub left_of_round-le : (n : ℕ) (next : NextOfRound) → left_of_round n next ≤ round_steps n
+left_of_round-le n exchange = omega arith
+left_of_round-le n (request_word d word) = omega arith
+left_of_round-le n (record_word d word) = omega arith
+left_of_round-le n nothing = omega arith
+
+pub exchanges_in-lt : (n : ℕ) (next : NextOfRound) → left_of_round n next < round_steps n → exchanges_in next ≡ 0
+exchanges_in-lt n exchange less = absurd (omega (arith, less))
+exchanges_in-lt n (request_word d word) less = refl
+exchanges_in-lt n (record_word d word) less = refl
+exchanges_in-lt n nothing less = refl
+
+-- a step that makes so many exchanges on the account, after which the seat has seen at least as much
+record IsStepOf (v w : Knowledge) (a exchanges : ℕ) : Type 0 where
+  decides : decides_on w a ≡ decides_on v a + exchanges
+  more : length v.seen ≤ length w.seen
+
+IsStepOf-IsAfter : (v w : Knowledge) (a exchanges : ℕ) (words : List LoadedWord) → IsAfter v w a exchanges words → IsStepOf v w a exchanges
+IsStepOf-IsAfter v w a exchanges words after = record {
+  decides = ap (λ (t : Asking). t.decides) after.asking;
+  more = IsPrefix-length v.seen w.seen after.more;
+}
+
+IsStepOf-StoresWord : (v w : Knowledge) (word n a : ℕ) → 0 < length v.parts → StoresWord v w word n → IsStepOf v w a 0
+IsStepOf-StoresWord v w word n a part told = record {
+  decides = omega (
+    arith,
+    ap (λ (t : Knowledge). decides_on t a) told,
+    ap (λ (q : Part). (asking_on q a).decides) (get_or-set_same v.parts 0 (with_word (own_part v) word n) no_part part),
+  );
+  more = omega (arith, ap (λ (t : Knowledge). length t.seen) told);
+}
+
+IsStepOf-LoadsRequestWord : (b : BookTerms) (v w : Knowledge) (a slot number word n : ℕ) → HasAccount v a → LoadsRequestWord b v w a slot number word n
+    → IsStepOf v w a 0
+IsStepOf-LoadsRequestWord b v w a slot number word n has told =
+    let x : SeenRequest = seen_as a slot number told.request in
+    let u : Knowledge = record v { requests = v.requests ++ x ∷ [] } in
+    let now : Asking = with_loaded (asking_on (own_part v) a) x word in
+    record {
+      decides = omega (
+        arith,
+        ap (λ (t : Knowledge). decides_on t a) told.same,
+        ap (λ (t : Asking). t.decides) (asking_on-with_asking u a now (record { part = has.part; inside = has.inside })),
+      );
+      more = omega (arith, ap (λ (t : Knowledge). length t.seen) told.same);
+    }
+
+-- the step of the exchange makes one, and no other of the round does
+IsStepOf-MakesStep : (b : BookTerms) (c : DecidingTerms) (w : Knowledge) (step next : NextOfRound) → HasAccount c.mark c.helping.account
+    → 0 < left_of_round b.processes step → MakesStep b c w step next → IsStepOf c.mark w c.helping.account (exchanges_in step)
+IsStepOf-MakesStep b c w exchange next has left (d, proposal, told, then) =
+    IsStepOf-IsAfter c.mark w c.helping.account 1 [] (IsAfter-Decides b c.mark w c.helping.account (round_in c) proposal (word_of d) has told.decides)
+IsStepOf-MakesStep b c w (request_word d word) next has left ((n, told), more, last) =
+    IsStepOf-LoadsRequestWord b c.mark w c.helping.account d.slot d.number word n has told
+IsStepOf-MakesStep b c w (record_word d word) next has left (stores, publishes) =
+    let a = c.helping.account in
+    elim (cases_lt word (record_width b)) as (λ _. IsStepOf c.mark w a 0) [
+      | inl inside ↦ let ((n, told), then) = stores inside in IsStepOf-StoresWord c.mark w word n a has.part told
+      | inr all ↦
+          let ((x, told), then) = publishes (omega (arith, left, all)) in
+          IsStepOf-IsAfter c.mark w a 0 [] (IsAfter-Publishes b c.mark w a x has.part told)
+    ]
+IsStepOf-MakesStep b c w nothing next has left none = absurd none
+
+-- a round from one turn to the next
+module _ (b : BookTerms) (t : TurningTerms) (d e : DecidingTerms) (w : Knowledge) (book : t.start.book ≡ b) (so : IsDecidingThen t d)
+    (has : HasAccount t.mark t.helping.account) (some : 0 < d.left) (after : e ≡ deciding_after d w e.next) (less : e.left + 1 ≡ d.left)
+    (step : MakesRoundStep b d w e.next) where
+  abbrev processes : ℕ
+  processes = d.start.book.processes
+
+  processes_are : processes ≡ b.processes
+  processes_are = ap (λ (k : BookTerms). k.processes) (ap (λ (v : Knowledge). v.book) so.looked_at.loads.same ∙ book)
+
+  left_now : e.left ≡ left_of_round processes e.next
+  left_now = ap (λ (c : DecidingTerms). c.left) after
+
+  is_step : IsStepOf t.mark w t.helping.account (exchanges_in d.next)
+  is_step =
+      subst (λ (v : Knowledge). IsStepOf v w t.helping.account (exchanges_in d.next)) so.mark_is
+      (subst (λ (h : HelpingTerms). IsStepOf d.mark w h.account (exchanges_in d.next)) so.helping_is
+      (IsStepOf-MakesStep b d w d.next e.next
+      (subst (HasAccount d.mark) (sym (ap (λ (h : HelpingTerms). h.account) so.helping_is))
+      (subst (λ (v : Knowledge). HasAccount v t.helping.account) (sym so.mark_is) has))
+      (omega (arith, some, so.left_is, ap (λ n. left_of_round n d.next) processes_are)) step))
+
+  -- after it the exchange was made
+  exchanges_in-step : exchanges_in e.next ≡ 0
+  exchanges_in-step = exchanges_in-lt processes e.next (omega (arith, less, left_now, so.left_is, left_of_round-le processes d.next))
+
+  pub decides_made-step : decides_made t.helping.account t.start w ≡ 1
+  decides_made-step = omega (arith, is_step.decides, so.once)
+
+  pub IsHelpWithin-step : IsHelpWithin b.processes (decides_made t.helping.account t.start w) t.was (length w.seen) (t.looked + (round_steps e.start.book.processes - e.left))
+  IsHelpWithin-step =
+      omega (
+        arith,
+        so.few,
+        so.seen,
+        is_step.more,
+        ap (λ (k : BookTerms). snapshot_steps k.processes) book,
+        ap (λ (c : DecidingTerms). round_steps c.start.book.processes) after,
+        ap round_steps processes_are,
+        ap (λ k. round_steps b.processes * k) decides_made-step,
+      )
+
+  -- no less is seen than at the start
+  pub seen-step : length t.start.seen ≤ length w.seen
+  seen-step =
+      omega (
+        arith,
+        IsPrefix-length t.start.seen (prefix_of d.front d.start.seen) so.looked_at.snapshot.begins,
+        length-take (sum d.front) d.start.seen,
+        so.seen,
+        is_step.more,
+      )
+
+  pub help_turns_in-le : t.looked + (round_steps e.start.book.processes - e.left) ≤ t.looked + round_steps b.processes
+  help_turns_in-le = omega (arith, ap (λ (c : DecidingTerms). round_steps c.start.book.processes) after, ap round_steps processes_are)
+
+  -- it goes on, and the totals stay
+  pub IsDecidingThen-step : (totals : TotalSums) → totals ≡ t.totals → IsDecidingThen (record t { stage = Decide e; mark = w; totals = totals }) e
+  IsDecidingThen-step totals same = record {
+    helping_is = ap (λ (c : DecidingTerms). c.helping) after ∙ so.helping_is;
+    mark_is = ap (λ (c : DecidingTerms). c.mark) after;
+    totals_are = ap (λ (c : DecidingTerms). c.totals) after ∙ (so.totals_are ∙ sym same);
+    looked_at = subst (λ (c : DecidingTerms). HasLooked t.start.book t.start c.start t.was totals c.front) (sym after)
+        (subst (λ (s : TotalSums). HasLooked t.start.book t.start d.start t.was s d.front) (sym same) so.looked_at);
+    few = subst (λ (c : DecidingTerms). IsWithin t.start.book.processes t.was (sum c.front) t.looked) (sym after) so.few;
+    seen = omega (arith, so.seen, is_step.more, ap (λ (c : DecidingTerms). sum c.front) after);
+    left_is = left_now ∙ ap (λ (c : DecidingTerms). left_of_round c.start.book.processes e.next) (sym after);
+    once = omega (arith, so.once, is_step.decides, exchanges_in-step);
+  }
+
+module _ (b : BookTerms) (v w : Knowledge) (was now : TotalSums) (front : List ℕ) (h : HelpingTerms) (has : HasAccount v h.account)
+    (looked : HasLooked b v w was now front) (is : IsHelping b v h) where
+  -- the request is decided in the front's records
+  pub IsHelpOf-found : (r : ℕ) (d : Decision) (receipt : Receipt) → AgreesWithSeen w
+      → IsDecidedIn (prefix_of front w.seen) h.account h.own.slot h.own.number r d → receipt.call ≡ h.call → receipt.reply ≡ cond d.ok Done Short
+      → receipt.at ≡ At.Round r d.place → IsHelpOf b v w h (Settled receipt)
+  IsHelpOf-found r d receipt agrees found call reply at = record {
+    answers = inl (FindsSettled-turn b v w h front has looked.snapshot looked.loads is r d found);
+    call = call;
+    in_round = StandsInRound-receipt r d receipt reply at;
+    placed = IsPlaced-turn-found b v w h front has looked.snapshot looked.loads is r d receipt agrees found call reply at;
+    after_start = StandsAfter-turn-found b v w h front has looked.snapshot looked.loads is r d receipt agrees found call at;
+  }
+
+  -- the round at the front is decided and published
+  module _ (x : Knowledge) (d : Decision) (next : DecidesNext b w x h front d) where
+    decides_made-decided : decides_made h.account v x ≡ 1
+    decides_made-decided = omega (arith, decides-turn b v w h front has looked.snapshot looked.loads is x d next)
+
+    pub IsHelpOf-own : (r : ℕ) (receipt : Receipt) → AgreesWithSeen x → r ≡ rounds h.account (prefix_of front w.seen) → NamesOwn h d
+        → receipt.call ≡ h.call → receipt.reply ≡ cond d.ok Done Short → receipt.at ≡ At.Round r d.place → IsHelpOf b v x h (Settled receipt)
+    IsHelpOf-own r receipt agrees round names call reply at = record {
+      answers = inr (d, HelpsDecide-turn b v w h front has looked.snapshot looked.loads is x d next, names);
+      call = call;
+      in_round = StandsInRound-receipt r d receipt reply at;
+      placed = IsPlaced-turn-own b v w h front has looked.snapshot looked.loads is x d next r receipt agrees round names call reply at;
+      after_start = StandsAfter-turn-own b v w h front has looked.snapshot looked.loads is x d next r receipt agrees round names call at;
+    }
+
+    pub IsHelpOf-other : ¬ NamesOwn h d → IsHelpOf b v x h More
+    IsHelpOf-other other = record {
+      answers = (d, HelpsDecide-turn b v w h front has looked.snapshot looked.loads is x d next, other);
+      call = tt;
+      in_round = tt;
+      placed = tt;
+      after_start = tt;
+    }
+
+    pub WaitsOn-other : IsKept x → x.book ≡ b → ¬ NamesOwn h d → WaitsOn b v x h
+    WaitsOn-other kept book other = record {
+      helping = IsHelping-turn b v w h front has looked.snapshot looked.loads is x d next;
+      decides_more = decides-turn b v w h front has looked.snapshot looked.loads is x d next;
+      rounds_more = rounds-turn b v w h front has looked.snapshot looked.loads is x d next;
+      overtaken = overtaken-turn b v w h front has looked.snapshot looked.loads is x d next kept book other;
+    }
+
+    pub LeavesSeat-decided : LeavesSeat v x h.account
+    LeavesSeat-decided =
+        let decides = decides-turn b v w h front has looked.snapshot looked.loads is x d next in
+        record {
+          heard = heard-turn b v w h front has looked.snapshot looked.loads is x d next;
+          free = free-turn b v w h front has looked.snapshot looked.loads is x d next;
+          begins = begins-turn b v w h front has looked.snapshot looked.loads is x d next;
+          process = process-turn b v w h front has looked.snapshot looked.loads is x d next;
+          decides_few = omega (arith, decides);
+          decides_at_most = omega (arith, decides);
+          decides_elsewhere = decides_elsewhere-turn b v w h front has looked.snapshot looked.loads is x d next;
+          published = omega (arith, published-turn b v w h front has looked.snapshot looked.loads is x d next);
+        }
+
+    -- its record is one more that the totals count, and that took no load
+    pub LeavesTotals-decided : (after : TotalSums) (looks turns : ℕ) → v.first < b.processes → after.upto ≡ set front x.first (own_part x).published
+        → IsWithin b.processes was (sum front) looks → turns ≤ looks + round_steps b.processes
+        → LeavesTotals b v x was after (round_steps b.processes * decides_made h.account v x) turns
+    LeavesTotals-decided after looks turns known upto few all =
+        let process : x.first ≡ v.first = process-turn b v w h front has looked.snapshot looked.loads is x d next in
+        let published = published-turn b v w h front has looked.snapshot looked.loads is x d next in
+        let counts : get_or front x.first 0 ≡ (own_part v).published = ap (λ p. get_or front p 0) process ∙ looked.snapshot.own in
+        let inside : x.first < length front = omega (arith, known, process, length-IsFront b.processes front w.seen looked.snapshot.front) in
+        let summed = sum-caught front x.first (own_part x).published inside (omega (arith, counts, published)) in
+        let upto_sum : sum after.upto ≡ sum front + 1 = omega (arith, ap sum upto, summed, counts, published) in
+        record {
+          more = omega (arith, upto_sum, published, looked.more);
+          own_counted = ap (λ (xs : List ℕ). get_or xs x.first 0) upto ∙ get_or-set_same front x.first (own_part x).published 0 inside;
+          few = omega (
+            arith,
+            few,
+            all,
+            upto_sum,
+            published,
+            ap (λ k. round_steps b.processes * k) decides_made-decided,
+          );
+        }

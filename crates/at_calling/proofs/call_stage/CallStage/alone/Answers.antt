@@ -1,0 +1,31 @@
+use Rattle.std.proofs.Common.{ℕ, List, Some, sym, ap, ◌∙◌}
+use Rattle.at_ledger.specs.Account.{is_single}
+use Rattle.at_ledger.specs.Book.{BookTerms, account_of}
+use Rattle.at_ledger.specs.Call.{TargetPair}
+use Rattle.at_object.specs.Parted.{pass_of}
+use Rattle.at_calling.proofs.CallingLaws.{owner-refusal_of, refusal_in-payout, room-refusal_of}
+use Rattle.at_calling.specs.PayingAlone.{PayingAloneTerms}
+use Rattle.at_calling.proofs.call_stage.CallStage.alone.Goals as goal
+
+pub start-paying-requires-clause-owner : goal.start-paying-requires-clause-owner
+start-paying-requires-clause-owner c = record {
+  single = c.requires.single;
+  owner = owner-refusal_of c.args.board.now.book c.args.seat.now c.args.rest.now c.args.from c.known.ensures.seat c.requires.board.book c.requires.pass c.requires.may;
+}
+
+pub start-paying-requires-clause-room : goal.start-paying-requires-clause-room
+start-paying-requires-clause-room c =
+    room-refusal_of c.args.board.now.book c.args.seat.now c.args.rest.now c.args.from c.known.ensures.seat c.requires.board.book c.requires.pass c.requires.may
+    c.requires.single
+
+pub returns-clause-way : goal.returns-clause-way
+returns-clause-way c =
+    let b : BookTerms = c.args.board.now.book in
+    let p : PayingAloneTerms = c.start-paying.result in
+    let told = c.start-paying.ensures in (
+      c.requires.payout
+          ∙ (ap (λ (a : ℕ). Some (a, c.args.targets)) (sym told.from) ∙ ap (λ (xs : List TargetPair). Some (p.from, xs)) (sym told.targets)),
+      told.call,
+      refusal_in-payout b c.args.from c.args.targets (pass_of c.args.seat.now c.args.rest.now) c.args.call c.requires.payout ∙ c.requires.may,
+      ap (λ (a : ℕ). is_single (account_of b a)) told.from ∙ c.requires.single,
+    )

@@ -1,0 +1,49 @@
+use Rattle.std.proofs.Common.{◌≡◌, ◌<◌, ◌∙◌, ℕ, List, length, ap, subst, sym}
+use Rattle.at_ledger.specs.Book.{BookTerms}
+use Rattle.at_ledger.specs.declared.call.Call.TheVariants.{Read}
+use Rattle.at_ledger.specs.declared.call.Reply.TheVariants.{Balance}
+use Rattle.at_board.specs.declared.knowledge.Knowledge.{Knowledge}
+use Rattle.at_fold.specs.Sums.{TotalSums}
+use Rattle.at_log.specs.declared.receipt.At.TheVariants.{Front}
+use Rattle.at_log.specs.declared.receipt.Receipt.{Receipt}
+use Rattle.at_single.proofs.Laws.Looks.{CountsAccount-HasLooked, CountsFront-HasLooked, balance-HasLooked}
+use Rattle.at_calling.proofs.ReadingLaws.{IsReadOf-HasLooked}
+use Rattle.at_calling.specs.Reading.{IsReadOf, ReadingTerms}
+use Rattle.at_calling.proofs.reading.Reading.turn.Given as given
+use Rattle.at_calling.proofs.reading.Reading.turn.Goals.{After-known}
+use Rattle.at_calling.proofs.reading.Reading.turn.Goals as goal
+
+-- the account is one of the board's book
+account_in : (g : given.Over) (c : After-known g) → c.self.inside.account < length c.args.board.now.book.accounts
+account_in g c =
+    let book : c.self.inside.looking.start.book ≡ c.args.board.now.book =
+    sym (ap (λ (v : Knowledge). v.book) c.in_ok-front.ensures.looked.loads.same) ∙ c.turn.ensures.board.book in
+    subst (λ (b : BookTerms). c.self.inside.account < length b.accounts) book c.self.invariant
+
+pub balance-requires : goal.balance-requires
+balance-requires g c =
+    let b : BookTerms = c.args.board.now.book in
+    let v : Knowledge = c.self.inside.looking.start in
+    let w : Knowledge = c.turn.new.seat.knows in
+    let was : TotalSums = c.self.inside.looking.was in
+    let front : List ℕ = c.in_ok-front.front in
+    let looked = c.in_ok-front.ensures.looked in (
+      b,
+      w.seen,
+      CountsAccount-HasLooked b v w was c.turn.new.totals front c.self.inside.account looked (account_in g (goal.at.balance-requires g c).After-known),
+      CountsFront-HasLooked b v w was c.turn.new.totals front looked,
+    )
+
+pub returns-clause-answer : goal.returns-clause-answer
+returns-clause-answer g c =
+    let b : BookTerms = c.args.board.now.book in
+    let v : Knowledge = c.self.inside.looking.start in
+    let w : Knowledge = c.turn.new.seat.knows in
+    let was : TotalSums = c.self.inside.looking.was in
+    let now : TotalSums = c.turn.new.totals in
+    let front : List ℕ = c.in_ok-front.front in
+    let looked = c.in_ok-front.ensures.looked in
+    let r : Receipt = record { call = Read c.self.inside.account; reply = Balance c.balance.result; at = Front front } in
+    let balance = balance-HasLooked b v w was now front c.self.inside.account c.balance.result looked (account_in g (goal.at.returns-clause-answer g c).After-known) c.balance.ensures in
+    subst (λ (t : ReadingTerms). IsReadOf b t.looking.start w t.account r) c.self.view_is
+    (IsReadOf-HasLooked b v w was now front looked c.self.inside.account c.balance.result balance)

@@ -1,0 +1,168 @@
+-- Calls of the object that are made one step a turn, by a pass that was taken apart.
+use Rattle.std.specs.Prelude.{◌≡◌, ◌≢◌, ℕ, ◌+◌, ◌-◌, ◌*◌, ◌++◌, ◌≤◌, true, List, [], ◌∷◌, length, sum, Option, Some, None}
+use Rattle.at_ledger.specs.Account.{is_shared, is_single, slots_of}
+use Rattle.at_ledger.specs.Book.{BookTerms, account_of}
+use Rattle.at_ledger.specs.declared.call.Call.{Call}
+use Rattle.at_ledger.specs.declared.call.Reply.{Reply}
+use Rattle.at_ledger.specs.declared.call.Reply.TheVariants.{Balance}
+use Rattle.at_history.specs.Balances.{balance_after}
+use Rattle.at_history.specs.Fronts.{prefix_of}
+use Rattle.at_history.specs.Histories.{IsHistory}
+use Rattle.at_history.specs.Publications.{IsPrefix}
+use Rattle.at_board.specs.Knowledge.Seats.{SeatTerms}
+use Rattle.at_board.specs.Words.Addresses.{record_width}
+use Rattle.at_board.specs.declared.knowledge.Knowledge.{Knowledge}
+use Rattle.at_board.specs.declared.words.TheConstants.{RECORD_WORDS}
+use Rattle.at_fold.specs.Sums.{TotalSums}
+use Rattle.at_log.specs.Placed.{IsPlaced}
+use Rattle.at_log.specs.Receipts.{payout_of}
+use Rattle.at_log.specs.Told.{first_account}
+use Rattle.at_log.specs.declared.receipt.At.{At}
+use Rattle.at_log.specs.declared.receipt.Receipt.{Receipt}
+use Rattle.at_object.specs.Paid.{PaymentMade}
+use Rattle.at_object.specs.Parted.{pass_of}
+use Rattle.at_object.specs.Passes.{PassTerms, Stands, asked_by, newly_counted, others_counted, sent_by}
+use Rattle.at_object.specs.Payments.{IsRefused, payment_steps, refusal_of}
+use Rattle.at_object.specs.declared.parts.Rest.{Rest}
+use Rattle.at_shared.specs.Helpings.{IsPayoutFrom, decides_made, decides_on}
+use Rattle.at_shared.specs.Settling.{StandsAfter}
+use Rattle.at_single.specs.Standing.{front_behind}
+use Rattle.at_snapshot.specs.Snapshots.{IsSnapshot, snapshot_steps}
+use Rattle.at_machines.specs.Looking.{MakesLookLoad, turns_left}
+use Rattle.at_calling.specs.PayingAlone.{MakesPayStep, pay_turns_left, turns_made}
+use Rattle.at_calling.specs.PayingShared.{MakesShareStep, share_exchanges_at, share_exchanges_made, share_turns_left}
+use Rattle.at_calling.specs.declared.call_stage.CallStage.{CallStage}
+use Rattle.at_calling.specs.declared.call_stage.CallStage.TheVariants.{PayAlone, PayShared, Read, Refuse, Refused}
+
+-- a call by what it asks, by what the next turn goes on with, and by its pass's seat and the rest of the pass, at the start and after the
+-- last turn
+pub record CallingTerms : Type 0 where
+  pub call : Call
+  pub stage : CallStage
+  pub start : SeatTerms
+  pub was : Rest
+  pub mark : SeatTerms
+  pub rest : Rest
+
+-- the pass at the start
+abbrev pub pass_before : CallingTerms → PassTerms
+pass_before t = pass_of t.start t.was
+
+-- why a call is refused, whatever the balance
+abbrev pub refusal_in : BookTerms → PassTerms → Call → Option Reply
+refusal_in b before (Call.Transfer from to amount) = refusal_of b before from
+refusal_in b before (Call.Read account) = None
+refusal_in b before (Call.Pay from targets) = refusal_of b before from
+
+-- how the call is made: it is refused, or reads, or the one owner of its source pays, or one who shares it
+abbrev pub IsWay : BookTerms → PassTerms → Call → CallStage → Type 0
+IsWay b before call (Refuse reply) = refusal_in b before call ≡ Some reply
+IsWay b before call Refused = refusal_in b before call ≢ None
+IsWay b before call (Read r) = call ≡ Call.Read r.account
+IsWay b before call (PayAlone p) =
+    (payout_of call ≡ Some (p.from, p.targets)) × (p.call ≡ call) × (refusal_in b before call ≡ None) × (is_single (account_of b p.from) ≡ true)
+IsWay b before call (PayShared p) =
+    IsPayoutFrom b p.account call × (p.call ≡ call) × (refusal_in b before call ≡ None) × (is_shared (account_of b p.account) ≡ true)
+
+-- what begins with what its seat knows and its totals have counted
+pub record BeginsWith (v : Knowledge) (counted : TotalSums) (start mark : Knowledge) (was totals : TotalSums) : Type 0 where
+  pub start_is : start ≡ v
+  pub mark_is : mark ≡ v
+  pub was_is : was ≡ counted
+  pub totals_are : totals ≡ counted
+
+abbrev pub StartsFrom : Knowledge → TotalSums → CallStage → Type 0
+StartsFrom v counted (Refuse reply) = Unit {0}
+StartsFrom v counted Refused = ⊥
+StartsFrom v counted (Read r) = BeginsWith v counted r.looking.start r.looking.mark r.looking.was r.looking.totals
+StartsFrom v counted (PayAlone p) = BeginsWith v counted p.start p.mark p.was p.totals
+StartsFrom v counted (PayShared p) = BeginsWith v counted p.start p.mark p.was p.totals
+
+-- the steps that were made
+abbrev pub steps_made : CallStage → ℕ
+steps_made (Refuse reply) = 0
+steps_made Refused = 0
+steps_made (Read r) = r.looking.turns
+steps_made (PayAlone p) = turns_made p
+steps_made (PayShared p) = p.turns
+
+-- the exchanges that were made
+abbrev pub exchanges_made : CallStage → ℕ
+exchanges_made (Refuse reply) = 0
+exchanges_made Refused = 0
+exchanges_made (Read r) = 0
+exchanges_made (PayAlone p) = 0
+exchanges_made (PayShared p) = share_exchanges_made p
+
+-- the turns that are left at most
+abbrev pub call_turns_left : BookTerms → CallStage → ℕ
+call_turns_left b (Refuse reply) = 1
+call_turns_left b Refused = 0
+call_turns_left b (Read r) = turns_left r.looking.stage
+call_turns_left b (PayAlone p) = pay_turns_left (record_width b) p.stage
+call_turns_left b (PayShared p) = share_turns_left b p
+
+-- how many steps the next turn makes: one, and none where the call is refused
+abbrev pub steps_of : CallStage → ℕ
+steps_of (Refuse reply) = 0
+steps_of Refused = 0
+steps_of (Read r) = 1
+steps_of (PayAlone p) = 1
+steps_of (PayShared p) = 1
+
+-- and how many exchanges
+abbrev pub exchanges_of : CallStage → ℕ
+exchanges_of (Refuse reply) = 0
+exchanges_of Refused = 0
+exchanges_of (Read r) = 0
+exchanges_of (PayAlone p) = 0
+exchanges_of (PayShared p) = share_exchanges_at p.stage
+
+-- just the step was made that came next: none of a call that is refused
+abbrev pub MakesCallStep : BookTerms → CallStage → SeatTerms → SeatTerms → TotalSums → Type 0
+MakesCallStep b (Refuse reply) before after now = after ≡ before
+MakesCallStep b Refused before after now = ⊥
+MakesCallStep b (Read r) before after now = MakesLookLoad b r.looking.stage before after now
+MakesCallStep b (PayAlone p) before after now = MakesPayStep b p.stage before after now
+MakesCallStep b (PayShared p) before after now = MakesShareStep b p.stage before after now
+
+-- the most steps of a call, beside the loads of records that its totals count
+abbrev pub call_steps : BookTerms → Call → ℕ
+call_steps b (Call.Transfer from to amount) = payment_steps b from
+call_steps b (Call.Read account) = snapshot_steps b.processes
+call_steps b (Call.Pay from targets) = payment_steps b from
+
+-- the steps so far are no more than these, and the loads of the records that are among so many and weren't counted at the start
+abbrev pub IsCallWithin : BookTerms → CallingTerms → ℕ → Type 0
+IsCallWithin b t records = steps_made t.stage ≤ call_steps b t.call + RECORD_WORDS * (records - sum t.was.totals.upto)
+
+-- what a read leaves of its pass
+pub record ReadMade (book : BookTerms) (before after : PassTerms) (account : ℕ) (receipt : Receipt) : Type 0 where
+  pub call_is : receipt.call ≡ Call.Read account
+  pub at_front : receipt.at ≡ At.Front (front_behind after.knows receipt.at)
+  pub reply : receipt.reply ≡ Balance (balance_after book (prefix_of (front_behind after.knows receipt.at) after.knows.seen) account)
+  pub snapshot : IsSnapshot book before.knows after.knows (front_behind after.knows receipt.at)
+  pub placed : (earlier : List Receipt) → Stands before earlier → IsPlaced book before.knows.first after.knows.seen earlier receipt
+  pub stands : (earlier : List Receipt) → Stands before earlier → Stands after (earlier ++ receipt ∷ [])
+  pub after_seen : StandsAfter (length before.knows.seen) after.knows receipt
+  pub begins : IsPrefix before.knows.seen after.knows.seen
+  pub history : IsHistory book after.knows.seen
+  pub process_is : after.knows.first ≡ before.knows.first
+  pub asked : (a : ℕ) → asked_by after a ≡ asked_by before a
+  pub sent : sent_by after ≡ sent_by before
+  pub counted : others_counted before ≤ others_counted after
+
+-- what a call leaves of its pass
+abbrev pub CallMade : BookTerms → PassTerms → PassTerms → Call → Receipt → Type 0
+CallMade b before after (Call.Transfer from to amount) r = PaymentMade b before after from ((to, amount) ∷ []) (Call.Transfer from to amount) r
+CallMade b before after (Call.Read account) r = ReadMade b before after account r
+CallMade b before after (Call.Pay from targets) r = PaymentMade b before after from targets (Call.Pay from targets) r
+
+-- so many steps over all turns are few, and none where the call is refused. So many exchanges are those that its process has decided on the
+-- account that the call names first, at most one for each owner, and on other accounts there are none
+pub record StaysWithin (b : BookTerms) (before after : PassTerms) (call : Call) (steps exchanges : ℕ) (r : Receipt) : Type 0 where
+  pub few : steps ≤ call_steps b call + RECORD_WORDS * newly_counted before after
+  pub refused : IsRefused r → steps ≡ 0
+  pub decided : exchanges ≡ decides_made (first_account call) before.knows after.knows
+  pub few_decided : exchanges ≤ slots_of (account_of b (first_account call))
+  pub decides_elsewhere : (a : ℕ) → a ≢ first_account call → decides_on after.knows a ≡ decides_on before.knows a

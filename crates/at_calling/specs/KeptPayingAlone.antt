@@ -1,0 +1,52 @@
+-- What the type of a payment in the making keeps of its fields, which no caller sees.
+use Rattle.std.specs.Prelude.{◌≡◌, ◌<◌, ◌≤◌, Some, length, sum}
+use Rattle.at_ledger.specs.Call.{amount_of}
+use Rattle.at_history.specs.Balances.{balance_after}
+use Rattle.at_history.specs.Fronts.{prefix_of}
+use Rattle.at_history.specs.Rounds.{owns_of}
+use Rattle.at_history.specs.Sound.{AreTargets}
+use Rattle.at_history.specs.declared.publication.Entry.{Entry}
+use Rattle.at_board.specs.Knowledge.Seats.{IsKept}
+use Rattle.at_board.specs.Words.Addresses.{record_width}
+use Rattle.at_log.specs.Receipts.{payout_of}
+use Rattle.at_single.specs.Looks.{HasLooked}
+use Rattle.at_single.specs.Standing.{IsOnlyOwner}
+use Rattle.at_machines.specs.Appending.{AppendingTerms}
+use Rattle.at_machines.specs.Looking.{IsWithin, LookingTerms, turns_left}
+use Rattle.at_calling.specs.PayingAlone.{HasSameAsking, PayingAloneTerms}
+use Rattle.at_calling.specs.declared.pay_stage.PayStage.{PayStage}
+use Rattle.at_calling.specs.declared.pay_stage.PayStage.TheVariants.{Append, Look, Short}
+
+-- the look goes on
+pub record IsLookingFirst (t : PayingAloneTerms) (l : LookingTerms) : Type 0 where
+  pub start_is : l.start ≡ t.start
+  pub mark_is : l.mark ≡ t.mark
+  pub was_is : l.was ≡ t.was
+  pub totals_are : l.totals ≡ t.totals
+  pub left : 0 < turns_left l.stage
+
+-- the record of the payment is stored: the front of the look is its view, and the balance there covers it
+pub record IsAppendingThen (t : PayingAloneTerms) (a : AppendingTerms) : Type 0 where
+  pub mark_is : a.mark ≡ t.mark
+  pub looked_at : HasLooked t.start.book t.start a.start t.was t.totals a.rec.view
+  pub entry : a.rec.entry ≡ Entry.Own t.from t.targets
+  pub enough : amount_of t.targets ≤ balance_after t.start.book (prefix_of a.rec.view a.start.seen) t.from
+  pub few : IsWithin t.start.book.processes t.was (sum a.rec.view) t.looked
+  pub seen : sum a.rec.view ≤ length t.mark.seen
+
+abbrev pub IsPayStageSo : PayingAloneTerms → PayStage → Type 0
+IsPayStageSo t (Look l) = IsLookingFirst t l
+IsPayStageSo t (Append a) = a.stored ≤ record_width t.start.book → IsAppendingThen t a
+IsPayStageSo t Short = Unit {0}
+
+-- an only owner with room pays
+pub record IsPayingAloneSo (t : PayingAloneTerms) : Type 0 where
+  pub kept : IsKept t.start
+  pub book : t.mark.book ≡ t.start.book
+  pub asks : HasSameAsking t.start t.mark
+  pub payout : payout_of t.call ≡ Some (t.from, t.targets)
+  pub owner : IsOnlyOwner t.start.book t.start.first t.from
+  pub account_in : t.from < length t.start.book.accounts
+  pub targets_in : AreTargets t.start.book t.targets
+  pub room : owns_of t.start.first t.start.seen < t.start.book.own_room
+  pub stage_so : IsPayStageSo t t.stage

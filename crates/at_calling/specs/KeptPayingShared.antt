@@ -1,0 +1,83 @@
+-- What the type of a payment in the making keeps of its fields, which no caller sees.
+use Rattle.std.specs.Prelude.{◌≡◌, ◌≢◌, ℕ, ◌+◌, ◌*◌, ◌<◌, ◌≤◌, length, sum}
+use Rattle.at_ledger.specs.Account.{slots_of}
+use Rattle.at_ledger.specs.Book.{BookTerms, HasSlot, account_of}
+use Rattle.at_ledger.specs.declared.call.Call.{Call}
+use Rattle.at_history.specs.Publications.{IsPrefix}
+use Rattle.at_history.specs.Rounds.{rounds}
+use Rattle.at_board.specs.Knowledge.Parts.{own_part}
+use Rattle.at_board.specs.Knowledge.Seats.{IsKept}
+use Rattle.at_board.specs.declared.knowledge.Knowledge.{Knowledge}
+use Rattle.at_board.specs.declared.words.TheConstants.{RECORD_WORDS}
+use Rattle.at_fold.specs.Sums.{TotalSums}
+use Rattle.at_shared.specs.HelpingTerms.{HelpingTerms}
+use Rattle.at_shared.specs.Helpings.{HasAllSettled, decides_made, decides_on, heard_on}
+use Rattle.at_shared.specs.PaymentTurns.{HasTurned}
+use Rattle.at_shared.specs.Settling.{asking_steps, round_steps}
+use Rattle.at_single.specs.Standing.{newly_counted}
+use Rattle.at_snapshot.specs.Scans.{SeesOwnRecords}
+use Rattle.at_snapshot.specs.Snapshots.{snapshot_steps}
+use Rattle.at_calling.specs.PayingShared.{PayingSharedTerms}
+use Rattle.at_calling.specs.Starting.{IsStartOf, StartingTerms, start_turns_left, start_turns_made}
+use Rattle.at_calling.specs.Turning.{TurningTerms, help_turns_left, help_turns_made}
+use Rattle.at_calling.specs.declared.share_stage.ShareStage.{ShareStage}
+use Rattle.at_calling.specs.declared.share_stage.ShareStage.TheVariants.{Ended, Help, Start}
+
+-- the start goes on
+pub record IsStartingFirst (t : PayingSharedTerms) (s : StartingTerms) : Type 0 where
+  pub call_is : s.call ≡ t.call
+  pub account_is : s.account ≡ t.account
+  pub start_is : s.start ≡ t.start
+  pub mark_is : s.mark ≡ t.mark
+  pub was_is : s.was ≡ t.was
+  pub totals_are : s.totals ≡ t.totals
+  pub turns_are : t.turns ≡ start_turns_made s
+  pub left : 0 < start_turns_left t.start.book s
+
+-- a payment has started, and each turn of helping so far has made one exchange and published a round, of which fewer are left than the
+-- account has owners
+pub record HasHelped (b : BookTerms) (before now : Knowledge) (a : ℕ) (call : Call) (h : HelpingTerms) : Type 0 where
+  pub started : Knowledge
+  pub start : IsStartOf b before started a call h
+  pub own : SeesOwnRecords started
+  pub turned : HasTurned b h started (decides_made a before now) now
+  pub few : decides_made a before now + 1 ≤ slots_of (account_of b a)
+  pub heard : heard_on now a + decides_made a before now ≤ rounds a now.seen
+  pub begins : IsPrefix before.seen now.seen
+  pub process : now.first ≡ before.first
+  pub decides : decides_on before a ≤ decides_on now a
+  pub elsewhere : (c : ℕ) → c ≢ a → decides_on now c ≡ decides_on before c
+
+-- the totals have counted all own records since, and so many turns were few
+pub record HasCountedSo (b : BookTerms) (before now : Knowledge) (was counted : TotalSums) (a turns : ℕ) : Type 0 where
+  pub published : (own_part before).published ≤ (own_part now).published
+  pub more : sum was.upto + (own_part now).published ≤ sum counted.upto + (own_part before).published
+  pub inside : sum counted.upto ≤ length now.seen
+  pub few : turns ≤ snapshot_steps b.processes + asking_steps (slots_of (account_of b a))
+      + decides_made a before now * (snapshot_steps b.processes + round_steps b.processes) + RECORD_WORDS * newly_counted before now was counted
+
+-- a turn of helping goes on
+pub record IsHelpingThen (t : PayingSharedTerms) (h : HelpingTerms) (u : TurningTerms) : Type 0 where
+  pub helping_is : u.helping ≡ h
+  pub mark_is : u.mark ≡ t.mark
+  pub totals_are : u.totals ≡ t.totals
+  pub left : 0 < help_turns_left t.start.book.processes u.stage
+  pub helped : HasHelped t.start.book t.start u.start t.account t.call h
+  pub decides : decides_on u.start t.account ≤ decides_on u.mark t.account
+  pub before : ℕ
+  pub counted : HasCountedSo t.start.book t.start u.start t.was u.was t.account before
+  pub turns_are : t.turns ≡ before + help_turns_made u
+
+abbrev pub IsShareStageSo : PayingSharedTerms → ShareStage → Type 0
+IsShareStageSo t (Start s) = IsStartingFirst t s
+IsShareStageSo t (Help h u) = IsHelpingThen t h u
+IsShareStageSo t Ended = Unit {0}
+
+-- an owner has no request that waits but this one
+pub record IsPayingSharedSo (t : PayingSharedTerms) : Type 0 where
+  pub kept : IsKept t.start
+  pub book : t.mark.book ≡ t.start.book
+  pub settled : HasAllSettled t.start.book t.start t.account
+  pub slot : ℕ
+  pub slot_in : HasSlot t.start.book t.start.first t.account slot
+  pub stage_so : IsShareStageSo t t.stage

@@ -1,0 +1,71 @@
+-- What the type of a start in the making keeps of its fields, which no caller sees.
+use Rattle.std.specs.Prelude.{◌≡◌, ℕ, ◌+◌, ◌<◌, ◌≤◌, List, None, Some, length, sum}
+use Rattle.at_ledger.specs.Call.{TargetPair}
+use Rattle.at_history.specs.Fronts.{place}
+use Rattle.at_history.specs.Publications.{IsPrefix}
+use Rattle.at_board.specs.Knowledge.Parts.{asking_on, own_part}
+use Rattle.at_board.specs.Knowledge.Seats.{IsKept}
+use Rattle.at_board.specs.Steps.Announce.{Announces}
+use Rattle.at_board.specs.Steps.StoreRequestWord.{MayStoreRequest}
+use Rattle.at_board.specs.declared.knowledge.Knowledge.{Knowledge}
+use Rattle.at_board.specs.declared.words.TheConstants.{REQUEST_WORDS}
+use Rattle.at_log.specs.Receipts.{payout_of}
+use Rattle.at_rows.specs.Asks.{HasLoadedNothing}
+use Rattle.at_rows.specs.OpenRequests.{request_of}
+use Rattle.at_shared.specs.Helpings.{HasAllSettled, IsPayoutFrom}
+use Rattle.at_single.specs.Looks.{HasLooked}
+use Rattle.at_machines.specs.Asking.{AskingTerms}
+use Rattle.at_machines.specs.CollectingRows.{CollectingRowsTerms}
+use Rattle.at_machines.specs.Looking.{IsWithin, LookingTerms, turns_left}
+use Rattle.at_calling.specs.Starting.{StartingTerms, asking_steps_of}
+use Rattle.at_calling.specs.declared.start_stage.StartStage.{StartStage}
+use Rattle.at_calling.specs.declared.start_stage.StartStage.TheVariants.{Ask, Collect, Look}
+
+-- the look goes on
+pub record IsLookingToAsk (t : StartingTerms) (l : LookingTerms) : Type 0 where
+  pub start_is : l.start ≡ t.start
+  pub mark_is : l.mark ≡ t.mark
+  pub was_is : l.was ≡ t.was
+  pub totals_are : l.totals ≡ t.totals
+  pub left : 0 < turns_left l.stage
+
+-- the look has ended at this moment, and a request for these targets with the place of its front pays as the call does
+pub record HasLookedToAsk (t : StartingTerms) (looked : Knowledge) (account : ℕ) (targets : List TargetPair) (since : ℕ) : Type 0 where
+  pub account_is : account ≡ t.account
+  pub payout : payout_of t.call ≡ Some (t.account, targets)
+  pub front : List ℕ
+  pub looked_at : HasLooked t.start.book t.start looked t.was t.totals front
+  pub since_is : since ≡ place front
+  pub few : IsWithin t.start.book.processes t.was (sum front) t.looked
+  pub more : IsPrefix looked.seen t.mark.seen
+
+-- the request is stored
+pub record IsAskingThen (t : StartingTerms) (a : AskingTerms) : Type 0 where
+  pub mark_is : a.mark ≡ t.mark
+  pub left : a.stored ≤ REQUEST_WORDS
+  pub to_ask : HasLookedToAsk t a.start a.account a.targets a.since
+
+-- the request is announced, and the rows are loaded
+pub record IsCollectingThen (t : StartingTerms) (c : CollectingRowsTerms) : Type 0 where
+  pub mark_is : c.mark ≡ t.mark
+  pub left : REQUEST_WORDS + c.made < asking_steps_of t.start.book t
+  pub looked : Knowledge
+  pub to_ask : HasLookedToAsk t looked c.account c.own.targets c.own.since
+  pub number : c.own.number ≡ length (asking_on (own_part looked) c.account).announced
+  pub announced : Announces t.start.book looked c.start c.account c.own.slot (request_of c.own)
+  pub nothing_loaded : HasLoadedNothing c.start c.account
+
+abbrev pub IsStartStageSo : StartingTerms → StartStage → Type 0
+IsStartStageSo t (Look l) = IsLookingToAsk t l
+IsStartStageSo t (Ask a) = IsAskingThen t a
+IsStartStageSo t (Collect c) = IsCollectingThen t c
+
+-- an owner who waits for no request asks
+pub record IsStartingSo (t : StartingTerms) : Type 0 where
+  pub kept : IsKept t.start
+  pub book : t.mark.book ≡ t.start.book
+  pub payout : IsPayoutFrom t.start.book t.account t.call
+  pub asks : (slot : ℕ) × MayStoreRequest t.start.book t.start t.account slot
+  pub settled : HasAllSettled t.start.book t.start t.account
+  pub free : (own_part t.start).held ≡ None
+  pub stage_so : IsStartStageSo t t.stage

@@ -1,0 +1,12 @@
+pub mod Reading
+pub mod KeptReading
+pub mod PayingAlone
+pub mod KeptPayingAlone
+pub mod Calling
+pub mod KeptCalling
+pub mod Starting
+pub mod KeptStarting
+pub mod Turning
+pub mod KeptTurning
+pub mod PayingShared
+pub mod KeptPayingShared

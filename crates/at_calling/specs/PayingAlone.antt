@@ -1,0 +1,72 @@
+-- Payments from single accounts that are made one step a turn.
+use Rattle.std.specs.Prelude.{◌≡◌, ℕ, ◌+◌, ◌-◌, ◌*◌, ◌<◌, ◌≤◌, List, sum}
+use Rattle.at_ledger.specs.Book.{BookTerms}
+use Rattle.at_ledger.specs.Call.{TargetPair}
+use Rattle.at_ledger.specs.declared.call.Call.{Call}
+use Rattle.at_ledger.specs.declared.call.Reply.{Reply}
+use Rattle.at_ledger.specs.declared.call.Reply.TheVariants.{Balance, Done, Full, NotOwner}
+use Rattle.at_board.specs.Knowledge.Parts.{asking_on, own_part}
+use Rattle.at_board.specs.Knowledge.Seats.{SeatTerms}
+use Rattle.at_board.specs.Steps.Publish.{Publishes}
+use Rattle.at_board.specs.Words.Addresses.{record_width}
+use Rattle.at_board.specs.declared.knowledge.Knowledge.{Knowledge}
+use Rattle.at_board.specs.declared.words.TheConstants.{RECORD_WORDS}
+use Rattle.at_fold.specs.Sums.{TotalSums}
+use Rattle.at_object.specs.Payments.{single_steps}
+use Rattle.at_machines.specs.Appending.{StoresNextWord, publication_of}
+use Rattle.at_machines.specs.Looking.{MakesLookLoad, turns_left}
+use Rattle.at_calling.specs.declared.pay_stage.PayStage.{PayStage}
+use Rattle.at_calling.specs.declared.pay_stage.PayStage.TheVariants.{Append, Look, Short}
+
+-- a payment by its call, its source and its targets, by what the next turn goes on with, by how many turns its look had once it has ended,
+-- and by what its seat knew and its totals had counted at the start and after the last turn
+pub record PayingAloneTerms : Type 0 where
+  pub call : Call
+  pub from : ℕ
+  pub targets : List TargetPair
+  pub stage : PayStage
+  pub looked : ℕ
+  pub start : Knowledge
+  pub mark : Knowledge
+  pub was : TotalSums
+  pub totals : TotalSums
+
+-- the turns that were made
+abbrev pub turns_in : ℕ → PayStage → ℕ
+turns_in looked (Look l) = l.turns
+turns_in looked (Append a) = looked + a.stored
+turns_in looked Short = looked
+
+abbrev pub turns_made : PayingAloneTerms → ℕ
+turns_made t = turns_in t.looked t.stage
+
+-- the turns that are left at most, of a record with so many words
+abbrev pub pay_turns_left : ℕ → PayStage → ℕ
+pay_turns_left width (Look l) = turns_left l.stage + width + 1
+pay_turns_left width (Append a) = width + 1 - a.stored
+pay_turns_left width Short = 0
+
+-- just the step was made that came next: of the look, or of the append
+abbrev pub MakesPayStep : BookTerms → PayStage → SeatTerms → SeatTerms → TotalSums → Type 0
+MakesPayStep b (Look l) before after now = MakesLookLoad b l.stage before after now
+MakesPayStep b (Append a) before after now =
+    (a.stored < record_width b → StoresNextWord a after.knows)
+    × (a.stored ≡ record_width b → Publishes b a.start after.knows (publication_of a))
+MakesPayStep b Short before after now = ⊥
+
+-- the steps of a payment after its look: of a record with so many words, where it is done
+abbrev pub append_steps : ℕ → Reply → ℕ
+append_steps width Done = width + 1
+append_steps width Reply.Short = 0
+append_steps width NotOwner = 0
+append_steps width Full = 0
+append_steps width (Balance amount) = 0
+
+-- so many turns are at most those of a snapshot and of an append, and of the loads of the records that are among so many and weren't
+-- counted before
+abbrev pub IsPayWithin : ℕ → TotalSums → ℕ → ℕ → Type 0
+IsPayWithin n was records turns = turns ≤ single_steps n + RECORD_WORDS * (records - sum was.upto)
+
+-- nothing that the seat's process has on any account has changed: it has asked for nothing, and decided nothing
+abbrev pub HasSameAsking : Knowledge → Knowledge → Type 0
+HasSameAsking before after = (a : ℕ) → asking_on (own_part after) a ≡ asking_on (own_part before) a

@@ -1,0 +1,79 @@
+-- Payments from shared accounts that are made one step a turn.
+use Rattle.std.specs.Prelude.{◌≡◌, ◌≢◌, ℕ, ◌+◌, ◌-◌, ◌*◌, ◌≤◌, sum}
+use Rattle.at_ledger.specs.Account.{slots_of}
+use Rattle.at_ledger.specs.Book.{BookTerms, account_of}
+use Rattle.at_ledger.specs.declared.call.Call.{Call}
+use Rattle.at_history.specs.Fronts.{places_max}
+use Rattle.at_board.specs.Knowledge.Seats.{SeatTerms}
+use Rattle.at_board.specs.declared.knowledge.Knowledge.{Knowledge}
+use Rattle.at_board.specs.declared.words.TheConstants.{RECORD_WORDS}
+use Rattle.at_fold.specs.Sums.{TotalSums}
+use Rattle.at_object.specs.Payments.{shared_steps}
+use Rattle.at_shared.specs.Helpings.{decides_made, decides_on}
+use Rattle.at_shared.specs.Settling.{asking_steps, round_steps}
+use Rattle.at_snapshot.specs.Snapshots.{snapshot_steps}
+use Rattle.at_calling.specs.Starting.{MakesStartStep}
+use Rattle.at_calling.specs.Turning.{MakesTurnStep, exchanges_at}
+use Rattle.at_calling.specs.declared.share_stage.ShareStage.{ShareStage}
+use Rattle.at_calling.specs.declared.share_stage.ShareStage.TheVariants.{Ended, Help, Start}
+use Rattle.at_calling.specs.declared.turn_stage.TurnStage.{TurnStage}
+
+-- a payment by its call and the account that it pays from, by what the next turn goes on with, by how many turns were made, and by what its
+-- seat knew and its totals had counted at the start and after the last turn
+pub record PayingSharedTerms : Type 0 where
+  pub call : Call
+  pub account : ℕ
+  pub stage : ShareStage
+  pub turns : ℕ
+  pub start : Knowledge
+  pub mark : Knowledge
+  pub was : TotalSums
+  pub totals : TotalSums
+
+-- the most steps of a payment after its first snapshot, beside the loads of records: those of asking, and a turn of helping for each owner
+abbrev pub settling_steps : BookTerms → ℕ → ℕ
+settling_steps b a = asking_steps (slots_of (account_of b a)) + slots_of (account_of b a) * (snapshot_steps b.processes + round_steps b.processes)
+
+-- the most turns of a payment from the account, where so many records are loaded
+abbrev pub share_turns_most : BookTerms → ℕ → ℕ → ℕ
+share_turns_most b a records = shared_steps b.processes (slots_of (account_of b a)) + RECORD_WORDS * records
+
+-- so many, unless the request is settled
+abbrev pub unless_settled : ℕ → ShareStage → ℕ
+unless_settled most (Start s) = most
+unless_settled most (Help h u) = most
+unless_settled most Ended = 0
+
+-- the turns that are left at most: each record that the logs have room for is loaded once at most
+abbrev pub share_turns_left : BookTerms → PayingSharedTerms → ℕ
+share_turns_left b t = unless_settled (share_turns_most b t.account places_max + 1 - t.turns) t.stage
+
+-- the turns that were made are few, where so many records are seen, and those that were counted before aren't loaded
+abbrev pub IsShareWithin : BookTerms → PayingSharedTerms → ℕ → Type 0
+IsShareWithin b t records = t.turns ≤ share_turns_most b t.account (records - sum t.was.upto)
+
+-- just the step was made that came next: of the start, or of the turn of helping
+abbrev pub MakesShareStep : BookTerms → ShareStage → SeatTerms → SeatTerms → TotalSums → Type 0
+MakesShareStep b (Start s) before after now = MakesStartStep b s.stage before after now
+MakesShareStep b (Help h u) before after now = (next : TurnStage) × MakesTurnStep b u.stage next before after now
+MakesShareStep b Ended before after now = ⊥
+
+-- one exchange is made in the first step of each round, and in no other
+abbrev pub share_exchanges_at : ShareStage → ℕ
+share_exchanges_at (Start s) = 0
+share_exchanges_at (Help h u) = exchanges_at u.stage
+share_exchanges_at Ended = 0
+
+-- the exchanges that were made: none in the start
+abbrev pub unless_starting : ℕ → ShareStage → ℕ
+unless_starting made (Start s) = 0
+unless_starting made (Help h u) = made
+unless_starting made Ended = made
+
+abbrev pub share_exchanges_made : PayingSharedTerms → ℕ
+share_exchanges_made t = unless_starting (decides_made t.account t.start t.mark) t.stage
+
+-- at most so many exchanges were made on the account as it has owners, and none elsewhere
+pub record DecidesFew (b : BookTerms) (before after : Knowledge) (a : ℕ) : Type 0 where
+  pub few : decides_made a before after ≤ slots_of (account_of b a)
+  pub elsewhere : (c : ℕ) → c ≢ a → decides_on after c ≡ decides_on before c

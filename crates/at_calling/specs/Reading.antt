@@ -1,0 +1,37 @@
+-- Reads that are made one load a turn.
+use Rattle.std.specs.Prelude.{◌≡◌, ℕ, ◌+◌, ◌*◌, ◌≤◌, List, slice_index, sum}
+use Rattle.at_ledger.specs.Book.{BookTerms}
+use Rattle.at_ledger.specs.declared.call.Call.TheVariants.{Read}
+use Rattle.at_ledger.specs.declared.call.Reply.TheVariants.{Balance}
+use Rattle.at_history.specs.Balances.{balance_after}
+use Rattle.at_history.specs.Fronts.{prefix_of}
+use Rattle.at_board.specs.Knowledge.Parts.{own_part}
+use Rattle.at_board.specs.declared.knowledge.Knowledge.{Knowledge}
+use Rattle.at_board.specs.declared.words.TheConstants.{RECORD_WORDS}
+use Rattle.at_fold.specs.Sums.{TotalSums}
+use Rattle.at_log.specs.Placed.{IsPlaced}
+use Rattle.at_log.specs.declared.receipt.Receipt.{Receipt}
+use Rattle.at_single.specs.Standing.{StandsAfterFront, StandsAtFront, front_behind, newly_counted}
+use Rattle.at_snapshot.specs.Snapshots.{IsSnapshot, snapshot_steps}
+use Rattle.at_machines.specs.Looking.{LookingTerms}
+
+-- a read by its account and its look
+pub record ReadingTerms : Type 0 where
+  pub account : ℕ
+  pub looking : LookingTerms
+
+-- what a call on single accounts leaves of totals: they have counted all that its process has published, and what it hasn't published
+-- itself and they hadn't counted before took a load for each word, beside the snapshot and so many steps more
+pub record LeavesTotals (b : BookTerms) (before after : Knowledge) (was now : TotalSums) (more_steps turns : ℕ) : Type 0 where
+  pub more : sum was.upto + (own_part after).published ≤ sum now.upto + (own_part before).published
+  pub own_counted : slice_index now.upto after.first ≡ (own_part after).published
+  pub few : turns ≤ snapshot_steps b.processes + more_steps + RECORD_WORDS * newly_counted before after was now
+
+-- the receipt of a read whose first turn came after what was known before: the balance at the front of a snapshot, at which it stands
+pub record IsReadOf (b : BookTerms) (before after : Knowledge) (account : ℕ) (r : Receipt) : Type 0 where
+  pub call : r.call ≡ Read account
+  pub reply : r.reply ≡ Balance (balance_after b (prefix_of (front_behind after r.at) after.seen) account)
+  pub placed : (earlier : List Receipt) → IsPlaced b before.first after.seen earlier r
+  pub after_front : StandsAfterFront after r
+  pub snapshot : IsSnapshot b before after (front_behind after r.at)
+  pub at_front : StandsAtFront b before after r.at

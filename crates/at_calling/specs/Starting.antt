@@ -1,0 +1,95 @@
+-- Payments from shared accounts that are started one step a turn.
+use Rattle.std.specs.Prelude.{◌≡◌, ℕ, ◌+◌, ◌-◌, ◌*◌, ◌<◌, ◌≤◌, length, sum}
+use Rattle.at_ledger.specs.Account.{slots_of}
+use Rattle.at_ledger.specs.Book.{BookTerms, HasSlot, account_of}
+use Rattle.at_ledger.specs.declared.call.Call.{Call}
+use Rattle.at_history.specs.Publications.{IsPrefix}
+use Rattle.at_board.specs.Knowledge.Parts.{asking_on, own_part}
+use Rattle.at_board.specs.Knowledge.Seats.{SeatTerms}
+use Rattle.at_board.specs.Steps.Announce.{Announces}
+use Rattle.at_board.specs.declared.knowledge.Knowledge.{Knowledge}
+use Rattle.at_board.specs.declared.words.TheConstants.{RECORD_WORDS, REQUEST_WORDS}
+use Rattle.at_fold.specs.Sums.{TotalSums}
+use Rattle.at_shared.specs.HelpingTerms.{HelpingTerms}
+use Rattle.at_shared.specs.Helpings.{HasStarted, IsHelping, decides_on}
+use Rattle.at_shared.specs.Settling.{asking_steps}
+use Rattle.at_snapshot.specs.Snapshots.{snapshot_steps}
+use Rattle.at_machines.specs.Asking.{StoresNextRequestWord, request_in}
+use Rattle.at_machines.specs.CollectingRows.{CollectingRowsTerms, MakesNextLoad, rows_after}
+use Rattle.at_machines.specs.LoadingRow.{NextRowLoad}
+use Rattle.at_machines.specs.LoadingRow.NextRowLoad.{announced_word, request_word, nothing}
+use Rattle.at_machines.specs.Looking.{MakesLookLoad, turns_left}
+use Rattle.at_calling.specs.declared.start_stage.StartStage.{StartStage}
+use Rattle.at_calling.specs.declared.start_stage.StartStage.TheVariants.{Ask, Collect, Look}
+
+-- a start by its call and the account that it pays from, by what the next turn goes on with, by how many turns its look had once it
+-- has ended, and by what its seat knew and its totals had counted at the start and after the last turn
+pub record StartingTerms : Type 0 where
+  pub call : Call
+  pub account : ℕ
+  pub stage : StartStage
+  pub looked : ℕ
+  pub start : Knowledge
+  pub mark : Knowledge
+  pub was : TotalSums
+  pub totals : TotalSums
+
+-- the turns that were made
+abbrev pub start_turns_in : ℕ → StartStage → ℕ
+start_turns_in looked (Look l) = l.turns
+start_turns_in looked (Ask a) = looked + a.stored
+start_turns_in looked (Collect c) = looked + (REQUEST_WORDS + 1) + c.made
+
+abbrev pub start_turns_made : StartingTerms → ℕ
+start_turns_made t = start_turns_in t.looked t.stage
+
+-- so many, unless no load of the rows comes next
+abbrev pub unless_ended : ℕ → NextRowLoad → ℕ
+unless_ended most announced_word = most
+unless_ended most (request_word number word) = most
+unless_ended most nothing = 0
+
+-- the turns that are left at most in a stage, of the steps that asking and the rows take at most
+abbrev pub start_turns_after : ℕ → StartStage → ℕ
+start_turns_after most (Look l) = turns_left l.stage + most + 1
+start_turns_after most (Ask a) = most + 1 - a.stored
+start_turns_after most (Collect c) = unless_ended (most - (REQUEST_WORDS + c.made)) c.next
+
+-- the steps that asking and the rows of its account take at most
+abbrev pub asking_steps_of : BookTerms → StartingTerms → ℕ
+asking_steps_of b t = asking_steps (slots_of (account_of b t.account))
+
+abbrev pub start_turns_left : BookTerms → StartingTerms → ℕ
+start_turns_left b t = start_turns_after (asking_steps_of b t) t.stage
+
+-- the turns that were made are at most those of a snapshot, of asking and of the rows, and of the loads of the records that are among
+-- so many and weren't counted before
+abbrev pub IsStartWithin : BookTerms → StartingTerms → ℕ → Type 0
+IsStartWithin b t records =
+    start_turns_made t ≤ snapshot_steps b.processes + asking_steps_of b t + RECORD_WORDS * (records - sum t.was.upto)
+
+-- just the load of a row was made that came next
+abbrev pub MakesRowsLoad : BookTerms → CollectingRowsTerms → Knowledge → Type 0
+MakesRowsLoad b c v = (slot : ℕ) × (next : NextRowLoad) × MakesNextLoad b c (rows_after c v slot next)
+
+-- just the step was made that came next: of the look, of asking, or of the rows
+abbrev pub MakesStartStep : BookTerms → StartStage → SeatTerms → SeatTerms → TotalSums → Type 0
+MakesStartStep b (Look l) before after now = MakesLookLoad b l.stage before after now
+MakesStartStep b (Ask a) before after now =
+    (a.stored < REQUEST_WORDS → StoresNextRequestWord a after.knows)
+    × (a.stored ≡ REQUEST_WORDS → (slot : ℕ) → HasSlot b a.start.first a.account slot → Announces b a.start after.knows a.account slot (request_in a))
+MakesStartStep b (Collect c) before after now = MakesRowsLoad b c after.knows
+
+-- the request that waits for this call from the account, whose first turn came after what was known before. It has published,
+-- held and decided nothing
+pub record IsStartOf (b : BookTerms) (before after : Knowledge) (a : ℕ) (call : Call) (h : HelpingTerms) : Type 0 where
+  pub call_is : h.call ≡ call
+  pub account_is : h.account ≡ a
+  pub started : HasStarted b before after h
+  pub helping : IsHelping b after h
+  pub number : h.own.number ≡ length (asking_on (own_part before) a).announced
+  pub since : length before.seen ≤ h.own.since
+  pub begins : IsPrefix before.seen after.seen
+  pub process : after.first ≡ before.first
+  pub decides : (c : ℕ) → decides_on after c ≡ decides_on before c
+  pub published : (own_part after).published ≡ (own_part before).published

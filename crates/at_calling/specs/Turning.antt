@@ -1,0 +1,98 @@
+-- Turns of helping that are made one step a turn.
+use Rattle.std.specs.Prelude.{◌≡◌, ◌≢◌, ℕ, ◌+◌, ◌-◌, ◌*◌, ◌≤◌, List, None, sum}
+use Rattle.at_ledger.specs.Account.{slots_of}
+use Rattle.at_ledger.specs.Book.{BookTerms, account_of}
+use Rattle.at_history.specs.Publications.{IsPrefix}
+use Rattle.at_history.specs.Rounds.{rounds}
+use Rattle.at_board.specs.Knowledge.Parts.{own_part}
+use Rattle.at_board.specs.Knowledge.Seats.{SeatTerms}
+use Rattle.at_board.specs.declared.knowledge.Knowledge.{Knowledge}
+use Rattle.at_board.specs.declared.words.TheConstants.{RECORD_WORDS}
+use Rattle.at_fold.specs.Sums.{TotalSums}
+use Rattle.at_log.specs.Placed.{IsPlaced}
+use Rattle.at_log.specs.Receipts.{asks_in}
+use Rattle.at_log.specs.declared.receipt.Receipt.{Receipt}
+use Rattle.at_shared.specs.HelpTurns.{HelpAnswers, OnSettled}
+use Rattle.at_shared.specs.HelpingTerms.{HelpingTerms}
+use Rattle.at_shared.specs.Helpings.{IsHelping, decides_on, heard_on}
+use Rattle.at_shared.specs.Settling.{StandsAfter, StandsInRound, round_steps}
+use Rattle.at_shared.specs.declared.helping.HelpTurn.{HelpTurn}
+use Rattle.at_snapshot.specs.Snapshots.{snapshot_steps}
+use Rattle.at_machines.specs.Deciding.{MakesRoundStep, exchanges_in}
+use Rattle.at_machines.specs.Looking.{MakesLookLoad, turns_left}
+use Rattle.at_calling.specs.declared.turn_stage.TurnStage.{TurnStage}
+use Rattle.at_calling.specs.declared.turn_stage.TurnStage.TheVariants.{Decide, Found, Look}
+
+-- a turn of helping by the request that waits, by what the next turn goes on with, by how many turns its look had once it has ended, and by
+-- what its seat knew and its totals had counted at the start and after the last turn
+pub record TurningTerms : Type 0 where
+  pub helping : HelpingTerms
+  pub stage : TurnStage
+  pub looked : ℕ
+  pub start : Knowledge
+  pub mark : Knowledge
+  pub was : TotalSums
+  pub totals : TotalSums
+
+-- the turns that were made
+abbrev pub help_turns_in : ℕ → TurnStage → ℕ
+help_turns_in looked (Look l) = l.turns
+help_turns_in looked (Decide d) = looked + (round_steps d.start.book.processes - d.left)
+help_turns_in looked Found = looked
+
+abbrev pub help_turns_made : TurningTerms → ℕ
+help_turns_made t = help_turns_in t.looked t.stage
+
+-- the turns that are left at most, of n processes
+abbrev pub help_turns_left : ℕ → TurnStage → ℕ
+help_turns_left n (Look l) = turns_left l.stage + round_steps n
+help_turns_left n (Decide d) = d.left
+help_turns_left n Found = 0
+
+-- just the step was made that came next: of the look, or of the round, which goes on
+abbrev pub MakesTurnStep : BookTerms → TurnStage → TurnStage → SeatTerms → SeatTerms → TotalSums → Type 0
+MakesTurnStep b (Look l) next before after now = MakesLookLoad b l.stage before after now
+MakesTurnStep b (Decide d) (Decide e) before after now = (d.mark ≡ before.knows) × MakesRoundStep b d after.knows e.next
+MakesTurnStep b (Decide d) (Look l) before after now = ⊥
+MakesTurnStep b (Decide d) Found before after now = ⊥
+MakesTurnStep b Found next before after now = ⊥
+
+-- one exchange is made in the round's first step, and in no other
+abbrev pub exchanges_at : TurnStage → ℕ
+exchanges_at (Look l) = 0
+exchanges_at (Decide d) = exchanges_in d.next
+exchanges_at Found = 0
+
+-- so many turns are at most those of a snapshot, of so many rounds, and of the loads of the records that are among so many and weren't
+-- counted before
+abbrev pub IsHelpWithin : ℕ → ℕ → TotalSums → ℕ → ℕ → Type 0
+IsHelpWithin n decided was records turns = turns ≤ snapshot_steps n + round_steps n * decided + RECORD_WORDS * (records - sum was.upto)
+
+-- the answer of a turn of helping whose first step came after what was known before. The receipt of a settled request is right, and stands
+-- at or after the request's `since`
+pub record IsHelpOf (b : BookTerms) (before after : Knowledge) (h : HelpingTerms) (answer : HelpTurn) : Type 0 where
+  pub answers : HelpAnswers b before after h answer
+  pub call : OnSettled answer (λ r. r.call ≡ h.call)
+  pub in_round : OnSettled answer StandsInRound
+  pub placed : OnSettled answer (λ r. (earlier : List Receipt) → asks_in h.account earlier ≡ h.own.number
+      → IsPlaced b after.first after.seen earlier r)
+  pub after_start : OnSettled answer (StandsAfter h.own.since after)
+
+-- another request was decided: the helping waits still, one round more at least is published, and of the rounds that may be decided before
+-- the request one is left at least
+pub record WaitsOn (b : BookTerms) (before after : Knowledge) (h : HelpingTerms) : Type 0 where
+  pub helping : IsHelping b after h
+  pub decides_more : decides_on after h.account ≡ decides_on before h.account + 1
+  pub rounds_more : rounds h.account before.seen + 1 ≤ rounds h.account after.seen
+  pub overtaken : rounds h.account before.seen + 2 ≤ heard_on before h.account + slots_of (account_of b h.account)
+
+-- what a turn of helping on the account leaves of what its seat knows: at most one exchange was made there, and none elsewhere
+pub record LeavesSeat (before after : Knowledge) (a : ℕ) : Type 0 where
+  pub heard : heard_on after a ≡ heard_on before a
+  pub free : (own_part after).held ≡ None
+  pub begins : IsPrefix before.seen after.seen
+  pub process : after.first ≡ before.first
+  pub decides_few : decides_on before a ≤ decides_on after a
+  pub decides_at_most : decides_on after a ≤ decides_on before a + 1
+  pub decides_elsewhere : (c : ℕ) → c ≢ a → decides_on after c ≡ decides_on before c
+  pub published : (own_part before).published ≤ (own_part after).published

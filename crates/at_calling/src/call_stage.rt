@@ -1,0 +1,164 @@
+//! Where a call in the making stands.
+
+ghost use Rattle.std.specs.Prelude.{◌≡◌, ◌<◌, None, Some, length, true};
+ghost use Rattle.at_board.specs.Knowledge.Seats.{IsOf};
+ghost use Rattle.at_ledger.specs.Account.{is_shared, is_single};
+ghost use Rattle.at_ledger.specs.Book.{account_of};
+ghost use Rattle.at_ledger.specs.Call.{AreTargetsOn, IsCallOn};
+ghost use Rattle.at_log.specs.Receipts.{payout_of};
+ghost use Rattle.at_object.specs.Parted.{IsOfOnePass, pass_of};
+ghost use Rattle.at_object.specs.Payments.{refusal_of};
+ghost use Rattle.at_shared.specs.Helpings.{IsPayoutFrom};
+ghost use Rattle.at_calling.specs.Calling.{IsWay, StartsFrom, call_turns_left, exchanges_made, steps_made};
+
+use crate::paying_alone::PayingAlone;
+use crate::paying_shared::PayingShared;
+use crate::reading::Reading;
+use at_board::{Board, BoardSeat};
+use at_ledger::{Call, Reply, Targets};
+use at_object::Rest;
+
+/// What a call's next turn goes on with.
+#[derive(Drop)]
+pub(crate) enum CallStage {
+    /// The refusal, which makes no step.
+    Refuse(Reply),
+    /// Nothing: the call was refused.
+    Refused,
+    /// The read.
+    Read(Reading),
+    /// The payment by the account's one owner.
+    PayAlone(PayingAlone),
+    /// The payment by one of the account's owners.
+    PayShared(PayingShared),
+}
+
+impl CallStage {
+    /// Goes on with this.
+    pub(crate) fn become_next(&mut self, next: CallStage)
+        ensures { self.new ≡ next }
+    {
+        *self = next;
+    }
+
+    /// What a call begins with, by what it is. It makes no step.
+    pub(crate) fn first(board: &Board, seat: &BoardSeat, rest: &Rest, call: &Call) -> CallStage
+        requires board { IsOf seat.now board.now }
+        requires pass { IsOfOnePass seat.now rest.now }
+        requires call { IsCallOn (length board.now.book.accounts) call.now }
+        ensures way { IsWay board.now.book (pass_of seat.now rest.now) call.now result }
+        ensures starts { StartsFrom seat.now.knows rest.now.totals result }
+        ensures turns { steps_made result ≡ 0 }
+        ensures exchanges { exchanges_made result ≡ 0 }
+        ensures left { 0 < call_turns_left board.now.book result }
+    {
+        seat.known();
+        match call {
+            Call::Transfer { from, to, amount } => {
+                let targets = Targets::one(*to, *amount);
+                CallStage::payment(board, seat, rest, call.copy(), *from, targets)
+            }
+            Call::Read { account } => {
+                CallStage::Read(Reading::start(board, seat, &rest.totals, *account))
+            }
+            Call::Pay { from, targets } => {
+                CallStage::payment(board, seat, rest, call.copy(), *from, targets.copy())
+            }
+        }
+    }
+
+    /// What a payment begins with: not-owner comes first, then full, and then it matters how many own the account.
+    fn payment(
+        board: &Board,
+        seat: &BoardSeat,
+        rest: &Rest,
+        call: Call,
+        from: u32,
+        targets: Targets,
+    ) -> CallStage
+        requires board { IsOf seat.now board.now }
+        requires pass { IsOfOnePass seat.now rest.now }
+        requires payout { payout_of call ≡ Some (from, targets) }
+        requires from { from < length board.now.book.accounts }
+        requires targets { AreTargetsOn (length board.now.book.accounts) targets }
+        ensures way { IsWay board.now.book (pass_of seat.now rest.now) call result }
+        ensures starts { StartsFrom seat.now.knows rest.now.totals result }
+        ensures turns { steps_made result ≡ 0 }
+        ensures exchanges { exchanges_made result ≡ 0 }
+        ensures left { 0 < call_turns_left board.now.book result }
+    {
+        seat.known();
+        match refusal(board, seat, rest, from) {
+            Some(reply) => CallStage::Refuse(reply),
+            None if board.book().owner_count(from) == 1 => {
+                CallStage::alone(board, seat, rest, call, from, targets)
+            }
+            None => CallStage::shared(board, seat, rest, call, from),
+        }
+    }
+
+    /// A payment by the account's one owner.
+    fn alone(
+        board: &Board,
+        seat: &BoardSeat,
+        rest: &Rest,
+        call: Call,
+        from: u32,
+        targets: Targets,
+    ) -> CallStage
+        requires board { IsOf seat.now board.now }
+        requires pass { IsOfOnePass seat.now rest.now }
+        requires payout { payout_of call ≡ Some (from, targets) }
+        requires from { from < length board.now.book.accounts }
+        requires targets { AreTargetsOn (length board.now.book.accounts) targets }
+        requires may { refusal_of board.now.book (pass_of seat.now rest.now) from ≡ None }
+        requires single { is_single (account_of board.now.book from) ≡ true }
+        ensures way { IsWay board.now.book (pass_of seat.now rest.now) call result }
+        ensures starts { StartsFrom seat.now.knows rest.now.totals result }
+        ensures turns { steps_made result ≡ 0 }
+        ensures exchanges { exchanges_made result ≡ 0 }
+        ensures left { 0 < call_turns_left board.now.book result }
+    {
+        seat.known();
+        let paying = PayingAlone::start(board, seat, &rest.totals, call, from, targets);
+        CallStage::PayAlone(paying)
+    }
+
+    /// A payment by one of the account's owners.
+    fn shared(board: &Board, seat: &BoardSeat, rest: &Rest, call: Call, from: u32) -> CallStage
+        requires board { IsOf seat.now board.now }
+        requires pass { IsOfOnePass seat.now rest.now }
+        requires payout { IsPayoutFrom board.now.book from call }
+        requires from { from < length board.now.book.accounts }
+        requires may { refusal_of board.now.book (pass_of seat.now rest.now) from ≡ None }
+        requires shared { is_shared (account_of board.now.book from) ≡ true }
+        ensures way { IsWay board.now.book (pass_of seat.now rest.now) call result }
+        ensures starts { StartsFrom seat.now.knows rest.now.totals result }
+        ensures turns { steps_made result ≡ 0 }
+        ensures exchanges { exchanges_made result ≡ 0 }
+        ensures left { 0 < call_turns_left board.now.book result }
+    {
+        seat.known();
+        let paying = PayingShared::start(board, seat, &rest.totals, from, call);
+        CallStage::PayShared(paying)
+    }
+}
+
+/// Why the seat's process can't pay from the account, whatever the balance. It makes no step.
+fn refusal(board: &Board, seat: &BoardSeat, rest: &Rest, source: u32) -> Option<Reply>
+    requires board { IsOf seat.now board.now }
+    requires pass { IsOfOnePass seat.now rest.now }
+    requires source { source < length board.now.book.accounts }
+    ensures { result ≡ refusal_of board.now.book (pass_of seat.now rest.now) source }
+{
+    let book = board.book();
+    if book.slot_of(source, seat.process()).is_none() {
+        return Some(Reply::NotOwner);
+    }
+    let used_up = if book.owner_count(source) == 1 {
+        rest.sent == book.own_room()
+    } else {
+        seat.announced(source) == book.request_room()
+    };
+    if used_up { Some(Reply::Full) } else { None }
+}

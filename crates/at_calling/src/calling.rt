@@ -1,0 +1,199 @@
+//! A call of a pass that was taken apart, a step a turn.
+
+ghost use Rattle.std.specs.Prelude.{◌≡◌, ℕ, ◌+◌, ◌++◌, ◌<◌, ◌↔◌, List, [], ◌∷◌, IfSome, IsSome, length};
+ghost use Rattle.at_board.specs.Knowledge.Seats.{IsOf};
+ghost use Rattle.at_history.specs.Moves.{AreRuns};
+ghost use Rattle.at_ledger.specs.Call.{IsCallOn};
+ghost use Rattle.at_log.specs.Placed.{IsPlaced};
+ghost use Rattle.at_log.specs.declared.receipt.At.{At};
+ghost use Rattle.at_log.specs.declared.receipt.Receipt.{Receipt};
+ghost use Rattle.at_object.specs.Parted.{IsOfOnePass, pass_of};
+ghost use Rattle.at_object.specs.Passes.{Stands, one_more_call};
+ghost use Rattle.at_object.specs.Payments.{sent_after};
+ghost use Rattle.at_calling.specs.Calling.{CallMade, IsCallWithin, IsWay, MakesCallStep, StaysWithin, call_turns_left, exchanges_made, exchanges_of, pass_before, steps_made, steps_of};
+
+use crate::call_stage::CallStage;
+use at_board::{Board, BoardSeat, Steps};
+use at_ledger::{Call, Reply};
+use at_log::{At, Receipt};
+use at_object::Rest;
+use std::marker::Model;
+use std::snapshot::Snapshot;
+use std::sync::ledger::Ledger;
+
+/// A call in the making, of a pass that was taken apart into its seat and the rest: its refusal, a read, or a payment.
+#[derive(Drop)]
+pub struct Calling {
+    call: Call,
+    stage: CallStage,
+    /// The seat at the start, for contracts alone.
+    start: Snapshot<BoardSeat>,
+    /// The rest of the pass at the start.
+    was: Snapshot<Rest>,
+    /// The seat after the last turn.
+    mark: Snapshot<BoardSeat>,
+    /// The rest of the pass after the last turn.
+    rest: Snapshot<Rest>,
+}
+
+impl Model for Calling {
+    ghost use Rattle.at_calling.specs.KeptCalling.{IsCallingSo};
+    ghost use Rattle.at_calling.specs.Calling.{CallingTerms};
+
+    ghost Value = { CallingTerms };
+
+    ghost view = { λ c. record { call = c.call; stage = c.stage; start = c.start.value; was = c.was.value; mark = c.mark.value; rest = c.rest.value } };
+
+    ghost invariant = { λ c. IsCallingSo (record { call = c.call; stage = c.stage; start = c.start.value; was = c.was.value; mark = c.mark.value; rest = c.rest.value }) };
+}
+
+impl Calling {
+    /// Starts a call, in no step. It finds out how the call is made: a payment is refused where the process doesn't own the account,
+    /// or else has used up its room there.
+    pub fn start(board: &Board, seat: &BoardSeat, rest: &Rest, call: Call) -> Calling
+        requires board { IsOf seat.now board.now }
+        requires pass { IsOfOnePass seat.now rest.now }
+        requires call { IsCallOn (length board.now.book.accounts) call }
+        ensures call { result.call ≡ call }
+        ensures start { result.start ≡ seat.now }
+        ensures was { result.was ≡ rest.now }
+        ensures mark { result.mark ≡ seat.now }
+        ensures rest { result.rest ≡ rest.now }
+        ensures way { IsWay board.now.book (pass_of seat.now rest.now) call result.stage }
+        ensures turns { steps_made result.stage ≡ 0 }
+        ensures exchanges { exchanges_made result.stage ≡ 0 }
+        ensures left { 0 < call_turns_left board.now.book result.stage }
+    {
+        seat.known();
+        Calling {
+            stage: CallStage::first(board, seat, rest, &call),
+            call,
+            start: Snapshot::of(seat),
+            was: Snapshot::of(rest),
+            mark: Snapshot::of(seat),
+            rest: Snapshot::of(rest),
+        }
+    }
+
+    /// Makes the next step of the call. The last turn answers its receipt, and leaves the seat and the rest of one pass. A call that
+    /// is refused is answered by its only turn, which makes no step.
+    pub fn turn<L: Ledger, X: Ledger>(
+        &mut self,
+        board: &Board,
+        seat: &mut BoardSeat,
+        rest: &mut Rest,
+        steps: &mut Steps<L>,
+        exchanges: &mut Steps<X>,
+    ) -> Option<Receipt>
+        requires board { IsOf seat.old board.now }
+        requires mark { seat.old ≡ self.old.mark }
+        requires rest { rest.old ≡ self.old.rest }
+        requires left { 0 < call_turns_left board.now.book self.old.stage }
+        ensures call { self.new.call ≡ self.old.call }
+        ensures start { self.new.start ≡ self.old.start }
+        ensures was { self.new.was ≡ self.old.was }
+        ensures mark { self.new.mark ≡ seat.new }
+        ensures rest { self.new.rest ≡ rest.new }
+        ensures turns { steps_made self.new.stage
+            ≡ steps_made self.old.stage + steps_of self.old.stage }
+        ensures step { MakesCallStep board.now.book self.old.stage seat.old seat.new
+            rest.new.totals }
+        ensures left { call_turns_left board.now.book self.new.stage
+            < call_turns_left board.now.book self.old.stage }
+        ensures so_far { IsCallWithin board.now.book self.new (length seat.new.knows.seen) }
+        ensures ends { IsSome result
+            ↔ (call_turns_left board.now.book self.new.stage ≡ 0) }
+        ensures made { IfSome result (CallMade board.now.book (pass_before self.old)
+            (pass_of seat.new rest.new) self.old.call) }
+        ensures placed { IfSome result (λ r. (earlier : List Receipt)
+            → Stands (pass_before self.old) earlier
+            → IsPlaced board.now.book self.old.start.knows.first seat.new.knows.seen earlier r) }
+        ensures stands { IfSome result (λ r. (earlier : List Receipt)
+            → Stands (pass_before self.old) earlier
+            → Stands (pass_of seat.new rest.new) (earlier ++ r ∷ [])) }
+        ensures kept { IfSome result (λ r. IsOfOnePass seat.new rest.new) }
+        ensures calls { IfSome result (λ r. rest.new.calls ≡ one_more_call self.old.was.calls) }
+        ensures runs { AreRuns board.now.book seat.new.knows.seen }
+        ensures within { IfSome result (StaysWithin board.now.book (pass_before self.old)
+            (pass_of seat.new rest.new) self.old.call (steps_made self.new.stage)
+            (exchanges_made self.new.stage)) }
+        ensures board { IsOf seat.new board.now }
+        ensures steps { steps.new ≡ steps.old + steps_of self.old.stage }
+        ensures exchanges { exchanges.new ≡ exchanges.old + exchanges_of self.old.stage }
+        ensures exchanges_made { exchanges_made self.new.stage
+            ≡ exchanges_made self.old.stage + exchanges_of self.old.stage }
+    {
+        seat.known();
+        match &mut self.stage {
+            CallStage::Refuse(reply) => {
+                let reply = *reply;
+                self.stage.become_next(CallStage::Refused);
+                rest.calls = one_more_call(rest.calls);
+                self.rest = Snapshot::of(rest);
+                Some(refused(&self.call, reply))
+            }
+            CallStage::Read(reading) => {
+                let read = reading.turn(board, seat, &mut rest.totals, steps, exchanges);
+                seat.known();
+                self.mark = Snapshot::of(seat);
+                self.rest = Snapshot::of(rest);
+                let receipt = read?;
+                rest.calls = one_more_call(rest.calls);
+                self.rest = Snapshot::of(rest);
+                Some(receipt)
+            }
+            CallStage::PayAlone(paying) => {
+                let paid = paying.turn(board, seat, &mut rest.totals, steps, exchanges);
+                seat.known();
+                self.mark = Snapshot::of(seat);
+                self.rest = Snapshot::of(rest);
+                let receipt = paid?;
+                rest.sent = sent_after(rest.sent, &receipt.reply);
+                rest.calls = one_more_call(rest.calls);
+                self.rest = Snapshot::of(rest);
+                Some(receipt)
+            }
+            CallStage::PayShared(paying) => {
+                let shared = paying.turn(board, seat, &mut rest.totals, steps, exchanges);
+                seat.known();
+                self.mark = Snapshot::of(seat);
+                self.rest = Snapshot::of(rest);
+                let receipt = shared?;
+                rest.calls = one_more_call(rest.calls);
+                self.rest = Snapshot::of(rest);
+                Some(receipt)
+            }
+            // Some turn is left, and after a refusal none is.
+            CallStage::Refused => unreachable!(),
+        }
+    }
+}
+
+/// The receipt of a call that is refused.
+fn refused(call: &Call, reply: Reply) -> Receipt
+    ensures { result ≡ record { call = call.now; reply = reply; at = At.Previous } }
+{
+    Receipt {
+        call: call.copy(),
+        reply,
+        at: At::Previous,
+    }
+}
+
+/// One more call was made. At the largest count it stays.
+fn one_more_call(calls: u64) -> u64
+    ensures { result ≡ one_more_call calls }
+{
+    calls.saturating_add(1)
+}
+
+/// How many payments from single accounts have succeeded after one more.
+fn sent_after(sent: u32, reply: &Reply) -> u32
+    requires { sent < 4096 }
+    ensures { result ≡ sent_after sent reply.now }
+{
+    match reply {
+        Reply::Done => sent + 1,
+        _ => sent,
+    }
+}

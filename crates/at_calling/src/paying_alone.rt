@@ -1,0 +1,180 @@
+//! A payment from a single account, a step a turn.
+
+ghost use Rattle.std.specs.Prelude.{◌≡◌, ◌+◌, ◌<◌, ◌↔◌, IfSome, IsSome, Some, length};
+ghost use Rattle.at_board.specs.Knowledge.Seats.{IsOf};
+ghost use Rattle.at_board.specs.Words.Addresses.{record_width};
+ghost use Rattle.at_fold.specs.HasCounted.{HasCounted, StaysCounted};
+ghost use Rattle.at_history.specs.Rounds.{owns_of};
+ghost use Rattle.at_ledger.specs.Call.{AreTargetsOn};
+ghost use Rattle.at_log.specs.Receipts.{payout_of};
+ghost use Rattle.at_object.specs.Paid.{PaysAlone};
+ghost use Rattle.at_single.specs.Standing.{IsOnlyOwner};
+ghost use Rattle.at_calling.specs.PayingAlone.{HasSameAsking, IsPayWithin, MakesPayStep, append_steps, pay_turns_left, turns_made};
+ghost use Rattle.at_calling.specs.Reading.{LeavesTotals};
+
+use at_machines::{Appending, Looking};
+use crate::pay_stage::PayStage;
+use at_board::{Board, BoardSeat, Entry, Steps};
+use at_fold::Totals;
+use at_ledger::{Call, Reply, Targets};
+use at_log::{At, Receipt, Record};
+use std::marker::Model;
+use std::snapshot::Snapshot;
+use std::sync::ledger::Ledger;
+
+/// A payment in the making: a look, and where the balance at its front covers the payment, the append of its record.
+#[derive(Drop)]
+pub struct PayingAlone {
+    call: Call,
+    from: u32,
+    targets: Targets,
+    stage: PayStage,
+    /// How many turns the look had, once it has ended.
+    looked: u64,
+    /// The seat at the start, for contracts alone.
+    start: Snapshot<BoardSeat>,
+    /// The seat after the last turn.
+    mark: Snapshot<BoardSeat>,
+    /// The totals at the start.
+    was: Snapshot<Totals>,
+    /// The totals after the last turn.
+    totals: Snapshot<Totals>,
+}
+
+impl Model for PayingAlone {
+    ghost use Rattle.at_calling.specs.KeptPayingAlone.{IsPayingAloneSo};
+    ghost use Rattle.at_calling.specs.PayingAlone.{PayingAloneTerms};
+
+    ghost Value = { PayingAloneTerms };
+
+    ghost view = { λ p. record { call = p.call; from = p.from; targets = p.targets; stage = p.stage; looked = p.looked; start = p.start.value.knows; mark = p.mark.value.knows; was = p.was.value; totals = p.totals.value } };
+
+    ghost invariant = { λ p. IsPayingAloneSo (record { call = p.call; from = p.from; targets = p.targets; stage = p.stage; looked = p.looked; start = p.start.value.knows; mark = p.mark.value.knows; was = p.was.value; totals = p.totals.value }) };
+}
+
+impl PayingAlone {
+    /// Starts a payment by the only owner of its source, in no step.
+    pub fn start(
+        board: &Board,
+        seat: &BoardSeat,
+        totals: &Totals,
+        call: Call,
+        from: u32,
+        targets: Targets,
+    ) -> PayingAlone
+        requires board { IsOf seat.now board.now }
+        requires counted { HasCounted totals.now board.now.book seat.now.knows.seen }
+        requires payout { payout_of call ≡ Some (from, targets) }
+        requires from { from < length board.now.book.accounts }
+        requires targets { AreTargetsOn (length board.now.book.accounts) targets }
+        requires owner { IsOnlyOwner board.now.book seat.now.knows.first from }
+        requires room { owns_of seat.now.knows.first seat.now.knows.seen < board.now.book.own_room }
+        ensures call { result.call ≡ call }
+        ensures from { result.from ≡ from }
+        ensures targets { result.targets ≡ targets }
+        ensures start { result.start ≡ seat.now.knows }
+        ensures mark { result.mark ≡ seat.now.knows }
+        ensures was { result.was ≡ totals.now }
+        ensures totals { result.totals ≡ totals.now }
+        ensures turns { turns_made result ≡ 0 }
+        ensures left { 0 < pay_turns_left (record_width board.now.book) result.stage }
+    {
+        seat.known();
+        // There are one to four targets, as their type keeps.
+        let _count = targets.len();
+        PayingAlone {
+            call,
+            from,
+            targets,
+            stage: PayStage::Look(Looking::start(board, seat, totals)),
+            looked: 0,
+            start: Snapshot::of(seat),
+            mark: Snapshot::of(seat),
+            was: Snapshot::of(totals),
+            totals: Snapshot::of(totals),
+        }
+    }
+
+    /// Makes the next step of the payment. Where the balance at the front of the look is below the sum of the amounts, it answers
+    /// with the look's last load, and else with the store that publishes its record.
+    pub fn turn<L: Ledger, X: Ledger>(
+        &mut self,
+        board: &Board,
+        seat: &mut BoardSeat,
+        totals: &mut Totals,
+        steps: &mut Steps<L>,
+        exchanges: &mut Steps<X>,
+    ) -> Option<Receipt>
+        requires board { IsOf seat.old board.now }
+        requires mark { seat.old.knows ≡ self.old.mark }
+        requires totals { totals.old ≡ self.old.totals }
+        requires left { 0 < pay_turns_left (record_width board.now.book) self.old.stage }
+        ensures call { self.new.call ≡ self.old.call }
+        ensures from { self.new.from ≡ self.old.from }
+        ensures targets { self.new.targets ≡ self.old.targets }
+        ensures start { self.new.start ≡ self.old.start }
+        ensures mark { self.new.mark ≡ seat.new.knows }
+        ensures was { self.new.was ≡ self.old.was }
+        ensures totals { self.new.totals ≡ totals.new }
+        ensures turns { turns_made self.new ≡ turns_made self.old + 1 }
+        ensures step { MakesPayStep board.now.book self.old.stage seat.old seat.new totals.new }
+        ensures left { pay_turns_left (record_width board.now.book) self.new.stage < pay_turns_left (record_width board.now.book) self.old.stage }
+        ensures ends { IsSome result ↔ (pay_turns_left (record_width board.now.book) self.new.stage ≡ 0) }
+        ensures so_far { IsPayWithin board.now.book.processes self.old.was (length seat.new.knows.seen) (turns_made self.new) }
+        ensures asks { HasSameAsking self.old.start seat.new.knows }
+        ensures answer { IfSome result (PaysAlone board.now.book self.old.start seat.new.knows self.old.from self.old.targets self.old.call) }
+        ensures counted { IfSome result (λ r. StaysCounted totals.new board.now.book seat.new.knows.seen) }
+        ensures leaves { IfSome result (λ r. LeavesTotals board.now.book self.old.start seat.new.knows self.old.was totals.new (append_steps (record_width board.now.book) r.reply) (turns_made self.new)) }
+        ensures board { IsOf seat.new board.now }
+        ensures steps { steps.new ≡ steps.old + 1 }
+        ensures exchanges { exchanges.new ≡ exchanges.old }
+    {
+        match &mut self.stage {
+            PayStage::Look(looking) => {
+                let looked = looking.turn(board, seat, totals, steps, exchanges);
+                self.looked = looking.turns();
+                self.mark = Snapshot::of(seat);
+                self.totals = Snapshot::of(totals);
+                let view = looked?;
+                seat.known();
+                if u128::from(totals.balance(self.from)) < self.targets.sum() {
+                    self.stage.become_next(PayStage::Short);
+                    return Some(receipt_of(&self.call, Reply::Short, At::Front(view)));
+                }
+                let entry = Entry::Own {
+                    from: self.from,
+                    targets: self.targets.copy(),
+                };
+                // The front stays one, and what it covers stays covered, whatever others publish before this record.
+                let appending = Appending::start(seat, Record { entry, view });
+                self.stage.become_next(PayStage::Append(appending));
+                None
+            }
+            PayStage::Append(appending) => {
+                seat.known();
+                let is_published = appending.turn(board, seat, steps, exchanges);
+                self.mark = Snapshot::of(seat);
+                if !is_published {
+                    return None;
+                }
+                totals.count_own(seat, appending.entry());
+                self.totals = Snapshot::of(totals);
+                let at = At::Own(seat.published() - 1);
+                Some(receipt_of(&self.call, Reply::Done, at))
+            }
+            // Some turn is left, and of a short payment none is.
+            PayStage::Short => unreachable!(),
+        }
+    }
+}
+
+/// The receipt of a call with this reply, where it stands.
+fn receipt_of(call: &Call, reply: Reply, at: At) -> Receipt
+    ensures { result ≡ record { call = call.now; reply = reply; at = at } }
+{
+    Receipt {
+        call: call.copy(),
+        reply,
+        at,
+    }
+}

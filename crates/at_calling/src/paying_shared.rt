@@ -1,0 +1,168 @@
+//! A payment from a shared account, a step a turn.
+
+ghost use Rattle.std.specs.Prelude.{◌≡◌, ℕ, ◌+◌, ◌<◌, ◌↔◌, IfSome, IsSome, None, length};
+ghost use Rattle.at_board.specs.Knowledge.Parts.{own_part};
+ghost use Rattle.at_board.specs.Knowledge.Seats.{IsOf};
+ghost use Rattle.at_board.specs.Steps.StoreRequestWord.{MayStoreRequest};
+ghost use Rattle.at_fold.specs.HasCounted.{HasCounted};
+ghost use Rattle.at_object.specs.Paid.{PaysInRound};
+ghost use Rattle.at_shared.specs.Helpings.{HasAllSettled, IsPayoutFrom};
+ghost use Rattle.at_shared.specs.PaymentTurns.{SettlesInTurns};
+ghost use Rattle.at_calling.specs.PayingShared.{DecidesFew, IsShareWithin, MakesShareStep, settling_steps, share_exchanges_at, share_exchanges_made, share_turns_left};
+ghost use Rattle.at_calling.specs.Reading.{LeavesTotals};
+
+use crate::share_stage::ShareStage;
+use crate::starting::Starting;
+use crate::turning::Turning;
+use at_board::{Board, BoardSeat, Steps};
+use at_fold::Totals;
+use at_ledger::Call;
+use at_log::Receipt;
+use at_shared::HelpTurn;
+use std::marker::Model;
+use std::snapshot::Snapshot;
+use std::sync::ledger::Ledger;
+
+/// A payment in the making: a start, and then turns of helping until the request is settled. They are at most as many as the account
+/// has owners.
+#[derive(Drop)]
+pub struct PayingShared {
+    call: Call,
+    account: u32,
+    stage: ShareStage,
+    /// How many turns were made.
+    turns: u64,
+    /// The seat at the start, for contracts alone.
+    start: Snapshot<BoardSeat>,
+    /// The seat after the last turn.
+    mark: Snapshot<BoardSeat>,
+    /// The totals at the start.
+    was: Snapshot<Totals>,
+    /// The totals after the last turn.
+    totals: Snapshot<Totals>,
+}
+
+impl Model for PayingShared {
+    ghost use Rattle.at_calling.specs.KeptPayingShared.{IsPayingSharedSo};
+    ghost use Rattle.at_calling.specs.PayingShared.{PayingSharedTerms};
+
+    ghost Value = { PayingSharedTerms };
+
+    ghost view = { λ p. record { call = p.call; account = p.account; stage = p.stage; turns = p.turns; start = p.start.value.knows; mark = p.mark.value.knows; was = p.was.value; totals = p.totals.value } };
+
+    ghost invariant = { λ p. IsPayingSharedSo (record { call = p.call; account = p.account; stage = p.stage; turns = p.turns; start = p.start.value.knows; mark = p.mark.value.knows; was = p.was.value; totals = p.totals.value }) };
+}
+
+impl PayingShared {
+    /// Starts a payment from an account that the seat's process shares, in no step. Each request of the process there is settled.
+    pub fn start(
+        board: &Board,
+        seat: &BoardSeat,
+        totals: &Totals,
+        account: u32,
+        call: Call,
+    ) -> PayingShared
+        requires board { IsOf seat.now board.now }
+        requires counted { HasCounted totals.now board.now.book seat.now.knows.seen }
+        requires payout { IsPayoutFrom board.now.book account call }
+        requires asks { (slot : ℕ) × MayStoreRequest board.now.book seat.now.knows account slot }
+        requires settled { HasAllSettled board.now.book seat.now.knows account }
+        requires free { (own_part seat.now.knows).held ≡ None }
+        ensures call { result.call ≡ call }
+        ensures account { result.account ≡ account }
+        ensures start { result.start ≡ seat.now.knows }
+        ensures mark { result.mark ≡ seat.now.knows }
+        ensures was { result.was ≡ totals.now }
+        ensures totals { result.totals ≡ totals.now }
+        ensures turns { result.turns ≡ 0 }
+        ensures left { 0 < share_turns_left board.now.book result }
+        ensures exchanges { share_exchanges_made result ≡ 0 }
+    {
+        seat.known();
+        PayingShared {
+            stage: ShareStage::Start(Starting::start(board, seat, totals, account, call.copy())),
+            call,
+            account,
+            turns: 0,
+            start: Snapshot::of(seat),
+            mark: Snapshot::of(seat),
+            was: Snapshot::of(totals),
+            totals: Snapshot::of(totals),
+        }
+    }
+
+    /// Makes the next step of the payment. Where a turn of helping finds the request settled it answers with the last load of that
+    /// turn's look, and where one decides it, with the store that publishes the round.
+    pub fn turn<L: Ledger, X: Ledger>(
+        &mut self,
+        board: &Board,
+        seat: &mut BoardSeat,
+        totals: &mut Totals,
+        steps: &mut Steps<L>,
+        exchanges: &mut Steps<X>,
+    ) -> Option<Receipt>
+        requires board { IsOf seat.old board.now }
+        requires mark { seat.old.knows ≡ self.old.mark }
+        requires totals { totals.old ≡ self.old.totals }
+        requires left { 0 < share_turns_left board.now.book self.old }
+        ensures call { self.new.call ≡ self.old.call }
+        ensures account { self.new.account ≡ self.old.account }
+        ensures start { self.new.start ≡ self.old.start }
+        ensures mark { self.new.mark ≡ seat.new.knows }
+        ensures was { self.new.was ≡ self.old.was }
+        ensures totals { self.new.totals ≡ totals.new }
+        ensures turns { self.new.turns ≡ self.old.turns + 1 }
+        ensures step { MakesShareStep board.now.book self.old.stage seat.old seat.new totals.new }
+        ensures left { share_turns_left board.now.book self.new
+            < share_turns_left board.now.book self.old }
+        ensures so_far { IsShareWithin board.now.book self.new (length seat.new.knows.seen) }
+        ensures ends { IsSome result ↔ (share_turns_left board.now.book self.new ≡ 0) }
+        ensures answer { IfSome result (PaysInRound board.now.book self.old.start seat.new.knows
+            self.old.account self.old.call) }
+        ensures settles { IfSome result (SettlesInTurns board.now.book self.old.start
+            seat.new.knows self.old.account) }
+        ensures few { IfSome result (λ r. DecidesFew board.now.book self.old.start
+            seat.new.knows self.old.account) }
+        ensures counted { IfSome result (λ r. HasCounted totals.new board.now.book
+            seat.new.knows.seen) }
+        ensures leaves { IfSome result (λ r. LeavesTotals board.now.book self.old.start
+            seat.new.knows self.old.was totals.new
+            (settling_steps board.now.book self.old.account) self.new.turns) }
+        ensures board { IsOf seat.new board.now }
+        ensures steps { steps.new ≡ steps.old + 1 }
+        ensures exchanges { exchanges.new ≡ exchanges.old + share_exchanges_at self.old.stage }
+        // Over all turns the exchanges are those that were decided.
+        ensures decides { share_exchanges_made self.new
+            ≡ share_exchanges_made self.old + share_exchanges_at self.old.stage }
+    {
+        match &mut self.stage {
+            ShareStage::Start(starting) => {
+                let started = starting.turn(board, seat, totals, steps, exchanges);
+                self.turns += 1;
+                self.mark = Snapshot::of(seat);
+                self.totals = Snapshot::of(totals);
+                seat.known();
+                let helping = started?;
+                let turning = Turning::start(board, seat, totals, &helping);
+                self.stage.become_next(ShareStage::Help(helping, turning));
+                None
+            }
+            ShareStage::Help(helping, turning) => {
+                let helped = turning.turn(board, seat, totals, helping, steps, exchanges);
+                self.turns += 1;
+                self.mark = Snapshot::of(seat);
+                self.totals = Snapshot::of(totals);
+                seat.known();
+                if let HelpTurn::Settled(receipt) = helped? {
+                    self.stage.become_next(ShareStage::Ended);
+                    return Some(receipt);
+                }
+                // The round of another request was published, and few are decided before this one: the next turn of helping begins.
+                turning.become_next(Turning::start(board, seat, totals, helping));
+                None
+            }
+            // Some turn is left, and of a settled request none is.
+            ShareStage::Ended => unreachable!(),
+        }
+    }
+}

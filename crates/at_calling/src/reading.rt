@@ -1,0 +1,97 @@
+//! A read, a load a turn.
+
+ghost use Rattle.std.specs.Prelude.{◌≡◌, ◌+◌, ◌<◌, ◌↔◌, IfSome, IsSome, length};
+ghost use Rattle.at_board.specs.Knowledge.Seats.{IsOf};
+ghost use Rattle.at_fold.specs.HasCounted.{HasCounted, StaysCounted};
+ghost use Rattle.at_snapshot.specs.Collected.{HasLoaded};
+ghost use Rattle.at_machines.specs.Looking.{IsWithin, MakesLookLoad, turns_left};
+ghost use Rattle.at_calling.specs.Reading.{IsReadOf, LeavesTotals};
+
+use at_machines::Looking;
+use at_board::{Board, BoardSeat, Steps};
+use at_fold::Totals;
+use at_ledger::{Call, Reply};
+use at_log::{At, Receipt};
+use std::marker::Model;
+use std::sync::ledger::Ledger;
+
+/// A read in the making: a look, and the balance at its front.
+#[derive(Drop)]
+pub struct Reading {
+    account: u32,
+    looking: Looking,
+}
+
+impl Model for Reading {
+    ghost use Rattle.at_calling.specs.KeptReading.{IsReadingSo};
+    ghost use Rattle.at_calling.specs.Reading.{ReadingTerms};
+
+    ghost Value = { ReadingTerms };
+
+    ghost view = { λ r. record { account = r.account; looking = r.looking } };
+
+    ghost invariant = { λ r. IsReadingSo r.account r.looking };
+}
+
+impl Reading {
+    /// Starts a read of an account, in no step.
+    pub fn start(board: &Board, seat: &BoardSeat, totals: &Totals, account: u32) -> Reading
+        requires board { IsOf seat.now board.now }
+        requires counted { HasCounted totals.now board.now.book seat.now.knows.seen }
+        requires account { account < length board.now.book.accounts }
+        ensures account { result.account ≡ account }
+        ensures start { result.looking.start ≡ seat.now.knows }
+        ensures mark { result.looking.mark ≡ seat.now.knows }
+        ensures was { result.looking.was ≡ totals.now }
+        ensures totals { result.looking.totals ≡ totals.now }
+        ensures turns { result.looking.turns ≡ 0 }
+        ensures left { 0 < turns_left result.looking.stage }
+    {
+        Reading {
+            account,
+            looking: Looking::start(board, seat, totals),
+        }
+    }
+
+    /// Makes the next load of the look, in one step. With the last one it answers the receipt.
+    pub fn turn<L: Ledger, X: Ledger>(
+        &mut self,
+        board: &Board,
+        seat: &mut BoardSeat,
+        totals: &mut Totals,
+        steps: &mut Steps<L>,
+        exchanges: &mut Steps<X>,
+    ) -> Option<Receipt>
+        requires board { IsOf seat.old board.now }
+        requires mark { seat.old.knows ≡ self.old.looking.mark }
+        requires totals { totals.old ≡ self.old.looking.totals }
+        requires left { 0 < turns_left self.old.looking.stage }
+        ensures account { self.new.account ≡ self.old.account }
+        ensures start { self.new.looking.start ≡ self.old.looking.start }
+        ensures mark { self.new.looking.mark ≡ seat.new.knows }
+        ensures was { self.new.looking.was ≡ self.old.looking.was }
+        ensures totals { self.new.looking.totals ≡ totals.new }
+        ensures turns { self.new.looking.turns ≡ self.old.looking.turns + 1 }
+        ensures load { MakesLookLoad board.now.book self.old.looking.stage seat.old seat.new totals.new }
+        ensures loads { HasLoaded board.now.book self.old.looking.start seat.new.knows }
+        ensures counted { StaysCounted totals.new board.now.book seat.new.knows.seen }
+        ensures left { turns_left self.new.looking.stage < turns_left self.old.looking.stage }
+        ensures so_far { IsWithin board.now.book.processes self.old.looking.was (length seat.new.knows.seen) self.new.looking.turns }
+        ensures ends { IsSome result ↔ (turns_left self.new.looking.stage ≡ 0) }
+        ensures answer { IfSome result (IsReadOf board.now.book self.old.looking.start seat.new.knows self.old.account) }
+        ensures leaves { IfSome result (λ r. LeavesTotals board.now.book self.old.looking.start seat.new.knows self.old.looking.was totals.new 0 self.new.looking.turns) }
+        ensures board { IsOf seat.new board.now }
+        ensures steps { steps.new ≡ steps.old + 1 }
+        ensures exchanges { exchanges.new ≡ exchanges.old }
+    {
+        let front = self.looking.turn(board, seat, totals, steps, exchanges)?;
+        seat.known();
+        Some(Receipt {
+            call: Call::Read {
+                account: self.account,
+            },
+            reply: Reply::Balance(totals.balance(self.account)),
+            at: At::Front(front),
+        })
+    }
+}

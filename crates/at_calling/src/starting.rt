@@ -1,0 +1,161 @@
+//! The start of a payment from a shared account, a step a turn.
+
+ghost use Rattle.std.specs.Prelude.{◌≡◌, ℕ, ◌+◌, ◌<◌, ◌↔◌, IfSome, IsSome, None, length};
+ghost use Rattle.at_board.specs.Knowledge.Parts.{own_part};
+ghost use Rattle.at_board.specs.Knowledge.Seats.{IsOf};
+ghost use Rattle.at_board.specs.Steps.StoreRequestWord.{MayStoreRequest};
+ghost use Rattle.at_fold.specs.HasCounted.{HasCounted, StaysCounted};
+ghost use Rattle.at_shared.specs.Helpings.{HasAllSettled, IsPayoutFrom};
+ghost use Rattle.at_calling.specs.Reading.{LeavesTotals};
+ghost use Rattle.at_calling.specs.Starting.{IsStartOf, IsStartWithin, MakesStartStep, asking_steps_of, start_turns_left, start_turns_made};
+
+use at_machines::{Asking, CollectingRows, Looking};
+use crate::start_stage::StartStage;
+use at_board::{Board, BoardSeat, Steps};
+use at_fold::Totals;
+use at_ledger::Call;
+use at_shared::{Helping, targets_of};
+use std::marker::Model;
+use std::snapshot::Snapshot;
+use std::sync::ledger::Ledger;
+
+/// A start in the making: a look, the stores of the request with the place of its front as the `since`, and the loads of the rows.
+#[derive(Drop)]
+pub struct Starting {
+    call: Call,
+    account: u32,
+    stage: StartStage,
+    /// How many turns the look had, once it has ended.
+    looked: u64,
+    /// The seat at the start, for contracts alone.
+    start: Snapshot<BoardSeat>,
+    /// The seat after the last turn.
+    mark: Snapshot<BoardSeat>,
+    /// The totals at the start.
+    was: Snapshot<Totals>,
+    /// The totals after the last turn.
+    totals: Snapshot<Totals>,
+}
+
+impl Model for Starting {
+    ghost use Rattle.at_calling.specs.KeptStarting.{IsStartingSo};
+    ghost use Rattle.at_calling.specs.Starting.{StartingTerms};
+
+    ghost Value = { StartingTerms };
+
+    ghost view = { λ s. record { call = s.call; account = s.account; stage = s.stage; looked = s.looked; start = s.start.value.knows; mark = s.mark.value.knows; was = s.was.value; totals = s.totals.value } };
+
+    ghost invariant = { λ s. IsStartingSo (record { call = s.call; account = s.account; stage = s.stage; looked = s.looked; start = s.start.value.knows; mark = s.mark.value.knows; was = s.was.value; totals = s.totals.value }) };
+}
+
+impl Starting {
+    /// Starts a payment from an account that the seat's process shares, in no step. Each request of the process there is settled.
+    pub fn start(
+        board: &Board,
+        seat: &BoardSeat,
+        totals: &Totals,
+        account: u32,
+        call: Call,
+    ) -> Starting
+        requires board { IsOf seat.now board.now }
+        requires counted { HasCounted totals.now board.now.book seat.now.knows.seen }
+        requires payout { IsPayoutFrom board.now.book account call }
+        requires asks { (slot : ℕ) × MayStoreRequest board.now.book seat.now.knows account slot }
+        requires settled { HasAllSettled board.now.book seat.now.knows account }
+        requires free { (own_part seat.now.knows).held ≡ None }
+        ensures call { result.call ≡ call }
+        ensures account { result.account ≡ account }
+        ensures start { result.start ≡ seat.now.knows }
+        ensures mark { result.mark ≡ seat.now.knows }
+        ensures was { result.was ≡ totals.now }
+        ensures totals { result.totals ≡ totals.now }
+        ensures turns { start_turns_made result ≡ 0 }
+        ensures left { 0 < start_turns_left board.now.book result }
+    {
+        seat.known();
+        Starting {
+            call,
+            account,
+            stage: StartStage::Look(Looking::start(board, seat, totals)),
+            looked: 0,
+            start: Snapshot::of(seat),
+            mark: Snapshot::of(seat),
+            was: Snapshot::of(totals),
+            totals: Snapshot::of(totals),
+        }
+    }
+
+    /// Makes the next step of the start. The last load of the rows answers the request that waits.
+    pub fn turn<L: Ledger, X: Ledger>(
+        &mut self,
+        board: &Board,
+        seat: &mut BoardSeat,
+        totals: &mut Totals,
+        steps: &mut Steps<L>,
+        exchanges: &mut Steps<X>,
+    ) -> Option<Helping>
+        requires board { IsOf seat.old board.now }
+        requires mark { seat.old.knows ≡ self.old.mark }
+        requires totals { totals.old ≡ self.old.totals }
+        requires left { 0 < start_turns_left board.now.book self.old }
+        ensures call { self.new.call ≡ self.old.call }
+        ensures account { self.new.account ≡ self.old.account }
+        ensures start { self.new.start ≡ self.old.start }
+        ensures mark { self.new.mark ≡ seat.new.knows }
+        ensures was { self.new.was ≡ self.old.was }
+        ensures totals { self.new.totals ≡ totals.new }
+        ensures turns { start_turns_made self.new ≡ start_turns_made self.old + 1 }
+        ensures step { MakesStartStep board.now.book self.old.stage seat.old seat.new totals.new }
+        ensures counted { StaysCounted totals.new board.now.book seat.new.knows.seen }
+        ensures left { start_turns_left board.now.book self.new
+            < start_turns_left board.now.book self.old }
+        ensures so_far { IsStartWithin board.now.book self.new (length seat.new.knows.seen) }
+        ensures ends { IsSome result ↔ (start_turns_left board.now.book self.new ≡ 0) }
+        ensures answer { IfSome result (IsStartOf board.now.book self.old.start seat.new.knows
+            self.old.account self.old.call) }
+        ensures leaves { IfSome result (λ h. LeavesTotals board.now.book self.old.start
+            seat.new.knows self.old.was totals.new (asking_steps_of board.now.book self.old)
+            (start_turns_made self.new)) }
+        ensures board { IsOf seat.new board.now }
+        ensures steps { steps.new ≡ steps.old + 1 }
+        ensures exchanges { exchanges.new ≡ exchanges.old }
+    {
+        match &mut self.stage {
+            StartStage::Look(looking) => {
+                let looked = looking.turn(board, seat, totals, steps, exchanges);
+                self.looked = looking.turns();
+                self.mark = Snapshot::of(seat);
+                self.totals = Snapshot::of(totals);
+                let front = looked?;
+                let targets = targets_of(&self.call);
+                // There are one to four targets, as their type keeps.
+                let _count = targets.len();
+                // What is settled at the front stays so, whatever others publish before the request is announced.
+                let asking = Asking::start(seat, self.account, targets, front.sum());
+                self.stage.become_next(StartStage::Ask(asking));
+                None
+            }
+            StartStage::Ask(asking) => {
+                let announced = asking.turn(board, seat, steps, exchanges);
+                self.mark = Snapshot::of(seat);
+                let number = announced?;
+                let slot = board.book().slot_of(self.account, seat.process()).unwrap();
+                // Others may ask at once after each load of the rows. Whoever isn't found asked after this request was announced,
+                // and waits less long.
+                let collecting = CollectingRows::start(
+                    seat,
+                    self.account,
+                    asking.opened(slot, number),
+                );
+                self.stage.become_next(StartStage::Collect(collecting));
+                None
+            }
+            StartStage::Collect(collecting) => {
+                let collected = collecting.turn(board, seat, steps, exchanges);
+                self.mark = Snapshot::of(seat);
+                let asked = collected?;
+                Some(Helping::of(self.call.copy(), self.account, collecting.own(), asked))
+            }
+        }
+    }
+}

@@ -1,0 +1,174 @@
+//! One turn of helping, a step a turn.
+
+ghost use Rattle.std.specs.Prelude.{◌≡◌, ◌+◌, ◌*◌, ◌<◌, ◌≤◌, ◌↔◌, IfSome, IsSome, length};
+ghost use Rattle.at_board.specs.Knowledge.Seats.{IsOf};
+ghost use Rattle.at_fold.specs.HasCounted.{HasCounted};
+ghost use Rattle.at_shared.specs.Helpings.{IsHelping, decides_made, decides_on};
+ghost use Rattle.at_shared.specs.Settling.{round_steps};
+ghost use Rattle.at_shared.specs.declared.helping.HelpTurn.{HelpTurn};
+ghost use Rattle.at_calling.specs.Reading.{LeavesTotals};
+ghost use Rattle.at_calling.specs.Turning.{IsHelpOf, IsHelpWithin, LeavesSeat, MakesTurnStep, WaitsOn, exchanges_at, help_turns_left, help_turns_made};
+
+use at_machines::{Deciding, Looking};
+use crate::turn_stage::TurnStage;
+use at_board::{Board, BoardSeat, Steps};
+use at_fold::Totals;
+use at_shared::{HelpTurn, Helping};
+use std::marker::Model;
+use std::snapshot::Snapshot;
+use std::sync::ledger::Ledger;
+
+/// A turn of helping in the making: a look, and where the request is unsettled at its front, one round.
+#[derive(Drop)]
+pub struct Turning {
+    stage: TurnStage,
+    /// How many turns the look had, once it has ended.
+    looked: u64,
+    /// The request that waits.
+    helping: Snapshot<Helping>,
+    /// The seat at the start, for contracts alone.
+    start: Snapshot<BoardSeat>,
+    /// The seat after the last turn.
+    mark: Snapshot<BoardSeat>,
+    /// The totals at the start.
+    was: Snapshot<Totals>,
+    /// The totals after the last turn.
+    totals: Snapshot<Totals>,
+}
+
+impl Model for Turning {
+    ghost use Rattle.at_calling.specs.KeptTurning.{IsTurningSo};
+    ghost use Rattle.at_calling.specs.Turning.{TurningTerms};
+
+    ghost Value = { TurningTerms };
+
+    ghost view = { λ t. record { helping = t.helping.value; stage = t.stage; looked = t.looked; start = t.start.value.knows; mark = t.mark.value.knows; was = t.was.value; totals = t.totals.value } };
+
+    ghost invariant = { λ t. IsTurningSo (record { helping = t.helping.value; stage = t.stage; looked = t.looked; start = t.start.value.knows; mark = t.mark.value.knows; was = t.was.value; totals = t.totals.value }) };
+}
+
+impl Turning {
+    /// Starts a turn of helping, in no step.
+    pub fn start(board: &Board, seat: &BoardSeat, totals: &Totals, helping: &Helping) -> Turning
+        requires board { IsOf seat.now board.now }
+        requires counted { HasCounted totals.now board.now.book seat.now.knows.seen }
+        requires helping { IsHelping board.now.book seat.now.knows helping.now }
+        ensures helping { result.helping ≡ helping.now }
+        ensures start { result.start ≡ seat.now.knows }
+        ensures mark { result.mark ≡ seat.now.knows }
+        ensures was { result.was ≡ totals.now }
+        ensures totals { result.totals ≡ totals.now }
+        ensures turns { help_turns_made result ≡ 0 }
+        ensures left { 0 < help_turns_left board.now.book.processes result.stage }
+    {
+        seat.known();
+        Turning {
+            stage: TurnStage::Look(Looking::start(board, seat, totals)),
+            looked: 0,
+            helping: Snapshot::of(helping),
+            start: Snapshot::of(seat),
+            mark: Snapshot::of(seat),
+            was: Snapshot::of(totals),
+            totals: Snapshot::of(totals),
+        }
+    }
+
+    /// Goes on with this.
+    pub(crate) fn become_next(&mut self, next: Turning)
+        ensures { self.new ≡ next }
+    {
+        *self = next;
+    }
+
+    /// Makes the next step of the turn of helping. Where the request is settled at the front of the look, it answers with the
+    /// look's last load, and else with the store that publishes the round.
+    pub fn turn<L: Ledger, X: Ledger>(
+        &mut self,
+        board: &Board,
+        seat: &mut BoardSeat,
+        totals: &mut Totals,
+        helping: &Helping,
+        steps: &mut Steps<L>,
+        exchanges: &mut Steps<X>,
+    ) -> Option<HelpTurn>
+        requires board { IsOf seat.old board.now }
+        requires mark { seat.old.knows ≡ self.old.mark }
+        requires totals { totals.old ≡ self.old.totals }
+        requires helping { helping.now ≡ self.old.helping }
+        requires left { 0 < help_turns_left board.now.book.processes self.old.stage }
+        ensures helping { self.new.helping ≡ self.old.helping }
+        ensures start { self.new.start ≡ self.old.start }
+        ensures mark { self.new.mark ≡ seat.new.knows }
+        ensures was { self.new.was ≡ self.old.was }
+        ensures totals { self.new.totals ≡ totals.new }
+        ensures turns { help_turns_made self.new ≡ help_turns_made self.old + 1 }
+        ensures step { MakesTurnStep board.now.book self.old.stage self.new.stage seat.old
+            seat.new totals.new }
+        ensures left { help_turns_left board.now.book.processes self.new.stage
+            < help_turns_left board.now.book.processes self.old.stage }
+        ensures ends { IsSome result
+            ↔ (help_turns_left board.now.book.processes self.new.stage ≡ 0) }
+        ensures so_far { IsHelpWithin board.now.book.processes
+            (decides_made self.old.helping.account self.old.start seat.new.knows)
+            self.old.was (length seat.new.knows.seen) (help_turns_made self.new) }
+        ensures decides_few { decides_on self.old.start self.old.helping.account
+            ≤ decides_on seat.new.knows self.old.helping.account }
+        ensures once { decides_made self.old.helping.account self.old.start seat.new.knows ≤ 1 }
+        ensures seen { length self.old.start.seen ≤ length seat.new.knows.seen }
+        ensures answer { IfSome result (IsHelpOf board.now.book self.old.start seat.new.knows
+            self.old.helping) }
+        ensures waits { IfSome result (λ t. t ≡ HelpTurn.More
+            → WaitsOn board.now.book self.old.start seat.new.knows self.old.helping) }
+        ensures seat { IfSome result (λ t. LeavesSeat self.old.start seat.new.knows
+            self.old.helping.account) }
+        ensures counted { IfSome result (λ t. HasCounted totals.new board.now.book
+            seat.new.knows.seen) }
+        ensures leaves { IfSome result (λ t. LeavesTotals board.now.book self.old.start
+            seat.new.knows self.old.was totals.new
+            (round_steps board.now.book.processes
+            * decides_made self.old.helping.account self.old.start seat.new.knows)
+            (help_turns_made self.new)) }
+        ensures board { IsOf seat.new board.now }
+        ensures steps { steps.new ≡ steps.old + 1 }
+        ensures exchanges { exchanges.new ≡ exchanges.old + exchanges_at self.old.stage }
+        // Over all turns the exchanges are those that were decided.
+        ensures decides { decides_made self.old.helping.account self.old.start seat.new.knows
+            ≡ decides_made self.old.helping.account self.old.start self.old.mark
+            + exchanges_at self.old.stage }
+    {
+        seat.known();
+        match &mut self.stage {
+            TurnStage::Look(looking) => {
+                let looked = looking.turn(board, seat, totals, steps, exchanges);
+                self.looked = looking.turns();
+                self.mark = Snapshot::of(seat);
+                self.totals = Snapshot::of(totals);
+                let front = looked?;
+                seat.known();
+                if let Some((round, decision)) = helping.settled(totals) {
+                    self.stage.become_next(TurnStage::Found);
+                    let receipt = helping.receipt(round, &decision);
+                    return Some(HelpTurn::Settled(receipt));
+                }
+                // What is proposed is fixed here. Others may publish and decide before the exchange, and the front stays one.
+                let deciding = Deciding::start(board, seat, totals, helping, front);
+                self.stage.become_next(TurnStage::Decide(deciding));
+                None
+            }
+            TurnStage::Decide(deciding) => {
+                let decided = deciding.turn(board, seat, totals, steps, exchanges);
+                self.mark = Snapshot::of(seat);
+                self.totals = Snapshot::of(totals);
+                let decision = decided?;
+                seat.known();
+                if helping.is_own(&decision) {
+                    let receipt = helping.receipt(deciding.round(), &decision);
+                    return Some(HelpTurn::Settled(receipt));
+                }
+                Some(HelpTurn::More)
+            }
+            // Some step is left, and where the request was found settled none is.
+            TurnStage::Found => unreachable!(),
+        }
+    }
+}

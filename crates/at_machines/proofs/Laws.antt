@@ -1,0 +1,2 @@
+-- The laws that crates above at_machines cite: how many steps a snapshot can have.
+pub mod Snapshots

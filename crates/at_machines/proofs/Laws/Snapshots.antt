@@ -1,0 +1,9 @@
+-- How many steps a snapshot can have.
+use Rattle.std.proofs.Common.{ℕ, ◌≤◌, arith}
+use Rattle.std.proofs.lemmas.Nat.{mul-le}
+use Rattle.at_ledger.specs.Book.{BookTerms, IsBegun}
+use Rattle.at_snapshot.specs.Snapshots.{snapshot_steps}
+
+-- the most that any book allows
+pub snapshot_steps-le : (b : BookTerms) → IsBegun b → snapshot_steps b.processes ≤ 288
+snapshot_steps-le b begun = omega (arith, mul-le b.processes b.processes 16 16 begun.few_processes begun.few_processes, begun.few_processes)

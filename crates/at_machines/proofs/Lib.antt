@@ -1,0 +1,12 @@
+pub mod Laws
+pub mod CollectingLaws
+pub mod LoadingLaws
+pub mod AppendingLaws
+pub mod SnappingLaws
+pub mod CatchingUpLaws
+pub mod LookingLaws
+pub mod LoadingRequestLaws
+pub mod AskingLaws
+pub mod LoadingRowLaws
+pub mod CollectingRowsLaws
+pub mod DecidingLaws

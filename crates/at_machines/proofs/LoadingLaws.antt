@@ -1,0 +1,50 @@
+-- The words of a record that are loaded one after another.
+use Rattle.std.proofs.Common.{◌≡◌, ℕ, ◌+◌, ◌<◌, List, length, get_or, set, sym, subst, ◌∙◌, arith, below_more, zero-add}
+use Rattle.std.proofs.lemmas.Grind.{same_number_lists}
+use Rattle.std.proofs.lemmas.List.{get_or-set_other, get_or-set_same, get_or_append_left, length-set}
+use Rattle.at_history.specs.BoardState.{publication_at}
+use Rattle.at_history.specs.Publications.{publications_of}
+use Rattle.at_history.specs.declared.publication.Publication.{Publication}
+use Rattle.at_board.specs.Knowledge.Records.{IsRecordWord, SeesRecord}
+use Rattle.at_board.specs.Knowledge.Seats.{IsKept}
+use Rattle.at_board.specs.Words.Packed.{entry_words}
+use Rattle.at_board.specs.declared.knowledge.Knowledge.{Knowledge}
+use Rattle.at_board.specs.declared.words.TheConstants.{RECORD_WORDS}
+use Rattle.at_log.proofs.Laws.SeenRecords.{IsViewOf-IsLoaded, get_or-record_words}
+use Rattle.at_log.specs.Loading.{IsViewOf}
+use Rattle.at_machines.specs.Kept.{IsLoadingSo}
+use Rattle.at_machines.specs.Loading.{LoadingTerms, loading_after, starting_loading}
+
+pub IsLoadingSo-start : (v : Knowledge) (p i first : ℕ) (words : List ℕ) → SeesRecord v p i → IsLoadingSo (starting_loading v p i) first words
+IsLoadingSo-start v p i first words seen = record {
+  record_seen = seen;
+  within = omega arith;
+  words_are = λ k below. absurd (omega arith);
+}
+
+pub IsLoadingSo-turn : (l : LoadingTerms) (first : ℕ) (words : List ℕ) (w : ℕ) → l.loaded < length words → IsLoadingSo l first words
+    → IsRecordWord l.knows l.process l.number (first + l.loaded) w → IsLoadingSo (loading_after l) first (set words l.loaded w)
+IsLoadingSo-turn l first words w inside so word = record {
+  record_seen = so.record_seen;
+  within = omega (arith, inside, length-set words l.loaded w);
+  words_are = below_more (λ k. IsRecordWord l.knows l.process l.number (first + k) (get_or (set words l.loaded w) k 0)) l.loaded
+      (λ k below. subst (IsRecordWord l.knows l.process l.number (first + k)) (sym (get_or-set_other words l.loaded k w 0 (omega arith))) (so.words_are k below))
+      (subst (IsRecordWord l.knows l.process l.number (first + l.loaded)) (sym (get_or-set_same words l.loaded w 0 inside)) word);
+}
+
+-- all words of the view are loaded
+pub IsViewOf-IsLoadingSo : (l : LoadingTerms) (view : List ℕ) → IsKept l.knows → length view ≡ l.knows.book.processes
+    → l.loaded ≡ l.knows.book.processes → IsLoadingSo l RECORD_WORDS view → IsViewOf l.knows l.process l.number view
+IsViewOf-IsLoadingSo l view kept sized all so =
+    let x : Publication = publication_at (publications_of l.process l.knows.seen) l.number in
+    IsViewOf-IsLoaded l.knows.book l.knows l.process l.number view l.loaded kept.book.begun kept.history so.record_seen sized all
+    (λ k below. so.words_are k below ∙ get_or-record_words x k)
+
+-- all words of the entry are loaded
+pub entry_words-IsLoadingSo : (l : LoadingTerms) (words : List ℕ) → length words ≡ RECORD_WORDS → l.loaded ≡ RECORD_WORDS → IsLoadingSo l 0 words
+    → words ≡ entry_words (publication_at (publications_of l.process l.knows.seen) l.number).entry
+entry_words-IsLoadingSo l words sized all so =
+    let x : Publication = publication_at (publications_of l.process l.knows.seen) l.number in
+    same_number_lists words (entry_words x.entry) sized (λ k within.
+    subst (λ j. IsRecordWord l.knows l.process l.number j (get_or words k 0)) (zero-add k) (so.words_are k (omega (arith, within, sized, all)))
+    ∙ get_or_append_left (entry_words x.entry) x.view 0 k (omega (arith, within, sized)))

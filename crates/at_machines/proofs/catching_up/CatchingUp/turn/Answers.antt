@@ -1,0 +1,106 @@
+use Rattle.std.proofs.Common.{◌≡◌, ℕ, ◌+◌, List, Some, get_or, set, refl, sym, ap, subst, ◌∙◌, arith}
+use Rattle.at_ledger.specs.Book.{BookTerms}
+use Rattle.at_board.specs.Knowledge.Seats.{SeatTerms}
+use Rattle.at_board.specs.declared.knowledge.Knowledge.{Knowledge}
+use Rattle.at_board.specs.declared.words.TheConstants.{RECORD_WORDS}
+use Rattle.at_fold.proofs.Laws.MorePublished.{StaysCounted-HasCounted}
+use Rattle.at_fold.specs.CatchingUp.{IsCatchingUp}
+use Rattle.at_fold.specs.HasCounted.{HasCounted, StaysCounted}
+use Rattle.at_fold.specs.Sums.{TotalSums}
+use Rattle.at_machines.proofs.CatchingUpLaws.{CountsNext-counted, IsCatchingUp-counted, MayCount-IsCatchingUpSo, more-IsCatchingUpSo, none_left}
+use Rattle.at_machines.specs.CatchingUp.{CatchingUpTerms, CountsNext, loaded_of, loads_left}
+use Rattle.at_machines.specs.KeptCatchingUp.{IsCatchingUpSo}
+use Rattle.at_machines.specs.Loading.{LoadingTerms}
+use Rattle.at_machines.proofs.catching_up.CatchingUp.turn.Given as given
+use Rattle.at_machines.proofs.catching_up.CatchingUp.turn.Goals.{After-turn, After-count}
+use Rattle.at_machines.proofs.catching_up.CatchingUp.turn.Goals as goal
+
+pub unreachable-requires : goal.unreachable-requires
+unreachable-requires g c =
+    omega (
+      arith,
+      c.requires.left,
+      ap loads_left c.self.view_is,
+      none_left c.self.inside.seat.value.knows c.self.inside.counts c.self.inside.totals.value c.self.inside.process c.self.inside.loading c.self.invariant c.in_default.is,
+    )
+
+-- what was kept before the turn
+before : (g : given.Over) (c : After-turn g)
+    → IsCatchingUpSo c.args.seat.now.knows c.self.inside.counts c.args.totals.now c.self.inside.process (Some c.in-Some.loading)
+before g c =
+    let counts : List ℕ = c.self.inside.counts in
+    let p : ℕ = c.self.inside.process in
+    let was : Knowledge = c.self.inside.seat.value.knows in
+    let known : was ≡ c.args.seat.now.knows = ap (λ (s : CatchingUpTerms). s.knows) c.self.view_is ∙ sym c.requires.mark in
+    let totals : c.self.inside.totals.value ≡ c.args.totals.now = ap (λ (s : CatchingUpTerms). s.totals) c.self.view_is ∙ sym c.requires.totals in
+    subst (λ (v : Knowledge). IsCatchingUpSo v counts c.args.totals.now p (Some c.in-Some.loading)) known
+    (subst (λ (t : TotalSums). IsCatchingUpSo was counts t p (Some c.in-Some.loading)) totals
+    (subst (IsCatchingUpSo was counts c.self.inside.totals.value p) c.in-Some.is c.self.invariant))
+
+-- the seat is the board's, and as it was
+stays : (g : given.Over) (c : After-turn g) (t : TotalSums) → HasCounted t c.args.seat.now.knows.book c.args.seat.now.knows.seen
+    → StaysCounted t c.args.board.now.book c.turn.new.seat.knows.seen
+stays g c t counted =
+    StaysCounted-HasCounted t c.args.board.now.book c.turn.new.seat.knows.seen
+    (subst (λ (s : SeatTerms). HasCounted t c.args.board.now.book s.knows.seen) (sym c.turn.ensures.same)
+    (subst (λ (b : BookTerms). HasCounted t b c.args.seat.now.knows.seen) c.requires.board.book counted))
+
+pub returns-in_err-entry-clause-stays : goal.returns-in_err-entry-clause-stays
+returns-in_err-entry-clause-stays g c =
+    let at = (goal.at.returns-in_err-entry-clause-stays g c).After-turn in
+    stays g at c.args.totals.now (before g at).catching.counted
+
+pub overflow_add-upto : goal.overflow_add-upto
+overflow_add-upto g c =
+    let so = before g (goal.at.overflow_add-upto g c).After-turn in
+    omega (
+      arith,
+      c.counted-upto.ensures,
+      more-IsCatchingUpSo c.args.seat.now.knows c.self.inside.counts c.args.totals.now c.self.inside.process c.in-Some.loading so,
+    )
+
+-- one record more is counted
+counted : (g : given.Over) (c : After-count g) → HasCounted c.count.new.self c.args.seat.now.knows.book c.args.seat.now.knows.seen
+counted g c =
+    let v : Knowledge = c.args.seat.now.knows in
+    c.count.ensures.counted v.book v.seen
+    (MayCount-IsCatchingUpSo v c.self.inside.counts c.args.totals.now c.self.inside.process c.in-Some.loading (before g (goal.at.After-count g c).After-turn)
+    c.in_ok-entry.entry c.in_ok-entry.ensures.entry)
+
+upto : (g : given.Over) (c : After-count g)
+    → c.count.new.self.upto ≡ set c.args.totals.now.upto c.self.inside.process (get_or c.args.totals.now.upto c.self.inside.process 0 + 1)
+upto g c = c.count.ensures.upto ∙ ap (λ k. set c.args.totals.now.upto c.self.inside.process (k + 1)) c.counted-upto.ensures
+
+pub at-requires-clause-so_far : goal.at-requires-clause-so_far
+at-requires-clause-so_far g c =
+    let at = (goal.at.at-requires-clause-so_far g c).After-count in
+    let v : Knowledge = c.args.seat.now.knows in
+    let t' : TotalSums = c.count.new.self in
+    let p : ℕ = c.self.inside.process in
+    let here = IsCatchingUp-counted v c.self.inside.counts c.args.totals.now p c.in-Some.loading (before g (goal.at.After-count g at).After-turn) t' (counted g at) (upto g at) in
+    subst (λ (s : SeatTerms). IsCatchingUp s.knows.book s.knows.seen c.copy.result t'.upto t' p) (sym c.turn.ensures.same)
+    (subst (λ xs. IsCatchingUp v.book v.seen xs t'.upto t' p) (sym c.copy.ensures) here)
+
+pub returns-then-not-is_ended-clause-word : goal.returns-then-not-is_ended-clause-word
+returns-then-not-is_ended-clause-word g c =
+    let at = (goal.at.returns-then-not-is_ended-clause-word g c).After-count in
+    let t' : TotalSums = c.count.new.self in
+    let l : LoadingTerms = c.in-Some.loading in
+    let whole : l.loaded + 1 ≡ RECORD_WORDS = ap (λ (k : LoadingTerms). k.loaded) (sym c.in_ok-entry.ensures.after) ∙ c.in_ok-entry.ensures.ends.0 refl in
+    let loaded : l.loaded ≡ c.args.self.now.loaded = ap loaded_of (sym c.in-Some.is) ∙ ap (λ (s : CatchingUpTerms). s.loaded) c.self.view_is in
+    let here = CountsNext-counted c.args.seat.now.knows c.self.inside.counts c.args.totals.now c.self.inside.process l (before g (goal.at.After-count g at).After-turn) t' (counted g at) (upto g at) in (
+      λ few. absurd (omega (arith, few, whole, loaded)),
+      λ _.
+          subst (λ xs. CountsNext xs c.args.self.now.totals t') (ap (λ (s : CatchingUpTerms). s.counts) c.self.view_is)
+          (subst (λ (t : TotalSums). CountsNext c.self.inside.counts t t') c.requires.totals here),
+    )
+
+pub returns-then-not-is_ended-clause-stays : goal.returns-then-not-is_ended-clause-stays
+returns-then-not-is_ended-clause-stays g c =
+    let at = (goal.at.returns-then-not-is_ended-clause-stays g c).After-count in
+    stays g (goal.at.After-count g at).After-turn c.count.new.self (counted g at)
+
+pub returns-clause-stays : goal.returns-clause-stays
+returns-clause-stays g c =
+    let at = (goal.at.returns-clause-stays g c).After-count in
+    stays g (goal.at.After-count g at).After-turn c.count.new.self (counted g at)

@@ -1,0 +1,73 @@
+use Rattle.std.proofs.Common.{◌≡◌, ◌+◌, ℕ, set, ap, subst, sym, ◌∙◌, arith}
+use Rattle.at_ledger.specs.Book.{BookTerms, IsBook}
+use Rattle.at_board.specs.Knowledge.Seats.{SeatTerms}
+use Rattle.at_board.specs.Steps.LoadLength.{LoadsLength}
+use Rattle.at_board.specs.declared.knowledge.Knowledge.{Knowledge}
+use Rattle.at_snapshot.specs.Collected.{IsCollect, collect_of}
+use Rattle.at_machines.proofs.CollectingLaws.{IsCollect-IsCollectingSo, IsCollectingSo-turn}
+use Rattle.at_machines.specs.Kept.{IsCollectingSo}
+use Rattle.at_machines.specs.Collecting.{CollectingTerms, collecting_after}
+use Rattle.at_machines.proofs.collecting.Collecting.turn.Given as given
+use Rattle.at_machines.proofs.collecting.Collecting.turn.Goals.{After-copy, After-load_length-count, After-of}
+use Rattle.at_machines.proofs.collecting.Collecting.turn.Goals as goal
+
+-- the collect after the load
+kept : (g : given.Over) (c : After-load_length-count g)
+    → IsCollectingSo (collecting_after c.args.self.now c.load_length-count.new.seat.knows)
+    (set c.self.inside.counts c.args.self.now.loaded c.load_length-count.result)
+kept g c =
+    let b : BookTerms = c.args.board.now.book in
+    let before : CollectingTerms = c.args.self.now in
+    let w : Knowledge = c.load_length-count.new.seat.knows in
+    let n : ℕ = c.load_length-count.result in
+    let so = subst (λ (t : CollectingTerms). IsCollectingSo t c.self.inside.counts) c.self.view_is c.self.invariant in
+    let loaded : c.self.inside.loaded ≡ before.loaded = ap (λ (t : CollectingTerms). t.loaded) c.self.view_is in
+    let told = subst (λ (v : Knowledge). LoadsLength b v w before.loaded n) c.requires.mark
+    (subst (λ p. LoadsLength b c.args.seat.now.knows w p n) loaded c.load_length-count.ensures.told) in
+    IsCollectingSo-turn b before c.self.inside.counts w n (ap (λ (v : Knowledge). v.book) (sym c.requires.mark) ∙ c.requires.board.book) c.requires.left so told
+
+-- the seat is the board's after the load
+book-IsCollectingSo-turn : (g : given.Over) (c : After-load_length-count g) → c.load_length-count.new.seat.knows.book ≡ c.args.board.now.book
+book-IsCollectingSo-turn g c = ap (λ (v : Knowledge). v.book) c.load_length-count.ensures.told.same ∙ c.requires.board.book
+
+-- it is what the fields say
+closes : (g : given.Over) (c : After-of g)
+    → IsCollectingSo (record { start = c.self.inside.start.value.knows; mark = c.of.result.value.knows; loaded = c.self.inside.loaded + 1 }) c.set.new.self
+closes g c =
+    let before : CollectingTerms = c.args.self.now in
+    let is = c.self.view_is in
+    let set_to : c.set.new.self ≡ set c.self.inside.counts before.loaded c.load_length-count.result =
+    c.set.ensures ∙ ap (λ (t : CollectingTerms). set c.self.inside.counts t.loaded c.load_length-count.result) is in
+    subst (λ (s : SeatTerms). IsCollectingSo (record { start = c.self.inside.start.value.knows; mark = s.knows; loaded = c.self.inside.loaded + 1 }) c.set.new.self)
+    (sym c.of.ensures)
+    (subst (λ xs. IsCollectingSo (record { start = c.self.inside.start.value.knows; mark = c.load_length-count.new.seat.knows; loaded = c.self.inside.loaded + 1 }) xs) (sym set_to)
+    (subst (λ (t : CollectingTerms). IsCollectingSo (collecting_after t c.load_length-count.new.seat.knows) (set c.self.inside.counts before.loaded c.load_length-count.result)) (sym is)
+    (kept g (goal.at.After-of g c).After-load_length-count)))
+
+-- what holds after the last turn
+collected : (g : given.Over) (c : After-copy g)
+    → IsCollect c.args.board.now.book c.args.self.now.start c.load_length-count.new.seat.knows × (c.copy.result ≡ collect_of c.load_length-count.new.seat.knows)
+collected g c =
+    let b : BookTerms = c.args.board.now.book in
+    let before : CollectingTerms = c.args.self.now in
+    let w : Knowledge = c.load_length-count.new.seat.knows in
+    let loaded : c.self.inside.loaded ≡ before.loaded = ap (λ (t : CollectingTerms). t.loaded) c.self.view_is in
+    let checked : IsBook b = subst IsBook c.book.ensures c.known.ensures.checked in
+    let count : c.processes.result ≡ b.processes = c.processes.ensures ∙ ap (λ (t : BookTerms). t.processes) c.book-2.ensures in
+    let all : before.loaded + 1 ≡ b.processes = omega (arith, loaded, count, c.if-self-processes.false, c.requires.left) in
+    let kept_so = kept g (goal.at.After-copy g c).After-load_length-count in
+    let same : w.book ≡ b = book-IsCollectingSo-turn g (goal.at.After-copy g c).After-load_length-count in
+    let told = IsCollect-IsCollectingSo b (collecting_after before w) _ same checked.begun.some_process all kept_so in
+    (told.0, c.copy.ensures ∙ (c.set.ensures ∙ (ap (λ p. set c.self.inside.counts p c.load_length-count.result) loaded ∙ told.1)))
+
+pub invariant_of-self : goal.invariant_of-self
+invariant_of-self g c = closes g (goal.at.invariant_of-self g c).After-of
+
+pub invariant_of-self-2 : goal.invariant_of-self-2
+invariant_of-self-2 g c = closes g (goal.at.invariant_of-self-2 g c).After-of
+
+pub returns-clause-collect : goal.returns-clause-collect
+returns-clause-collect g c = (collected g c).0
+
+pub returns-clause-counts : goal.returns-clause-counts
+returns-clause-counts g c = (collected g c).1

@@ -1,0 +1,174 @@
+use Rattle.std.proofs.Common.{◌≡◌, ◌≢◌, ◌+◌, ◌<◌, List, true, false, refl, ap, subst, sym, ◌∙◌, arith}
+use Rattle.at_ledger.specs.Account.{slots_of}
+use Rattle.at_ledger.specs.Book.{BookTerms, account_of}
+use Rattle.at_board.specs.declared.knowledge.Knowledge.{Knowledge}
+use Rattle.at_rows.specs.Collecting.{IsCollectingRows}
+use Rattle.at_rows.specs.declared.open_request.OpenRequest.{OpenRequest}
+use Rattle.at_machines.proofs.CollectingRowsLaws.{HasCollected, HasCollected-IsCollectingRows, IsCollectingRows-IsCollectingRowsSo, IsCollectingRowsSo-more, IsCollectingRowsSo-row, MakesNextLoad-more, MakesNextLoad-row}
+use Rattle.at_machines.specs.CollectingRows.{CollectingRowsTerms, MakesNextLoad}
+use Rattle.at_machines.specs.KeptRows.{IsCollectingRowsSo}
+use Rattle.at_machines.specs.LoadingRow.{LoadingRowTerms, MakesLoadOf, row_after, starting_row}
+use Rattle.at_machines.specs.LoadingRow.NextRowLoad.{nothing}
+use Rattle.at_machines.specs.contracts.collecting_rows.CollectingRows.{the_view}
+use Rattle.at_machines.proofs.collecting_rows.CollectingRows.turn.Given as given
+use Rattle.at_machines.proofs.collecting_rows.CollectingRows.turn.Goals.{After-add, After-replace, After-slot-next, After-start, After-turn}
+use Rattle.at_machines.proofs.collecting_rows.CollectingRows.turn.Goals as goal
+
+-- what the seat knew is what the last turn left
+known_before : (g : given.Over) (c : After-turn g) → c.args.seat.now.knows ≡ c.self.inside.row.mark
+known_before g c = c.requires.mark ∙ sym (ap (λ (t : CollectingRowsTerms). t.mark) c.self.view_is)
+
+-- some load of the row is left
+left : (g : given.Over) (c : After-turn g) → c.self.inside.row.next ≢ nothing
+left g c ended = c.requires.left (sym (ap (λ (t : CollectingRowsTerms). t.next) c.self.view_is) ∙ ended)
+
+-- the book stays
+book : (g : given.Over) (c : After-turn g) → c.turn.new.seat.knows.book ≡ c.self.inside.row.mark.book
+book g c = c.turn.ensures.board.book ∙ (sym c.requires.board.book ∙ ap (λ (v : Knowledge). v.book) (known_before g c))
+
+start_book : (g : given.Over) (c : After-turn g) → c.self.inside.start.value.knows.book ≡ c.args.board.now.book
+start_book g c = sym c.self.invariant.book ∙ (sym (book g c) ∙ c.turn.ensures.board.book)
+
+-- the load that was made
+load : (g : given.Over) (c : After-turn g)
+    → MakesLoadOf c.args.board.now.book c.self.inside.row.mark c.turn.new.seat.knows c.self.inside.row.account c.self.inside.row.slot c.self.inside.row.own.slot
+    c.self.inside.row.next c.turn.new.self.next
+load g c = c.turn.ensures.load
+
+pub invariant_of-self : goal.invariant_of-self
+invariant_of-self g c =
+    let at = (goal.at.invariant_of-self g c).After-turn in
+    let start : Knowledge = c.self.inside.start.value.knows in
+    let goes : c.turn.new.self.next ≢ nothing = λ ended. let wrong : false ≡ true = c.in_err-found.ensures.ends.1 ended in absurd (cc wrong) in
+    subst (λ (r : LoadingRowTerms). IsCollectingRowsSo start r c.self.inside.asked (c.self.inside.made + 1)) (sym c.turn.ensures.after)
+    (IsCollectingRowsSo-more c.args.board.now.book start c.turn.new.seat.knows c.self.inside.row c.self.inside.asked c.self.inside.made c.turn.new.self.next c.self.invariant
+    (left g at) (book g at) goes (load g at))
+
+pub returns-in_err-found-clause-load : goal.returns-in_err-found-clause-load
+returns-in_err-found-clause-load g c =
+    let at = (goal.at.returns-in_err-found-clause-load g c).After-turn in
+    let b : BookTerms = c.args.board.now.book in
+    let w : Knowledge = c.turn.new.seat.knows in
+    let old : CollectingRowsTerms = the_view c.self.inside in
+    let goes : c.turn.new.self.next ≢ nothing = λ ended. let wrong : false ≡ true = c.in_err-found.ensures.ends.1 ended in absurd (cc wrong) in
+    let after : LoadingRowTerms → CollectingRowsTerms = λ r. the_view (record {
+      asked = c.self.inside.asked;
+      row = r;
+      made = c.self.inside.made + 1;
+      start = c.self.inside.start;
+    }) in
+    let told : MakesNextLoad b old (after (row_after c.self.inside.row w c.turn.new.self.next)) =
+    MakesNextLoad-more b old w c.turn.new.self.next (load g at) goes (c.self.invariant.amid (left g at)).few in
+    subst (λ (t : CollectingRowsTerms). MakesNextLoad b t (after c.turn.new.self)) c.self.view_is
+    (subst (λ (r : LoadingRowTerms). MakesNextLoad b old (after r)) (sym c.turn.ensures.after) told)
+
+-- the rows up to this one are whole
+whole : (g : given.Over) (c : After-add g)
+    → IsCollectingRows c.self.inside.start.value.knows c.turn.new.seat.knows c.self.inside.row.account c.self.inside.row.own c.add.new.self (c.self.inside.row.slot + 1) 0
+    (c.self.inside.made + 1)
+whole g c =
+    let at = (goal.at.After-add g c).After-turn in
+    let start : Knowledge = c.self.inside.start.value.knows in
+    let w : Knowledge = c.turn.new.seat.knows in
+    let row : LoadingRowTerms = c.self.inside.row in
+    subst (λ (l : List OpenRequest). IsCollectingRows start w row.account row.own l (row.slot + 1) 0 (c.self.inside.made + 1)) (sym c.add.ensures)
+    (IsCollectingRows-IsCollectingRowsSo start w row c.self.inside.asked c.self.inside.made c.in_ok-found.found c.self.invariant (left g at)
+    c.in_ok-found.ensures.row c.in_ok-found.ensures.turns)
+
+-- nothing of the row is left
+ended : (g : given.Over) (c : After-add g) → c.turn.new.self.next ≡ nothing
+ended g c = c.in_ok-found.ensures.ends.0 refl
+
+-- so many slots the account has
+slots : (g : given.Over) (c : After-add g) → c.slot_count-slots.result ≡ slots_of (account_of c.args.board.now.book c.self.inside.row.account)
+slots g c =
+    c.slot_count-slots.ensures.count
+    ∙ (ap (λ (t : BookTerms). slots_of (account_of t c.account.result)) c.book.ensures
+    ∙ ap (λ a. slots_of (account_of c.args.board.now.book a)) c.account.ensures)
+
+-- the slot is that of the row
+slot_is : (g : given.Over) (c : After-slot-next g) → c.slot-next.result ≡ c.self.inside.row.slot
+slot_is g c = c.slot-next.ensures ∙ ap (λ (t : LoadingRowTerms). t.slot) c.turn.ensures.after
+
+-- the row that comes next
+start_is : (g : given.Over) (c : After-start g)
+    → c.start.result ≡ starting_row c.turn.new.seat.knows c.self.inside.row.account (c.self.inside.row.slot + 1) c.self.inside.row.own
+start_is g c =
+    let w : Knowledge = c.turn.new.seat.knows in
+    let after = c.turn.ensures.after in
+    let account : c.account-2.result ≡ c.self.inside.row.account = c.account-2.ensures ∙ ap (λ (t : LoadingRowTerms). t.account) after in
+    let own : c.own.result ≡ c.self.inside.row.own = c.own.ensures ∙ ap (λ (t : LoadingRowTerms). t.own) after in
+    c.start.ensures
+    ∙ (ap (λ a. starting_row w a (c.slot-next.result + 1) c.own.result) account
+    ∙ (ap (λ s. starting_row w c.self.inside.row.account (s + 1) c.own.result) (slot_is g (goal.at.After-start g c).After-slot-next)
+    ∙ ap (λ (x : OpenRequest). starting_row w c.self.inside.row.account (c.self.inside.row.slot + 1) x) own))
+
+pub invariant_of-self-2 : goal.invariant_of-self-2
+invariant_of-self-2 g c =
+    let last = (goal.at.invariant_of-self-2 g c).After-start in
+    let next = (goal.at.After-start g last).After-slot-next in
+    let add = (goal.at.After-slot-next g next).After-add in
+    let at = (goal.at.After-add g add).After-turn in
+    let start : Knowledge = c.self.inside.start.value.knows in
+    let w : Knowledge = c.turn.new.seat.knows in
+    let row : LoadingRowTerms = c.self.inside.row in
+    let slot_in : row.slot + 1 < slots_of (account_of start.book row.account) =
+    omega (
+      arith,
+      (c.self.invariant.amid (left g at)).slot_in,
+      slots g add,
+      ap (λ (t : BookTerms). slots_of (account_of t row.account)) (start_book g at),
+      slot_is g next,
+      c.if-next-slots.false,
+    ) in
+    subst (λ (r : LoadingRowTerms). IsCollectingRowsSo start r c.add.new.self (c.self.inside.made + 1)) (sym (start_is g last))
+    (IsCollectingRowsSo-row start w row c.self.inside.asked c.self.inside.made (row.slot + 1) c.add.new.self c.self.invariant (book g at) slot_in (whole g add))
+
+pub returns-clause-load : goal.returns-clause-load
+returns-clause-load g c =
+    let last = (goal.at.returns-clause-load g c).After-start in
+    let next = (goal.at.After-start g last).After-slot-next in
+    let add = (goal.at.After-slot-next g next).After-add in
+    let at = (goal.at.After-add g add).After-turn in
+    let b : BookTerms = c.args.board.now.book in
+    let w : Knowledge = c.turn.new.seat.knows in
+    let row : LoadingRowTerms = c.self.inside.row in
+    let old : CollectingRowsTerms = the_view c.self.inside in
+    let after : LoadingRowTerms → CollectingRowsTerms = λ r. the_view (record {
+      asked = c.add.new.self;
+      row = r;
+      made = c.self.inside.made + 1;
+      start = c.self.inside.start;
+    }) in
+    let other : row.slot + 1 ≢ slots_of (account_of b row.account) = λ is. absurd (omega (arith, is, slots g add, slot_is g next, c.if-next-slots.false)) in
+    let made : MakesLoadOf b row.mark w row.account row.slot row.own.slot row.next nothing =
+    subst (MakesLoadOf b row.mark w row.account row.slot row.own.slot row.next) (ended g add) (load g at) in
+    let told : MakesNextLoad b old (after (starting_row w row.account (row.slot + 1) row.own)) = MakesNextLoad-row b old w (row.slot + 1) made refl other in
+    subst (λ (t : CollectingRowsTerms). MakesNextLoad b t (after c.start.result)) c.self.view_is
+    (subst (λ (r : LoadingRowTerms). MakesNextLoad b old (after r)) (sym (start_is g last)) told)
+
+-- all rows are whole
+all : (g : given.Over) (c : After-replace g)
+    → HasCollected c.args.board.now.book c.args.self.now.start c.turn.new.seat.knows c.args.self.now.account c.args.self.now.own c.replace.result (c.self.inside.made + 1)
+all g c =
+    let next = (goal.at.After-replace g c).After-slot-next in
+    let add = (goal.at.After-slot-next g next).After-add in
+    let at = (goal.at.After-add g add).After-turn in
+    let b : BookTerms = c.args.board.now.book in
+    let start : Knowledge = c.self.inside.start.value.knows in
+    let w : Knowledge = c.turn.new.seat.knows in
+    let row : LoadingRowTerms = c.self.inside.row in
+    let last : row.slot + 1 ≡ slots_of (account_of b row.account) = omega (arith, slots g add, slot_is g next, c.if-next-slots.true) in
+    let told = HasCollected-IsCollectingRows b start w row.account row.own c.add.new.self (row.slot + 1) (c.self.inside.made + 1) (start_book g at) c.self.invariant.seat
+    c.self.invariant.asked last (whole g add) in
+    subst (λ (t : CollectingRowsTerms). HasCollected b t.start w t.account t.own c.replace.result (c.self.inside.made + 1)) c.self.view_is
+    (subst (λ (l : List OpenRequest). HasCollected b start w row.account row.own l (c.self.inside.made + 1)) (sym c.replace.ensures.value) told)
+
+pub returns-then-next-slots-clause-collected : goal.returns-then-next-slots-clause-collected
+returns-then-next-slots-clause-collected g c = (all g c).collected
+
+pub returns-then-next-slots-clause-rows : goal.returns-then-next-slots-clause-rows
+returns-then-next-slots-clause-rows g c = (all g c).rows
+
+pub returns-then-next-slots-clause-candidates : goal.returns-then-next-slots-clause-candidates
+returns-then-next-slots-clause-candidates g c = (all g c).candidates

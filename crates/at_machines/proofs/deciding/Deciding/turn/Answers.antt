@@ -1,0 +1,134 @@
+use Rattle.std.proofs.Common.{◌≡◌, refl, sym, ap, subst, ◌∙◌, arith}
+use Rattle.at_history.specs.declared.publication.Entry.{Entry}
+use Rattle.at_ledger.specs.Book.{BookTerms}
+use Rattle.at_board.specs.Steps.Publish.{Publishes}
+use Rattle.at_board.specs.Words.Addresses.{record_width}
+use Rattle.at_board.specs.declared.knowledge.Knowledge.{Knowledge}
+use Rattle.at_fold.specs.HasCounted.{HasCounted}
+use Rattle.at_fold.specs.Sums.{TotalSums}
+use Rattle.at_log.specs.Appending.{MayAppend}
+use Rattle.at_log.specs.declared.record.Record.{Record}
+use Rattle.at_rounds.specs.Answers.{DecidesAs}
+use Rattle.at_shared.specs.HelpTurns.{DecidesNext}
+use Rattle.at_machines.proofs.DecidingLaws.{DecidesNext-HasLoadedDecided, HasCounted-Publishes, HasLoadedDecided-LoadsRequest, MayAppend-HasLoadedDecided, book-HasLoadedDecided}
+use Rattle.at_machines.specs.Appending.{AppendingTerms, publication_of}
+use Rattle.at_machines.specs.Deciding.{DecidingTerms, MakesRoundStep, MakesStep, nothing, request_word, next_of_round, round_in}
+use Rattle.at_machines.specs.KeptDeciding.{HasLoadedDecided, IsDecidingSo}
+use Rattle.at_machines.specs.LoadingRequest.{LoadingRequestTerms}
+use Rattle.at_machines.specs.contracts.deciding.Deciding.{the_view}
+use Rattle.at_machines.specs.declared.round_stage.RoundStage.{RoundStage}
+use Rattle.at_machines.specs.declared.round_stage.RoundStage.TheVariants.{Loading, Publishing}
+use Rattle.at_machines.proofs.deciding.Deciding.turn.Given as given
+use Rattle.at_machines.proofs.deciding.Deciding.turn.Goals.{After-entry, After-self}
+use Rattle.at_machines.proofs.deciding.Deciding.turn.Goals as goal
+
+-- the round before the turn
+before : (g : given.Over) (c : After-self g) (stage : RoundStage) → c.self.inside.stage ≡ stage
+    → IsDecidingSo c.self.inside.start.value.knows c.self.inside.mark.value.knows c.self.inside.totals.value c.self.inside.helping.value c.self.inside.front c.self.inside.account
+    c.self.inside.round stage
+before g c stage is =
+    subst (IsDecidingSo c.self.inside.start.value.knows c.self.inside.mark.value.knows c.self.inside.totals.value c.self.inside.helping.value c.self.inside.front
+    c.self.inside.account c.self.inside.round) is c.self.invariant
+
+-- what the seat knew is what the last turn left
+known_before : (g : given.Over) (c : After-self g) → c.args.seat.now.knows ≡ c.self.inside.mark.value.knows
+known_before g c = c.requires.mark ∙ sym (ap (λ (t : DecidingTerms). t.mark) c.self.view_is)
+
+-- its seat is the board's
+book : (g : given.Over) (c : After-self g) → c.args.board.now.book ≡ c.self.inside.start.value.knows.book
+book g c = sym c.requires.board.book ∙ (ap (λ (v : Knowledge). v.book) (known_before g c) ∙ c.self.invariant.book)
+
+-- the totals are those of the start
+totals_before : (g : given.Over) (c : After-self g) → c.args.totals.now ≡ c.self.inside.totals.value
+totals_before g c = c.requires.totals ∙ sym (ap (λ (t : DecidingTerms). t.totals) c.self.view_is)
+
+pub start-requires : goal.start-requires
+start-requires g c =
+    let at = (goal.at.start-requires g c).After-self in
+    let i = c.self.inside in
+    let start : Knowledge = i.start.value.knows in
+    let w : Knowledge = c.turn-loaded.new.seat.knows in
+    let d = c.in-Loading.decision in
+    let l : LoadingRequestTerms = c.in-Loading.loading in
+    let x = c.in_ok-targets-in-Loading.field-0 in
+    let so = before g at (Loading d l) c.in-Loading.is in
+    let rec : Record = c.record_of-record.result in
+    let made : rec ≡ record { entry = Entry.Round i.account i.round d x.targets; view = i.front } =
+    ap (λ e. record { entry = e; view = rec.view }) c.record_of-record.ensures.entry
+    ∙ ap (λ v. record { entry = Entry.Round i.account i.round d x.targets; view = v }) c.record_of-record.ensures.view in
+    let told : HasLoadedDecided start w i.helping.value i.front d rec =
+    subst (HasLoadedDecided start w i.helping.value i.front d) (sym made)
+    (HasLoadedDecided-LoadsRequest c.args.board.now.book start i.mark.value.knows i.totals.value i.helping.value i.front i.account i.round d l w x (book g at) so
+    c.in_ok-targets-in-Loading.ensures.request) in
+    subst (λ (t : BookTerms). MayAppend t w rec)
+    (sym (book-HasLoadedDecided start i.mark.value.knows i.totals.value i.helping.value i.front i.account i.round (Loading d l) so w d rec told))
+    (MayAppend-HasLoadedDecided start i.mark.value.knows i.totals.value i.helping.value i.front i.account i.round (Loading d l) so w d rec told)
+
+-- the record is published
+published : (g : given.Over) (c : After-entry g)
+    → Publishes c.self.inside.start.value.knows.book c.in-Publishing.appending.start c.turn-published.new.seat.knows (publication_of c.in-Publishing.appending)
+published g c =
+    let a : AppendingTerms = c.in-Publishing.appending in
+    subst (λ (t : BookTerms). Publishes t a.start c.turn-published.new.seat.knows (publication_of a)) (book g (goal.at.After-entry g c).After-self)
+    (c.if-not-published.ensures.published refl)
+
+pub count_own-requires-clause-counted : goal.count_own-requires-clause-counted
+count_own-requires-clause-counted g c =
+    let entry = (goal.at.count_own-requires-clause-counted g c).After-entry in
+    let at = (goal.at.After-entry g entry).After-self in
+    let i = c.self.inside in
+    let d = c.in-Publishing.decision in
+    let a : AppendingTerms = c.in-Publishing.appending in
+    let w : Knowledge = c.turn-published.new.seat.knows in
+    let so = before g at (Publishing d a) c.in-Publishing.is in
+    subst (λ (t : TotalSums). HasCounted t w.book w.seen) (sym (totals_before g at))
+    (HasCounted-Publishes i.start.value.knows i.mark.value.knows i.totals.value i.helping.value i.front i.account i.round (Publishing d a) so a.start d a.rec so.stage_so.2 w
+    (published g entry))
+
+pub returns-in-Proposing-clause-step : goal.returns-in-Proposing-clause-step
+returns-in-Proposing-clause-step g c =
+    let at = (goal.at.returns-in-Proposing-clause-step g c).After-self in
+    let i = c.self.inside in
+    let b : BookTerms = c.args.board.now.book in
+    let w : Knowledge = c.propose-decision.new.seat.knows in
+    let d = c.propose-decision.result in
+    let p = c.in-Proposing.proposal in
+    let old : DecidingTerms = the_view i in
+    let told : DecidesAs b old.mark w old.helping.account (round_in old) p d =
+    subst (λ (v : Knowledge). DecidesAs b v w old.helping.account (round_in old) p d) (known_before g at)
+    (subst (λ r. DecidesAs b c.args.seat.now.knows w old.helping.account r p d) c.self.invariant.round_is
+    (subst (λ a. DecidesAs b c.args.seat.now.knows w a i.round p d) c.self.invariant.account_is c.propose-decision.ensures.decided)) in
+    let next : request_word d c.start-loading.result.loaded ≡ request_word d 0 = ap (λ (l : LoadingRequestTerms). request_word d l.loaded) c.start-loading.ensures in
+    subst (λ (t : DecidingTerms). MakesRoundStep b t w (request_word d c.start-loading.result.loaded)) c.self.view_is
+    (subst (λ (s : RoundStage). MakesStep b old w (next_of_round s) (request_word d c.start-loading.result.loaded)) (sym c.in-Proposing.is) (d, p, told, next))
+
+pub returns-else-not-published-clause-step : goal.returns-else-not-published-clause-step
+returns-else-not-published-clause-step g c =
+    let at = (goal.at.returns-else-not-published-clause-step g c).After-self in
+    let i = c.self.inside in
+    let b : BookTerms = c.args.board.now.book in
+    let d = c.in-Publishing.decision in
+    let a : AppendingTerms = c.in-Publishing.appending in
+    let w : Knowledge = c.turn-published.new.seat.knows in
+    let old : DecidingTerms = the_view i in
+    let all : a.stored ≡ record_width b = c.if-not-published.ensures.ends.0 refl in
+    let told : Publishes b old.mark w (publication_of a) =
+    subst (λ (v : Knowledge). Publishes b v w (publication_of a)) (before g at (Publishing d a) c.in-Publishing.is).stage_so.0 (c.if-not-published.ensures.publishes refl) in
+    subst (λ (t : DecidingTerms). MakesRoundStep b t w nothing) c.self.view_is
+    (subst (λ (s : RoundStage). MakesStep b old w (next_of_round s) nothing) (sym c.in-Publishing.is)
+    (λ less. absurd (omega (arith, less, all)), λ last. ((publication_of a, told), refl)))
+
+pub returns-else-not-published-clause-decided : goal.returns-else-not-published-clause-decided
+returns-else-not-published-clause-decided g c =
+    let entry = (goal.at.returns-else-not-published-clause-decided g c).After-entry in
+    let at = (goal.at.After-entry g entry).After-self in
+    let i = c.self.inside in
+    let d = c.in-Publishing.decision in
+    let a : AppendingTerms = c.in-Publishing.appending in
+    let w : Knowledge = c.turn-published.new.seat.knows in
+    let so = before g at (Publishing d a) c.in-Publishing.is in
+    let told : DecidesNext i.start.value.knows.book i.start.value.knows w i.helping.value i.front d =
+    DecidesNext-HasLoadedDecided i.start.value.knows i.mark.value.knows i.totals.value i.helping.value i.front i.account i.round (Publishing d a) so a.start d a.rec
+    so.stage_so.2 w (published g entry) in
+    subst (λ (t : DecidingTerms). DecidesNext c.args.board.now.book t.start w t.helping t.front d) c.self.view_is
+    (subst (λ (t : BookTerms). DecidesNext t i.start.value.knows w i.helping.value i.front d) (sym (book g at)) told)

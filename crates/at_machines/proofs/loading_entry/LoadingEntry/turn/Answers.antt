@@ -1,0 +1,40 @@
+use Rattle.std.proofs.Common.{◌≡◌, ◌+◌, length, set, ap, subst, sym, ◌∙◌, arith, zero-add}
+use Rattle.std.proofs.lemmas.List.{length-set}
+use Rattle.at_history.specs.BoardState.{publication_at}
+use Rattle.at_history.specs.Publications.{publications_of}
+use Rattle.at_history.specs.declared.publication.Entry.{Entry}
+use Rattle.at_board.specs.Knowledge.Records.{IsRecordWord, SeesForms}
+use Rattle.at_board.specs.declared.knowledge.Knowledge.{Knowledge}
+use Rattle.at_board.specs.declared.words.TheConstants.{RECORD_WORDS}
+use Rattle.at_machines.proofs.LoadingLaws.{IsLoadingSo-turn, entry_words-IsLoadingSo}
+use Rattle.at_machines.specs.Kept.{IsLoadingSo}
+use Rattle.at_machines.specs.Loading.{LoadingTerms, loading_after}
+use Rattle.at_machines.proofs.loading_entry.LoadingEntry.turn.Given as given
+use Rattle.at_machines.proofs.loading_entry.LoadingEntry.turn.Goals.{After-load_record_word}
+use Rattle.at_machines.proofs.loading_entry.LoadingEntry.turn.Goals as goal
+
+-- the load after the step
+kept : (g : given.Over) (c : After-load_record_word g)
+    → IsLoadingSo (loading_after c.args.self.now) 0 (set c.self.inside.words c.args.self.now.loaded c.load_record_word.result)
+kept g c =
+    let before : LoadingTerms = c.args.self.now in
+    let is = c.self.view_is in
+    let so = subst (λ (t : LoadingTerms). IsLoadingSo t 0 c.self.inside.words) is c.self.invariant.1 in
+    let told : IsRecordWord before.knows before.process before.number before.loaded c.load_record_word.result =
+    subst (λ (v : Knowledge). IsRecordWord v before.process before.number before.loaded c.load_record_word.result) c.requires.mark
+    (subst (λ (t : LoadingTerms). IsRecordWord c.args.seat.now.knows t.process t.number t.loaded c.load_record_word.result) is c.load_record_word.ensures.word) in
+    IsLoadingSo-turn before 0 c.self.inside.words c.load_record_word.result (omega (arith, c.requires.left, c.self.invariant.0)) so
+    (subst (λ j. IsRecordWord before.knows before.process before.number j c.load_record_word.result) (sym (zero-add before.loaded)) told)
+
+pub returns-clause-entry : goal.returns-clause-entry
+returns-clause-entry g c =
+    let before : LoadingTerms = c.args.self.now in
+    let w = c.load_record_word.result in
+    let after = kept g (goal.at.returns-clause-entry g c).After-load_record_word in
+    let loaded : c.self.inside.loaded ≡ before.loaded = ap (λ (t : LoadingTerms). t.loaded) c.self.view_is in
+    let all : before.loaded + 1 ≡ RECORD_WORDS = omega (arith, loaded, c.if-self-lt-RECORD_WORDS.false, c.requires.left) in
+    let sized : length (set c.self.inside.words before.loaded w) ≡ RECORD_WORDS = length-set c.self.inside.words before.loaded w ∙ c.self.invariant.0 in
+    let entry : Entry = (publication_at (publications_of before.process before.knows.seen) before.number).entry in
+    let forms : SeesForms before.knows = subst SeesForms c.requires.mark c.known-2.ensures.records in
+    c.entry_of.ensures entry (forms before.process before.number after.record_seen)
+    (ap (λ j. set c.self.inside.words j w) loaded ∙ entry_words-IsLoadingSo (loading_after before) (set c.self.inside.words before.loaded w) sized all after)

@@ -1,0 +1,38 @@
+-- Totals that catch up with counts, one load a turn.
+use Rattle.std.specs.Prelude.{◌≡◌, ℕ, ◌+◌, ◌-◌, ◌*◌, ◌<◌, List, slice_index, slice_set, sum, Option, Some, None}
+use Rattle.at_board.specs.declared.knowledge.Knowledge.{Knowledge}
+use Rattle.at_board.specs.declared.words.TheConstants.{RECORD_WORDS}
+use Rattle.at_fold.specs.Sums.{TotalSums}
+use Rattle.at_machines.specs.Loading.{LoadingTerms}
+
+-- totals that catch up, by the counts that they are to reach, by what their seat knows, by what they have counted after the last turn,
+-- and by how many words of the next record are loaded
+pub record CatchingUpTerms : Type 0 where
+  pub counts : List ℕ
+  pub knows : Knowledge
+  pub totals : TotalSums
+  pub loaded : ℕ
+
+-- the loads that are left: of each word of the records that the counts count and the totals don't
+abbrev pub loads_left : CatchingUpTerms → ℕ
+loads_left c = RECORD_WORDS * (sum c.counts - sum c.totals.upto) - c.loaded
+
+-- the process is the first one of which the counts count more than the totals
+pub record IsFirstLeft (counts upto : List ℕ) (p : ℕ) : Type 0 where
+  pub left : slice_index upto p < slice_index counts p
+  pub done : (q : ℕ) → q < p → slice_index upto q ≡ slice_index counts q
+
+-- one more record is counted: by process, and then by rising number
+pub record CountsNext (counts : List ℕ) (was now : TotalSums) : Type 0 where
+  pub process : ℕ
+  pub first : IsFirstLeft counts was.upto process
+  pub upto : now.upto ≡ slice_set was.upto process (slice_index was.upto process + 1)
+
+-- the next word of the next record is loaded, and with the last one the record is counted
+abbrev pub LoadsNextWord : CatchingUpTerms → TotalSums → Type 0
+LoadsNextWord c now = (c.loaded + 1 < RECORD_WORDS → now ≡ c.totals) × (c.loaded + 1 ≡ RECORD_WORDS → CountsNext c.counts c.totals now)
+
+-- how many words of a record are loaded, if one is
+abbrev pub loaded_of : Option LoadingTerms → ℕ
+loaded_of None = 0
+loaded_of (Some l) = l.loaded

@@ -1,0 +1,33 @@
+-- What the types of state machines keep of their fields, which no caller sees.
+use Rattle.std.specs.Prelude.{◌≡◌, ℕ, ◌+◌, ◌<◌, ◌≤◌, List, length, slice_index}
+use Rattle.at_board.specs.Knowledge.Records.{IsRecordWord, SeesRecord}
+use Rattle.at_board.specs.Knowledge.Seats.{IsKept}
+use Rattle.at_board.specs.Steps.Publish.{FitsNext}
+use Rattle.at_board.specs.Words.Addresses.{record_width}
+use Rattle.at_board.specs.Words.Packed.{record_words}
+use Rattle.at_log.specs.Appending.{IsStoring, MayAppend}
+use Rattle.at_snapshot.specs.Collected.{IsCollecting}
+use Rattle.at_machines.specs.Appending.{AppendingTerms, publication_of}
+use Rattle.at_machines.specs.Collecting.{CollectingTerms}
+use Rattle.at_machines.specs.Loading.{LoadingTerms}
+
+-- what a collect's type keeps: since the start the lengths of so many processes are loaded, in their order, and these are the numbers
+pub record IsCollectingSo (c : CollectingTerms) (counts : List ℕ) : Type 0 where
+  pub part : 0 < length c.start.parts
+  pub within : c.loaded ≤ c.start.book.processes
+  pub so_far : IsCollecting c.start.book c.start c.mark counts c.loaded
+
+-- what the types of loads keep: the seat has seen the record, and so many of its words are loaded, from this one on
+pub record IsLoadingSo (l : LoadingTerms) (first : ℕ) (words : List ℕ) : Type 0 where
+  pub record_seen : SeesRecord l.knows l.process l.number
+  pub within : l.loaded ≤ length words
+  pub words_are : (k : ℕ) → k < l.loaded → IsRecordWord l.knows l.process l.number (first + k) (slice_index words k)
+
+-- what an append's type keeps: the record may come next after all that was seen at the start, and until it is published so many of its
+-- words are stored since then, and nothing else has changed
+pub record IsAppendingSo (a : AppendingTerms) : Type 0 where
+  pub seat : IsKept a.start
+  pub book : a.mark.book ≡ a.start.book
+  pub fits : FitsNext a.start
+  pub may : MayAppend a.start.book a.start a.rec
+  pub so_far : a.stored ≤ record_width a.start.book → IsStoring a.start a.mark (record_words (publication_of a)) a.stored

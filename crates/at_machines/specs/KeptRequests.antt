@@ -1,0 +1,14 @@
+-- What the type of a load of a request in the making keeps of its fields, which no caller sees.
+use Rattle.std.specs.Prelude.{ℕ, ◌≤◌, List}
+use Rattle.at_board.specs.Knowledge.Seats.{IsKept}
+use Rattle.at_board.specs.Steps.LoadRequestWord.{KnowsOf}
+use Rattle.at_board.specs.declared.words.TheConstants.{REQUEST_WORDS}
+use Rattle.at_rows.specs.Loading.{IsLoaded}
+use Rattle.at_machines.specs.LoadingRequest.{LoadingRequestTerms}
+
+-- at the start the seat knew of the request, and so many of its words are loaded since then, and nothing else has changed
+pub record IsLoadingRequestSo (l : LoadingRequestTerms) (words : List ℕ) : Type 0 where
+  pub seat : IsKept l.start
+  pub known : KnowsOf l.start l.account l.slot l.number
+  pub within : l.loaded ≤ REQUEST_WORDS
+  pub so_far : IsLoaded l.start.book l.start l.mark l.account l.slot l.number words l.loaded

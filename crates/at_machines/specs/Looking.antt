@@ -1,0 +1,38 @@
+-- Looks that are made one load a turn: a snapshot, and then the records that it counts and the totals don't.
+use Rattle.std.specs.Prelude.{ℕ, ◌+◌, ◌-◌, ◌*◌, ◌≤◌, sum}
+use Rattle.at_ledger.specs.Book.{BookTerms}
+use Rattle.at_history.specs.Fronts.{places_max}
+use Rattle.at_board.specs.Knowledge.Seats.{SeatTerms}
+use Rattle.at_board.specs.declared.knowledge.Knowledge.{Knowledge}
+use Rattle.at_board.specs.declared.words.TheConstants.{RECORD_WORDS}
+use Rattle.at_fold.specs.Sums.{TotalSums}
+use Rattle.at_snapshot.specs.Snapshots.{snapshot_steps}
+use Rattle.at_machines.specs.CatchingUp.{LoadsNextWord, loads_left}
+use Rattle.at_machines.specs.Snapping.{MakesLoad}
+use Rattle.at_machines.specs.declared.look_stage.LookStage.{LookStage}
+use Rattle.at_machines.specs.declared.look_stage.LookStage.TheVariants.{CatchUp, Snap}
+
+-- a look by what its seat knew and its totals had counted at the start, by both after the last turn, by what the next turn goes on
+-- with, and by how many turns were made
+pub record LookingTerms : Type 0 where
+  pub start : Knowledge
+  pub mark : Knowledge
+  pub was : TotalSums
+  pub totals : TotalSums
+  pub stage : LookStage
+  pub turns : ℕ
+
+-- the turns that are left at most: of a snapshot and of the loads of all records that the logs have room for, or of the loads that
+-- the snapshot has left
+abbrev pub turns_left : LookStage → ℕ
+turns_left (Snap s) = s.left + RECORD_WORDS * places_max
+turns_left (CatchUp c) = loads_left c
+
+-- just the load was made that came next
+abbrev pub MakesLookLoad : BookTerms → LookStage → SeatTerms → SeatTerms → TotalSums → Type 0
+MakesLookLoad b (Snap s) before after now = MakesLoad b s.next before after
+MakesLookLoad b (CatchUp c) before after now = LoadsNextWord c now
+
+-- so many turns are at most those of a snapshot, and of the loads of the records that are among so many and weren't counted before
+abbrev pub IsWithin : ℕ → TotalSums → ℕ → ℕ → Type 0
+IsWithin n was records turns = turns ≤ snapshot_steps n + RECORD_WORDS * (records - sum was.upto)

@@ -1,0 +1,52 @@
+-- Snapshots that are made one load a turn.
+use Rattle.std.specs.Prelude.{◌≡◌, ℕ, ◌+◌, ◌-◌, ◌*◌, ◌<◌}
+use Rattle.at_ledger.specs.Book.{BookTerms}
+use Rattle.at_board.specs.Knowledge.Seats.{SeatTerms}
+use Rattle.at_board.specs.declared.knowledge.Knowledge.{Knowledge}
+use Rattle.at_machines.specs.Collecting.{LoadsLengthOf}
+use Rattle.at_machines.specs.declared.stage.Stage.{Stage}
+use Rattle.at_machines.specs.declared.stage.Stage.TheVariants.{Borrow, Collect, Ended}
+
+-- what the next turn loads: the length of a process, the word of the view that serves which has this number there, or nothing
+pub data NextLoad : Type 0 where
+  length_of : (process : ℕ) → NextLoad
+  view_word : (number : ℕ) → NextLoad
+  nothing : NextLoad
+
+-- a snapshot by what its seat knew at the start and after the last turn, by what comes next, and by how many turns are left at most
+pub record SnappingTerms : Type 0 where
+  pub start : Knowledge
+  pub mark : Knowledge
+  pub next : NextLoad
+  pub left : ℕ
+
+-- just this load was made. A word of a view leaves the seat as it was
+abbrev pub MakesLoad : BookTerms → NextLoad → SeatTerms → SeatTerms → Type 0
+MakesLoad b (length_of p) before after = LoadsLengthOf b before.knows after.knows p
+MakesLoad b (view_word k) before after = after ≡ before
+MakesLoad b nothing before after = ⊥
+
+-- a collect or a view begins, or nothing is left
+abbrev pub BeginsAnew : NextLoad → Type 0
+BeginsAnew (length_of p) = p ≡ 0
+BeginsAnew (view_word k) = k ≡ 0
+BeginsAnew nothing = Unit {0}
+
+-- what may come after a load, of n processes: the lengths come in the order of the processes, and the words by rising number
+abbrev pub MayFollow : ℕ → NextLoad → NextLoad → Type 0
+MayFollow n (length_of p) next = (p + 1 < n → next ≡ length_of (p + 1)) × (p + 1 ≡ n → BeginsAnew next)
+MayFollow n (view_word k) next = (k + 1 < n → next ≡ view_word (k + 1)) × (k + 1 ≡ n → next ≡ nothing)
+MayFollow n nothing next = ⊥
+
+-- what comes next in a stage
+abbrev pub next_of : Stage → NextLoad
+next_of (Collect c) = length_of c.loaded
+next_of (Borrow l) = view_word l.loaded
+next_of Ended = nothing
+
+-- the loads that are left at most of n processes, after so many whole collects: of this collect, of those that may follow it up to
+-- n + 1 in all, and of a view
+abbrev pub left_of : ℕ → ℕ → Stage → ℕ
+left_of n collected (Collect c) = (n - collected) * n + (n - c.loaded) + n
+left_of n collected (Borrow l) = n - l.loaded
+left_of n collected Ended = 0

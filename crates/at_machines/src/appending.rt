@@ -1,0 +1,97 @@
+//! An append, a store a turn.
+
+ghost use Rattle.std.specs.Prelude.{◌≡◌, ◌+◌, ◌<◌, ◌≤◌, ◌↔◌, IsTrue};
+ghost use Rattle.at_board.specs.Knowledge.Seats.{IsOf};
+ghost use Rattle.at_board.specs.Steps.Publish.{Publishes};
+ghost use Rattle.at_board.specs.Words.Addresses.{record_width};
+ghost use Rattle.at_log.specs.Appending.{MayAppend};
+ghost use Rattle.at_log.specs.LastRecord.{IsLast};
+ghost use Rattle.at_machines.specs.Appending.{StoresNextWord, appending_after, publication_of, starting_appending};
+
+use at_board::{Board, BoardSeat, Entry, RECORD_WORDS, Steps, record_word};
+use at_log::Record;
+use std::marker::Model;
+use std::snapshot::Snapshot;
+use std::sync::ledger::Ledger;
+
+/// An append in the making: a store of each word of the record, by rising number, and then the store that publishes it.
+#[derive(Drop)]
+pub struct Appending {
+    rec: Record,
+    stored: u32,
+    /// The seat at the start, for contracts alone.
+    start: Snapshot<BoardSeat>,
+    /// The seat after the last turn.
+    mark: Snapshot<BoardSeat>,
+}
+
+impl Model for Appending {
+    ghost use Rattle.at_machines.specs.Kept.{IsAppendingSo};
+    ghost use Rattle.at_machines.specs.Appending.{AppendingTerms};
+
+    ghost Value = { AppendingTerms };
+
+    ghost view = { λ a. record { start = a.start.value.knows; mark = a.mark.value.knows; rec = a.rec; stored = a.stored } };
+
+    ghost invariant = { λ a. IsAppendingSo (record { start = a.start.value.knows; mark = a.mark.value.knows; rec = a.rec; stored = a.stored }) };
+}
+
+impl Appending {
+    /// Starts an append of a record, in no step.
+    pub fn start(seat: &BoardSeat, rec: Record) -> Appending
+        requires { MayAppend seat.now.knows.book seat.now.knows rec }
+        ensures { result ≡ starting_appending seat.now.knows rec }
+    {
+        seat.known();
+        Appending {
+            rec,
+            stored: 0,
+            start: Snapshot::of(seat),
+            mark: Snapshot::of(seat),
+        }
+    }
+
+    /// The entry of the record.
+    pub fn entry(&self) -> &Entry
+        ensures { result.now ≡ self.now.rec.entry }
+    {
+        &self.rec.entry
+    }
+
+    /// Stores the next word of the record, in one step, and publishes it once all are stored. Whether this turn has published it.
+    pub fn turn<L: Ledger, X: Ledger>(
+        &mut self,
+        board: &Board,
+        seat: &mut BoardSeat,
+        steps: &mut Steps<L>,
+        exchanges: &mut Steps<X>,
+    ) -> bool
+        requires board { IsOf seat.old board.now }
+        requires mark { seat.old.knows ≡ self.old.mark }
+        requires left { self.old.stored ≤ record_width board.now.book }
+        ensures after { self.new ≡ appending_after self.old seat.new.knows }
+        ensures word { self.old.stored < record_width board.now.book → StoresNextWord self.old seat.new.knows }
+        ensures ends { IsTrue result ↔ (self.old.stored ≡ record_width board.now.book) }
+        ensures publishes { IsTrue result → Publishes board.now.book self.old.mark seat.new.knows (publication_of self.old) }
+        ensures published { IsTrue result → Publishes board.now.book self.old.start seat.new.knows (publication_of self.old) }
+        ensures last { IsTrue result → IsLast self.old.start seat.new.knows (publication_of self.old) }
+        ensures board { IsOf seat.new board.now }
+        ensures steps { steps.new ≡ steps.old + 1 }
+        ensures exchanges { exchanges.new ≡ exchanges.old }
+    {
+        board.book().known();
+        seat.known();
+        if self.stored < RECORD_WORDS + board.book().processes() {
+            let word = record_word(&self.rec.entry, &self.rec.view, self.stored);
+            board.store_record_word(seat, self.stored, word, steps, exchanges);
+            self.stored += 1;
+            self.mark = Snapshot::of(seat);
+            false
+        } else {
+            board.publish(seat, steps, exchanges);
+            self.stored += 1;
+            self.mark = Snapshot::of(seat);
+            true
+        }
+    }
+}

@@ -1,0 +1,111 @@
+//! Asking, a store a turn.
+
+ghost use Rattle.std.specs.Prelude.{◌≡◌, ℕ, ◌+◌, ◌<◌, ◌≤◌, ◌↔◌, length, IfSome, IsSome};
+ghost use Rattle.at_board.specs.Knowledge.Parts.{asking_on, own_part};
+ghost use Rattle.at_board.specs.Knowledge.Seats.{IsOf};
+ghost use Rattle.at_board.specs.Steps.Announce.{Announces};
+ghost use Rattle.at_board.specs.declared.words.TheConstants.{REQUEST_WORDS};
+ghost use Rattle.at_ledger.specs.Book.{HasSlot};
+ghost use Rattle.at_rows.specs.Asks.{HasAsked, HasLoadedNothing, MayAskFor, asked_for, opened};
+ghost use Rattle.at_machines.specs.Asking.{StoresNextRequestWord, asking_after, request_in, starting_asking};
+
+use at_board::{Board, BoardSeat, REQUEST_WORDS, Steps};
+use at_ledger::Targets;
+use at_rows::{OpenRequest, request_word};
+use std::marker::Model;
+use std::snapshot::Snapshot;
+use std::sync::ledger::Ledger;
+
+/// Asking in the making: a store of each word of the request, by rising number, and then the store that announces it.
+#[derive(Drop)]
+pub struct Asking {
+    account: u32,
+    targets: Targets,
+    since: u32,
+    stored: u32,
+    /// The seat at the start, for contracts alone.
+    start: Snapshot<BoardSeat>,
+    /// The seat after the last turn.
+    mark: Snapshot<BoardSeat>,
+}
+
+impl Model for Asking {
+    ghost use Rattle.at_machines.specs.KeptAsking.{IsAskingSo};
+    ghost use Rattle.at_machines.specs.Asking.{AskingTerms};
+
+    ghost Value = { AskingTerms };
+
+    ghost view = { λ a. record { start = a.start.value.knows; mark = a.mark.value.knows; account = a.account; targets = a.targets; since = a.since; stored = a.stored } };
+
+    ghost invariant = { λ a. IsAskingSo (record { start = a.start.value.knows; mark = a.mark.value.knows; account = a.account; targets = a.targets; since = a.since; stored = a.stored }) };
+}
+
+impl Asking {
+    /// Starts asking for these targets with this `since`, in no step.
+    pub fn start(seat: &BoardSeat, account: u32, targets: Targets, since: u32) -> Asking
+        requires { (slot : ℕ) × MayAskFor seat.now.knows.book seat.now.knows account slot (asked_for targets since) }
+        ensures { result ≡ starting_asking seat.now.knows account targets since }
+    {
+        seat.known();
+        Asking {
+            account,
+            targets,
+            since,
+            stored: 0,
+            start: Snapshot::of(seat),
+            mark: Snapshot::of(seat),
+        }
+    }
+
+    /// The request, where it was announced with this number in this slot.
+    pub(crate) fn opened(&self, slot: u32, number: u32) -> OpenRequest
+        ensures { result ≡ opened slot number self.now.targets self.now.since }
+    {
+        OpenRequest {
+            slot,
+            number,
+            targets: self.targets.copy(),
+            since: self.since,
+        }
+    }
+
+    /// Stores the next word of the request, in one step, and announces it once all are stored. That turn answers its number among
+    /// those of its slot.
+    pub fn turn<L: Ledger, X: Ledger>(
+        &mut self,
+        board: &Board,
+        seat: &mut BoardSeat,
+        steps: &mut Steps<L>,
+        exchanges: &mut Steps<X>,
+    ) -> Option<u32>
+        requires board { IsOf seat.old board.now }
+        requires mark { seat.old.knows ≡ self.old.mark }
+        requires left { self.old.stored ≤ REQUEST_WORDS }
+        ensures after { self.new ≡ asking_after self.old seat.new.knows }
+        ensures word { self.old.stored < REQUEST_WORDS → StoresNextRequestWord self.old seat.new.knows }
+        ensures ends { IsSome result ↔ (self.old.stored ≡ REQUEST_WORDS) }
+        ensures announced { IfSome result (λ number. (slot : ℕ) → HasSlot board.now.book self.old.start.first self.old.account slot
+            → Announces board.now.book self.old.start seat.new.knows self.old.account slot (request_in self.old)) }
+        ensures number { IfSome result (λ number. number ≡ length (asking_on (own_part self.old.start) self.old.account).announced) }
+        ensures own { IfSome result (λ number. (slot : ℕ) → HasSlot board.now.book self.old.start.first self.old.account slot
+            → HasAsked board.now.book seat.new.knows self.old.account (opened slot number self.old.targets self.old.since)) }
+        ensures nothing { IfSome result (λ number. HasLoadedNothing seat.new.knows self.old.account) }
+        ensures board { IsOf seat.new board.now }
+        ensures steps { steps.new ≡ steps.old + 1 }
+        ensures exchanges { exchanges.new ≡ exchanges.old }
+    {
+        if self.stored < REQUEST_WORDS {
+            let word = request_word(&self.targets, self.since, self.stored);
+            board.store_request_word(seat, self.account, self.stored, word, steps, exchanges);
+            self.stored += 1;
+            self.mark = Snapshot::of(seat);
+            None
+        } else {
+            let number = board.announced(seat, self.account);
+            board.announce(seat, self.account, steps, exchanges);
+            self.stored += 1;
+            self.mark = Snapshot::of(seat);
+            Some(number)
+        }
+    }
+}

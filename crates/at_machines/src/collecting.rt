@@ -1,0 +1,83 @@
+//! A collect, a load a turn.
+
+ghost use Rattle.std.specs.Prelude.{◌≡◌, ◌+◌, ◌<◌, ◌↔◌, IfSome, IsSome};
+ghost use Rattle.at_board.specs.Knowledge.Seats.{IsOf};
+ghost use Rattle.at_snapshot.specs.Collected.{IsCollect, collect_of};
+ghost use Rattle.at_machines.specs.Collecting.{LoadsLengthOf, collecting_after, starting_collecting};
+
+use at_base::Counts;
+use at_board::{Board, BoardSeat, Steps};
+use std::marker::Model;
+use std::snapshot::Snapshot;
+use std::sync::ledger::Ledger;
+
+/// A collect in the making: a load of each length, in the order of the processes.
+#[derive(Drop)]
+pub struct Collecting {
+    counts: Counts,
+    loaded: u32,
+    /// The seat at the start, for contracts alone.
+    start: Snapshot<BoardSeat>,
+    /// The seat after the last turn.
+    mark: Snapshot<BoardSeat>,
+}
+
+impl Model for Collecting {
+    ghost use Rattle.at_machines.specs.Kept.{IsCollectingSo};
+    ghost use Rattle.at_machines.specs.Collecting.{CollectingTerms};
+
+    ghost Value = { CollectingTerms };
+
+    ghost view = { λ c. record { start = c.start.value.knows; mark = c.mark.value.knows; loaded = c.loaded } };
+
+    ghost invariant = { λ c. IsCollectingSo (record { start = c.start.value.knows; mark = c.mark.value.knows; loaded = c.loaded }) c.counts };
+}
+
+impl Collecting {
+    /// Starts a collect of a seat, in no step.
+    pub fn start(board: &Board, seat: &BoardSeat) -> Collecting
+        requires { IsOf seat.now board.now }
+        ensures { result ≡ starting_collecting seat.now.knows }
+    {
+        board.book().known();
+        seat.known();
+        Collecting {
+            counts: Counts::zeros(board.book().processes()),
+            loaded: 0,
+            start: Snapshot::of(seat),
+            mark: Snapshot::of(seat),
+        }
+    }
+
+    /// Loads the length of the next process, in one step. After the last one it answers the counts.
+    pub fn turn<L: Ledger, X: Ledger>(
+        &mut self,
+        board: &Board,
+        seat: &mut BoardSeat,
+        steps: &mut Steps<L>,
+        exchanges: &mut Steps<X>,
+    ) -> Option<Counts>
+        requires board { IsOf seat.old board.now }
+        requires mark { seat.old.knows ≡ self.old.mark }
+        requires left { self.old.loaded < board.now.book.processes }
+        ensures after { self.new ≡ collecting_after self.old seat.new.knows }
+        ensures load { LoadsLengthOf board.now.book seat.old.knows seat.new.knows self.old.loaded }
+        ensures ends { IsSome result ↔ (self.new.loaded ≡ board.now.book.processes) }
+        ensures collect { IfSome result (λ counts. IsCollect board.now.book self.old.start seat.new.knows) }
+        ensures counts { IfSome result (λ counts. counts ≡ collect_of seat.new.knows) }
+        ensures board { IsOf seat.new board.now }
+        ensures steps { steps.new ≡ steps.old + 1 }
+        ensures exchanges { exchanges.new ≡ exchanges.old }
+    {
+        board.book().known();
+        seat.known();
+        let count = board.load_length(seat, self.loaded, steps, exchanges);
+        self.counts.set(self.loaded, count);
+        self.loaded += 1;
+        self.mark = Snapshot::of(seat);
+        if self.loaded < board.book().processes() {
+            return None;
+        }
+        Some(self.counts.copy())
+    }
+}

@@ -1,0 +1,180 @@
+//! One round of a shared payment, a step a turn.
+
+ghost use Rattle.std.specs.Prelude.{◌≡◌, ◌+◌, ◌<◌, ◌↔◌, false, slice_index, slice_set, IfSome, IsSome};
+ghost use Rattle.at_board.specs.Knowledge.Parts.{own_part};
+ghost use Rattle.at_board.specs.Knowledge.Seats.{IsOf};
+ghost use Rattle.at_fold.specs.HasCounted.{CountsFront, HasCounted};
+ghost use Rattle.at_history.specs.Fronts.{prefix_of};
+ghost use Rattle.at_history.specs.Rounds.{is_settled};
+ghost use Rattle.at_history.specs.declared.publication.Entry.{Entry};
+ghost use Rattle.at_shared.specs.HelpTurns.{DecidesNext};
+ghost use Rattle.at_shared.specs.Helpings.{IsHelpingAt};
+ghost use Rattle.at_machines.specs.Deciding.{MakesRoundStep, deciding_after, exchanges_in, round_in, starting_deciding};
+
+use crate::appending::Appending;
+use crate::loading_request::LoadingRequest;
+use crate::round_stage::RoundStage;
+use at_base::{Counts, Decision};
+use at_board::{Board, BoardSeat, Entry, Steps};
+use at_fold::Totals;
+use at_ledger::Targets;
+use at_log::Record;
+use at_rounds::propose;
+use at_shared::Helping;
+use std::marker::Model;
+use std::snapshot::Snapshot;
+use std::sync::ledger::Ledger;
+
+/// A round in the making: the exchange on its cell, the loads of the request that was decided, and the stores of its record.
+#[derive(Drop)]
+pub struct Deciding {
+    front: Counts,
+    account: u32,
+    round: u32,
+    stage: RoundStage,
+    /// The seat at the start, for contracts alone.
+    start: Snapshot<BoardSeat>,
+    /// The seat after the last turn.
+    mark: Snapshot<BoardSeat>,
+    /// The totals at the start. Until the last turn they stay so.
+    totals: Snapshot<Totals>,
+    /// The request that waits.
+    helping: Snapshot<Helping>,
+}
+
+impl Model for Deciding {
+    ghost use Rattle.at_machines.specs.Deciding.{DecidingTerms, left_of_round, next_of_round};
+    ghost use Rattle.at_machines.specs.KeptDeciding.{IsDecidingSo};
+
+    ghost Value = { DecidingTerms };
+
+    ghost view = { λ d. record { start = d.start.value.knows; mark = d.mark.value.knows; totals = d.totals.value; helping = d.helping.value; front = d.front; next = next_of_round d.stage; left = left_of_round d.start.value.knows.book.processes (next_of_round d.stage) } };
+
+    ghost invariant = { λ d. IsDecidingSo d.start.value.knows d.mark.value.knows d.totals.value d.helping.value d.front d.account d.round d.stage };
+}
+
+impl Deciding {
+    /// Starts the next round at the front that the totals have counted, in no step. What it proposes is fixed here.
+    pub fn start(
+        board: &Board,
+        seat: &BoardSeat,
+        totals: &Totals,
+        helping: &Helping,
+        front: Counts,
+    ) -> Deciding
+        requires seat { IsOf seat.now board.now }
+        requires totals { HasCounted totals.now board.now.book seat.now.knows.seen }
+        requires at_front { CountsFront totals.now board.now.book seat.now.knows.seen }
+        requires front { totals.now.upto ≡ front }
+        requires own { slice_index front seat.now.knows.first ≡ (own_part seat.now.knows).published }
+        requires helping { IsHelpingAt board.now.book seat.now.knows (prefix_of front seat.now.knows.seen) helping.now }
+        requires unsettled { is_settled helping.now.account helping.now.own.slot helping.now.own.number (prefix_of front seat.now.knows.seen) ≡ false }
+        ensures { result ≡ starting_deciding seat.now.knows totals.now helping.now front }
+    {
+        seat.known();
+        let account = helping.account();
+        let round = totals.rounds(account);
+        let proposal = helping.proposal(board, seat, totals, &front);
+        Deciding {
+            front,
+            account,
+            round,
+            stage: RoundStage::Proposing(proposal),
+            start: Snapshot::of(seat),
+            mark: Snapshot::of(seat),
+            totals: Snapshot::of(totals),
+            helping: Snapshot::of(helping),
+        }
+    }
+
+    /// The round of the account that is decided.
+    pub fn round(&self) -> u32
+        ensures { result ≡ round_in self.now }
+    {
+        self.round
+    }
+
+    /// Makes the next step of the round, in one step. The last one publishes and counts its record, and answers the decision.
+    pub fn turn<L: Ledger, X: Ledger>(
+        &mut self,
+        board: &Board,
+        seat: &mut BoardSeat,
+        totals: &mut Totals,
+        steps: &mut Steps<L>,
+        exchanges: &mut Steps<X>,
+    ) -> Option<Decision>
+        requires board { IsOf seat.old board.now }
+        requires mark { seat.old.knows ≡ self.old.mark }
+        requires totals { totals.old ≡ self.old.totals }
+        requires left { 0 < self.old.left }
+        ensures after { self.new ≡ deciding_after self.old seat.new.knows self.new.next }
+        ensures step { MakesRoundStep board.now.book self.old seat.new.knows self.new.next }
+        ensures left { self.new.left + 1 ≡ self.old.left }
+        ensures ends { IsSome result ↔ (self.new.left ≡ 0) }
+        ensures decided { IfSome result (DecidesNext board.now.book self.old.start seat.new.knows self.old.helping self.old.front) }
+        ensures upto { IfSome result (λ decision. totals.new.upto ≡ slice_set self.old.front seat.new.knows.first (own_part seat.new.knows).published) }
+        ensures counted { IfSome result (λ decision. HasCounted totals.new board.now.book seat.new.knows.seen) }
+        ensures waits { 0 < self.new.left → totals.new ≡ totals.old }
+        ensures board { IsOf seat.new board.now }
+        ensures steps { steps.new ≡ steps.old + 1 }
+        ensures exchanges { exchanges.new ≡ exchanges.old + exchanges_in self.old.next }
+    {
+        seat.known();
+        let (a, r) = (self.account, self.round);
+        match &mut self.stage {
+            RoundStage::Proposing(proposal) => {
+                // Right here: at the front exactly the rounds before this one stand. Others may have decided it before, or do so
+                // at the same time: one proposal wins, and all are answered that decision.
+                let decision = propose(board, seat, a, r, proposal, steps, exchanges);
+                self.mark = Snapshot::of(seat);
+                let loading = LoadingRequest::start(seat, a, decision.slot, decision.number);
+                self.stage = RoundStage::Loading(decision, loading);
+                None
+            }
+            RoundStage::Loading(decision, loading) => {
+                let loaded = loading.turn(board, seat, steps, exchanges);
+                self.mark = Snapshot::of(seat);
+                let targets = loaded?.targets;
+                let decision = *decision;
+                let record = record_of(a, r, decision, targets, &self.front);
+                self.stage = RoundStage::Publishing(decision, Appending::start(seat, record));
+                None
+            }
+            RoundStage::Publishing(decision, appending) => {
+                let published = appending.turn(board, seat, steps, exchanges);
+                self.mark = Snapshot::of(seat);
+                if !published {
+                    return None;
+                }
+                let decision = *decision;
+                totals.count_own(seat, appending.entry());
+                self.stage = RoundStage::Ended;
+                Some(decision)
+            }
+            // Some step is left, and of an ended round none is.
+            RoundStage::Ended => unreachable!(),
+        }
+    }
+}
+
+/// The record of a round, with a front as its view.
+fn record_of(
+    account: u32,
+    round: u32,
+    decision: Decision,
+    targets: Targets,
+    front: &Counts,
+) -> Record
+    ensures entry { result.entry ≡ Entry.Round account round decision targets }
+    ensures view { result.view ≡ front.now }
+{
+    Record {
+        entry: Entry::Round {
+            account,
+            round,
+            decision,
+            targets,
+        },
+        view: front.copy(),
+    }
+}

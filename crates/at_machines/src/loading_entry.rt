@@ -1,0 +1,83 @@
+//! A load of a record's entry, a word a turn.
+
+ghost use Rattle.std.specs.Prelude.{◌≡◌, ◌+◌, ◌<◌, ◌↔◌, IfSome, IsSome};
+ghost use Rattle.at_board.specs.Knowledge.Records.{SeesRecord};
+ghost use Rattle.at_board.specs.Knowledge.Seats.{IsOf};
+ghost use Rattle.at_board.specs.declared.words.TheConstants.{RECORD_WORDS};
+ghost use Rattle.at_log.specs.Loading.{IsEntryOf};
+ghost use Rattle.at_machines.specs.Loading.{loading_after, starting_loading};
+
+use at_board::{Board, BoardSeat, Entry, RECORD_WORDS, Steps, entry_of};
+use std::marker::Model;
+use std::snapshot::Snapshot;
+use std::sync::ledger::Ledger;
+
+/// A load of an entry in the making: a load of each of its words, by rising number.
+#[derive(Drop)]
+pub struct LoadingEntry {
+    process: u32,
+    number: u32,
+    words: [u64; RECORD_WORDS as usize],
+    loaded: u32,
+    /// The seat, for contracts alone. These loads leave it as it is.
+    seat: Snapshot<BoardSeat>,
+}
+
+impl Model for LoadingEntry {
+    ghost use Rattle.std.specs.Prelude.{◌≡◌, length};
+    ghost use Rattle.at_board.specs.declared.words.TheConstants.{RECORD_WORDS};
+    ghost use Rattle.at_machines.specs.Kept.{IsLoadingSo};
+    ghost use Rattle.at_machines.specs.Loading.{LoadingTerms};
+
+    ghost Value = { LoadingTerms };
+
+    ghost view = { λ l. record { knows = l.seat.value.knows; process = l.process; number = l.number; loaded = l.loaded } };
+
+    ghost invariant = { λ l. (length l.words ≡ RECORD_WORDS)
+        × IsLoadingSo (record { knows = l.seat.value.knows; process = l.process; number = l.number; loaded = l.loaded }) 0 l.words };
+}
+
+impl LoadingEntry {
+    /// Starts a load of the entry of record `i` of process `p`, in no step.
+    pub fn start(seat: &BoardSeat, p: u32, i: u32) -> LoadingEntry
+        requires { SeesRecord seat.now.knows p i }
+        ensures { result ≡ starting_loading seat.now.knows p i }
+    {
+        LoadingEntry {
+            process: p,
+            number: i,
+            words: [0; RECORD_WORDS as usize],
+            loaded: 0,
+            seat: Snapshot::of(seat),
+        }
+    }
+
+    /// Loads the next word of the entry, in one step. After the last one it answers the entry.
+    pub fn turn<L: Ledger, X: Ledger>(
+        &mut self,
+        board: &Board,
+        seat: &mut BoardSeat,
+        steps: &mut Steps<L>,
+        exchanges: &mut Steps<X>,
+    ) -> Option<Entry>
+        requires board { IsOf seat.old board.now }
+        requires mark { seat.old.knows ≡ self.old.knows }
+        requires left { self.old.loaded < RECORD_WORDS }
+        ensures after { self.new ≡ loading_after self.old }
+        ensures ends { IsSome result ↔ (self.new.loaded ≡ RECORD_WORDS) }
+        ensures entry { IfSome result (λ entry. IsEntryOf self.old.knows self.old.process self.old.number entry) }
+        ensures same { seat.new ≡ seat.old }
+        ensures steps { steps.new ≡ steps.old + 1 }
+        ensures exchanges { exchanges.new ≡ exchanges.old }
+    {
+        board.book().known();
+        seat.known();
+        let (p, i, j) = (self.process, self.number, self.loaded);
+        self.words[j as usize] = board.load_record_word(seat, p, i, j, steps, exchanges);
+        self.loaded += 1;
+        if self.loaded < RECORD_WORDS {
+            return None;
+        }
+        Some(entry_of(self.words))
+    }
+}

@@ -1,0 +1,90 @@
+//! A load of an announced request, a word a turn.
+
+ghost use Rattle.std.specs.Prelude.{◌≡◌, ◌+◌, ◌<◌, ◌↔◌, IfSome, IsSome};
+ghost use Rattle.at_board.specs.Knowledge.Seats.{IsOf};
+ghost use Rattle.at_board.specs.Steps.LoadRequestWord.{KnowsOf};
+ghost use Rattle.at_board.specs.declared.words.TheConstants.{REQUEST_WORDS};
+ghost use Rattle.at_rows.specs.Loads.{LoadsRequest};
+ghost use Rattle.at_machines.specs.LoadingRequest.{LoadsNextRequestWord, request_after, starting_request};
+
+use at_board::{Board, BoardSeat, REQUEST_WORDS, Steps};
+use at_rows::{OpenRequest, request_from};
+use std::marker::Model;
+use std::snapshot::Snapshot;
+use std::sync::ledger::Ledger;
+
+/// A load of an announced request in the making: a load of each of its words, by rising number.
+#[derive(Drop)]
+pub struct LoadingRequest {
+    account: u32,
+    slot: u32,
+    number: u32,
+    words: [u64; REQUEST_WORDS as usize],
+    loaded: u32,
+    /// The seat at the start, for contracts alone.
+    start: Snapshot<BoardSeat>,
+    /// The seat after the last turn.
+    mark: Snapshot<BoardSeat>,
+}
+
+impl Model for LoadingRequest {
+    ghost use Rattle.std.specs.Prelude.{◌≡◌, length};
+    ghost use Rattle.at_board.specs.declared.words.TheConstants.{REQUEST_WORDS};
+    ghost use Rattle.at_machines.specs.KeptRequests.{IsLoadingRequestSo};
+    ghost use Rattle.at_machines.specs.LoadingRequest.{LoadingRequestTerms};
+
+    ghost Value = { LoadingRequestTerms };
+
+    ghost view = { λ l. record { start = l.start.value.knows; mark = l.mark.value.knows; account = l.account; slot = l.slot; number = l.number; loaded = l.loaded } };
+
+    ghost invariant = { λ l. (length l.words ≡ REQUEST_WORDS)
+        × IsLoadingRequestSo (record { start = l.start.value.knows; mark = l.mark.value.knows; account = l.account; slot = l.slot; number = l.number; loaded = l.loaded }) l.words };
+}
+
+impl LoadingRequest {
+    /// Starts a load of a request that the seat has seen, or that a decision names which it has seen, in no step.
+    pub fn start(seat: &BoardSeat, account: u32, slot: u32, number: u32) -> LoadingRequest
+        requires { KnowsOf seat.now.knows account slot number }
+        ensures { result ≡ starting_request seat.now.knows account slot number }
+    {
+        seat.known();
+        LoadingRequest {
+            account,
+            slot,
+            number,
+            words: [0; REQUEST_WORDS as usize],
+            loaded: 0,
+            start: Snapshot::of(seat),
+            mark: Snapshot::of(seat),
+        }
+    }
+
+    /// Loads the next word of the request, in one step. After the last one it answers the request, whole as it was announced.
+    pub fn turn<L: Ledger, X: Ledger>(
+        &mut self,
+        board: &Board,
+        seat: &mut BoardSeat,
+        steps: &mut Steps<L>,
+        exchanges: &mut Steps<X>,
+    ) -> Option<OpenRequest>
+        requires board { IsOf seat.old board.now }
+        requires mark { seat.old.knows ≡ self.old.mark }
+        requires left { self.old.loaded < REQUEST_WORDS }
+        ensures after { self.new ≡ request_after self.old seat.new.knows }
+        ensures load { LoadsNextRequestWord board.now.book self.old seat.new.knows }
+        ensures ends { IsSome result ↔ (self.new.loaded ≡ REQUEST_WORDS) }
+        ensures request { IfSome result (LoadsRequest board.now.book self.old.start seat.new.knows self.old.account self.old.slot self.old.number) }
+        ensures board { IsOf seat.new board.now }
+        ensures steps { steps.new ≡ steps.old + 1 }
+        ensures exchanges { exchanges.new ≡ exchanges.old }
+    {
+        let (a, s, i, j) = (self.account, self.slot, self.number, self.loaded);
+        self.words[j as usize] = board.load_request_word(seat, a, s, i, j, steps, exchanges);
+        self.loaded += 1;
+        self.mark = Snapshot::of(seat);
+        if self.loaded < REQUEST_WORDS {
+            return None;
+        }
+        Some(request_from(s, i, self.words))
+    }
+}

@@ -1,0 +1,130 @@
+//! A load of an owner's row, a word a turn.
+
+ghost use Rattle.std.specs.Prelude.{◌≡◌, ◌≢◌, ◌+◌, ◌<◌, ◌↔◌, length, IfSome, IsSome};
+ghost use Rattle.at_board.specs.Knowledge.Parts.{SeesRequest};
+ghost use Rattle.at_board.specs.Knowledge.Seats.{IsOf};
+ghost use Rattle.at_ledger.specs.Account.{slots_of};
+ghost use Rattle.at_ledger.specs.Book.{account_of};
+ghost use Rattle.at_rows.specs.OpenRequests.{request_of};
+ghost use Rattle.at_rows.specs.Rows.{LoadsRow, row_steps};
+ghost use Rattle.at_machines.specs.LoadingRow.{MakesRowLoad, NextRowLoad, row_after, row_turns, starting_row};
+
+use crate::loading_request::LoadingRequest;
+use crate::row_stage::RowStage;
+use at_board::{Board, BoardSeat, Steps};
+use at_rows::OpenRequest;
+use std::marker::Model;
+use std::snapshot::Snapshot;
+use std::sync::ledger::Ledger;
+
+/// A load of one owner's row in the making: its announced word, and at once of another owner than the caller the last request
+/// that the word counts.
+#[derive(Drop)]
+pub(crate) struct LoadingRow {
+    account: u32,
+    slot: u32,
+    own: OpenRequest,
+    stage: RowStage,
+    /// The seat at the start, for contracts alone.
+    start: Snapshot<BoardSeat>,
+    /// The seat after the last turn.
+    mark: Snapshot<BoardSeat>,
+}
+
+impl Model for LoadingRow {
+    ghost use Rattle.at_machines.specs.KeptRows.{IsLoadingRowSo};
+    ghost use Rattle.at_machines.specs.LoadingRow.{LoadingRowTerms, next_in_row};
+
+    ghost Value = { LoadingRowTerms };
+
+    ghost view = { λ r. record { start = r.start.value.knows; mark = r.mark.value.knows; account = r.account; slot = r.slot; own = r.own; next = next_in_row r.stage } };
+
+    ghost invariant = { λ r. IsLoadingRowSo (record { start = r.start.value.knows; mark = r.mark.value.knows; account = r.account; slot = r.slot; own = r.own; next = next_in_row r.stage }) r.stage };
+}
+
+impl LoadingRow {
+    /// Starts a load of the row of the owner at a slot, in no step.
+    pub(crate) fn start(seat: &BoardSeat, account: u32, slot: u32, own: OpenRequest) -> LoadingRow
+        requires account { account < length seat.now.knows.book.accounts }
+        requires slot { slot < slots_of (account_of seat.now.knows.book account) }
+        requires own { SeesRequest seat.now.knows account own.slot own.number (request_of own) }
+        ensures { result ≡ starting_row seat.now.knows account slot own }
+    {
+        seat.known();
+        LoadingRow {
+            account,
+            slot,
+            own,
+            stage: RowStage::Announced,
+            start: Snapshot::of(seat),
+            mark: Snapshot::of(seat),
+        }
+    }
+
+    pub(crate) fn account(&self) -> u32
+        ensures { result ≡ self.now.account }
+    {
+        self.account
+    }
+
+    pub(crate) fn slot(&self) -> u32
+        ensures { result ≡ self.now.slot }
+    {
+        self.slot
+    }
+
+    /// The caller's own request.
+    pub(crate) fn own(&self) -> OpenRequest
+        ensures { result ≡ self.now.own }
+    {
+        self.own.copy()
+    }
+
+    /// Makes the next load of the row, in one step. After the last one it answers what is found there, if anything is.
+    pub(crate) fn turn<L: Ledger, X: Ledger>(
+        &mut self,
+        board: &Board,
+        seat: &mut BoardSeat,
+        steps: &mut Steps<L>,
+        exchanges: &mut Steps<X>,
+    ) -> Option<Option<OpenRequest>>
+        requires board { IsOf seat.old board.now }
+        requires mark { seat.old.knows ≡ self.old.mark }
+        requires left { self.old.next ≢ NextRowLoad.nothing }
+        ensures after { self.new ≡ row_after self.old seat.new.knows self.new.next }
+        ensures load { MakesRowLoad board.now.book self.old seat.new.knows self.new.next }
+        ensures ends { IsSome result ↔ (self.new.next ≡ NextRowLoad.nothing) }
+        ensures row { IfSome result (LoadsRow self.old.start seat.new.knows self.old.account self.old.slot self.old.own) }
+        ensures turns { IfSome result (λ found. row_turns self.old.next + 1 ≡ row_steps self.old.own.slot self.old.slot found) }
+        ensures board { IsOf seat.new board.now }
+        ensures steps { steps.new ≡ steps.old + 1 }
+        ensures exchanges { exchanges.new ≡ exchanges.old }
+    {
+        match &mut self.stage {
+            RowStage::Announced => {
+                let (account, slot) = (self.account, self.slot);
+                let count = board.load_announced(seat, account, slot, steps, exchanges);
+                self.mark = Snapshot::of(seat);
+                if slot == self.own.slot {
+                    self.stage = RowStage::Ended;
+                    return Some(Some(self.own.copy()));
+                }
+                if count == 0 {
+                    self.stage = RowStage::Ended;
+                    return Some(None);
+                }
+                self.stage = RowStage::Last(LoadingRequest::start(seat, account, slot, count - 1));
+                None
+            }
+            RowStage::Last(loading) => {
+                let last = loading.turn(board, seat, steps, exchanges);
+                self.mark = Snapshot::of(seat);
+                let found = last?;
+                self.stage = RowStage::Ended;
+                Some(Some(found))
+            }
+            // Some load is left, and of an ended row none is.
+            RowStage::Ended => unreachable!(),
+        }
+    }
+}

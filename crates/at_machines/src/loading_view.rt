@@ -1,0 +1,86 @@
+//! A load of a record's view, a word a turn.
+
+ghost use Rattle.std.specs.Prelude.{◌≡◌, ◌+◌, ◌<◌, ◌↔◌, IfSome, IsSome};
+ghost use Rattle.at_board.specs.Knowledge.Records.{SeesRecord};
+ghost use Rattle.at_board.specs.Knowledge.Seats.{IsOf};
+ghost use Rattle.at_log.specs.Loading.{IsViewOf};
+ghost use Rattle.at_machines.specs.Loading.{loading_after, starting_loading};
+
+use at_base::Counts;
+use at_board::{Board, BoardSeat, RECORD_WORDS, Steps};
+use std::marker::Model;
+use std::snapshot::Snapshot;
+use std::sync::ledger::Ledger;
+
+/// A load of a view in the making: a load of each of its words, by rising number.
+#[derive(Drop)]
+pub struct LoadingView {
+    process: u32,
+    number: u32,
+    view: Counts,
+    loaded: u32,
+    /// The seat, for contracts alone. These loads leave it as it is.
+    seat: Snapshot<BoardSeat>,
+}
+
+impl Model for LoadingView {
+    ghost use Rattle.std.specs.Prelude.{◌≡◌, length};
+    ghost use Rattle.at_board.specs.declared.words.TheConstants.{RECORD_WORDS};
+    ghost use Rattle.at_machines.specs.Kept.{IsLoadingSo};
+    ghost use Rattle.at_machines.specs.Loading.{LoadingTerms};
+
+    ghost Value = { LoadingTerms };
+
+    ghost view = { λ l. record { knows = l.seat.value.knows; process = l.process; number = l.number; loaded = l.loaded } };
+
+    ghost invariant = { λ l. (length l.view ≡ l.seat.value.knows.book.processes)
+        × IsLoadingSo (record { knows = l.seat.value.knows; process = l.process; number = l.number; loaded = l.loaded }) RECORD_WORDS l.view };
+}
+
+impl LoadingView {
+    /// Starts a load of the view of record `i` of process `p`, in no step.
+    pub fn start(board: &Board, seat: &BoardSeat, p: u32, i: u32) -> LoadingView
+        requires board { IsOf seat.now board.now }
+        requires record { SeesRecord seat.now.knows p i }
+        ensures { result ≡ starting_loading seat.now.knows p i }
+    {
+        board.book().known();
+        LoadingView {
+            process: p,
+            number: i,
+            view: Counts::zeros(board.book().processes()),
+            loaded: 0,
+            seat: Snapshot::of(seat),
+        }
+    }
+
+    /// Loads the next word of the view, in one step. After the last one it answers the view.
+    pub fn turn<L: Ledger, X: Ledger>(
+        &mut self,
+        board: &Board,
+        seat: &mut BoardSeat,
+        steps: &mut Steps<L>,
+        exchanges: &mut Steps<X>,
+    ) -> Option<Counts>
+        requires board { IsOf seat.old board.now }
+        requires mark { seat.old.knows ≡ self.old.knows }
+        requires left { self.old.loaded < board.now.book.processes }
+        ensures after { self.new ≡ loading_after self.old }
+        ensures ends { IsSome result ↔ (self.new.loaded ≡ board.now.book.processes) }
+        ensures view { IfSome result (λ view. IsViewOf self.old.knows self.old.process self.old.number view) }
+        ensures same { seat.new ≡ seat.old }
+        ensures steps { steps.new ≡ steps.old + 1 }
+        ensures exchanges { exchanges.new ≡ exchanges.old }
+    {
+        board.book().known();
+        seat.known();
+        let (p, i, q) = (self.process, self.number, self.loaded);
+        let count = board.load_record_word(seat, p, i, RECORD_WORDS + q, steps, exchanges);
+        self.view.set(q, count as u32);
+        self.loaded += 1;
+        if self.loaded < board.book().processes() {
+            return None;
+        }
+        Some(self.view.copy())
+    }
+}

@@ -1,0 +1,120 @@
+//! A snapshot, a load a turn.
+
+ghost use Rattle.std.specs.Prelude.{◌≡◌, ◌+◌, ◌<◌, ◌↔◌, IfSome, IsSome};
+ghost use Rattle.at_board.specs.Knowledge.Seats.{IsOf};
+ghost use Rattle.at_snapshot.specs.Collected.{HasLoaded};
+ghost use Rattle.at_snapshot.specs.Snapshots.{HasCollected, IsSnapshot, snapshot_steps};
+ghost use Rattle.at_machines.specs.Snapping.{MakesLoad, MayFollow, length_of};
+
+use crate::collecting::Collecting;
+use crate::loading_view::LoadingView;
+use crate::stage::Stage;
+use at_base::Counts;
+use at_board::{Board, BoardSeat, Steps};
+use at_snapshot::{Collects, Verdict, add_collect, compare};
+use std::marker::Model;
+use std::snapshot::Snapshot;
+use std::sync::ledger::Ledger;
+
+/// A snapshot in the making: collects, until one equals the one before it or some process has published twice since the first,
+/// and then the load of that process's last view.
+#[derive(Drop)]
+pub struct Snapping {
+    collects: Option<Collects>,
+    /// How many collects are whole.
+    collected: u32,
+    stage: Stage,
+    /// The seat at the start, for contracts alone.
+    start: Snapshot<BoardSeat>,
+    /// The seat after the last turn.
+    mark: Snapshot<BoardSeat>,
+}
+
+impl Model for Snapping {
+    ghost use Rattle.at_machines.specs.KeptSnapshots.{IsSnappingSo};
+    ghost use Rattle.at_machines.specs.Snapping.{SnappingTerms, left_of, next_of};
+
+    ghost Value = { SnappingTerms };
+
+    ghost view = { λ s. record { start = s.start.value.knows; mark = s.mark.value.knows; next = next_of s.stage; left = left_of s.start.value.knows.book.processes s.collected s.stage } };
+
+    ghost invariant = { λ s. IsSnappingSo s.start.value.knows s.mark.value.knows s.collects s.collected s.stage };
+}
+
+impl Snapping {
+    /// Starts a snapshot of a seat, in no step.
+    pub fn start(board: &Board, seat: &BoardSeat) -> Snapping
+        requires { IsOf seat.now board.now }
+        ensures start { result.start ≡ seat.now.knows }
+        ensures mark { result.mark ≡ seat.now.knows }
+        ensures next { result.next ≡ length_of 0 }
+        ensures left { result.left ≡ snapshot_steps board.now.book.processes }
+    {
+        seat.known();
+        Snapping {
+            collects: None,
+            collected: 0,
+            stage: Stage::Collect(Collecting::start(board, seat)),
+            start: Snapshot::of(seat),
+            mark: Snapshot::of(seat),
+        }
+    }
+
+    /// Makes the next load of the snapshot, in one step. After the last one it answers the counts.
+    pub fn turn<L: Ledger, X: Ledger>(
+        &mut self,
+        board: &Board,
+        seat: &mut BoardSeat,
+        steps: &mut Steps<L>,
+        exchanges: &mut Steps<X>,
+    ) -> Option<Counts>
+        requires board { IsOf seat.old board.now }
+        requires mark { seat.old.knows ≡ self.old.mark }
+        requires left { 0 < self.old.left }
+        ensures start { self.new.start ≡ self.old.start }
+        ensures mark { self.new.mark ≡ seat.new.knows }
+        ensures load { MakesLoad board.now.book self.old.next seat.old seat.new }
+        ensures loads { HasLoaded board.now.book self.old.start seat.new.knows }
+        ensures next { MayFollow board.now.book.processes self.old.next self.new.next }
+        ensures left { self.new.left < self.old.left }
+        ensures ends { IsSome result ↔ (self.new.left ≡ 0) }
+        ensures snapshot { IfSome result (IsSnapshot board.now.book self.old.start seat.new.knows) }
+        ensures collects { IfSome result (λ counts. HasCollected board.now.book self.old.start seat.new.knows (board.now.book.processes + 1)) }
+        ensures board { IsOf seat.new board.now }
+        ensures steps { steps.new ≡ steps.old + 1 }
+        ensures exchanges { exchanges.new ≡ exchanges.old }
+    {
+        seat.known();
+        match &mut self.stage {
+            Stage::Collect(collecting) => {
+                let collected = collecting.turn(board, seat, steps, exchanges);
+                self.mark = Snapshot::of(seat);
+                let now = collected?;
+                match compare(&self.collects, &now, seat.process()) {
+                    Verdict::Repeated => {
+                        self.stage = Stage::Ended;
+                        Some(now)
+                    }
+                    Verdict::Lent(p) => {
+                        let last = now.get(p) - 1;
+                        self.stage = Stage::Borrow(LoadingView::start(board, seat, p, last));
+                        None
+                    }
+                    Verdict::Undecided => {
+                        add_collect(&mut self.collects, now);
+                        self.collected += 1;
+                        self.stage = Stage::Collect(Collecting::start(board, seat));
+                        None
+                    }
+                }
+            }
+            Stage::Borrow(loading) => {
+                let view = loading.turn(board, seat, steps, exchanges)?;
+                self.stage = Stage::Ended;
+                Some(view)
+            }
+            // Some turn is left, and of an ended snapshot none is.
+            Stage::Ended => unreachable!(),
+        }
+    }
+}

@@ -1,7 +1,0 @@
-use Rattle.at_stepper.proofs.CatchingUpLaws.{count_of-left}
-use Rattle.at_stepper.proofs.catching_up.CatchingUp.at.Goals as goal
-
-pub next_record-loading-requires-clause-seen : goal.next_record-loading-requires-clause-seen
-next_record-loading-requires-clause-seen c = λ inside.
-    count_of-left c.args.seat.now.knows c.args.counts c.args.totals.now.upto c.args.totals.now c.args.process c.first_left-process.result c.requires.so_far inside
-    (c.first_left-process.ensures.left inside)
