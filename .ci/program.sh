@@ -95,7 +95,7 @@ echo 'checked 1 2 16384' >checked
 run check "$usual/book.csv" reads.csv
 printed 'a file of many pieces' checked
 
-usage='usage: run BOOK PAY... | check BOOK PAY... | make NUMBER PROCESSES CALLS | agree VALUE... | deliver BOOK ORDER MSG... | verify BOOK REPORT PAY...'
+usage='usage: run BOOK PAY... | check BOOK PAY... | make NUMBER PROCESSES CALLS | replay BOOK SCHEDULE PAY... | agree VALUE... | deliver BOOK ORDER MSG... | verify BOOK REPORT PAY...'
 run --help
 refused 'words of no form' 2 "$usage"
 run agree 5

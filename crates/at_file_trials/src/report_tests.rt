@@ -21,7 +21,7 @@ const REFUSALS: &[(Status, u8, &str)] = &[
     (
         Status::Usage(UsageFault::Words),
         2,
-        "usage: run BOOK PAY... | check BOOK PAY... | make NUMBER PROCESSES CALLS | agree VALUE... | deliver BOOK ORDER MSG... | verify BOOK REPORT PAY...\n",
+        "usage: run BOOK PAY... | check BOOK PAY... | make NUMBER PROCESSES CALLS | replay BOOK SCHEDULE PAY... | agree VALUE... | deliver BOOK ORDER MSG... | verify BOOK REPORT PAY...\n",
     ),
     (
         Status::Usage(UsageFault::Files {

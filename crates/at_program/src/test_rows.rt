@@ -34,7 +34,7 @@ pub(crate) const USUAL_REPORT: &str =
     "journal 3\n0 1 transfer 0 1 30 done\n0 2 read 0 70\n0 3 read 1 30\nbalances 2\n0 70\n1 30\ntotal 100\n";
 
 pub(crate) const USAGE: &str =
-    "usage: run BOOK PAY... | check BOOK PAY... | make NUMBER PROCESSES CALLS | agree VALUE... | deliver BOOK ORDER MSG... | verify BOOK REPORT PAY...\n";
+    "usage: run BOOK PAY... | check BOOK PAY... | make NUMBER PROCESSES CALLS | replay BOOK SCHEDULE PAY... | agree VALUE... | deliver BOOK ORDER MSG... | verify BOOK REPORT PAY...\n";
 
 pub(crate) const SMALL: &str = "made 7 1 2\ndone 2\nread 0\nbalances 2\n0 146\n1 254\ntotal 400\n";
 

@@ -73,7 +73,7 @@ messages_cause messages.DepsOutOfRange = codes "deps out of range"
 
 -- what the words have to be
 abbrev pub usage_text : UsageFault → List ℕ
-usage_text usage.Words = codes "usage: run BOOK PAY... | check BOOK PAY... | make NUMBER PROCESSES CALLS | agree VALUE... | deliver BOOK ORDER MSG... | verify BOOK REPORT PAY..."
+usage_text usage.Words = codes "usage: run BOOK PAY... | check BOOK PAY... | make NUMBER PROCESSES CALLS | replay BOOK SCHEDULE PAY... | agree VALUE... | deliver BOOK ORDER MSG... | verify BOOK REPORT PAY..."
 usage_text (usage.Files wanted given) = codes "files: wanted " ++ decimal wanted ++ codes ", given " ++ decimal given
 
 -- a fault in a file: its line and cause

@@ -12,7 +12,7 @@ use at_ledger::BookError;
 pub type FaultText = ArrayVec<u8, 256>;
 
 const USAGE: &str = "usage: run BOOK PAY... | check BOOK PAY... | make NUMBER PROCESSES CALLS \
-     | agree VALUE... | deliver BOOK ORDER MSG... | verify BOOK REPORT PAY...";
+     | replay BOOK SCHEDULE PAY... | agree VALUE... | deliver BOOK ORDER MSG... | verify BOOK REPORT PAY...";
 
 fn limit_text(e: &BookError) -> &'static str
     ensures text { result.now ≡ limit_text e.now }
