@@ -73,6 +73,18 @@ printed 'the report of the example household' verified
 run verify "$household/book.csv" "$household/forged.report" "$household/ann.csv" "$household/bob.csv"
 refused 'a forged report' 12 "$(cat "$household/forged.said")"
 
+# A schedule fixes the order of the steps, so the report is the same at each run.
+replay=$examples/replay
+for name in overtaken borrowed helping stopped; do
+    for time in once again; do
+        run replay "$replay/$name/book.csv" "$replay/$name/schedule.csv" "$replay/$name"/pay*.csv
+        printed "the example replay/$name, $time" "$replay/$name/$name.report"
+    done
+done
+echo 2 >schedule.csv
+run replay "$replay/helping/book.csv" schedule.csv "$replay/helping"/pay*.csv
+refused 'a schedule of no process' 9 'schedule: line 1: unknown process'
+
 deliver=$examples/deliver
 run deliver "$deliver/book.csv" "$deliver/order.csv" "$deliver/send0.csv" "$deliver/send1.csv"
 printed 'the example deliver' "$deliver/deliver.nodes"
