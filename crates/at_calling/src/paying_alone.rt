@@ -12,12 +12,12 @@ ghost use Rattle.at_single.specs.Standing.{IsOnlyOwner};
 ghost use Rattle.at_calling.specs.PayingAlone.{HasSameAsking, IsPayWithin, MakesPayStep, append_steps, pay_turns_left, turns_made};
 ghost use Rattle.at_calling.specs.Reading.{LeavesTotals};
 
-use at_machines::{Appending, Looking};
 use crate::pay_stage::PayStage;
 use at_board::{Board, BoardSeat, Entry, Steps};
 use at_fold::Totals;
 use at_ledger::{Call, Reply, Targets};
 use at_log::{At, Receipt, Record};
+use at_machines::{Appending, Looking};
 use std::marker::Model;
 use std::snapshot::Snapshot;
 use std::sync::ledger::Ledger;

@@ -7,11 +7,11 @@ ghost use Rattle.at_snapshot.specs.Collected.{HasLoaded};
 ghost use Rattle.at_machines.specs.Looking.{IsWithin, MakesLookLoad, turns_left};
 ghost use Rattle.at_calling.specs.Reading.{IsReadOf, LeavesTotals};
 
-use at_machines::Looking;
 use at_board::{Board, BoardSeat, Steps};
 use at_fold::Totals;
 use at_ledger::{Call, Reply};
 use at_log::{At, Receipt};
+use at_machines::Looking;
 use std::marker::Model;
 use std::sync::ledger::Ledger;
 

@@ -9,11 +9,11 @@ ghost use Rattle.at_shared.specs.Helpings.{HasAllSettled, IsPayoutFrom};
 ghost use Rattle.at_calling.specs.Reading.{LeavesTotals};
 ghost use Rattle.at_calling.specs.Starting.{IsStartOf, IsStartWithin, MakesStartStep, asking_steps_of, start_turns_left, start_turns_made};
 
-use at_machines::{Asking, CollectingRows, Looking};
 use crate::start_stage::StartStage;
 use at_board::{Board, BoardSeat, Steps};
 use at_fold::Totals;
 use at_ledger::Call;
+use at_machines::{Asking, CollectingRows, Looking};
 use at_shared::{Helping, targets_of};
 use std::marker::Model;
 use std::snapshot::Snapshot;

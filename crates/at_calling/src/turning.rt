@@ -9,10 +9,10 @@ ghost use Rattle.at_shared.specs.declared.helping.HelpTurn.{HelpTurn};
 ghost use Rattle.at_calling.specs.Reading.{LeavesTotals};
 ghost use Rattle.at_calling.specs.Turning.{IsHelpOf, IsHelpWithin, LeavesSeat, MakesTurnStep, WaitsOn, exchanges_at, help_turns_left, help_turns_made};
 
-use at_machines::{Deciding, Looking};
 use crate::turn_stage::TurnStage;
 use at_board::{Board, BoardSeat, Steps};
 use at_fold::Totals;
+use at_machines::{Deciding, Looking};
 use at_shared::{HelpTurn, Helping};
 use std::marker::Model;
 use std::snapshot::Snapshot;

@@ -10,9 +10,9 @@ ghost use Rattle.at_stepper.specs.Callers.{IsFile, IsNewCaller, LeavesCaller, an
 ghost use Rattle.at_calling.specs.Calling.{MakesCallStep, exchanges_of};
 ghost use Rattle.at_stepper.specs.KeptCallers.{IsBegun, calls_of};
 
-use at_calling::Calling;
 use crate::turned::Turned;
 use at_board::{Board, BoardSeat, Steps};
+use at_calling::Calling;
 use at_ledger::Call;
 use at_log::{At, Receipt};
 use at_object::{Pass, Rest};

@@ -7,10 +7,10 @@ ghost use Rattle.at_stepper_trials.specs.Machines.{IsPaying};
 
 use crate::movers::has_own_account;
 use at_board::{Board, BoardSeat, Steps};
+use at_calling::{PayingAlone, Reading};
 use at_fold::Totals;
 use at_ledger::{Call, Targets};
 use at_log::Receipt;
-use at_calling::{PayingAlone, Reading};
 use std::sync::ledger::Ledger;
 
 /// The receipt of a payment to account 0 from the process's own account, where there is room, and how many turns it took.

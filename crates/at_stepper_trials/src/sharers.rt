@@ -9,11 +9,11 @@ ghost use Rattle.at_shared.specs.Helpings.{HasAllSettled};
 ghost use Rattle.at_stepper_trials.specs.Machines.{IsSharing};
 
 use at_board::{Board, BoardSeat, Steps};
+use at_calling::PayingShared;
 use at_fold::Totals;
 use at_ledger::Call;
 use at_log::Receipt;
 use at_players::boards::slot_on;
-use at_calling::PayingShared;
 use std::sync::ledger::Ledger;
 
 /// Whether the seat's process shares account 0 and has asked for nothing there.
