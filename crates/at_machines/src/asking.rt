@@ -58,7 +58,7 @@ impl Asking {
     }
 
     /// The request, where it was announced with this number in this slot.
-    pub(crate) fn opened(&self, slot: u32, number: u32) -> OpenRequest
+    pub fn opened(&self, slot: u32, number: u32) -> OpenRequest
         ensures { result ≡ opened slot number self.now.targets self.now.since }
     {
         OpenRequest {

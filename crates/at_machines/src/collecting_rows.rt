@@ -57,7 +57,7 @@ impl CollectingRows {
     }
 
     /// The caller's own request.
-    pub(crate) fn own(&self) -> OpenRequest
+    pub fn own(&self) -> OpenRequest
         ensures { result ≡ self.now.own }
     {
         self.row.own()
