@@ -1,26 +1,20 @@
 //! Books and payments that are read, and those that are refused, each with its line and cause.
 
+ghost use Rattle.at_files.specs.Names.{AreNamesOf};
+
+use crate::test_files::{NAMED, ONE_PROCESS, book_of, repeated};
 use at_files::{
     BadBook, BadPayments, BookWhy, Names, PaymentsWhy, ReadBookFault, ReadPaymentsFault, read_book,
     read_payments,
 };
-use at_ledger::{BookError, Call};
+use at_ledger::{Book, BookError, Call};
 use std::alloc::{AllocError, Global};
-use std::test::Fail;
-
-const ONE_PROCESS: &[u8] = b"book,1\nprocesses,1\nlimits,4,4\naccount,0,100,0\naccount,1,0,\n";
 
 const TWO_PROCESSES: &[u8] =
     b"book,1\nprocesses,2\nlimits,4,4\naccount,0,100,0\naccount,1,0,1\naccount,2,50,\n";
 
-const NAMED: &[u8] =
-    b"book,2\nprocesses,ann,bob\nlimits,10,10\naccount,ann-cash,100,ann\naccount,joint,50,ann bob\naccount,shop,0,\n";
-
 /// A file with the line and the cause of its first fault.
 type BadFile<W> = (&'static [u8], u32, W);
-
-/// A book file with its numbers of processes and accounts.
-type GoodBook = (&'static [u8], u32, u32);
 
 /// Whether the book is refused for this fault.
 fn is_bad_book(alloc: Global, text: &[u8], line: u32, why: BookWhy) -> bool {
@@ -32,9 +26,9 @@ fn is_bad_book(alloc: Global, text: &[u8], line: u32, why: BookWhy) -> bool {
 
 /// Whether the book has so many processes and accounts.
 fn is_good_book(alloc: Global, text: &[u8], processes: u32, accounts: u32) -> bool {
-    match read_book(alloc, text) {
-        Ok((book, _)) => book.processes() == processes && book.accounts() == accounts,
-        Err(_) => false,
+    match book_of(alloc, text) {
+        Some((book, _)) => book.processes() == processes && book.accounts() == accounts,
+        None => false,
     }
 }
 
@@ -42,16 +36,6 @@ fn is_good_book(alloc: Global, text: &[u8], processes: u32, accounts: u32) -> bo
 fn first_not_bad(alloc: Global, cases: &[BadFile<BookWhy>]) -> Option<&'static [u8]> {
     for (text, line, why) in cases {
         if !is_bad_book(alloc, text, *line, *why) {
-            return Some(*text);
-        }
-    }
-    None
-}
-
-/// The first of the books that is not read so.
-fn first_not_good(alloc: Global, cases: &[GoodBook]) -> Option<&'static [u8]> {
-    for (text, processes, accounts) in cases {
-        if !is_good_book(alloc, text, *processes, *accounts) {
             return Some(*text);
         }
     }
@@ -146,8 +130,8 @@ fn books(rt: HostRuntime) {
     assert!(rt; is_good_book(rt.alloc(), TWO_PROCESSES, 2, 3));
 }
 
-/// A book of so many accounts.
-fn book_of(alloc: Global, accounts: u32) -> Result<Vec<u8>, AllocError> {
+/// The text of a book of so many accounts.
+fn text_of(alloc: Global, accounts: u32) -> Result<Vec<u8>, AllocError> {
     let mut book = Vec::from_slice(alloc, b"book,1\nprocesses,1\nlimits,4,4\n")?;
     for account in 0..accounts {
         book.extend_from_slice(b"account,")?;
@@ -158,21 +142,26 @@ fn book_of(alloc: Global, accounts: u32) -> Result<Vec<u8>, AllocError> {
 }
 
 #[test]
-fn most_accounts(rt: HostRuntime) -> Result<(), Fail> {
+fn most_accounts(rt: HostRuntime) -> Result<(), AllocError> {
     let alloc = rt.alloc();
-    let most = book_of(alloc, 1_024)?;
-    let more = book_of(alloc, 1_025)?;
+    let most = text_of(alloc, 1_024)?;
+    let more = text_of(alloc, 1_025)?;
     let why = BookWhy::Book(BookError::TooManyAccounts);
     assert!(rt; is_good_book(alloc, &most, 1, 1_024) && is_bad_book(alloc, &more, 1_028, why));
     Ok(())
 }
 
+/// The calls beside the book. A book that is refused counts as no memory.
+fn calls_of(alloc: Global, book: &[u8], text: &[u8]) -> Result<Vec<Call>, ReadPaymentsFault> {
+    match book_of(alloc, book) {
+        Some((book, names)) => read_payments(alloc, &book, &names, text),
+        None => Err(ReadPaymentsFault::NoMemory),
+    }
+}
+
 /// Whether the calls beside the book are refused for this fault.
 fn are_bad_payments(alloc: Global, book: &[u8], text: &[u8], line: u32, why: PaymentsWhy) -> bool {
-    let Ok((book, names)) = read_book(alloc, book) else {
-        return false;
-    };
-    match read_payments(alloc, &book, &names, text) {
+    match calls_of(alloc, book, text) {
         Ok(_) => false,
         Err(fault) => fault == ReadPaymentsFault::Bad(BadPayments { line, why }),
     }
@@ -180,10 +169,7 @@ fn are_bad_payments(alloc: Global, book: &[u8], text: &[u8], line: u32, why: Pay
 
 /// How many calls there are beside the book, if all is good.
 fn count_of(alloc: Global, book: &[u8], text: &[u8]) -> Option<usize> {
-    let Ok((book, names)) = read_book(alloc, book) else {
-        return None;
-    };
-    match read_payments(alloc, &book, &names, text) {
+    match calls_of(alloc, book, text) {
         Ok(calls) => Some(calls.len()),
         Err(_) => None,
     }
@@ -224,40 +210,58 @@ const BAD_PAYMENTS: &[BadFile<PaymentsWhy>] = &[
 
 #[test]
 fn payments(rt: HostRuntime) {
-    for book in [ONE_PROCESS, TWO_PROCESSES] {
-        assert_eq!(rt;
-            first_not_bad_payments(rt.alloc(), book, BAD_PAYMENTS),
-            None
-        );
-    }
-    for (text, count) in [
-        (b"\"transfer\",0,1,30\r\n\r\nread,0".as_slice(), 2),
-        (b"\n\n\n", 0),
-    ] {
-        assert_eq!(rt;
-            count_of(rt.alloc(), ONE_PROCESS, text),
-            Some(count),
-            "{text:?}"
-        );
-    }
+    let alloc = rt.alloc();
+    assert_eq!(rt;
+        first_not_bad_payments(alloc, ONE_PROCESS, BAD_PAYMENTS),
+        None
+    );
+    assert_eq!(rt;
+        first_not_bad_payments(alloc, TWO_PROCESSES, BAD_PAYMENTS),
+        None
+    );
 }
 
 #[test]
-fn many_payments(rt: HostRuntime) -> Result<(), Fail> {
-    let mut text = Vec::new(rt.alloc());
-    for _ in 0..16_384 {
-        text.extend_from_slice(b"read,0\n")?;
-    }
-    let most = count_of(rt.alloc(), ONE_PROCESS, &text) == Some(16_384);
-    text.extend_from_slice(b"read,0\n")?;
+fn good_payments(rt: HostRuntime) {
+    let alloc = rt.alloc();
+    let quoted = b"\"transfer\",0,1,30\r\n\r\nread,0";
+    assert!(rt;
+        count_of(alloc, ONE_PROCESS, quoted) == Some(2)
+            && count_of(alloc, ONE_PROCESS, b"\n\n\n") == Some(0)
+    );
+}
+
+#[test]
+fn many_payments(rt: HostRuntime) -> Result<(), AllocError> {
+    let alloc = rt.alloc();
+    let most = repeated(alloc, b"read,0\n", 16_384)?;
+    let more = repeated(alloc, b"read,0\n", 16_385)?;
     let why = PaymentsWhy::TooManyCalls;
-    assert!(rt; most && are_bad_payments(rt.alloc(), ONE_PROCESS, &text, 16_385, why));
+    assert!(rt;
+        count_of(alloc, ONE_PROCESS, &most) == Some(16_384)
+            && are_bad_payments(alloc, ONE_PROCESS, &more, 16_385, why)
+    );
     Ok(())
 }
 
-/// Whether the names of the book of one process are its numbers.
-fn are_plain(names: &Names) -> bool {
-    names.version() == 1
+/// Whether the account and the process of this number have these names.
+fn are_named(book: &Book, names: &Names, number: u32, account: &[u8], process: &[u8]) -> bool
+    requires { AreNamesOf book.now names.now }
+{
+    number < book.accounts()
+        && number < book.processes()
+        && names.account(number) == account
+        && names.process(number) == process
+}
+
+/// Whether this is the book of one process, and its names are its numbers.
+fn are_plain(book: &Book, names: &Names) -> bool
+    requires { AreNamesOf book.now names.now }
+{
+    book.processes() == 1
+        && book.accounts() == 2
+        && names.version() == 1
+        && are_named(book, names, 0, b"0", b"0")
         && names.find(b"1") == Some(1)
         && [b"2".as_slice(), b"01", b"", b"ann"]
             .iter()
@@ -265,14 +269,12 @@ fn are_plain(names: &Names) -> bool {
 }
 
 #[test]
-fn names_of_version_1(rt: HostRuntime) -> Result<(), Fail> {
-    let (book, names) = read_book(rt.alloc(), ONE_PROCESS)?;
-    let named = book.processes() == 1
-        && book.accounts() == 2
-        && names.account(0) == b"0".as_slice()
-        && names.process(0) == b"0".as_slice();
-    assert!(rt; named && are_plain(&names));
-    Ok(())
+fn names_of_version_1(rt: HostRuntime) {
+    let plain = match book_of(rt.alloc(), ONE_PROCESS) {
+        Some((book, names)) => are_plain(&book, &names),
+        None => false,
+    };
+    assert!(rt; plain);
 }
 
 /// Whether these are a transfer of 30 and a read.
@@ -291,11 +293,12 @@ fn are_two_calls(calls: &[Call]) -> bool {
 }
 
 #[test]
-fn calls_of_version_1(rt: HostRuntime) -> Result<(), Fail> {
-    let (book, names) = read_book(rt.alloc(), ONE_PROCESS)?;
-    let calls = read_payments(rt.alloc(), &book, &names, b"transfer,0,1,30\nread,1\n")?;
-    assert!(rt; are_two_calls(calls.as_slice()));
-    Ok(())
+fn calls_of_version_1(rt: HostRuntime) {
+    let two = match calls_of(rt.alloc(), ONE_PROCESS, b"transfer,0,1,30\nread,1\n") {
+        Ok(calls) => are_two_calls(calls.as_slice()),
+        Err(_) => false,
+    };
+    assert!(rt; two);
 }
 
 /// The book that begins with an account of version 2 in the fourth record and goes on so.
@@ -334,18 +337,14 @@ const BAD_ACCOUNTS: &[(&[u8], BookWhy)] = &[
 ];
 
 #[test]
-fn named_accounts(rt: HostRuntime) -> Result<(), Fail> {
+fn named_accounts(rt: HostRuntime) -> Result<(), AllocError> {
     for (text, why) in BAD_ACCOUNTS {
         let book = book_with(rt.alloc(), text)?;
         assert!(rt; is_bad_book(rt.alloc(), &book, 5, *why), "{text:?}");
     }
-    for text in [
-        b"account,a123456789012345,0,".as_slice(),
-        b"account,ann,5,ann bob",
-    ] {
-        let book = book_with(rt.alloc(), text)?;
-        assert!(rt; is_good_book(rt.alloc(), &book, 2, 2), "{text:?}");
-    }
+    let longest = book_with(rt.alloc(), b"account,a123456789012345,0,")?;
+    let owned = book_with(rt.alloc(), b"account,ann,5,ann bob")?;
+    assert!(rt; is_good_book(rt.alloc(), &longest, 2, 2) && is_good_book(rt.alloc(), &owned, 2, 2));
     Ok(())
 }
 
@@ -427,16 +426,25 @@ fn named_payments(rt: HostRuntime) {
     assert_eq!(rt; count_of(rt.alloc(), NAMED, text), Some(3));
 }
 
-#[test]
-fn names_of_version_2(rt: HostRuntime) -> Result<(), Fail> {
-    let (book, names) = read_book(rt.alloc(), NAMED)?;
-    let named = book.processes() == 2
+/// Whether this is the book of two processes with names.
+fn has_names(book: &Book, names: &Names) -> bool
+    requires { AreNamesOf book.now names.now }
+{
+    book.processes() == 2
         && book.accounts() == 3
-        && names.account(1) == b"joint".as_slice()
-        && names.process(1) == b"bob".as_slice();
-    let found = names.find(b"shop") == Some(2) && names.find(b"ann").is_none();
-    assert!(rt; named && found && names.version() == 2);
-    Ok(())
+        && names.version() == 2
+        && are_named(book, names, 1, b"joint", b"bob")
+        && names.find(b"shop") == Some(2)
+        && names.find(b"ann").is_none()
+}
+
+#[test]
+fn names_of_version_2(rt: HostRuntime) {
+    let named = match book_of(rt.alloc(), NAMED) {
+        Some((book, names)) => has_names(&book, &names),
+        None => false,
+    };
+    assert!(rt; named);
 }
 
 /// Whether this is a pay-out of 30 and 20.
@@ -450,10 +458,10 @@ fn is_pay_out(call: Option<&Call>) -> bool {
 }
 
 #[test]
-fn pay_outs(rt: HostRuntime) -> Result<(), Fail> {
-    let (book, names) = read_book(rt.alloc(), NAMED)?;
-    let text = b"pay,joint,shop,30,ann-cash,20\n";
-    let calls = read_payments(rt.alloc(), &book, &names, text)?;
-    assert!(rt; is_pay_out(calls.first()));
-    Ok(())
+fn pay_outs(rt: HostRuntime) {
+    let paid = match calls_of(rt.alloc(), NAMED, b"pay,joint,shop,30,ann-cash,20\n") {
+        Ok(calls) => is_pay_out(calls.first()),
+        Err(_) => false,
+    };
+    assert!(rt; paid);
 }

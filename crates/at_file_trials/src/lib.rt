@@ -13,4 +13,6 @@ mod replay_tests;
 #[cfg(test)]
 mod report_tests;
 #[cfg(test)]
+mod test_files;
+#[cfg(test)]
 mod verify_tests;

@@ -2,23 +2,25 @@
 
 ghost use Rattle.std.specs.Prelude.{◌≤◌, All};
 
+use crate::test_files::{TWO_OWNERS, book_of, repeated};
 use at_base::Counts;
 use at_broadcast::Message;
 use at_files::{
-    BadRecord, Delivery, MessagesWhy, OrderWhy, ReadFault, read_book, read_deliveries,
-    read_messages,
+    BadRecord, Delivery, MessagesWhy, OrderWhy, ReadFault, read_deliveries, read_messages,
 };
 use std::alloc::{AllocError, Global};
-use std::test::Fail;
 
-const BOOK: &[u8] = b"book,1\nprocesses,2\nlimits,4,4\naccount,0,100,0\naccount,1,0,1\n";
+/// The messages beside the book. A book that is refused counts as no memory.
+fn messages_of(alloc: Global, text: &[u8]) -> Result<Vec<Message>, ReadFault<MessagesWhy>> {
+    match book_of(alloc, TWO_OWNERS) {
+        Some((book, _)) => read_messages(alloc, &book, text),
+        None => Err(ReadFault::NoMemory),
+    }
+}
 
 /// Whether the messages beside the book are refused for this fault.
 fn are_bad_messages(alloc: Global, text: &[u8], line: u32, why: MessagesWhy) -> bool {
-    let Ok((book, _)) = read_book(alloc, BOOK) else {
-        return false;
-    };
-    match read_messages(alloc, &book, text) {
+    match messages_of(alloc, text) {
         Ok(_) => false,
         Err(fault) => fault == ReadFault::Bad(BadRecord { line, why }),
     }
@@ -26,10 +28,7 @@ fn are_bad_messages(alloc: Global, text: &[u8], line: u32, why: MessagesWhy) -> 
 
 /// How many messages there are, if all is good.
 fn message_count(alloc: Global, text: &[u8]) -> Option<usize> {
-    let Ok((book, _)) = read_book(alloc, BOOK) else {
-        return None;
-    };
-    match read_messages(alloc, &book, text) {
+    match messages_of(alloc, text) {
         Ok(messages) => Some(messages.len()),
         Err(_) => None,
     }
@@ -68,27 +67,16 @@ fn is_usual(message: Option<&Message>) -> bool {
 }
 
 #[test]
-fn good_messages(rt: HostRuntime) -> Result<(), Fail> {
-    let (book, _) = read_book(rt.alloc(), BOOK)?;
-    let usual = match read_messages(rt.alloc(), &book, b"send,0,1,60,0,1\n") {
+fn good_messages(rt: HostRuntime) {
+    let usual = match messages_of(rt.alloc(), b"send,0,1,60,0,1\n") {
         Ok(messages) => is_usual(messages.first()),
         Err(_) => false,
     };
     assert!(rt; usual && message_count(rt.alloc(), b"") == Some(0));
-    Ok(())
-}
-
-/// So many records that are the same.
-pub(crate) fn repeated(alloc: Global, record: &[u8], count: u32) -> Result<Vec<u8>, AllocError> {
-    let mut text = Vec::new(alloc);
-    for _ in 0..count {
-        text.extend_from_slice(record)?;
-    }
-    Ok(text)
 }
 
 #[test]
-fn most_messages(rt: HostRuntime) -> Result<(), Fail> {
+fn most_messages(rt: HostRuntime) -> Result<(), AllocError> {
     let alloc = rt.alloc();
     let most = repeated(alloc, b"send,0,1,1,0,0\n", 256)?;
     let more = repeated(alloc, b"send,0,1,1,0,0\n", 257)?;
@@ -164,7 +152,7 @@ fn good_deliveries(rt: HostRuntime) {
 }
 
 #[test]
-fn most_deliveries(rt: HostRuntime) -> Result<(), Fail> {
+fn most_deliveries(rt: HostRuntime) -> Result<(), AllocError> {
     let alloc = rt.alloc();
     let most = repeated(alloc, b"0,0,0\n", 65_536)?;
     let more = repeated(alloc, b"0,0,0\n", 65_537)?;

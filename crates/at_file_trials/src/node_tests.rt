@@ -2,14 +2,13 @@
 
 ghost use Rattle.std.specs.Prelude.{◌≡◌, ◌≤◌, All, IfSome, length};
 
+use crate::test_files::{TWO_OWNERS, book_of};
 use at_base::Counts;
 use at_broadcast::{MESSAGES_MAX, Message, Node};
-use at_files::{Delivery, read_book, read_deliveries, read_messages};
+use at_files::{Delivery, read_deliveries, read_messages};
 use at_ledger::Book;
 use at_report::nodes_text;
 use std::alloc::Global;
-
-const BOOK: &[u8] = b"book,1\nprocesses,2\nlimits,4,4\naccount,0,100,0\naccount,1,0,1\n";
 
 /// The messages of process 0. At the counts of the second, account 0 has 40.
 const FIRST: &[u8] = b"send,0,1,60,0,0\nsend,0,1,41,1,0\n";
@@ -129,7 +128,7 @@ fn output_of(alloc: Global, book: &Book, given: &Given) -> Option<Vec<u8>>
 
 /// Whether the deliveries lead to this output.
 fn leads_to(alloc: Global, order: &[u8], want: &[u8]) -> bool {
-    let Ok((book, _)) = read_book(alloc, BOOK) else {
+    let Some((book, _)) = book_of(alloc, TWO_OWNERS) else {
         return false;
     };
     if book.processes() != 2 || book.accounts() != 2 {

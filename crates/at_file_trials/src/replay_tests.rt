@@ -1,10 +1,11 @@
 //! Schedules and payments of a replay that are read, and those that are refused, each with its line and cause.
 
-use crate::message_tests::repeated;
+use crate::test_files::{book_of, repeated};
 use at_files::{
-    BadPayments, BadRecord, PaymentsWhy, ReadFault, ReadPaymentsFault, ScheduleWhy, read_book,
+    BadPayments, BadRecord, PaymentsWhy, ReadFault, ReadPaymentsFault, ScheduleWhy,
     read_replay_payments, read_schedule,
 };
+use at_ledger::Call;
 use std::alloc::{AllocError, Global};
 
 /// Whether the schedule of two processes is refused for this fault.
@@ -57,14 +58,19 @@ fn good_schedules(rt: HostRuntime) {
 
 const BOOK: &[u8] = b"book,1\nprocesses,1\nlimits,4,4\naccount,0,100,0\n";
 
-/// How many calls the payment file for a replay has, or why it is refused.
-fn replay_calls(alloc: Global, text: &[u8]) -> Result<usize, ReadPaymentsFault> {
-    let Ok((book, names)) = read_book(alloc, BOOK) else {
-        return Err(ReadPaymentsFault::NoMemory);
-    };
-    match read_replay_payments(alloc, &book, &names, text) {
-        Ok(calls) => Ok(calls.len()),
-        Err(fault) => Err(fault),
+/// The calls of the payment file for a replay. A book that is refused counts as no memory.
+fn replay_calls(alloc: Global, text: &[u8]) -> Result<Vec<Call>, ReadPaymentsFault> {
+    match book_of(alloc, BOOK) {
+        Some((book, names)) => read_replay_payments(alloc, &book, &names, text),
+        None => Err(ReadPaymentsFault::NoMemory),
+    }
+}
+
+/// How many calls the payment file for a replay has, if all is good.
+fn replay_count(alloc: Global, text: &[u8]) -> Option<usize> {
+    match replay_calls(alloc, text) {
+        Ok(calls) => Some(calls.len()),
+        Err(_) => None,
     }
 }
 
@@ -82,7 +88,7 @@ fn most_replay_calls(rt: HostRuntime) -> Result<(), AllocError> {
     let most = repeated(alloc, b"read,0\n", 64)?;
     let more = repeated(alloc, b"read,0\n", 70)?;
     assert!(rt;
-        replay_calls(alloc, &most) == Ok(64)
+        replay_count(alloc, &most) == Some(64)
             && is_bad_replay(alloc, &more, 65, PaymentsWhy::TooManyCalls)
     );
     Ok(())

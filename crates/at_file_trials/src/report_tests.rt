@@ -1,13 +1,12 @@
 //! The texts of reports, summaries and checks, and the line and exit status of each refusal.
 
-ghost use Rattle.std.specs.Prelude.{◌≡◌, length, All, IfOk};
+ghost use Rattle.std.specs.Prelude.{◌≡◌, ◌<◌, length, All, IfSome};
 ghost use Rattle.at_ledger.specs.Call.{IsLineOn};
-ghost use Rattle.at_ledger.specs.declared.call.Call.TheVariants.{Transfer};
 ghost use Rattle.at_files.specs.Names.{AreNamesOf};
 
+use crate::test_files::{ONE_PROCESS, book_of};
 use at_files::{
-    BadBook, BadPayments, BookWhy, MessagesWhy, Names, OrderWhy, PaymentsWhy, ReadBookFault,
-    ScheduleWhy, read_book,
+    BadBook, BadPayments, BookWhy, MessagesWhy, Names, OrderWhy, PaymentsWhy, ScheduleWhy,
 };
 use at_ledger::{Book, BookError, Call, Line, Reply};
 use at_report::{
@@ -99,42 +98,45 @@ fn refusals(rt: HostRuntime) {
 }
 
 /// A book of process 0 with two accounts, and its names. The process owns the first, which opens with 100.
-fn book(alloc: Global) -> Result<(Book, Names), ReadBookFault>
-    ensures processes { IfOk result (λ b. b.0.processes ≡ 1) }
-    ensures accounts { IfOk result (λ b. length b.0.accounts ≡ 2) }
-    ensures names { IfOk result (λ b. AreNamesOf b.0 b.1) }
+fn book(alloc: Global) -> Option<(Book, Names)>
+    ensures processes { IfSome result (λ b. b.0.processes ≡ 1) }
+    ensures accounts { IfSome result (λ b. length b.0.accounts ≡ 2) }
+    ensures names { IfSome result (λ b. AreNamesOf b.0 b.1) }
 {
-    let text = b"book,1\nprocesses,1\nlimits,4,4\naccount,0,100,0\naccount,1,0,\n";
-    let (book, names) = match read_book(alloc, text) {
-        Ok(read) => read,
-        Err(fault) => return Err(fault),
-    };
+    let (book, names) = book_of(alloc, ONE_PROCESS)?;
     if book.processes() == 1 && book.accounts() == 2 {
-        Ok((book, names))
+        Some((book, names))
     } else {
-        Err(ReadBookFault::NoMemory)
+        None
     }
 }
 
-/// A line of process 0.
-fn line(number: u32, call: Call, reply: Reply) -> Line
-    ensures { result ≡ record { process = 0; number = number; call = call; reply = reply } }
+/// The line of a transfer from account 0 to account 1.
+fn transfer(number: u32, amount: u64, reply: Reply) -> Line
+    ensures { IsLineOn 1 2 result }
 {
     Line {
         process: 0,
         number,
-        call,
+        call: Call::Transfer {
+            from: 0,
+            to: 1,
+            amount,
+        },
         reply,
     }
 }
 
-fn transfer(amount: u64) -> Call
-    ensures { result ≡ Transfer 0 1 amount }
+/// The line of a read.
+fn read(number: u32, account: u32, balance: u64) -> Line
+    requires { account < 2 }
+    ensures { IsLineOn 1 2 result }
 {
-    Call::Transfer {
-        from: 0,
-        to: 1,
-        amount,
+    Line {
+        process: 0,
+        number,
+        call: Call::Read { account },
+        reply: Reply::Balance(balance),
     }
 }
 
@@ -142,26 +144,19 @@ fn transfer(amount: u64) -> Call
 fn usual_lines() -> [Line; 3]
     ensures { All (IsLineOn 1 2) result }
 {
-    [
-        line(1, transfer(30), Reply::Done),
-        line(2, Call::Read { account: 0 }, Reply::Balance(70)),
-        line(3, Call::Read { account: 1 }, Reply::Balance(30)),
-    ]
+    [transfer(1, 30, Reply::Done), read(2, 0, 70), read(3, 1, 30)]
 }
 
 /// A transfer of 71, and one more that is not covered.
 fn two_transfers() -> [Line; 2]
     ensures { All (IsLineOn 1 2) result }
 {
-    [
-        line(1, transfer(71), Reply::Done),
-        line(2, transfer(71), Reply::Short),
-    ]
+    [transfer(1, 71, Reply::Done), transfer(2, 71, Reply::Short)]
 }
 
 #[test]
 fn a_report(rt: HostRuntime) -> Result<(), Fail> {
-    let (book, names) = book(rt.alloc())?;
+    let (book, names) = book(rt.alloc()).ok_or("no book")?;
     let text = report(rt.alloc(), &book, &names, &usual_lines())?;
     let want =
         b"journal 3\n0 1 transfer 0 1 30 done\n0 2 read 0 70\n0 3 read 1 30\nbalances 2\n0 70\n1 30\ntotal 100\n";
@@ -171,7 +166,7 @@ fn a_report(rt: HostRuntime) -> Result<(), Fail> {
 
 #[test]
 fn a_check(rt: HostRuntime) -> Result<(), Fail> {
-    let (book, _) = book(rt.alloc())?;
+    let (book, _) = book(rt.alloc()).ok_or("no book")?;
     let text = checked_text(rt.alloc(), &book, 3)?;
     assert!(rt; text.as_slice() == b"checked 1 2 3\n".as_slice());
     Ok(())
@@ -193,7 +188,7 @@ fn an_agreement(rt: HostRuntime) -> Result<(), Fail> {
 
 #[test]
 fn a_summary(rt: HostRuntime) -> Result<(), Fail> {
-    let (book, _) = book(rt.alloc())?;
+    let (book, _) = book(rt.alloc()).ok_or("no book")?;
     let text = summary(rt.alloc(), &book, &two_transfers(), 7, 2)?;
     let want = b"made 7 1 2\ndone 1\nread 0\nbalances 2\n0 29\n1 71\ntotal 100\n";
     assert!(rt; text.as_slice() == want.as_slice());

@@ -4,18 +4,14 @@ ghost use Rattle.std.specs.Prelude.{◌≡◌, All, IfSome, length};
 ghost use Rattle.at_files.specs.Names.{AreNamesOf};
 ghost use Rattle.at_verify.specs.Right.{IsPlayable, files_in};
 
-use at_files::{Names, read_book, read_payments};
+use crate::test_files::{NAMED, ONE_PROCESS, book_of};
+use at_files::{Names, read_payments};
 use at_ledger::{Book, Call};
 use at_verify::{TEXT_MAX, Verdict, verify};
 use std::alloc::Global;
 use std::test::Fail;
 
-const ONE: &[u8] = b"book,1\nprocesses,1\nlimits,4,4\naccount,0,100,0\naccount,1,0,\n";
-
 const TWO: &[u8] = b"book,1\nprocesses,2\nlimits,4,4\naccount,0,0,0\naccount,1,10,1\n";
-
-const NAMED: &[u8] =
-    b"book,2\nprocesses,ann,bob\nlimits,10,10\naccount,ann-cash,100,ann\naccount,joint,50,ann bob\naccount,shop,0,\n";
 
 /// A joint account, of which each owner has one request.
 const JOINT: &[u8] = b"book,1\nprocesses,2\nlimits,4,1\naccount,0,10,0 1\naccount,1,0,\n";
@@ -24,6 +20,17 @@ const USUAL: &[u8] = b"transfer,0,1,30\nread,0\nread,1\n";
 
 const REPORT: &[u8] =
     b"journal 3\n0 1 transfer 0 1 30 done\n0 2 read 0 70\n0 3 read 1 30\nbalances 2\n0 70\n1 30\ntotal 100\n";
+
+/// The calls of a payment file beside the book, if all is good.
+fn calls_of(alloc: Global, book: &Book, names: &Names, text: &[u8]) -> Option<Vec<Call>>
+    requires { AreNamesOf book.now names.now }
+    ensures playable { IfSome result (λ calls. IsPlayable (length book.now.accounts) calls.items) }
+{
+    match read_payments(alloc, book, names, text) {
+        Ok(calls) => Some(calls),
+        Err(_) => None,
+    }
+}
 
 /// The calls of the processes: the first text is the file of process 0, and the second of each other one.
 fn files_of(
@@ -40,7 +47,7 @@ fn files_of(
     let mut files = Vec::new(alloc);
     for process in 0..book.processes() {
         let payments = if process == 0 { first } else { others };
-        let Ok(calls) = read_payments(alloc, book, names, payments) else {
+        let Some(calls) = calls_of(alloc, book, names, payments) else {
             return None;
         };
         let Ok(()) = files.push(calls) else {
@@ -52,9 +59,7 @@ fn files_of(
 
 /// What is said of a report beside a book and the files of its processes.
 fn said(alloc: Global, book: &[u8], first: &[u8], others: &[u8], report: &[u8]) -> Option<Verdict> {
-    let Ok((book, names)) = read_book(alloc, book) else {
-        return None;
-    };
+    let (book, names) = book_of(alloc, book)?;
     let files = files_of(alloc, &book, &names, first, others)?;
     if report.len() > TEXT_MAX {
         return None;
@@ -64,7 +69,7 @@ fn said(alloc: Global, book: &[u8], first: &[u8], others: &[u8], report: &[u8]) 
 
 /// What is said of a report of the usual calls.
 fn said_of_usual(alloc: Global, report: &[u8]) -> Option<Verdict> {
-    said(alloc, ONE, USUAL, USUAL, report)
+    said(alloc, ONE_PROCESS, USUAL, USUAL, report)
 }
 
 #[test]

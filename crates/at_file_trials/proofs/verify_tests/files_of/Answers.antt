@@ -14,10 +14,9 @@ playable-push accounts files file playable one =
 
 pub loop-process-preserved : goal.loop-process-preserved
 loop-process-preserved c =
-    let items = c.in-Ok-push.ensures.items in
-    let pays = c.in-Ok.ensures.pays in
-    let one : IsPlayable (length c.args.book.now.accounts) c.in-Ok.calls.items = record { known = pays.known; few = pays.few } in
+    let items = c.in-Ok.ensures.items in
+    let one : IsPlayable (length c.args.book.now.accounts) c.in-Some.calls.items = c.in-Some.ensures.playable in
     record {
       many = rw (items, length-append) (let many = c.loop-process.invariant.many in omega arith);
-      playable = rw items (playable-push (length c.args.book.now.accounts) c.loop-process.files.items c.in-Ok.calls c.loop-process.invariant.playable one);
+      playable = rw items (playable-push (length c.args.book.now.accounts) c.loop-process.files.items c.in-Some.calls c.loop-process.invariant.playable one);
     }

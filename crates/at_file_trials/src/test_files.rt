@@ -1,0 +1,37 @@
+//! Books that are read, and texts that are long.
+
+ghost use Rattle.std.specs.Prelude.{IfSome};
+ghost use Rattle.at_files.specs.Names.{AreNamesOf};
+
+use at_files::{Names, read_book};
+use at_ledger::Book;
+use std::alloc::{AllocError, Global};
+
+pub(crate) const ONE_PROCESS: &[u8] =
+    b"book,1\nprocesses,1\nlimits,4,4\naccount,0,100,0\naccount,1,0,\n";
+
+/// A book in which each of two processes owns an account.
+pub(crate) const TWO_OWNERS: &[u8] =
+    b"book,1\nprocesses,2\nlimits,4,4\naccount,0,100,0\naccount,1,0,1\n";
+
+pub(crate) const NAMED: &[u8] =
+    b"book,2\nprocesses,ann,bob\nlimits,10,10\naccount,ann-cash,100,ann\naccount,joint,50,ann bob\naccount,shop,0,\n";
+
+/// The book of this text and its names, if all is good. It says less than the reader, so that a proof above it is short.
+pub(crate) fn book_of(alloc: Global, text: &[u8]) -> Option<(Book, Names)>
+    ensures names { IfSome result (λ b. AreNamesOf b.0 b.1) }
+{
+    match read_book(alloc, text) {
+        Ok(read) => Some(read),
+        Err(_) => None,
+    }
+}
+
+/// So many records that are the same.
+pub(crate) fn repeated(alloc: Global, record: &[u8], count: u32) -> Result<Vec<u8>, AllocError> {
+    let mut text = Vec::new(alloc);
+    for _ in 0..count {
+        text.extend_from_slice(record)?;
+    }
+    Ok(text)
+}
