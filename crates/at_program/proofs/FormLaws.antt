@@ -1,9 +1,10 @@
 -- Words of one command have no other command's form.
-use Rattle.std.proofs.Common.{◌≡◌, List, [], ◌∷◌, Bool, true, false, cond, Some, None, codes, refl, subst}
+use Rattle.std.proofs.Common.{◌≡◌, List, [], ◌∷◌, Bool, true, false, cond, Option, Some, None, codes, refl, subst, sym}
 use Rattle.std.specs.Prelude.{bytes_eq}
 use Rattle.std.proofs.lemmas.Slice.Eq.{bytes_eq-Decides}
 use Rattle.at_report.specs.Lines.{Word}
-use Rattle.at_program.specs.Words.{Delivering, Form, Verifying, deliver_of, form_of, verify_of}
+use Rattle.at_program.specs.Words.{Delivering, Form, Replaying, Verifying, deliver_of, form_of, make_of, replay_of, verify_of}
+use Rattle.at_program.specs.declared.words.Making.{Making}
 
 -- words that ask `verify` for something begin with its name
 first-verify_of : (word book report : Word) (payments : List Word) (asked : Verifying) → verify_of (word ∷ book ∷ report ∷ payments) ≡ Some asked
@@ -49,3 +50,65 @@ verify_of-deliver_of (word ∷ book ∷ []) asked other delivers has = cc
 verify_of-deliver_of (word ∷ book ∷ order ∷ messages) asked other delivers has =
     let named = subst (λ (w : Word). verify_of (w ∷ book ∷ order ∷ messages) ≡ Some other) (first-deliver_of word book order messages asked delivers) has in
     cc
+
+-- words that ask `replay` for something begin with its name
+first-replay_of : (word book schedule : Word) (payments : List Word) (asked : Replaying) → replay_of (word ∷ book ∷ schedule ∷ payments) ≡ Some asked
+    → word ≡ codes "replay"
+first-replay_of word book schedule payments asked is = by (bytes_eq word (codes "replay")) refl _ is
+  where
+    by : (b : Bool) → bytes_eq word (codes "replay") ≡ b → (other : Replaying) → cond b (Some other) None ≡ Some asked → word ≡ codes "replay"
+    by true same other is = (bytes_eq-Decides word (codes "replay")).0 same
+    by false same other is = absurd (cc)
+
+-- words of `replay` have no form of `run` or `check`
+pub form_of-replay_of : (words : List Word) (asked : Replaying) (form : Form) → replay_of words ≡ Some asked → form_of words ≡ Some form → ⊥
+form_of-replay_of [] asked form replays has = cc
+form_of-replay_of (word ∷ []) asked form replays has = cc
+form_of-replay_of (word ∷ book ∷ []) asked form replays has = cc
+form_of-replay_of (word ∷ book ∷ schedule ∷ payments) asked form replays has =
+    let named = subst (λ (w : Word). form_of (w ∷ book ∷ schedule ∷ payments) ≡ Some form) (first-replay_of word book schedule payments asked replays) has in
+    cc
+
+-- and not that of `verify`
+pub verify_of-replay_of : (words : List Word) (asked : Replaying) (other : Verifying) → replay_of words ≡ Some asked → verify_of words ≡ Some other → ⊥
+verify_of-replay_of [] asked other replays has = cc
+verify_of-replay_of (word ∷ []) asked other replays has = cc
+verify_of-replay_of (word ∷ book ∷ []) asked other replays has = cc
+verify_of-replay_of (word ∷ book ∷ schedule ∷ payments) asked other replays has =
+    let named = subst (λ (w : Word). verify_of (w ∷ book ∷ schedule ∷ payments) ≡ Some other) (first-replay_of word book schedule payments asked replays) has in
+    cc
+
+-- nor that of `deliver`
+pub deliver_of-replay_of : (words : List Word) (asked : Replaying) (other : Delivering) → replay_of words ≡ Some asked → deliver_of words ≡ Some other → ⊥
+deliver_of-replay_of [] asked other replays has = cc
+deliver_of-replay_of (word ∷ []) asked other replays has = cc
+deliver_of-replay_of (word ∷ book ∷ []) asked other replays has = cc
+deliver_of-replay_of (word ∷ book ∷ schedule ∷ payments) asked other replays has =
+    let named = subst (λ (w : Word). deliver_of (w ∷ book ∷ schedule ∷ payments) ≡ Some other) (first-replay_of word book schedule payments asked replays) has in
+    cc
+
+-- words that ask `make` for numbers begin with its name
+first-make_of : (word first processes calls : Word) (m : Making) → make_of (word ∷ first ∷ processes ∷ calls ∷ []) ≡ Some m → word ≡ codes "make"
+first-make_of word first processes calls m is = by (bytes_eq word (codes "make")) refl _ is
+  where
+    by : (b : Bool) → bytes_eq word (codes "make") ≡ b → (other : Option Making) → cond b other None ≡ Some m → word ≡ codes "make"
+    by true same other is = (bytes_eq-Decides word (codes "make")).0 same
+    by false same other is = absurd (cc)
+
+-- the words have no form of a command that reads files
+pub record ReadNothing (words : List Word) : Type 0 where
+  pub forms_none : form_of words ≡ None
+  pub verifies_none : verify_of words ≡ None
+  pub delivers_none : deliver_of words ≡ None
+  pub replays_none : replay_of words ≡ None
+
+-- words of `make` have none
+pub ReadNothing-make_of : (words : List Word) (m : Making) → make_of words ≡ Some m → ReadNothing words
+ReadNothing-make_of [] m makes = absurd (cc)
+ReadNothing-make_of (word ∷ []) m makes = absurd (cc)
+ReadNothing-make_of (word ∷ first ∷ []) m makes = absurd (cc)
+ReadNothing-make_of (word ∷ first ∷ processes ∷ []) m makes = absurd (cc)
+ReadNothing-make_of (word ∷ first ∷ processes ∷ calls ∷ []) m makes =
+    subst (λ (w : Word). ReadNothing (w ∷ first ∷ processes ∷ calls ∷ [])) (sym (first-make_of word first processes calls m makes))
+    (record { forms_none = refl; verifies_none = refl; delivers_none = refl; replays_none = refl })
+ReadNothing-make_of (word ∷ first ∷ processes ∷ calls ∷ other ∷ others) m makes = absurd (cc)

@@ -6,6 +6,7 @@ pub mod JobsRun
 pub mod SpelledLoaded
 pub mod NodesGiven
 pub mod DeliveringLaws
+pub mod ReplayingLaws
 pub mod ClaimLaws
 pub mod FormLaws
 pub mod ValueLaws

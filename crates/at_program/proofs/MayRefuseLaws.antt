@@ -4,7 +4,7 @@ use Rattle.at_report.specs.declared.status.Status.{Status}
 use Rattle.at_report.specs.declared.status.Status.TheVariants.{Done, Usage, BadBook, BadPayments, ReadFault, WriteFault, NoMemory, TooLong, BadSchedule, BadOrder, BadMessages, NotLegal}
 use Rattle.at_report.specs.declared.status.UsageFault.TheVariants as usage
 use Rattle.at_program.specs.Faults.{HasFileNumbers, HasFurtherNumbers, IsBrought, IsFaultless, IsUnfetched, IsUnread, Kind, MayRefuseOf, RefusesFile}
-use Rattle.at_program.specs.Faults.Kind.{payments, messages}
+use Rattle.at_program.specs.Faults.Kind.{payments, scheduled, messages}
 use Rattle.at_io.specs.Faults.{Rose}
 
 -- the refusal of an answer
@@ -30,15 +30,20 @@ MayRefuse-whole kind tells part whole before now (Usage usage.Words) leads h = a
 MayRefuse-whole kind tells part whole before now (BadBook bad) leads h = IsBrought-whole tells part whole before now (BadBook bad) leads h
 MayRefuse-whole kind tells part whole before now (TooLong file) leads h = IsBrought-whole tells part whole before now (TooLong file) leads h
 MayRefuse-whole payments tells part whole before now (BadPayments process bad) leads h = IsBrought-whole tells part whole before now (BadPayments process bad) leads h
+MayRefuse-whole scheduled tells part whole before now (BadPayments process bad) leads h = IsBrought-whole tells part whole before now (BadPayments process bad) leads h
 MayRefuse-whole messages tells part whole before now (BadPayments process bad) leads h = absurd h
+MayRefuse-whole payments tells part whole before now (BadSchedule line why) leads h = absurd h
+MayRefuse-whole scheduled tells part whole before now (BadSchedule line why) leads h = IsBrought-whole tells part whole before now (BadSchedule line why) leads h
+MayRefuse-whole messages tells part whole before now (BadSchedule line why) leads h = absurd h
 MayRefuse-whole payments tells part whole before now (BadOrder line why) leads h = absurd h
+MayRefuse-whole scheduled tells part whole before now (BadOrder line why) leads h = absurd h
 MayRefuse-whole messages tells part whole before now (BadOrder line why) leads h = IsBrought-whole tells part whole before now (BadOrder line why) leads h
 MayRefuse-whole payments tells part whole before now (BadMessages process line why) leads h = absurd h
+MayRefuse-whole scheduled tells part whole before now (BadMessages process line why) leads h = absurd h
 MayRefuse-whole messages tells part whole before now (BadMessages process line why) leads h =
     IsBrought-whole tells part whole before now (BadMessages process line why) leads h
 MayRefuse-whole kind tells part whole before now Done leads h = absurd h
 MayRefuse-whole kind tells part whole before now WriteFault leads h = absurd h
-MayRefuse-whole kind tells part whole before now (BadSchedule line why) leads h = absurd h
 MayRefuse-whole kind tells part whole before now (NotLegal line) leads h = absurd h
 
 -- a refusal of a process's file is one of loading
@@ -46,8 +51,10 @@ pub MayRefuse-file : {A B : Type 0} (kind : Kind) (tells : Bool) (given : Result
     → now ≡ before → (tells ≡ true → given ≡ Err refusal → whole ≡ Err refusal) → RefusesFile kind given process refusal → MayRefuseOf kind tells whole before now refusal
 MayRefuse-file kind tells given whole process before now NoMemory kept leads h = h
 MayRefuse-file payments tells given whole process before now (BadPayments p bad) kept leads h = (kept, λ told. leads told h.1)
+MayRefuse-file scheduled tells given whole process before now (BadPayments p bad) kept leads h = (kept, λ told. leads told h.1)
 MayRefuse-file messages tells given whole process before now (BadMessages p line why) kept leads h = (kept, λ told. leads told h.1)
 MayRefuse-file payments tells given whole process before now (BadMessages p line why) kept leads h = absurd h
+MayRefuse-file scheduled tells given whole process before now (BadMessages p line why) kept leads h = absurd h
 MayRefuse-file messages tells given whole process before now (BadPayments p bad) kept leads h = absurd h
 MayRefuse-file kind tells given whole process before now (ReadFault file) kept leads h = absurd h
 MayRefuse-file kind tells given whole process before now (Usage (usage.Files wanted given_files)) kept leads h = absurd h
@@ -105,12 +112,19 @@ MayRefuse-loaded kind tells expected l before now out_before out_now (TooLong fi
     absurd (IsBrought-loaded tells expected l before now (TooLong file) told is (refuses (λ e. cc) (λ e. cc)))
 MayRefuse-loaded payments tells expected l before now out_before out_now (BadPayments process bad) told is shelf out writes refuses =
     absurd (IsBrought-loaded tells expected l before now (BadPayments process bad) told is (refuses (λ e. cc) (λ e. cc)))
+MayRefuse-loaded scheduled tells expected l before now out_before out_now (BadPayments process bad) told is shelf out writes refuses =
+    absurd (IsBrought-loaded tells expected l before now (BadPayments process bad) told is (refuses (λ e. cc) (λ e. cc)))
 MayRefuse-loaded messages tells expected l before now out_before out_now (BadPayments process bad) told is shelf out writes refuses = absurd (refuses (λ e. cc) (λ e. cc))
+MayRefuse-loaded payments tells expected l before now out_before out_now (BadSchedule line why) told is shelf out writes refuses = absurd (refuses (λ e. cc) (λ e. cc))
+MayRefuse-loaded scheduled tells expected l before now out_before out_now (BadSchedule line why) told is shelf out writes refuses =
+    absurd (IsBrought-loaded tells expected l before now (BadSchedule line why) told is (refuses (λ e. cc) (λ e. cc)))
+MayRefuse-loaded messages tells expected l before now out_before out_now (BadSchedule line why) told is shelf out writes refuses = absurd (refuses (λ e. cc) (λ e. cc))
 MayRefuse-loaded payments tells expected l before now out_before out_now (BadOrder line why) told is shelf out writes refuses = absurd (refuses (λ e. cc) (λ e. cc))
+MayRefuse-loaded scheduled tells expected l before now out_before out_now (BadOrder line why) told is shelf out writes refuses = absurd (refuses (λ e. cc) (λ e. cc))
 MayRefuse-loaded messages tells expected l before now out_before out_now (BadOrder line why) told is shelf out writes refuses =
     absurd (IsBrought-loaded tells expected l before now (BadOrder line why) told is (refuses (λ e. cc) (λ e. cc)))
 MayRefuse-loaded payments tells expected l before now out_before out_now (BadMessages process line why) told is shelf out writes refuses = absurd (refuses (λ e. cc) (λ e. cc))
+MayRefuse-loaded scheduled tells expected l before now out_before out_now (BadMessages process line why) told is shelf out writes refuses = absurd (refuses (λ e. cc) (λ e. cc))
 MayRefuse-loaded messages tells expected l before now out_before out_now (BadMessages process line why) told is shelf out writes refuses =
     absurd (IsBrought-loaded tells expected l before now (BadMessages process line why) told is (refuses (λ e. cc) (λ e. cc)))
-MayRefuse-loaded kind tells expected l before now out_before out_now (BadSchedule line why) told is shelf out writes refuses = absurd (refuses (λ e. cc) (λ e. cc))
 MayRefuse-loaded kind tells expected l before now out_before out_now (NotLegal line) told is shelf out writes refuses = absurd (refuses (λ e. cc) (λ e. cc))

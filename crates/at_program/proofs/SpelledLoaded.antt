@@ -9,15 +9,17 @@ use Rattle.at_files.specs.Names.{AreNamesOf, NameList}
 use Rattle.at_files.specs.Records.{records_of}
 use Rattle.at_files.specs.BookFile.{book_of_records}
 use Rattle.at_files.specs.Payments.{payments_of}
+use Rattle.at_files.specs.ReplayPayments.{replay_payments_of}
 use Rattle.at_files.proofs.BookAccepted.{book_of_records-records_of_book}
 use Rattle.at_files.proofs.MessageLaws.{messages_of-Sends}
 use Rattle.at_files.proofs.PaymentsAccepted.{payments_of-Pays}
+use Rattle.at_files.proofs.ReplayLaws.{replay_payments_of-PaysReplay}
 use Rattle.at_io.specs.Limits.{most_file_bytes}
 use Rattle.at_report.specs.Lines.{Word}
 use Rattle.at_program.specs.Words.{Form}
 use Rattle.at_program.specs.declared.loading.Loaded as program
 use Rattle.at_verify.specs.Right.{IsPlayable, files_in}
-use Rattle.at_program.specs.Loading.{Files, Giving, HoldsFile, IsSpelled, Loaded, LoadedOf, PaysBytes, SendsBytes, Spelled, SpelledOf, Spelling, SpellsBook, SpellsFile, all_loaded, book_loaded, calls_given, contents_of, fetched, files_loaded, loaded, messages_given, named}
+use Rattle.at_program.specs.Loading.{Files, Giving, HoldsFile, IsSpelled, Loaded, LoadedOf, PaysBytes, PaysReplayBytes, SendsBytes, Spelled, SpelledOf, Spelling, SpellsBook, SpellsFile, all_loaded, book_loaded, calls_given, contents_of, fetched, files_loaded, loaded, messages_given, named, replay_calls_given}
 
 -- a file that is there and not too long is fetched
 pub fetched-HoldsFile : (files : Files) (name : Word) (bytes : List ℕ) (number : ℕ) → HoldsFile files name bytes → fetched (files name) number ≡ Ok bytes
@@ -66,6 +68,11 @@ all_loaded-SpelledOf spells given files name words l accepts is =
 Accepts-payments : Accepts PaysBytes calls_given
 Accepts-payments b process bytes calls checked are is =
     let read : payments_of b.names (records_of bytes) ≡ Ok calls = payments_of-Pays b.book b.names (records_of bytes) calls are is in
+    rw read refl
+
+pub Accepts-replay : Accepts PaysReplayBytes replay_calls_given
+Accepts-replay b process bytes calls checked are is =
+    let read : replay_payments_of b.names (records_of bytes) ≡ Ok calls = replay_payments_of-PaysReplay b.book b.names (records_of bytes) calls are is in
     rw read refl
 
 pub Accepts-messages : Accepts SendsBytes messages_given

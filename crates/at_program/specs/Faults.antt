@@ -2,7 +2,7 @@
 use Rattle.std.specs.Prelude.{◌≡◌, ℕ, ◌+◌, ◌<◌, ◌≤◌, ◌-◌, ◌^◌, ◌≢◌, ◌⊎◌, ⊤, Bool, true, Result, Ok, Err}
 use Rattle.at_io.specs.Faults.{Rose}
 use Rattle.at_report.specs.declared.status.Status.{Status}
-use Rattle.at_report.specs.declared.status.Status.TheVariants.{Done, Usage, BadBook, BadPayments, ReadFault, WriteFault, NoMemory, TooLong, BadOrder, BadMessages}
+use Rattle.at_report.specs.declared.status.Status.TheVariants.{Done, Usage, BadBook, BadPayments, ReadFault, WriteFault, NoMemory, TooLong, BadSchedule, BadOrder, BadMessages}
 use Rattle.at_report.specs.declared.status.UsageFault.TheVariants as usage
 
 -- a refusal that only the bytes of the files can bring: no fault was counted, and it is the one that a telling shelf's files bring
@@ -13,9 +13,10 @@ IsBrought tells expected before now refusal = (now ≡ before) × (tells ≡ tru
 abbrev pub IsUnread : {A : Type 0} → Bool → Result A Status → ℕ → ℕ → Status → Type 0
 IsUnread tells expected before now refusal = Rose before now ⊎ ((tells ≡ true) × (expected ≡ Err refusal))
 
--- the files of the processes: payments, or messages with their deliveries
+-- the files of the processes: payments, payments with a schedule of the turns that make them, or messages with their deliveries
 pub data Kind : Type 0 where
   payments : Kind
+  scheduled : Kind
   messages : Kind
 
 -- when loading files of this kind may be refused so, over a shelf whose files lead to what is expected, by its counts of faults
@@ -27,6 +28,8 @@ MayRefuseOf kind tells expected before now (Usage (usage.Files wanted given)) = 
 MayRefuseOf kind tells expected before now (BadBook bad) = IsBrought tells expected before now (BadBook bad)
 MayRefuseOf kind tells expected before now (TooLong file) = IsBrought tells expected before now (TooLong file)
 MayRefuseOf payments tells expected before now (BadPayments process bad) = IsBrought tells expected before now (BadPayments process bad)
+MayRefuseOf scheduled tells expected before now (BadPayments process bad) = IsBrought tells expected before now (BadPayments process bad)
+MayRefuseOf scheduled tells expected before now (BadSchedule line why) = IsBrought tells expected before now (BadSchedule line why)
 MayRefuseOf messages tells expected before now (BadMessages process line why) = IsBrought tells expected before now (BadMessages process line why)
 MayRefuseOf messages tells expected before now (BadOrder line why) = IsBrought tells expected before now (BadOrder line why)
 MayRefuseOf _ tells expected before now _ = ⊥
@@ -39,6 +42,7 @@ MayRefuse tells expected before now refusal = MayRefuseOf payments tells expecte
 abbrev pub RefusesFile : {A : Type 0} → Kind → Result A Status → ℕ → Status → Type 0
 RefusesFile kind expected process NoMemory = ⊤
 RefusesFile payments expected process (BadPayments p bad) = (p ≡ process) × (expected ≡ Err (BadPayments p bad))
+RefusesFile scheduled expected process (BadPayments p bad) = (p ≡ process) × (expected ≡ Err (BadPayments p bad))
 RefusesFile messages expected process (BadMessages p line why) = (p ≡ process) × (expected ≡ Err (BadMessages p line why))
 RefusesFile _ expected process _ = ⊥
 

@@ -7,6 +7,7 @@ pub mod Answer
 pub mod Claims
 pub mod Nodes
 pub mod Delivering
+pub mod Replaying
 pub mod Generator
 pub mod Made
 pub mod Agreed

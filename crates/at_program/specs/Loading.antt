@@ -11,6 +11,7 @@ use Rattle.at_files.specs.BookRecords.{NamedBook}
 use Rattle.at_files.specs.BookFile.{book_of_records, Spells}
 use Rattle.at_files.specs.Messages.{Sends, messages_of}
 use Rattle.at_files.specs.Payments.{payments_of, Pays}
+use Rattle.at_files.specs.ReplayPayments.{replay_payments_of, PaysReplay}
 use Rattle.at_files.specs.declared.book_fault.BadBook.{BadBook}
 use Rattle.at_files.specs.declared.messages.MessagesWhy.{MessagesWhy}
 use Rattle.at_files.specs.declared.payments_fault.BadPayments.{BadPayments}
@@ -92,6 +93,10 @@ calls_read process (Err bad) = Err (status.BadPayments process bad)
 abbrev pub calls_given : NamedBook → Giving Call
 calls_given b process bytes = calls_read process (payments_of b.names (records_of bytes))
 
+-- the same of a payment file for a replay, which makes fewer calls
+abbrev pub replay_calls_given : NamedBook → Giving Call
+replay_calls_given b process bytes = calls_read process (replay_payments_of b.names (records_of bytes))
+
 -- a book with its names, and the calls of each process
 abbrev pub Loaded : Type 0
 Loaded = LoadedOf Call
@@ -158,6 +163,10 @@ Spelling T = NamedBook → List ℕ → List T → Type 0
 -- the calls of a payment file
 abbrev pub PaysBytes : Spelling Call
 PaysBytes b bytes calls = Pays b.book b.names (records_of bytes) calls
+
+-- the calls of a payment file for a replay
+abbrev pub PaysReplayBytes : Spelling Call
+PaysReplayBytes b bytes calls = PaysReplay b.book b.names (records_of bytes) calls
 
 -- the messages of a message file
 abbrev pub SendsBytes : Spelling Message

@@ -7,6 +7,7 @@ use Rattle.at_ledger.specs.Draft.{is_within}
 use Rattle.at_report.specs.Lines.{Word}
 use Rattle.at_program.specs.declared.words.Delivering as delivering
 use Rattle.at_program.specs.declared.words.Form as words
+use Rattle.at_program.specs.declared.words.Replaying as replaying
 use Rattle.at_program.specs.declared.words.Verifying as verifying
 use Rattle.at_program.specs.declared.words.Command.{Command}
 use Rattle.at_program.specs.declared.words.Command.TheVariants.{Run, Check}
@@ -104,6 +105,26 @@ AskToDeliver words asked = deliver_of (words_of words) ≡ Some asked
 -- the same words, as the program holds them
 abbrev pub delivering_shown : delivering.Delivering → Delivering
 delivering_shown asked = record { book = asked.book.now; order = asked.order.now; messages = words_of asked.messages.now }
+
+-- the names of the book, of the schedule, and of the payment files in process order
+pub record Replaying : Type 0 where
+  pub book : Word
+  pub schedule : Word
+  pub payments : List Word
+
+-- the words of `replay`: the command, a book, a schedule, and any number of payment files
+abbrev pub replay_of : List Word → Option Replaying
+replay_of (word ∷ book ∷ schedule ∷ payments) =
+    if bytes_eq word (codes "replay") then Some (record { book = book; schedule = schedule; payments = payments }) else None
+replay_of words = None
+
+-- the words ask `replay` for this
+abbrev pub AskToReplay : List (String Global) → Replaying → Type 0
+AskToReplay words asked = replay_of (words_of words) ≡ Some asked
+
+-- the same words, as the program holds them
+abbrev pub replaying_shown : replaying.Replaying → Replaying
+replaying_shown asked = record { book = asked.book.now; schedule = asked.schedule.now; payments = words_of asked.payments.now }
 
 -- a number that a process can propose
 abbrev pub small : Option ℕ → Option ℕ

@@ -11,6 +11,7 @@ ghost use Rattle.at_program.specs.Loading.{all_shown, contents_of};
 ghost use Rattle.at_program.specs.Nodes.{AreSent, Broadcast, PrintsNodes, counts_of};
 ghost use Rattle.at_program.specs.Words.{delivering_shown};
 
+use crate::file_forms::Messages;
 use crate::loading::{Loaded, fetch_file, load_all};
 use crate::nodes::nodes_given;
 use crate::words;
@@ -116,7 +117,7 @@ fn broadcast_text<F: Shelf>(
         file }
     ensures numbered { IfErr result (HasFurtherNumbers (length asked.now.messages.now)) }
 {
-    let sent = match load_all(alloc, shelf, asked.book, asked.messages) {
+    let sent = match load_all::<F, Messages>(alloc, shelf, asked.book, asked.messages) {
         Ok(sent) => sent,
         Err(refusal) => return Err(refusal),
     };

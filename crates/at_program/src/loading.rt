@@ -6,16 +6,13 @@ ghost use Rattle.at_files.specs.BookRecords.{NamedBook};
 ghost use Rattle.at_files.specs.Names.{AreNamesOf};
 ghost use Rattle.at_io.specs.Limits.{most_file_bytes};
 ghost use Rattle.at_program.specs.Words.{words_of, form_shown};
-ghost use Rattle.at_program.specs.Faults.{HasFileNumbers, IsUnfetched, Kind, MayRefuse, MayRefuseOf, RefusesFile};
+ghost use Rattle.at_program.specs.Faults.{HasFileNumbers, IsUnfetched, Kind, MayRefuse, MayRefuseOf};
 ghost use Rattle.at_verify.specs.Right.{IsPlayable, files_in};
-ghost use Rattle.at_program.specs.Loading.{EachSpells, Giving, HoldsFile, IsFileReached, IsSpelled, MayReach, MayReachOf, PaysBytes, SendsBytes, Spelled, SpelledOf, Spelling, SpellsBook, SpellsFile, all_loaded, all_shown, book_loaded, calls_given, contents_of, fetched, file_loaded, files_loaded, loaded, loaded_shown, messages_given, named};
+ghost use Rattle.at_program.specs.Loading.{EachSpells, HoldsFile, IsFileReached, IsSpelled, MayReach, MayReachOf, Spelled, SpelledOf, SpellsBook, SpellsFile, all_loaded, all_shown, book_loaded, contents_of, fetched, file_loaded, files_loaded, loaded, loaded_shown, named};
 
+use crate::file_forms::{FileForm, Payments};
 use crate::words::Form;
-use at_broadcast::Message;
-use at_files::{
-    Names, ReadBookFault, ReadMessagesFault, ReadPaymentsFault, read_book, read_messages,
-    read_payments,
-};
+use at_files::{Names, ReadBookFault, read_book};
 use at_io::{FetchError, Shelf, fetch};
 use at_ledger::{Book, Call};
 use at_report::{Status, UsageFault};
@@ -27,84 +24,6 @@ pub struct Loaded<T> {
     pub book: Book,
     pub names: Names,
     pub files: Vec<Vec<T>>,
-}
-
-/// What the file of a process holds, one item for each record.
-pub trait FileItem: Drop {
-    // what the bytes of a process's file give beside a book, or why they are refused
-    ghost given: { NamedBook → Giving Self };
-
-    // what they spell
-    ghost spells: { Spelling Self };
-
-    // the kind of the files
-    ghost kind: { Kind };
-
-    /// The items of the file of this process, from its bytes.
-    fn read(
-        alloc: Global,
-        book: &Book,
-        names: &Names,
-        process: u32,
-        bytes: &[u8],
-    ) -> Result<Vec<Self>, Status>
-        requires { AreNamesOf book.now names.now }
-        ensures ok { IfOk result
-            (λ items. given (named book.now names.now) process bytes.now ≡ Ok
-            items.items) }
-        ensures spelled { IfOk result
-            (λ items. spells (named book.now names.now) bytes.now items.items) }
-        ensures err { IfErr result
-            (RefusesFile kind
-            (given (named book.now names.now) process bytes.now) process) };
-}
-
-impl FileItem for Call {
-    ghost given = { calls_given };
-
-    ghost spells = { PaysBytes };
-
-    ghost kind = { Kind.payments };
-
-    fn read(
-        alloc: Global,
-        book: &Book,
-        names: &Names,
-        process: u32,
-        bytes: &[u8],
-    ) -> Result<Vec<Call>, Status> {
-        match read_payments(alloc, book, names, bytes) {
-            Ok(calls) => Ok(calls),
-            Err(ReadPaymentsFault::Bad(fault)) => Err(Status::BadPayments { process, fault }),
-            Err(ReadPaymentsFault::NoMemory) => Err(Status::NoMemory),
-        }
-    }
-}
-
-impl FileItem for Message {
-    ghost given = { messages_given };
-
-    ghost spells = { SendsBytes };
-
-    ghost kind = { Kind.messages };
-
-    fn read(
-        alloc: Global,
-        book: &Book,
-        _names: &Names,
-        process: u32,
-        bytes: &[u8],
-    ) -> Result<Vec<Message>, Status> {
-        match read_messages(alloc, book, bytes) {
-            Ok(messages) => Ok(messages),
-            Err(ReadMessagesFault::Bad(bad)) => Err(Status::BadMessages {
-                process,
-                line: bad.line,
-                why: bad.why,
-            }),
-            Err(ReadMessagesFault::NoMemory) => Err(Status::NoMemory),
-        }
-    }
 }
 
 /// The bytes of the file with this number.
@@ -169,15 +88,15 @@ fn load_book<F: Shelf>(alloc: Global, shelf: &mut F, name: &str) -> Result<(Book
     }
 }
 
-/// What the file of this name holds, which is a process's.
-fn load_file<F: Shelf, T: FileItem>(
+/// What the file of this name holds, which is a process's and of this form.
+fn load_file<F: Shelf, P: FileForm>(
     alloc: Global,
     shelf: &mut F,
     book: &Book,
     names: &Names,
     process: u32,
     name: &str,
-) -> Result<Vec<T>, Status>
+) -> Result<Vec<P::Item>, Status>
     requires names { AreNamesOf book.now names.now }
     requires process { process < 2 ^ 31 }
     ensures files { SameFiles (F.tells shelf.old) (F.tells shelf.new) (F.file shelf.old)
@@ -186,17 +105,17 @@ fn load_file<F: Shelf, T: FileItem>(
     ensures kept { OnOk result (F.faults shelf.new ≡ F.faults shelf.old) }
     ensures ok { F.tells shelf.old ≡ true
         → IfOk result
-        (λ items. file_loaded (T.given (named book.now names.now))
+        (λ items. file_loaded (P.given (named book.now names.now))
         (F.file shelf.old) process name.now ≡ Ok items.items) }
     ensures spelled { F.tells shelf.old ≡ true
         → IfOk result
-        (λ items. SpellsFile (T.spells (named book.now names.now))
+        (λ items. SpellsFile (P.spells (named book.now names.now))
         (F.file shelf.old) name.now items.items) }
     ensures known { IfOk result
-        (λ items. IsSpelled (T.spells (named book.now names.now)) items.items) }
+        (λ items. IsSpelled (P.spells (named book.now names.now)) items.items) }
     ensures err { IfErr result
-        (λ refusal. MayRefuseOf T.kind (F.tells shelf.old)
-        (file_loaded (T.given (named book.now names.now)) (F.file shelf.old)
+        (λ refusal. MayRefuseOf P.kind (F.tells shelf.old)
+        (file_loaded (P.given (named book.now names.now)) (F.file shelf.old)
         process name.now) (F.faults shelf.old) (F.faults shelf.new) refusal) }
     ensures file { (file : ℕ) → result ≡ Err (Status.ReadFault file) → file ≡ process + 1 }
     ensures numbered { (files : ℕ) → process < files → IfErr result (HasFileNumbers files) }
@@ -205,17 +124,17 @@ fn load_file<F: Shelf, T: FileItem>(
         Ok(bytes) => bytes,
         Err(refusal) => return Err(refusal),
     };
-    T::read(alloc, book, names, process, bytes.as_slice())
+    P::read(alloc, book, names, process, bytes.as_slice())
 }
 
 /// What the file of each process holds, from the files of these names, one after another.
-fn load_files<F: Shelf, T: FileItem>(
+fn load_files<F: Shelf, P: FileForm>(
     alloc: Global,
     shelf: &mut F,
     book: &Book,
     names: &Names,
     words: &[String],
-) -> Result<Vec<Vec<T>>, Status>
+) -> Result<Vec<Vec<P::Item>>, Status>
     requires names { AreNamesOf book.now names.now }
     requires few { length words.now < 2 ^ 31 }
     ensures files { SameFiles (F.tells shelf.old) (F.tells shelf.new) (F.file shelf.old)
@@ -224,28 +143,35 @@ fn load_files<F: Shelf, T: FileItem>(
     ensures kept { OnOk result (F.faults shelf.new ≡ F.faults shelf.old) }
     ensures ok { F.tells shelf.old ≡ true
         → IfOk result
-        (λ files. files_loaded (T.given (named book.now names.now))
+        (λ files. files_loaded (P.given (named book.now names.now))
         (F.file shelf.old) 0 (words_of words.now) ≡ Ok (contents_of files.items)) }
     ensures count { IfOk result (λ files. length files.items ≡ length words.now) }
     ensures spelled { F.tells shelf.old ≡ true
         → IfOk result
-        (λ files. EachSpells (T.spells (named book.now names.now))
+        (λ files. EachSpells (P.spells (named book.now names.now))
         (F.file shelf.old) (words_of words.now) (contents_of files.items)) }
     ensures known { IfOk result
-        (λ files. All (IsSpelled (T.spells (named book.now names.now)))
+        (λ files. All (IsSpelled (P.spells (named book.now names.now)))
         (contents_of files.items)) }
     ensures err { IfErr result
-        (λ refusal. MayRefuseOf T.kind (F.tells shelf.old)
-        (files_loaded (T.given (named book.now names.now)) (F.file shelf.old) 0
+        (λ refusal. MayRefuseOf P.kind (F.tells shelf.old)
+        (files_loaded (P.given (named book.now names.now)) (F.file shelf.old) 0
         (words_of words.now)) (F.faults shelf.old) (F.faults shelf.new) refusal) }
     ensures file { (file : ℕ) → result ≡ Err (Status.ReadFault file)
-        → IsFileReached (T.given (named book.now names.now))
+        → IsFileReached (P.given (named book.now names.now))
         (F.tells shelf.old) (F.file shelf.old) (words_of words.now) file }
     ensures numbered { IfErr result (HasFileNumbers (length words.now)) }
 {
     let mut files = Vec::new(alloc);
     for (process, name) in words.iter().enumerate() {
-        let items = match load_file(alloc, shelf, book, names, process as u32, name.as_str()) {
+        let items = match load_file::<F, P>(
+            alloc,
+            shelf,
+            book,
+            names,
+            process as u32,
+            name.as_str(),
+        ) {
             Ok(items) => items,
             Err(refusal) => return Err(refusal),
         };
@@ -258,36 +184,36 @@ fn load_files<F: Shelf, T: FileItem>(
 
 /// What the book and the files of these names hold, or the first refusal: the book's, that of the number of files, or
 /// that of each file in turn. Each file is read before the next is fetched.
-pub fn load_all<F: Shelf, T: FileItem>(
+pub fn load_all<F: Shelf, P: FileForm>(
     alloc: Global,
     shelf: &mut F,
     name: &str,
     words: &[String],
-) -> Result<Loaded<T>, Status>
+) -> Result<Loaded<P::Item>, Status>
     ensures files { SameFiles (F.tells shelf.old) (F.tells shelf.new) (F.file shelf.old)
         (F.file shelf.new) }
     ensures later { F.faults shelf.old ≤ F.faults shelf.new }
     ensures kept { OnOk result (F.faults shelf.new ≡ F.faults shelf.old) }
     ensures ok { F.tells shelf.old ≡ true
         → IfOk result
-        (λ l. all_loaded T.given (F.file shelf.old) name.now (words_of words.now) ≡ Ok
+        (λ l. all_loaded P.given (F.file shelf.old) name.now (words_of words.now) ≡ Ok
         (all_shown l)) }
     ensures spelled { F.tells shelf.old ≡ true
         → IfOk result
-        (λ l. SpelledOf T.spells (F.file shelf.old) name.now (words_of words.now)
+        (λ l. SpelledOf P.spells (F.file shelf.old) name.now (words_of words.now)
         (all_shown l)) }
     ensures names { IfOk result (λ l. AreNamesOf l.book l.names) }
     ensures known { IfOk result
-        (λ l. All (IsSpelled (T.spells (named l.book l.names)))
+        (λ l. All (IsSpelled (P.spells (named l.book l.names)))
         (contents_of l.files.items)) }
     ensures count { IfOk result (λ l. length l.files.items ≡ l.book.processes) }
     ensures given { IfOk result (λ l. length words.now ≡ l.book.processes) }
     ensures err { IfErr result
-        (λ refusal. MayRefuseOf T.kind (F.tells shelf.old)
-        (all_loaded T.given (F.file shelf.old) name.now (words_of words.now)) (F.faults shelf.old)
+        (λ refusal. MayRefuseOf P.kind (F.tells shelf.old)
+        (all_loaded P.given (F.file shelf.old) name.now (words_of words.now)) (F.faults shelf.old)
         (F.faults shelf.new) refusal) }
     ensures reached { (file : ℕ) → result ≡ Err (Status.ReadFault file)
-        → MayReachOf T.given (F.tells shelf.old) (F.file shelf.old) name.now (words_of words.now)
+        → MayReachOf P.given (F.tells shelf.old) (F.file shelf.old) name.now (words_of words.now)
         file }
     ensures numbered { IfErr result (HasFileNumbers (length words.now)) }
 {
@@ -300,7 +226,7 @@ pub fn load_all<F: Shelf, T: FileItem>(
     if given != u64::from(wanted) {
         return Err(Status::Usage(UsageFault::Files { wanted, given }));
     }
-    match load_files(alloc, shelf, &book, &names, words) {
+    match load_files::<F, P>(alloc, shelf, &book, &names, words) {
         Ok(files) => Ok(Loaded { book, names, files }),
         Err(refusal) => Err(refusal),
     }
@@ -328,5 +254,5 @@ pub fn load<F: Shelf>(alloc: Global, shelf: &mut F, form: &Form<'_>) -> Result<L
         → MayReach (F.tells shelf.old) (F.file shelf.old) (form_shown form.now) file }
     ensures numbered { IfErr result (HasFileNumbers (length form.now.payments.now)) }
 {
-    load_all(alloc, shelf, form.book, form.payments)
+    load_all::<F, Payments>(alloc, shelf, form.book, form.payments)
 }

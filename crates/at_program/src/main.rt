@@ -2,7 +2,7 @@
 //! the report.
 //!
 //! `serve` does it all, over any shelf and sinks. `run` and `make` make the calls of all processes at once on one ledger,
-//! and `agree` those of a council.
+//! and `agree` those of a council; `replay` makes calls one step at a time, in the order of a schedule.
 //! Over a shelf and sinks that tell what they hold, what `run` prints is one legal run of the calls that the files' bytes
 //! spell, however the threads' steps fall, what `make` prints is what every legal run of the calls that its numbers give
 //! leads to, what `agree` prints is the one value that all processes were answered, `verify` takes the report of a legal
@@ -13,10 +13,12 @@ ghost use Rattle.std.specs.Prelude.{◌≢◌, IfErr};
 
 mod agreeing;
 mod delivering;
+mod file_forms;
 mod generating;
 mod loading;
 mod nodes;
 mod playing;
+mod replaying;
 mod serving;
 #[cfg(test)]
 mod test_rows;

@@ -5,7 +5,7 @@ ghost use Rattle.at_files.specs.Names.{AreNamesOf};
 ghost use Rattle.at_io.specs.Faults.{Rose};
 ghost use Rattle.at_io.specs.Shelf.{SameFiles};
 ghost use Rattle.at_io.specs.Sink.{TakesPrefix};
-ghost use Rattle.at_program.specs.Words.{AskForNoLedger, AskToAgree, AskToDeliver, AskToMake, AskToVerify, Delivering, HaveForm, Form, Verifying, agree_of, deliver_of, form_of, form_shown, make_of, verify_of, words_of};
+ghost use Rattle.at_program.specs.Words.{AskForNoLedger, AskToAgree, AskToDeliver, AskToMake, AskToReplay, AskToVerify, Delivering, HaveForm, Form, Replaying, Verifying, agree_of, deliver_of, form_of, form_shown, make_of, replay_of, verify_of, words_of};
 ghost use Rattle.at_program.specs.Generator.{MayMake};
 ghost use Rattle.at_program.specs.Made.{IsMade, SummarizesRun, made};
 ghost use Rattle.at_program.specs.declared.words.Making.{Making};
@@ -15,6 +15,7 @@ ghost use Rattle.at_program.specs.Faults.{Answers, HasFileNumbers, HasFurtherNum
 ghost use Rattle.at_program.specs.Claims.{AnswersVerify, Claim, IsRight, IsRightClaim, MayReachClaim, MayRefuseClaim, SpellsClaim, TookVerified, TookVerifiedPrefix, claimed};
 ghost use Rattle.at_program.specs.Delivering.{MayReachBroadcast, SpellsBroadcast, TookDelivered, TookDeliveredPrefix, broadcast};
 ghost use Rattle.at_program.specs.Nodes.{Broadcast};
+ghost use Rattle.at_program.specs.Replaying.{MayReachReplay, Replay, SpellsReplay, TookReplayed, TookReplayedPrefix, replay_loaded};
 ghost use Rattle.at_program.specs.Agreed.{KeepsAgreement, TookAgreed, TookAgreedPrefix};
 ghost use Rattle.at_program.specs.Answer.{Prints, PrintsSpelled, TookAll, TookPrefix, TookLine};
 
@@ -23,9 +24,11 @@ use crate::delivering::answer_deliver;
 use crate::generating::{Made, generate};
 use crate::loading::{self, load};
 use crate::playing::{journal_of, play};
+use crate::replaying::answer_replay;
 use crate::verifying::answer_verify;
 use crate::words::{
-    self, Command, Making, form_of, what_to_agree, what_to_deliver, what_to_make, what_to_verify,
+    self, Command, Making, form_of, what_to_agree, what_to_deliver, what_to_make, what_to_replay,
+    what_to_verify,
 };
 use at_io::{Shelf, Sink, put_all};
 use at_ledger::Call;
@@ -311,7 +314,8 @@ fn answer_unread<R: Threads + Sync, O: Sink, G: Gate + Sync>(
 /// made before the first write. `words` are those after the program's name. `run` and `make` make the calls of all
 /// processes at once on one ledger, by a thread for each process where threads can be had; the gate is told of each call.
 /// `agree` makes those of a council so, and no gate is told. Under `Done` and a write fault they leave that ledger, closed,
-/// in `kept`. The work grows with the bytes of the files, or with the calls that are made.
+/// in `kept`. `replay` makes the calls a step at a time, by the turns of a schedule, on this thread. The work grows with the
+/// bytes of the files, or with the calls that are made.
 pub fn serve<R: Threads + Sync, F: Shelf, O: Sink, E: Sink, G: Gate + Sync>(
     rt: &R,
     alloc: Global,
@@ -330,11 +334,11 @@ pub fn serve<R: Threads + Sync, F: Shelf, O: Sink, E: Sink, G: Gate + Sync>(
     ensures as_told { (O.tells out.new ≡ O.tells out.old) × (E.tells err.new ≡ E.tells err.old) }
 
     // The words have a form exactly where they are not refused, and every other answer is about that form: one of
-    // files, that of `verify`, that of `deliver`, or those of `make` and `agree`, which read none.
+    // files, that of `verify`, that of `deliver`, that of `replay`, or those of `make` and `agree`, which read none.
     ensures words { (result ≡ Status.Usage UsageFault.Words)
         ↔ ((form_of (words_of words.now) ≡ None) × (verify_of (words_of words.now) ≡ None)
-        × (deliver_of (words_of words.now) ≡ None) × (make_of (words_of words.now) ≡ None)
-        × (agree_of (words_of words.now) ≡ None)) }
+        × (deliver_of (words_of words.now) ≡ None) × (replay_of (words_of words.now) ≡ None)
+        × (make_of (words_of words.now) ≡ None) × (agree_of (words_of words.now) ≡ None)) }
 
     ensures unread { result ≡ Status.Usage UsageFault.Words → shelf.new ≡ shelf.old }
 
@@ -490,6 +494,41 @@ pub fn serve<R: Threads + Sync, F: Shelf, O: Sink, E: Sink, G: Gate + Sync>(
         → F.tells shelf.old ≡ true → IsFaultless (F.faults shelf.old) (F.faults shelf.new)
         → (result ≡ Status.NoMemory) ⊎ Answers (broadcast (F.file shelf.old) asked) result }
 
+    // Of the words of `replay` all bytes that were taken are the report of one legal run of the files' calls, each process's
+    // once and in file order.
+    ensures replay_done { (asked : Replaying) → AskToReplay words.now asked
+        → result ≡ Status.Done → F.tells shelf.old ≡ true → O.tells out.old ≡ true
+        → TookReplayed (F.file shelf.old) asked (O.taken out.old) (O.taken out.new) }
+    ensures replay_prefix { (asked : Replaying) → AskToReplay words.now asked
+        → result ≡ Status.WriteFault → F.tells shelf.old ≡ true → O.tells out.old ≡ true
+        → TookReplayedPrefix (F.file shelf.old) asked (O.taken out.old) (O.taken out.new) }
+    ensures replay_loads { (asked : Replaying) → AskToReplay words.now asked
+        → F.tells shelf.old ≡ true → (result ≡ Status.Done) ⊎ (result ≡ Status.WriteFault)
+        → (r : Replay) × (replay_loaded (F.file shelf.old) asked ≡ Ok r) }
+
+    ensures replay_kept { (asked : Replaying) → AskToReplay words.now asked → kept.new ≡ None }
+
+    // And where the files spell a book, few calls and a schedule, all is done, but for faults and want of memory.
+    ensures replay_complete { (asked : Replaying) (r : Replay) → AskToReplay words.now asked
+        → F.tells shelf.old ≡ true → SpellsReplay (F.file shelf.old) asked r
+        → IsFaultless (F.faults shelf.old) (F.faults shelf.new)
+        → IsFaultless (O.faults out.old) (O.faults out.new)
+        → (result ≡ Status.Done) ⊎ (result ≡ Status.NoMemory) }
+
+    // When `replay` is refused: for the first fault of its files, the schedule last.
+    ensures replay_refusal { (asked : Replaying) → AskToReplay words.now asked
+        → result ≢ Status.Done → result ≢ Status.WriteFault
+        → MayRefuseOf Kind.scheduled (F.tells shelf.old) (replay_loaded (F.file shelf.old) asked)
+        (F.faults shelf.old) (F.faults shelf.new) result }
+    ensures replay_reached { (asked : Replaying) (file : ℕ) → AskToReplay words.now asked
+        → result ≡ Status.ReadFault file
+        → MayReachReplay (F.tells shelf.old) (F.file shelf.old) asked file }
+    ensures replay_numbered { (asked : Replaying) → AskToReplay words.now asked
+        → HasFurtherNumbers (length asked.payments) result }
+    ensures replay_exact { (asked : Replaying) → AskToReplay words.now asked
+        → F.tells shelf.old ≡ true → IsFaultless (F.faults shelf.old) (F.faults shelf.new)
+        → (result ≡ Status.NoMemory) ⊎ Answers (replay_loaded (F.file shelf.old) asked) result }
+
     // What was said of a refusal.
     ensures silent { result ≡ Status.Done → err.new ≡ err.old }
     ensures told { result ≢ Status.Done → E.tells err.old ≡ true
@@ -502,6 +541,8 @@ pub fn serve<R: Threads + Sync, F: Shelf, O: Sink, E: Sink, G: Gate + Sync>(
         answer_verify(alloc, shelf, out, &asked)
     } else if let Some(asked) = what_to_deliver(words) {
         answer_deliver(alloc, shelf, out, &asked)
+    } else if let Some(asked) = what_to_replay(words) {
+        answer_replay(alloc, shelf, out, &asked)
     } else {
         answer_unread(rt, alloc, words, out, gate, kept)
     };

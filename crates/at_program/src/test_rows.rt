@@ -531,9 +531,95 @@ pub(crate) const REFUSED_TO_DELIVER: &[Case] = &[
     ),
 ];
 
-pub(crate) const EITHER_ORDER: [&str; 2] = [
-    "journal 2\n0 1 transfer 0 1 30 done\n1 1 transfer 1 0 20 done\nbalances 2\n0 90\n1 110\ntotal 200\n",
-    "journal 2\n1 1 transfer 1 0 20 done\n0 1 transfer 0 1 30 done\nbalances 2\n0 90\n1 110\ntotal 200\n",
+pub(crate) const PAYS_THIRTY: &[u8] = b"transfer,0,1,30\n";
+
+pub(crate) const PAYS_TWENTY_BACK: &[u8] = b"transfer,1,0,20\n";
+
+pub(crate) const THIRTY_FIRST: &str =
+    "journal 2\n0 1 transfer 0 1 30 done\n1 1 transfer 1 0 20 done\nbalances 2\n0 90\n1 110\ntotal 200\n";
+
+pub(crate) const TWENTY_FIRST: &str =
+    "journal 2\n1 1 transfer 1 0 20 done\n0 1 transfer 0 1 30 done\nbalances 2\n0 90\n1 110\ntotal 200\n";
+
+pub(crate) const EITHER_ORDER: [&str; 2] = [THIRTY_FIRST, TWENTY_FIRST];
+
+/// Fourteen turns of process 1.
+pub(crate) const ONES: &[u8] = b"1\n1\n1\n1\n1\n1\n1\n1\n1\n1\n1\n1\n1\n1\n";
+
+/// A payment takes 14 turns, so process 1 pays first where the schedule names it as often. What a schedule leads to is the same each
+/// time.
+pub(crate) const REPLAYS: &[Case] = &[
+    (
+        "replay book 2 0 1",
+        &[EACH_OWN, PAYS_THIRTY, PAYS_TWENTY_BACK, b""],
+        0,
+        THIRTY_FIRST,
+    ),
+    (
+        "replay book 2 0 1",
+        &[EACH_OWN, PAYS_THIRTY, PAYS_TWENTY_BACK, b""],
+        0,
+        THIRTY_FIRST,
+    ),
+    (
+        "replay book 2 0 1",
+        &[EACH_OWN, PAYS_THIRTY, PAYS_TWENTY_BACK, ONES],
+        0,
+        TWENTY_FIRST,
+    ),
+    (
+        "replay book 2 0 1",
+        &[EACH_OWN, PAYS_THIRTY, PAYS_TWENTY_BACK, ONES],
+        0,
+        TWENTY_FIRST,
+    ),
+    (
+        "replay book 2 0 1",
+        &[
+            NAMED,
+            b"pay,ann-cash,shop,30,joint,20\nread,shop\n",
+            b"",
+            b"1\n0\n",
+        ],
+        0,
+        "journal 2\nann 1 pay ann-cash shop 30 joint 20 done\nann 2 read shop 30\nbalances 3\nann-cash 50\njoint 70\nshop 30\ntotal 150\n",
+    ),
+];
+
+/// The payments are read in process order, and before the schedule.
+pub(crate) const REFUSED_TO_REPLAY: &[Case] = &[
+    ("replay", &[], 2, USAGE),
+    ("replay book", &[ONE], 2, USAGE),
+    (
+        "replay book 0",
+        &[ONE, b""],
+        2,
+        "files: wanted 1, given 0\n",
+    ),
+    (
+        "replay book 2 0 1",
+        &[EACH_OWN, PAYS_THIRTY, PAYS_TWENTY_BACK, b"2\n"],
+        9,
+        "schedule: line 1: unknown process\n",
+    ),
+    (
+        "replay book 2 0 1",
+        &[EACH_OWN, PAYS_THIRTY, PAYS_TWENTY_BACK, b"1\n0,1\n"],
+        9,
+        "schedule: line 2: shape\n",
+    ),
+    (
+        "replay book 2 0 1",
+        &[EACH_OWN, PAYS_THIRTY, b"pay,1\n", b"2\n"],
+        4,
+        "payments 1: line 1: shape\n",
+    ),
+    (
+        "replay book 2 0 1",
+        &[EACH_OWN, PAYS_THIRTY, PAYS_TWENTY_BACK],
+        5,
+        "read fault: file 3\n",
+    ),
 ];
 
 /// A run whose report depends on how the threads' steps fall: the words of `run`, those of `verify` that name the report beside the

@@ -2,9 +2,10 @@
 
 use crate::serving::serve;
 use crate::test_rows::{
-    Case, DELIVERS, EACH_OWN, EITHER_ORDER, ONE, REFUSED_BOOKS, REFUSED_FILES, REFUSED_PAYMENTS,
-    REFUSED_TO_DELIVER, REFUSED_TO_VERIFY, RUNS, RUNS_OF_MORE_PROCESSES, USUAL, USUAL_REPORT,
-    VERIFIED_RUNS, VERIFIES, Verified, WORDS,
+    Case, DELIVERS, EACH_OWN, EITHER_ORDER, ONE, PAYS_THIRTY, PAYS_TWENTY_BACK, REFUSED_BOOKS,
+    REFUSED_FILES, REFUSED_PAYMENTS, REFUSED_TO_DELIVER, REFUSED_TO_REPLAY, REFUSED_TO_VERIFY,
+    REPLAYS, RUNS, RUNS_OF_MORE_PROCESSES, USUAL, USUAL_REPORT, VERIFIED_RUNS, VERIFIES, Verified,
+    WORDS,
 };
 use at_io::{MemoryShelf, MemorySink};
 use at_ledger::Reply;
@@ -155,10 +156,22 @@ fn refused_to_deliver(rt: HostRuntime) -> Result<(), Fail> {
     Ok(())
 }
 
+#[test]
+fn replays(rt: HostRuntime) -> Result<(), Fail> {
+    assert_eq!(rt; first_wrong(&rt, rt.alloc(), REPLAYS)?, None);
+    Ok(())
+}
+
+#[test]
+fn refused_to_replay(rt: HostRuntime) -> Result<(), Fail> {
+    assert_eq!(rt; first_wrong(&rt, rt.alloc(), REFUSED_TO_REPLAY)?, None);
+    Ok(())
+}
+
 /// Two processes that move money between each other are reported in one of both orders.
 #[test]
 fn two_processes_in_either_order(rt: HostRuntime) -> Result<(), Fail> {
-    let contents = [EACH_OWN, b"transfer,0,1,30\n", b"transfer,1,0,20\n"];
+    let contents = [EACH_OWN, PAYS_THIRTY, PAYS_TWENTY_BACK];
     let (status, written) = answer_over(&rt, rt.alloc(), "run book 0 1", &contents)?;
     let good = EITHER_ORDER
         .iter()
@@ -383,7 +396,7 @@ fn repeated(alloc: Global, bytes: &[u8], count: usize) -> Result<Vec<u8>, AllocE
     Ok(all)
 }
 
-/// The longest file is read, and a longer one and one of too many calls are refused.
+/// The longest file is read, and a longer one and one of too many calls are refused. For a replay a file is longest by its calls.
 #[test]
 fn long_files(rt: HostRuntime) -> Result<(), Fail> {
     let alloc = rt.alloc();
@@ -409,6 +422,20 @@ fn long_files(rt: HostRuntime) -> Result<(), Fail> {
             16_385,
             4,
             "payments 0: line 16385: too many calls\n",
+        ),
+        (
+            "replay book 0 0",
+            b"read,0\n",
+            64,
+            9,
+            "schedule: line 1: shape\n",
+        ),
+        (
+            "replay book 0 0",
+            b"read,0\n",
+            65,
+            4,
+            "payments 0: line 65: too many calls\n",
         ),
     ] {
         let payments = repeated(alloc, bytes, count)?;

@@ -5,7 +5,7 @@ ghost use Rattle.at_agree.specs.Council.{IsSize};
 ghost use Rattle.at_program.specs.Limits.{most_made_calls, most_made_processes, most_values};
 ghost use Rattle.at_base.specs.Numbers.{number_of};
 ghost use Rattle.at_program.specs.Generator.{MayMake};
-ghost use Rattle.at_program.specs.Words.{agree_of, command_named, deliver_of, delivering_shown, form_of, form_shown, make_of, making_of, small, values_named, verify_of, verifying_shown, within, words_of};
+ghost use Rattle.at_program.specs.Words.{agree_of, command_named, deliver_of, delivering_shown, form_of, form_shown, make_of, making_of, replay_of, replaying_shown, small, values_named, verify_of, verifying_shown, within, words_of};
 
 use arrayvec::ArrayVec;
 use at_base::parse_number;
@@ -170,6 +170,31 @@ pub fn what_to_deliver(words: &[String]) -> Option<Delivering<'_>>
         book: book.as_str(),
         order: order.as_str(),
         messages,
+    })
+}
+
+/// The words of `replay`: the files of the book and of the schedule, and the payment files in process order.
+#[derive(Clone, Copy)]
+pub struct Replaying<'a> {
+    pub book: &'a str,
+    pub schedule: &'a str,
+    pub payments: &'a [String],
+}
+
+/// What files the words of `replay` name, if they have its form.
+pub fn what_to_replay(words: &[String]) -> Option<Replaying<'_>>
+    ensures { option_map replaying_shown result ≡ replay_of (words_of words.now) }
+{
+    let [command, book, schedule, payments @ ..] = words else {
+        return None;
+    };
+    if command.as_str() != "replay" {
+        return None;
+    }
+    Some(Replaying {
+        book: book.as_str(),
+        schedule: schedule.as_str(),
+        payments,
     })
 }
 

@@ -9,9 +9,9 @@ invariant-loop-process g l = record {
   same : SameFiles (g.F.Shelf.tells l.fn.shelf) (g.F.Shelf.tells l.shelf) (g.F.Shelf.file l.fn.shelf) (g.F.Shelf.file l.shelf);
   kept : g.F.Shelf.faults l.shelf ≡ g.F.Shelf.faults l.fn.shelf;
   prefix : g.F.Shelf.tells l.fn.shelf ≡ true
-      → files_loaded (g.T.FileItem.given (named l.book l.names)) (g.F.Shelf.file l.fn.shelf) 0 (take l.process (words_of l.words)) ≡ Ok (contents_of l.files.items);
+      → files_loaded (g.P.FileForm.given (named l.book l.names)) (g.F.Shelf.file l.fn.shelf) 0 (take l.process (words_of l.words)) ≡ Ok (contents_of l.files.items);
   spelled : g.F.Shelf.tells l.fn.shelf ≡ true
-      → EachSpells (g.T.FileItem.spells (named l.book l.names)) (g.F.Shelf.file l.fn.shelf) (words_of l.words) (contents_of l.files.items);
-  known : All (IsSpelled (g.T.FileItem.spells (named l.book l.names))) (contents_of l.files.items);
+      → EachSpells (g.P.FileForm.spells (named l.book l.names)) (g.F.Shelf.file l.fn.shelf) (words_of l.words) (contents_of l.files.items);
+  known : All (IsSpelled (g.P.FileForm.spells (named l.book l.names))) (contents_of l.files.items);
   count : length l.files.items ≡ l.process;
 }

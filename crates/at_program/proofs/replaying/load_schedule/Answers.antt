@@ -1,0 +1,12 @@
+use Rattle.std.proofs.Common.{refl}
+use Rattle.at_program.specs.Faults.Kind.{scheduled}
+use Rattle.at_program.specs.Loading.{fetched}
+use Rattle.at_program.specs.Replaying.{schedule_loaded}
+use Rattle.at_program.proofs.MayRefuseLaws.{MayRefuse-whole}
+use Rattle.at_program.proofs.replaying.load_schedule.Goals as goal
+
+pub returns-in-Err-clause-err : goal.returns-in-Err-clause-err
+returns-in-Err-clause-err g c =
+    MayRefuse-whole scheduled _ (fetched (g.F.Shelf.file c.args.shelf.now c.args.name.now) c.args.number)
+    (schedule_loaded (g.F.Shelf.file c.args.shelf.now) c.args.name.now c.args.number c.args.processes) _ _ c.in-Err.refusal
+    (λ told refused. rw refused refl) (c.in-Err.ensures.err scheduled)

@@ -1,0 +1,160 @@
+//! What `replay` prints of a run by a schedule.
+
+ghost use Rattle.std.specs.Prelude.{◌≡◌, ◌≢◌, ◌⊎◌, ◌+◌, ◌<◌, ◌≤◌, ℕ, All, length, true, Ok, Err, IfOk, IfErr, OnOk};
+ghost use Rattle.at_files.specs.Names.{AreNamesOf};
+ghost use Rattle.at_io.specs.Faults.{Rose};
+ghost use Rattle.at_io.specs.Shelf.{SameFiles};
+ghost use Rattle.at_verify.specs.Right.{IsPlayable, files_in};
+ghost use Rattle.at_program.specs.Faults.{HasFurtherNumbers, Kind, MayRefuseOf};
+ghost use Rattle.at_program.specs.Loading.{loaded_shown};
+ghost use Rattle.at_program.specs.Replaying.{MayReachReplay, Replay, ReplaysSpelled, ReportsReplay, SpellsSchedule, TookReplayed, TookReplayedPrefix, replay_loaded, schedule_loaded};
+ghost use Rattle.at_program.specs.Words.{replaying_shown};
+
+use crate::file_forms::ReplayPayments;
+use crate::loading::{self, fetch_file, load_all};
+use crate::words;
+use at_files::{ReadScheduleFault, read_schedule};
+use at_io::{Shelf, Sink, put_all};
+use at_ledger::Call;
+use at_report::{Status, UsageFault, report};
+use at_stepper::replay;
+use std::alloc::{AllocError, Global};
+
+/// The schedule of the file of this name and number, beside so many processes.
+fn load_schedule<F: Shelf>(
+    alloc: Global,
+    shelf: &mut F,
+    processes: u32,
+    name: &str,
+    number: u32,
+) -> Result<Vec<u32>, Status>
+    ensures files { SameFiles (F.tells shelf.old) (F.tells shelf.new) (F.file shelf.old)
+        (F.file shelf.new) }
+    ensures later { F.faults shelf.old ≤ F.faults shelf.new }
+    ensures kept { OnOk result (F.faults shelf.new ≡ F.faults shelf.old) }
+    ensures ok { F.tells shelf.old ≡ true
+        → IfOk result
+        (λ turns. schedule_loaded (F.file shelf.old) name.now number processes ≡ Ok turns.items) }
+    ensures spelled { F.tells shelf.old ≡ true
+        → IfOk result
+        (λ turns. SpellsSchedule (F.file shelf.old) name.now processes turns.items) }
+    ensures known { IfOk result (λ turns. All (λ process. process < processes) turns.items) }
+    ensures err { IfErr result
+        (λ refusal. MayRefuseOf Kind.scheduled (F.tells shelf.old)
+        (schedule_loaded (F.file shelf.old) name.now number processes) (F.faults shelf.old)
+        (F.faults shelf.new) refusal) }
+    ensures file { (file : ℕ) → result ≡ Err (Status.ReadFault file) → file ≡ number }
+    ensures numbered { (files : ℕ) → number ≤ files + 1 → IfErr result (HasFurtherNumbers files) }
+{
+    let bytes = match fetch_file(alloc, shelf, name, number) {
+        Ok(bytes) => bytes,
+        Err(refusal) => return Err(refusal),
+    };
+    match read_schedule(alloc, processes, bytes.as_slice()) {
+        Ok(turns) => Ok(turns),
+        Err(ReadScheduleFault::Bad(bad)) => Err(Status::BadSchedule {
+            line: bad.line,
+            why: bad.why,
+        }),
+        Err(ReadScheduleFault::NoMemory) => Err(Status::NoMemory),
+    }
+}
+
+/// The report of the run of the files by the schedule.
+fn replayed_text(
+    alloc: Global,
+    loaded: loading::Loaded<Call>,
+    schedule: &[u32],
+) -> Result<Vec<u8>, AllocError>
+    requires names { AreNamesOf loaded.book loaded.names }
+    requires count { length loaded.files.items ≡ loaded.book.processes }
+    requires known { All (IsPlayable (length loaded.book.accounts)) (files_in loaded.files.items) }
+    requires schedule { All (λ process. process < loaded.book.processes) schedule.now }
+    ensures { IfOk result (λ text. ReportsReplay (loaded_shown loaded) text.items) }
+{
+    let loading::Loaded { book, names, files } = loaded;
+    let replayed = replay(alloc, &book, files, schedule)?;
+    let text = report(alloc, &book, &names, replayed.lines.as_slice())?;
+    Ok(text)
+}
+
+/// What `replay` prints of the files that the words name, or why it prints nothing. The schedule is fetched last.
+fn replay_text<F: Shelf>(
+    alloc: Global,
+    shelf: &mut F,
+    asked: &words::Replaying<'_>,
+) -> Result<Vec<u8>, Status>
+    ensures files { SameFiles (F.tells shelf.old) (F.tells shelf.new) (F.file shelf.old)
+        (F.file shelf.new) }
+    ensures later { F.faults shelf.old ≤ F.faults shelf.new }
+    ensures kept { OnOk result (F.faults shelf.new ≡ F.faults shelf.old) }
+    ensures printed { F.tells shelf.old ≡ true
+        → IfOk result
+        (λ text. ReplaysSpelled (F.file shelf.old) (replaying_shown asked.now) text.items) }
+    ensures err { IfErr result
+        (λ refusal. MayRefuseOf Kind.scheduled (F.tells shelf.old)
+        (replay_loaded (F.file shelf.old) (replaying_shown asked.now)) (F.faults shelf.old)
+        (F.faults shelf.new) refusal) }
+    ensures reached { (file : ℕ) → result ≡ Err (Status.ReadFault file)
+        → MayReachReplay (F.tells shelf.old) (F.file shelf.old) (replaying_shown asked.now) file }
+    ensures numbered { IfErr result (HasFurtherNumbers (length asked.now.payments.now)) }
+{
+    let loaded = match load_all::<F, ReplayPayments>(alloc, shelf, asked.book, asked.payments) {
+        Ok(loaded) => loaded,
+        Err(refusal) => return Err(refusal),
+    };
+    let processes = loaded.book.processes();
+    let turns = match load_schedule(alloc, shelf, processes, asked.schedule, processes + 1) {
+        Ok(turns) => turns,
+        Err(refusal) => return Err(refusal),
+    };
+    match replayed_text(alloc, loaded, turns.as_slice()) {
+        Ok(text) => Ok(text),
+        Err(_) => Err(Status::NoMemory),
+    }
+}
+
+/// Does what the words of `replay` ask.
+pub fn answer_replay<F: Shelf, O: Sink>(
+    alloc: Global,
+    shelf: &mut F,
+    out: &mut O,
+    asked: &words::Replaying<'_>,
+) -> Status
+    ensures files { SameFiles (F.tells shelf.old) (F.tells shelf.new) (F.file shelf.old)
+        (F.file shelf.new) }
+    ensures later { (F.faults shelf.old ≤ F.faults shelf.new)
+        × (O.faults out.old ≤ O.faults out.new) }
+    ensures as_told { O.tells out.new ≡ O.tells out.old }
+    ensures form { result ≢ Status.Usage UsageFault.Words }
+    ensures done { result ≡ Status.Done → F.tells shelf.old ≡ true → O.tells out.old ≡ true
+        → TookReplayed (F.file shelf.old) (replaying_shown asked.now) (O.taken out.old)
+        (O.taken out.new) }
+    ensures done_kept { result ≡ Status.Done
+        → (F.faults shelf.new ≡ F.faults shelf.old) × (O.faults out.new ≡ O.faults out.old) }
+    ensures write_fault { result ≡ Status.WriteFault
+        → Rose (O.faults out.old) (O.faults out.new) × (F.faults shelf.new ≡ F.faults shelf.old) }
+    ensures prefix { result ≡ Status.WriteFault → F.tells shelf.old ≡ true → O.tells out.old ≡ true
+        → TookReplayedPrefix (F.file shelf.old) (replaying_shown asked.now) (O.taken out.old)
+        (O.taken out.new) }
+    ensures refusal { result ≢ Status.Done → result ≢ Status.WriteFault
+        → MayRefuseOf Kind.scheduled (F.tells shelf.old)
+        (replay_loaded (F.file shelf.old) (replaying_shown asked.now)) (F.faults shelf.old)
+        (F.faults shelf.new) result }
+    ensures reached { (file : ℕ) → result ≡ Status.ReadFault file
+        → MayReachReplay (F.tells shelf.old) (F.file shelf.old) (replaying_shown asked.now) file }
+    ensures numbered { HasFurtherNumbers (length asked.now.payments.now) result }
+    ensures loads { F.tells shelf.old ≡ true → (result ≡ Status.Done) ⊎ (result ≡ Status.WriteFault)
+        → (r : Replay)
+        × (replay_loaded (F.file shelf.old) (replaying_shown asked.now) ≡ Ok r) }
+    ensures untouched { result ≢ Status.Done → result ≢ Status.WriteFault → out.new ≡ out.old }
+{
+    let text = match replay_text(alloc, shelf, asked) {
+        Ok(text) => text,
+        Err(refusal) => return refusal,
+    };
+    match put_all(out, text.as_slice()) {
+        Ok(()) => Status::Done,
+        Err(_) => Status::WriteFault,
+    }
+}
