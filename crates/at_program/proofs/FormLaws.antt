@@ -3,8 +3,9 @@ use Rattle.std.proofs.Common.{◌≡◌, List, [], ◌∷◌, Bool, true, false,
 use Rattle.std.specs.Prelude.{bytes_eq}
 use Rattle.std.proofs.lemmas.Slice.Eq.{bytes_eq-Decides}
 use Rattle.at_report.specs.Lines.{Word}
-use Rattle.at_program.specs.Words.{Delivering, Form, Replaying, Verifying, deliver_of, form_of, make_of, replay_of, verify_of}
-use Rattle.at_program.specs.declared.words.Making.{Making}
+use Rattle.at_commands.specs.Unread.{make_of}
+use Rattle.at_loading.specs.Words.{Delivering, Form, Replaying, Verifying, deliver_of, form_of, replay_of, verify_of}
+use Rattle.at_commands.specs.declared.unread.Making.{Making}
 
 -- words that ask `verify` for something begin with its name
 first-verify_of : (word book report : Word) (payments : List Word) (asked : Verifying) → verify_of (word ∷ book ∷ report ∷ payments) ≡ Some asked

@@ -11,11 +11,11 @@ use Rattle.at_ledger.specs.declared.call.Line.{Line}
 use Rattle.at_report.specs.Report.{report_text}
 use Rattle.at_report.specs.declared.status.Status.{Status}
 use Rattle.at_verify.specs.Right.{IsPlayable}
-use Rattle.at_program.specs.Loading.{Files, IsSpelled, Loaded, PaysReplayBytes, replay_calls_given}
+use Rattle.at_loading.specs.Loading.{Files, IsSpelled, Loaded, PaysReplayBytes, replay_calls_given}
 use Rattle.at_program.specs.Replaying.{Replay, ReportsReplay, SpellsReplay, calls_loaded, replay_loaded, schedule_loaded, schedule_number}
-use Rattle.at_program.specs.Words.{Replaying}
-use Rattle.at_program.proofs.RunTotals.{IsLineOn-Whole, sum-last_state}
-use Rattle.at_program.proofs.SpelledLoaded.{Accepts-replay, all_loaded-SpelledOf, fetched-HoldsFile}
+use Rattle.at_loading.specs.Words.{Replaying}
+use Rattle.at_commands.proofs.Laws.RunTotals.{IsLineOn-Whole, sum-last_state}
+use Rattle.at_loading.proofs.Laws.SpelledLoaded.{Accepts-replay, all_loaded-SpelledOf, fetched-HoldsFile}
 
 -- the schedule beside the calls that were loaded, over the files as they are then
 pub replay_loaded-scheduled : (files now : Files) (asked : Replaying) (l : Loaded) (schedule : List ℕ) (number processes : ℕ)

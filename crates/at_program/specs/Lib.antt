@@ -1,13 +1,1 @@
-pub mod Limits
-pub mod Words
-pub mod Loading
-pub mod Faults
-pub mod Running
-pub mod Answer
-pub mod Claims
-pub mod Nodes
-pub mod Delivering
 pub mod Replaying
-pub mod Generator
-pub mod Made
-pub mod Agreed

@@ -13,8 +13,8 @@ use Rattle.at_report.specs.Lines.{Word}
 use Rattle.at_report.specs.Report.{report_text}
 use Rattle.at_report.specs.declared.status.Status.{Status}
 use Rattle.at_report.specs.declared.status.Status.TheVariants as status
-use Rattle.at_program.specs.Loading.{Files, HoldsFile, Loaded, MayReachOf, PaysReplayBytes, SpelledOf, all_loaded, fetched, replay_calls_given}
-use Rattle.at_program.specs.Words.{Replaying}
+use Rattle.at_loading.specs.Loading.{Files, HoldsFile, Loaded, MayReachOf, PaysReplayBytes, SpelledOf, all_loaded, fetched, replay_calls_given}
+use Rattle.at_loading.specs.Words.{Replaying}
 
 -- a book, the calls of each process, and the schedule of their turns
 pub record Replay : Type 0 where

@@ -11,23 +11,15 @@
 
 ghost use Rattle.std.specs.Prelude.{◌≢◌, IfErr};
 
-mod agreeing;
-mod delivering;
-mod file_forms;
-mod generating;
-mod loading;
-mod nodes;
-mod playing;
 mod replaying;
 mod serving;
 #[cfg(test)]
 mod test_rows;
 #[cfg(test)]
 mod tests;
-mod verifying;
-mod words;
 
-use crate::serving::{serve, tell};
+use crate::serving::serve;
+use at_commands::tell;
 use at_io::{DirShelf, StdSink};
 use at_report::{Status, UsageFault};
 use at_workers::OpenGate;

@@ -5,17 +5,15 @@ ghost use Rattle.at_files.specs.Names.{AreNamesOf};
 ghost use Rattle.at_io.specs.Faults.{Rose};
 ghost use Rattle.at_io.specs.Shelf.{SameFiles};
 ghost use Rattle.at_verify.specs.Right.{IsPlayable, files_in};
-ghost use Rattle.at_program.specs.Faults.{HasFurtherNumbers, Kind, MayRefuseOf};
-ghost use Rattle.at_program.specs.Loading.{loaded_shown};
+ghost use Rattle.at_loading.specs.Faults.{HasFurtherNumbers, Kind, MayRefuseOf};
+ghost use Rattle.at_loading.specs.Loading.{loaded_shown};
 ghost use Rattle.at_program.specs.Replaying.{MayReachReplay, Replay, ReplaysSpelled, ReportsReplay, SpellsSchedule, TookReplayed, TookReplayedPrefix, replay_loaded, schedule_loaded};
-ghost use Rattle.at_program.specs.Words.{replaying_shown};
+ghost use Rattle.at_loading.specs.Words.{replaying_shown};
 
-use crate::file_forms::ReplayPayments;
-use crate::loading::{self, fetch_file, load_all};
-use crate::words;
 use at_files::{ReadScheduleFault, read_schedule};
 use at_io::{Shelf, Sink, put_all};
 use at_ledger::Call;
+use at_loading::{Loaded, ReplayPayments, Replaying, fetch_file, load_all};
 use at_report::{Status, UsageFault, report};
 use at_stepper::replay;
 use std::alloc::{AllocError, Global};
@@ -63,7 +61,7 @@ fn load_schedule<F: Shelf>(
 /// The report of the run of the files by the schedule.
 fn replayed_text(
     alloc: Global,
-    loaded: loading::Loaded<Call>,
+    loaded: Loaded<Call>,
     schedule: &[u32],
 ) -> Result<Vec<u8>, AllocError>
     requires names { AreNamesOf loaded.book loaded.names }
@@ -72,7 +70,7 @@ fn replayed_text(
     requires schedule { All (λ process. process < loaded.book.processes) schedule.now }
     ensures { IfOk result (λ text. ReportsReplay (loaded_shown loaded) text.items) }
 {
-    let loading::Loaded { book, names, files } = loaded;
+    let Loaded { book, names, files } = loaded;
     let replayed = replay(alloc, &book, files, schedule)?;
     let text = report(alloc, &book, &names, replayed.lines.as_slice())?;
     Ok(text)
@@ -82,7 +80,7 @@ fn replayed_text(
 fn replay_text<F: Shelf>(
     alloc: Global,
     shelf: &mut F,
-    asked: &words::Replaying<'_>,
+    asked: &Replaying<'_>,
 ) -> Result<Vec<u8>, Status>
     ensures files { SameFiles (F.tells shelf.old) (F.tells shelf.new) (F.file shelf.old)
         (F.file shelf.new) }
@@ -119,7 +117,7 @@ pub fn answer_replay<F: Shelf, O: Sink>(
     alloc: Global,
     shelf: &mut F,
     out: &mut O,
-    asked: &words::Replaying<'_>,
+    asked: &Replaying<'_>,
 ) -> Status
     ensures files { SameFiles (F.tells shelf.old) (F.tells shelf.new) (F.file shelf.old)
         (F.file shelf.new) }

@@ -1,8 +1,8 @@
 use Rattle.std.proofs.Common.{refl}
-use Rattle.at_program.specs.Faults.Kind.{scheduled}
-use Rattle.at_program.specs.Loading.{fetched}
+use Rattle.at_loading.specs.Faults.Kind.{scheduled}
+use Rattle.at_loading.specs.Loading.{fetched}
 use Rattle.at_program.specs.Replaying.{schedule_loaded}
-use Rattle.at_program.proofs.MayRefuseLaws.{MayRefuse-whole}
+use Rattle.at_loading.proofs.Laws.MayRefuse.{MayRefuse-whole}
 use Rattle.at_program.proofs.replaying.load_schedule.Goals as goal
 
 pub returns-in-Err-clause-err : goal.returns-in-Err-clause-err

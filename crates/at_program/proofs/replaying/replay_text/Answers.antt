@@ -1,9 +1,9 @@
 use Rattle.std.proofs.Common.{◌≡◌, ◌∙◌, ◌+◌, Err, string_bytes, refl, ap, inr, arith}
 use Rattle.std.proofs.lemmas.List.{length-map}
-use Rattle.at_program.specs.Loading.{contents_of, loaded_shown, named}
+use Rattle.at_loading.specs.Loading.{contents_of, loaded_shown, named}
 use Rattle.at_program.specs.Replaying.{schedule_number}
-use Rattle.at_program.specs.Words.{replaying_shown}
-use Rattle.at_program.proofs.MayRefuseLaws.{refusal_of}
+use Rattle.at_loading.specs.Words.{replaying_shown}
+use Rattle.at_loading.proofs.Laws.MayRefuse.{refusal_of}
 use Rattle.at_program.proofs.ReplayingLaws.{IsPlayable-replayed, replay_loaded-scheduled}
 use Rattle.at_program.proofs.replaying.replay_text.Goals as goal
 

@@ -3,7 +3,7 @@ use Rattle.std.specs.Global.{Global}
 use Rattle.std.proofs.lemmas.List.{length-map}
 use Rattle.at_ledger.specs.declared.call.Call.{Call}
 use Rattle.at_verify.specs.Right.{files_in}
-use Rattle.at_program.specs.Loading.{loaded_shown}
+use Rattle.at_loading.specs.Loading.{loaded_shown}
 use Rattle.at_program.proofs.ReplayingLaws.{IsLineOn-played, ReportsReplay-lines}
 use Rattle.at_program.proofs.replaying.replayed_text.Goals as goal
 

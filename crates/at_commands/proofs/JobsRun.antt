@@ -1,0 +1,63 @@
+-- Jobs that were run: their passes are accounted for by their receipts, which are of the calls of the jobs.
+use Rattle.std.proofs.Common.{◌≡◌, ℕ, ◌^◌, ◌<◌, All, List, [], ◌∷◌, length, get_or, map, refl, sym, ap, subst, ◌∙◌, arith}
+use Rattle.std.proofs.lemmas.List.{get_or-map, length-map}
+use Rattle.std.proofs.lemmas.List.Elements.{AllZip-get_or}
+use Rattle.std.proofs.lemmas.Slice.Zip.{AllZip-long}
+use Rattle.std.specs.List.{AllZip}
+use Rattle.at_board.specs.Knowledge.Seats.{BoardTerms}
+use Rattle.at_journal.specs.Calls.{calls_in}
+use Rattle.at_ledger.specs.declared.call.Call.{Call}
+use Rattle.at_log.specs.ClosingTerms.{ClosingTerms}
+use Rattle.at_log.specs.declared.receipt.Receipt.{Receipt}
+use Rattle.at_object.specs.Closings.{AreAccountedFor, IsAccountedFor}
+use Rattle.at_commands.specs.Running.{AreJobsFor}
+use Rattle.at_commands.proofs.JobsMade.{files_of, passes_in}
+use Rattle.at_verify.specs.Right.{IsPlayable}
+use Rattle.at_workers.specs.Jobs.{JobTerms, Ran, calls_of}
+
+-- the receipts of jobs
+abbrev pub receipts_in : List JobTerms → List (List Receipt)
+receipts_in jobs = map (λ (job : JobTerms). job.receipts) jobs
+
+-- each job's receipts are of its calls
+pub files_of-ran : (ledger : BoardTerms) (before after : List JobTerms) → AllZip (Ran ledger) before after
+    → map calls_of (receipts_in after) ≡ files_of before
+files_of-ran ledger [] [] ran = refl
+files_of-ran ledger [] (job ∷ after) ran = absurd ran
+files_of-ran ledger (job ∷ before) [] ran = absurd ran
+files_of-ran ledger (job ∷ before) (made ∷ after) ran =
+    ap (λ (calls : List Call). calls ∷ map calls_of (receipts_in after)) ran.0.made
+    ∙ ap (λ (files : List (List Call)). job.calls ∷ files) (files_of-ran ledger before after ran.1)
+
+-- the passes and the receipts of the jobs are those of all processes
+pub AreAccountedFor-ran : (ledger : BoardTerms) (files : List (List Call)) (before after : List JobTerms) → AreJobsFor ledger files before
+    → AllZip (Ran ledger) before after → AreAccountedFor ledger (passes_in after) (receipts_in after)
+AreAccountedFor-ran ledger files before after jobs ran =
+    let count : length after ≡ ledger.book.processes = AllZip-long (Ran ledger) before after ran ∙ jobs.count in
+    record {
+      passes_count = length-map after (λ (job : JobTerms). job.pass) ∙ count;
+      receipts_count = length-map after (λ (job : JobTerms). job.receipts) ∙ count;
+      each = λ p d below.
+          let none : JobTerms = record { pass = d; calls = []; receipts = [] } in
+          let within : p < length before = omega (arith, below, jobs.count) in
+          let here : p < length after = omega (arith, below, count) in
+          let one : Ran ledger (get_or before p none) (get_or after p none) = AllZip-get_or (Ran ledger) before after p none none ran within in
+          let pass : get_or (passes_in after) p d ≡ (get_or after p none).pass = get_or-map (λ (job : JobTerms). job.pass) after p none d here in
+          let receipts : get_or (receipts_in after) p [] ≡ (get_or after p none).receipts =
+          get_or-map (λ (job : JobTerms). job.receipts) after p none [] here in
+          subst (IsAccountedFor ledger p (get_or (passes_in after) p d)) (sym receipts)
+          (subst (λ x. IsAccountedFor ledger p x (get_or after p none).receipts) (sym pass) (record {
+            of_ledger = one.of_ledger;
+            process_is = one.process_is ∙ jobs.in_order p none within;
+            stands = one.stands;
+            counted = one.counted;
+          }));
+    }
+
+-- the receipts of a closing are as few as the calls of the files
+pub few-calls_in : (accounts : ℕ) (c : ClosingTerms) → All (IsPlayable accounts) (calls_in c) → All (λ receipts. length receipts < 2 ^ 32) c.receipts
+few-calls_in accounts c known = λ p d within.
+    let count : length (calls_in c) ≡ length c.receipts = length-map c.receipts calls_of in
+    let file : get_or (calls_in c) p [] ≡ calls_of (get_or c.receipts p d) = get_or-map calls_of c.receipts p d [] within in
+    let few = (known p [] (omega (arith, within, count))).few in
+    omega (arith, few, ap (λ (calls : List Call). length calls) file, length-map (get_or c.receipts p d) (λ (r : Receipt). r.call))

@@ -1,0 +1,5 @@
+-- Laws for callers: what a right report leads to (Claims); that messages and deliveries that the files spell are loaded (Deliveries);
+-- lines of whole files name accounts of the book, and no call changes the total (RunTotals).
+pub mod Claims
+pub mod Deliveries
+pub mod RunTotals

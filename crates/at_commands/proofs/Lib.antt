@@ -1,0 +1,12 @@
+pub mod Laws
+pub mod JobsMade
+pub mod JobsRun
+pub mod NodesGiven
+pub mod ValueLaws
+pub mod GeneratorLaws
+pub mod GeneratedBook
+pub mod LineSums
+pub mod SettledSteps
+pub mod SettledRuns
+pub mod DrawnCalls
+pub mod GeneratedRuns

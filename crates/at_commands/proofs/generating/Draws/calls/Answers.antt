@@ -1,0 +1,19 @@
+use Rattle.std.proofs.Common.{ℕ, refl, sym, arith}
+use Rattle.std.proofs.lemmas.List.FromFn.{map-range_with_len_more}
+use Rattle.at_commands.specs.Generator.{call_drawn, state_after_calls}
+use Rattle.at_commands.proofs.GeneratorLaws.{state_after_calls_more, state_after_calls_none}
+use Rattle.at_commands.proofs.generating.Draws.calls.Goals as goal
+
+pub loop-init : goal.loop-init
+loop-init c = record { file = c.new-file.ensures.items; state = sym (state_after_calls_none c.args.self.now.state) }
+
+pub loop-preserved : goal.loop-preserved
+loop-preserved c =
+    let x = c.args.self.now.state in
+    let f = λ (i : ℕ). call_drawn c.args.processes c.args.process (state_after_calls x i) in
+    let more = map-range_with_len_more f 0 c.loop.counter c.loop.counter (omega arith) in
+    let next = state_after_calls_more x c.loop.counter in
+    record {
+      file = rw (c.in_ok-push.ensures.items, c.loop.invariant.file, c.call.ensures.call, c.loop.invariant.state, more) refl;
+      state = rw (c.call.ensures.state, c.loop.invariant.state, next) refl;
+    }

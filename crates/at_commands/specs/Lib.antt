@@ -1,0 +1,10 @@
+pub mod Limits
+pub mod Generator
+pub mod Unread
+pub mod Running
+pub mod Answer
+pub mod Made
+pub mod Agreed
+pub mod Claims
+pub mod Nodes
+pub mod Delivering

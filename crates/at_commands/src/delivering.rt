@@ -1,0 +1,179 @@
+//! What `deliver` prints of a broadcast.
+
+ghost use Rattle.std.specs.Prelude.{◌≡◌, ◌≢◌, ◌⊎◌, ◌+◌, ◌^◌, ◌<◌, ◌≤◌, ℕ, All, length, map, true, Ok, Err, IfOk, IfErr, OnOk};
+ghost use Rattle.at_files.specs.Deliveries.{IsDelivery};
+ghost use Rattle.at_files.specs.Limits.{most_messages};
+ghost use Rattle.at_io.specs.Faults.{Rose};
+ghost use Rattle.at_io.specs.Shelf.{SameFiles};
+ghost use Rattle.at_commands.specs.Delivering.{DeliversSpelled, MayReachBroadcast, SpellsOrder, TookDelivered, TookDeliveredPrefix, broadcast, order_loaded};
+ghost use Rattle.at_loading.specs.Faults.{HasFurtherNumbers, Kind, MayRefuseOf};
+ghost use Rattle.at_loading.specs.Loading.{all_shown, contents_of};
+ghost use Rattle.at_commands.specs.Nodes.{AreSent, Broadcast, PrintsNodes, counts_of};
+ghost use Rattle.at_loading.specs.Words.{delivering_shown};
+
+use crate::nodes::nodes_given;
+use at_base::Counts;
+use at_broadcast::Message;
+use at_files::{Delivery, ReadOrderFault, read_deliveries};
+use at_io::{Shelf, Sink, put_all};
+use at_loading::{Delivering, Loaded, Messages, fetch_file, load_all};
+use at_report::{Status, UsageFault, nodes_text};
+use std::alloc::{AllocError, Global};
+
+/// How many messages each process has.
+fn counts_of(files: &[Vec<Message>]) -> Counts
+    requires some { 1 ≤ length files.now }
+    requires few { length files.now ≤ 16 }
+    requires each { All (λ messages. length messages ≤ most_messages) (contents_of files.now) }
+    ensures { result ≡ map length (contents_of files.now) }
+{
+    let mut counts = Counts::zeros(files.len() as u32);
+    for (p, messages) in files.iter().enumerate() {
+        counts.set(p as u32, messages.len() as u32);
+    }
+    counts
+}
+
+/// The deliveries of the file of this name and number, beside so many messages of each process.
+fn load_order<F: Shelf>(
+    alloc: Global,
+    shelf: &mut F,
+    counts: &Counts,
+    name: &str,
+    number: u32,
+) -> Result<Vec<Delivery>, Status>
+    requires { All (λ count. count ≤ most_messages) counts.now }
+    ensures files { SameFiles (F.tells shelf.old) (F.tells shelf.new) (F.file shelf.old)
+        (F.file shelf.new) }
+    ensures later { F.faults shelf.old ≤ F.faults shelf.new }
+    ensures kept { OnOk result (F.faults shelf.new ≡ F.faults shelf.old) }
+    ensures ok { F.tells shelf.old ≡ true
+        → IfOk result
+        (λ deliveries. order_loaded (F.file shelf.old) name.now number counts.now ≡ Ok
+        deliveries.items) }
+    ensures spelled { F.tells shelf.old ≡ true
+        → IfOk result
+        (λ deliveries. SpellsOrder (F.file shelf.old) name.now counts.now deliveries.items) }
+    ensures known { IfOk result (λ deliveries. All (IsDelivery counts.now) deliveries.items) }
+    ensures err { IfErr result
+        (λ refusal. MayRefuseOf Kind.messages (F.tells shelf.old)
+        (order_loaded (F.file shelf.old) name.now number counts.now) (F.faults shelf.old)
+        (F.faults shelf.new) refusal) }
+    ensures file { (file : ℕ) → result ≡ Err (Status.ReadFault file) → file ≡ number }
+    ensures numbered { (files : ℕ) → number ≤ files + 1 → IfErr result (HasFurtherNumbers files) }
+{
+    let bytes = match fetch_file(alloc, shelf, name, number) {
+        Ok(bytes) => bytes,
+        Err(refusal) => return Err(refusal),
+    };
+    match read_deliveries(alloc, counts, bytes.as_slice()) {
+        Ok(deliveries) => Ok(deliveries),
+        Err(ReadOrderFault::Bad(bad)) => Err(Status::BadOrder {
+            line: bad.line,
+            why: bad.why,
+        }),
+        Err(ReadOrderFault::NoMemory) => Err(Status::NoMemory),
+    }
+}
+
+/// The output of the nodes after all deliveries.
+fn delivered_text(
+    alloc: Global,
+    sent: &Loaded<Message>,
+    deliveries: &[Delivery],
+) -> Result<Vec<u8>, AllocError>
+    requires count { length sent.now.files.items ≡ sent.now.book.processes }
+    requires sent { All (AreSent sent.now.book) (contents_of sent.now.files.items) }
+    requires deliveries { All (IsDelivery (counts_of (all_shown sent.now))) deliveries.now }
+    ensures { IfOk result
+        (λ text. PrintsNodes
+        (record { sent = all_shown sent.now; deliveries = deliveries.now }) text.items) }
+{
+    let nodes = nodes_given(alloc, sent, deliveries)?;
+    nodes_text(alloc, &sent.book, nodes.as_slice())
+}
+
+/// What `deliver` prints of the files that the words name, or why it prints nothing. The deliveries are fetched last.
+fn broadcast_text<F: Shelf>(
+    alloc: Global,
+    shelf: &mut F,
+    asked: &Delivering<'_>,
+) -> Result<Vec<u8>, Status>
+    ensures files { SameFiles (F.tells shelf.old) (F.tells shelf.new) (F.file shelf.old)
+        (F.file shelf.new) }
+    ensures later { F.faults shelf.old ≤ F.faults shelf.new }
+    ensures kept { OnOk result (F.faults shelf.new ≡ F.faults shelf.old) }
+    ensures printed { F.tells shelf.old ≡ true
+        → IfOk result
+        (λ text. DeliversSpelled (F.file shelf.old) (delivering_shown asked.now) text.items) }
+    ensures err { IfErr result
+        (λ refusal. MayRefuseOf Kind.messages (F.tells shelf.old)
+        (broadcast (F.file shelf.old) (delivering_shown asked.now)) (F.faults shelf.old)
+        (F.faults shelf.new) refusal) }
+    ensures reached { (file : ℕ) → result ≡ Err (Status.ReadFault file)
+        → MayReachBroadcast (F.tells shelf.old) (F.file shelf.old) (delivering_shown asked.now)
+        file }
+    ensures numbered { IfErr result (HasFurtherNumbers (length asked.now.messages.now)) }
+{
+    let sent = match load_all::<F, Messages>(alloc, shelf, asked.book, asked.messages) {
+        Ok(sent) => sent,
+        Err(refusal) => return Err(refusal),
+    };
+    let _known = sent.book.accounts();
+    let counts = counts_of(sent.files.as_slice());
+    let number = sent.book.processes() + 1;
+    let deliveries = match load_order(alloc, shelf, &counts, asked.order, number) {
+        Ok(deliveries) => deliveries,
+        Err(refusal) => return Err(refusal),
+    };
+    match delivered_text(alloc, &sent, deliveries.as_slice()) {
+        Ok(text) => Ok(text),
+        Err(_) => Err(Status::NoMemory),
+    }
+}
+
+/// Does what the words of `deliver` ask.
+pub fn answer_deliver<F: Shelf, O: Sink>(
+    alloc: Global,
+    shelf: &mut F,
+    out: &mut O,
+    asked: &Delivering<'_>,
+) -> Status
+    ensures files { SameFiles (F.tells shelf.old) (F.tells shelf.new) (F.file shelf.old)
+        (F.file shelf.new) }
+    ensures later { (F.faults shelf.old ≤ F.faults shelf.new)
+        × (O.faults out.old ≤ O.faults out.new) }
+    ensures as_told { O.tells out.new ≡ O.tells out.old }
+    ensures form { result ≢ Status.Usage UsageFault.Words }
+    ensures done { result ≡ Status.Done → F.tells shelf.old ≡ true → O.tells out.old ≡ true
+        → TookDelivered (F.file shelf.old) (delivering_shown asked.now) (O.taken out.old)
+        (O.taken out.new) }
+    ensures done_kept { result ≡ Status.Done
+        → (F.faults shelf.new ≡ F.faults shelf.old) × (O.faults out.new ≡ O.faults out.old) }
+    ensures write_fault { result ≡ Status.WriteFault
+        → Rose (O.faults out.old) (O.faults out.new) × (F.faults shelf.new ≡ F.faults shelf.old) }
+    ensures prefix { result ≡ Status.WriteFault → F.tells shelf.old ≡ true → O.tells out.old ≡ true
+        → TookDeliveredPrefix (F.file shelf.old) (delivering_shown asked.now) (O.taken out.old)
+        (O.taken out.new) }
+    ensures refusal { result ≢ Status.Done → result ≢ Status.WriteFault
+        → MayRefuseOf Kind.messages (F.tells shelf.old)
+        (broadcast (F.file shelf.old) (delivering_shown asked.now)) (F.faults shelf.old)
+        (F.faults shelf.new) result }
+    ensures reached { (file : ℕ) → result ≡ Status.ReadFault file
+        → MayReachBroadcast (F.tells shelf.old) (F.file shelf.old) (delivering_shown asked.now)
+        file }
+    ensures numbered { HasFurtherNumbers (length asked.now.messages.now) result }
+    ensures loads { F.tells shelf.old ≡ true → (result ≡ Status.Done) ⊎ (result ≡ Status.WriteFault)
+        → (c : Broadcast)
+        × (broadcast (F.file shelf.old) (delivering_shown asked.now) ≡ Ok c) }
+    ensures untouched { result ≢ Status.Done → result ≢ Status.WriteFault → out.new ≡ out.old }
+{
+    let text = match broadcast_text(alloc, shelf, asked) {
+        Ok(text) => text,
+        Err(refusal) => return refusal,
+    };
+    match put_all(out, text.as_slice()) {
+        Ok(()) => Status::Done,
+        Err(_) => Status::WriteFault,
+    }
+}

@@ -1,0 +1,119 @@
+//! What `verify` says of a report.
+
+ghost use Rattle.std.specs.Prelude.{◌≡◌, ◌≢◌, ◌⊎◌, ◌≤◌, ℕ, All, length, true, Ok, Err, IfOk, IfErr, OnOk};
+ghost use Rattle.at_files.specs.Names.{AreNamesOf};
+ghost use Rattle.at_io.specs.Faults.{Rose};
+ghost use Rattle.at_io.specs.Limits.{most_file_bytes};
+ghost use Rattle.at_io.specs.Shelf.{SameFiles};
+ghost use Rattle.at_verify.specs.Right.{IsPlayable, files_in};
+ghost use Rattle.at_loading.specs.Faults.{HasFurtherNumbers};
+ghost use Rattle.at_commands.specs.Claims.{IsRightClaim, MayReachClaim, MayRefuseClaim, RefusesClaim, TookVerified, TookVerifiedPrefix, Verifies, VerifiesSpelled, claim_shown, claimed};
+ghost use Rattle.at_loading.specs.Words.{verifying_shown};
+
+use at_io::{Shelf, Sink, put_all};
+use at_ledger::Call;
+use at_loading::{Loaded, Verifying, fetch_file, load};
+use at_report::{Status, UsageFault, verified_text};
+use at_verify::{Verdict, count_calls, verify};
+use std::alloc::Global;
+
+/// What is printed of a report of a run of the files, or its first wrong line.
+fn verdict_text(alloc: Global, loaded: &Loaded<Call>, report: &[u8]) -> Result<Vec<u8>, Status>
+    requires names { AreNamesOf loaded.now.book loaded.now.names }
+    requires count { length loaded.now.files.items ≡ loaded.now.book.processes }
+    requires known { All (IsPlayable (length loaded.now.book.accounts))
+        (files_in loaded.now.files.items) }
+    requires size { length report.now ≤ most_file_bytes }
+    ensures verifies { IfOk result (λ text. Verifies (claim_shown loaded.now report.now) text.items) }
+    ensures err { IfErr result (RefusesClaim (claim_shown loaded.now report.now)) }
+{
+    let _known = loaded.book.accounts();
+    let files = loaded.files.as_slice();
+    let Ok(verdict) = verify(alloc, &loaded.book, &loaded.names, files, report) else {
+        return Err(Status::NoMemory);
+    };
+    if let Verdict::No { line } = verdict {
+        return Err(Status::NotLegal { line });
+    }
+    match verified_text(alloc, count_calls(files)) {
+        Ok(text) => Ok(text),
+        Err(_) => Err(Status::NoMemory),
+    }
+}
+
+/// What `verify` prints of the files that the words name, or why it prints nothing. The report is fetched last.
+fn claim_text<F: Shelf>(
+    alloc: Global,
+    shelf: &mut F,
+    asked: &Verifying<'_>,
+) -> Result<Vec<u8>, Status>
+    ensures files { SameFiles (F.tells shelf.old) (F.tells shelf.new) (F.file shelf.old)
+        (F.file shelf.new) }
+    ensures later { F.faults shelf.old ≤ F.faults shelf.new }
+    ensures kept { OnOk result (F.faults shelf.new ≡ F.faults shelf.old) }
+    ensures printed { F.tells shelf.old ≡ true
+        → IfOk result
+        (λ text. VerifiesSpelled (F.file shelf.old) (verifying_shown asked.now) text.items) }
+    ensures err { IfErr result
+        (λ refusal. MayRefuseClaim (F.tells shelf.old)
+        (claimed (F.file shelf.old) (verifying_shown asked.now)) (F.faults shelf.old)
+        (F.faults shelf.new) refusal) }
+    ensures reached { (file : ℕ) → result ≡ Err (Status.ReadFault file)
+        → MayReachClaim (F.tells shelf.old) (F.file shelf.old) (verifying_shown asked.now) file }
+    ensures numbered { IfErr result (HasFurtherNumbers (length asked.now.checked.payments.now)) }
+{
+    let loaded = match load(alloc, shelf, &asked.checked) {
+        Ok(loaded) => loaded,
+        Err(refusal) => return Err(refusal),
+    };
+    let number = loaded.book.processes() + 1;
+    let report = match fetch_file(alloc, shelf, asked.report, number) {
+        Ok(report) => report,
+        Err(refusal) => return Err(refusal),
+    };
+    verdict_text(alloc, &loaded, report.as_slice())
+}
+
+/// Does what the words of `verify` ask.
+pub fn answer_verify<F: Shelf, O: Sink>(
+    alloc: Global,
+    shelf: &mut F,
+    out: &mut O,
+    asked: &Verifying<'_>,
+) -> Status
+    ensures files { SameFiles (F.tells shelf.old) (F.tells shelf.new) (F.file shelf.old)
+        (F.file shelf.new) }
+    ensures later { (F.faults shelf.old ≤ F.faults shelf.new)
+        × (O.faults out.old ≤ O.faults out.new) }
+    ensures as_told { O.tells out.new ≡ O.tells out.old }
+    ensures form { result ≢ Status.Usage UsageFault.Words }
+    ensures done { result ≡ Status.Done → F.tells shelf.old ≡ true → O.tells out.old ≡ true
+        → TookVerified (F.file shelf.old) (verifying_shown asked.now) (O.taken out.old)
+        (O.taken out.new) }
+    ensures done_kept { result ≡ Status.Done
+        → (F.faults shelf.new ≡ F.faults shelf.old) × (O.faults out.new ≡ O.faults out.old) }
+    ensures write_fault { result ≡ Status.WriteFault
+        → Rose (O.faults out.old) (O.faults out.new) × (F.faults shelf.new ≡ F.faults shelf.old) }
+    ensures prefix { result ≡ Status.WriteFault → F.tells shelf.old ≡ true → O.tells out.old ≡ true
+        → TookVerifiedPrefix (F.file shelf.old) (verifying_shown asked.now) (O.taken out.old)
+        (O.taken out.new) }
+    ensures refusal { result ≢ Status.Done → result ≢ Status.WriteFault
+        → MayRefuseClaim (F.tells shelf.old)
+        (claimed (F.file shelf.old) (verifying_shown asked.now)) (F.faults shelf.old)
+        (F.faults shelf.new) result }
+    ensures reached { (file : ℕ) → result ≡ Status.ReadFault file
+        → MayReachClaim (F.tells shelf.old) (F.file shelf.old) (verifying_shown asked.now) file }
+    ensures numbered { HasFurtherNumbers (length asked.now.checked.payments.now) result }
+    ensures right { F.tells shelf.old ≡ true → (result ≡ Status.Done) ⊎ (result ≡ Status.WriteFault)
+        → IsRightClaim (claimed (F.file shelf.old) (verifying_shown asked.now)) }
+    ensures untouched { result ≢ Status.Done → result ≢ Status.WriteFault → out.new ≡ out.old }
+{
+    let text = match claim_text(alloc, shelf, asked) {
+        Ok(text) => text,
+        Err(refusal) => return refusal,
+    };
+    match put_all(out, text.as_slice()) {
+        Ok(()) => Status::Done,
+        Err(_) => Status::WriteFault,
+    }
+}

@@ -1,0 +1,5 @@
+-- Laws for callers: what files that are loaded one after another give (FilesLoaded); when a refusal comes of what is expected, and
+-- that all is done where nothing is refused (MayRefuse); that what the files spell is loaded (SpelledLoaded).
+pub mod FilesLoaded
+pub mod MayRefuse
+pub mod SpelledLoaded

@@ -1,0 +1,63 @@
+use Rattle.std.proofs.Common.{◌≡◌, ◌∙◌, ◌<◌, [], ◌∷◌, get_or, length, refl, sym, arith, length-append}
+use Rattle.std.proofs.lemmas.List.{length-map}
+use Rattle.std.proofs.lemmas.List.Elements.{All-push}
+use Rattle.at_loading.specs.Words.{words_of}
+use Rattle.at_loading.specs.Loading.{IsSpelled, contents_of, named}
+use Rattle.at_loading.proofs.Laws.FilesLoaded.{EachSpells-push, contents_of-nil, contents_of-pushed, files_loaded-nil, files_loaded-refused_at, files_loaded-take_more, get_or-words_of, length-contents_of, same_length}
+use Rattle.at_loading.proofs.Laws.MayRefuse.{MayRefuse-whole}
+use Rattle.at_loading.proofs.loading.load_files.Goals as goal
+
+pub loop-process-init : goal.loop-process-init
+loop-process-init g c =
+    let none = contents_of-nil c.new-files.result.items c.new-files.ensures.items in
+    let empty = same_length _ _ none in
+    record {
+      same = record { as_told = refl; files = refl };
+      kept = refl;
+      prefix = λ told. rw none (files_loaded-nil (g.P.FileForm.given (named c.args.book.now c.args.names.now)) (g.F.Shelf.file c.args.shelf.now));
+      spelled = λ told p below. absurd (omega (arith, empty));
+      known = λ k d below. absurd (omega (arith, empty));
+      count = same_length _ _ c.new-files.ensures.items;
+    }
+
+pub returns-in-Err-clause-err : goal.returns-in-Err-clause-err
+returns-in-Err-clause-err g c =
+    let before = c.loop-process.invariant in
+    let words = words_of c.args.words.now in
+    let given = g.P.FileForm.given (named c.args.book.now c.args.names.now) in
+    let within : c.loop-process.process < length c.args.words.now = omega arith in
+    let within_words : c.loop-process.process < length words = rw length-map within in
+    let name : get_or words c.loop-process.process [] ≡ c.as_str.result.now =
+    get_or-words_of c.args.words.now c.loop-process.process c.index-words-process.result within c.index-words-process.is ∙ sym c.as_str.ensures.value in
+    let part = rw (before.same.as_told, before.same.files, before.kept, ← name) at c.in-Err.ensures.err in
+    MayRefuse-whole _ _ _ _ _ _ c.in-Err.refusal
+    (λ told refused. files_loaded-refused_at given (g.F.Shelf.file c.args.shelf.now) words c.loop-process.process _ c.in-Err.refusal within_words (before.prefix told) refused)
+    part
+
+pub loop-process-preserved : goal.loop-process-preserved
+loop-process-preserved g c =
+    let before = c.loop-process.invariant in
+    let words = words_of c.args.words.now in
+    let given = g.P.FileForm.given (named c.args.book.now c.args.names.now) in
+    let items = c.in-Ok.items.items in
+    let spells = g.P.FileForm.spells (named c.args.book.now c.args.names.now) in
+    let within : c.loop-process.process < length c.args.words.now = omega arith in
+    let within_words : c.loop-process.process < length words = rw length-map within in
+    let name : get_or words c.loop-process.process [] ≡ c.as_str.result.now =
+    get_or-words_of c.args.words.now c.loop-process.process c.index-words-process.result within c.index-words-process.is ∙ sym c.as_str.ensures.value in
+    let done = c.in-Ok.ensures in
+    let pushed = contents_of-pushed c.push.new.self.items c.loop-process.files.items c.in-Ok.items c.in-Ok-push.ensures.items in
+    let count : length (contents_of c.loop-process.files.items) ≡ c.loop-process.process = length-contents_of c.loop-process.files.items ∙ before.count in
+    record {
+      same = record { as_told = done.files.as_told ∙ before.same.as_told; files = done.files.files ∙ before.same.files };
+      kept = done.kept ∙ before.kept;
+      prefix = λ told. rw pushed
+          (files_loaded-take_more given (g.F.Shelf.file c.args.shelf.now) words c.loop-process.process (contents_of c.loop-process.files.items) items within_words
+          (before.prefix told) (rw (before.same.files, ← name) at (done.ok (before.same.as_told ∙ told))));
+      spelled = λ told. rw pushed
+          (EachSpells-push spells (g.F.Shelf.file c.args.shelf.now) words (contents_of c.loop-process.files.items) items
+          (before.spelled told) (rw (count, name, ← before.same.files) (done.spelled (before.same.as_told ∙ told))));
+      known = rw pushed (All-push (IsSpelled spells) (contents_of c.loop-process.files.items) items before.known done.known);
+      count = same_length _ _ c.in-Ok-push.ensures.items
+          ∙ length-append c.loop-process.files.items (c.in-Ok.items ∷ []) ∙ omega (arith, before.count);
+    }

@@ -1,9 +1,0 @@
-use Rattle.std.proofs.Common.{refl}
-use Rattle.at_program.proofs.MayRefuseLaws.{MayRefuse-whole}
-use Rattle.at_program.specs.Loading.{book_loaded, fetched}
-use Rattle.at_program.proofs.loading.load_book.Goals as goal
-
-pub returns-in-Err-clause-err : goal.returns-in-Err-clause-err
-returns-in-Err-clause-err g c kind =
-    MayRefuse-whole kind _ (fetched (g.F.Shelf.file c.args.shelf.now c.args.name.now) 0) (book_loaded (g.F.Shelf.file c.args.shelf.now) c.args.name.now) _ _ c.in-Err.refusal
-    (λ told refused. rw refused refl) (c.in-Err.ensures.err kind)

@@ -1,7 +1,0 @@
-use Rattle.at_program.specs.Loading.{all_shown}
-use Rattle.at_program.proofs.NodesGiven.{AreNodesOf-new}
-use Rattle.at_program.proofs.nodes.nodes_given.Goals as goal
-
-pub deliver_all-requires-clause-fresh : goal.deliver_all-requires-clause-fresh
-deliver_all-requires-clause-fresh c =
-    AreNodesOf-new (all_shown c.args.sent.now) c.in_ok-nodes.nodes.items c.in_ok-nodes.ensures.nodes c.in_ok-nodes.ensures.steady
