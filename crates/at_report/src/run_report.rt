@@ -2,6 +2,7 @@
 
 ghost use Rattle.std.specs.Prelude.{◌≡◌, ◌^◌, ◌<◌, ◌++◌, List, length, All, IfOk, OnOk};
 ghost use Rattle.at_ledger.specs.Call.{IsLineOn};
+ghost use Rattle.at_ledger.specs.Run.{last_state};
 ghost use Rattle.at_ledger.specs.declared.call.Line.{Line};
 ghost use Rattle.at_files.specs.Names.{AreNamesOf};
 ghost use Rattle.at_report.specs.Lines.{line_text, lines_text};
@@ -49,6 +50,24 @@ pub fn push_audit(
     push_numbered(out, b"total", state.total())
 }
 
+/// Adds the end of a report of these lines: what is left after all of them.
+pub(crate) fn push_end(
+    alloc: Global,
+    out: &mut Vec<u8>,
+    book: &Book,
+    names: &Names,
+    lines: &[Line],
+) -> Result<(), NoMemory>
+    requires names { length names.now.accounts ≡ length book.now.accounts }
+    requires lines { All (IsLineOn book.now.processes (length book.now.accounts)) lines.now }
+    ensures { OnOk result
+        (out.new.items ≡ out.old.items ++ lines_text
+        (audit_lines names.now (last_state book.now lines.now))) }
+{
+    let state = replay(alloc, book, lines)?;
+    push_audit(out, book, names, &state)
+}
+
 /// Adds the first line of a report: how many lines its journal has.
 pub fn push_heading(out: &mut Vec<u8>, lines: u64) -> Result<(), NoMemory>
     ensures { OnOk result (out.new.items ≡ out.old.items ++ line_text (heading_words lines)) }
@@ -81,9 +100,8 @@ fn write_report(
     ensures { IfOk result (λ text. text.items ≡ report_text book.now names.now lines.now) }
 {
     let mut out = Vec::new(alloc);
-    let state = replay(alloc, book, lines)?;
     push_journal(&mut out, names, lines)?;
-    push_audit(&mut out, book, names, &state)?;
+    push_end(alloc, &mut out, book, names, lines)?;
     Ok(out)
 }
 

@@ -2,13 +2,12 @@
 
 ghost use Rattle.std.specs.Prelude.{◌≡◌, ◌∷◌, [], length, All, IfOk, codes, decimal};
 ghost use Rattle.at_ledger.specs.Call.{IsLineOn};
-ghost use Rattle.at_report.specs.Lines.{line_text};
-ghost use Rattle.at_report.specs.Summary.{done_in, is_done_reply, is_read, read_in, summary_text};
+ghost use Rattle.at_report.specs.Lines.{line_text, lines_text};
+ghost use Rattle.at_report.specs.Summary.{done_in, is_done_reply, is_read, made_lines, read_in, summary_text};
 
 use crate::NoMemory;
 use crate::lines::{push_number, push_numbered};
-use crate::replaying::replay;
-use crate::run_report::push_audit;
+use crate::run_report::push_end;
 use at_files::Names;
 use at_ledger::{Book, Call, Line, Reply};
 use std::alloc::Global;
@@ -62,6 +61,24 @@ fn made_line(alloc: Global, first: u64, processes: u32, calls: u32) -> Result<Ve
     Ok(out)
 }
 
+/// What was made of these lines, how many of them succeeded, and how many are reads.
+fn made_lines(
+    alloc: Global,
+    lines: &[Line],
+    first: u64,
+    processes: u32,
+    calls: u32,
+) -> Result<Vec<u8>, NoMemory>
+    ensures { IfOk result
+        (λ text. text.items ≡ lines_text
+        (made_lines first processes calls (done_in lines.now) (read_in lines.now))) }
+{
+    let mut out = made_line(alloc, first, processes, calls)?;
+    push_numbered(&mut out, b"done", done_in(lines))?;
+    push_numbered(&mut out, b"read", read_in(lines))?;
+    Ok(out)
+}
+
 /// The summary of a list of lines that were made from the number `first`, with `calls` calls for each process: how
 /// many of them succeeded and how many are reads, and the balances and the total after all of them. The text grows
 /// with the accounts alone, and the work with lines and accounts.
@@ -75,11 +92,8 @@ pub fn summary(
     requires { All (IsLineOn book.now.processes (length book.now.accounts)) lines.now }
     ensures { IfOk result (λ text. text.items ≡ summary_text book.now lines.now first calls) }
 {
+    let mut out = made_lines(alloc, lines, first, book.processes(), calls)?;
     let names = Names::plain(alloc, book)?;
-    let state = replay(alloc, book, lines)?;
-    let mut out = made_line(alloc, first, book.processes(), calls)?;
-    push_numbered(&mut out, b"done", done_in(lines))?;
-    push_numbered(&mut out, b"read", read_in(lines))?;
-    push_audit(&mut out, book, &names, &state)?;
+    push_end(alloc, &mut out, book, &names, lines)?;
     Ok(out)
 }
