@@ -13,8 +13,6 @@ mod book;
 mod council;
 mod crossing;
 mod halves;
-#[cfg(test)]
-mod tests;
 mod voice;
 mod votes;
 

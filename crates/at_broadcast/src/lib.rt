@@ -10,8 +10,6 @@ mod message;
 mod node;
 mod progress;
 mod sender;
-#[cfg(test)]
-mod tests;
 
 pub use crate::message::{MESSAGES_MAX, Message};
 pub use crate::node::Node;

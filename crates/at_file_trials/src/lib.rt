@@ -1,9 +1,15 @@
-//! Tests of the crates that read files, print texts and judge reports, by their public names. There is nothing else
-//! here.
+//! Tests of the ledger, of the message-passing form, of shelves and sinks, and of the crates that read files, print
+//! texts and judge reports, by their public names. There is nothing else here.
 #![tactic(auto)]
 
 #[cfg(test)]
+mod broadcast_tests;
+#[cfg(test)]
 mod files_tests;
+#[cfg(test)]
+mod io_tests;
+#[cfg(test)]
+mod ledger_tests;
 #[cfg(test)]
 mod message_tests;
 #[cfg(test)]

@@ -16,8 +16,6 @@ mod sink;
 mod std_sink;
 mod steady_shelf;
 mod steady_sink;
-#[cfg(test)]
-mod tests;
 mod writing;
 
 pub use dir_shelf::DirShelf;

@@ -12,8 +12,6 @@ mod call;
 mod draft;
 mod state;
 mod targets;
-#[cfg(test)]
-mod tests;
 
 /// What a call answers that found no memory.
 pub type NoMemory = std::alloc::AllocError;

@@ -1,7 +1,9 @@
 //! Tests of the asset transfer object by its own calls: scenes of whole calls, four threads at once, and a closing for which there
-//! was no memory. There is nothing else here.
+//! was no memory; and of the crates over it that make jobs and agreements. There is nothing else here.
 #![tactic(auto)]
 
+#[cfg(test)]
+mod agree_trials;
 #[cfg(test)]
 mod calls;
 #[cfg(test)]
@@ -16,3 +18,5 @@ mod object_trials;
 mod players;
 #[cfg(test)]
 mod scenes;
+#[cfg(test)]
+mod worker_trials;

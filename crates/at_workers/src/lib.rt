@@ -10,8 +10,6 @@ mod gate;
 mod halves;
 mod job;
 mod play;
-#[cfg(test)]
-mod tests;
 
 pub use crate::gate::{Gate, OpenGate};
 pub use crate::halves::run_all;

@@ -1,4 +1,4 @@
-use Rattle.at_agree.proofs.tests.three_voices_in_turn.Given as goal
+use Rattle.at_object_trials.proofs.agree_trials.three_voices_in_turn.Given as goal
 
 abbrev pub ghosts-answers_in_turn-L-Ledger : goal.ghosts-answers_in_turn-L-Ledger
 ghosts-answers_in_turn-L-Ledger g a = record { name = a.steps.name; parts = a.steps.parts }

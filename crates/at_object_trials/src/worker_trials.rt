@@ -5,9 +5,9 @@ ghost use Rattle.at_ledger.specs.Call.{AreTargetsOn, IsCallOn};
 ghost use Rattle.at_object.specs.Passes.{AreNewPasses, IsPassOf, Stands};
 ghost use Rattle.at_workers.specs.Jobs.{IsReady};
 
-use crate::{Gate, Job, OpenGate, run_all};
 use at_ledger::{Book, BookBuilder, Call, Reply, Targets};
 use at_object::{Ledger, Pass};
+use at_workers::{Gate, Job, OpenGate, run_all};
 use std::alloc::Global;
 use std::sync::atomic::{AtomicBool, AtomicU64, Ordering};
 use std::thread::{Threads, yield_now};

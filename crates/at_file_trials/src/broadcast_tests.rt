@@ -2,8 +2,8 @@
 
 ghost use Rattle.std.specs.Prelude.{◌≡◌, length, IfOk};
 
-use crate::{MESSAGES_MAX, Message, Node};
 use at_base::Counts;
+use at_broadcast::{MESSAGES_MAX, Message, Node};
 use at_ledger::{Book, BookBuilder};
 use std::alloc::{AllocError, Global};
 use std::process::Abort;

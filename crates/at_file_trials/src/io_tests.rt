@@ -1,4 +1,9 @@
-use super::*;
+//! Shelves and sinks, in memory and over the real system.
+
+use at_io::{
+    DirShelf, FILE_MAX, FetchError, MemoryShelf, MemorySink, NoMemory, Shelf, StdSink, SteadyShelf,
+    SteadySink, WriteFault, fetch, put_all,
+};
 use std::alloc::Global;
 use std::fs::File;
 use std::test::Fail;

@@ -4,7 +4,7 @@ ghost use Rattle.std.specs.Prelude.{◌≡◌, ◌^◌, ◌<◌, All, IfSome};
 ghost use Rattle.at_agree.specs.Council.{IsSize};
 ghost use Rattle.at_agree.specs.Voices.{MayPropose};
 
-use crate::{Council, Voice, agree};
+use at_agree::{Council, Voice, agree};
 use at_board::Steps;
 use std::alloc::Global;
 use std::marker::Brand;
@@ -30,7 +30,7 @@ const ONE: u64 = 200;
 const LOOKS: u32 = 1_000_000;
 
 /// A new council of this size, and its voices.
-#[tactic(auto, using(crate::proofs::NewVoices::new_may_propose))]
+#[tactic(auto, using(at_agree::proofs::NewVoices::new_may_propose))]
 fn new_council(alloc: Global, size: u32) -> Option<(Council, Vec<Voice>)>
     requires { IsSize size }
     ensures { IfSome result (λ r. All (MayPropose r.0) r.1.items) }

@@ -1,4 +1,4 @@
-use Rattle.at_agree.proofs.tests.race.Given as goal
+use Rattle.at_object_trials.proofs.agree_trials.race.Given as goal
 
 abbrev pub ghosts-propose_at-L-Ledger : goal.ghosts-propose_at-L-Ledger
 ghosts-propose_at-L-Ledger a = record { name = a.steps.name; parts = a.steps.parts }

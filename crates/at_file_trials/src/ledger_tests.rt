@@ -1,9 +1,12 @@
-//! Worked cases, and each public call once.
+//! Worked cases of the ledger, and each of its public calls once.
 
 ghost use Rattle.std.specs.Prelude.{◌≡◌, length};
 ghost use Rattle.at_ledger.specs.Call.{AreTargetsOn};
 
-use crate::*;
+use at_ledger::{
+    ACCOUNTS_MAX, Book, BookBuilder, BookError, BookFault, Call, Draft, DraftAccount, Reply, State,
+    Targets,
+};
 use std::alloc::{AllocError, Global};
 use std::process::Abort;
 use std::test::Fail;
