@@ -12,7 +12,7 @@ use Rattle.at_log.specs.declared.receipt.Receipt.{Receipt}
 use Rattle.at_object.specs.Closings.{AreAccountedFor, ClosedTerms, IsAccountedFor}
 use Rattle.at_object.specs.Passes.{PassTerms}
 use Rattle.at_agree.proofs.OneAnswer.{one_answer}
-use Rattle.at_agree.specs.Agreement.{AreMade, AreReady, IsAgreement, IsMade, StandsByItself, values_of}
+use Rattle.at_agree.specs.Agreement.{AllMayVote, AreCast, IsAgreement, IsCast, StandsByItself, values_of}
 use Rattle.at_agree.specs.Council.{IsCouncil, IsSize, council_book, size_of}
 use Rattle.at_agree.specs.Plan.{HasVoted}
 use Rattle.at_agree.specs.Voices.{AreNewVoices, HasNotProposed, IsVoiceOf, VoiceTerms, process_of}
@@ -44,10 +44,10 @@ voice_left votes rest voices values n are drawn below same none =
       length-take n values,
     )
 
-pub AreReady-all : (council : BoardTerms) (values : List ℕ) (voices rest : List VoiceTerms) (votes : List Vote) → AreNewVoices council voices
+pub AllMayVote-all : (council : BoardTerms) (values : List ℕ) (voices rest : List VoiceTerms) (votes : List Vote) → AreNewVoices council voices
     → length values ≡ length voices → All (λ v. v < 2 ^ 32) values → voices_of votes ++ rest ≡ voices → values_of votes ≡ values
-    → AreReady council values votes
-AreReady-all council values voices rest votes new same small are drawn =
+    → AllMayVote council values votes
+AllMayVote-all council values voices rest votes new same small are drawn =
     let count_voices : length (voices_of votes) ≡ length votes = length-map votes (λ (x : Vote). x.voice) in
     let count_values : length (values_of votes) ≡ length votes = length-map votes (λ (x : Vote). x.value) in
     let all : voices_of votes ≡ voices = whole_prefix (voices_of votes) rest voices are
@@ -74,18 +74,18 @@ AreReady-all council values voices rest votes new same small are drawn =
     }
 
 -- all of them are made, with the same values
-values_of-made : (council : BoardTerms) (before after : List Vote) → AllZip (IsMade council) before after → values_of after ≡ values_of before
+values_of-made : (council : BoardTerms) (before after : List Vote) → AllZip (IsCast council) before after → values_of after ≡ values_of before
 values_of-made council [] [] made = refl
 values_of-made council [] (y ∷ ys) made = absurd made
 values_of-made council (x ∷ xs) [] made = absurd made
 values_of-made council (x ∷ xs) (y ∷ ys) made = λ t. made.0.value_is t ∷ values_of-made council xs ys made.1 t
 
-pub AreMade-all : (council : BoardTerms) (values : List ℕ) (before after : List Vote) → AreReady council values before
-    → AllZip (IsMade council) before after → AreMade council after × (values_of after ≡ values)
-AreMade-all council values before after ready made =
-    let same : length before ≡ length after = length_all_zip (IsMade council) before after made in
-    let at : (p : ℕ) (d : Vote) → p < length before → IsMade council (get_or before p d) (get_or after p d) =
-    λ p d within. AllZip-get_or (IsMade council) before after p d d made within in (
+pub AreCast-all : (council : BoardTerms) (values : List ℕ) (before after : List Vote) → AllMayVote council values before
+    → AllZip (IsCast council) before after → AreCast council after × (values_of after ≡ values)
+AreCast-all council values before after ready made =
+    let same : length before ≡ length after = length_all_zip (IsCast council) before after made in
+    let at : (p : ℕ) (d : Vote) → p < length before → IsCast council (get_or before p d) (get_or after p d) =
+    λ p d within. AllZip-get_or (IsCast council) before after p d d made within in (
       record {
         count = sym same ∙ ready.count;
         small = λ p d within.
@@ -109,7 +109,7 @@ AreMade-all council values before after ready made =
 
 -- the passes and receipts of all that are made are those with which the ledger is closed
 pub AreAccountedFor-made : (council : BoardTerms) (votes : List Vote) (passes : List PassTerms) (receipts : List (List Receipt))
-    → AreMade council votes → All StandsByItself votes → passes ≡ map (λ x. x.voice.pass) votes
+    → AreCast council votes → All StandsByItself votes → passes ≡ map (λ x. x.voice.pass) votes
     → receipts ≡ map (λ x. x.voice.receipts) votes → AreAccountedFor council passes receipts
 AreAccountedFor-made council votes passes receipts made stand passes_are receipts_are =
     let pass_of : Vote → PassTerms = λ x. x.voice.pass in
@@ -138,7 +138,7 @@ AreAccountedFor-made council votes passes receipts made stand passes_are receipt
 
 -- what the closed ledger shows of them
 pub IsAgreement-closed : (council : BoardTerms) (votes : List Vote) (closed : ClosedTerms) (d : Vote) → IsCouncil council
-    → AreMade council votes → closed.book ≡ council.book → IsBegun closed.book → Coherent closed.book closed.closing
+    → AreCast council votes → closed.book ≡ council.book → IsBegun closed.book → Coherent closed.book closed.closing
     → closed.closing.receipts ≡ map (λ x. x.voice.receipts) votes
     → IsAgreement (values_of votes) closed (get_or votes 0 d).answer
 IsAgreement-closed council votes closed d is made book_is begun coherent receipts_are =

@@ -18,7 +18,7 @@ use Rattle.at_agree.proofs.HistoryShown.{IsCouncilList-IsHistory, NamesAnew-IsHi
 use Rattle.at_agree.proofs.VotedReceipts.{asks_not, stands_as_voted}
 use Rattle.at_agree.specs.Council.{IsCouncil, IsSize, council_book, shared_account, size_of, spent_account, value_account}
 use Rattle.at_agree.specs.Plan.{HasShareDecided, HasProposed, HasVoted, KeepsPlan, chosen, share_of, named_account}
-use Rattle.at_agree.specs.Voices.{HasMade, HasNotProposed, HasRead, IsVoiceOf, VoiceTerms, process_of, seen_by}
+use Rattle.at_agree.specs.Voices.{HasMadeOneMore, HasNotProposed, HasRead, IsVoiceOf, VoiceTerms, process_of, seen_by}
 
 -- what stands in a list stands in each that begins with it
 same_record : (xs ys : List Publication) (m : ℕ) → IsPrefix xs ys → m < length xs → publication_at ys m ≡ publication_at xs m
@@ -52,7 +52,7 @@ HasShareDecided-IsPrefix k p xs ys before asked =
 
 -- after the first call nothing is asked for
 pub asks_in-paid : (council : BoardTerms) (v0 v1 : VoiceTerms) (k p value : ℕ) → p < k → HasNotProposed v0
-    → HasMade council v0 v1 (Transfer p (value_account k p) value) → (asks_in (shared_account k) v1.receipts ≡ 0) × (length v1.receipts ≡ 1)
+    → HasMadeOneMore council v0 v1 (Transfer p (value_account k p) value) → (asks_in (shared_account k) v1.receipts ≡ 0) × (length v1.receipts ≡ 1)
 asks_in-paid council v0 v1 k p value known none made =
     let list_is : v1.receipts ≡ made.receipt ∷ [] = made.receipts ∙ ap (λ (rs : List Receipt). rs ++ made.receipt ∷ []) none in
     let unasked = asks_not (shared_account k) made.receipt (Transfer p (value_account k p) value) made.call_is
@@ -63,8 +63,8 @@ asks_in-paid council v0 v1 k p value known none made =
 
 -- the four receipts
 module _ (council : BoardTerms) (v0 v1 v2 v3 v4 : VoiceTerms) (k p value left answer : ℕ) where
-  pub HasVoted-made : HasNotProposed v0 → HasMade council v0 v1 (Transfer p (value_account k p) value)
-      → HasMade council v1 v2 (Transfer (shared_account k) (spent_account k) (share_of k p))
+  pub HasVoted-made : HasNotProposed v0 → HasMadeOneMore council v0 v1 (Transfer p (value_account k p) value)
+      → HasMadeOneMore council v1 v2 (Transfer (shared_account k) (spent_account k) (share_of k p))
       → HasRead council v2 v3 (shared_account k) left → HasRead council v3 v4 (named_account k p left) answer
       → HasVoted k p value answer v4.receipts
   HasVoted-made none paid asked found last =

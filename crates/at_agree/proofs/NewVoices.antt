@@ -7,7 +7,7 @@ use Rattle.at_ledger.specs.Book.{BookTerms}
 use Rattle.at_log.specs.declared.receipt.Receipt.{Receipt}
 use Rattle.at_object.specs.Passes.{AreNewPasses, IsNewPass, PassTerms, Stands}
 use Rattle.at_agree.specs.Council.{size_of}
-use Rattle.at_agree.specs.Voices.{AreNewVoices, HasNotProposed, IsVoice, MayPropose, VoiceTerms}
+use Rattle.at_agree.specs.Voices.{AreNewVoices, HasNotProposed, IsVoice, MayProposeValue, VoiceTerms}
 
 -- the pass after so many is that of this process
 pub IsNewPass-at : (ledger : BoardTerms) (passes done left : List PassTerms) (pass : PassTerms) → AreNewPasses ledger passes
@@ -48,7 +48,7 @@ AreNewVoices-all ledger passes voices new same unproposed =
     }
 
 -- each of them can propose
-pub new_may_propose : (council : BoardTerms) (voices : List VoiceTerms) → AreNewVoices council voices → All (MayPropose council) voices
+pub new_may_propose : (council : BoardTerms) (voices : List VoiceTerms) → AreNewVoices council voices → All (MayProposeValue council) voices
 new_may_propose council voices new =
     λ p d within.
     let voice = new.each p d (omega (arith, within, new.count)) in

@@ -12,7 +12,7 @@ use Rattle.at_log.specs.Receipts.{asks_in}
 use Rattle.at_log.specs.declared.receipt.Receipt.{Receipt}
 use Rattle.at_object.specs.Paid.{PaysAlone}
 use Rattle.at_object.specs.Passes.{IsPassOf, PassTerms, Stands, one_more_call}
-use Rattle.at_object.specs.Payments.{IsDecided, payment_steps, shared_steps, single_steps}
+use Rattle.at_object.specs.Payments.{IsDecidedByBalance, payment_steps, shared_steps, single_steps}
 use Rattle.at_agree.proofs.CouncilBook.{account_of-own, is_shared-shared, length-accounts, slots_of-shared}
 use Rattle.at_agree.proofs.HistoryShown.{IsCouncilList-IsHistory}
 use Rattle.at_agree.proofs.PlacedCalls.{HasShareDecided-IsAtRound, HasProposed-IsAtOwn, share_placed, paid, refused, value_decided, value_placed}
@@ -57,7 +57,7 @@ module _ (council : BoardTerms) (before after : PassTerms) (k p : ℕ) (r : Rece
       → p ≡ before.knows.first → after.knows.first ≡ before.knows.first
       → r.call ≡ Transfer p (value_account k p) value
       → IsPlaced council.book before.knows.first after.knows.seen [] r → Stands after (r ∷ [])
-      → (IsDecided r → is_single (account_of council.book p) ≡ true
+      → (IsDecidedByBalance r → is_single (account_of council.book p) ≡ true
       → PaysAlone council.book before.knows after.knows p ((value_account k p, value) ∷ []) (Transfer p (value_account k p) value) r)
       → HasProposed k after.knows.seen p value
   HasProposed-paid value is size_is known small process_is same_process call_is placed told alone =

@@ -19,13 +19,13 @@ pub record IsAgreement (values : List ℕ) (closed : ClosedTerms) (value : ℕ) 
   pub proposed : Contains values value
 
 -- the voice of a vote can propose its value to the council
-pub record IsReady (council : BoardTerms) (x : Vote) : Type 0 where
+pub record MayVote (council : BoardTerms) (x : Vote) : Type 0 where
   pub of_council : IsVoiceOf x.voice council
   pub unproposed : HasNotProposed x.voice
   pub small : x.value < 2 ^ 32
 
 -- it has proposed it, and kept the answer
-pub record IsMade (council : BoardTerms) (before after : Vote) : Type 0 where
+pub record IsCast (council : BoardTerms) (before after : Vote) : Type 0 where
   pub process_is : process_of after.voice ≡ process_of before.voice
   pub value_is : after.value ≡ before.value
   pub of_council : IsVoiceOf after.voice council
@@ -36,23 +36,23 @@ abbrev pub values_of : List Vote → List ℕ
 values_of votes = map (λ x. x.value) votes
 
 -- one vote of each process with its value, in order, and none is made yet
-pub record AreReady (council : BoardTerms) (values : List ℕ) (votes : List Vote) : Type 0 where
-  pub ready : All (IsReady council) votes
+pub record AllMayVote (council : BoardTerms) (values : List ℕ) (votes : List Vote) : Type 0 where
+  pub ready : All (MayVote council) votes
   pub count : length votes ≡ size_of council
   pub values_are : values_of votes ≡ values
   pub processes : (p : ℕ) (d : Vote) → p < size_of council → process_of (slice_index_or votes p d).voice ≡ p
 
 -- process p has proposed
-pub record IsMadeBy (council : BoardTerms) (p : ℕ) (x : Vote) : Type 0 where
+pub record IsCastBy (council : BoardTerms) (p : ℕ) (x : Vote) : Type 0 where
   pub process_is : process_of x.voice ≡ p
   pub of_council : IsVoiceOf x.voice council
   pub voted : HasVoted (size_of council) p x.value x.answer x.voice.receipts
 
 -- all processes have, each with its value
-pub record AreMade (council : BoardTerms) (votes : List Vote) : Type 0 where
+pub record AreCast (council : BoardTerms) (votes : List Vote) : Type 0 where
   pub count : length votes ≡ size_of council
   pub small : All (λ x. x.value < 2 ^ 32) votes
-  pub each : (p : ℕ) (d : Vote) → p < size_of council → IsMadeBy council p (slice_index_or votes p d)
+  pub each : (p : ℕ) (d : Vote) → p < size_of council → IsCastBy council p (slice_index_or votes p d)
 
 -- the receipts of a vote's voice account for its pass
 pub record StandsByItself (x : Vote) : Type 0 where

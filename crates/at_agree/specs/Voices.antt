@@ -40,7 +40,7 @@ abbrev pub HasNotProposed : VoiceTerms → Type 0
 HasNotProposed voice = voice.receipts ≡ []
 
 -- it can propose to the council
-pub record MayPropose (council : BoardTerms) (voice : VoiceTerms) : Type 0 where
+pub record MayProposeValue (council : BoardTerms) (voice : VoiceTerms) : Type 0 where
   pub of_council : IsVoiceOf voice council
   pub unproposed : HasNotProposed voice
 
@@ -55,7 +55,7 @@ pub record AreNewVoices (council : BoardTerms) (voices : List VoiceTerms) : Type
   pub each : (p : ℕ) (d : VoiceTerms) → p < size_of council → IsNewVoice council p (slice_index_or voices p d)
 
 -- one more call was made with the voice, and its receipt was kept
-pub record HasMade (council : BoardTerms) (before after : VoiceTerms) (call : Call) : Type 0 where
+pub record HasMadeOneMore (council : BoardTerms) (before after : VoiceTerms) (call : Call) : Type 0 where
   pub process_is : process_of after ≡ process_of before
   pub of_council : IsVoiceOf after council
   pub begins : IsPrefix (seen_by before) (seen_by after)
@@ -66,7 +66,7 @@ pub record HasMade (council : BoardTerms) (before after : VoiceTerms) (call : Ca
 
 -- that call was a read of the account, which found this balance
 pub record HasRead (council : BoardTerms) (before after : VoiceTerms) (account balance : ℕ) : Type 0 where
-  pub made : HasMade council before after (Read account)
+  pub made : HasMadeOneMore council before after (Read account)
   pub found : made.receipt.reply ≡ Balance balance
 
 -- the most steps of the four calls of a process among k, beside the loads of records that its totals count

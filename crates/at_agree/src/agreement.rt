@@ -2,7 +2,7 @@
 
 ghost use Rattle.std.specs.Prelude.{◌≡◌, ◌<◌, ◌^◌, All, IfOk, length, map};
 ghost use Rattle.std.specs.List.{AllZip};
-ghost use Rattle.at_agree.specs.Agreement.{AreMade, IsAgreement, IsMade, IsReady, StandsByItself, values_of};
+ghost use Rattle.at_agree.specs.Agreement.{AreCast, IsAgreement, IsCast, MayVote, StandsByItself, values_of};
 ghost use Rattle.at_agree.specs.Council.{IsSize};
 
 use crate::NoMemory;
@@ -36,8 +36,8 @@ pub fn agree<R: Threads + Sync>(rt: &R, alloc: Global, values: &[u64]) -> Result
 
 /// Makes all votes, by threads.
 fn propose_list<R: Threads + Sync>(rt: &R, council: &Council, votes: &mut Vec<Vote>)
-    requires { All (IsReady council.now) votes.old.items }
-    ensures { AllZip (IsMade council.now) votes.old.items votes.new.items }
+    requires { All (MayVote council.now) votes.old.items }
+    ensures { AllZip (IsCast council.now) votes.old.items votes.new.items }
 {
     propose_all(rt, council, votes.as_mut_slice());
 }
@@ -45,7 +45,7 @@ fn propose_list<R: Threads + Sync>(rt: &R, council: &Council, votes: &mut Vec<Vo
 /// Closes the council's ledger with all passes and receipts. The answer is that of process 0, and of all others.
 fn close(alloc: Global, council: Council, votes: Vec<Vote>) -> Result<Agreed, NoMemory>
     requires some { 0 < length votes.items }
-    requires made { AreMade council votes.items }
+    requires made { AreCast council votes.items }
     ensures { IfOk result (λ a. IsAgreement (values_of votes.items) a.closed a.value) }
 {
     let value = votes[0].answer;

@@ -6,7 +6,7 @@ ghost use Rattle.at_agree.specs.Plan.{HasShareDecided, HasProposed, HasVoted, Ke
 ghost use Rattle.at_agree.specs.Voices.{AreNewVoices, HasNotProposed, IsVoiceOf, process_of, propose_steps, seen_by};
 ghost use Rattle.at_board.specs.declared.words.TheConstants.{RECORD_WORDS};
 ghost use Rattle.at_history.specs.Publications.{IsPrefix};
-ghost use Rattle.at_object.specs.Passes.{AreNewPasses, newly_counted};
+ghost use Rattle.at_object.specs.Passes.{AreNewPasses, counted_anew};
 
 use crate::NoMemory;
 use crate::book::book_for;
@@ -60,17 +60,20 @@ impl Council {
         requires voice { IsVoiceOf voice.old self.now }
         requires unproposed { HasNotProposed voice.old }
         requires value { value < 2 ^ 32 }
-        ensures proposed { HasProposed (size_of self.now) (seen_by voice.new) (process_of voice.old) value }
-        ensures asked { HasShareDecided (size_of self.now) (seen_by voice.new) (process_of voice.old) }
+        ensures proposed { HasProposed (size_of self.now) (seen_by voice.new)
+            (process_of voice.old) value }
+        ensures asked { HasShareDecided (size_of self.now) (seen_by voice.new)
+            (process_of voice.old) }
         ensures agreed { KeepsPlan (size_of self.now) (seen_by voice.new)
             → HasProposed (size_of self.now) (seen_by voice.new)
             (chosen (size_of self.now) (seen_by voice.new)) result }
-        ensures voted { HasVoted (size_of self.now) (process_of voice.old) value result voice.new.receipts }
+        ensures voted { HasVoted (size_of self.now)
+            (process_of voice.old) value result voice.new.receipts }
         ensures voice { IsVoiceOf voice.new self.now }
         ensures process { process_of voice.new ≡ process_of voice.old }
         ensures begins { IsPrefix (seen_by voice.old) (seen_by voice.new) }
         ensures steps { steps.new ≤ steps.old + propose_steps (size_of self.now)
-            + RECORD_WORDS * newly_counted voice.old.pass voice.new.pass }
+            + RECORD_WORDS * counted_anew voice.old.pass voice.new.pass }
         ensures exchanges { exchanges.new ≤ exchanges.old + size_of self.now }
     {
         let size = self.size();

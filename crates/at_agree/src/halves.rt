@@ -3,7 +3,7 @@
 ghost use Rattle.std.specs.Prelude.{◌<◌, length, All};
 ghost use Rattle.std.specs.List.{AllZip};
 ghost use Rattle.std.specs.Thread.{IsSync};
-ghost use Rattle.at_agree.specs.Agreement.{IsMade, IsReady};
+ghost use Rattle.at_agree.specs.Agreement.{IsCast, MayVote};
 
 use crate::council::Council;
 use crate::votes::{Vote, propose_one};
@@ -13,8 +13,8 @@ use std::thread::{Threads, join_mut};
 #[cycle(halves)]
 #[tactic(auto, using(at_object::proofs::Laws::Zipped::all_zip_append))]
 pub(crate) fn propose_all<R: Threads + Sync>(rt: &R, council: &Council, votes: &mut [Vote])
-    requires { All (IsReady council.now) votes.old }
-    ensures { AllZip (IsMade council.now) votes.old votes.new }
+    requires { All (MayVote council.now) votes.old }
+    ensures { AllZip (IsCast council.now) votes.old votes.new }
 {
     match votes {
         [] => {}
@@ -30,20 +30,20 @@ pub(crate) fn propose_all<R: Threads + Sync>(rt: &R, council: &Council, votes: &
 #[cycle(halves)]
 fn propose_both<R: Threads + Sync>(rt: &R, council: &Council, front: &mut [Vote], back: &mut [Vote])
     requires some { (0 < length front.old) × (0 < length back.old) }
-    requires front { All (IsReady council.now) front.old }
-    requires back { All (IsReady council.now) back.old }
-    ensures front { AllZip (IsMade council.now) front.old front.new }
-    ensures back { AllZip (IsMade council.now) back.old back.new }
+    requires front { All (MayVote council.now) front.old }
+    requires back { All (MayVote council.now) back.old }
+    ensures front { AllZip (IsCast council.now) front.old front.new }
+    ensures back { AllZip (IsCast council.now) back.old back.new }
 {
     join_mut(
         rt,
         &mut ||
-            requires { IsSync R.row × All (IsReady council.now) front.now }
-            ensures { AllZip (IsMade council.entry.now) front.entry.now front.exit.now }
+            requires { IsSync R.row × All (MayVote council.now) front.now }
+            ensures { AllZip (IsCast council.entry.now) front.entry.now front.exit.now }
         { propose_all(rt, council, front) },
         &mut ||
-            requires { IsSync R.row × All (IsReady council.now) back.now }
-            ensures { AllZip (IsMade council.entry.now) back.entry.now back.exit.now }
+            requires { IsSync R.row × All (MayVote council.now) back.now }
+            ensures { AllZip (IsCast council.entry.now) back.entry.now back.exit.now }
         { propose_all(rt, council, back) },
     );
 }

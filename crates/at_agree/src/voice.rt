@@ -3,12 +3,12 @@
 ghost use Rattle.std.specs.Prelude.{◌≡◌, ◌+◌, ◌*◌, ◌^◌, ◌<◌, ◌≤◌, length};
 ghost use Rattle.at_agree.specs.Council.{IsCouncil, shared_account, size_of, spent_account, value_account};
 ghost use Rattle.at_agree.specs.Plan.{HasShareDecided, HasProposed, share_of};
-ghost use Rattle.at_agree.specs.Voices.{HasMade, HasNotProposed, HasRead, IsVoiceOf, process_of, seen_by};
+ghost use Rattle.at_agree.specs.Voices.{HasMadeOneMore, HasNotProposed, HasRead, IsVoiceOf, process_of, seen_by};
 ghost use Rattle.at_board.specs.declared.words.TheConstants.{RECORD_WORDS};
 ghost use Rattle.at_history.specs.Histories.{IsHistory};
 ghost use Rattle.at_ledger.specs.declared.call.Call.{Call};
 ghost use Rattle.at_log.specs.Receipts.{asks_in};
-ghost use Rattle.at_object.specs.Passes.{Stands, newly_counted};
+ghost use Rattle.at_object.specs.Passes.{Stands, counted_anew};
 ghost use Rattle.at_object.specs.Payments.{shared_steps, single_steps};
 ghost use Rattle.at_snapshot.specs.Snapshots.{snapshot_steps};
 
@@ -35,7 +35,8 @@ impl Model for Voice {
 
     ghost view = { λ v. record { pass = v.pass; receipts = v.receipts.items } };
 
-    ghost invariant = { λ v. IsVoice (record { pass = v.pass; receipts = v.receipts.items }) (vec_capacity v.receipts) };
+    ghost invariant = { λ v. IsVoice (record { pass = v.pass; receipts = v.receipts.items })
+        (vec_capacity v.receipts) };
 }
 
 impl Voice {
@@ -61,11 +62,11 @@ impl Voice {
         requires voice { IsVoiceOf self.old ledger.now }
         requires unproposed { HasNotProposed self.old }
         requires value { value < 2 ^ 32 }
-        ensures made { HasMade ledger.now self.old self.new
+        ensures made { HasMadeOneMore ledger.now self.old self.new
             (Call.Transfer (process_of self.old) (value_account size (process_of self.old)) value) }
         ensures proposed { HasProposed size (seen_by self.new) (process_of self.old) value }
         ensures steps { steps.new ≤ steps.old + single_steps size
-            + RECORD_WORDS * newly_counted self.old.pass self.new.pass }
+            + RECORD_WORDS * counted_anew self.old.pass self.new.pass }
         ensures exchanges { exchanges.new ≡ exchanges.old }
     {
         let process = self.pass.process();
@@ -93,12 +94,12 @@ impl Voice {
         requires voice { IsVoiceOf self.old ledger.now }
         requires some_room { length self.old.receipts < 4 }
         requires unasked { asks_in (shared_account size) self.old.receipts ≡ 0 }
-        ensures made { HasMade ledger.now self.old self.new
+        ensures made { HasMadeOneMore ledger.now self.old self.new
             (Call.Transfer (shared_account size) (spent_account size)
             (share_of size (process_of self.old))) }
         ensures asked { HasShareDecided size (seen_by self.new) (process_of self.old) }
         ensures steps { steps.new ≤ steps.old + shared_steps size size
-            + RECORD_WORDS * newly_counted self.old.pass self.new.pass }
+            + RECORD_WORDS * counted_anew self.old.pass self.new.pass }
         ensures exchanges { exchanges.new ≤ exchanges.old + size }
     {
         let share = u64::from(2 * size - (self.pass.process() + 1));
@@ -128,7 +129,7 @@ impl Voice {
         ensures stands { Stands self.new.pass self.new.receipts }
         ensures history { IsHistory ledger.now.book (seen_by self.new) }
         ensures steps { steps.new ≤ steps.old + snapshot_steps (size_of ledger.now)
-            + RECORD_WORDS * newly_counted self.old.pass self.new.pass }
+            + RECORD_WORDS * counted_anew self.old.pass self.new.pass }
         ensures exchanges { exchanges.new ≡ exchanges.old }
     {
         let found = ledger.read(&mut self.pass, account, steps, exchanges);

@@ -1,7 +1,7 @@
 //! Votes: a voice with the value that it proposes, and the answer.
 
 ghost use Rattle.std.specs.Prelude.{◌≡◌, ◌<◌, ◌^◌, All, IfOk, length};
-ghost use Rattle.at_agree.specs.Agreement.{AreReady, IsMade, IsReady};
+ghost use Rattle.at_agree.specs.Agreement.{AllMayVote, IsCast, MayVote};
 ghost use Rattle.at_agree.specs.Voices.{AreNewVoices};
 
 use crate::NoMemory;
@@ -31,7 +31,7 @@ pub(crate) fn votes_of(
     requires voices { AreNewVoices council.now voices.items }
     requires count { length values.now ≡ length voices.items }
     requires small { All (λ v. v < 2 ^ 32) values.now }
-    ensures { IfOk result (λ votes. AreReady council.now values.now votes.items) }
+    ensures { IfOk result (λ votes. AllMayVote council.now values.now votes.items) }
 {
     let mut votes = Vec::with_capacity(alloc, values.len())?;
     let mut rest = voices.into_iter();
@@ -56,11 +56,11 @@ fn propose<L: ledger::Ledger, X: ledger::Ledger>(
     steps: Blank,
     exchanges: Blank,
 )
-    requires ready { IsReady council.now vote.old }
+    requires ready { MayVote council.now vote.old }
     requires names { (steps.name ≡ L.name) × (exchanges.name ≡ X.name) }
     requires parts { (steps.parts ≡ L.parts) × (exchanges.parts ≡ X.parts) }
     requires some { (0 < steps.parts) × (0 < exchanges.parts) }
-    ensures { IsMade council.now vote.old vote.new }
+    ensures { IsCast council.now vote.old vote.new }
 {
     let (steps, exchanges) = (&mut Steps::<L>::new(steps), &mut Steps::<X>::new(exchanges));
     vote.answer = council.propose(&mut vote.voice, vote.value, steps, exchanges);
@@ -68,8 +68,8 @@ fn propose<L: ledger::Ledger, X: ledger::Ledger>(
 
 /// Proposes. Nobody reads how many steps it takes.
 pub(crate) fn propose_one(council: &Council, vote: &mut Vote)
-    requires { IsReady council.now vote.old }
-    ensures { IsMade council.now vote.old vote.new }
+    requires { MayVote council.now vote.old }
+    ensures { IsCast council.now vote.old vote.new }
 {
     propose::<Brand, Brand>(council, vote, Blank::new(1), Blank::new(1));
 }

@@ -35,7 +35,8 @@ impl Board {
         requires board { IsOf seat.old self.now }
         requires request { (slot : ℕ) × (r : Request)
             × MayAnnounce self.now.book seat.old.knows account slot r }
-        ensures announced { (slot : ℕ) (r : Request) → MayAnnounce self.now.book seat.old.knows account slot r
+        ensures announced { (slot : ℕ) (r : Request)
+            → MayAnnounce self.now.book seat.old.knows account slot r
             → Announces self.now.book seat.old.knows seat.new.knows account slot r }
         ensures seat { IsKept seat.new.knows }
         ensures board { seat.new.board ≡ seat.old.board }

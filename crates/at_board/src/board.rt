@@ -39,8 +39,10 @@ impl Model for Board {
 
     ghost view = { λ b. record { id = b.table.shared.table_id; book = b.book } };
 
-    ghost invariant = { λ b. (b.table.shared.key.value ≡ b.book) × (b.table.shared.table_id.words ≡ word_count b.book) × IsBook b.book
-        × AreLogStarts b.book b.log_starts.items × (b.slots_start ≡ index_of b.book (record_word b.book.processes 0 0))
+    ghost invariant = { λ b. (b.table.shared.key.value ≡ b.book)
+        × (b.table.shared.table_id.words ≡ word_count b.book) × IsBook b.book
+        × AreLogStarts b.book b.log_starts.items
+        × (b.slots_start ≡ index_of b.book (record_word b.book.processes 0 0))
         × AreSlotsBefore b.book b.slots_before.items × (b.table.shared.table_id.slots ≡ 0) };
 }
 

@@ -28,7 +28,8 @@ impl Model for BoardEnd {
 
     ghost view = { λ e. end_of e.book (slots_items e.table.words) };
 
-    ghost invariant = { λ e. HasWords e.book (slots_items e.table.words) × AreLogStarts e.book e.log_starts.items
+    ghost invariant = { λ e. HasWords e.book (slots_items e.table.words)
+        × AreLogStarts e.book e.log_starts.items
         × IsFull e.table.words × (slots_len e.table.slots ≡ 0) };
 }
 

@@ -47,7 +47,8 @@ fn account_or_zero(targets: &Targets, i: u32) -> u64
 
 /// The accounts of a word. Of a word that packs no list the answer is some accounts.
 pub fn unpack_targets(word: u64) -> ArrayVec<u32, TARGETS_MAX>
-    ensures { (accounts : List ℕ) → ArePacked accounts → targets_word accounts ≡ word → result.items ≡ accounts }
+    ensures { (accounts : List ℕ) → ArePacked accounts → targets_word accounts ≡ word
+        → result.items ≡ accounts }
 {
     let mut accounts = ArrayVec::from([
         account_at(word, 0),
@@ -167,7 +168,9 @@ pub fn entry_of(words: [u64; RECORD_WORDS as usize]) -> Entry
 
 /// The entry of its words, each for itself.
 fn entry_from(head: u64, accounts: u64, decision: u64, amounts: [u64; 4]) -> Entry
-    ensures { (e : Entry) → IsForm e → head ≡ head_of e → accounts ≡ targets_word (accounts_of (targets_of e)) → decision ≡ decision_word e → amounts ≡ amount_words (targets_of e) → result ≡ e }
+    ensures { (e : Entry) → IsForm e → head ≡ head_of e
+        → accounts ≡ targets_word (accounts_of (targets_of e)) → decision ≡ decision_word e
+        → amounts ≡ amount_words (targets_of e) → result ≡ e }
 {
     let head = unpack_head(head);
     match unpack_decision(decision) {
@@ -186,7 +189,8 @@ fn entry_from(head: u64, accounts: u64, decision: u64, amounts: [u64; 4]) -> Ent
 
 /// The targets of these words. For words that no targets have, the answer is some targets.
 pub fn targets_from(word: u64, amounts: [u64; 4]) -> Targets
-    ensures { (ts : List TargetPair) → ArePacked (accounts_of ts) → word ≡ targets_word (accounts_of ts) → amounts ≡ amount_words ts → result ≡ ts }
+    ensures { (ts : List TargetPair) → ArePacked (accounts_of ts)
+        → word ≡ targets_word (accounts_of ts) → amounts ≡ amount_words ts → result ≡ ts }
 {
     let mut targets = Targets::one(account_at(word, 0), amounts[0]);
     for k in 1..target_count(word) {
@@ -197,7 +201,8 @@ pub fn targets_from(word: u64, amounts: [u64; 4]) -> Targets
 
 /// How many targets a word has. Of a word that packs no list the answer is some number of them.
 fn target_count(word: u64) -> u32
-    ensures count { (accounts : List ℕ) → ArePacked accounts → targets_word accounts ≡ word → result ≡ length accounts }
+    ensures count { (accounts : List ℕ) → ArePacked accounts → targets_word accounts ≡ word
+        → result ≡ length accounts }
     ensures few { result ≤ 4 }
 {
     (word >> 40).min(TARGETS_MAX as u64) as u32

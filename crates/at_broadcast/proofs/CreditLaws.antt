@@ -5,10 +5,10 @@ use Rattle.std.proofs.lemmas.Bool.{lt-leb}
 use Rattle.std.proofs.lemmas.List.{take-append-drop, get_or-drop, get_or-take}
 use Rattle.std.proofs.lemmas.List.Sums.{sum_by-append, sum_by-cons}
 use Rattle.at_broadcast.specs.declared.credits.Credit.{Credit}
-use Rattle.at_broadcast.specs.Credits.{AreCredits, amount_of, amount_since}
+use Rattle.at_broadcast.specs.Credits.{AreCredits, amount_since, credits_sum}
 
 -- all come since the least number
-pub amount_since-all : (number : ℕ) (list : List Credit) → All (λ c. number ≤ c.number) list → amount_since number list ≡ amount_of list
+pub amount_since-all : (number : ℕ) (list : List Credit) → All (λ c. number ≤ c.number) list → amount_since number list ≡ credits_sum list
 amount_since-all number [] all = refl
 amount_since-all number (c ∷ list) all =
     let head : number ≤ c.number = all 0 c (omega arith) in
@@ -28,7 +28,7 @@ amount_since-none number (c ∷ list) all =
 -- what comes since a number is what stands from the first such credit on
 pub amount_since-drop : (number : ℕ) (list : List Credit) (i : ℕ) → i ≤ length list
     → ((k : ℕ) (d : Credit) → k < i → (get_or list k d).number < number) → ((k : ℕ) (d : Credit) → i ≤ k → k < length list → number ≤ (get_or list k d).number)
-    → amount_since number list + amount_of (take i list) ≡ amount_of list
+    → amount_since number list + credits_sum (take i list) ≡ credits_sum list
 amount_since-drop number list i within below above =
     let earlier = amount_since-none number (take i list) (λ k d h. let lt : k < i = omega (arith, length-take i list) in rw get_or-take (below k d lt)) in
     let later = amount_since-all number (drop i list) (λ k d h. rw get_or-drop (above (i + k) d (omega arith) (omega (arith, length-drop i list)))) in
@@ -38,7 +38,7 @@ amount_since-drop number list i within below above =
       earlier,
       later,
       ap (amount_since number) whole,
-      ap amount_of whole,
+      ap credits_sum whole,
       sum_by-append (λ (c : Credit). cond (leb number c.number) c.amount 0) (take i list) (drop i list),
       sum_by-append (λ (c : Credit). c.amount) (take i list) (drop i list),
     )

@@ -6,7 +6,7 @@ use Rattle.std.specs.List.{range_with_len, sum_by}
 use Rattle.at_base.specs.Counts.{Covers}
 use Rattle.at_ledger.specs.Book.{BookTerms, account_of}
 use Rattle.at_broadcast.specs.Credits.{amount_since}
-use Rattle.at_broadcast.specs.Messages.{MessageList, credit_of, sum_of_first}
+use Rattle.at_broadcast.specs.Messages.{MessageList, message_credit, sum_of_first}
 use Rattle.at_broadcast.specs.Progress.{IsProgress, messages_of, sender_of}
 use Rattle.at_broadcast.specs.Sender.{SenderState, credits_to}
 use Rattle.at_broadcast.specs.Validated.{balance_at, went}
@@ -22,13 +22,13 @@ left_of senders deps account q = amount_since (get_or deps q 0) (credits_to (sen
 -- of all senders
 pub left_of-sum : (b : BookTerms) (counts : List ℕ) (senders : List SenderState) (balances deps : List ℕ) (account : ℕ)
     → IsProgress b counts senders balances → account < length b.accounts → Covers counts deps
-    → sum_by (left_of senders deps account) (range_with_len 0 b.processes) + sum_of_first (credit_of account) (messages_of senders) deps
-    ≡ sum_of_first (credit_of account) (messages_of senders) counts
+    → sum_by (left_of senders deps account) (range_with_len 0 b.processes) + sum_of_first (message_credit account) (messages_of senders) deps
+    ≡ sum_of_first (message_credit account) (messages_of senders) counts
 left_of-sum b counts senders balances deps account is known covered =
     let messages : List MessageList = messages_of senders in
     let sized : length messages ≡ b.processes = length-messages_of senders ∙ is.sized in
-    ap (λ n. sum_by (left_of senders deps account) (range_with_len 0 n) + sum_of_first (credit_of account) messages deps) (sym sized)
-    ∙ range-sum (left_of senders deps account) (part (credit_of account) messages deps) (part (credit_of account) messages counts) 0 (length messages)
+    ap (λ n. sum_by (left_of senders deps account) (range_with_len 0 n) + sum_of_first (message_credit account) messages deps) (sym sized)
+    ∙ range-sum (left_of senders deps account) (part (message_credit account) messages deps) (part (message_credit account) messages counts) 0 (length messages)
     (λ q low high.
     let process : q < b.processes = omega (arith, high, sized) in
     let below = covered q (omega (arith, process, is.counted)) in
@@ -36,15 +36,15 @@ left_of-sum b counts senders balances deps account is known covered =
     omega (
       arith,
       ((is.credits q process).credits account known).since (get_or deps q 0) below,
-      ap (λ (l : MessageList). sum_by (credit_of account) (take (get_or deps q 0) l)) same,
-      ap (λ (l : MessageList). sum_by (credit_of account) (take (get_or counts q 0) l)) same,
+      ap (λ (l : MessageList). sum_by (message_credit account) (take (get_or deps q 0) l)) same,
+      ap (λ (l : MessageList). sum_by (message_credit account) (take (get_or counts q 0) l)) same,
     ))
 
 -- the balance at `deps` covers an amount where the balance does so without what came since
 pub covers-left_out : (b : BookTerms) (counts : List ℕ) (senders : List SenderState) (balances deps : List ℕ) (p account amount left_out : ℕ)
     → IsProgress b counts senders balances → account < length b.accounts → (account_of b account).owners ≡ p ∷ [] → get_or deps p 0 ≡ get_or counts p 0
     → Covers counts deps
-    → left_out + sum_of_first (credit_of account) (messages_of senders) deps ≡ sum_of_first (credit_of account) (messages_of senders) counts
+    → left_out + sum_of_first (message_credit account) (messages_of senders) deps ≡ sum_of_first (message_credit account) (messages_of senders) counts
     → (amount + left_out ≤ get_or balances account 0) ↔ (pos amount ≤ℤ balance_at b (messages_of senders) deps account)
 covers-left_out b counts senders balances deps p account amount left_out is known owner own covered left =
     let messages : List MessageList = messages_of senders in

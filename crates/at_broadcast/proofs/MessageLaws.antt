@@ -3,7 +3,7 @@ use Rattle.std.proofs.Common.{◌≡◌, ◌≢◌, ℕ, ◌+◌, ◌<◌, ◌�
 use Rattle.std.proofs.lemmas.Bool.{cases_eq}
 use Rattle.at_ledger.specs.Book.{BookTerms, account_of}
 use Rattle.at_broadcast.specs.declared.message.Message.{Message}
-use Rattle.at_broadcast.specs.Messages.{MessageList, credit_of, debit_of, list_of, message_at, message_of, with_message}
+use Rattle.at_broadcast.specs.Messages.{MessageList, list_of, message_at, message_credit, message_debit, message_of, with_message}
 use Rattle.at_broadcast.specs.Validated.{IsValid, Reached, balance_at, came, went}
 use Rattle.at_broadcast.specs.Validated.Reached.{zeros, raise}
 use Rattle.at_broadcast.proofs.ReachedLaws.{after-Reached, length-Reached}
@@ -35,8 +35,8 @@ pub balance_at-with_message : (b : BookTerms) (messages : List MessageList) (cou
     → balance_at b (with_message messages p number m) counts account ≡ balance_at b messages counts account
 unfolding balance_at
 balance_at-with_message b messages counts p number account m known after =
-    let credits = sum_of_first-with_message (credit_of account) messages counts p number m known after in
-    let debits = sum_of_first-with_message (debit_of account) messages counts p number m known after in
+    let credits = sum_of_first-with_message (message_credit account) messages counts p number m known after in
+    let debits = sum_of_first-with_message (message_debit account) messages counts p number m known after in
     ap (λ (n : ℕ). pos ((account_of b account).opening + n) -ℤ pos (went (with_message messages p number m) counts account)) credits
     ∙ ap (λ (n : ℕ). pos (came b messages counts account) -ℤ pos n) debits
 

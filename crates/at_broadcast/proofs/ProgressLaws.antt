@@ -13,10 +13,10 @@ use Rattle.at_base.specs.Counts.{Covers}
 use Rattle.at_ledger.specs.Book.{BookTerms, account_of}
 use Rattle.at_broadcast.specs.declared.message.Message.{Message}
 use Rattle.at_broadcast.specs.declared.message.TheConstants.{MESSAGES_MAX}
-use Rattle.at_broadcast.specs.Messages.{IsMessageOn, MessageList, credit_of, debit_of, list_of, message_at, message_of, sum_of_first, with_message}
+use Rattle.at_broadcast.specs.Messages.{IsMessageOn, MessageList, list_of, message_at, message_credit, message_debit, message_of, sum_of_first, with_message}
 use Rattle.at_broadcast.specs.Node.{left}
 use Rattle.at_broadcast.specs.Progress.{IsProgress, messages_of, no_sender, sender_of}
-use Rattle.at_broadcast.specs.Sender.{IsSender, SenderState, credited, stored}
+use Rattle.at_broadcast.specs.Sender.{IsSender, SenderState, message_counted, stored}
 use Rattle.at_broadcast.specs.Validated.{IsValid, Reached, went, raised}
 use Rattle.at_broadcast.specs.Validated.Reached.{raise}
 use Rattle.at_broadcast.proofs.BalanceLaws.{covers-from_balance_at}
@@ -24,7 +24,7 @@ use Rattle.at_broadcast.proofs.MessageLaws.{Reached-with_message, message_of-new
 use Rattle.at_broadcast.proofs.MoveLaws.{get_or-moved, less, moved, sum-moved}
 use Rattle.at_broadcast.proofs.RangeLaws.{sum_by-take_none}
 use Rattle.at_broadcast.proofs.ReachedLaws.{IsCounted, IsCounted-Reached, after-Reached, length-Reached}
-use Rattle.at_broadcast.proofs.SenderLaws.{IsSender-credited, IsSender-stored}
+use Rattle.at_broadcast.proofs.SenderLaws.{IsSender-message_counted, IsSender-stored}
 use Rattle.at_broadcast.proofs.SumLaws.{part, sum_of_first-le, sum_of_first-raised, sum_of_first-same, sum_of_first-with_message}
 
 -- the list of a sender is what is kept of it
@@ -40,10 +40,10 @@ messages_of-stored senders p number m =
     map-set (λ (s : SenderState). s.messages) senders p (stored (sender_of senders p) number m)
     ∙ ap (λ (l : MessageList). set (messages_of senders) p (set l number (Some m))) (sym (list_of-messages_of senders p))
 
-pub messages_of-credited : (senders : List SenderState) (p number to amount : ℕ)
-    → messages_of (set senders p (credited (sender_of senders p) number to amount)) ≡ messages_of senders
-messages_of-credited senders p number to amount =
-    map-set_same (λ (s : SenderState). s.messages) senders p (credited (sender_of senders p) number to amount) no_sender refl
+pub messages_of-message_counted : (senders : List SenderState) (p number to amount : ℕ)
+    → messages_of (set senders p (message_counted (sender_of senders p) number to amount)) ≡ messages_of senders
+messages_of-message_counted senders p number to amount =
+    map-set_same (λ (s : SenderState). s.messages) senders p (message_counted (sender_of senders p) number to amount) no_sender refl
 
 -- what isn't delivered comes after what is validated
 pub validated-le : (b : BookTerms) (counts : List ℕ) (senders : List SenderState) (balances : List ℕ) (p number : ℕ)
@@ -98,8 +98,8 @@ IsProgress-stored b counts senders balances p number m is process within none kn
           (∥∥₁_map is.reached (λ r. Reached-with_message b messages counts p number m listed process none r));
       balanced = is.balanced;
       balance = λ a a_in.
-          let credits = ap (λ (l : List MessageList). sum_of_first (credit_of a) l counts) same ∙ sum_of_first-with_message (credit_of a) messages counts p number m listed after in
-          let debits = ap (λ (l : List MessageList). sum_of_first (debit_of a) l counts) same ∙ sum_of_first-with_message (debit_of a) messages counts p number m listed after in
+          let credits = ap (λ (l : List MessageList). sum_of_first (message_credit a) l counts) same ∙ sum_of_first-with_message (message_credit a) messages counts p number m listed after in
+          let debits = ap (λ (l : List MessageList). sum_of_first (message_debit a) l counts) same ∙ sum_of_first-with_message (message_debit a) messages counts p number m listed after in
           omega (arith, credits, debits, is.balance a a_in);
       total = is.total;
     }
@@ -130,12 +130,12 @@ alone : (q p : ℕ) → q ∷ [] ≡ p ∷ [] → q ≡ p
 alone q p e = cc
 
 -- a message of another owner takes nothing
-debit_of-other : (b : BookTerms) (messages : List MessageList) (p q account number : ℕ) → (account_of b account).owners ≡ p ∷ [] → q ≢ p
-    → IsCounted b messages q number → debit_of account (message_of messages q number) ≡ 0
-debit_of-other b messages p q account number owner apart counted =
-    ap (debit_of account) counted.delivered ∙ nothing counted.message counted.owner where
-      nothing : (m : Message) → (account_of b m.from).owners ≡ q ∷ [] → debit_of account (Some m) ≡ 0
-      nothing m owners = elim (cases_eq m.from account) as (λ _. debit_of account (Some m) ≡ 0) [
+message_debit-other : (b : BookTerms) (messages : List MessageList) (p q account number : ℕ) → (account_of b account).owners ≡ p ∷ [] → q ≢ p
+    → IsCounted b messages q number → message_debit account (message_of messages q number) ≡ 0
+message_debit-other b messages p q account number owner apart counted =
+    ap (message_debit account) counted.delivered ∙ nothing counted.message counted.owner where
+      nothing : (m : Message) → (account_of b m.from).owners ≡ q ∷ [] → message_debit account (Some m) ≡ 0
+      nothing m owners = elim (cases_eq m.from account) as (λ _. message_debit account (Some m) ≡ 0) [
         | inl same ↦ absurd (apart (alone q p (sym owners ∙ (ap (λ (a : ℕ). (account_of b a).owners) same ∙ owner))))
         | inr other ↦ grind (arith, nat_tests, other)
       ]
@@ -145,23 +145,23 @@ pub went-deps : (b : BookTerms) (messages : List MessageList) (counts deps : Lis
     → Reached b messages counts → (account_of b account).owners ≡ p ∷ [] → get_or deps p 0 ≡ get_or counts p 0 → Covers counts deps
     → went messages deps account ≡ went messages counts account
 went-deps b messages counts deps p account sized reached owner own covered =
-    sum_of_first-same (debit_of account) messages deps counts (λ q inside.
-    elim (cases_eq q p) as (λ _. part (debit_of account) messages deps q ≡ part (debit_of account) messages counts q) [
-      | inl same ↦ subst (λ (q : ℕ). part (debit_of account) messages deps q ≡ part (debit_of account) messages counts q) (sym same)
-          (ap (λ k. sum_by (debit_of account) (take k (list_of messages p))) own)
+    sum_of_first-same (message_debit account) messages deps counts (λ q inside.
+    elim (cases_eq q p) as (λ _. part (message_debit account) messages deps q ≡ part (message_debit account) messages counts q) [
+      | inl same ↦ subst (λ (q : ℕ). part (message_debit account) messages deps q ≡ part (message_debit account) messages counts q) (sym same)
+          (ap (λ k. sum_by (message_debit account) (take k (list_of messages p))) own)
       | inr apart ↦
           let less = covered q (omega (arith, inside, sized, length-Reached b messages counts reached)) in
-          sum_by-take_none (debit_of account) (list_of messages q) (get_or deps q 0) refl
-          (λ k below. debit_of-other b messages p q account k owner apart (IsCounted-Reached b messages counts reached q k (omega (arith, below, less))))
-          ∙ sym (sum_by-take_none (debit_of account) (list_of messages q) (get_or counts q 0) refl
-          (λ k below. debit_of-other b messages p q account k owner apart (IsCounted-Reached b messages counts reached q k below)))
+          sum_by-take_none (message_debit account) (list_of messages q) (get_or deps q 0) refl
+          (λ k below. message_debit-other b messages p q account k owner apart (IsCounted-Reached b messages counts reached q k (omega (arith, below, less))))
+          ∙ sym (sum_by-take_none (message_debit account) (list_of messages q) (get_or counts q 0) refl
+          (λ k below. message_debit-other b messages p q account k owner apart (IsCounted-Reached b messages counts reached q k below)))
     ])
 
 -- no more came by `deps` than by the counts
 credits-deps : (b : BookTerms) (messages : List MessageList) (counts : List ℕ) (p account : ℕ) (m : Message) → length messages ≡ length counts
-    → IsValid b messages counts p m → sum_of_first (credit_of account) messages m.deps ≤ sum_of_first (credit_of account) messages counts
+    → IsValid b messages counts p m → sum_of_first (message_credit account) messages m.deps ≤ sum_of_first (message_credit account) messages counts
 credits-deps b messages counts p account m sized valid =
-    sum_of_first-le (credit_of account) messages m.deps counts refl (λ q inside. valid.covered q (omega (arith, inside, sized)))
+    sum_of_first-le (message_credit account) messages m.deps counts refl (λ q inside. valid.covered q (omega (arith, inside, sized)))
 
 -- the balance at the counts covers the amount of a valid message
 pub covered-valid : (b : BookTerms) (counts : List ℕ) (senders : List SenderState) (balances : List ℕ) (p : ℕ) (m : Message)
@@ -203,13 +203,13 @@ Stands-valid b counts senders balances p m is valid =
 
 pub IsProgress-raised : (b : BookTerms) (counts : List ℕ) (senders : List SenderState) (balances : List ℕ) (p : ℕ) (m : Message)
     → IsProgress b counts senders balances → IsValid b (messages_of senders) counts p m
-    → IsProgress b (raised counts p) (set senders p (credited (sender_of senders p) (get_or counts p 0) m.to m.amount)) (moved balances m.from m.to m.amount)
+    → IsProgress b (raised counts p) (set senders p (message_counted (sender_of senders p) (get_or counts p 0) m.to m.amount)) (moved balances m.from m.to m.amount)
 IsProgress-raised b counts senders balances p m is valid =
     let messages : List MessageList = messages_of senders in
     let number : ℕ = get_or counts p 0 in
-    let new : SenderState = credited (sender_of senders p) number m.to m.amount in
+    let new : SenderState = message_counted (sender_of senders p) number m.to m.amount in
     let stands = Stands-valid b counts senders balances p m is valid in
-    let same = messages_of-credited senders p number m.to m.amount in
+    let same = messages_of-message_counted senders p number m.to m.amount in
     let counted : p < length counts = omega (arith, stands.process, is.counted) in
     let listed : p < length messages = omega (arith, stands.sender, length-messages_of senders) in
     let from_in : m.from < length balances = omega (arith, stands.known.source, is.balanced) in
@@ -223,7 +223,7 @@ IsProgress-raised b counts senders balances p m is valid =
         | inl e ↦ subst (λ (q : ℕ). IsSender (length b.accounts) (get_or (raised counts p) q 0) (sender_of (set senders p new) q)) (sym e)
             (subst (IsSender (length b.accounts) (get_or (raised counts p) p 0)) (sym (get_or-set_same senders p new no_sender stands.sender))
             (subst (λ (n : ℕ). IsSender (length b.accounts) n new) (sym (get_or-set_same counts p (number + 1) 0 counted))
-            (IsSender-credited (length b.accounts) number (sender_of senders p) m (is.credits p stands.process) stands.number stands.message stands.known.target)))
+            (IsSender-message_counted (length b.accounts) number (sender_of senders p) m (is.credits p stands.process) stands.number stands.message stands.known.target)))
         | inr apart ↦
             subst (λ (n : ℕ). IsSender (length b.accounts) n (sender_of (set senders p new) q)) (sym (get_or-set_other counts p q (number + 1) 0 apart))
             (subst (IsSender (length b.accounts) (get_or counts q 0)) (sym (get_or-set_other senders p q new no_sender apart)) (is.credits q q_in))
@@ -233,10 +233,10 @@ IsProgress-raised b counts senders balances p m is valid =
       balanced = length-set (less balances m.from m.amount) m.to (get_or (less balances m.from m.amount) m.to 0 + m.amount)
           ∙ (length-set balances m.from (get_or balances m.from 0 - m.amount) ∙ is.balanced);
       balance = λ a a_in.
-          let credits = ap (λ (l : List MessageList). sum_of_first (credit_of a) l (raised counts p)) same
-          ∙ (sum_of_first-raised (credit_of a) messages counts p refl listed counted ∙ ap (λ x. sum_of_first (credit_of a) messages counts + credit_of a x) valid.delivered) in
-          let debits = ap (λ (l : List MessageList). sum_of_first (debit_of a) l (raised counts p)) same
-          ∙ (sum_of_first-raised (debit_of a) messages counts p refl listed counted ∙ ap (λ x. sum_of_first (debit_of a) messages counts + debit_of a x) valid.delivered) in
+          let credits = ap (λ (l : List MessageList). sum_of_first (message_credit a) l (raised counts p)) same
+          ∙ (sum_of_first-raised (message_credit a) messages counts p refl listed counted ∙ ap (λ x. sum_of_first (message_credit a) messages counts + message_credit a x) valid.delivered) in
+          let debits = ap (λ (l : List MessageList). sum_of_first (message_debit a) l (raised counts p)) same
+          ∙ (sum_of_first-raised (message_debit a) messages counts p refl listed counted ∙ ap (λ x. sum_of_first (message_debit a) messages counts + message_debit a x) valid.delivered) in
           omega (arith, credits, debits, is.balance a a_in, get_or-moved balances m.from m.to m.amount a from_in to_in covered);
       total = sum-moved balances m.from m.to m.amount from_in to_in covered ∙ is.total;
     }
@@ -244,20 +244,20 @@ IsProgress-raised b counts senders balances p m is valid =
 -- the same of the values that a validation computes
 pub IsProgress-raised_to : (b : BookTerms) (counts : List ℕ) (senders : List SenderState) (balances : List ℕ) (p : ℕ) (m : Message)
     → IsProgress b counts senders balances → IsValid b (messages_of senders) counts p m
-    → (new : SenderState) (counts_new balances_new : List ℕ) → new ≡ credited (sender_of senders p) (get_or counts p 0) m.to m.amount
+    → (new : SenderState) (counts_new balances_new : List ℕ) → new ≡ message_counted (sender_of senders p) (get_or counts p 0) m.to m.amount
     → counts_new ≡ raised counts p → balances_new ≡ moved balances m.from m.to m.amount → IsProgress b counts_new (set senders p new) balances_new
 IsProgress-raised_to b counts senders balances p m is valid new counts_new balances_new new_is counts_is balances_is =
     subst (λ (s : SenderState). IsProgress b counts_new (set senders p s) balances_new) (sym new_is)
-    (subst (λ (l : List ℕ). IsProgress b l (set senders p (credited (sender_of senders p) (get_or counts p 0) m.to m.amount)) balances_new) (sym counts_is)
-    (subst (λ (l : List ℕ). IsProgress b (raised counts p) (set senders p (credited (sender_of senders p) (get_or counts p 0) m.to m.amount)) l) (sym balances_is)
+    (subst (λ (l : List ℕ). IsProgress b l (set senders p (message_counted (sender_of senders p) (get_or counts p 0) m.to m.amount)) balances_new) (sym counts_is)
+    (subst (λ (l : List ℕ). IsProgress b (raised counts p) (set senders p (message_counted (sender_of senders p) (get_or counts p 0) m.to m.amount)) l) (sym balances_is)
     (IsProgress-raised b counts senders balances p m is valid)))
 
 -- the credit that is added
-pub credited-same : (sender read : SenderState) (number number_m to to_m amount amount_m : ℕ) → read ≡ sender → number ≡ number_m → to ≡ to_m → amount ≡ amount_m
-    → credited read number to amount ≡ credited sender number_m to_m amount_m
-credited-same sender read number number_m to to_m amount amount_m read_is number_is to_is amount_is =
-    ap (λ s. credited s number to amount) read_is
-    ∙ (ap (λ n. credited sender n to amount) number_is ∙ (ap (λ t. credited sender number_m t amount) to_is ∙ ap (λ x. credited sender number_m to_m x) amount_is))
+pub message_counted-same : (sender read : SenderState) (number number_m to to_m amount amount_m : ℕ) → read ≡ sender → number ≡ number_m → to ≡ to_m → amount ≡ amount_m
+    → message_counted read number to amount ≡ message_counted sender number_m to_m amount_m
+message_counted-same sender read number number_m to to_m amount amount_m read_is number_is to_is amount_is =
+    ap (λ s. message_counted s number to amount) read_is
+    ∙ (ap (λ n. message_counted sender n to amount) number_is ∙ (ap (λ t. message_counted sender number_m t amount) to_is ∙ ap (λ x. message_counted sender number_m to_m x) amount_is))
 
 -- the balances that are written
 pub moved-same : (balances : List ℕ) (from from_m to to_m amount amount_m was then : ℕ) → from ≡ from_m → to ≡ to_m → amount ≡ amount_m

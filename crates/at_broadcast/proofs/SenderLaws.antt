@@ -10,8 +10,8 @@ use Rattle.at_broadcast.specs.declared.credits.Credit.{Credit}
 use Rattle.at_broadcast.specs.declared.message.Message.{Message}
 use Rattle.at_broadcast.specs.declared.message.TheConstants.{MESSAGES_MAX}
 use Rattle.at_broadcast.specs.Credits.{CreditList, amount_since, credit_after}
-use Rattle.at_broadcast.specs.Messages.{MessageList, credit_of, message_at, one_to}
-use Rattle.at_broadcast.specs.Sender.{AreCreditsTo, IsSender, SenderState, brought, credited, credits_to, no_credits, stored, with_credit, with_room}
+use Rattle.at_broadcast.specs.Messages.{MessageList, message_at, message_credit, one_to}
+use Rattle.at_broadcast.specs.Sender.{AreCreditsTo, IsSender, SenderState, brought, credits_to, message_counted, no_credits, stored, with_one_credit, with_room}
 use Rattle.at_broadcast.proofs.CreditLaws.{amount_since-none}
 use Rattle.at_broadcast.proofs.RangeLaws.{sum_by-take_more}
 
@@ -35,7 +35,7 @@ AreCreditsTo-stored messages validated account c number room m are after within 
       since = λ count below.
           let first = take-set-le count messages number (Some m) (omega arith) in
           let whole = take-set-le validated messages number (Some m) after in
-          omega (arith, are.since count below, ap (λ l. sum_by (credit_of account) l) first, ap (λ l. sum_by (credit_of account) l) whole);
+          omega (arith, are.since count below, ap (λ l. sum_by (message_credit account) l) first, ap (λ l. sum_by (message_credit account) l) whole);
       room = omega (arith, more, are.room, summed, ap (one_to account) empty, ap (λ l. sum_by (one_to account) l) dropped);
     }
 
@@ -69,11 +69,11 @@ earlier-more list n all k d within = omega (arith, all k d within)
 
 -- a message that brings nothing to the account is validated
 AreCreditsTo-other : (messages : MessageList) (validated account : ℕ) (c : CreditList) → AreCreditsTo messages validated account c
-    → validated < length messages → credit_of account (message_at messages validated) ≡ 0 → one_to account (message_at messages validated) ≡ 0
+    → validated < length messages → message_credit account (message_at messages validated) ≡ 0 → one_to account (message_at messages validated) ≡ 0
     → AreCreditsTo messages (validated + 1) account c
 AreCreditsTo-other messages validated account c are within nothing none =
     let more : brought messages account (validated + 1) ≡ brought messages account validated =
-    ap (λ k. brought messages account k) (add-one validated) ∙ omega (arith, sum_by-take_more (credit_of account) messages validated refl, nothing) in
+    ap (λ k. brought messages account k) (add-one validated) ∙ omega (arith, sum_by-take_more (message_credit account) messages validated refl, nothing) in
     record {
       earlier = earlier-more c.list validated are.earlier;
       few = omega (arith, are.few);
@@ -103,13 +103,13 @@ amount_since-push count list c low =
     )
 
 -- a message to the account is validated: its credit is the last
-AreCreditsTo-credited : (messages : MessageList) (validated account amount : ℕ) (c : CreditList) → AreCreditsTo messages validated account c
-    → validated < length messages → credit_of account (message_at messages validated) ≡ amount → one_to account (message_at messages validated) ≡ 1
-    → AreCreditsTo messages (validated + 1) account (with_credit c validated amount)
-AreCreditsTo-credited messages validated account amount c are within credit one =
+AreCreditsTo-message_counted : (messages : MessageList) (validated account amount : ℕ) (c : CreditList) → AreCreditsTo messages validated account c
+    → validated < length messages → message_credit account (message_at messages validated) ≡ amount → one_to account (message_at messages validated) ≡ 1
+    → AreCreditsTo messages (validated + 1) account (with_one_credit c validated amount)
+AreCreditsTo-message_counted messages validated account amount c are within credit one =
     let last : Credit = credit_after c.list validated amount in
     let more : brought messages account (validated + 1) ≡ brought messages account validated + amount =
-    ap (λ k. brought messages account k) (add-one validated) ∙ omega (arith, sum_by-take_more (credit_of account) messages validated refl, credit) in
+    ap (λ k. brought messages account k) (add-one validated) ∙ omega (arith, sum_by-take_more (message_credit account) messages validated refl, credit) in
     let earlier : All (λ (c : Credit). c.number < validated + 1) (c.list ++ last ∷ []) =
     All-append (λ (c : Credit). c.number < validated + 1) c.list (last ∷ []) (earlier-more c.list validated are.earlier) (All-one (validated + 1) last (omega arith)) in
     record {
@@ -126,31 +126,31 @@ AreCreditsTo-credited messages validated account amount c are within credit one 
       room = omega (arith, are.room, sum_by-drop_more (one_to account) messages validated None within, one);
     }
 
-pub IsSender-credited : (accounts validated : ℕ) (s : SenderState) (m : Message) → IsSender accounts validated s
+pub IsSender-message_counted : (accounts validated : ℕ) (s : SenderState) (m : Message) → IsSender accounts validated s
     → validated < length s.messages → message_at s.messages validated ≡ Some m → m.to < accounts
-    → IsSender accounts (validated + 1) (credited s validated m.to m.amount)
-IsSender-credited accounts validated s m is within here known = record {
+    → IsSender accounts (validated + 1) (message_counted s validated m.to m.amount)
+IsSender-message_counted accounts validated s m is within here known = record {
   messages = is.messages;
   within = omega (arith, is.messages, within);
-  sized = length-set s.credits m.to (with_credit (credits_to s m.to) validated m.amount) ∙ is.sized;
+  sized = length-set s.credits m.to (with_one_credit (credits_to s m.to) validated m.amount) ∙ is.sized;
   credits = λ a a_in.
-      elim (cases_eq a m.to) as (λ _. AreCreditsTo s.messages (validated + 1) a (credits_to (credited s validated m.to m.amount) a)) [
+      elim (cases_eq a m.to) as (λ _. AreCreditsTo s.messages (validated + 1) a (credits_to (message_counted s validated m.to m.amount) a)) [
         | inl same ↦
             let account_in : m.to < length s.credits = omega (arith, is.sized, known) in
             let test = eq-eqb m.to a (sym same) in
-            let e : get_or (set s.credits m.to (with_credit (credits_to s m.to) validated m.amount)) a no_credits ≡ with_credit (credits_to s a) validated m.amount =
-            ap (λ k. get_or (set s.credits m.to (with_credit (credits_to s m.to) validated m.amount)) k no_credits) same
-            ∙ (get_or-set_same s.credits m.to (with_credit (credits_to s m.to) validated m.amount) no_credits account_in
-            ∙ ap (λ k. with_credit (credits_to s k) validated m.amount) (sym same)) in
+            let e : get_or (set s.credits m.to (with_one_credit (credits_to s m.to) validated m.amount)) a no_credits ≡ with_one_credit (credits_to s a) validated m.amount =
+            ap (λ k. get_or (set s.credits m.to (with_one_credit (credits_to s m.to) validated m.amount)) k no_credits) same
+            ∙ (get_or-set_same s.credits m.to (with_one_credit (credits_to s m.to) validated m.amount) no_credits account_in
+            ∙ ap (λ k. with_one_credit (credits_to s k) validated m.amount) (sym same)) in
             subst (AreCreditsTo s.messages (validated + 1) a) (sym e)
-            (AreCreditsTo-credited s.messages validated a m.amount (credits_to s a) (is.credits a a_in) within
-            (ap (credit_of a) here ∙ ap (λ t. cond t m.amount 0) test) (ap (one_to a) here ∙ ap (λ t. cond t 1 0) test))
+            (AreCreditsTo-message_counted s.messages validated a m.amount (credits_to s a) (is.credits a a_in) within
+            (ap (message_credit a) here ∙ ap (λ t. cond t m.amount 0) test) (ap (one_to a) here ∙ ap (λ t. cond t 1 0) test))
         | inr apart ↦
-            let nothing : credit_of a (Some m) ≡ 0 = grind (arith, nat_tests, apart) in
+            let nothing : message_credit a (Some m) ≡ 0 = grind (arith, nat_tests, apart) in
             let none_to : one_to a (Some m) ≡ 0 = grind (arith, nat_tests, apart) in
-            let e = get_or-set_other s.credits m.to a (with_credit (credits_to s m.to) validated m.amount) no_credits apart in
+            let e = get_or-set_other s.credits m.to a (with_one_credit (credits_to s m.to) validated m.amount) no_credits apart in
             subst (AreCreditsTo s.messages (validated + 1) a) (sym e)
-            (AreCreditsTo-other s.messages validated a (credits_to s a) (is.credits a a_in) within (ap (credit_of a) here ∙ nothing) (ap (one_to a) here ∙ none_to))
+            (AreCreditsTo-other s.messages validated a (credits_to s a) (is.credits a a_in) within (ap (message_credit a) here ∙ nothing) (ap (one_to a) here ∙ none_to))
       ];
 }
 

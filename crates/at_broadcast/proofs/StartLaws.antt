@@ -10,7 +10,7 @@ use Rattle.at_ledger.specs.Account.{AccountTerms, no_account}
 use Rattle.at_ledger.specs.Book.{BookTerms, IsBook}
 use Rattle.at_broadcast.specs.declared.message.Message.{Message}
 use Rattle.at_broadcast.specs.declared.message.TheConstants.{MESSAGES_MAX}
-use Rattle.at_broadcast.specs.Messages.{MessageList, credit_of, debit_of, list_of, message_at, message_of, no_messages, one_to, sum_of_first}
+use Rattle.at_broadcast.specs.Messages.{MessageList, list_of, message_at, message_credit, message_debit, message_of, no_messages, one_to, sum_of_first}
 use Rattle.at_broadcast.specs.Node.{IsSteady}
 use Rattle.at_broadcast.specs.Progress.{IsProgress, messages_of, no_sender, sender_of}
 use Rattle.at_broadcast.specs.Sender.{AreCreditsTo, IsSender, SenderState, brought, no_credits}
@@ -89,8 +89,8 @@ IsProgress-new b book =
       balance = λ a known.
           omega (
             arith,
-            sum_of_first-zeros (debit_of a) messages n,
-            sum_of_first-zeros (credit_of a) messages n,
+            sum_of_first-zeros (message_debit a) messages n,
+            sum_of_first-zeros (message_credit a) messages n,
             get_or-map (λ (t : AccountTerms). t.opening) b.accounts a no_account,
           );
       total = sum-map (λ (t : AccountTerms). t.opening) b.accounts;

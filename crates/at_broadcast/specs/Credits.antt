@@ -9,8 +9,8 @@ pub record CreditList : Type 0 where
   pub room : ℕ
 
 -- what they brought together
-abbrev pub amount_of : List Credit → ℕ
-amount_of list = sum_by (λ c. c.amount) list
+abbrev pub credits_sum : List Credit → ℕ
+credits_sum list = sum_by (λ c. c.amount) list
 
 -- what those of this number and above brought
 abbrev pub amount_since : ℕ → List Credit → ℕ
@@ -18,11 +18,11 @@ amount_since number list = sum_by (λ c. if nat_le number c.number then c.amount
 
 -- one more credit after these
 abbrev pub credit_after : List Credit → ℕ → ℕ → Credit
-credit_after list number amount = record { number = number; amount = amount; before = amount_of list }
+credit_after list number amount = record { number = number; amount = amount; before = credits_sum list }
 
 -- their numbers don't fall, and each knows the sum of those before it
 pub record AreCredits (list : List Credit) (total : ℕ) : Type 0 where
   pub ordered : IsNonDecreasingBy (λ c. c.number) list
-  pub before : (k : ℕ) (d : Credit) → k < length list → (slice_index_or list k d).before ≡ amount_of (take k list)
-  pub summed : total ≡ amount_of list
+  pub before : (k : ℕ) (d : Credit) → k < length list → (slice_index_or list k d).before ≡ credits_sum (take k list)
+  pub summed : total ≡ credits_sum list
   pub small : total ≤ length list * 2 ^ 64

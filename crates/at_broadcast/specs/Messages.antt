@@ -30,14 +30,14 @@ abbrev pub with_message : List MessageList → ℕ → ℕ → Message → List 
 with_message messages p number m = slice_set messages p (slice_set (list_of messages p) number (Some m))
 
 -- what a message brings to an account
-abbrev pub credit_of : ℕ → Option Message → ℕ
-credit_of account None = 0
-credit_of account (Some m) = if m.to == account then m.amount else 0
+abbrev pub message_credit : ℕ → Option Message → ℕ
+message_credit account None = 0
+message_credit account (Some m) = if m.to == account then m.amount else 0
 
 -- what it takes from an account
-abbrev pub debit_of : ℕ → Option Message → ℕ
-debit_of account None = 0
-debit_of account (Some m) = if m.from == account then m.amount else 0
+abbrev pub message_debit : ℕ → Option Message → ℕ
+message_debit account None = 0
+message_debit account (Some m) = if m.from == account then m.amount else 0
 
 -- the sum of a weight over the first messages of each sender, as many as `counts` says
 abbrev pub sum_of_first : (Option Message → ℕ) → List MessageList → List ℕ → ℕ

@@ -1,7 +1,7 @@
 -- What a node has of one sender.
 use Rattle.std.specs.Prelude.{◌≡◌, ℕ, ◌+◌, ◌-◌, ◌<◌, ◌≤◌, ◌++◌, List, [], ◌∷◌, length, take, drop, sum_by, slice_index_or, slice_set, All, Some}
 use Rattle.at_broadcast.specs.Credits.{CreditList, amount_since, credit_after}
-use Rattle.at_broadcast.specs.Messages.{MessageList, credit_of, one_to}
+use Rattle.at_broadcast.specs.Messages.{MessageList, message_credit, one_to}
 use Rattle.at_broadcast.specs.declared.message.Message.{Message}
 use Rattle.at_broadcast.specs.declared.message.TheConstants.{MESSAGES_MAX}
 
@@ -22,8 +22,8 @@ abbrev pub with_room : CreditList → CreditList
 with_room c = record c { room = c.room + 1 }
 
 -- the list with one more credit, which has used its room
-abbrev pub with_credit : CreditList → ℕ → ℕ → CreditList
-with_credit c number amount = record { list = c.list ++ credit_after c.list number amount ∷ []; room = c.room - 1 }
+abbrev pub with_one_credit : CreditList → ℕ → ℕ → CreditList
+with_one_credit c number amount = record { list = c.list ++ credit_after c.list number amount ∷ []; room = c.room - 1 }
 
 -- one more message is delivered
 abbrev pub stored : SenderState → ℕ → Message → SenderState
@@ -33,12 +33,12 @@ stored s number m = record {
 }
 
 -- one more message is counted
-abbrev pub credited : SenderState → ℕ → ℕ → ℕ → SenderState
-credited s number to amount = record s { credits = slice_set s.credits to (with_credit (credits_to s to) number amount) }
+abbrev pub message_counted : SenderState → ℕ → ℕ → ℕ → SenderState
+message_counted s number to amount = record s { credits = slice_set s.credits to (with_one_credit (credits_to s to) number amount) }
 
 -- what its first messages bring to an account
 abbrev pub brought : MessageList → ℕ → ℕ → ℕ
-brought messages account count = sum_by (credit_of account) (take count messages)
+brought messages account count = sum_by (message_credit account) (take count messages)
 
 -- the credits to an account are those of the validated messages, and there is room for the others that were delivered
 pub record AreCreditsTo (messages : MessageList) (validated account : ℕ) (c : CreditList) : Type 0 where

@@ -2,16 +2,16 @@
 use Rattle.std.specs.Prelude.{◌≡◌, ℕ, ◌+◌, ℤ, pos, ◌-ℤ◌, ◌≤ℤ◌, List, [], ◌∷◌, replicate, slice_index, slice_set, Some}
 use Rattle.at_base.specs.Counts.{Covers}
 use Rattle.at_ledger.specs.Book.{BookTerms, account_of}
-use Rattle.at_broadcast.specs.Messages.{MessageList, credit_of, debit_of, message_of, sum_of_first}
+use Rattle.at_broadcast.specs.Messages.{MessageList, message_credit, message_debit, message_of, sum_of_first}
 use Rattle.at_broadcast.specs.declared.message.Message.{Message}
 
 -- what came to an account, with its opening, by the first messages of each sender, as many as `counts` says
 abbrev pub came : BookTerms → List MessageList → List ℕ → ℕ → ℕ
-came b messages counts account = (account_of b account).opening + sum_of_first (credit_of account) messages counts
+came b messages counts account = (account_of b account).opening + sum_of_first (message_credit account) messages counts
 
 -- what went from it by them
 abbrev pub went : List MessageList → List ℕ → ℕ → ℕ
-went messages counts account = sum_of_first (debit_of account) messages counts
+went messages counts account = sum_of_first (message_debit account) messages counts
 
 -- what they leave there: it is below zero where they spend a credit that isn't among them
 unfoldable pub balance_at : BookTerms → List MessageList → List ℕ → ℕ → ℤ

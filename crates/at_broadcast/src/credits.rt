@@ -32,7 +32,8 @@ impl Model for Credits {
 
     ghost view = { λ c. record { list = c.list.items; room = c.room } };
 
-    ghost invariant = { λ c. AreCredits c.list.items c.total × (length c.list.items + c.room ≤ vec_capacity c.list) };
+    ghost invariant = { λ c. AreCredits c.list.items c.total
+        × (length c.list.items + c.room ≤ vec_capacity c.list) };
 }
 
 impl Credits {

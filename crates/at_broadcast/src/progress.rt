@@ -3,7 +3,7 @@
 ghost use Rattle.std.specs.Prelude.{◌≡◌, ◌+◌, ◌≤◌, ◌<◌, ◌^◌, ◌↔◌, ℕ, pos, ◌≤ℤ◌, [], ◌∷◌, length, replicate, slice_index, None, Some, IsTrue, IfOk, OnOk, OnErr, IfSome, IfNone, is_some};
 ghost use Rattle.at_base.specs.Counts.{Covers};
 ghost use Rattle.at_ledger.specs.Book.{account_of};
-ghost use Rattle.at_broadcast.specs.Messages.{IsMessageOn, credit_of, message_of, sum_of_first, with_message};
+ghost use Rattle.at_broadcast.specs.Messages.{IsMessageOn, message_credit, message_of, sum_of_first, with_message};
 ghost use Rattle.at_broadcast.specs.Validated.{IsValid, balance_at, raised};
 ghost use Rattle.at_broadcast.specs.declared.message.Message.{Message};
 ghost use Rattle.at_broadcast.specs.declared.message.TheConstants.{MESSAGES_MAX};
@@ -40,7 +40,12 @@ impl Model for Progress {
 
     ghost Value = { NodeState };
 
-    ghost view = { λ p. record { book = p.book; messages = messages_of p.senders.items; validated = p.validated; balances = p.balances.items } };
+    ghost view = { λ p. record {
+      book = p.book;
+      messages = messages_of p.senders.items;
+      validated = p.validated;
+      balances = p.balances.items;
+    } };
 
     ghost invariant = { λ p. IsProgress p.book p.validated p.senders.items p.balances.items };
 }
@@ -196,7 +201,8 @@ impl Progress {
         requires covered { Covers self.now.validated message.now.deps }
         ensures { (p : ℕ) → (account_of self.now.book message.now.from).owners ≡ p ∷ []
             → slice_index message.now.deps p ≡ slice_index self.now.validated p
-            → (IsTrue result ↔ (pos message.now.amount ≤ℤ balance_at self.now.book self.now.messages message.now.deps message.now.from)) }
+            → (IsTrue result ↔ (pos message.now.amount ≤ℤ balance_at self.now.book self.now.messages
+            message.now.deps message.now.from)) }
     {
         let left_out = self.left_out(message.from, &message.deps);
         u128::from(message.amount) + left_out <= u128::from(self.balances[message.from as usize])
@@ -207,8 +213,8 @@ impl Progress {
         requires account_in { account < length self.now.book.accounts }
         requires sized { length deps.now ≡ self.now.book.processes }
         requires covered { Covers self.now.validated deps.now }
-        ensures sum { result + sum_of_first (credit_of account) self.now.messages deps.now
-            ≡ sum_of_first (credit_of account) self.now.messages self.now.validated }
+        ensures sum { result + sum_of_first (message_credit account) self.now.messages deps.now
+            ≡ sum_of_first (message_credit account) self.now.messages self.now.validated }
         ensures small { result ≤ 2 ^ 76 }
     {
         let mut sum = 0u128;

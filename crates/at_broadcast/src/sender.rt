@@ -26,7 +26,7 @@ impl Model for Sender {
 
 impl Sender {
     ghost use Rattle.at_broadcast.specs.Messages.{message_at, no_messages};
-    ghost use Rattle.at_broadcast.specs.Sender.{credited, credits_to, no_credits, stored};
+    ghost use Rattle.at_broadcast.specs.Sender.{credits_to, message_counted, no_credits, stored};
 
     /// Nothing delivered.
     #[tactic(auto, unfolding(crate::specs::Messages::no_messages))]
@@ -71,7 +71,7 @@ impl Sender {
         requires room { 0 < (credits_to self.old to).room }
         requires later { All (λ c. c.number < number) (credits_to self.old to).list }
         requires few { length (credits_to self.old to).list < 2 ^ 32 }
-        ensures { self.new ≡ credited self.old number to amount }
+        ensures { self.new ≡ message_counted self.old number to amount }
     {
         self.credits[to as usize].push(number, amount);
     }

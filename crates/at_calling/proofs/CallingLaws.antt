@@ -37,8 +37,8 @@ use Rattle.at_object.proofs.Laws.Made.{PaymentMade-alone, PaymentMade-round, oth
 use Rattle.at_object.proofs.Laws.Room.{HasSlot-is_owner, MayStoreRequest-room, sent-room}
 use Rattle.at_object.specs.Paid.{PaymentMade, PaysAlone, PaysInRound}
 use Rattle.at_object.specs.Parted.{IsOfOnePass, pass_of}
-use Rattle.at_object.specs.Passes.{IsPass, PassTerms, Stands, newly_counted, others_counted}
-use Rattle.at_object.specs.Payments.{IsDecided, IsRefused, has_used_up, payment_steps, refusal_of, sent_after, shared_steps, single_steps}
+use Rattle.at_object.specs.Passes.{IsPass, PassTerms, Stands, counted_anew, others_counted}
+use Rattle.at_object.specs.Payments.{IsDecidedByBalance, IsRefused, has_used_up, payment_steps, refusal_of, sent_after, shared_steps, single_steps}
 use Rattle.at_object.specs.declared.parts.Rest.{Rest}
 use Rattle.at_shared.specs.Helpings.{HasAllSettled, decides_made}
 use Rattle.at_single.specs.Standing.{front_behind}
@@ -50,7 +50,7 @@ use Rattle.at_calling.specs.PayingShared.{DecidesFew, settling_steps}
 use Rattle.at_calling.specs.Reading.{IsReadOf, LeavesTotals}
 
 -- no call is both decided and refused
-pub decided_or_refused : (r : Receipt) → IsDecided r → IsRefused r → ⊥
+pub decided_or_refused : (r : Receipt) → IsDecidedByBalance r → IsRefused r → ⊥
 decided_or_refused r (inl done) (inl refused) = let both : Done ≡ NotOwner = sym done ∙ refused in absurd (cc both)
 decided_or_refused r (inl done) (inr refused) = let both : Done ≡ Full = sym done ∙ refused in absurd (cc both)
 decided_or_refused r (inr short) (inl refused) = let both : Short ≡ NotOwner = sym short ∙ refused in absurd (cc both)
@@ -185,10 +185,10 @@ module _ (b : BookTerms) (start : SeatTerms) (was : Rest) (seat : SeatTerms) (re
         get_or-le-sum_by (λ (n : ℕ). n) was.totals.upto v.first 0
         (omega (arith, kept.known, pass.counted.processes))
 
-    newly : single.newly_counted v w was.totals rest.totals ≤ newly_counted before after
+    newly : single.newly_counted v w was.totals rest.totals ≤ counted_anew before after
     newly = omega (arith, own_among, pass.own_counted, leaves.own_counted, leaves.more)
 
-    pub few-LeavesTotals : turns ≤ snapshot_steps b.processes + more_steps + RECORD_WORDS * newly_counted before after
+    pub few-LeavesTotals : turns ≤ snapshot_steps b.processes + more_steps + RECORD_WORDS * counted_anew before after
     few-LeavesTotals = omega (arith, leaves.few, newly)
 
     -- a call that decides nothing on any account

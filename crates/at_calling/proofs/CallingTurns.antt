@@ -25,7 +25,7 @@ use Rattle.at_shared.specs.Helpings.{IsPayoutFrom, decides_made}
 use Rattle.at_calling.proofs.CallingLaws.{CallMade-PaysAlone, CallMade-PaysInRound, IsOfOnePass-IsReadOf, IsOfOnePass-PaysAlone, IsOfOnePass-PaysInRound, ReadMade-IsReadOf, StaysWithin-IsReadOf, StaysWithin-PaysAlone, StaysWithin-PaysInRound, refusal_in-payout, small-refusal_of, source-IsCallOn}
 use Rattle.at_calling.specs.Calling.{CallMade, CallingTerms, IsWay, StaysWithin, pass_before, refusal_in}
 use Rattle.at_calling.specs.KeptCalling.{IsCallStageSo, IsCallingSo, IsMakingStill}
-use Rattle.at_machines.specs.Looking.{turns_left}
+use Rattle.at_machines.specs.Looking.{look_turns_left}
 use Rattle.at_calling.specs.PayingAlone.{PayingAloneTerms, append_steps, pay_turns_left}
 use Rattle.at_calling.specs.PayingShared.{DecidesFew, IsShareWithin, PayingSharedTerms, settling_steps, share_exchanges_made, share_turns_left, share_turns_most, unless_settled, unless_starting}
 use Rattle.at_calling.specs.Reading.{IsReadOf, LeavesTotals, ReadingTerms}
@@ -113,7 +113,7 @@ module _ (board : BoardTerms) (t : CallingTerms) (so : IsCallingSo t) (seat : Se
     }
 
     -- of a read
-    module _ (r : ReadingTerms) (stage : t.stage ≡ Read r) (left : 0 < turns_left r.looking.stage) where
+    module _ (r : ReadingTerms) (stage : t.stage ≡ Read r) (left : 0 < look_turns_left r.looking.stage) where
       pub still-read : IsMakingStill t r.looking.start r.looking.mark r.looking.was r.looking.totals
       still-read = subst (IsCallStageSo t) stage so.stage_so left
 

@@ -26,7 +26,7 @@ use Rattle.at_shared.proofs.Laws.Starting.{Keeps-HasLoaded}
 use Rattle.at_shared.specs.HelpingTerms.{helping_of}
 use Rattle.at_shared.specs.Starting.{StartsBy}
 use Rattle.at_single.specs.Looks.{HasLooked}
-use Rattle.at_machines.specs.Asking.{AskingTerms, StoresNextRequestWord, asking_after, request_in, starting_asking}
+use Rattle.at_machines.specs.Asking.{AskingTerms, StoresNextRequestWord, asking_after, request_asked, starting_to_ask}
 use Rattle.at_machines.specs.CollectingRows.{CollectingRowsTerms, MakesNextLoad, rows_after, starting_rows}
 use Rattle.at_calling.specs.KeptStarting.{HasLookedToAsk, IsAskingThen, IsCollectingThen, IsStartStageSo, IsStartingSo}
 use Rattle.at_machines.specs.LoadingRow.{MakesLoadOf, NextRowLoad}
@@ -82,7 +82,7 @@ module _ (t : StartingTerms) (so : IsStartingSo t) where
 
     pub IsStartingSo-ask : (targets : List TargetPair) (turns : ℕ) → payout_of t.call ≡ Some (t.account, targets)
         → IsWithin t.start.book.processes t.was (sum front) turns
-        → IsStartingSo (start_after_look t (Ask (starting_asking w t.account targets (place front))) w now turns)
+        → IsStartingSo (start_after_look t (Ask (starting_to_ask w t.account targets (place front))) w now turns)
     IsStartingSo-ask targets turns payout few = record {
       kept = so.kept;
       book = ap (λ (k : Knowledge). k.book) looked.loads.same;
@@ -172,7 +172,7 @@ module _ (t : StartingTerms) (so : IsStartingSo t) where
         (subst (λ n. HasSlot t.start.book t.start.first n slot_of_start) (sym is.to_ask.account_is) HasSlot-IsStartingSo)
 
     -- the request is announced
-    module _ (told : Announces t.start.book a.start w a.account slot_of_start (request_in a)) where
+    module _ (told : Announces t.start.book a.start w a.account slot_of_start (request_asked a)) where
       pub slot_in-Announces : slot_in (account_of t.start.book a.account) w.first ≡ Some slot_of_start
       slot_in-Announces = ap (slot_in (account_of t.start.book a.account)) (ap (λ (k : Knowledge). k.first) told.same) ∙ HasSlot-IsAskingThen.owner
 

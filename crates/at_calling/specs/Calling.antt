@@ -21,14 +21,14 @@ use Rattle.at_log.specs.declared.receipt.At.{At}
 use Rattle.at_log.specs.declared.receipt.Receipt.{Receipt}
 use Rattle.at_object.specs.Paid.{PaymentMade}
 use Rattle.at_object.specs.Parted.{pass_of}
-use Rattle.at_object.specs.Passes.{PassTerms, Stands, asked_by, newly_counted, others_counted, sent_by}
+use Rattle.at_object.specs.Passes.{PassTerms, Stands, asked_by, counted_anew, others_counted, sent_by}
 use Rattle.at_object.specs.Payments.{IsRefused, payment_steps, refusal_of}
 use Rattle.at_object.specs.declared.parts.Rest.{Rest}
 use Rattle.at_shared.specs.Helpings.{IsPayoutFrom, decides_made, decides_on}
 use Rattle.at_shared.specs.Settling.{StandsAfter}
 use Rattle.at_single.specs.Standing.{front_behind}
 use Rattle.at_snapshot.specs.Snapshots.{IsSnapshot, snapshot_steps}
-use Rattle.at_machines.specs.Looking.{MakesLookLoad, turns_left}
+use Rattle.at_machines.specs.Looking.{MakesLookLoad, look_turns_left}
 use Rattle.at_calling.specs.PayingAlone.{MakesPayStep, pay_turns_left, turns_made}
 use Rattle.at_calling.specs.PayingShared.{MakesShareStep, share_exchanges_at, share_exchanges_made, share_turns_left}
 use Rattle.at_calling.specs.declared.call_stage.CallStage.{CallStage}
@@ -98,7 +98,7 @@ exchanges_made (PayShared p) = share_exchanges_made p
 abbrev pub call_turns_left : BookTerms → CallStage → ℕ
 call_turns_left b (Refuse reply) = 1
 call_turns_left b Refused = 0
-call_turns_left b (Read r) = turns_left r.looking.stage
+call_turns_left b (Read r) = look_turns_left r.looking.stage
 call_turns_left b (PayAlone p) = pay_turns_left (record_width b) p.stage
 call_turns_left b (PayShared p) = share_turns_left b p
 
@@ -161,7 +161,7 @@ CallMade b before after (Call.Pay from targets) r = PaymentMade b before after f
 -- so many steps over all turns are few, and none where the call is refused. So many exchanges are those that its process has decided on the
 -- account that the call names first, at most one for each owner, and on other accounts there are none
 pub record StaysWithin (b : BookTerms) (before after : PassTerms) (call : Call) (steps exchanges : ℕ) (r : Receipt) : Type 0 where
-  pub few : steps ≤ call_steps b call + RECORD_WORDS * newly_counted before after
+  pub few : steps ≤ call_steps b call + RECORD_WORDS * counted_anew before after
   pub refused : IsRefused r → steps ≡ 0
   pub decided : exchanges ≡ decides_made (first_account call) before.knows after.knows
   pub few_decided : exchanges ≤ slots_of (account_of b (first_account call))

@@ -7,7 +7,7 @@ use Rattle.at_board.specs.declared.knowledge.Knowledge.{Knowledge}
 use Rattle.at_fold.specs.Sums.{TotalSums}
 use Rattle.at_object.specs.Parted.{IsOfOnePass}
 use Rattle.at_calling.specs.Calling.{CallingTerms, IsWay, pass_before}
-use Rattle.at_machines.specs.Looking.{turns_left}
+use Rattle.at_machines.specs.Looking.{look_turns_left}
 use Rattle.at_calling.specs.PayingAlone.{pay_turns_left}
 use Rattle.at_calling.specs.PayingShared.{share_turns_left}
 use Rattle.at_calling.specs.declared.call_stage.CallStage.{CallStage}
@@ -25,7 +25,7 @@ pub record IsMakingStill (t : CallingTerms) (start mark : Knowledge) (was totals
 abbrev pub IsCallStageSo : CallingTerms → CallStage → Type 0
 IsCallStageSo t (Refuse reply) = (t.mark ≡ t.start) × (t.rest ≡ t.was)
 IsCallStageSo t Refused = Unit {0}
-IsCallStageSo t (Read r) = 0 < turns_left r.looking.stage → IsMakingStill t r.looking.start r.looking.mark r.looking.was r.looking.totals
+IsCallStageSo t (Read r) = 0 < look_turns_left r.looking.stage → IsMakingStill t r.looking.start r.looking.mark r.looking.was r.looking.totals
 IsCallStageSo t (PayAlone p) =
     0 < pay_turns_left (record_width t.start.knows.book) p.stage → IsMakingStill t p.start p.mark p.was p.totals
 IsCallStageSo t (PayShared p) = 0 < share_turns_left t.start.knows.book p → IsMakingStill t p.start p.mark p.was p.totals

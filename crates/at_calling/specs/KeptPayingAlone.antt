@@ -12,7 +12,7 @@ use Rattle.at_log.specs.Receipts.{payout_of}
 use Rattle.at_single.specs.Looks.{HasLooked}
 use Rattle.at_single.specs.Standing.{IsOnlyOwner}
 use Rattle.at_machines.specs.Appending.{AppendingTerms}
-use Rattle.at_machines.specs.Looking.{IsWithin, LookingTerms, turns_left}
+use Rattle.at_machines.specs.Looking.{IsWithin, LookingTerms, look_turns_left}
 use Rattle.at_calling.specs.PayingAlone.{HasSameAsking, PayingAloneTerms}
 use Rattle.at_calling.specs.declared.pay_stage.PayStage.{PayStage}
 use Rattle.at_calling.specs.declared.pay_stage.PayStage.TheVariants.{Append, Look, Short}
@@ -23,7 +23,7 @@ pub record IsLookingFirst (t : PayingAloneTerms) (l : LookingTerms) : Type 0 whe
   pub mark_is : l.mark ≡ t.mark
   pub was_is : l.was ≡ t.was
   pub totals_are : l.totals ≡ t.totals
-  pub left : 0 < turns_left l.stage
+  pub left : 0 < look_turns_left l.stage
 
 -- the record of the payment is stored: the front of the look is its view, and the balance there covers it
 pub record IsAppendingThen (t : PayingAloneTerms) (a : AppendingTerms) : Type 0 where

@@ -16,7 +16,7 @@ use Rattle.at_shared.specs.Helpings.{HasAllSettled, IsPayoutFrom}
 use Rattle.at_single.specs.Looks.{HasLooked}
 use Rattle.at_machines.specs.Asking.{AskingTerms}
 use Rattle.at_machines.specs.CollectingRows.{CollectingRowsTerms}
-use Rattle.at_machines.specs.Looking.{IsWithin, LookingTerms, turns_left}
+use Rattle.at_machines.specs.Looking.{IsWithin, LookingTerms, look_turns_left}
 use Rattle.at_calling.specs.Starting.{StartingTerms, asking_steps_of}
 use Rattle.at_calling.specs.declared.start_stage.StartStage.{StartStage}
 use Rattle.at_calling.specs.declared.start_stage.StartStage.TheVariants.{Ask, Collect, Look}
@@ -27,7 +27,7 @@ pub record IsLookingToAsk (t : StartingTerms) (l : LookingTerms) : Type 0 where
   pub mark_is : l.mark ≡ t.mark
   pub was_is : l.was ≡ t.was
   pub totals_are : l.totals ≡ t.totals
-  pub left : 0 < turns_left l.stage
+  pub left : 0 < look_turns_left l.stage
 
 -- the look has ended at this moment, and a request for these targets with the place of its front pays as the call does
 pub record HasLookedToAsk (t : StartingTerms) (looked : Knowledge) (account : ℕ) (targets : List TargetPair) (since : ℕ) : Type 0 where

@@ -4,7 +4,7 @@ use Rattle.at_board.specs.Knowledge.Seats.{IsKept}
 use Rattle.at_shared.specs.Helpings.{IsHelping, decides_on}
 use Rattle.at_single.specs.Looks.{HasLooked}
 use Rattle.at_machines.specs.Deciding.{DecidingTerms, exchanges_in, left_of_round}
-use Rattle.at_machines.specs.Looking.{IsWithin, LookingTerms, turns_left}
+use Rattle.at_machines.specs.Looking.{IsWithin, LookingTerms, look_turns_left}
 use Rattle.at_calling.specs.Turning.{TurningTerms}
 use Rattle.at_calling.specs.declared.turn_stage.TurnStage.{TurnStage}
 use Rattle.at_calling.specs.declared.turn_stage.TurnStage.TheVariants.{Decide, Found, Look}
@@ -15,7 +15,7 @@ pub record IsLookingStill (t : TurningTerms) (l : LookingTerms) : Type 0 where
   pub mark_is : l.mark ≡ t.mark
   pub was_is : l.was ≡ t.was
   pub totals_are : l.totals ≡ t.totals
-  pub left : 0 < turns_left l.stage
+  pub left : 0 < look_turns_left l.stage
   pub undecided : decides_on t.mark t.helping.account ≡ decides_on t.start t.helping.account
 
 -- the round at the front of the look goes on: its exchange was made or comes next

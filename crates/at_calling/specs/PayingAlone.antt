@@ -14,7 +14,7 @@ use Rattle.at_board.specs.declared.words.TheConstants.{RECORD_WORDS}
 use Rattle.at_fold.specs.Sums.{TotalSums}
 use Rattle.at_object.specs.Payments.{single_steps}
 use Rattle.at_machines.specs.Appending.{StoresNextWord, publication_of}
-use Rattle.at_machines.specs.Looking.{MakesLookLoad, turns_left}
+use Rattle.at_machines.specs.Looking.{MakesLookLoad, look_turns_left}
 use Rattle.at_calling.specs.declared.pay_stage.PayStage.{PayStage}
 use Rattle.at_calling.specs.declared.pay_stage.PayStage.TheVariants.{Append, Look, Short}
 
@@ -42,7 +42,7 @@ turns_made t = turns_in t.looked t.stage
 
 -- the turns that are left at most, of a record with so many words
 abbrev pub pay_turns_left : ℕ → PayStage → ℕ
-pay_turns_left width (Look l) = turns_left l.stage + width + 1
+pay_turns_left width (Look l) = look_turns_left l.stage + width + 1
 pay_turns_left width (Append a) = width + 1 - a.stored
 pay_turns_left width Short = 0
 

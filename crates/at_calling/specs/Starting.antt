@@ -14,11 +14,11 @@ use Rattle.at_shared.specs.HelpingTerms.{HelpingTerms}
 use Rattle.at_shared.specs.Helpings.{HasStarted, IsHelping, decides_on}
 use Rattle.at_shared.specs.Settling.{asking_steps}
 use Rattle.at_snapshot.specs.Snapshots.{snapshot_steps}
-use Rattle.at_machines.specs.Asking.{StoresNextRequestWord, request_in}
+use Rattle.at_machines.specs.Asking.{StoresNextRequestWord, request_asked}
 use Rattle.at_machines.specs.CollectingRows.{CollectingRowsTerms, MakesNextLoad, rows_after}
 use Rattle.at_machines.specs.LoadingRow.{NextRowLoad}
 use Rattle.at_machines.specs.LoadingRow.NextRowLoad.{announced_word, request_word, nothing}
-use Rattle.at_machines.specs.Looking.{MakesLookLoad, turns_left}
+use Rattle.at_machines.specs.Looking.{MakesLookLoad, look_turns_left}
 use Rattle.at_calling.specs.declared.start_stage.StartStage.{StartStage}
 use Rattle.at_calling.specs.declared.start_stage.StartStage.TheVariants.{Ask, Collect, Look}
 
@@ -51,7 +51,7 @@ unless_ended most nothing = 0
 
 -- the turns that are left at most in a stage, of the steps that asking and the rows take at most
 abbrev pub start_turns_after : ℕ → StartStage → ℕ
-start_turns_after most (Look l) = turns_left l.stage + most + 1
+start_turns_after most (Look l) = look_turns_left l.stage + most + 1
 start_turns_after most (Ask a) = most + 1 - a.stored
 start_turns_after most (Collect c) = unless_ended (most - (REQUEST_WORDS + c.made)) c.next
 
@@ -77,7 +77,7 @@ abbrev pub MakesStartStep : BookTerms → StartStage → SeatTerms → SeatTerms
 MakesStartStep b (Look l) before after now = MakesLookLoad b l.stage before after now
 MakesStartStep b (Ask a) before after now =
     (a.stored < REQUEST_WORDS → StoresNextRequestWord a after.knows)
-    × (a.stored ≡ REQUEST_WORDS → (slot : ℕ) → HasSlot b a.start.first a.account slot → Announces b a.start after.knows a.account slot (request_in a))
+    × (a.stored ≡ REQUEST_WORDS → (slot : ℕ) → HasSlot b a.start.first a.account slot → Announces b a.start after.knows a.account slot (request_asked a))
 MakesStartStep b (Collect c) before after now = MakesRowsLoad b c after.knows
 
 -- the request that waits for this call from the account, whose first turn came after what was known before. It has published,

@@ -19,7 +19,7 @@ use Rattle.at_shared.specs.Settling.{StandsAfter, StandsInRound, round_steps}
 use Rattle.at_shared.specs.declared.helping.HelpTurn.{HelpTurn}
 use Rattle.at_snapshot.specs.Snapshots.{snapshot_steps}
 use Rattle.at_machines.specs.Deciding.{MakesRoundStep, exchanges_in}
-use Rattle.at_machines.specs.Looking.{MakesLookLoad, turns_left}
+use Rattle.at_machines.specs.Looking.{MakesLookLoad, look_turns_left}
 use Rattle.at_calling.specs.declared.turn_stage.TurnStage.{TurnStage}
 use Rattle.at_calling.specs.declared.turn_stage.TurnStage.TheVariants.{Decide, Found, Look}
 
@@ -45,7 +45,7 @@ help_turns_made t = help_turns_in t.looked t.stage
 
 -- the turns that are left at most, of n processes
 abbrev pub help_turns_left : ℕ → TurnStage → ℕ
-help_turns_left n (Look l) = turns_left l.stage + round_steps n
+help_turns_left n (Look l) = look_turns_left l.stage + round_steps n
 help_turns_left n (Decide d) = d.left
 help_turns_left n Found = 0
 

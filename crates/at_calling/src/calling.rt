@@ -42,9 +42,23 @@ impl Model for Calling {
 
     ghost Value = { CallingTerms };
 
-    ghost view = { λ c. record { call = c.call; stage = c.stage; start = c.start.value; was = c.was.value; mark = c.mark.value; rest = c.rest.value } };
+    ghost view = { λ c. record {
+      call = c.call;
+      stage = c.stage;
+      start = c.start.value;
+      was = c.was.value;
+      mark = c.mark.value;
+      rest = c.rest.value;
+    } };
 
-    ghost invariant = { λ c. IsCallingSo (record { call = c.call; stage = c.stage; start = c.start.value; was = c.was.value; mark = c.mark.value; rest = c.rest.value }) };
+    ghost invariant = { λ c. IsCallingSo (record {
+      call = c.call;
+      stage = c.stage;
+      start = c.start.value;
+      was = c.was.value;
+      mark = c.mark.value;
+      rest = c.rest.value;
+    }) };
 }
 
 impl Calling {

@@ -47,9 +47,29 @@ impl Model for PayingAlone {
 
     ghost Value = { PayingAloneTerms };
 
-    ghost view = { λ p. record { call = p.call; from = p.from; targets = p.targets; stage = p.stage; looked = p.looked; start = p.start.value.knows; mark = p.mark.value.knows; was = p.was.value; totals = p.totals.value } };
+    ghost view = { λ p. record {
+      call = p.call;
+      from = p.from;
+      targets = p.targets;
+      stage = p.stage;
+      looked = p.looked;
+      start = p.start.value.knows;
+      mark = p.mark.value.knows;
+      was = p.was.value;
+      totals = p.totals.value;
+    } };
 
-    ghost invariant = { λ p. IsPayingAloneSo (record { call = p.call; from = p.from; targets = p.targets; stage = p.stage; looked = p.looked; start = p.start.value.knows; mark = p.mark.value.knows; was = p.was.value; totals = p.totals.value }) };
+    ghost invariant = { λ p. IsPayingAloneSo (record {
+      call = p.call;
+      from = p.from;
+      targets = p.targets;
+      stage = p.stage;
+      looked = p.looked;
+      start = p.start.value.knows;
+      mark = p.mark.value.knows;
+      was = p.was.value;
+      totals = p.totals.value;
+    }) };
 }
 
 impl PayingAlone {
@@ -118,13 +138,20 @@ impl PayingAlone {
         ensures totals { self.new.totals ≡ totals.new }
         ensures turns { turns_made self.new ≡ turns_made self.old + 1 }
         ensures step { MakesPayStep board.now.book self.old.stage seat.old seat.new totals.new }
-        ensures left { pay_turns_left (record_width board.now.book) self.new.stage < pay_turns_left (record_width board.now.book) self.old.stage }
-        ensures ends { IsSome result ↔ (pay_turns_left (record_width board.now.book) self.new.stage ≡ 0) }
-        ensures so_far { IsPayWithin board.now.book.processes self.old.was (length seat.new.knows.seen) (turns_made self.new) }
+        ensures left { pay_turns_left (record_width board.now.book) self.new.stage
+            < pay_turns_left (record_width board.now.book) self.old.stage }
+        ensures ends { IsSome result ↔ (pay_turns_left (record_width board.now.book) self.new.stage
+            ≡ 0) }
+        ensures so_far { IsPayWithin board.now.book.processes self.old.was
+            (length seat.new.knows.seen) (turns_made self.new) }
         ensures asks { HasSameAsking self.old.start seat.new.knows }
-        ensures answer { IfSome result (PaysAlone board.now.book self.old.start seat.new.knows self.old.from self.old.targets self.old.call) }
-        ensures counted { IfSome result (λ r. StaysCounted totals.new board.now.book seat.new.knows.seen) }
-        ensures leaves { IfSome result (λ r. LeavesTotals board.now.book self.old.start seat.new.knows self.old.was totals.new (append_steps (record_width board.now.book) r.reply) (turns_made self.new)) }
+        ensures answer { IfSome result (PaysAlone board.now.book self.old.start seat.new.knows
+            self.old.from self.old.targets self.old.call) }
+        ensures counted { IfSome result (λ r. StaysCounted totals.new board.now.book
+            seat.new.knows.seen) }
+        ensures leaves { IfSome result (λ r. LeavesTotals board.now.book self.old.start
+            seat.new.knows self.old.was totals.new
+            (append_steps (record_width board.now.book) r.reply) (turns_made self.new)) }
         ensures board { IsOf seat.new board.now }
         ensures steps { steps.new ≡ steps.old + 1 }
         ensures exchanges { exchanges.new ≡ exchanges.old }

@@ -48,9 +48,27 @@ impl Model for PayingShared {
 
     ghost Value = { PayingSharedTerms };
 
-    ghost view = { λ p. record { call = p.call; account = p.account; stage = p.stage; turns = p.turns; start = p.start.value.knows; mark = p.mark.value.knows; was = p.was.value; totals = p.totals.value } };
+    ghost view = { λ p. record {
+      call = p.call;
+      account = p.account;
+      stage = p.stage;
+      turns = p.turns;
+      start = p.start.value.knows;
+      mark = p.mark.value.knows;
+      was = p.was.value;
+      totals = p.totals.value;
+    } };
 
-    ghost invariant = { λ p. IsPayingSharedSo (record { call = p.call; account = p.account; stage = p.stage; turns = p.turns; start = p.start.value.knows; mark = p.mark.value.knows; was = p.was.value; totals = p.totals.value }) };
+    ghost invariant = { λ p. IsPayingSharedSo (record {
+      call = p.call;
+      account = p.account;
+      stage = p.stage;
+      turns = p.turns;
+      start = p.start.value.knows;
+      mark = p.mark.value.knows;
+      was = p.was.value;
+      totals = p.totals.value;
+    }) };
 }
 
 impl PayingShared {

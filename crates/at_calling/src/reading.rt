@@ -4,7 +4,7 @@ ghost use Rattle.std.specs.Prelude.{◌≡◌, ◌+◌, ◌<◌, ◌↔◌, IfSo
 ghost use Rattle.at_board.specs.Knowledge.Seats.{IsOf};
 ghost use Rattle.at_fold.specs.HasCounted.{HasCounted, StaysCounted};
 ghost use Rattle.at_snapshot.specs.Collected.{HasLoaded};
-ghost use Rattle.at_machines.specs.Looking.{IsWithin, MakesLookLoad, turns_left};
+ghost use Rattle.at_machines.specs.Looking.{IsWithin, MakesLookLoad, look_turns_left};
 ghost use Rattle.at_calling.specs.Reading.{IsReadOf, LeavesTotals};
 
 use at_board::{Board, BoardSeat, Steps};
@@ -45,7 +45,7 @@ impl Reading {
         ensures was { result.looking.was ≡ totals.now }
         ensures totals { result.looking.totals ≡ totals.now }
         ensures turns { result.looking.turns ≡ 0 }
-        ensures left { 0 < turns_left result.looking.stage }
+        ensures left { 0 < look_turns_left result.looking.stage }
     {
         Reading {
             account,
@@ -65,21 +65,26 @@ impl Reading {
         requires board { IsOf seat.old board.now }
         requires mark { seat.old.knows ≡ self.old.looking.mark }
         requires totals { totals.old ≡ self.old.looking.totals }
-        requires left { 0 < turns_left self.old.looking.stage }
+        requires left { 0 < look_turns_left self.old.looking.stage }
         ensures account { self.new.account ≡ self.old.account }
         ensures start { self.new.looking.start ≡ self.old.looking.start }
         ensures mark { self.new.looking.mark ≡ seat.new.knows }
         ensures was { self.new.looking.was ≡ self.old.looking.was }
         ensures totals { self.new.looking.totals ≡ totals.new }
         ensures turns { self.new.looking.turns ≡ self.old.looking.turns + 1 }
-        ensures load { MakesLookLoad board.now.book self.old.looking.stage seat.old seat.new totals.new }
+        ensures load { MakesLookLoad board.now.book self.old.looking.stage seat.old seat.new
+            totals.new }
         ensures loads { HasLoaded board.now.book self.old.looking.start seat.new.knows }
         ensures counted { StaysCounted totals.new board.now.book seat.new.knows.seen }
-        ensures left { turns_left self.new.looking.stage < turns_left self.old.looking.stage }
-        ensures so_far { IsWithin board.now.book.processes self.old.looking.was (length seat.new.knows.seen) self.new.looking.turns }
-        ensures ends { IsSome result ↔ (turns_left self.new.looking.stage ≡ 0) }
-        ensures answer { IfSome result (IsReadOf board.now.book self.old.looking.start seat.new.knows self.old.account) }
-        ensures leaves { IfSome result (λ r. LeavesTotals board.now.book self.old.looking.start seat.new.knows self.old.looking.was totals.new 0 self.new.looking.turns) }
+        ensures left { look_turns_left self.new.looking.stage
+            < look_turns_left self.old.looking.stage }
+        ensures so_far { IsWithin board.now.book.processes self.old.looking.was
+            (length seat.new.knows.seen) self.new.looking.turns }
+        ensures ends { IsSome result ↔ (look_turns_left self.new.looking.stage ≡ 0) }
+        ensures answer { IfSome result (IsReadOf board.now.book self.old.looking.start
+            seat.new.knows self.old.account) }
+        ensures leaves { IfSome result (λ r. LeavesTotals board.now.book self.old.looking.start
+            seat.new.knows self.old.looking.was totals.new 0 self.new.looking.turns) }
         ensures board { IsOf seat.new board.now }
         ensures steps { steps.new ≡ steps.old + 1 }
         ensures exchanges { exchanges.new ≡ exchanges.old }

@@ -43,9 +43,27 @@ impl Model for Starting {
 
     ghost Value = { StartingTerms };
 
-    ghost view = { λ s. record { call = s.call; account = s.account; stage = s.stage; looked = s.looked; start = s.start.value.knows; mark = s.mark.value.knows; was = s.was.value; totals = s.totals.value } };
+    ghost view = { λ s. record {
+      call = s.call;
+      account = s.account;
+      stage = s.stage;
+      looked = s.looked;
+      start = s.start.value.knows;
+      mark = s.mark.value.knows;
+      was = s.was.value;
+      totals = s.totals.value;
+    } };
 
-    ghost invariant = { λ s. IsStartingSo (record { call = s.call; account = s.account; stage = s.stage; looked = s.looked; start = s.start.value.knows; mark = s.mark.value.knows; was = s.was.value; totals = s.totals.value }) };
+    ghost invariant = { λ s. IsStartingSo (record {
+      call = s.call;
+      account = s.account;
+      stage = s.stage;
+      looked = s.looked;
+      start = s.start.value.knows;
+      mark = s.mark.value.knows;
+      was = s.was.value;
+      totals = s.totals.value;
+    }) };
 }
 
 impl Starting {

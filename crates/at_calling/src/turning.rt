@@ -42,9 +42,25 @@ impl Model for Turning {
 
     ghost Value = { TurningTerms };
 
-    ghost view = { λ t. record { helping = t.helping.value; stage = t.stage; looked = t.looked; start = t.start.value.knows; mark = t.mark.value.knows; was = t.was.value; totals = t.totals.value } };
+    ghost view = { λ t. record {
+      helping = t.helping.value;
+      stage = t.stage;
+      looked = t.looked;
+      start = t.start.value.knows;
+      mark = t.mark.value.knows;
+      was = t.was.value;
+      totals = t.totals.value;
+    } };
 
-    ghost invariant = { λ t. IsTurningSo (record { helping = t.helping.value; stage = t.stage; looked = t.looked; start = t.start.value.knows; mark = t.mark.value.knows; was = t.was.value; totals = t.totals.value }) };
+    ghost invariant = { λ t. IsTurningSo (record {
+      helping = t.helping.value;
+      stage = t.stage;
+      looked = t.looked;
+      start = t.start.value.knows;
+      mark = t.mark.value.knows;
+      was = t.was.value;
+      totals = t.totals.value;
+    }) };
 }
 
 impl Turning {

@@ -23,13 +23,16 @@ pub fn closing_of(
     requires book { IsBook end.now.book }
     requires ended { IsEndWith end.now (map (λ v. v.items) receipts.items) }
     requires rooms { length rooms.items ≡ end.now.book.processes }
-    requires empty { (p : ℕ) (d : _) → p < end.now.book.processes → (slice_index_or rooms.items p d).items ≡ [] }
-    requires room { (p : ℕ) (d : _) → p < end.now.book.processes → length (records_of end.now p) ≤ vec_capacity (slice_index_or rooms.items p d) }
+    requires empty { (p : ℕ) (d : _) → p < end.now.book.processes
+        → (slice_index_or rooms.items p d).items ≡ [] }
+    requires room { (p : ℕ) (d : _) → p < end.now.book.processes
+        → length (records_of end.now p) ≤ vec_capacity (slice_index_or rooms.items p d) }
     requires receipts { length receipts.items ≡ end.now.book.processes }
     ensures receipts { result.receipts ≡ map (λ v. v.items) receipts.items }
     ensures count { length result.logs ≡ end.now.book.processes }
     ensures coherent { Coherent end.now.book result }
-    ensures logs { (seats : List SeatTerms) (ended : IsEnd end.now seats) (p : ℕ) → p < end.now.book.processes
+    ensures logs { (seats : List SeatTerms) (ended : IsEnd end.now seats) (p : ℕ)
+        → p < end.now.book.processes
         → log_published result p ≡ publications_of p ended.state.published }
 {
     let processes = rooms.len() as u32;

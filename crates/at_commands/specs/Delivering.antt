@@ -1,7 +1,7 @@
 -- What the files of `deliver` hold, and what it prints of them.
 use Rattle.std.specs.Prelude.{◌≡◌, ℕ, ◌+◌, ◌⊎◌, Bool, true, List, ◌++◌, length, Result, Ok, Err}
 use Rattle.at_files.specs.Deliveries.{Delivers, deliveries_of}
-use Rattle.at_files.specs.Records.{records_of}
+use Rattle.at_files.specs.Records.{file_records}
 use Rattle.at_files.specs.Results.{and_then}
 use Rattle.at_files.specs.declared.deliveries.Delivery.{Delivery}
 use Rattle.at_files.specs.declared.deliveries.OrderWhy.{OrderWhy}
@@ -26,7 +26,7 @@ order_read (Err bad) = Err (status.BadOrder bad.line bad.why)
 
 -- the deliveries of the file of this name and number, beside so many messages of each process
 abbrev pub order_loaded : Files → Word → ℕ → List ℕ → Result (List Delivery) Status
-order_loaded files name number counts = and_then (fetched (files name) number) (λ bytes. order_read (deliveries_of counts (records_of bytes)))
+order_loaded files name number counts = and_then (fetched (files name) number) (λ bytes. order_read (deliveries_of counts (file_records bytes)))
 
 -- the deliveries beside what was loaded
 abbrev pub with_order : LoadedOf Message → Result (List Delivery) Status → Result Broadcast Status
@@ -45,7 +45,7 @@ broadcast files asked = and_then (sent_loaded files asked) (λ l. with_order l (
 pub record SpellsOrder (files : Files) (name : Word) (counts : List ℕ) (deliveries : List Delivery) : Type 0 where
   pub bytes : List ℕ
   pub held : HoldsFile files name bytes
-  pub spelled : Delivers counts (records_of bytes) deliveries
+  pub spelled : Delivers counts (file_records bytes) deliveries
 
 -- the words' files spell a book, messages and deliveries
 pub record SpellsBroadcast (files : Files) (asked : Delivering) (c : Broadcast) : Type 0 where

@@ -47,7 +47,8 @@ pub fn answer_agree<R: Threads + Sync, O: Sink>(
     ensures write_fault { result ≡ Status.WriteFault → Rose (O.faults out.old) (O.faults out.new) }
     ensures prefix { result ≡ Status.WriteFault → O.tells out.old ≡ true
         → TookAgreedPrefix values.now kept.new (O.taken out.old) (O.taken out.new) }
-    ensures answers { (result ≡ Status.Done) ⊎ ((result ≡ Status.WriteFault) ⊎ (result ≡ Status.NoMemory)) }
+    ensures answers { (result ≡ Status.Done) ⊎ ((result ≡ Status.WriteFault)
+        ⊎ (result ≡ Status.NoMemory)) }
     ensures ran { (result ≡ Status.Done) ⊎ (result ≡ Status.WriteFault)
         → (value : ℕ) × KeepsAgreement values.now kept.new value }
     ensures untouched { result ≢ Status.Done → result ≢ Status.WriteFault

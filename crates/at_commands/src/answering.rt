@@ -233,7 +233,8 @@ fn answer_made<R: Threads + Sync, O: Sink, G: Gate + Sync>(
     ensures prefix { result ≡ Status.WriteFault → O.tells out.old ≡ true
         → TakesPrefix (O.taken out.old) (O.taken out.new)
         (made making.first making.processes making.calls) }
-    ensures answers { (result ≡ Status.Done) ⊎ ((result ≡ Status.WriteFault) ⊎ (result ≡ Status.NoMemory)) }
+    ensures answers { (result ≡ Status.Done) ⊎ ((result ≡ Status.WriteFault)
+        ⊎ (result ≡ Status.NoMemory)) }
     ensures ran { (result ≡ Status.Done) ⊎ (result ≡ Status.WriteFault)
         → SummarizesRun making kept.new }
     ensures untouched { result ≢ Status.Done → result ≢ Status.WriteFault

@@ -102,7 +102,8 @@ pub fn play<R: Threads + Sync, G: Gate + Sync>(
 /// The journal of a closed ledger on which files were run.
 pub fn journal_of(alloc: Global, closed: &Closed) -> Result<Vec<Line>, NoMemory>
     requires count { length (calls_in closed.now.closing) ≡ closed.now.book.processes }
-    requires known { All (IsPlayable (length closed.now.book.accounts)) (calls_in closed.now.closing) }
+    requires known { All (IsPlayable (length closed.now.book.accounts))
+        (calls_in closed.now.closing) }
     ensures lines { IfOk result (λ lines. lines.items ≡ journal_of closed.now) }
     ensures whole { IfOk result (λ _. Whole (calls_in closed.now.closing) (journal_of closed.now)) }
     ensures legal { IfOk result (λ _. Legal closed.now.book (journal_of closed.now)) }

@@ -24,7 +24,8 @@ fn verdict_text(alloc: Global, loaded: &Loaded<Call>, report: &[u8]) -> Result<V
     requires known { All (IsPlayable (length loaded.now.book.accounts))
         (files_in loaded.now.files.items) }
     requires size { length report.now ≤ most_file_bytes }
-    ensures verifies { IfOk result (λ text. Verifies (claim_shown loaded.now report.now) text.items) }
+    ensures verifies { IfOk result (λ text. Verifies
+        (claim_shown loaded.now report.now) text.items) }
     ensures err { IfErr result (RefusesClaim (claim_shown loaded.now report.now)) }
 {
     let _known = loaded.book.accounts();

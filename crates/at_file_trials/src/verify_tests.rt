@@ -42,7 +42,8 @@ fn files_of(
 ) -> Option<Vec<Vec<Call>>>
     requires { AreNamesOf book.now names.now }
     ensures processes { IfSome result (λ files. length files.items ≡ book.now.processes) }
-    ensures files { IfSome result (λ files. All (IsPlayable (length book.now.accounts)) (files_in files.items)) }
+    ensures files { IfSome result (λ files. All (IsPlayable (length book.now.accounts))
+        (files_in files.items)) }
 {
     let mut files = Vec::new(alloc);
     for process in 0..book.processes() {

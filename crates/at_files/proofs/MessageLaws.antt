@@ -12,7 +12,7 @@ use Rattle.at_broadcast.specs.declared.message.Message.{Message}
 use Rattle.at_files.specs.BookRecords.{numbers_of}
 use Rattle.at_files.specs.Limits.{most_messages}
 use Rattle.at_files.specs.Records.{Fields, field_of, has_shape, number_at}
-use Rattle.at_files.specs.Messages.{IsSent, Sends, are_counts, fields_of_message, message_of, message_read, messages_of}
+use Rattle.at_files.specs.Messages.{IsSent, Sends, are_counts, fields_of_message, message_read, message_spelled, messages_spelled}
 use Rattle.at_files.specs.declared.messages.MessagesWhy.{MessagesWhy}
 use Rattle.at_files.specs.declared.messages.MessagesWhy.TheVariants.{Shape, TooManyMessages}
 use Rattle.at_files.specs.declared.spelled.BadRecord.{BadRecord}
@@ -85,8 +85,8 @@ message_read-IsSent b fields m (Some from) (Some to) (Some amount) (Some deps) s
       },
     )
 
-message_of-reads : (b : BookTerms) (fields : Fields) (m : Message) → message_of b fields ≡ Ok m → (fields ≡ fields_of_message m) × IsSent b m
-message_of-reads b fields m h = by (has_shape (codes "send") (b.processes + 4) fields) refl h
+message_spelled-reads : (b : BookTerms) (fields : Fields) (m : Message) → message_spelled b fields ≡ Ok m → (fields ≡ fields_of_message m) × IsSent b m
+message_spelled-reads b fields m h = by (has_shape (codes "send") (b.processes + 4) fields) refl h
   where
     by : (t : Bool) → has_shape (codes "send") (b.processes + 4) fields ≡ t
         → (if t then message_read (length b.accounts) (number_at fields 1) (number_at fields 2) (number_at fields 3) (numbers_of (drop 4 fields)) else Err Shape) ≡ Ok m
@@ -102,9 +102,9 @@ send_shape b m h =
     let long : (length (fields_of_message m) == b.processes + 4) ≡ true = eq-eqb (length (fields_of_message m)) (b.processes + 4) (omega arith) in
     rw long refl
 
-message_of-writes : (b : BookTerms) (m : Message) → length b.accounts ≤ 2 ^ 64 → IsSent b m → message_of b (fields_of_message m) ≡ Ok m
+message_spelled-writes : (b : BookTerms) (m : Message) → length b.accounts ≤ 2 ^ 64 → IsSent b m → message_spelled b (fields_of_message m) ≡ Ok m
 unfolding field_at
-message_of-writes b m few is =
+message_spelled-writes b m few is =
     let source = is.known.source in
     let target = is.known.target in
     let from_in : nat_lt m.from (length b.accounts) ≡ true = grind (arith, nat_tests) in
@@ -121,16 +121,16 @@ message_of-writes b m few is =
       All-are_counts m.deps is.deps,
     ) refl
 
-pub IsForm-message : (b : BookTerms) → length b.accounts ≤ 2 ^ 64 → IsForm (message_of b) fields_of_message (IsSent b)
+pub IsForm-message : (b : BookTerms) → length b.accounts ≤ 2 ^ 64 → IsForm (message_spelled b) fields_of_message (IsSent b)
 IsForm-message b few = record {
-  reads = message_of-reads b;
-  writes = λ m is. message_of-writes b m few is;
+  reads = message_spelled-reads b;
+  writes = λ m is. message_spelled-writes b m few is;
 }
 
 -- what a message file holds
 pub Sends-written : (b : BookTerms) (records : List Fields) (r : Result (Vec Message Global) (ReadFault MessagesWhy)) → length b.accounts ≤ 2 ^ 64
-    → IfOk r (λ messages. messages_of b records ≡ Ok messages.items) → IfOk r (λ messages. Sends b records messages.items)
-Sends-written b records r few h = by r (read-written (message_of b) fields_of_message (IsSent b) most_messages TooManyMessages records r (IsForm-message b few) h)
+    → IfOk r (λ messages. messages_spelled b records ≡ Ok messages.items) → IfOk r (λ messages. Sends b records messages.items)
+Sends-written b records r few h = by r (read-written (message_spelled b) fields_of_message (IsSent b) most_messages TooManyMessages records r (IsForm-message b few) h)
   where
     by : (r : Result (Vec Message Global) (ReadFault MessagesWhy)) → IfOk r (λ messages. AreWritten fields_of_message (IsSent b) most_messages 1 records messages.items)
         → IfOk r (λ messages. Sends b records messages.items)
@@ -138,15 +138,15 @@ Sends-written b records r few h = by r (read-written (message_of b) fields_of_me
     by (Err fault) are = tt
 
 -- a file that is messages gives them
-pub messages_of-Sends : (b : BookTerms) (records : List Fields) (messages : List Message) → length b.accounts ≤ 2 ^ 64 → Sends b records messages → messages_of b records ≡ Ok messages
-messages_of-Sends b records messages few sends =
-    items_of-map (message_of b) fields_of_message (IsSent b) most_messages TooManyMessages records messages (IsForm-message b few) sends.spelled sends.each sends.few
+pub messages_spelled-Sends : (b : BookTerms) (records : List Fields) (messages : List Message) → length b.accounts ≤ 2 ^ 64 → Sends b records messages → messages_spelled b records ≡ Ok messages
+messages_spelled-Sends b records messages few sends =
+    items_of-map (message_spelled b) fields_of_message (IsSent b) most_messages TooManyMessages records messages (IsForm-message b few) sends.spelled sends.each sends.few
 
 -- a file that is messages isn't refused
 pub Sends-accepted : (b : BookTerms) (records : List Fields) (r : Result (Vec Message Global) (ReadFault MessagesWhy)) (messages : List Message) → length b.accounts ≤ 2 ^ 64
-    → ((bad : BadRecord MessagesWhy) → r ≡ Err (Bad bad) → messages_of b records ≡ Err bad) → Sends b records messages → IfErr r (λ fault. fault ≡ NoMemory)
+    → ((bad : BadRecord MessagesWhy) → r ≡ Err (Bad bad) → messages_spelled b records ≡ Err bad) → Sends b records messages → IfErr r (λ fault. fault ≡ NoMemory)
 Sends-accepted b records r messages few bad sends =
-    read-accepts (message_of b) fields_of_message (IsSent b) most_messages TooManyMessages records r messages (IsForm-message b few) bad sends.spelled sends.each sends.few
+    read-accepts (message_spelled b) fields_of_message (IsSent b) most_messages TooManyMessages records r messages (IsForm-message b few) bad sends.spelled sends.each sends.few
 
 -- counts that are the numbers, one after another
 pub counts_of-set : (counts deps : List ℕ) → length counts ≡ length deps → ((m : ℕ) → m < length deps → get_or counts m 0 ≡ get_or deps m 0) → counts ≡ deps

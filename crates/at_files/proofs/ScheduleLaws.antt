@@ -4,7 +4,7 @@ use Rattle.std.specs.Global.{Global}
 use Rattle.std.proofs.lemmas.Bool.{eqb-true, lt-ltb, ltb-true}
 use Rattle.csv.specs.Records.{field_at}
 use Rattle.at_base.proofs.NumberLaws.{number_of-decimal}
-use Rattle.at_files.specs.Limits.{most_turns}
+use Rattle.at_files.specs.Limits.{most_scheduled_turns}
 use Rattle.at_files.specs.Records.{Fields, number_at}
 use Rattle.at_files.specs.Schedule.{Schedules, fields_of_turn, schedule_of, turn_of, turn_read}
 use Rattle.at_files.specs.declared.schedule.ScheduleWhy.{ScheduleWhy}
@@ -50,9 +50,9 @@ IsForm-turn processes few = record {
 pub Schedules-written : (processes : ℕ) (records : List Fields) (r : Result (Vec ℕ Global) (ReadFault ScheduleWhy)) → processes ≤ 2 ^ 64
     → IfOk r (λ turns. schedule_of processes records ≡ Ok turns.items) → IfOk r (λ turns. Schedules processes records turns.items)
 Schedules-written processes records r few h =
-    by r (read-written (turn_of processes) fields_of_turn (λ process. process < processes) most_turns TooManyTurns records r (IsForm-turn processes few) h)
+    by r (read-written (turn_of processes) fields_of_turn (λ process. process < processes) most_scheduled_turns TooManyTurns records r (IsForm-turn processes few) h)
   where
-    by : (r : Result (Vec ℕ Global) (ReadFault ScheduleWhy)) → IfOk r (λ turns. AreWritten fields_of_turn (λ process. process < processes) most_turns 1 records turns.items)
+    by : (r : Result (Vec ℕ Global) (ReadFault ScheduleWhy)) → IfOk r (λ turns. AreWritten fields_of_turn (λ process. process < processes) most_scheduled_turns 1 records turns.items)
         → IfOk r (λ turns. Schedules processes records turns.items)
     by (Ok turns) are = record { spelled = are.spelled; each = are.each; few = let few = are.few in omega arith }
     by (Err fault) are = tt
@@ -61,12 +61,12 @@ Schedules-written processes records r few h =
 pub schedule_of-Schedules : (processes : ℕ) (records : List Fields) (turns : List ℕ) → processes ≤ 2 ^ 64 → Schedules processes records turns
     → schedule_of processes records ≡ Ok turns
 schedule_of-Schedules processes records turns few schedules =
-    items_of-map (turn_of processes) fields_of_turn (λ process. process < processes) most_turns TooManyTurns records turns (IsForm-turn processes few)
+    items_of-map (turn_of processes) fields_of_turn (λ process. process < processes) most_scheduled_turns TooManyTurns records turns (IsForm-turn processes few)
     schedules.spelled schedules.each schedules.few
 
 -- a file that is a schedule isn't refused
 pub Schedules-accepted : (processes : ℕ) (records : List Fields) (r : Result (Vec ℕ Global) (ReadFault ScheduleWhy)) (turns : List ℕ) → processes ≤ 2 ^ 64
     → ((bad : BadRecord ScheduleWhy) → r ≡ Err (Bad bad) → schedule_of processes records ≡ Err bad) → Schedules processes records turns → IfErr r (λ fault. fault ≡ NoMemory)
 Schedules-accepted processes records r turns few bad schedules =
-    read-accepts (turn_of processes) fields_of_turn (λ process. process < processes) most_turns TooManyTurns records r turns (IsForm-turn processes few) bad
+    read-accepts (turn_of processes) fields_of_turn (λ process. process < processes) most_scheduled_turns TooManyTurns records r turns (IsForm-turn processes few) bad
     schedules.spelled schedules.each schedules.few

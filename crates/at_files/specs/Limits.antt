@@ -22,5 +22,5 @@ abbrev pub most_deliveries : ℕ
 most_deliveries = 65536
 
 -- turns of one schedule
-abbrev pub most_turns : ℕ
-most_turns = 1000000
+abbrev pub most_scheduled_turns : ℕ
+most_scheduled_turns = 1000000

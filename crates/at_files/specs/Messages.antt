@@ -29,15 +29,15 @@ message_read accounts (Some from) (Some to) (Some amount) (Some deps) = message_
 message_read accounts _ _ _ _ = Err Number
 
 -- the message that a record spells, beside a book: accounts are given by their numbers, and `deps` has one for each process
-abbrev pub message_of : BookTerms → Fields → Result Message MessagesWhy
-message_of b fields =
+abbrev pub message_spelled : BookTerms → Fields → Result Message MessagesWhy
+message_spelled b fields =
     if has_shape (codes "send") (b.processes + 4) fields
     then message_read (length b.accounts) (number_at fields 1) (number_at fields 2) (number_at fields 3) (numbers_of (drop 4 fields))
     else Err Shape
 
 -- the messages of a file's records, or the first fault
-abbrev pub messages_of : BookTerms → List Fields → Result (List Message) (BadRecord MessagesWhy)
-messages_of b records = items_of (message_of b) most_messages TooManyMessages records
+abbrev pub messages_spelled : BookTerms → List Fields → Result (List Message) (BadRecord MessagesWhy)
+messages_spelled b records = items_of (message_spelled b) most_messages TooManyMessages records
 
 -- the record of a message
 abbrev pub fields_of_message : Message → Fields

@@ -14,8 +14,8 @@ before (Some x) (Some later) = Some (x ∷ later)
 before _ _ = None
 
 -- the records of a file: comma, double quote, no headers, any number of fields, and no byte order mark at its start
-abbrev pub records_of : List ℕ → List Fields
-records_of bytes = records default_config (strip_bom bytes)
+abbrev pub file_records : List ℕ → List Fields
+file_records bytes = records default_config (strip_bom bytes)
 
 -- the field at a position, from 0, and no byte past the last field
 abbrev pub field_of : Fields → ℕ → List ℕ

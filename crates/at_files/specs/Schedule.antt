@@ -1,6 +1,6 @@
 -- A schedule: whose turn each turn is, as the records of its file spell it, or the first fault.
 use Rattle.std.specs.Prelude.{◌≡◌, ℕ, ◌<◌, ◌≤◌, ◌==◌, List, [], ◌∷◌, length, map, All, decimal, nat_lt, Option, Some, None, Result, Ok, Err, if◌then◌else◌}
-use Rattle.at_files.specs.Limits.{most_turns}
+use Rattle.at_files.specs.Limits.{most_scheduled_turns}
 use Rattle.at_files.specs.Records.{Fields, number_at}
 use Rattle.at_files.specs.Spelled.{items_of}
 use Rattle.at_files.specs.declared.schedule.ScheduleWhy.{ScheduleWhy}
@@ -22,7 +22,7 @@ turn_of processes fields = if length fields == 1 then turn_read processes (numbe
 
 -- the turns of a file's records, or the first fault
 abbrev pub schedule_of : ℕ → List Fields → Result (List ℕ) (BadRecord ScheduleWhy)
-schedule_of processes records = items_of (turn_of processes) most_turns TooManyTurns records
+schedule_of processes records = items_of (turn_of processes) most_scheduled_turns TooManyTurns records
 
 -- the record of a process's turn
 abbrev pub fields_of_turn : ℕ → Fields
@@ -32,4 +32,4 @@ fields_of_turn process = decimal process ∷ []
 pub record Schedules (processes : ℕ) (records : List Fields) (turns : List ℕ) : Type 0 where
   pub spelled : records ≡ map fields_of_turn turns
   pub each : All (λ process. process < processes) turns
-  pub few : length turns ≤ most_turns
+  pub few : length turns ≤ most_scheduled_turns

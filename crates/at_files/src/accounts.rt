@@ -32,7 +32,10 @@ impl Model for Begun {
 
     ghost Value = { NamedBook };
 
-    ghost view = { λ b. record { book = b.builder; names = record { version = b.version; processes = b.processes; accounts = b.accounts } } };
+    ghost view = { λ b. record {
+      book = b.builder;
+      names = record { version = b.version; processes = b.processes; accounts = b.accounts };
+    } };
 }
 
 /// A book of these processes with these rooms and no account yet.
@@ -93,7 +96,9 @@ fn add_terms(
         (within_limits (account_fault builder.old (terms_with opening owners.now))
         (with_account builder.old (terms_with opening owners.now)) ≡ Ok builder.new) }
     ensures bad { (b : BadBook) → result ≡ Err (ReadBookFault.Bad b)
-        → at_line (account + 4) (within_limits (account_fault builder.old (terms_with opening owners.now)) (with_account builder.old (terms_with opening owners.now))) ≡ Err b }
+        → at_line (account + 4) (within_limits
+        (account_fault builder.old (terms_with opening owners.now))
+        (with_account builder.old (terms_with opening owners.now))) ≡ Err b }
 {
     match builder.add(opening, owners) {
         Ok(()) => Ok(()),

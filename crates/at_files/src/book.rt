@@ -3,7 +3,7 @@
 ghost use Rattle.std.specs.Prelude.{◌≡◌, ◌⊎◌, [], Err, IfErr, IfOk, Ok};
 ghost use Rattle.at_ledger.specs.Book.{BookTerms, IsBook};
 ghost use Rattle.at_files.specs.Names.{AreNames, AreNamesOf, NameList};
-ghost use Rattle.at_files.specs.Records.{records_of};
+ghost use Rattle.at_files.specs.Records.{file_records};
 ghost use Rattle.at_files.specs.BookFile.{Spells, accounts_from, book_at_end, book_of_records, limits_from, processes_from};
 
 use crate::accounts::{Begun, add_record, limits_of};
@@ -182,13 +182,13 @@ fn read_terms(
 /// Only one record is held at a time, and each name is looked up by its hash.
 pub fn read_book(alloc: Global, bytes: &[u8]) -> Result<(Book, Names), ReadBookFault>
     ensures ok { IfOk result
-        (λ r. book_of_records (records_of bytes.now) ≡ Ok (record { book = r.0; names = r.1 })) }
-    ensures spelled { IfOk result (λ r. Spells (records_of bytes.now) r.0 r.1) }
+        (λ r. book_of_records (file_records bytes.now) ≡ Ok (record { book = r.0; names = r.1 })) }
+    ensures spelled { IfOk result (λ r. Spells (file_records bytes.now) r.0 r.1) }
     ensures names { IfOk result (λ r. AreNamesOf r.0 r.1) }
-    ensures accepts { (b : BookTerms) (names : NameList) → Spells (records_of bytes.now) b names
+    ensures accepts { (b : BookTerms) (names : NameList) → Spells (file_records bytes.now) b names
         → IfErr result (λ fault. fault ≡ ReadBookFault.NoMemory) }
     ensures bad { (b : BadBook) → result ≡ Err (ReadBookFault.Bad b)
-        → book_of_records (records_of bytes.now) ≡ Err b }
+        → book_of_records (file_records bytes.now) ≡ Err b }
 {
     let mut records = Records::new(alloc, bytes);
     let mut fields = ByteRecord::new(alloc);

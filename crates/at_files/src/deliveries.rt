@@ -3,7 +3,7 @@
 ghost use Rattle.std.specs.Prelude.{◌≡◌, ◌≤◌, List, Ok, Err, All, IfErr, IfOk};
 ghost use Rattle.csv.specs.Records.{fields_of};
 ghost use Rattle.at_files.specs.Limits.{most_messages};
-ghost use Rattle.at_files.specs.Records.{records_of};
+ghost use Rattle.at_files.specs.Records.{file_records};
 ghost use Rattle.at_files.specs.Deliveries.{Delivers, deliveries_of, delivery_of, delivery_to};
 
 use crate::fields::number_at;
@@ -104,14 +104,14 @@ pub fn read_deliveries(
 ) -> Result<Vec<Delivery>, ReadOrderFault>
     requires { All (λ count. count ≤ most_messages) counts.now }
     ensures ok { IfOk result
-        (λ deliveries. deliveries_of counts.now (records_of bytes.now) ≡ Ok deliveries.items) }
+        (λ deliveries. deliveries_of counts.now (file_records bytes.now) ≡ Ok deliveries.items) }
     ensures delivers { IfOk result
-        (λ deliveries. Delivers counts.now (records_of bytes.now) deliveries.items) }
+        (λ deliveries. Delivers counts.now (file_records bytes.now) deliveries.items) }
     ensures accepts { (deliveries : List Delivery)
-        → Delivers counts.now (records_of bytes.now) deliveries
+        → Delivers counts.now (file_records bytes.now) deliveries
         → IfErr result (λ fault. fault ≡ ReadFault.NoMemory) }
     ensures bad { (b : BadRecord OrderWhy) → result ≡ Err (ReadFault.Bad b)
-        → deliveries_of counts.now (records_of bytes.now) ≡ Err b }
+        → deliveries_of counts.now (file_records bytes.now) ≡ Err b }
 {
     let _known = counts.len();
     let form = DeliveryForm { counts };

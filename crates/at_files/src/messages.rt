@@ -5,8 +5,8 @@ ghost use Rattle.csv.specs.Records.{fields_of};
 ghost use Rattle.at_broadcast.specs.declared.message.Message.{Message};
 ghost use Rattle.at_files.specs.BookRecords.{numbers_of};
 ghost use Rattle.at_files.specs.Limits.{most_messages};
-ghost use Rattle.at_files.specs.Records.{records_of};
-ghost use Rattle.at_files.specs.Messages.{Sends, are_counts, message_between, message_of, message_read, messages_of};
+ghost use Rattle.at_files.specs.Records.{file_records};
+ghost use Rattle.at_files.specs.Messages.{Sends, are_counts, message_between, message_read, message_spelled, messages_spelled};
 
 use crate::fields::{has_shape, number_at};
 use crate::spelled::{BadRecord, ReadFault, RecordForm, read_items};
@@ -123,7 +123,7 @@ impl<'a> RecordForm for MessageForm<'a> {
 
     type Why = MessagesWhy;
 
-    ghost item = { λ form. message_of form.book.now };
+    ghost item = { λ form. message_spelled form.book.now };
 
     fn item_of(&self, fields: &ByteRecord) -> Result<Message, MessagesWhy> {
         let accounts = self.book.accounts();
@@ -150,13 +150,13 @@ pub fn read_messages(
     bytes: &[u8],
 ) -> Result<Vec<Message>, ReadMessagesFault>
     ensures ok { IfOk result
-        (λ messages. messages_of book.now (records_of bytes.now) ≡ Ok messages.items) }
+        (λ messages. messages_spelled book.now (file_records bytes.now) ≡ Ok messages.items) }
     ensures sends { IfOk result
-        (λ messages. Sends book.now (records_of bytes.now) messages.items) }
-    ensures accepts { (messages : List Message) → Sends book.now (records_of bytes.now) messages
+        (λ messages. Sends book.now (file_records bytes.now) messages.items) }
+    ensures accepts { (messages : List Message) → Sends book.now (file_records bytes.now) messages
         → IfErr result (λ fault. fault ≡ ReadFault.NoMemory) }
     ensures bad { (b : BadRecord MessagesWhy) → result ≡ Err (ReadFault.Bad b)
-        → messages_of book.now (records_of bytes.now) ≡ Err b }
+        → messages_spelled book.now (file_records bytes.now) ≡ Err b }
 {
     let _known = book.accounts();
     let form = MessageForm { book };

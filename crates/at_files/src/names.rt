@@ -23,9 +23,17 @@ impl Model for Names {
 
     ghost Value = { NameList };
 
-    ghost view = { λ n. record { version = n.version; processes = n.processes; accounts = n.accounts } };
+    ghost view = { λ n. record {
+      version = n.version;
+      processes = n.processes;
+      accounts = n.accounts;
+    } };
 
-    ghost invariant = { λ n. IsNameList (record { version = n.version; processes = n.processes; accounts = n.accounts }) };
+    ghost invariant = { λ n. IsNameList (record {
+      version = n.version;
+      processes = n.processes;
+      accounts = n.accounts;
+    }) };
 }
 
 impl Names {

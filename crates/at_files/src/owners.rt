@@ -100,7 +100,8 @@ fn pieces_named(
         (λ owners. owners_named processes.now account 0 0
         (slice_split (λ byte. byte == 32) text.now) ≡ Ok owners.items) }
     ensures bad { (b : BadBook) → result ≡ Err (ReadBookFault.Bad b)
-        → at_line (account + 4) (owners_named processes.now account 0 0 (slice_split (λ byte. byte == 32) text.now)) ≡ Err b }
+        → at_line (account + 4) (owners_named processes.now account 0 0
+        (slice_split (λ byte. byte == 32) text.now)) ≡ Err b }
 {
     let _known = processes.len();
     let mut owners = Vec::new(alloc);

@@ -2,7 +2,7 @@
 
 ghost use Rattle.std.specs.Prelude.{◌≡◌, List, Ok, Err, IfErr, IfOk};
 ghost use Rattle.at_files.specs.Names.{AreNamesOf};
-ghost use Rattle.at_files.specs.Records.{records_of};
+ghost use Rattle.at_files.specs.Records.{file_records};
 ghost use Rattle.at_files.specs.Payments.{payments_of, Pays};
 
 use crate::calls::call_of;
@@ -24,13 +24,13 @@ pub fn read_payments(
 ) -> Result<Vec<Call>, ReadPaymentsFault>
     requires { AreNamesOf book.now names.now }
     ensures ok { IfOk result
-        (λ calls. payments_of names.now (records_of bytes.now) ≡ Ok calls.items) }
+        (λ calls. payments_of names.now (file_records bytes.now) ≡ Ok calls.items) }
     ensures pays { IfOk result
-        (λ calls. Pays book.now names.now (records_of bytes.now) calls.items) }
-    ensures accepts { (calls : List Call) → Pays book.now names.now (records_of bytes.now) calls
+        (λ calls. Pays book.now names.now (file_records bytes.now) calls.items) }
+    ensures accepts { (calls : List Call) → Pays book.now names.now (file_records bytes.now) calls
         → IfErr result (λ fault. fault ≡ ReadPaymentsFault.NoMemory) }
     ensures bad { (b : BadPayments) → result ≡ Err (ReadPaymentsFault.Bad b)
-        → payments_of names.now (records_of bytes.now) ≡ Err b }
+        → payments_of names.now (file_records bytes.now) ≡ Err b }
 {
     let accounts = book.accounts();
     let mut records = Records::new(alloc, bytes);

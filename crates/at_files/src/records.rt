@@ -2,7 +2,7 @@
 
 ghost use Rattle.std.specs.Prelude.{◌≡◌, ◌∷◌, [], if◌then◌else◌, IfOk, OnErr};
 ghost use Rattle.csv.specs.Records.{fields_of};
-ghost use Rattle.at_files.specs.Records.{records_of};
+ghost use Rattle.at_files.specs.Records.{file_records};
 
 use crate::NoMemory;
 use csv::{ByteRecord, Reader, ReaderBuilder};
@@ -31,7 +31,7 @@ impl<'a> Model for Records<'a> {
 impl<'a> Records<'a> {
     /// All records of a file.
     pub(crate) fn new(alloc: Global, bytes: &'a [u8]) -> Records<'a>
-        ensures { result ≡ records_of bytes.now }
+        ensures { result ≡ file_records bytes.now }
     {
         let reader = ReaderBuilder::new()
             .has_headers(false)

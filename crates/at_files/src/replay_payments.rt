@@ -2,7 +2,7 @@
 
 ghost use Rattle.std.specs.Prelude.{◌≡◌, List, Ok, Err, IfErr, IfOk};
 ghost use Rattle.at_files.specs.Names.{AreNamesOf};
-ghost use Rattle.at_files.specs.Records.{records_of};
+ghost use Rattle.at_files.specs.Records.{file_records};
 ghost use Rattle.at_files.specs.ReplayPayments.{PaysReplay, replay_payments_of};
 
 use crate::names::Names;
@@ -24,14 +24,14 @@ pub fn read_replay_payments(
 ) -> Result<Vec<Call>, ReadPaymentsFault>
     requires { AreNamesOf book.now names.now }
     ensures ok { IfOk result
-        (λ calls. replay_payments_of names.now (records_of bytes.now) ≡ Ok calls.items) }
+        (λ calls. replay_payments_of names.now (file_records bytes.now) ≡ Ok calls.items) }
     ensures pays { IfOk result
-        (λ calls. PaysReplay book.now names.now (records_of bytes.now) calls.items) }
+        (λ calls. PaysReplay book.now names.now (file_records bytes.now) calls.items) }
     ensures accepts { (calls : List Call)
-        → PaysReplay book.now names.now (records_of bytes.now) calls
+        → PaysReplay book.now names.now (file_records bytes.now) calls
         → IfErr result (λ fault. fault ≡ ReadPaymentsFault.NoMemory) }
     ensures bad { (b : BadPayments) → result ≡ Err (ReadPaymentsFault.Bad b)
-        → replay_payments_of names.now (records_of bytes.now) ≡ Err b }
+        → replay_payments_of names.now (file_records bytes.now) ≡ Err b }
 {
     let calls = match read_payments(alloc, book, names, bytes) {
         Ok(calls) => calls,

@@ -2,7 +2,7 @@
 
 ghost use Rattle.std.specs.Prelude.{◌≡◌, ℕ, List, Ok, Err, IfErr, IfOk};
 ghost use Rattle.csv.specs.Records.{fields_of};
-ghost use Rattle.at_files.specs.Records.{records_of};
+ghost use Rattle.at_files.specs.Records.{file_records};
 ghost use Rattle.at_files.specs.Schedule.{Schedules, schedule_of, turn_among, turn_of};
 
 use crate::fields::number_at;
@@ -79,13 +79,13 @@ pub fn read_schedule(
     bytes: &[u8],
 ) -> Result<Vec<u32>, ReadScheduleFault>
     ensures ok { IfOk result
-        (λ turns. schedule_of processes (records_of bytes.now) ≡ Ok turns.items) }
+        (λ turns. schedule_of processes (file_records bytes.now) ≡ Ok turns.items) }
     ensures schedules { IfOk result
-        (λ turns. Schedules processes (records_of bytes.now) turns.items) }
-    ensures accepts { (turns : List ℕ) → Schedules processes (records_of bytes.now) turns
+        (λ turns. Schedules processes (file_records bytes.now) turns.items) }
+    ensures accepts { (turns : List ℕ) → Schedules processes (file_records bytes.now) turns
         → IfErr result (λ fault. fault ≡ ReadFault.NoMemory) }
     ensures bad { (b : BadRecord ScheduleWhy) → result ≡ Err (ReadFault.Bad b)
-        → schedule_of processes (records_of bytes.now) ≡ Err b }
+        → schedule_of processes (file_records bytes.now) ≡ Err b }
 {
     let form = TurnForm { processes };
     read_items(alloc, &form, TURNS_MAX, ScheduleWhy::TooManyTurns, bytes)

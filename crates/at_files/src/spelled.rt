@@ -2,7 +2,7 @@
 
 ghost use Rattle.std.specs.Prelude.{◌≡◌, ◌+◌, ◌^◌, ◌<◌, Result, Err, Ok, IfOk};
 ghost use Rattle.csv.specs.Records.{fields_of};
-ghost use Rattle.at_files.specs.Records.{Fields, records_of};
+ghost use Rattle.at_files.specs.Records.{Fields, file_records};
 ghost use Rattle.at_files.specs.Spelled.{items_of};
 
 use crate::records::Records;
@@ -49,9 +49,9 @@ pub(crate) fn read_items<F: RecordForm>(
 ) -> Result<Vec<F::Item>, ReadFault<F::Why>>
     requires { most + 1 < 2 ^ 32 }
     ensures ok { IfOk result
-        (λ items. items_of (F.item form.now) most over (records_of bytes.now) ≡ Ok items.items) }
+        (λ items. items_of (F.item form.now) most over (file_records bytes.now) ≡ Ok items.items) }
     ensures bad { (b : BadRecord F.Why) → result ≡ Err (ReadFault.Bad b)
-        → items_of (F.item form.now) most over (records_of bytes.now) ≡ Err b }
+        → items_of (F.item form.now) most over (file_records bytes.now) ≡ Err b }
 {
     let mut records = Records::new(alloc, bytes);
     let mut fields = ByteRecord::new(alloc);

@@ -27,7 +27,14 @@ impl Model for AccountTotals {
 
     ghost Value = { AccountSums };
 
-    ghost view = { λ a. record { opening = a.opening; credits = a.credits; debits = a.debits; rounds = a.rounds; is_counted = a.is_counted.items; slots = a.slots.items } };
+    ghost view = { λ a. record {
+      opening = a.opening;
+      credits = a.credits;
+      debits = a.debits;
+      rounds = a.rounds;
+      is_counted = a.is_counted.items;
+      slots = a.slots.items;
+    } };
 }
 
 impl AccountTotals {
@@ -112,7 +119,8 @@ impl AccountTotals {
     pub(crate) fn settle(&mut self, round: u32, decision: &Decision)
         requires round { round < length self.old.is_counted }
         requires slot { decision.now.slot < length self.old.slots }
-        requires number { decision.now.number < length (slot_at self.old decision.now.slot).settled }
+        requires number { decision.now.number < length
+            (slot_at self.old decision.now.slot).settled }
         requires rounds { self.old.rounds + 1 < 2 ^ 32 }
         requires done { (slot_at self.old decision.now.slot).done + 1 < 2 ^ 32 }
         ensures { self.new ≡ with_round self.old round decision.now }

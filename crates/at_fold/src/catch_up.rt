@@ -32,7 +32,8 @@ impl Totals {
         ensures stays { StaysCounted self.new board.now.book seat.new.knows.seen }
         ensures upto { self.new.upto ≡ counts.now }
         ensures same { seat.new ≡ seat.old }
-        ensures steps { steps.new ≡ steps.old + RECORD_WORDS * (sum counts.now - sum self.old.upto) }
+        ensures steps { steps.new ≡ steps.old + RECORD_WORDS
+            * (sum counts.now - sum self.old.upto) }
         ensures exchanges { exchanges.new ≡ exchanges.old }
     {
         for p in 0..counts.len() {

@@ -26,7 +26,10 @@ impl Model for SlotTotals {
 impl SlotTotals {
     /// Nothing counted, with room for so many requests.
     pub(crate) fn new(alloc: Global, request_room: u32) -> Result<SlotTotals, NoMemory>
-        ensures { IfOk result (λ s. s ≡ record { done = 0; settled = replicate request_room None }) }
+        ensures { IfOk result (λ s. s ≡ record {
+          done = 0;
+          settled = replicate request_room None;
+        }) }
     {
         let settled = vec![in alloc; None; request_room as usize]?;
         Ok(SlotTotals { done: 0, settled })

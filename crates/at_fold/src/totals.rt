@@ -39,7 +39,8 @@ impl Totals {
     /// Totals that have counted nothing. All their memory is taken here, in proportion to the accounts and the rounds of the book.
     pub fn new(alloc: Global, book: &Book) -> Result<Totals, NoMemory>
         ensures upto { IfOk result (λ t. t.upto ≡ replicate book.now.processes 0) }
-        ensures counted { IfOk result (λ t. (seen : List Publication) → HasCounted t book.now seen) }
+        ensures counted { IfOk result (λ t. (seen : List Publication)
+            → HasCounted t book.now seen) }
     {
         let count = book.accounts();
         let mut accounts = Vec::new(alloc);
@@ -70,35 +71,54 @@ impl Totals {
 
     /// The balance of the account after the prefix of the publications that is counted. By look-up.
     pub fn balance(&self, account: u32) -> u64
-        requires { (b : BookTerms) × (seen : List Publication) × CountsAccount self.now b seen account × CountsFront self.now b seen }
-        ensures { (b : BookTerms) (seen : List Publication) → CountsAccount self.now b seen account → CountsFront self.now b seen → result ≡ balance_after b (prefix_of self.now.upto seen) account }
+        requires { (b : BookTerms) × (seen : List Publication)
+            × CountsAccount self.now b seen account × CountsFront self.now b seen }
+        ensures { (b : BookTerms) (seen : List Publication) → CountsAccount self.now b seen account
+            → CountsFront self.now b seen → result
+            ≡ balance_after b (prefix_of self.now.upto seen) account }
     {
         self.accounts[account as usize].balance()
     }
 
     /// How many distinct rounds of the account are counted. By look-up.
     pub fn rounds(&self, account: u32) -> u32
-        requires { (b : BookTerms) × (seen : List Publication) × CountsAccount self.now b seen account }
-        ensures counted { (b : BookTerms) (seen : List Publication) → CountsAccount self.now b seen account → result ≡ rounds account (counted_records self.now.upto seen) }
-        ensures front { (b : BookTerms) (seen : List Publication) → CountsAccount self.now b seen account → CountsFront self.now b seen → result ≡ rounds account (prefix_of self.now.upto seen) }
+        requires { (b : BookTerms) × (seen : List Publication)
+            × CountsAccount self.now b seen account }
+        ensures counted { (b : BookTerms) (seen : List Publication)
+            → CountsAccount self.now b seen account
+            → result ≡ rounds account (counted_records self.now.upto seen) }
+        ensures front { (b : BookTerms) (seen : List Publication)
+            → CountsAccount self.now b seen account → CountsFront self.now b seen
+            → result ≡ rounds account (prefix_of self.now.upto seen) }
     {
         self.accounts[account as usize].rounds()
     }
 
     /// How many requests of an owner of the account are decided in the records counted. By look-up.
     pub fn done(&self, account: u32, slot: u32) -> u32
-        requires { (b : BookTerms) × (seen : List Publication) × CountsSlot self.now b seen account slot }
-        ensures counted { (b : BookTerms) (seen : List Publication) → CountsSlot self.now b seen account slot → result ≡ named account slot (counted_records self.now.upto seen) }
-        ensures front { (b : BookTerms) (seen : List Publication) → CountsSlot self.now b seen account slot → CountsFront self.now b seen → result ≡ named account slot (prefix_of self.now.upto seen) }
+        requires { (b : BookTerms) × (seen : List Publication)
+            × CountsSlot self.now b seen account slot }
+        ensures counted { (b : BookTerms) (seen : List Publication)
+            → CountsSlot self.now b seen account slot
+            → result ≡ named account slot (counted_records self.now.upto seen) }
+        ensures front { (b : BookTerms) (seen : List Publication)
+            → CountsSlot self.now b seen account slot → CountsFront self.now b seen
+            → result ≡ named account slot (prefix_of self.now.upto seen) }
     {
         self.accounts[account as usize].done(slot)
     }
 
     /// The round and the decision of a request, if a record counted names it. By look-up.
     pub fn settled(&self, account: u32, slot: u32, number: u32) -> Option<(u32, Decision)>
-        requires { (b : BookTerms) × (seen : List Publication) × CountsSlot self.now b seen account slot × (number < b.request_room) }
-        ensures counted { (b : BookTerms) (seen : List Publication) → CountsSlot self.now b seen account slot → number < b.request_room → IsSettledSo (counted_records self.now.upto seen) account slot number result }
-        ensures front { (b : BookTerms) (seen : List Publication) → CountsSlot self.now b seen account slot → number < b.request_room → CountsFront self.now b seen → IsSettledSo (prefix_of self.now.upto seen) account slot number result }
+        requires { (b : BookTerms) × (seen : List Publication)
+            × CountsSlot self.now b seen account slot × (number < b.request_room) }
+        ensures counted { (b : BookTerms) (seen : List Publication)
+            → CountsSlot self.now b seen account slot → number < b.request_room
+            → IsSettledSo (counted_records self.now.upto seen) account slot number result }
+        ensures front { (b : BookTerms) (seen : List Publication)
+            → CountsSlot self.now b seen account slot → number < b.request_room
+            → CountsFront self.now b seen → IsSettledSo
+            (prefix_of self.now.upto seen) account slot number result }
     {
         self.accounts[account as usize].settled(slot, number)
     }
@@ -106,11 +126,14 @@ impl Totals {
     /// Counts the record that the seat's process has just published, which is the one after those of it that are counted. Makes no step.
     pub fn count_own(&mut self, seat: &BoardSeat, entry: &Entry)
         requires counted { HasCounted self.old seat.now.knows.book seat.now.knows.seen }
-        requires next { IsNext self.old seat.now.knows.book seat.now.knows.seen seat.now.knows.first entry.now }
-        requires last { slice_index self.old.upto seat.now.knows.first + 1 ≡ (own_part seat.now.knows).published }
+        requires next { IsNext self.old seat.now.knows.book seat.now.knows.seen seat.now.knows.first
+            entry.now }
+        requires last { slice_index self.old.upto seat.now.knows.first + 1
+            ≡ (own_part seat.now.knows).published }
         ensures counted { HasCounted self.new seat.now.knows.book seat.now.knows.seen }
         ensures stays { StaysCounted self.new seat.now.knows.book seat.now.knows.seen }
-        ensures upto { self.new.upto ≡ slice_set self.old.upto seat.now.knows.first (own_part seat.now.knows).published }
+        ensures upto { self.new.upto ≡ slice_set self.old.upto seat.now.knows.first
+            (own_part seat.now.knows).published }
     {
         self.count(seat.process(), seat.published(), entry);
     }
@@ -118,9 +141,11 @@ impl Totals {
     /// Counts the next record of a process, of which so many are counted then. Makes no step. It is for callers that load the
     /// entries themselves, word by word; `catch_up` loads and counts all at once.
     pub fn count(&mut self, process: u32, upto: u32, entry: &Entry)
-        requires next { (b : BookTerms) × (seen : List Publication) × MayCount self.old b seen process entry.now }
+        requires next { (b : BookTerms) × (seen : List Publication)
+            × MayCount self.old b seen process entry.now }
         requires upto { upto ≡ slice_index self.old.upto process + 1 }
-        ensures counted { (b : BookTerms) (seen : List Publication) → MayCount self.old b seen process entry.now → HasCounted self.new b seen }
+        ensures counted { (b : BookTerms) (seen : List Publication)
+            → MayCount self.old b seen process entry.now → HasCounted self.new b seen }
         ensures upto { self.new.upto ≡ slice_set self.old.upto process upto }
     {
         if self.is_new(entry) {
@@ -154,8 +179,10 @@ impl Totals {
         requires amounts { FitsMore self.old.accounts }
         requires rounds { FitsRound self.old.accounts entry.now }
         ensures sized { length self.new.accounts ≡ length self.old.accounts }
-        ensures all_sums { (a : ℕ) → a < length self.old.accounts → sums_at self.new.accounts a ≡ after_entry a entry.now (sums_at self.old.accounts a) }
-        ensures small { (a : ℕ) → (credit_of a entry.now ≤ 2 ^ 66) × (debit_of a entry.now ≤ 2 ^ 66) }
+        ensures all_sums { (a : ℕ) → a < length self.old.accounts
+            → sums_at self.new.accounts a ≡ after_entry a entry.now (sums_at self.old.accounts a) }
+        ensures small { (a : ℕ) → (credit_of a entry.now ≤ 2 ^ 66)
+            × (debit_of a entry.now ≤ 2 ^ 66) }
         ensures upto { self.new.upto ≡ self.old.upto }
     {
         self.add_amounts(entry);
@@ -167,8 +194,11 @@ impl Totals {
         requires sums { HasSums self.old.accounts entry.now }
         requires amounts { FitsMore self.old.accounts }
         ensures sized { length self.new.accounts ≡ length self.old.accounts }
-        ensures all_sums { (a : ℕ) → a < length self.old.accounts → sums_at self.new.accounts a ≡ with_amounts (credit_of a entry.now) (debit_of a entry.now) (sums_at self.old.accounts a) }
-        ensures small { (a : ℕ) → (credit_of a entry.now ≤ 2 ^ 66) × (debit_of a entry.now ≤ 2 ^ 66) }
+        ensures all_sums { (a : ℕ) → a < length self.old.accounts
+            → sums_at self.new.accounts a ≡ with_amounts (credit_of a entry.now)
+            (debit_of a entry.now) (sums_at self.old.accounts a) }
+        ensures small { (a : ℕ) → (credit_of a entry.now ≤ 2 ^ 66)
+            × (debit_of a entry.now ≤ 2 ^ 66) }
         ensures upto { self.new.upto ≡ self.old.upto }
     {
         match entry {
@@ -191,7 +221,9 @@ impl Totals {
         requires sums { HasSums self.old.accounts entry.now }
         requires rounds { FitsRound self.old.accounts entry.now }
         ensures sized { length self.new.accounts ≡ length self.old.accounts }
-        ensures all_sums { (a : ℕ) → a < length self.old.accounts → sums_at self.new.accounts a ≡ with_decided_round a entry.now (sums_at self.old.accounts a) }
+        ensures all_sums { (a : ℕ) → a < length self.old.accounts
+            → sums_at self.new.accounts a ≡ with_decided_round a entry.now
+            (sums_at self.old.accounts a) }
         ensures upto { self.new.upto ≡ self.old.upto }
     {
         match entry {
@@ -214,7 +246,9 @@ impl Totals {
         requires targets { AreTargetsOn (length self.old.accounts) targets.now }
         requires amounts { FitsMore self.old.accounts }
         ensures sized { length self.new.accounts ≡ length self.old.accounts }
-        ensures all_sums { (a : ℕ) → a < length self.old.accounts → sums_at self.new.accounts a ≡ with_amounts (amount_for a targets.now) (if from == a then amount_of targets.now else 0) (sums_at self.old.accounts a) }
+        ensures all_sums { (a : ℕ) → a < length self.old.accounts
+            → sums_at self.new.accounts a ≡ with_amounts (amount_for a targets.now)
+            (if from == a then amount_of targets.now else 0) (sums_at self.old.accounts a) }
         ensures small { amount_of targets.now ≤ 2 ^ 66 }
         ensures upto { self.new.upto ≡ self.old.upto }
     {
@@ -225,9 +259,12 @@ impl Totals {
     /// Adds each amount to its target.
     fn credit(&mut self, targets: &Targets)
         requires targets { AreTargetsOn (length self.old.accounts) targets.now }
-        requires amounts { (a : ℕ) → a < length self.old.accounts → (sums_at self.old.accounts a).credits + 2 ^ 66 ≤ 2 ^ 128 }
+        requires amounts { (a : ℕ) → a < length self.old.accounts
+            → (sums_at self.old.accounts a).credits + 2 ^ 66 ≤ 2 ^ 128 }
         ensures sized { length self.new.accounts ≡ length self.old.accounts }
-        ensures all_sums { (a : ℕ) → a < length self.old.accounts → sums_at self.new.accounts a ≡ with_credit (sums_at self.old.accounts a) (amount_for a targets.now) }
+        ensures all_sums { (a : ℕ) → a < length self.old.accounts
+            → sums_at self.new.accounts a ≡ with_credit (sums_at self.old.accounts a)
+            (amount_for a targets.now) }
         ensures upto { self.new.upto ≡ self.old.upto }
     {
         for i in 0..targets.len() {

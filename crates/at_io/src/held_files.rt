@@ -18,7 +18,10 @@ impl Model for HeldFiles {
     ghost Value = { Held };
 
     ghost view = { λ h.
-        record { files = map named_file h.files.items; rest = unread h.files.items h.chosen h.at } };
+        record {
+          files = map named_file h.files.items;
+          rest = unread h.files.items h.chosen h.at;
+        } };
 }
 
 impl HeldFiles {

@@ -16,7 +16,7 @@ use Rattle.at_log.specs.ClosingTerms.{ClosingTerms, log_lengths, log_of, log_pub
 use Rattle.at_log.specs.Coherent.{AreChained}
 use Rattle.at_log.specs.HeldFronts.{held_fronts}
 use Rattle.at_log.specs.JournalOrder.{journal_order, numbers_at, publication_key, published_at}
-use Rattle.at_journal.specs.Order.{AreNested, AreRecords, AreWithin, published_in, records_between, records_of}
+use Rattle.at_journal.specs.Order.{AreNested, AreRecords, AreWithin, published_in, records_between, records_of_process}
 use Rattle.at_journal.specs.declared.order.Numbered.{Numbered}
 use Rattle.at_journal.proofs.KeyRuns.{flat_map-none}
 use Rattle.at_journal.proofs.LineKeys.{filter-key, reach, reach-above, reach-below, reach-is, reach-le}
@@ -75,16 +75,16 @@ listed-all c p =
     (λ i beyond within. absurd (omega (arith, beyond, within)))
 
 -- one record more
-pub records_of-more : (p from number : ℕ) → from ≤ number → records_of p from (number + 1) ≡ records_of p from number ++ record { process = p; number = number } ∷ []
-records_of-more p from number before =
+pub records_of_process-more : (p from number : ℕ) → from ≤ number → records_of_process p from (number + 1) ≡ records_of_process p from number ++ record { process = p; number = number } ∷ []
+records_of_process-more p from number before =
     let one : ℕ → Numbered = λ i. record { process = p; number = i } in
     let more : number + 1 - from ≡ (number - from) + 1 = omega (arith, before) in
     ap (λ n. map one (range_with_len from n)) more ∙ map-range_with_len_more one from (number - from) number (omega (arith, before))
 
 -- the publications that records of a process name
-published_in-records_of : (c : ClosingTerms) (p from to : ℕ)
-    → map (λ (x : Numbered). publication_at (log_published c x.process) x.number) (records_of p from to) ≡ map (publication_at (log_published c p)) (range_with_len from (to - from))
-published_in-records_of c p from to = numbers (range_with_len from (to - from))
+published_in-records_of_process : (c : ClosingTerms) (p from to : ℕ)
+    → map (λ (x : Numbered). publication_at (log_published c x.process) x.number) (records_of_process p from to) ≡ map (publication_at (log_published c p)) (range_with_len from (to - from))
+published_in-records_of_process c p from to = numbers (range_with_len from (to - from))
   where
     numbers : (ks : List ℕ) → map (λ (x : Numbered). publication_at (log_published c x.process) x.number) (map (λ i. record { process = p; number = i }) ks)
         ≡ map (publication_at (log_published c p)) ks
@@ -97,11 +97,11 @@ published_in-records_between : (c : ClosingTerms) (k : ℕ) (from to : ℕ → �
 published_in-records_between c k from to first next =
     let n = length c.logs in
     let named : Numbered → Publication = λ x. publication_at (log_published c x.process) x.number in
-    sym (flat_map-values named (λ p. records_of p (from p) (to p)) (range_with_len 0 n))
-    ∙ flat_map-same (λ p. map named (records_of p (from p) (to p))) (λ p. map (publication_at (log_published c p)) (numbers_at c k p)) 0 n
+    sym (flat_map-values named (λ p. records_of_process p (from p) (to p)) (range_with_len 0 n))
+    ∙ flat_map-same (λ p. map named (records_of_process p (from p) (to p))) (λ p. map (publication_at (log_published c p)) (numbers_at c k p)) 0 n
     (λ p low high.
     let known : p < n = omega (arith, high) in
-    published_in-records_of c p (from p) (to p)
+    published_in-records_of_process c p (from p) (to p)
     ∙ ((λ t. map (publication_at (log_published c p)) (range_with_len (first p known t) (next p known t - first p known t)))
     ∙ ap (map (publication_at (log_published c p))) (sym (numbers_at-range c k p))))
 
@@ -111,7 +111,7 @@ AreRecords-records_between : (c : ClosingTerms) (from to : ℕ → ℕ) → ((p 
 AreRecords-records_between c from to within =
     let n = length c.logs in
     let IsRecord : Numbered → Type 0 = λ x. (x.process < n) × (x.number < length (log_of c x.process)) in
-    All-flat_map IsRecord (λ p. records_of p (from p) (to p)) (range_with_len 0 n) (λ j d inside.
+    All-flat_map IsRecord (λ p. records_of_process p (from p) (to p)) (range_with_len 0 n) (λ j d inside.
     let p = get_or (range_with_len 0 n) j d in
     let known : p < n = omega (arith, inside, length-range_with_len 0 n, get_or-range_with_len 0 n j d (omega (arith, inside, length-range_with_len 0 n))) in
     λ i e there.

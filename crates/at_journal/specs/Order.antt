@@ -25,12 +25,12 @@ abbrev pub no_number : Numbered
 no_number = record { process = 0; number = 0 }
 
 -- the records of a process from one number up to another
-abbrev pub records_of : ℕ → ℕ → ℕ → List Numbered
-records_of process from to = map (λ i. record { process = process; number = i }) (range_with_len from (to - from))
+abbrev pub records_of_process : ℕ → ℕ → ℕ → List Numbered
+records_of_process process from to = map (λ i. record { process = process; number = i }) (range_with_len from (to - from))
 
 -- those of so many processes, one process after another
 abbrev pub records_between : ℕ → (ℕ → ℕ) → (ℕ → ℕ) → List Numbered
-records_between n from to = flat_map (λ p. records_of p (from p) (to p)) (range_with_len 0 n)
+records_between n from to = flat_map (λ p. records_of_process p (from p) (to p)) (range_with_len 0 n)
 
 -- the publications that these numbers name
 abbrev pub published_in : ClosingTerms → List Numbered → List Publication

@@ -37,16 +37,16 @@ little_room = record {
 }
 
 -- an own record
-abbrev pub own_record : ℕ → List TargetPair → List ℕ → Record
-own_record from targets view = record { entry = Entry.Own from targets; view = view }
+abbrev pub small_own_record : ℕ → List TargetPair → List ℕ → Record
+small_own_record from targets view = record { entry = Entry.Own from targets; view = view }
 
 -- the decision of the first request of the process at this slot
 abbrev pub decision_of_first : Bool → ℕ → ℕ → Decision
 decision_of_first ok slot at = record { ok = ok; slot = slot; number = 0; place = at }
 
 -- a record of a round of account 0 whose request moves 60 to account 1
-abbrev pub round_record : ℕ → Decision → List ℕ → Record
-round_record at decision view = record { entry = Entry.Round 0 at decision ((1, 60) ∷ []); view = view }
+abbrev pub small_round_record : ℕ → Decision → List ℕ → Record
+small_round_record at decision view = record { entry = Entry.Round 0 at decision ((1, 60) ∷ []); view = view }
 
 -- a receipt
 abbrev pub receipt : Call → Reply → At → Receipt
@@ -66,15 +66,15 @@ refused_first = record {
 -- process 1 pays, and process 0 pays it back
 abbrev pub paid_back : ClosingTerms
 paid_back = record {
-  logs = (own_record 0 ((1, 10) ∷ []) (0 ∷ 1 ∷ []) ∷ []) ∷ (own_record 1 ((0, 10) ∷ []) (0 ∷ 0 ∷ []) ∷ []) ∷ [];
+  logs = (small_own_record 0 ((1, 10) ∷ []) (0 ∷ 1 ∷ []) ∷ []) ∷ (small_own_record 1 ((0, 10) ∷ []) (0 ∷ 0 ∷ []) ∷ []) ∷ [];
   receipts = (receipt (Transfer 0 1 10) Done (Own 0) ∷ []) ∷ (receipt (Transfer 1 0 10) Done (Own 0) ∷ []) ∷ [];
 }
 
 -- process 0 is short, process 1 pays twice, and process 0 pays all back
 abbrev pub paid_twice : ClosingTerms
 paid_twice = record {
-  logs = (own_record 0 ((1, 7) ∷ []) (0 ∷ 2 ∷ []) ∷ [])
-      ∷ (own_record 1 ((0, 4) ∷ []) (0 ∷ 0 ∷ []) ∷ own_record 1 ((0, 3) ∷ []) (0 ∷ 1 ∷ []) ∷ [])
+  logs = (small_own_record 0 ((1, 7) ∷ []) (0 ∷ 2 ∷ []) ∷ [])
+      ∷ (small_own_record 1 ((0, 4) ∷ []) (0 ∷ 0 ∷ []) ∷ small_own_record 1 ((0, 3) ∷ []) (0 ∷ 1 ∷ []) ∷ [])
       ∷ [];
   receipts = (receipt (Transfer 0 1 1) Short (Front (0 ∷ 0 ∷ [])) ∷ receipt (Transfer 0 1 7) Done (Own 0) ∷ [])
       ∷ (receipt (Transfer 1 0 4) Done (Own 0) ∷ receipt (Transfer 1 0 3) Done (Own 1) ∷ receipt (Transfer 1 0 11) Short (Front (1 ∷ 2 ∷ [])) ∷ [])
@@ -84,7 +84,7 @@ paid_twice = record {
 -- both processes ask for 60, and the second request is short
 abbrev pub agreed : ClosingTerms
 agreed = record {
-  logs = (round_record 0 (decision_of_first true 0 0) (0 ∷ 0 ∷ []) ∷ []) ∷ (round_record 1 (decision_of_first false 1 1) (1 ∷ 0 ∷ []) ∷ []) ∷ [];
+  logs = (small_round_record 0 (decision_of_first true 0 0) (0 ∷ 0 ∷ []) ∷ []) ∷ (small_round_record 1 (decision_of_first false 1 1) (1 ∷ 0 ∷ []) ∷ []) ∷ [];
   receipts = (receipt (Transfer 0 1 60) Done (Round 0 0) ∷ receipt (Read 0) (Balance 40) (Front (1 ∷ 1 ∷ [])) ∷ [])
       ∷ (receipt (Transfer 0 1 60) Short (Round 1 1) ∷ receipt (Read 0) (Balance 40) (Front (1 ∷ 1 ∷ [])) ∷ [])
       ∷ [];
@@ -93,8 +93,8 @@ agreed = record {
 -- the same, where process 1 has published the first round too
 abbrev pub helped : ClosingTerms
 helped = record {
-  logs = (round_record 0 (decision_of_first true 0 0) (0 ∷ 0 ∷ []) ∷ [])
-      ∷ (round_record 0 (decision_of_first true 0 0) (0 ∷ 0 ∷ []) ∷ round_record 1 (decision_of_first false 1 2) (1 ∷ 1 ∷ []) ∷ [])
+  logs = (small_round_record 0 (decision_of_first true 0 0) (0 ∷ 0 ∷ []) ∷ [])
+      ∷ (small_round_record 0 (decision_of_first true 0 0) (0 ∷ 0 ∷ []) ∷ small_round_record 1 (decision_of_first false 1 2) (1 ∷ 1 ∷ []) ∷ [])
       ∷ [];
   receipts = (receipt (Transfer 0 1 60) Done (Round 0 0) ∷ receipt (Read 0) (Balance 40) (Front (1 ∷ 1 ∷ [])) ∷ [])
       ∷ (receipt (Transfer 0 1 60) Short (Round 1 2) ∷ receipt (Read 1) (Balance 60) (Front (1 ∷ 2 ∷ [])) ∷ [])
@@ -104,7 +104,7 @@ helped = record {
 -- two processes pay at once; one has no room then, and the other wasn't the owner before
 abbrev pub paid_at_once : ClosingTerms
 paid_at_once = record {
-  logs = (own_record 0 ((2, 3) ∷ (1, 2) ∷ []) (0 ∷ 0 ∷ 0 ∷ []) ∷ []) ∷ (own_record 1 ((2, 5) ∷ []) (0 ∷ 0 ∷ 0 ∷ []) ∷ []) ∷ [] ∷ [];
+  logs = (small_own_record 0 ((2, 3) ∷ (1, 2) ∷ []) (0 ∷ 0 ∷ 0 ∷ []) ∷ []) ∷ (small_own_record 1 ((2, 5) ∷ []) (0 ∷ 0 ∷ 0 ∷ []) ∷ []) ∷ [] ∷ [];
   receipts = (receipt (Pay 0 ((2, 3) ∷ (1, 2) ∷ [])) Done (Own 0) ∷ receipt (Transfer 0 2 1) Full Previous ∷ [])
       ∷ (receipt (Transfer 0 1 1) NotOwner Previous ∷ receipt (Transfer 1 2 5) Done (Own 0) ∷ [])
       ∷ (receipt (Read 2) (Balance 0) (Front (0 ∷ 0 ∷ 0 ∷ [])) ∷ receipt (Read 2) (Balance 8) (Front (1 ∷ 1 ∷ 0 ∷ [])) ∷ [])

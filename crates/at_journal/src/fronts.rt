@@ -35,7 +35,8 @@ pub(crate) fn place_of(counts: &Counts) -> u64
 /// Adds a front with its place.
 fn push_front<'c>(fronts: &mut Vec<HeldFront<'c>>, counts: &'c Counts) -> Result<(), NoMemory>
     requires placed { ArePlaced fronts.old.items }
-    ensures pushed { OnOk result (counts_in fronts.new.items ≡ counts_in fronts.old.items ++ counts.now ∷ []) }
+    ensures pushed { OnOk result (counts_in fronts.new.items
+        ≡ counts_in fronts.old.items ++ counts.now ∷ []) }
     ensures placed { ArePlaced fronts.new.items }
 {
     fronts.push(HeldFront {
@@ -48,7 +49,8 @@ fn push_front<'c>(fronts: &mut Vec<HeldFront<'c>>, counts: &'c Counts) -> Result
 /// Adds the views of a log.
 fn push_views<'c>(fronts: &mut Vec<HeldFront<'c>>, log: &'c [Record]) -> Result<(), NoMemory>
     requires placed { ArePlaced fronts.old.items }
-    ensures pushed { OnOk result (counts_in fronts.new.items ≡ counts_in fronts.old.items ++ map (λ x. x.view) log.now) }
+    ensures pushed { OnOk result (counts_in fronts.new.items
+        ≡ counts_in fronts.old.items ++ map (λ x. x.view) log.now) }
     ensures placed { ArePlaced fronts.new.items }
 {
     for record in log {
@@ -60,7 +62,8 @@ fn push_views<'c>(fronts: &mut Vec<HeldFront<'c>>, log: &'c [Record]) -> Result<
 /// Adds the front at which a receipt stands, if it stands at one.
 fn push_front_at<'c>(fronts: &mut Vec<HeldFront<'c>>, at: &'c At) -> Result<(), NoMemory>
     requires placed { ArePlaced fronts.old.items }
-    ensures pushed { OnOk result (counts_in fronts.new.items ≡ counts_in fronts.old.items ++ cons_option (front_at at.now) []) }
+    ensures pushed { OnOk result (counts_in fronts.new.items
+        ≡ counts_in fronts.old.items ++ cons_option (front_at at.now) []) }
     ensures placed { ArePlaced fronts.new.items }
 {
     match at {
@@ -72,7 +75,8 @@ fn push_front_at<'c>(fronts: &mut Vec<HeldFront<'c>>, at: &'c At) -> Result<(), 
 /// Adds the fronts at which receipts stand.
 fn push_fronts<'c>(fronts: &mut Vec<HeldFront<'c>>, receipts: &'c [Receipt]) -> Result<(), NoMemory>
     requires placed { ArePlaced fronts.old.items }
-    ensures pushed { OnOk result (counts_in fronts.new.items ≡ counts_in fronts.old.items ++ filter_map (λ r. front_at r.at) receipts.now) }
+    ensures pushed { OnOk result (counts_in fronts.new.items
+        ≡ counts_in fronts.old.items ++ filter_map (λ r. front_at r.at) receipts.now) }
     ensures placed { ArePlaced fronts.new.items }
 {
     for receipt in receipts {
@@ -84,7 +88,8 @@ fn push_fronts<'c>(fronts: &mut Vec<HeldFront<'c>>, receipts: &'c [Receipt]) -> 
 /// Adds the views of all logs.
 fn push_all_views<'c>(fronts: &mut Vec<HeldFront<'c>>, closing: &'c Closing) -> Result<(), NoMemory>
     requires placed { ArePlaced fronts.old.items }
-    ensures pushed { OnOk result (counts_in fronts.new.items ≡ counts_in fronts.old.items ++ flat_map (λ log. map (λ x. x.view) log) closing.now.logs) }
+    ensures pushed { OnOk result (counts_in fronts.new.items
+        ≡ counts_in fronts.old.items ++ flat_map (λ log. map (λ x. x.view) log) closing.now.logs) }
     ensures placed { ArePlaced fronts.new.items }
 {
     for p in 0..closing.processes() {
@@ -99,7 +104,9 @@ fn push_all_fronts<'c>(
     closing: &'c Closing,
 ) -> Result<(), NoMemory>
     requires placed { ArePlaced fronts.old.items }
-    ensures pushed { OnOk result (counts_in fronts.new.items ≡ counts_in fronts.old.items ++ flat_map (λ receipts. filter_map (λ r. front_at r.at) receipts) closing.now.receipts) }
+    ensures pushed { OnOk result (counts_in fronts.new.items
+        ≡ counts_in fronts.old.items ++ flat_map
+        (λ receipts. filter_map (λ r. front_at r.at) receipts) closing.now.receipts) }
     ensures placed { ArePlaced fronts.new.items }
 {
     for p in 0..closing.processes() {
@@ -115,7 +122,8 @@ fn by_place<'c>(
     total: u64,
 ) -> Result<Vec<Option<&'c Counts>>, NoMemory>
     requires { ArePlaced held.now }
-    ensures { IfOk result (λ fronts. AreByPlace total (counts_in held.now) (map option_copied fronts.items)) }
+    ensures { IfOk result (λ fronts. AreByPlace total (counts_in held.now)
+        (map option_copied fronts.items)) }
 {
     let mut fronts = Vec::new(alloc);
     fronts.resize(total as usize, None)?;

@@ -3,7 +3,7 @@
 
 ghost use Rattle.std.specs.Prelude.{◌≡◌, ◌<◌, ◌^◌, [], ◌∷◌, map, length, All, IfOk};
 ghost use Rattle.at_log.specs.Coherent.{Coherent};
-ghost use Rattle.at_journal.specs.SmallClosings.{account, agreed, decision_of_first, helped, little_room, no_calls, one_shared, own_record, paid_at_once, paid_back, paid_twice, receipt, refused_first, round_record, two_singles};
+ghost use Rattle.at_journal.specs.SmallClosings.{account, agreed, decision_of_first, helped, little_room, no_calls, one_shared, paid_at_once, paid_back, paid_twice, receipt, refused_first, small_own_record, small_round_record, two_singles};
 
 use crate::slow_order::is_order;
 use crate::{NoMemory, journal};
@@ -90,7 +90,7 @@ fn counts_of_three(first: u32, second: u32) -> Counts
 
 /// An own record.
 fn own_record(from: u32, targets: Targets, view: Counts) -> Record
-    ensures { result ≡ own_record from targets view }
+    ensures { result ≡ small_own_record from targets view }
 {
     Record {
         entry: Entry::Own { from, targets },
@@ -100,7 +100,7 @@ fn own_record(from: u32, targets: Targets, view: Counts) -> Record
 
 /// A record of a round of account 0, in which a process asks for 60 for the first time.
 fn round_record(round: u32, ok: bool, slot: u32, place: u32, view: Counts) -> Record
-    ensures { result ≡ round_record round (decision_of_first ok slot place) view }
+    ensures { result ≡ small_round_record round (decision_of_first ok slot place) view }
 {
     Record {
         entry: Entry::Round {
@@ -147,7 +147,10 @@ fn closing_of_two(
     calls: Vec<Receipt>,
     others: Vec<Receipt>,
 ) -> Result<Closing, NoMemory>
-    ensures { IfOk result (λ c. c ≡ record { logs = first.items ∷ second.items ∷ []; receipts = calls.items ∷ others.items ∷ [] }) }
+    ensures { IfOk result (λ c. c ≡ record {
+      logs = first.items ∷ second.items ∷ [];
+      receipts = calls.items ∷ others.items ∷ [];
+    }) }
 {
     let logs = vec![in alloc; first, second]?;
     let receipts = vec![in alloc; calls, others]?;

@@ -45,7 +45,9 @@ pub fn journal(alloc: Global, book: &Book, closing: &Closing) -> Result<Vec<Line
     ensures lines { IfOk result (λ lines. lines.items ≡ journal_lines closing.now) }
     ensures whole { IfOk result (λ lines. Whole (calls_in closing.now) lines.items) }
     ensures legal { IfOk result (λ lines. Legal book.now lines.items) }
-    ensures balances { IfOk result (λ lines. (a : ℕ) → a < length book.now.accounts → balance_of (last_state book.now lines.items) a ≡ balance_after book.now (journal_order closing.now) a) }
+    ensures balances { IfOk result (λ lines. (a : ℕ) → a < length book.now.accounts
+        → balance_of (last_state book.now lines.items) a
+        ≡ balance_after book.now (journal_order closing.now) a) }
 {
     let fronts = held_fronts(alloc, closing, total_of(closing))?;
     let order = order_of(alloc, closing, fronts.as_slice())?;

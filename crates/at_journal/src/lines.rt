@@ -41,7 +41,8 @@ fn is_success(reply: &Reply) -> bool
 fn first_of_round(starts: &[Vec<u64>], account: u32, round: u32) -> u64
     requires account_in { account < length starts.now }
     requires round_in { round < length (slice_index_or (map (λ v. v.items) starts.now) account []) }
-    ensures { result ≡ slice_index (slice_index_or (map (λ v. v.items) starts.now) account []) round }
+    ensures { result ≡ slice_index (slice_index_or (map (λ v. v.items) starts.now) account [])
+        round }
 {
     starts[account as usize][round as usize]
 }
@@ -57,9 +58,11 @@ fn key_of(
 ) -> u64
     requires known { p < length closing.now.receipts }
     requires within { i < length (receipts_of closing.now p) }
-    requires starts { HasStarts p (journal_order closing.now) own.now (map (λ v. v.items) starts.now) (receipt_at (receipts_of closing.now p) i) }
+    requires starts { HasStarts p (journal_order closing.now) own.now
+        (map (λ v. v.items) starts.now) (receipt_at (receipts_of closing.now p) i) }
     requires small { length (journal_order closing.now) ≤ 2 ^ 36 }
-    ensures { result ≡ key_of p (journal_order closing.now) previous (receipt_at (receipts_of closing.now p) i) }
+    ensures { result ≡ key_of p (journal_order closing.now) previous
+        (receipt_at (receipts_of closing.now p) i) }
 {
     let receipt = &closing.receipts(p)[i];
     match &receipt.at {
@@ -85,9 +88,12 @@ fn process_keys(
     starts: &[Vec<u64>],
 ) -> Result<Vec<u64>, NoMemory>
     requires known { p < length closing.now.receipts }
-    requires starts { (i : ℕ) → i < length (receipts_of closing.now p) → HasStarts p (journal_order closing.now) own.now (map (λ v. v.items) starts.now) (receipt_at (receipts_of closing.now p) i) }
+    requires starts { (i : ℕ) → i < length (receipts_of closing.now p)
+        → HasStarts p (journal_order closing.now) own.now (map (λ v. v.items) starts.now)
+        (receipt_at (receipts_of closing.now p) i) }
     requires small { length (journal_order closing.now) ≤ 2 ^ 36 }
-    ensures { IfOk result (λ keys. keys.items ≡ keys_of p (journal_order closing.now) (receipts_of closing.now p)) }
+    ensures { IfOk result (λ keys. keys.items ≡ keys_of p (journal_order closing.now)
+        (receipts_of closing.now p)) }
 {
     let count = closing.receipts(p).len();
     let mut keys = Vec::with_capacity(alloc, count)?;
@@ -110,9 +116,12 @@ pub(crate) fn line_keys(
     requires coherent { Coherent book.now closing.now }
     requires order { published_in closing.now order.now ≡ journal_order closing.now }
     requires records { AreRecords closing.now order.now }
-    requires starts { HasRoundPositions (length book.now.accounts) (journal_order closing.now) (journal_order closing.now) (map (λ v. v.items) starts.now) }
+    requires starts { HasRoundPositions (length book.now.accounts) (journal_order closing.now)
+        (journal_order closing.now) (map (λ v. v.items) starts.now) }
     requires small { length (journal_order closing.now) ≤ 2 ^ 36 }
-    ensures keys { IfOk result (λ keys. map (λ v. v.items) keys.items ≡ map (λ p. keys_of p (journal_order closing.now) (receipts_of closing.now p)) (range_with_len 0 (length closing.now.receipts))) }
+    ensures keys { IfOk result (λ keys. map (λ v. v.items) keys.items
+        ≡ map (λ p. keys_of p (journal_order closing.now) (receipts_of closing.now p))
+        (range_with_len 0 (length closing.now.receipts))) }
     ensures few { IfOk result (λ keys. length keys.items < 2 ^ 32) }
 {
     let mut keys = Vec::new(alloc);
@@ -128,7 +137,8 @@ fn line(closing: &Closing, one: &Keyed) -> Line
     requires known { one.now.process < length closing.now.receipts }
     requires within { one.now.number < length (receipts_of closing.now one.now.process) }
     requires few { length (receipts_of closing.now one.now.process) < 2 ^ 32 }
-    ensures { result ≡ line_of one.now.process one.now.number (receipt_at (receipts_of closing.now one.now.process) one.now.number) }
+    ensures { result ≡ line_of one.now.process one.now.number
+        (receipt_at (receipts_of closing.now one.now.process) one.now.number) }
 {
     let receipt = &closing.receipts(one.process)[one.number];
     Line {
@@ -147,7 +157,9 @@ pub(crate) fn lines(
 ) -> Result<Vec<Line>, NoMemory>
     requires receipts { AreReceipts closing.now calls.now }
     requires few { All (λ receipts. length receipts < 2 ^ 32) closing.now.receipts }
-    ensures { IfOk result (λ lines. lines.items ≡ map (λ x. line_of x.process x.number (receipt_at (receipts_of closing.now x.process) x.number)) calls.now) }
+    ensures { IfOk result (λ lines. lines.items
+        ≡ map (λ x. line_of x.process x.number
+        (receipt_at (receipts_of closing.now x.process) x.number)) calls.now) }
 {
     let mut lines = Vec::with_capacity(alloc, calls.len())?;
     for one in calls {

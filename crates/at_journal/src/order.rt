@@ -5,7 +5,7 @@ ghost use Rattle.std.specs.Option.{option_copied};
 ghost use Rattle.at_log.specs.ClosingTerms.{log_lengths, log_of};
 ghost use Rattle.at_log.specs.JournalOrder.{journal_order};
 ghost use Rattle.at_journal.specs.Held.{AreHeld};
-ghost use Rattle.at_journal.specs.Order.{AreNested, AreNumbered, AreRecords, AreWithin, published_in, records_between, records_of};
+ghost use Rattle.at_journal.specs.Order.{AreNested, AreNumbered, AreRecords, AreWithin, published_in, records_between, records_of_process};
 
 use crate::NoMemory;
 use at_base::Counts;
@@ -55,7 +55,8 @@ fn push_records(
     from: usize,
     to: usize,
 ) -> Result<(), NoMemory>
-    ensures { OnOk result (order.new.items ≡ order.old.items ++ records_of process from to) }
+    ensures { OnOk result (order.new.items ≡ order.old.items
+        ++ records_of_process process from to) }
 {
     for number in from..to {
         order.push(Numbered { process, number })?;
@@ -66,7 +67,8 @@ fn push_records(
 /// Adds the records that a front counts and that an earlier one doesn't.
 fn push_next(order: &mut Vec<Numbered>, listed: &Counts, front: &Counts) -> Result<(), NoMemory>
     requires { length listed.now ≡ length front.now }
-    ensures { OnOk result (order.new.items ≡ order.old.items ++ records_between (length front.now) (slice_index listed.now) (slice_index front.now)) }
+    ensures { OnOk result (order.new.items ≡ order.old.items
+        ++ records_between (length front.now) (slice_index listed.now) (slice_index front.now)) }
 {
     for p in 0..front.len() {
         push_records(order, p, listed.get(p) as usize, front.get(p) as usize)?;
@@ -77,7 +79,9 @@ fn push_next(order: &mut Vec<Numbered>, listed: &Counts, front: &Counts) -> Resu
 /// Adds the records that a front doesn't count.
 fn push_last(order: &mut Vec<Numbered>, listed: &Counts, closing: &Closing) -> Result<(), NoMemory>
     requires { length listed.now ≡ length closing.now.logs }
-    ensures { OnOk result (order.new.items ≡ order.old.items ++ records_between (length closing.now.logs) (slice_index listed.now) (λ p. length (log_of closing.now p))) }
+    ensures { OnOk result (order.new.items ≡ order.old.items
+        ++ records_between (length closing.now.logs) (slice_index listed.now)
+        (λ p. length (log_of closing.now p))) }
 {
     for p in 0..closing.processes() {
         push_records(order, p, listed.get(p) as usize, closing.log(p).len())?;
@@ -94,7 +98,8 @@ pub(crate) fn order_of(
     requires within { AreWithin closing.now }
     requires nested { AreNested closing.now }
     requires held { AreHeld closing.now (map option_copied fronts.now) }
-    ensures order { IfOk result (λ order. published_in closing.now order.items ≡ journal_order closing.now) }
+    ensures order { IfOk result (λ order. published_in closing.now order.items
+        ≡ journal_order closing.now) }
     ensures records { IfOk result (λ order. AreRecords closing.now order.items) }
 {
     let mut order = Vec::with_capacity(alloc, fronts.len())?;

@@ -33,7 +33,8 @@ pub(crate) fn own_positions(
 /// Notes where a record stands, if it is the first of the next round of its account.
 fn note_position(starts: &mut Vec<Vec<u64>>, entry: &Entry, position: u64) -> Result<(), NoMemory>
     requires { IsOnAccount (length starts.old.items) entry.now }
-    ensures { OnOk result (map (λ v. v.items) starts.new.items ≡ with_position position entry.now (map (λ v. v.items) starts.old.items)) }
+    ensures { OnOk result (map (λ v. v.items) starts.new.items
+        ≡ with_position position entry.now (map (λ v. v.items) starts.old.items)) }
 {
     match entry {
         Entry::Own { .. } => Ok(()),
@@ -68,7 +69,8 @@ pub(crate) fn round_positions(
     requires coherent { Coherent book.now closing.now }
     requires order { published_in closing.now order.now ≡ journal_order closing.now }
     requires records { AreRecords closing.now order.now }
-    ensures starts { IfOk result (λ starts. HasRoundPositions (length book.now.accounts) (journal_order closing.now) (journal_order closing.now) (map (λ v. v.items) starts.items)) }
+    ensures starts { IfOk result (λ starts. HasRoundPositions (length book.now.accounts)
+        (journal_order closing.now) (journal_order closing.now) (map (λ v. v.items) starts.items)) }
     ensures checked { IsBook book.now }
 {
     let mut starts = empty_lists(alloc, book.accounts())?;

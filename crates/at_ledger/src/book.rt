@@ -25,9 +25,19 @@ impl Model for Book {
 
     ghost Value = { BookTerms };
 
-    ghost view = { λ b. record { processes = b.processes; own_room = b.own_room; request_room = b.request_room; accounts = b.accounts.items } };
+    ghost view = { λ b. record {
+      processes = b.processes;
+      own_room = b.own_room;
+      request_room = b.request_room;
+      accounts = b.accounts.items;
+    } };
 
-    ghost invariant = { λ b. IsBook (record { processes = b.processes; own_room = b.own_room; request_room = b.request_room; accounts = b.accounts.items }) };
+    ghost invariant = { λ b. IsBook (record {
+      processes = b.processes;
+      own_room = b.own_room;
+      request_room = b.request_room;
+      accounts = b.accounts.items;
+    }) };
 }
 
 impl Book {

@@ -31,9 +31,19 @@ impl Model for BookBuilder {
 
     ghost Value = { BookTerms };
 
-    ghost view = { λ b. record { processes = b.processes; own_room = b.own_room; request_room = b.request_room; accounts = b.accounts.items } };
+    ghost view = { λ b. record {
+      processes = b.processes;
+      own_room = b.own_room;
+      request_room = b.request_room;
+      accounts = b.accounts.items;
+    } };
 
-    ghost invariant = { λ b. IsSummed (record { processes = b.processes; own_room = b.own_room; request_room = b.request_room; accounts = b.accounts.items }) b.sums.rounds b.sums.total };
+    ghost invariant = { λ b. IsSummed (record {
+      processes = b.processes;
+      own_room = b.own_room;
+      request_room = b.request_room;
+      accounts = b.accounts.items;
+    }) b.sums.rounds b.sums.total };
 }
 
 impl BookBuilder {

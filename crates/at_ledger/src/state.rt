@@ -25,9 +25,19 @@ impl Model for State {
 
     ghost Value = { LedgerState };
 
-    ghost view = { λ s. record { book = s.book; balances = s.balances.items; sent = s.sent.items; asked = s.asked.items } };
+    ghost view = { λ s. record {
+      book = s.book;
+      balances = s.balances.items;
+      sent = s.sent.items;
+      asked = s.asked.items;
+    } };
 
-    ghost invariant = { λ s. IsLedger (record { book = s.book; balances = s.balances.items; sent = s.sent.items; asked = s.asked.items }) };
+    ghost invariant = { λ s. IsLedger (record {
+      book = s.book;
+      balances = s.balances.items;
+      sent = s.sent.items;
+      asked = s.asked.items;
+    }) };
 }
 
 impl State {

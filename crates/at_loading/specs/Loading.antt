@@ -4,12 +4,12 @@ use Rattle.std.specs.Global.{Global}
 use Rattle.at_broadcast.specs.declared.message.Message.{Message}
 use Rattle.at_ledger.specs.Book.{BookTerms}
 use Rattle.at_ledger.specs.declared.call.Call.{Call}
-use Rattle.at_files.specs.Records.{records_of}
+use Rattle.at_files.specs.Records.{file_records}
 use Rattle.at_files.specs.Results.{and_then}
 use Rattle.at_files.specs.Names.{NameList}
 use Rattle.at_files.specs.BookRecords.{NamedBook}
 use Rattle.at_files.specs.BookFile.{book_of_records, Spells}
-use Rattle.at_files.specs.Messages.{Sends, messages_of}
+use Rattle.at_files.specs.Messages.{Sends, messages_spelled}
 use Rattle.at_files.specs.Payments.{payments_of, Pays}
 use Rattle.at_files.specs.ReplayPayments.{replay_payments_of, PaysReplay}
 use Rattle.at_files.specs.declared.book_fault.BadBook.{BadBook}
@@ -41,11 +41,11 @@ book_read (Err bad) = Err (status.BadBook bad)
 
 -- the book of file 0, with its names
 abbrev pub book_loaded : Files → Word → Result NamedBook Status
-book_loaded files name = and_then (fetched (files name) 0) (λ bytes. book_read (book_of_records (records_of bytes)))
+book_loaded files name = and_then (fetched (files name) 0) (λ bytes. book_read (book_of_records (file_records bytes)))
 
 -- a book beside its names
-abbrev pub named : BookTerms → NameList → NamedBook
-named b names = record { book = b; names = names }
+abbrev pub named_book : BookTerms → NameList → NamedBook
+named_book b names = record { book = b; names = names }
 
 -- what the bytes of a process's file give, or why they are refused
 abbrev pub Giving : Type 0 → Type 0
@@ -91,11 +91,11 @@ calls_read process (Ok calls) = Ok calls
 calls_read process (Err bad) = Err (status.BadPayments process bad)
 
 abbrev pub calls_given : NamedBook → Giving Call
-calls_given b process bytes = calls_read process (payments_of b.names (records_of bytes))
+calls_given b process bytes = calls_read process (payments_of b.names (file_records bytes))
 
 -- the same of a payment file for a replay, which makes fewer calls
 abbrev pub replay_calls_given : NamedBook → Giving Call
-replay_calls_given b process bytes = calls_read process (replay_payments_of b.names (records_of bytes))
+replay_calls_given b process bytes = calls_read process (replay_payments_of b.names (file_records bytes))
 
 -- a book with its names, and the calls of each process
 abbrev pub Loaded : Type 0
@@ -111,7 +111,7 @@ messages_read process (Ok messages) = Ok messages
 messages_read process (Err bad) = Err (status.BadMessages process bad.line bad.why)
 
 abbrev pub messages_given : NamedBook → Giving Message
-messages_given b process bytes = messages_read process (messages_of b.book (records_of bytes))
+messages_given b process bytes = messages_read process (messages_spelled b.book (file_records bytes))
 
 -- the files before that of this process are good
 pub record AreGoodBefore {T : Type 0} (given : Giving T) (files : Files) (words : List Word) (process : ℕ) : Type 0 where
@@ -154,7 +154,7 @@ pub record HoldsFile (files : Files) (name : Word) (bytes : List ℕ) : Type 0 w
 pub record SpellsBook (files : Files) (name : Word) (b : BookTerms) (names : NameList) : Type 0 where
   pub bytes : List ℕ
   pub held : HoldsFile files name bytes
-  pub spelled : Spells (records_of bytes) b names
+  pub spelled : Spells (file_records bytes) b names
 
 -- what bytes spell beside a book with its names
 abbrev pub Spelling : Type 0 → Type 1
@@ -162,15 +162,15 @@ Spelling T = NamedBook → List ℕ → List T → Type 0
 
 -- the calls of a payment file
 abbrev pub PaysBytes : Spelling Call
-PaysBytes b bytes calls = Pays b.book b.names (records_of bytes) calls
+PaysBytes b bytes calls = Pays b.book b.names (file_records bytes) calls
 
 -- the calls of a payment file for a replay
 abbrev pub PaysReplayBytes : Spelling Call
-PaysReplayBytes b bytes calls = PaysReplay b.book b.names (records_of bytes) calls
+PaysReplayBytes b bytes calls = PaysReplay b.book b.names (file_records bytes) calls
 
 -- the messages of a message file
 abbrev pub SendsBytes : Spelling Message
-SendsBytes b bytes messages = Sends b.book (records_of bytes) messages
+SendsBytes b bytes messages = Sends b.book (file_records bytes) messages
 
 -- the file of this name spells these
 pub record SpellsFile {T : Type 0} (spells : List ℕ → List T → Type 0) (files : Files) (name : Word) (items : List T) : Type 0 where
@@ -196,7 +196,7 @@ pub record SpellsFiles {T : Type 0} (spells : List ℕ → List T → Type 0) (f
 -- the book and these files spell what was loaded
 pub record SpelledOf {T : Type 0} (spells : Spelling T) (held : Files) (name : Word) (words : List Word) (l : LoadedOf T) : Type 0 where
   pub book : SpellsBook held name l.book l.names
-  pub files : SpellsFiles (spells (named l.book l.names)) held words l.book.processes l.files
+  pub files : SpellsFiles (spells (named_book l.book l.names)) held words l.book.processes l.files
 
 -- the files of these words spell what was loaded
 abbrev pub Spelled : Files → Form → Loaded → Type 0

@@ -4,7 +4,7 @@ ghost use Rattle.std.specs.Prelude.{◌≡◌, IfOk, IfErr, Ok};
 ghost use Rattle.at_files.specs.BookRecords.{NamedBook};
 ghost use Rattle.at_files.specs.Names.{AreNamesOf};
 ghost use Rattle.at_loading.specs.Faults.{Kind, RefusesFile};
-ghost use Rattle.at_loading.specs.Loading.{Giving, PaysBytes, PaysReplayBytes, SendsBytes, Spelling, calls_given, messages_given, named, replay_calls_given};
+ghost use Rattle.at_loading.specs.Loading.{Giving, PaysBytes, PaysReplayBytes, SendsBytes, Spelling, calls_given, messages_given, named_book, replay_calls_given};
 
 use at_broadcast::Message;
 use at_files::{
@@ -38,13 +38,13 @@ pub trait FileForm {
     ) -> Result<Vec<Self::Item>, Status>
         requires { AreNamesOf book.now names.now }
         ensures ok { IfOk result
-            (λ items. given (named book.now names.now) process bytes.now ≡ Ok
+            (λ items. given (named_book book.now names.now) process bytes.now ≡ Ok
             items.items) }
         ensures spelled { IfOk result
-            (λ items. spells (named book.now names.now) bytes.now items.items) }
+            (λ items. spells (named_book book.now names.now) bytes.now items.items) }
         ensures err { IfErr result
             (RefusesFile kind
-            (given (named book.now names.now) process bytes.now) process) };
+            (given (named_book book.now names.now) process bytes.now) process) };
 }
 
 /// The calls of a process.

@@ -8,7 +8,7 @@ ghost use Rattle.at_io.specs.Limits.{most_file_bytes};
 ghost use Rattle.at_loading.specs.Words.{words_of, form_shown};
 ghost use Rattle.at_loading.specs.Faults.{HasFileNumbers, IsUnfetched, Kind, MayRefuse, MayRefuseOf};
 ghost use Rattle.at_verify.specs.Right.{IsPlayable, files_in};
-ghost use Rattle.at_loading.specs.Loading.{EachSpells, HoldsFile, IsFileReached, IsSpelled, MayReach, MayReachOf, Spelled, SpelledOf, SpellsBook, SpellsFile, all_loaded, all_shown, book_loaded, contents_of, fetched, file_loaded, files_loaded, loaded, loaded_shown, named};
+ghost use Rattle.at_loading.specs.Loading.{EachSpells, HoldsFile, IsFileReached, IsSpelled, MayReach, MayReachOf, Spelled, SpelledOf, SpellsBook, SpellsFile, all_loaded, all_shown, book_loaded, contents_of, fetched, file_loaded, files_loaded, loaded, loaded_shown, named_book};
 
 use crate::file_forms::{FileForm, Payments};
 use crate::words::Form;
@@ -105,17 +105,17 @@ fn load_file<F: Shelf, P: FileForm>(
     ensures kept { OnOk result (F.faults shelf.new ≡ F.faults shelf.old) }
     ensures ok { F.tells shelf.old ≡ true
         → IfOk result
-        (λ items. file_loaded (P.given (named book.now names.now))
+        (λ items. file_loaded (P.given (named_book book.now names.now))
         (F.file shelf.old) process name.now ≡ Ok items.items) }
     ensures spelled { F.tells shelf.old ≡ true
         → IfOk result
-        (λ items. SpellsFile (P.spells (named book.now names.now))
+        (λ items. SpellsFile (P.spells (named_book book.now names.now))
         (F.file shelf.old) name.now items.items) }
     ensures known { IfOk result
-        (λ items. IsSpelled (P.spells (named book.now names.now)) items.items) }
+        (λ items. IsSpelled (P.spells (named_book book.now names.now)) items.items) }
     ensures err { IfErr result
         (λ refusal. MayRefuseOf P.kind (F.tells shelf.old)
-        (file_loaded (P.given (named book.now names.now)) (F.file shelf.old)
+        (file_loaded (P.given (named_book book.now names.now)) (F.file shelf.old)
         process name.now) (F.faults shelf.old) (F.faults shelf.new) refusal) }
     ensures file { (file : ℕ) → result ≡ Err (Status.ReadFault file) → file ≡ process + 1 }
     ensures numbered { (files : ℕ) → process < files → IfErr result (HasFileNumbers files) }
@@ -143,22 +143,22 @@ fn load_files<F: Shelf, P: FileForm>(
     ensures kept { OnOk result (F.faults shelf.new ≡ F.faults shelf.old) }
     ensures ok { F.tells shelf.old ≡ true
         → IfOk result
-        (λ files. files_loaded (P.given (named book.now names.now))
+        (λ files. files_loaded (P.given (named_book book.now names.now))
         (F.file shelf.old) 0 (words_of words.now) ≡ Ok (contents_of files.items)) }
     ensures count { IfOk result (λ files. length files.items ≡ length words.now) }
     ensures spelled { F.tells shelf.old ≡ true
         → IfOk result
-        (λ files. EachSpells (P.spells (named book.now names.now))
+        (λ files. EachSpells (P.spells (named_book book.now names.now))
         (F.file shelf.old) (words_of words.now) (contents_of files.items)) }
     ensures known { IfOk result
-        (λ files. All (IsSpelled (P.spells (named book.now names.now)))
+        (λ files. All (IsSpelled (P.spells (named_book book.now names.now)))
         (contents_of files.items)) }
     ensures err { IfErr result
         (λ refusal. MayRefuseOf P.kind (F.tells shelf.old)
-        (files_loaded (P.given (named book.now names.now)) (F.file shelf.old) 0
+        (files_loaded (P.given (named_book book.now names.now)) (F.file shelf.old) 0
         (words_of words.now)) (F.faults shelf.old) (F.faults shelf.new) refusal) }
     ensures file { (file : ℕ) → result ≡ Err (Status.ReadFault file)
-        → IsFileReached (P.given (named book.now names.now))
+        → IsFileReached (P.given (named_book book.now names.now))
         (F.tells shelf.old) (F.file shelf.old) (words_of words.now) file }
     ensures numbered { IfErr result (HasFileNumbers (length words.now)) }
 {
@@ -204,7 +204,7 @@ pub fn load_all<F: Shelf, P: FileForm>(
         (all_shown l)) }
     ensures names { IfOk result (λ l. AreNamesOf l.book l.names) }
     ensures known { IfOk result
-        (λ l. All (IsSpelled (P.spells (named l.book l.names)))
+        (λ l. All (IsSpelled (P.spells (named_book l.book l.names)))
         (contents_of l.files.items)) }
     ensures count { IfOk result (λ l. length l.files.items ≡ l.book.processes) }
     ensures given { IfOk result (λ l. length words.now ≡ l.book.processes) }

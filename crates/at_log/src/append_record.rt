@@ -16,7 +16,8 @@ use std::sync::ledger::Ledger;
 
 /// How many records the log of the seat's process still takes. It makes no step.
 pub fn room(board: &Board, seat: &BoardSeat) -> u32
-    ensures { result ≡ log_room_of board.now.book seat.now.knows.first - (own_part seat.now.knows).published }
+    ensures { result ≡ log_room_of board.now.book seat.now.knows.first
+        - (own_part seat.now.knows).published }
 {
     board
         .book()
@@ -34,8 +35,10 @@ pub fn append<L: Ledger, X: Ledger>(
 )
     requires board { IsOf seat.old board.now }
     requires record { MayAppend board.now.book seat.old.knows rec.now }
-    ensures published { Publishes board.now.book seat.old.knows seat.new.knows (published_by seat.old.knows.first rec.now) }
-    ensures last { IsLast seat.old.knows seat.new.knows (published_by seat.old.knows.first rec.now) }
+    ensures published { Publishes board.now.book seat.old.knows seat.new.knows
+        (published_by seat.old.knows.first rec.now) }
+    ensures last { IsLast seat.old.knows seat.new.knows
+        (published_by seat.old.knows.first rec.now) }
     ensures board { seat.new.board ≡ seat.old.board }
     ensures steps { steps.new ≡ steps.old + (RECORD_WORDS + board.now.book.processes + 1) }
     ensures exchanges { exchanges.new ≡ exchanges.old }

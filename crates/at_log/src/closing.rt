@@ -19,9 +19,13 @@ impl Model for Closing {
 
     ghost Value = { ClosingTerms };
 
-    ghost view = { λ c. record { logs = map (λ v. v.items) c.logs.items; receipts = map (λ v. v.items) c.receipts.items } };
+    ghost view = { λ c. record {
+      logs = map (λ v. v.items) c.logs.items;
+      receipts = map (λ v. v.items) c.receipts.items;
+    } };
 
-    ghost invariant = { λ c. (1 ≤ length c.logs.items) × (length c.logs.items ≤ 16) × (length c.receipts.items ≡ length c.logs.items) };
+    ghost invariant = { λ c. (1 ≤ length c.logs.items) × (length c.logs.items ≤ 16)
+        × (length c.receipts.items ≡ length c.logs.items) };
 }
 
 impl Closing {

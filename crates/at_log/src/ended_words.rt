@@ -22,7 +22,8 @@ pub fn ended_log(end: &BoardEnd, processes: u32, p: u32, log: &mut Vec<Record>)
     requires empty { log.old.items ≡ [] }
     requires room { length (records_of end.now p) ≤ vec_capacity log.old }
     requires published { (seats : List SeatTerms) × IsEnd end.now seats }
-    ensures { (seats : List SeatTerms) (ended : IsEnd end.now seats) → map (published_by p) log.new.items ≡ publications_of p ended.state.published }
+    ensures { (seats : List SeatTerms) (ended : IsEnd end.now seats)
+        → map (published_by p) log.new.items ≡ publications_of p ended.state.published }
 {
     for i in 0..end.length(p) {
         let entry = ended_entry(end, p, i);

@@ -14,12 +14,12 @@ use Rattle.at_rows.proofs.Laws.Accounts.{HasAccount, HasAccount-IsSeat, asking_o
 use Rattle.at_rows.proofs.Laws.Asking.{Announces-IsStoringRequest, HasAsked-Announces, HasLoadedNothing-Announces, IsStoringRequest-more, IsStoringRequest-start, MayAnnounce-IsStoringRequest, MayAskFor-slot, MayStoreRequest-IsStoringRequest}
 use Rattle.at_rows.proofs.Laws.Loading.{AreTargetsOn-AreTargets}
 use Rattle.at_rows.specs.Asks.{HasAsked, HasLoadedNothing, MayAskFor, asked_for, opened}
-use Rattle.at_rows.specs.Storing.{with_stored}
-use Rattle.at_machines.specs.Asking.{AskingTerms, asking_after, request_in, starting_asking}
+use Rattle.at_rows.specs.Storing.{with_request_stored}
+use Rattle.at_machines.specs.Asking.{AskingTerms, asking_after, request_asked, starting_to_ask}
 use Rattle.at_machines.specs.KeptAsking.{IsAskingSo}
 
 pub IsAskingSo-start : (v : Knowledge) (a : ℕ) (targets : List TargetPair) (since : ℕ) → IsKept v → (slot : ℕ) × MayAskFor v.book v a slot (asked_for targets since)
-    → IsAskingSo (starting_asking v a targets since)
+    → IsAskingSo (starting_to_ask v a targets since)
 IsAskingSo-start v a targets since kept may = record {
   seat = kept;
   book = refl;
@@ -37,11 +37,11 @@ AreTargetsOn-IsAskingSo a so = AreTargetsOn-AreTargets a.start.book a.targets so
 
 -- what stands before the board's book is put in place of the one at the start
 may_ask : (b : BookTerms) (a : AskingTerms) (slot : ℕ) → a.mark.book ≡ b → IsAskingSo a → HasSlot b a.start.first a.account slot
-    → MayAskFor b a.start a.account slot (request_in a)
+    → MayAskFor b a.start a.account slot (request_asked a)
 may_ask b a slot book so slot_in =
     let same : a.start.book ≡ b = sym so.book ∙ book in
-    MayAskFor-slot b a.start a.account so.may.0 slot (request_in a)
-    (subst (λ (t : BookTerms). MayAskFor t a.start a.account so.may.0 (request_in a)) same so.may.1) slot_in
+    MayAskFor-slot b a.start a.account so.may.0 slot (request_asked a)
+    (subst (λ (t : BookTerms). MayAskFor t a.start a.account so.may.0 (request_asked a)) same so.may.1) slot_in
 
 -- the account is one that the seat's process shares
 pub HasSlot-IsAskingSo : (b : BookTerms) (a : AskingTerms) → a.mark.book ≡ b → (so : IsAskingSo a) → HasSlot b a.start.first a.account so.may.0
@@ -51,16 +51,16 @@ HasSlot-IsAskingSo b a book so =
 pub MayStoreRequest-IsAskingSo : (b : BookTerms) (a : AskingTerms) → a.mark.book ≡ b → a.stored ≤ REQUEST_WORDS → (so : IsAskingSo a)
     → MayStoreRequest b a.mark a.account so.may.0
 MayStoreRequest-IsAskingSo b a book few so =
-    MayStoreRequest-IsStoringRequest b a.start a.mark a.account so.may.0 (request_words (request_in a)) a.stored (has_account a so) (so.so_far few)
+    MayStoreRequest-IsStoringRequest b a.start a.mark a.account so.may.0 (request_words (request_asked a)) a.stored (has_account a so) (so.so_far few)
     (may_ask b a so.may.0 book so (HasSlot-IsAskingSo b a book so)).asks
 
 pub IsAskingSo-word : (a : AskingTerms) (w : Knowledge) (n : ℕ) → a.stored < REQUEST_WORDS → IsAskingSo a
-    → n ≡ get_or (request_words (request_in a)) a.stored 0 → StoresRequestWord a.mark w a.account a.stored n → IsAskingSo (asking_after a w)
+    → n ≡ get_or (request_words (request_asked a)) a.stored 0 → StoresRequestWord a.mark w a.account a.stored n → IsAskingSo (asking_after a w)
 IsAskingSo-word a w n left so word told = record {
   seat = so.seat;
   book = ap (λ (t : Knowledge). t.book) told ∙ so.book;
   may = so.may;
-  so_far = λ few. IsStoringRequest-more a.start a.mark w a.account (request_words (request_in a)) a.stored n (has_account a so) left
+  so_far = λ few. IsStoringRequest-more a.start a.mark w a.account (request_words (request_asked a)) a.stored n (has_account a so) left
       (so.so_far (omega (arith, left))) word told;
 }
 
@@ -71,33 +71,33 @@ announced-IsAskingSo a few so =
     let storing = so.so_far few in
     ap (λ (t : Knowledge). length (asking_on (own_part t) a.account).announced) storing.same
     ∙ ap (λ (t : Asking). length t.announced)
-    (asking_on-with_asking a.start a.account (with_stored (asking_on (own_part a.start) a.account) storing.stored) (has_account a so))
+    (asking_on-with_asking a.start a.account (with_request_stored (asking_on (own_part a.start) a.account) storing.stored) (has_account a so))
 
 -- all words are stored
 pub MayAnnounce-IsAskingSo : (b : BookTerms) (a : AskingTerms) (slot : ℕ) → a.mark.book ≡ b → a.stored ≡ REQUEST_WORDS → IsAskingSo a
-    → HasSlot b a.start.first a.account slot → MayAnnounce b a.mark a.account slot (request_in a)
+    → HasSlot b a.start.first a.account slot → MayAnnounce b a.mark a.account slot (request_asked a)
 MayAnnounce-IsAskingSo b a slot book all so slot_in =
-    MayAnnounce-IsStoringRequest b a.start a.mark a.account slot (request_in a) a.stored (has_account a so) (may_ask b a slot book so slot_in)
+    MayAnnounce-IsStoringRequest b a.start a.mark a.account slot (request_asked a) a.stored (has_account a so) (may_ask b a slot book so slot_in)
     (so.so_far (omega (arith, all))) all
 
 pub Announces-IsAskingSo : (b : BookTerms) (a : AskingTerms) (w : Knowledge) (slot : ℕ) → a.stored ≡ REQUEST_WORDS → IsAskingSo a
-    → Announces b a.mark w a.account slot (request_in a) → Announces b a.start w a.account slot (request_in a)
+    → Announces b a.mark w a.account slot (request_asked a) → Announces b a.start w a.account slot (request_asked a)
 Announces-IsAskingSo b a w slot all so told =
-    Announces-IsStoringRequest b a.start a.mark w a.account slot (request_in a) (request_words (request_in a)) a.stored (has_account a so)
+    Announces-IsStoringRequest b a.start a.mark w a.account slot (request_asked a) (request_words (request_asked a)) a.stored (has_account a so)
     (so.so_far (omega (arith, all))) told
 
 pub HasAsked-IsAskingSo : (b : BookTerms) (a : AskingTerms) (w : Knowledge) (slot number : ℕ) → IsAskingSo a → HasSlot b a.start.first a.account slot
-    → number ≡ length (asking_on (own_part a.start) a.account).announced → Announces b a.start w a.account slot (request_in a)
+    → number ≡ length (asking_on (own_part a.start) a.account).announced → Announces b a.start w a.account slot (request_asked a)
     → HasAsked b w a.account (opened slot number a.targets a.since)
 HasAsked-IsAskingSo b a w slot number so slot_in next told =
     HasAsked-Announces b a.start w a.account slot number a.targets a.since (has_account a so) slot_in next told
 
 pub HasLoadedNothing-IsAskingSo : (b : BookTerms) (a : AskingTerms) (w : Knowledge) (slot : ℕ) → IsAskingSo a
-    → Announces b a.start w a.account slot (request_in a) → HasLoadedNothing w a.account
-HasLoadedNothing-IsAskingSo b a w slot so told = HasLoadedNothing-Announces b a.start w a.account slot (request_in a) (has_account a so) told
+    → Announces b a.start w a.account slot (request_asked a) → HasLoadedNothing w a.account
+HasLoadedNothing-IsAskingSo b a w slot so told = HasLoadedNothing-Announces b a.start w a.account slot (request_asked a) (has_account a so) told
 
 pub IsAskingSo-announced : (b : BookTerms) (a : AskingTerms) (w : Knowledge) (slot : ℕ) → a.stored ≡ REQUEST_WORDS → IsAskingSo a
-    → Announces b a.mark w a.account slot (request_in a) → IsAskingSo (asking_after a w)
+    → Announces b a.mark w a.account slot (request_asked a) → IsAskingSo (asking_after a w)
 IsAskingSo-announced b a w slot all so told = record {
   seat = so.seat;
   book = ap (λ (t : Knowledge). t.book) told.same ∙ so.book;

@@ -17,17 +17,17 @@ pub record AskingTerms : Type 0 where
   pub since : ℕ
   pub stored : ℕ
 
-abbrev pub starting_asking : Knowledge → ℕ → List TargetPair → ℕ → AskingTerms
-starting_asking v a targets since = record { start = v; mark = v; account = a; targets = targets; since = since; stored = 0 }
+abbrev pub starting_to_ask : Knowledge → ℕ → List TargetPair → ℕ → AskingTerms
+starting_to_ask v a targets since = record { start = v; mark = v; account = a; targets = targets; since = since; stored = 0 }
 
 -- asking after one more turn
 abbrev pub asking_after : AskingTerms → Knowledge → AskingTerms
 asking_after a v = record { start = a.start; mark = v; account = a.account; targets = a.targets; since = a.since; stored = a.stored + 1 }
 
 -- what it announces
-abbrev pub request_in : AskingTerms → Request
-request_in a = asked_for a.targets a.since
+abbrev pub request_asked : AskingTerms → Request
+request_asked a = asked_for a.targets a.since
 
 -- the seat has then stored the next word of the request, and nothing else
 abbrev pub StoresNextRequestWord : AskingTerms → Knowledge → Type 0
-StoresNextRequestWord a v = StoresRequestWord a.mark v a.account a.stored (slice_index (request_words (request_in a)) a.stored)
+StoresNextRequestWord a v = StoresRequestWord a.mark v a.account a.stored (slice_index (request_words (request_asked a)) a.stored)

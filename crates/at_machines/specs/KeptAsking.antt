@@ -5,12 +5,12 @@ use Rattle.at_board.specs.Words.Packed.{request_words}
 use Rattle.at_board.specs.declared.words.TheConstants.{REQUEST_WORDS}
 use Rattle.at_rows.specs.Asks.{MayAskFor}
 use Rattle.at_rows.specs.Storing.{IsStoringRequest}
-use Rattle.at_machines.specs.Asking.{AskingTerms, request_in}
+use Rattle.at_machines.specs.Asking.{AskingTerms, request_asked}
 
 -- at the start the seat might ask for the request, and until that is announced so many of its words are stored since then, and
 -- nothing else has changed
 pub record IsAskingSo (a : AskingTerms) : Type 0 where
   pub seat : IsKept a.start
   pub book : a.mark.book ≡ a.start.book
-  pub may : (slot : ℕ) × MayAskFor a.start.book a.start a.account slot (request_in a)
-  pub so_far : a.stored ≤ REQUEST_WORDS → IsStoringRequest a.start a.mark a.account (request_words (request_in a)) a.stored
+  pub may : (slot : ℕ) × MayAskFor a.start.book a.start a.account slot (request_asked a)
+  pub so_far : a.stored ≤ REQUEST_WORDS → IsStoringRequest a.start a.mark a.account (request_words (request_asked a)) a.stored

@@ -24,9 +24,9 @@ pub record LookingTerms : Type 0 where
 
 -- the turns that are left at most: of a snapshot and of the loads of all records that the logs have room for, or of the loads that
 -- the snapshot has left
-abbrev pub turns_left : LookStage → ℕ
-turns_left (Snap s) = s.left + RECORD_WORDS * places_max
-turns_left (CatchUp c) = loads_left c
+abbrev pub look_turns_left : LookStage → ℕ
+look_turns_left (Snap s) = s.left + RECORD_WORDS * places_max
+look_turns_left (CatchUp c) = loads_left c
 
 -- just the load was made that came next
 abbrev pub MakesLookLoad : BookTerms → LookStage → SeatTerms → SeatTerms → TotalSums → Type 0

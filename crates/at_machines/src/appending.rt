@@ -31,9 +31,19 @@ impl Model for Appending {
 
     ghost Value = { AppendingTerms };
 
-    ghost view = { λ a. record { start = a.start.value.knows; mark = a.mark.value.knows; rec = a.rec; stored = a.stored } };
+    ghost view = { λ a. record {
+      start = a.start.value.knows;
+      mark = a.mark.value.knows;
+      rec = a.rec;
+      stored = a.stored;
+    } };
 
-    ghost invariant = { λ a. IsAppendingSo (record { start = a.start.value.knows; mark = a.mark.value.knows; rec = a.rec; stored = a.stored }) };
+    ghost invariant = { λ a. IsAppendingSo (record {
+      start = a.start.value.knows;
+      mark = a.mark.value.knows;
+      rec = a.rec;
+      stored = a.stored;
+    }) };
 }
 
 impl Appending {
@@ -70,11 +80,15 @@ impl Appending {
         requires mark { seat.old.knows ≡ self.old.mark }
         requires left { self.old.stored ≤ record_width board.now.book }
         ensures after { self.new ≡ appending_after self.old seat.new.knows }
-        ensures word { self.old.stored < record_width board.now.book → StoresNextWord self.old seat.new.knows }
+        ensures word { self.old.stored < record_width board.now.book
+            → StoresNextWord self.old seat.new.knows }
         ensures ends { IsTrue result ↔ (self.old.stored ≡ record_width board.now.book) }
-        ensures publishes { IsTrue result → Publishes board.now.book self.old.mark seat.new.knows (publication_of self.old) }
-        ensures published { IsTrue result → Publishes board.now.book self.old.start seat.new.knows (publication_of self.old) }
-        ensures last { IsTrue result → IsLast self.old.start seat.new.knows (publication_of self.old) }
+        ensures publishes { IsTrue result → Publishes board.now.book self.old.mark seat.new.knows
+            (publication_of self.old) }
+        ensures published { IsTrue result → Publishes board.now.book self.old.start seat.new.knows
+            (publication_of self.old) }
+        ensures last { IsTrue result → IsLast self.old.start seat.new.knows
+            (publication_of self.old) }
         ensures board { IsOf seat.new board.now }
         ensures steps { steps.new ≡ steps.old + 1 }
         ensures exchanges { exchanges.new ≡ exchanges.old }

@@ -7,7 +7,7 @@ ghost use Rattle.at_board.specs.Steps.Announce.{Announces};
 ghost use Rattle.at_board.specs.declared.words.TheConstants.{REQUEST_WORDS};
 ghost use Rattle.at_ledger.specs.Book.{HasSlot};
 ghost use Rattle.at_rows.specs.Asks.{HasAsked, HasLoadedNothing, MayAskFor, asked_for, opened};
-ghost use Rattle.at_machines.specs.Asking.{StoresNextRequestWord, asking_after, request_in, starting_asking};
+ghost use Rattle.at_machines.specs.Asking.{StoresNextRequestWord, asking_after, request_asked, starting_to_ask};
 
 use at_board::{Board, BoardSeat, REQUEST_WORDS, Steps};
 use at_ledger::Targets;
@@ -35,16 +35,31 @@ impl Model for Asking {
 
     ghost Value = { AskingTerms };
 
-    ghost view = { λ a. record { start = a.start.value.knows; mark = a.mark.value.knows; account = a.account; targets = a.targets; since = a.since; stored = a.stored } };
+    ghost view = { λ a. record {
+      start = a.start.value.knows;
+      mark = a.mark.value.knows;
+      account = a.account;
+      targets = a.targets;
+      since = a.since;
+      stored = a.stored;
+    } };
 
-    ghost invariant = { λ a. IsAskingSo (record { start = a.start.value.knows; mark = a.mark.value.knows; account = a.account; targets = a.targets; since = a.since; stored = a.stored }) };
+    ghost invariant = { λ a. IsAskingSo (record {
+      start = a.start.value.knows;
+      mark = a.mark.value.knows;
+      account = a.account;
+      targets = a.targets;
+      since = a.since;
+      stored = a.stored;
+    }) };
 }
 
 impl Asking {
     /// Starts asking for these targets with this `since`, in no step.
     pub fn start(seat: &BoardSeat, account: u32, targets: Targets, since: u32) -> Asking
-        requires { (slot : ℕ) × MayAskFor seat.now.knows.book seat.now.knows account slot (asked_for targets since) }
-        ensures { result ≡ starting_asking seat.now.knows account targets since }
+        requires { (slot : ℕ) × MayAskFor seat.now.knows.book seat.now.knows account slot
+            (asked_for targets since) }
+        ensures { result ≡ starting_to_ask seat.now.knows account targets since }
     {
         seat.known();
         Asking {
@@ -82,14 +97,21 @@ impl Asking {
         requires mark { seat.old.knows ≡ self.old.mark }
         requires left { self.old.stored ≤ REQUEST_WORDS }
         ensures after { self.new ≡ asking_after self.old seat.new.knows }
-        ensures word { self.old.stored < REQUEST_WORDS → StoresNextRequestWord self.old seat.new.knows }
+        ensures word { self.old.stored < REQUEST_WORDS
+            → StoresNextRequestWord self.old seat.new.knows }
         ensures ends { IsSome result ↔ (self.old.stored ≡ REQUEST_WORDS) }
-        ensures announced { IfSome result (λ number. (slot : ℕ) → HasSlot board.now.book self.old.start.first self.old.account slot
-            → Announces board.now.book self.old.start seat.new.knows self.old.account slot (request_in self.old)) }
-        ensures number { IfSome result (λ number. number ≡ length (asking_on (own_part self.old.start) self.old.account).announced) }
-        ensures own { IfSome result (λ number. (slot : ℕ) → HasSlot board.now.book self.old.start.first self.old.account slot
-            → HasAsked board.now.book seat.new.knows self.old.account (opened slot number self.old.targets self.old.since)) }
-        ensures nothing { IfSome result (λ number. HasLoadedNothing seat.new.knows self.old.account) }
+        ensures announced { IfSome result (λ number. (slot : ℕ)
+            → HasSlot board.now.book self.old.start.first self.old.account slot
+            → Announces board.now.book self.old.start seat.new.knows self.old.account slot
+            (request_asked self.old)) }
+        ensures number { IfSome result (λ number. number
+            ≡ length (asking_on (own_part self.old.start) self.old.account).announced) }
+        ensures own { IfSome result (λ number. (slot : ℕ)
+            → HasSlot board.now.book self.old.start.first self.old.account slot
+            → HasAsked board.now.book seat.new.knows self.old.account
+            (opened slot number self.old.targets self.old.since)) }
+        ensures nothing { IfSome result (λ number. HasLoadedNothing seat.new.knows
+            self.old.account) }
         ensures board { IsOf seat.new board.now }
         ensures steps { steps.new ≡ steps.old + 1 }
         ensures exchanges { exchanges.new ≡ exchanges.old }

@@ -38,9 +38,15 @@ impl Model for CatchingUp {
 
     ghost Value = { CatchingUpTerms };
 
-    ghost view = { λ c. record { counts = c.counts; knows = c.seat.value.knows; totals = c.totals.value; loaded = loaded_of c.loading } };
+    ghost view = { λ c. record {
+      counts = c.counts;
+      knows = c.seat.value.knows;
+      totals = c.totals.value;
+      loaded = loaded_of c.loading;
+    } };
 
-    ghost invariant = { λ c. IsCatchingUpSo c.seat.value.knows c.counts c.totals.value c.process c.loading };
+    ghost invariant = { λ c. IsCatchingUpSo c.seat.value.knows c.counts c.totals.value c.process
+        c.loading };
 }
 
 impl CatchingUp {
@@ -62,7 +68,8 @@ impl CatchingUp {
     /// Goes on at this process: of those before it nothing is left.
     fn at(seat: &BoardSeat, totals: &Totals, counts: Counts, process: u32) -> CatchingUp
         requires process { process ≤ length counts }
-        requires so_far { IsCatchingUp seat.now.knows.book seat.now.knows.seen counts totals.now.upto totals.now process }
+        requires so_far { IsCatchingUp seat.now.knows.book seat.now.knows.seen counts
+            totals.now.upto totals.now process }
         ensures counts { result.counts ≡ counts }
         ensures knows { result.knows ≡ seat.now.knows }
         ensures totals { result.totals ≡ totals.now }
@@ -139,8 +146,10 @@ fn first_left(counts: &Counts, totals: &Totals, from: u32) -> u32
     requires from { from ≤ length counts.now }
     ensures from { from ≤ result }
     ensures within { result ≤ length counts.now }
-    ensures done { (q : ℕ) → from ≤ q → q < result → slice_index counts.now q ≤ slice_index totals.now.upto q }
-    ensures left { result < length counts.now → slice_index totals.now.upto result < slice_index counts.now result }
+    ensures done { (q : ℕ) → from ≤ q → q < result
+        → slice_index counts.now q ≤ slice_index totals.now.upto q }
+    ensures left { result < length counts.now → slice_index totals.now.upto result
+        < slice_index counts.now result }
 {
     for p in from..counts.len() {
         if totals.counted(p) < counts.get(p) {
@@ -153,9 +162,11 @@ fn first_left(counts: &Counts, totals: &Totals, from: u32) -> u32
 /// A load of the next record of this process, if there is such a process.
 fn next_record(seat: &BoardSeat, totals: &Totals, counts: &Counts, p: u32) -> Option<LoadingEntry>
     requires sized { length totals.now.upto ≡ length counts.now }
-    requires seen { p < length counts.now → slice_index totals.now.upto p < count_of p seat.now.knows.seen }
+    requires seen { p < length counts.now → slice_index totals.now.upto p
+        < count_of p seat.now.knows.seen }
     ensures none { length counts.now ≤ p → result ≡ None }
-    ensures some { p < length counts.now → result ≡ Some (starting_loading seat.now.knows p (slice_index totals.now.upto p)) }
+    ensures some { p < length counts.now → result
+        ≡ Some (starting_loading seat.now.knows p (slice_index totals.now.upto p)) }
 {
     if p < counts.len() {
         Some(LoadingEntry::start(seat, p, totals.counted(p)))

@@ -28,9 +28,17 @@ impl Model for Collecting {
 
     ghost Value = { CollectingTerms };
 
-    ghost view = { λ c. record { start = c.start.value.knows; mark = c.mark.value.knows; loaded = c.loaded } };
+    ghost view = { λ c. record {
+      start = c.start.value.knows;
+      mark = c.mark.value.knows;
+      loaded = c.loaded;
+    } };
 
-    ghost invariant = { λ c. IsCollectingSo (record { start = c.start.value.knows; mark = c.mark.value.knows; loaded = c.loaded }) c.counts };
+    ghost invariant = { λ c. IsCollectingSo (record {
+      start = c.start.value.knows;
+      mark = c.mark.value.knows;
+      loaded = c.loaded;
+    }) c.counts };
 }
 
 impl Collecting {
@@ -63,7 +71,8 @@ impl Collecting {
         ensures after { self.new ≡ collecting_after self.old seat.new.knows }
         ensures load { LoadsLengthOf board.now.book seat.old.knows seat.new.knows self.old.loaded }
         ensures ends { IsSome result ↔ (self.new.loaded ≡ board.now.book.processes) }
-        ensures collect { IfSome result (λ counts. IsCollect board.now.book self.old.start seat.new.knows) }
+        ensures collect { IfSome result (λ counts. IsCollect board.now.book self.old.start
+            seat.new.knows) }
         ensures counts { IfSome result (λ counts. counts ≡ collect_of seat.new.knows) }
         ensures board { IsOf seat.new board.now }
         ensures steps { steps.new ≡ steps.old + 1 }

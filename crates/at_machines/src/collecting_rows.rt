@@ -36,7 +36,15 @@ impl Model for CollectingRows {
 
     ghost Value = { CollectingRowsTerms };
 
-    ghost view = { λ c. record { start = c.start.value.knows; mark = c.row.mark; account = c.row.account; own = c.row.own; slot = c.row.slot; next = c.row.next; made = c.made } };
+    ghost view = { λ c. record {
+      start = c.start.value.knows;
+      mark = c.row.mark;
+      account = c.row.account;
+      own = c.row.own;
+      slot = c.row.slot;
+      next = c.row.next;
+      made = c.made;
+    } };
 
     ghost invariant = { λ c. IsCollectingRowsSo c.start.value.knows c.row c.asked c.made };
 }
@@ -77,13 +85,21 @@ impl CollectingRows {
         ensures after { self.new ≡ rows_after self.old seat.new.knows self.new.slot self.new.next }
         ensures load { MakesNextLoad board.now.book self.old self.new }
         ensures ends { IsSome result ↔ (self.new.next ≡ NextRowLoad.nothing) }
-        ensures collected { IfSome result (λ asked. HasLoadedRows board.now.book seat.new.knows self.old.account self.old.own.slot) }
-        ensures rows { IfSome result (CollectsRows board.now.book self.old.start seat.new.knows self.old.account self.old.own) }
-        ensures candidates { IfSome result (AreCandidates self.old.start seat.new.knows self.old.account self.old.own.slot) }
-        ensures own { IfSome result (λ asked. HasAsked board.now.book seat.new.knows self.old.account self.old.own) }
-        ensures turns { IfSome result (λ asked. self.new.made ≡ slots_of (account_of board.now.book self.old.account) + REQUEST_WORDS * (length asked - 1)) }
-        ensures few { IfSome result (λ asked. length asked ≤ slots_of (account_of board.now.book self.old.account)) }
-        ensures most { self.new.made ≤ slots_of (account_of board.now.book self.old.account) + REQUEST_WORDS * (slots_of (account_of board.now.book self.old.account) - 1) }
+        ensures collected { IfSome result (λ asked. HasLoadedRows board.now.book seat.new.knows
+            self.old.account self.old.own.slot) }
+        ensures rows { IfSome result (CollectsRows board.now.book self.old.start seat.new.knows
+            self.old.account self.old.own) }
+        ensures candidates { IfSome result (AreCandidates self.old.start seat.new.knows
+            self.old.account self.old.own.slot) }
+        ensures own { IfSome result (λ asked. HasAsked board.now.book seat.new.knows
+            self.old.account self.old.own) }
+        ensures turns { IfSome result (λ asked. self.new.made
+            ≡ slots_of (account_of board.now.book self.old.account)
+            + REQUEST_WORDS * (length asked - 1)) }
+        ensures few { IfSome result (λ asked. length asked
+            ≤ slots_of (account_of board.now.book self.old.account)) }
+        ensures most { self.new.made ≤ slots_of (account_of board.now.book self.old.account)
+            + REQUEST_WORDS * (slots_of (account_of board.now.book self.old.account) - 1) }
         ensures board { IsOf seat.new board.now }
         ensures steps { steps.new ≡ steps.old + 1 }
         ensures exchanges { exchanges.new ≡ exchanges.old }

@@ -48,9 +48,19 @@ impl Model for Deciding {
 
     ghost Value = { DecidingTerms };
 
-    ghost view = { λ d. record { start = d.start.value.knows; mark = d.mark.value.knows; totals = d.totals.value; helping = d.helping.value; front = d.front; next = next_of_round d.stage; left = left_of_round d.start.value.knows.book.processes (next_of_round d.stage) } };
+    ghost view = { λ d. record {
+      start = d.start.value.knows;
+      mark = d.mark.value.knows;
+      totals = d.totals.value;
+      helping = d.helping.value;
+      front = d.front;
+      next = next_of_round d.stage;
+      left = left_of_round d.start.value.knows.book.processes
+          (next_of_round d.stage);
+    } };
 
-    ghost invariant = { λ d. IsDecidingSo d.start.value.knows d.mark.value.knows d.totals.value d.helping.value d.front d.account d.round d.stage };
+    ghost invariant = { λ d. IsDecidingSo d.start.value.knows d.mark.value.knows d.totals.value
+        d.helping.value d.front d.account d.round d.stage };
 }
 
 impl Deciding {
@@ -66,9 +76,12 @@ impl Deciding {
         requires totals { HasCounted totals.now board.now.book seat.now.knows.seen }
         requires at_front { CountsFront totals.now board.now.book seat.now.knows.seen }
         requires front { totals.now.upto ≡ front }
-        requires own { slice_index front seat.now.knows.first ≡ (own_part seat.now.knows).published }
-        requires helping { IsHelpingAt board.now.book seat.now.knows (prefix_of front seat.now.knows.seen) helping.now }
-        requires unsettled { is_settled helping.now.account helping.now.own.slot helping.now.own.number (prefix_of front seat.now.knows.seen) ≡ false }
+        requires own { slice_index front seat.now.knows.first
+            ≡ (own_part seat.now.knows).published }
+        requires helping { IsHelpingAt board.now.book seat.now.knows
+            (prefix_of front seat.now.knows.seen) helping.now }
+        requires unsettled { is_settled helping.now.account helping.now.own.slot
+            helping.now.own.number (prefix_of front seat.now.knows.seen) ≡ false }
         ensures { result ≡ starting_deciding seat.now.knows totals.now helping.now front }
     {
         seat.known();
@@ -111,9 +124,12 @@ impl Deciding {
         ensures step { MakesRoundStep board.now.book self.old seat.new.knows self.new.next }
         ensures left { self.new.left + 1 ≡ self.old.left }
         ensures ends { IsSome result ↔ (self.new.left ≡ 0) }
-        ensures decided { IfSome result (DecidesNext board.now.book self.old.start seat.new.knows self.old.helping self.old.front) }
-        ensures upto { IfSome result (λ decision. totals.new.upto ≡ slice_set self.old.front seat.new.knows.first (own_part seat.new.knows).published) }
-        ensures counted { IfSome result (λ decision. HasCounted totals.new board.now.book seat.new.knows.seen) }
+        ensures decided { IfSome result (DecidesNext board.now.book self.old.start seat.new.knows
+            self.old.helping self.old.front) }
+        ensures upto { IfSome result (λ decision. totals.new.upto
+            ≡ slice_set self.old.front seat.new.knows.first (own_part seat.new.knows).published) }
+        ensures counted { IfSome result (λ decision. HasCounted totals.new board.now.book
+            seat.new.knows.seen) }
         ensures waits { 0 < self.new.left → totals.new ≡ totals.old }
         ensures board { IsOf seat.new board.now }
         ensures steps { steps.new ≡ steps.old + 1 }

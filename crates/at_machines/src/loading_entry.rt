@@ -31,10 +31,20 @@ impl Model for LoadingEntry {
 
     ghost Value = { LoadingTerms };
 
-    ghost view = { λ l. record { knows = l.seat.value.knows; process = l.process; number = l.number; loaded = l.loaded } };
+    ghost view = { λ l. record {
+      knows = l.seat.value.knows;
+      process = l.process;
+      number = l.number;
+      loaded = l.loaded;
+    } };
 
     ghost invariant = { λ l. (length l.words ≡ RECORD_WORDS)
-        × IsLoadingSo (record { knows = l.seat.value.knows; process = l.process; number = l.number; loaded = l.loaded }) 0 l.words };
+        × IsLoadingSo (record {
+          knows = l.seat.value.knows;
+          process = l.process;
+          number = l.number;
+          loaded = l.loaded;
+        }) 0 l.words };
 }
 
 impl LoadingEntry {
@@ -65,7 +75,8 @@ impl LoadingEntry {
         requires left { self.old.loaded < RECORD_WORDS }
         ensures after { self.new ≡ loading_after self.old }
         ensures ends { IsSome result ↔ (self.new.loaded ≡ RECORD_WORDS) }
-        ensures entry { IfSome result (λ entry. IsEntryOf self.old.knows self.old.process self.old.number entry) }
+        ensures entry { IfSome result (λ entry. IsEntryOf self.old.knows self.old.process
+            self.old.number entry) }
         ensures same { seat.new ≡ seat.old }
         ensures steps { steps.new ≡ steps.old + 1 }
         ensures exchanges { exchanges.new ≡ exchanges.old }

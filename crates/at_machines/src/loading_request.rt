@@ -35,10 +35,24 @@ impl Model for LoadingRequest {
 
     ghost Value = { LoadingRequestTerms };
 
-    ghost view = { λ l. record { start = l.start.value.knows; mark = l.mark.value.knows; account = l.account; slot = l.slot; number = l.number; loaded = l.loaded } };
+    ghost view = { λ l. record {
+      start = l.start.value.knows;
+      mark = l.mark.value.knows;
+      account = l.account;
+      slot = l.slot;
+      number = l.number;
+      loaded = l.loaded;
+    } };
 
     ghost invariant = { λ l. (length l.words ≡ REQUEST_WORDS)
-        × IsLoadingRequestSo (record { start = l.start.value.knows; mark = l.mark.value.knows; account = l.account; slot = l.slot; number = l.number; loaded = l.loaded }) l.words };
+        × IsLoadingRequestSo (record {
+          start = l.start.value.knows;
+          mark = l.mark.value.knows;
+          account = l.account;
+          slot = l.slot;
+          number = l.number;
+          loaded = l.loaded;
+        }) l.words };
 }
 
 impl LoadingRequest {
@@ -73,7 +87,8 @@ impl LoadingRequest {
         ensures after { self.new ≡ request_after self.old seat.new.knows }
         ensures load { LoadsNextRequestWord board.now.book self.old seat.new.knows }
         ensures ends { IsSome result ↔ (self.new.loaded ≡ REQUEST_WORDS) }
-        ensures request { IfSome result (LoadsRequest board.now.book self.old.start seat.new.knows self.old.account self.old.slot self.old.number) }
+        ensures request { IfSome result (LoadsRequest board.now.book self.old.start seat.new.knows
+            self.old.account self.old.slot self.old.number) }
         ensures board { IsOf seat.new board.now }
         ensures steps { steps.new ≡ steps.old + 1 }
         ensures exchanges { exchanges.new ≡ exchanges.old }

@@ -37,9 +37,23 @@ impl Model for LoadingRow {
 
     ghost Value = { LoadingRowTerms };
 
-    ghost view = { λ r. record { start = r.start.value.knows; mark = r.mark.value.knows; account = r.account; slot = r.slot; own = r.own; next = next_in_row r.stage } };
+    ghost view = { λ r. record {
+      start = r.start.value.knows;
+      mark = r.mark.value.knows;
+      account = r.account;
+      slot = r.slot;
+      own = r.own;
+      next = next_in_row r.stage;
+    } };
 
-    ghost invariant = { λ r. IsLoadingRowSo (record { start = r.start.value.knows; mark = r.mark.value.knows; account = r.account; slot = r.slot; own = r.own; next = next_in_row r.stage }) r.stage };
+    ghost invariant = { λ r. IsLoadingRowSo (record {
+      start = r.start.value.knows;
+      mark = r.mark.value.knows;
+      account = r.account;
+      slot = r.slot;
+      own = r.own;
+      next = next_in_row r.stage;
+    }) r.stage };
 }
 
 impl LoadingRow {
@@ -94,8 +108,10 @@ impl LoadingRow {
         ensures after { self.new ≡ row_after self.old seat.new.knows self.new.next }
         ensures load { MakesRowLoad board.now.book self.old seat.new.knows self.new.next }
         ensures ends { IsSome result ↔ (self.new.next ≡ NextRowLoad.nothing) }
-        ensures row { IfSome result (LoadsRow self.old.start seat.new.knows self.old.account self.old.slot self.old.own) }
-        ensures turns { IfSome result (λ found. row_turns self.old.next + 1 ≡ row_steps self.old.own.slot self.old.slot found) }
+        ensures row { IfSome result (LoadsRow self.old.start seat.new.knows self.old.account
+            self.old.slot self.old.own) }
+        ensures turns { IfSome result (λ found. row_turns self.old.next + 1
+            ≡ row_steps self.old.own.slot self.old.slot found) }
         ensures board { IsOf seat.new board.now }
         ensures steps { steps.new ≡ steps.old + 1 }
         ensures exchanges { exchanges.new ≡ exchanges.old }

@@ -31,10 +31,20 @@ impl Model for LoadingView {
 
     ghost Value = { LoadingTerms };
 
-    ghost view = { λ l. record { knows = l.seat.value.knows; process = l.process; number = l.number; loaded = l.loaded } };
+    ghost view = { λ l. record {
+      knows = l.seat.value.knows;
+      process = l.process;
+      number = l.number;
+      loaded = l.loaded;
+    } };
 
     ghost invariant = { λ l. (length l.view ≡ l.seat.value.knows.book.processes)
-        × IsLoadingSo (record { knows = l.seat.value.knows; process = l.process; number = l.number; loaded = l.loaded }) RECORD_WORDS l.view };
+        × IsLoadingSo (record {
+          knows = l.seat.value.knows;
+          process = l.process;
+          number = l.number;
+          loaded = l.loaded;
+        }) RECORD_WORDS l.view };
 }
 
 impl LoadingView {
@@ -67,7 +77,8 @@ impl LoadingView {
         requires left { self.old.loaded < board.now.book.processes }
         ensures after { self.new ≡ loading_after self.old }
         ensures ends { IsSome result ↔ (self.new.loaded ≡ board.now.book.processes) }
-        ensures view { IfSome result (λ view. IsViewOf self.old.knows self.old.process self.old.number view) }
+        ensures view { IfSome result (λ view. IsViewOf self.old.knows self.old.process
+            self.old.number view) }
         ensures same { seat.new ≡ seat.old }
         ensures steps { steps.new ≡ steps.old + 1 }
         ensures exchanges { exchanges.new ≡ exchanges.old }

@@ -5,7 +5,7 @@ ghost use Rattle.at_board.specs.Knowledge.Seats.{IsOf};
 ghost use Rattle.at_fold.specs.HasCounted.{HasCounted, StaysCounted};
 ghost use Rattle.at_single.specs.Looks.{HasLooked};
 ghost use Rattle.at_snapshot.specs.Collected.{HasLoaded};
-ghost use Rattle.at_machines.specs.Looking.{IsWithin, MakesLookLoad, turns_left};
+ghost use Rattle.at_machines.specs.Looking.{IsWithin, MakesLookLoad, look_turns_left};
 
 use crate::catching_up::CatchingUp;
 use crate::look_stage::LookStage;
@@ -39,9 +39,17 @@ impl Model for Looking {
 
     ghost Value = { LookingTerms };
 
-    ghost view = { λ l. record { start = l.start.value.knows; mark = l.mark.value.knows; was = l.was.value; totals = l.totals.value; stage = l.stage; turns = l.turns } };
+    ghost view = { λ l. record {
+      start = l.start.value.knows;
+      mark = l.mark.value.knows;
+      was = l.was.value;
+      totals = l.totals.value;
+      stage = l.stage;
+      turns = l.turns;
+    } };
 
-    ghost invariant = { λ l. IsLookingSo l.start.value.knows l.mark.value.knows l.was.value l.totals.value l.turns l.stage };
+    ghost invariant = { λ l. IsLookingSo l.start.value.knows l.mark.value.knows l.was.value
+        l.totals.value l.turns l.stage };
 }
 
 impl Looking {
@@ -54,7 +62,7 @@ impl Looking {
         ensures was { result.was ≡ totals.now }
         ensures totals { result.totals ≡ totals.now }
         ensures turns { result.turns ≡ 0 }
-        ensures left { 0 < turns_left result.stage }
+        ensures left { 0 < look_turns_left result.stage }
     {
         seat.known();
         Looking {
@@ -87,7 +95,7 @@ impl Looking {
         requires board { IsOf seat.old board.now }
         requires mark { seat.old.knows ≡ self.old.mark }
         requires totals { totals.old ≡ self.old.totals }
-        requires left { 0 < turns_left self.old.stage }
+        requires left { 0 < look_turns_left self.old.stage }
         ensures start { self.new.start ≡ self.old.start }
         ensures mark { self.new.mark ≡ seat.new.knows }
         ensures was { self.new.was ≡ self.old.was }
@@ -96,11 +104,14 @@ impl Looking {
         ensures load { MakesLookLoad board.now.book self.old.stage seat.old seat.new totals.new }
         ensures loads { HasLoaded board.now.book self.old.start seat.new.knows }
         ensures counted { StaysCounted totals.new board.now.book seat.new.knows.seen }
-        ensures left { turns_left self.new.stage < turns_left self.old.stage }
-        ensures so_far { IsWithin board.now.book.processes self.old.was (length seat.new.knows.seen) self.new.turns }
-        ensures ends { IsSome result ↔ (turns_left self.new.stage ≡ 0) }
-        ensures looked { IfSome result (HasLooked board.now.book self.old.start seat.new.knows self.old.was totals.new) }
-        ensures within { IfSome result (λ front. IsWithin board.now.book.processes self.old.was (sum front) self.new.turns) }
+        ensures left { look_turns_left self.new.stage < look_turns_left self.old.stage }
+        ensures so_far { IsWithin board.now.book.processes self.old.was
+            (length seat.new.knows.seen) self.new.turns }
+        ensures ends { IsSome result ↔ (look_turns_left self.new.stage ≡ 0) }
+        ensures looked { IfSome result (HasLooked board.now.book self.old.start seat.new.knows
+            self.old.was totals.new) }
+        ensures within { IfSome result (λ front. IsWithin board.now.book.processes self.old.was
+            (sum front) self.new.turns) }
         ensures board { IsOf seat.new board.now }
         ensures steps { steps.new ≡ steps.old + 1 }
         ensures exchanges { exchanges.new ≡ exchanges.old }

@@ -36,9 +36,16 @@ impl Model for Snapping {
 
     ghost Value = { SnappingTerms };
 
-    ghost view = { λ s. record { start = s.start.value.knows; mark = s.mark.value.knows; next = next_of s.stage; left = left_of s.start.value.knows.book.processes s.collected s.stage } };
+    ghost view = { λ s. record {
+      start = s.start.value.knows;
+      mark = s.mark.value.knows;
+      next = next_of s.stage;
+      left = left_of s.start.value.knows.book.processes s.collected
+          s.stage;
+    } };
 
-    ghost invariant = { λ s. IsSnappingSo s.start.value.knows s.mark.value.knows s.collects s.collected s.stage };
+    ghost invariant = { λ s. IsSnappingSo s.start.value.knows s.mark.value.knows s.collects
+        s.collected s.stage };
 }
 
 impl Snapping {
@@ -79,7 +86,8 @@ impl Snapping {
         ensures left { self.new.left < self.old.left }
         ensures ends { IsSome result ↔ (self.new.left ≡ 0) }
         ensures snapshot { IfSome result (IsSnapshot board.now.book self.old.start seat.new.knows) }
-        ensures collects { IfSome result (λ counts. HasCollected board.now.book self.old.start seat.new.knows (board.now.book.processes + 1)) }
+        ensures collects { IfSome result (λ counts. HasCollected board.now.book self.old.start
+            seat.new.knows (board.now.book.processes + 1)) }
         ensures board { IsOf seat.new board.now }
         ensures steps { steps.new ≡ steps.old + 1 }
         ensures exchanges { exchanges.new ≡ exchanges.old }

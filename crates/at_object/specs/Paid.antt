@@ -16,7 +16,7 @@ use Rattle.at_log.specs.Receipts.{asks_in, owns_in}
 use Rattle.at_log.specs.declared.receipt.At.{At}
 use Rattle.at_log.specs.declared.receipt.Receipt.{Receipt}
 use Rattle.at_object.specs.Passes.{PassTerms, Stands, asked_by, one_more_call, others_counted}
-use Rattle.at_object.specs.Payments.{IsDecided, IsRefused, reply_of}
+use Rattle.at_object.specs.Payments.{IsDecidedByBalance, IsRefused, reply_of}
 use Rattle.at_shared.specs.Settling.{AsksOnce, StandsAfter, StandsAfterSnapshot, StandsInRound}
 use Rattle.at_single.specs.Standing.{StandsAfterFront, StandsAtFront, StandsAtOwn, front_behind, payment_reply}
 use Rattle.at_snapshot.specs.Snapshots.{IsSnapshot}
@@ -55,10 +55,10 @@ pub record PaymentMade (book : BookTerms) (before after : PassTerms) (source : �
   pub reply : receipt.reply ≡ reply_of book before after source targets receipt
   pub placed : (earlier : List Receipt) → Stands before earlier → IsPlaced book before.knows.first after.knows.seen earlier receipt
   pub stands : (earlier : List Receipt) → Stands before earlier → Stands after (earlier ++ receipt ∷ [])
-  pub after_seen : IsDecided receipt → StandsAfter (length before.knows.seen) after.knows receipt
-  pub loads : IsDecided receipt → HasLoadedFresh book before after
-  pub alone : IsDecided receipt → is_single (account_of book source) ≡ true → PaysAlone book before.knows after.knows source targets call receipt
-  pub in_round : IsDecided receipt → is_shared (account_of book source) ≡ true → PaysInRound book before.knows after.knows source call receipt
+  pub after_seen : IsDecidedByBalance receipt → StandsAfter (length before.knows.seen) after.knows receipt
+  pub loads : IsDecidedByBalance receipt → HasLoadedFresh book before after
+  pub alone : IsDecidedByBalance receipt → is_single (account_of book source) ≡ true → PaysAlone book before.knows after.knows source targets call receipt
+  pub in_round : IsDecidedByBalance receipt → is_shared (account_of book source) ≡ true → PaysInRound book before.knows after.knows source call receipt
   pub begins : IsPrefix before.knows.seen after.knows.seen
   pub process_is : after.knows.first ≡ before.knows.first
   pub refused : IsRefused receipt → after ≡ record before { calls = one_more_call before.calls }

@@ -23,5 +23,5 @@ pub record IsAtRest (seat : SeatTerms) : Type 0 where
   pub between : IsBetweenCalls seat.knows.book seat.knows
 
 -- an empty list that has the memory of so many
-abbrev pub HasRoom : {X Z : Type 0} → Vec X Z → ℕ → Type 0
-HasRoom v n = (v.items ≡ []) × (vec_len v ≡ 0) × (n ≤ vec_capacity v)
+abbrev pub HasMemoryFor : {X Z : Type 0} → Vec X Z → ℕ → Type 0
+HasMemoryFor v n = (v.items ≡ []) × (vec_len v ≡ 0) × (n ≤ vec_capacity v)

@@ -45,8 +45,8 @@ abbrev pub others_counted : PassTerms → ℕ
 others_counted pass = sum pass.counted - slice_index pass.counted pass.knows.first
 
 -- how many of them a call has counted that weren't counted before
-abbrev pub newly_counted : PassTerms → PassTerms → ℕ
-newly_counted before after = others_counted after - others_counted before
+abbrev pub counted_anew : PassTerms → PassTerms → ℕ
+counted_anew before after = others_counted after - others_counted before
 
 -- a pass's process is between calls. Its totals have counted only what the seat has seen, among it all of its own records, and it
 -- knows how many of these are own records. It has asked for nothing where it has no slot

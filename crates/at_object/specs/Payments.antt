@@ -57,8 +57,8 @@ abbrev pub IsRefused : Receipt → Type 0
 IsRefused r = (r.reply ≡ NotOwner) ⊎ (r.reply ≡ Full)
 
 -- it was decided by a balance
-abbrev pub IsDecided : Receipt → Type 0
-IsDecided r = (r.reply ≡ Done) ⊎ (r.reply ≡ Short)
+abbrev pub IsDecidedByBalance : Receipt → Type 0
+IsDecidedByBalance r = (r.reply ≡ Done) ⊎ (r.reply ≡ Short)
 
 -- how many payments from single accounts have succeeded after one more
 abbrev pub sent_after : ℕ → Reply → ℕ

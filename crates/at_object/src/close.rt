@@ -5,7 +5,7 @@ ghost use Rattle.std.specs.Vec.{vec_capacity};
 ghost use Rattle.at_board.specs.Knowledge.Parts.{own_part};
 ghost use Rattle.at_log.specs.Coherent.{Coherent};
 ghost use Rattle.at_object.specs.Closings.{AreAccountedFor, HasAllLogs};
-ghost use Rattle.at_object.specs.Parted.{HasRoom, IsAtRest, seat_of};
+ghost use Rattle.at_object.specs.Parted.{HasMemoryFor, IsAtRest, seat_of};
 
 use crate::NoMemory;
 use crate::closed::Closed;
@@ -36,10 +36,12 @@ impl Ledger {
     ) -> Result<Closed, CloseRefused>
         requires { AreAccountedFor self passes.items (map (λ v. v.items) receipts.items) }
         ensures book { IfOk result (λ c. c.book ≡ self.book) }
-        ensures receipts { IfOk result (λ c. c.closing.receipts ≡ map (λ v. v.items) receipts.items) }
+        ensures receipts { IfOk result (λ c. c.closing.receipts
+            ≡ map (λ v. v.items) receipts.items) }
         ensures logs { IfOk result (HasAllLogs passes.items) }
         ensures coherent { IfOk result (λ c. Coherent c.book c.closing) }
-        ensures refused { IfErr result (λ r. (r.ledger ≡ self) × (r.passes.items ≡ passes.items) × (r.receipts.items ≡ receipts.items)) }
+        ensures refused { IfErr result (λ r. (r.ledger ≡ self) × (r.passes.items ≡ passes.items)
+            × (r.receipts.items ≡ receipts.items)) }
     {
         let Ok(memory) = memory_for(alloc, self.book(), passes.as_slice()) else {
             return Err(CloseRefused {
@@ -69,10 +71,12 @@ struct Memory {
 fn memory_for(alloc: Global, book: &Book, passes: &[Pass]) -> Result<Memory, NoMemory>
     ensures book { IfOk result (λ m. m.book ≡ book.now) }
     ensures count { IfOk result (λ m. length m.rooms.items ≡ length passes.now) }
-    ensures empty { IfOk result (λ m. (p : ℕ) (d : _) → p < length passes.now → (slice_index_or m.rooms.items p d).items ≡ []) }
+    ensures empty { IfOk result (λ m. (p : ℕ) (d : _) → p < length passes.now
+        → (slice_index_or m.rooms.items p d).items ≡ []) }
     ensures rooms { IfOk result (λ m. (p : ℕ) (d : _) (e : _) → p < length passes.now
-        → (own_part (slice_index_or passes.now p e).knows).published ≤ vec_capacity (slice_index_or m.rooms.items p d)) }
-    ensures seats { IfOk result (λ m. HasRoom m.seats (length passes.now)) }
+        → (own_part (slice_index_or passes.now p e).knows).published
+        ≤ vec_capacity (slice_index_or m.rooms.items p d)) }
+    ensures seats { IfOk result (λ m. HasMemoryFor m.seats (length passes.now)) }
 {
     Ok(Memory {
         book: book.copy(alloc)?,
@@ -84,9 +88,11 @@ fn memory_for(alloc: Global, book: &Book, passes: &[Pass]) -> Result<Memory, NoM
 /// An empty list for each process, with the memory of as many records as it has published.
 fn rooms_for(alloc: Global, passes: &[Pass]) -> Result<Vec<Vec<Record>>, NoMemory>
     ensures count { IfOk result (λ v. length v.items ≡ length passes.now) }
-    ensures empty { IfOk result (λ v. (p : ℕ) (d : _) → p < length passes.now → (slice_index_or v.items p d).items ≡ []) }
+    ensures empty { IfOk result (λ v. (p : ℕ) (d : _) → p < length passes.now
+        → (slice_index_or v.items p d).items ≡ []) }
     ensures room { IfOk result (λ v. (p : ℕ) (d : _) (e : _) → p < length passes.now
-        → (own_part (slice_index_or passes.now p e).knows).published ≤ vec_capacity (slice_index_or v.items p d)) }
+        → (own_part (slice_index_or passes.now p e).knows).published
+        ≤ vec_capacity (slice_index_or v.items p d)) }
 {
     let mut rooms = Vec::new(alloc);
     for pass in passes {
@@ -97,7 +103,7 @@ fn rooms_for(alloc: Global, passes: &[Pass]) -> Result<Vec<Vec<Record>>, NoMemor
 
 /// The seats of the passes, in memory that was taken before.
 fn seats_of(passes: Vec<Pass>, mut seats: Vec<BoardSeat>) -> Vec<BoardSeat>
-    requires { HasRoom seats (length passes.items) }
+    requires { HasMemoryFor seats (length passes.items) }
     ensures seats { result.items ≡ map seat_of passes.items }
     ensures at_rest { All IsAtRest result.items }
 {

@@ -62,7 +62,8 @@ impl Ledger {
         ensures learned { pass.new.knows.seen ≡ longer pass.old.knows.seen note.knows.seen }
         ensures begins { IsPrefix pass.old.knows.seen pass.new.knows.seen }
         ensures told { IsPrefix note.knows.seen pass.new.knows.seen }
-        ensures stands { (receipts : List Receipt) → Stands pass.old receipts → Stands pass.new receipts }
+        ensures stands { (receipts : List Receipt) → Stands pass.old receipts
+            → Stands pass.new receipts }
         ensures runs { AreRuns self.now.book pass.new.knows.seen }
         ensures pass { IsPassOf pass.new self.now }
         ensures process { pass.new.knows.first ≡ pass.old.knows.first }

@@ -25,7 +25,12 @@ impl Model for Pass {
 
     ghost Value = { PassTerms };
 
-    ghost view = { λ p. record { board = p.seat.board; knows = p.seat.knows; counted = p.totals.upto; calls = p.calls } };
+    ghost view = { λ p. record {
+      board = p.seat.board;
+      knows = p.seat.knows;
+      counted = p.totals.upto;
+      calls = p.calls;
+    } };
 
     ghost invariant = { λ p. IsPass p.seat.knows p.totals p.sent };
 }
@@ -52,7 +57,8 @@ impl Pass {
         ensures asked { result ≡ asked_by self.now account }
         ensures rounds { (slot : ℕ) → HasSlot self.now.knows.book self.now.knows.first account slot
             → result ≡ named account slot self.now.knows.seen }
-        ensures none { ((slot : ℕ) → ¬ HasSlot self.now.knows.book self.now.knows.first account slot)
+        ensures none { ((slot : ℕ) → ¬ HasSlot self.now.knows.book self.now.knows.first account
+            slot)
             → result ≡ 0 }
     {
         self.seat.known();

@@ -18,8 +18,8 @@ ghost use Rattle.at_log.specs.Receipts.{payout_of};
 ghost use Rattle.at_log.specs.declared.receipt.At.{At};
 ghost use Rattle.at_log.specs.declared.receipt.Receipt.{Receipt};
 ghost use Rattle.at_object.specs.Paid.{PaymentMade, PaysAlone, PaysInRound};
-ghost use Rattle.at_object.specs.Passes.{IsPassOf, Stands, asked_by, newly_counted, one_more_call, sent_by};
-ghost use Rattle.at_object.specs.Payments.{IsDecided, IsRefused, has_used_up, payment_steps, refusal_of, sent_after, shared_steps, single_steps};
+ghost use Rattle.at_object.specs.Passes.{IsPassOf, Stands, asked_by, counted_anew, one_more_call, sent_by};
+ghost use Rattle.at_object.specs.Payments.{IsDecidedByBalance, IsRefused, has_used_up, payment_steps, refusal_of, sent_after, shared_steps, single_steps};
 ghost use Rattle.at_shared.specs.Helpings.{HasAllSettled, IsPayoutFrom, decides_made, decides_on};
 ghost use Rattle.at_single.specs.Standing.{IsOnlyOwner, front_behind};
 ghost use Rattle.at_single.specs.Standing as single;
@@ -55,7 +55,7 @@ impl Ledger {
         ensures refused_steps { IsRefused result → steps.new ≡ steps.old }
         ensures refused_exchanges { IsRefused result → exchanges.new ≡ exchanges.old }
         ensures steps { steps.new ≤ steps.old + payment_steps self.now.book source
-            + RECORD_WORDS * newly_counted pass.old pass.new }
+            + RECORD_WORDS * counted_anew pass.old pass.new }
         ensures exchanges { exchanges.new
             ≡ exchanges.old + decides_made source pass.old.knows pass.new.knows }
         ensures exchanges_single { is_shared (account_of self.now.book source) ≡ false
@@ -109,12 +109,12 @@ impl Ledger {
         requires room { has_used_up self.now.book pass.old source ≡ false }
         ensures made { (targets : List TargetPair) → payout_of call.now ≡ Some (source, targets)
             → PaymentMade self.now.book pass.old pass.new source targets call.now result }
-        ensures decided { IsDecided result }
+        ensures decided { IsDecidedByBalance result }
         ensures runs { AreRuns self.now.book pass.new.knows.seen }
         ensures pass { IsPassOf pass.new self.now }
         ensures calls { pass.new.calls ≡ one_more_call pass.old.calls }
         ensures steps { steps.new ≤ steps.old + single_steps self.now.book.processes
-            + RECORD_WORDS * newly_counted pass.old pass.new }
+            + RECORD_WORDS * counted_anew pass.old pass.new }
         ensures exchanges { exchanges.new ≡ exchanges.old }
         ensures decides { (a : ℕ) → decides_on pass.new.knows a ≡ decides_on pass.old.knows a }
     {
@@ -151,13 +151,13 @@ impl Ledger {
         requires room { has_used_up self.now.book pass.old source ≡ false }
         ensures made { (targets : List TargetPair) → payout_of call.now ≡ Some (source, targets)
             → PaymentMade self.now.book pass.old pass.new source targets call.now result }
-        ensures decided { IsDecided result }
+        ensures decided { IsDecidedByBalance result }
         ensures runs { AreRuns self.now.book pass.new.knows.seen }
         ensures pass { IsPassOf pass.new self.now }
         ensures calls { pass.new.calls ≡ one_more_call pass.old.calls }
         ensures steps { steps.new ≤ steps.old + shared_steps self.now.book.processes
             (slots_of (account_of self.now.book source))
-            + RECORD_WORDS * newly_counted pass.old pass.new }
+            + RECORD_WORDS * counted_anew pass.old pass.new }
         ensures exchanges { exchanges.new
             ≡ exchanges.old + decides_made source pass.old.knows pass.new.knows }
         ensures decides { decides_made source pass.old.knows pass.new.knows

@@ -12,8 +12,8 @@ ghost use Rattle.at_log.specs.Placed.{IsPlaced};
 ghost use Rattle.at_log.specs.declared.receipt.At.{At};
 ghost use Rattle.at_log.specs.declared.receipt.Receipt.{Receipt};
 ghost use Rattle.at_object.specs.Paid.{HasLoadedFresh, PaysAlone, PaysInRound};
-ghost use Rattle.at_object.specs.Passes.{IsPassOf, Stands, asked_by, newly_counted, one_more_call, others_counted};
-ghost use Rattle.at_object.specs.Payments.{IsDecided, IsRefused, payment_steps, reply_of};
+ghost use Rattle.at_object.specs.Passes.{IsPassOf, Stands, asked_by, counted_anew, one_more_call, others_counted};
+ghost use Rattle.at_object.specs.Payments.{IsDecidedByBalance, IsRefused, payment_steps, reply_of};
 ghost use Rattle.at_shared.specs.Helpings.{decides_made, decides_on};
 ghost use Rattle.at_shared.specs.Settling.{StandsAfter};
 
@@ -45,13 +45,14 @@ impl Ledger {
             → IsPlaced self.now.book pass.old.knows.first pass.new.knows.seen earlier result }
         ensures stands { (earlier : List Receipt) → Stands pass.old earlier
             → Stands pass.new (earlier ++ result ∷ []) }
-        ensures after_seen { IsDecided result
+        ensures after_seen { IsDecidedByBalance result
             → StandsAfter (length pass.old.knows.seen) pass.new.knows result }
-        ensures loads { IsDecided result → HasLoadedFresh self.now.book pass.old pass.new }
-        ensures alone { IsDecided result → is_single (account_of self.now.book from) ≡ true
+        ensures loads { IsDecidedByBalance result → HasLoadedFresh self.now.book pass.old pass.new }
+        ensures alone { IsDecidedByBalance result → is_single (account_of self.now.book from) ≡ true
             → PaysAlone self.now.book pass.old.knows pass.new.knows from
             ((to, amount) ∷ []) (Call.Transfer from to amount) result }
-        ensures in_round { IsDecided result → is_shared (account_of self.now.book from) ≡ true
+        ensures in_round { IsDecidedByBalance result
+            → is_shared (account_of self.now.book from) ≡ true
             → PaysInRound self.now.book pass.old.knows pass.new.knows from
             (Call.Transfer from to amount) result }
         ensures begins { IsPrefix pass.old.knows.seen pass.new.knows.seen }
@@ -67,7 +68,7 @@ impl Ledger {
         ensures asked_elsewhere { (a : ℕ) → a ≢ from → asked_by pass.new a ≡ asked_by pass.old a }
         ensures counted { others_counted pass.old ≤ others_counted pass.new }
         ensures steps { steps.new ≤ steps.old + payment_steps self.now.book from
-            + RECORD_WORDS * newly_counted pass.old pass.new }
+            + RECORD_WORDS * counted_anew pass.old pass.new }
         ensures exchanges { exchanges.new
             ≡ exchanges.old + decides_made from pass.old.knows pass.new.knows }
         ensures exchanges_single { is_shared (account_of self.now.book from) ≡ false
@@ -102,13 +103,14 @@ impl Ledger {
             → IsPlaced self.now.book pass.old.knows.first pass.new.knows.seen earlier result }
         ensures stands { (earlier : List Receipt) → Stands pass.old earlier
             → Stands pass.new (earlier ++ result ∷ []) }
-        ensures after_seen { IsDecided result
+        ensures after_seen { IsDecidedByBalance result
             → StandsAfter (length pass.old.knows.seen) pass.new.knows result }
-        ensures loads { IsDecided result → HasLoadedFresh self.now.book pass.old pass.new }
-        ensures alone { IsDecided result → is_single (account_of self.now.book from) ≡ true
+        ensures loads { IsDecidedByBalance result → HasLoadedFresh self.now.book pass.old pass.new }
+        ensures alone { IsDecidedByBalance result → is_single (account_of self.now.book from) ≡ true
             → PaysAlone self.now.book pass.old.knows pass.new.knows from
             targets.now (Call.Pay from targets.now) result }
-        ensures in_round { IsDecided result → is_shared (account_of self.now.book from) ≡ true
+        ensures in_round { IsDecidedByBalance result
+            → is_shared (account_of self.now.book from) ≡ true
             → PaysInRound self.now.book pass.old.knows pass.new.knows from
             (Call.Pay from targets.now) result }
         ensures begins { IsPrefix pass.old.knows.seen pass.new.knows.seen }
@@ -124,7 +126,7 @@ impl Ledger {
         ensures asked_elsewhere { (a : ℕ) → a ≢ from → asked_by pass.new a ≡ asked_by pass.old a }
         ensures counted { others_counted pass.old ≤ others_counted pass.new }
         ensures steps { steps.new ≤ steps.old + payment_steps self.now.book from
-            + RECORD_WORDS * newly_counted pass.old pass.new }
+            + RECORD_WORDS * counted_anew pass.old pass.new }
         ensures exchanges { exchanges.new
             ≡ exchanges.old + decides_made from pass.old.knows pass.new.knows }
         ensures exchanges_single { is_shared (account_of self.now.book from) ≡ false

@@ -12,7 +12,7 @@ ghost use Rattle.at_ledger.specs.declared.call.Reply.{Reply};
 ghost use Rattle.at_log.specs.Placed.{IsPlaced};
 ghost use Rattle.at_log.specs.declared.receipt.At.{At};
 ghost use Rattle.at_log.specs.declared.receipt.Receipt.{Receipt};
-ghost use Rattle.at_object.specs.Passes.{IsPassOf, Stands, asked_by, newly_counted, one_more_call, others_counted, sent_by};
+ghost use Rattle.at_object.specs.Passes.{IsPassOf, Stands, asked_by, counted_anew, one_more_call, others_counted, sent_by};
 ghost use Rattle.at_shared.specs.Settling.{StandsAfter};
 ghost use Rattle.at_single.specs.Standing.{front_behind};
 ghost use Rattle.at_snapshot.specs.Snapshots.{IsSnapshot, snapshot_steps};
@@ -56,7 +56,7 @@ impl Ledger {
         ensures sent { sent_by pass.new ≡ sent_by pass.old }
         ensures counted { others_counted pass.old ≤ others_counted pass.new }
         ensures steps { steps.new ≤ steps.old + snapshot_steps self.now.book.processes
-            + RECORD_WORDS * newly_counted pass.old pass.new }
+            + RECORD_WORDS * counted_anew pass.old pass.new }
         ensures exchanges { exchanges.new ≡ exchanges.old }
     {
         pass.seat.known();

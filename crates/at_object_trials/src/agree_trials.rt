@@ -2,7 +2,7 @@
 
 ghost use Rattle.std.specs.Prelude.{◌≡◌, ◌^◌, ◌<◌, All, IfSome};
 ghost use Rattle.at_agree.specs.Council.{IsSize};
-ghost use Rattle.at_agree.specs.Voices.{MayPropose};
+ghost use Rattle.at_agree.specs.Voices.{MayProposeValue};
 
 use at_agree::{Council, Voice, agree};
 use at_board::Steps;
@@ -33,16 +33,16 @@ const LOOKS: u32 = 1_000_000;
 #[tactic(auto, using(at_agree::proofs::NewVoices::new_may_propose))]
 fn new_council(alloc: Global, size: u32) -> Option<(Council, Vec<Voice>)>
     requires { IsSize size }
-    ensures { IfSome result (λ r. All (MayPropose r.0) r.1.items) }
+    ensures { IfSome result (λ r. All (MayProposeValue r.0) r.1.items) }
 {
     Council::new(alloc, size).ok()
 }
 
 /// The last of the voices that are left.
 fn last_voice(council: &Council, voices: &mut Vec<Voice>) -> Option<Voice>
-    requires { All (MayPropose council.now) voices.old.items }
-    ensures left { All (MayPropose council.now) voices.new.items }
-    ensures voice { IfSome result (MayPropose council.now) }
+    requires { All (MayProposeValue council.now) voices.old.items }
+    ensures left { All (MayProposeValue council.now) voices.new.items }
+    ensures voice { IfSome result (MayProposeValue council.now) }
 {
     let _ = council;
     voices.pop()
@@ -99,7 +99,7 @@ fn propose_at<L: ledger::Ledger, X: ledger::Ledger>(
     requires names { (steps.name ≡ L.name) × (exchanges.name ≡ X.name) }
     requires parts { (steps.parts ≡ L.parts) × (exchanges.parts ≡ X.parts) }
     requires some { (0 < steps.parts) × (0 < exchanges.parts) }
-    requires voice { MayPropose council.now voice.old }
+    requires voice { MayProposeValue council.now voice.old }
     requires value { value < 2 ^ 32 }
 {
     let (steps, exchanges) = (&mut Steps::<L>::new(steps), &mut Steps::<X>::new(exchanges));
@@ -122,7 +122,7 @@ fn meet(gate: &AtomicU64) {
 
 /// Proposes beside the other process.
 fn race(council: &Council, gate: &AtomicU64, voice: &mut Voice, value: u64) -> u64
-    requires voice { MayPropose council.now voice.old }
+    requires voice { MayProposeValue council.now voice.old }
     requires value { value < 2 ^ 32 }
 {
     propose_at::<Brand, Brand>(council, gate, voice, value, Blank::new(1), Blank::new(1))

@@ -32,7 +32,8 @@ pub(crate) fn close_all(
 
 /// Makes one more call with what was handed back, and closes the ledger again.
 fn close_again(alloc: Global, refused: CloseRefused) -> Option<Closed>
-    requires accounted { AreAccountedFor refused.ledger refused.passes.items (map (λ v. v.items) refused.receipts.items) }
+    requires accounted { AreAccountedFor refused.ledger refused.passes.items
+        (map (λ v. v.items) refused.receipts.items) }
     requires few { AreFew (map (λ v. v.items) refused.receipts.items) }
     ensures { IfSome result (λ c. AreFew c.closing.receipts) }
 {
@@ -64,7 +65,8 @@ fn read_again<L: ledger::Ledger, X: ledger::Ledger>(
     requires some { (0 < steps.parts) × (0 < exchanges.parts) }
     requires accounted { AreAccountedFor ledger.now passes.old (map (λ v. v.items) receipts.old) }
     requires few { AreFew (map (λ v. v.items) receipts.old) }
-    ensures accounted { IfSome result (λ _. AreAccountedFor ledger.now passes.new (map (λ v. v.items) receipts.new)) }
+    ensures accounted { IfSome result (λ _. AreAccountedFor ledger.now passes.new
+        (map (λ v. v.items) receipts.new)) }
     ensures few { IfSome result (λ _. AreFew (map (λ v. v.items) receipts.new)) }
 {
     ledger.book().known();
@@ -85,7 +87,8 @@ fn taken_apart(
     players: Vec<Player>,
 ) -> Option<(Vec<Pass>, Vec<Vec<Receipt>>)>
     requires { All (PlaysOn ledger.now) players.items }
-    ensures accounted { IfSome result (λ r. AreAccountedFor ledger.now r.0.items (map (λ v. v.items) r.1.items)) }
+    ensures accounted { IfSome result (λ r. AreAccountedFor ledger.now r.0.items
+        (map (λ v. v.items) r.1.items)) }
     ensures few { IfSome result (λ r. AreFew (map (λ v. v.items) r.1.items)) }
 {
     let mut passes = Vec::new(alloc);

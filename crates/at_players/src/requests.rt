@@ -9,7 +9,7 @@ ghost use Rattle.at_ledger.specs.Book.{account_of, HasSlot};
 ghost use Rattle.at_players.specs.Found.{HasFoundOldest, HasGained};
 ghost use Rattle.at_players.specs.SmallBoard.{IsIdle};
 ghost use Rattle.at_rows.specs.Asks.{HasAsked, HasLoadedNothing, MayAskFor, asked_for, opened};
-ghost use Rattle.at_rows.specs.Oldest.{IsLeft};
+ghost use Rattle.at_rows.specs.Oldest.{IsNotDone};
 
 use at_base::Counts;
 use at_board::{Board, BoardSeat, Steps};
@@ -81,7 +81,7 @@ pub fn find_oldest<L: Ledger, X: Ledger>(
     requires own { HasAsked board.now.book seat.old.knows 0 own.now }
     requires nothing { HasLoadedNothing seat.old.knows 0 }
     requires done { length done.now ≡ 8 }
-    requires left { IsLeft done.now own.now }
+    requires left { IsNotDone done.now own.now }
     ensures idle { IsIdle board.now seat.new }
     ensures gained { HasGained seat.old.knows seat.new.knows }
     ensures found { HasFoundOldest board.now.book seat.new.knows own.now done.now result }

@@ -85,7 +85,8 @@ pub fn decide_first<L: Ledger, X: Ledger>(
     requires proposal { MayPropose board.now.book seat.old.knows 0 0 (first_decision slot) payment }
     ensures board { IsOf seat.new board.now }
     ensures process { seat.new.knows.first ≡ seat.old.knows.first }
-    ensures won { result ≡ word_of (first_decision slot) → HasWon board.now.book seat.new.knows slot }
+    ensures won { result ≡ word_of (first_decision slot)
+        → HasWon board.now.book seat.new.knows slot }
     ensures lost { result ≢ word_of (first_decision slot) → IsIdle board.now seat.new }
 {
     let proposal = first_word(slot);

@@ -1,7 +1,7 @@
 -- What the files of `replay` hold, one after another.
 use Rattle.std.proofs.Common.{◌≡◌, ℕ, ◌≤◌, ◌^◌, List, length, All, Ok, Err, refl, arith}
 use Rattle.at_files.specs.BookRecords.{NamedBook}
-use Rattle.at_files.specs.Records.{records_of}
+use Rattle.at_files.specs.Records.{file_records}
 use Rattle.at_files.proofs.ScheduleLaws.{schedule_of-Schedules}
 use Rattle.at_ledger.specs.Book.{BookTerms}
 use Rattle.at_ledger.specs.Call.{IsLineOn}
@@ -46,7 +46,7 @@ pub replay_loaded-SpellsReplay : (files : Files) (asked : Replaying) (r : Replay
 replay_loaded-SpellsReplay files asked r is =
     let calls = all_loaded-SpelledOf PaysReplayBytes replay_calls_given files asked.book asked.payments r.what Accepts-replay is.calls in
     let few : r.what.book.processes ≤ 2 ^ 64 = omega (arith, is.calls.book.spelled.book.begun.few_processes) in
-    let read = schedule_of-Schedules r.what.book.processes (records_of is.schedule.bytes) r.schedule few is.schedule.spelled in
+    let read = schedule_of-Schedules r.what.book.processes (file_records is.schedule.bytes) r.schedule few is.schedule.spelled in
     let turns : schedule_loaded files asked.schedule (schedule_number asked) r.what.book.processes ≡ Ok r.schedule =
     rw (fetched-HoldsFile files asked.schedule is.schedule.bytes (schedule_number asked) is.schedule.held, read) refl in
     replay_loaded-scheduled files files asked r.what r.schedule (schedule_number asked) r.what.book.processes refl refl refl calls turns

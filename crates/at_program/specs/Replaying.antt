@@ -3,7 +3,7 @@ use Rattle.std.specs.Prelude.{◌≡◌, ℕ, ◌+◌, ◌⊎◌, Bool, true, Li
 use Rattle.at_ledger.specs.Book.{total_of}
 use Rattle.at_ledger.specs.Run.{Legal, Whole, last_state}
 use Rattle.at_ledger.specs.declared.call.Line.{Line}
-use Rattle.at_files.specs.Records.{records_of}
+use Rattle.at_files.specs.Records.{file_records}
 use Rattle.at_files.specs.Results.{and_then}
 use Rattle.at_files.specs.Schedule.{Schedules, schedule_of}
 use Rattle.at_files.specs.declared.schedule.ScheduleWhy.{ScheduleWhy}
@@ -41,7 +41,7 @@ schedule_read (Err bad) = Err (status.BadSchedule bad.line bad.why)
 
 -- the schedule of the file of this name and number, beside so many processes
 abbrev pub schedule_loaded : Files → Word → ℕ → ℕ → Result (List ℕ) Status
-schedule_loaded files name number processes = and_then (fetched (files name) number) (λ bytes. schedule_read (schedule_of processes (records_of bytes)))
+schedule_loaded files name number processes = and_then (fetched (files name) number) (λ bytes. schedule_read (schedule_of processes (file_records bytes)))
 
 -- the schedule beside what was loaded
 abbrev pub with_schedule : Loaded → Result (List ℕ) Status → Result Replay Status
@@ -60,7 +60,7 @@ replay_loaded files asked = and_then (calls_loaded files asked) (λ l. with_sche
 pub record SpellsSchedule (files : Files) (name : Word) (processes : ℕ) (schedule : List ℕ) : Type 0 where
   pub bytes : List ℕ
   pub held : HoldsFile files name bytes
-  pub spelled : Schedules processes (records_of bytes) schedule
+  pub spelled : Schedules processes (file_records bytes) schedule
 
 -- the words' files spell a book, its calls and a schedule
 pub record SpellsReplay (files : Files) (asked : Replaying) (r : Replay) : Type 0 where

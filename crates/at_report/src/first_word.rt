@@ -21,7 +21,8 @@ fn begins_with(text: &[u8], word: &[u8]) -> bool
 pub fn process_of(book: &Book, names: &Names, text: &[u8]) -> Option<u32>
     requires { AreNamesOf book.now names.now }
     ensures within { IfSome result (λ p. p < book.now.processes) }
-    ensures exact { (p : ℕ) → p < book.now.processes → (result ≡ Some p) ↔ IsFirstWord (process_name names.now p) text.now }
+    ensures exact { (p : ℕ) → p < book.now.processes → (result ≡ Some p)
+        ↔ IsFirstWord (process_name names.now p) text.now }
     ensures words { (p : ℕ) → p < book.now.processes → IsWord (process_name names.now p) }
 {
     let _accounts = book.accounts();

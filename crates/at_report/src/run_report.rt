@@ -117,7 +117,8 @@ pub fn report(
     requires names { AreNamesOf book.now names.now }
     requires lines { All (IsLineOn book.now.processes (length book.now.accounts)) lines.now }
     ensures text { IfOk result (λ text. text.items ≡ report_text book.now names.now lines.now) }
-    ensures spells { IfOk result (λ text. (others : List Line) → length others < 2 ^ 64 → All (IsPrinted book.now) lines.now → All (IsPrinted book.now) others
+    ensures spells { IfOk result (λ text. (others : List Line) → length others < 2 ^ 64
+        → All (IsPrinted book.now) lines.now → All (IsPrinted book.now) others
         → text.items ≡ report_text book.now names.now others → lines.now ≡ others) }
 {
     let _known = book.accounts();

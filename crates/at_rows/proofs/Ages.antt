@@ -3,7 +3,7 @@ use Rattle.std.proofs.Common.{◌≡◌, ℕ, ◌<◌, List, length, Option, Som
 use Rattle.std.proofs.lemmas.List.{get_or_default}
 use Rattle.std.proofs.lemmas.List.Elements.{Contains-get_or}
 use Rattle.std.specs.List.{Contains}
-use Rattle.at_rows.specs.Oldest.{IsBefore, IsFirstBelow, IsLeft, IsOldestOf}
+use Rattle.at_rows.specs.Oldest.{IsBefore, IsFirstBelow, IsNotDone, IsOldestOf}
 use Rattle.at_rows.specs.OpenRequests.{request_in}
 use Rattle.at_rows.specs.declared.open_request.OpenRequest.{OpenRequest}
 
@@ -26,5 +26,5 @@ IsOldestOf-IsFirstBelow list done first m x is found same =
       left = left;
       first = λ y there y_left.
           let at = request_in-Contains list y there in
-          subst (IsBefore (request_in list m)) at (before there.0 there.1 (subst (IsLeft done) (sym at) y_left));
+          subst (IsBefore (request_in list m)) at (before there.0 there.1 (subst (IsNotDone done) (sym at) y_left));
     })

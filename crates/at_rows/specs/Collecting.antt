@@ -16,8 +16,8 @@ abbrev pub AreWords : List LoadedWord → SeenRequest → Type 0
 AreWords words y = (j : ℕ) → j < REQUEST_WORDS → Contains words (record { request = y; word = j })
 
 -- what an element is: the seat's own request, or the last one that was counted in the row of another owner, whole
-abbrev pub IsLast : ℕ → OpenRequest → List SeenRow → List LoadedWord → OpenRequest → Type 0
-IsLast a own rows words x = (x ≡ own) ⊎ ((x.slot ≢ own.slot) × WordCounts rows x.slot (x.number + 1) × AreWords words (seen_of a x))
+abbrev pub IsOwnOrLast : ℕ → OpenRequest → List SeenRow → List LoadedWord → OpenRequest → Type 0
+IsOwnOrLast a own rows words x = (x ≡ own) ⊎ ((x.slot ≢ own.slot) × WordCounts rows x.slot (x.number + 1) × AreWords words (seen_of a x))
 
 -- the row of another owner was loaded, and the last request that it counts is in the list
 abbrev pub HasRow : List SeenRow → List OpenRequest → ℕ → Type 0
@@ -33,7 +33,7 @@ pub record IsCollectingRows (v w : Knowledge) (a : ℕ) (own : OpenRequest) (lis
   pub below : AreBelow list s
   pub few : length list ≤ s
   pub own_in : own.slot < s → Contains list own
-  pub last : (x : OpenRequest) → Contains list x → IsLast a own rows words x
+  pub last : (x : OpenRequest) → Contains list x → IsOwnOrLast a own rows words x
   pub counted : (slot : ℕ) → slot < s → slot ≢ own.slot → HasRow rows list slot
   pub only : (l : LoadedWord) → Contains words l → IsAmong a list l.request
   pub slots : map (λ r. r.slot) rows ≡ range_with_len 0 s

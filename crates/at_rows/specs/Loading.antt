@@ -11,8 +11,8 @@ use Rattle.at_board.specs.declared.knowledge.SeenRequest.{SeenRequest}
 use Rattle.at_rows.specs.Loads.{first_words, with_words}
 
 -- the seat after loads of the first j words of a request
-abbrev pub with_first : Knowledge → ℕ → SeenRequest → ℕ → Knowledge
-with_first v a x j =
+abbrev pub with_first_words : Knowledge → ℕ → SeenRequest → ℕ → Knowledge
+with_first_words v a x j =
     with_asking (record v { requests = v.requests ++ replicate j x }) a (with_words (asking_on (own_part v) a) (first_words x j))
 
 -- the first j words of a request were loaded, and they are these
@@ -21,7 +21,7 @@ pub record IsLoading (b : BookTerms) (v u : Knowledge) (a slot number : ℕ) (wo
   pub known : (q : Request) → SeesRequest v a slot number q → q ≡ request
   pub targets : AreTargets b request.targets
   pub since : request.since ≤ places_max
-  pub same : u ≡ with_first v a (seen_as a slot number request) j
+  pub same : u ≡ with_first_words v a (seen_as a slot number request) j
   pub words_so_far : (k : ℕ) → k < j → slice_index words k ≡ slice_index (request_words request) k
 
 -- before the first load, or after some

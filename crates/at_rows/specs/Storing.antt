@@ -6,12 +6,12 @@ use Rattle.at_board.specs.declared.knowledge.Knowledge.{Knowledge}
 use Rattle.at_board.specs.declared.words.TheConstants.{REQUEST_WORDS}
 
 -- what it has on the account, with these words of the next request
-abbrev pub with_stored : Asking → List ℕ → Asking
-with_stored w stored = record w { stored = stored }
+abbrev pub with_request_stored : Asking → List ℕ → Asking
+with_request_stored w stored = record w { stored = stored }
 
 -- the first j words of the next request are stored, they are these, and nothing else has changed
 pub record IsStoringRequest (before after : Knowledge) (a : ℕ) (words : List ℕ) (j : ℕ) : Type 0 where
   pub stored : List ℕ
   pub sized : length stored ≡ REQUEST_WORDS
-  pub same : after ≡ with_asking before a (with_stored (asking_on (own_part before) a) stored)
+  pub same : after ≡ with_asking before a (with_request_stored (asking_on (own_part before) a) stored)
   pub words_so_far : (k : ℕ) → k < j → slice_index stored k ≡ slice_index words k

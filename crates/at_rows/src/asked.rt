@@ -3,7 +3,7 @@
 ghost use Rattle.std.specs.Prelude.{◌≡◌, ℕ, ◌+◌, ◌<◌, ◌≤◌, ◌++◌, [], length, All, Contains, IfSome};
 ghost use Rattle.std.specs.Option.{option_to_list};
 ghost use Rattle.at_rows.specs.OpenRequests.{AreBelow, AreRising};
-ghost use Rattle.at_rows.specs.Oldest.{IsFirstBelow, IsLeft, IsOldestOf};
+ghost use Rattle.at_rows.specs.Oldest.{IsFirstBelow, IsNotDone, IsOldestOf};
 ghost use Rattle.at_rows.specs.declared.open_request.OpenRequest.{OpenRequest};
 
 use crate::open_request::OpenRequest;
@@ -87,7 +87,7 @@ impl Asked {
 /// makes no step and takes no memory.
 pub fn oldest(asked: &Asked, done: &Counts) -> OpenRequest
     requires slots { All (λ x. x.slot < length done.now) asked.now }
-    requires some { (x : OpenRequest) × Contains asked.now x × IsLeft done.now x }
+    requires some { (x : OpenRequest) × Contains asked.now x × IsNotDone done.now x }
     ensures { IsOldestOf asked.now done.now result }
 {
     let mut first = None;

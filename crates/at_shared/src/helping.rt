@@ -59,7 +59,12 @@ impl Model for Helping {
 
     ghost Value = { HelpingTerms };
 
-    ghost view = { λ h. record { call = h.call; account = h.account; own = h.own; asked = h.asked } };
+    ghost view = { λ h. record {
+      call = h.call;
+      account = h.account;
+      own = h.own;
+      asked = h.asked;
+    } };
 }
 
 impl Helping {

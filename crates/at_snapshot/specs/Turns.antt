@@ -21,7 +21,7 @@ pub record IsLeastRisen (process : ℕ) (first now : List ℕ) (p : ℕ) : Type 
   pub least : (q : ℕ) → q < p → ¬ HasRisen process first now q
 
 -- the collect differs from the one before, and no other process has risen by two
-pub record IsUndecided (c : Collects) (v : Knowledge) (now : List ℕ) : Type 0 where
+pub record LeavesUndecided (c : Collects) (v : Knowledge) (now : List ℕ) : Type 0 where
   pub differs : c.last ≢ now
   pub none : (p : ℕ) → ¬ HasRisen v.first c.first now p
 
@@ -42,7 +42,7 @@ pub record IsLent (c : Collects) (v : Knowledge) (now counts : List ℕ) : Type 
 abbrev pub IsVerdict : Collects → Knowledge → List ℕ → Turn → Type 0
 IsVerdict c v now (Clean counts) = IsRepeated c now counts
 IsVerdict c v now (Borrowed counts) = IsLent c v now counts
-IsVerdict c v now Again = IsUndecided c v now
+IsVerdict c v now Again = LeavesUndecided c v now
 
 -- what a turn answers: Again at the first collect, and later by the collects before it
 abbrev pub IsAnswer : ScanTerms → Knowledge → Turn → Type 0

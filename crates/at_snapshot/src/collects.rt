@@ -128,8 +128,10 @@ impl Verdict {
         exchanges: &mut Steps<X>,
     ) -> Turn
         requires board { IsOf seat.old board.now }
-        requires verdict { (collects : Option Collects) × IsVerdictOn collects seat.old.knows.first now.now self }
-        requires seen { (p : ℕ) → p < length now.now → slice_index now.now p ≤ count_of p seat.old.knows.seen }
+        requires verdict { (collects : Option Collects)
+            × IsVerdictOn collects seat.old.knows.first now.now self }
+        requires seen { (p : ℕ) → p < length now.now
+            → slice_index now.now p ≤ count_of p seat.old.knows.seen }
         ensures answer { result ≡ answer_of self seat.old.knows now.now }
         ensures same { seat.new ≡ seat.old }
         ensures steps { steps.new ≡ steps.old + view_steps board.now.book.processes result }

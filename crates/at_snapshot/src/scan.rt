@@ -41,7 +41,11 @@ impl Model for Scan {
 
     ghost Value = { ScanTerms };
 
-    ghost view = { λ s. record { start = s.start.value.knows; mark = s.mark.value.knows; collects = s.collects } };
+    ghost view = { λ s. record {
+      start = s.start.value.knows;
+      mark = s.mark.value.knows;
+      collects = s.collects;
+    } };
 
     ghost invariant = { λ s. SeesOwnRecords s.start.value.knows };
 }
@@ -75,7 +79,8 @@ impl Scan {
         ensures after { self.new ≡ scan_after self.old seat.new.knows }
         ensures scan { IsScanOf board.now.book self.new seat.new.knows }
         ensures answer { IsAnswer self.old seat.new.knows result }
-        ensures snapshot { OnCounts result (IsSnapshot board.now.book self.old.start seat.new.knows) }
+        ensures snapshot { OnCounts result (IsSnapshot board.now.book self.old.start
+            seat.new.knows) }
         ensures board { IsOf seat.new board.now }
         ensures steps { steps.new ≡ steps.old + board.now.book.processes
             + view_steps board.now.book.processes result }

@@ -21,7 +21,8 @@ pub fn snapshot<L: Ledger, X: Ledger>(
     requires { IsOf seat.old board.now }
     ensures snapshot { IsSnapshot board.now.book seat.old.knows seat.new.knows result }
     ensures loads { HasLoaded board.now.book seat.old.knows seat.new.knows }
-    ensures collects { HasCollected board.now.book seat.old.knows seat.new.knows (board.now.book.processes + 1) }
+    ensures collects { HasCollected board.now.book seat.old.knows seat.new.knows
+        (board.now.book.processes + 1) }
     ensures board { IsOf seat.new board.now }
     ensures steps { steps.new ≤ steps.old + snapshot_steps board.now.book.processes }
     ensures exchanges { exchanges.new ≡ exchanges.old }

@@ -16,9 +16,9 @@ use Rattle.at_object.specs.Parted.{IsOfOnePass, pass_of}
 use Rattle.at_object.specs.Passes.{PassTerms, Stands, one_more_call}
 use Rattle.at_object.specs.Payments.{IsRefused, has_used_up}
 use Rattle.at_object.specs.declared.parts.Rest.{Rest}
-use Rattle.at_stepper.specs.Callers.{CallerTerms, GoesOn, IsAnswered, IsFile, caller_turns_left, calls_left_of, is_refused, most_turns, next_call, steps_in}
+use Rattle.at_stepper.specs.Callers.{CallerTerms, IsAnswered, IsFile, IsStillCalling, caller_turns_left, calls_left_of, is_refused, most_turns, next_call, steps_in}
 use Rattle.at_calling.specs.Calling.{CallMade, CallingTerms, IsCallWithin, IsWay, StaysWithin, call_steps, call_turns_left, exchanges_made, exchanges_of, pass_before, refusal_in, steps_made, steps_of}
-use Rattle.at_stepper.specs.KeptCallers.{IsBegun, IsCallerOf, IsMakingSo, IsNextInMaking, caller_of, calls_of, pass_in, stage_in}
+use Rattle.at_stepper.specs.KeptCallers.{IsCallBegun, IsCallerOf, IsMakingSo, IsNextInMaking, caller_of, calls_answered, pass_in, stage_in}
 use Rattle.at_calling.specs.declared.call_stage.CallStage.{CallStage}
 use Rattle.at_calling.specs.declared.call_stage.CallStage.TheVariants.{PayAlone, PayShared, Read as ReadOn, Refuse, Refused}
 use Rattle.at_stepper.specs.declared.turned.Turned.TheVariants.{Answer}
@@ -93,35 +93,35 @@ process-CallMade b before after (Read account) r made = made.process_is
 process-CallMade b before after (Pay from targets) r made = made.process_is
 
 -- the pass between calls, once the next one is begun
-pub pass_in-IsBegun : (b : BookTerms) (seat : SeatTerms) (rest : Rest) (calls : List Call) (made : ℕ) (next : Option CallingTerms)
-    → IsBegun b seat rest calls made next → pass_in seat rest next ≡ pass_of seat rest
-pass_in-IsBegun b seat rest calls made None begun = refl
-pass_in-IsBegun b seat rest calls made (Some c) begun = ap (λ (s : SeatTerms). pass_of s c.was) begun.start ∙ ap (λ (x : Rest). pass_of seat x) begun.was
+pub pass_in-IsCallBegun : (b : BookTerms) (seat : SeatTerms) (rest : Rest) (calls : List Call) (made : ℕ) (next : Option CallingTerms)
+    → IsCallBegun b seat rest calls made next → pass_in seat rest next ≡ pass_of seat rest
+pass_in-IsCallBegun b seat rest calls made None begun = refl
+pass_in-IsCallBegun b seat rest calls made (Some c) begun = ap (λ (s : SeatTerms). pass_of s c.was) begun.start ∙ ap (λ (x : Rest). pass_of seat x) begun.was
 
-pub unturned-IsBegun : (b : BookTerms) (seat : SeatTerms) (rest : Rest) (calls : List Call) (made : ℕ) (next : Option CallingTerms)
-    → IsBegun b seat rest calls made next → steps_made (stage_in next) ≡ 0
-unturned-IsBegun b seat rest calls made None begun = refl
-unturned-IsBegun b seat rest calls made (Some c) begun = begun.unturned
+pub unturned-IsCallBegun : (b : BookTerms) (seat : SeatTerms) (rest : Rest) (calls : List Call) (made : ℕ) (next : Option CallingTerms)
+    → IsCallBegun b seat rest calls made next → steps_made (stage_in next) ≡ 0
+unturned-IsCallBegun b seat rest calls made None begun = refl
+unturned-IsCallBegun b seat rest calls made (Some c) begun = begun.unturned
 
-pub unexchanged-IsBegun : (b : BookTerms) (seat : SeatTerms) (rest : Rest) (calls : List Call) (made : ℕ) (next : Option CallingTerms)
-    → IsBegun b seat rest calls made next → exchanges_made (stage_in next) ≡ 0
-unexchanged-IsBegun b seat rest calls made None begun = refl
-unexchanged-IsBegun b seat rest calls made (Some c) begun = begun.unexchanged
+pub unexchanged-IsCallBegun : (b : BookTerms) (seat : SeatTerms) (rest : Rest) (calls : List Call) (made : ℕ) (next : Option CallingTerms)
+    → IsCallBegun b seat rest calls made next → exchanges_made (stage_in next) ≡ 0
+unexchanged-IsCallBegun b seat rest calls made None begun = refl
+unexchanged-IsCallBegun b seat rest calls made (Some c) begun = begun.unexchanged
 
-pub way-IsBegun : (b : BookTerms) (seat : SeatTerms) (rest : Rest) (calls : List Call) (made : ℕ) (next : Option CallingTerms)
-    → IsBegun b seat rest calls made next → made < length calls
+pub way-IsCallBegun : (b : BookTerms) (seat : SeatTerms) (rest : Rest) (calls : List Call) (made : ℕ) (next : Option CallingTerms)
+    → IsCallBegun b seat rest calls made next → made < length calls
     → IsWay b (pass_in seat rest next) (get_or calls made (Call.Read 0)) (stage_in next)
-way-IsBegun b seat rest calls made None begun more = absurd (omega (arith, begun, more))
-way-IsBegun b seat rest calls made (Some c) begun more =
-    subst (λ (p : PassTerms). IsWay b p (get_or calls made (Call.Read 0)) c.stage) (sym (pass_in-IsBegun b seat rest calls made (Some c) begun))
+way-IsCallBegun b seat rest calls made None begun more = absurd (omega (arith, begun, more))
+way-IsCallBegun b seat rest calls made (Some c) begun more =
+    subst (λ (p : PassTerms). IsWay b p (get_or calls made (Call.Read 0)) c.stage) (sym (pass_in-IsCallBegun b seat rest calls made (Some c) begun))
     (subst (λ (call : Call). IsWay b (pass_of seat rest) call c.stage) begun.call begun.way)
 
 -- all calls are made, or the next one is in the making
-pub IsMakingSo-IsBegun : (b : BookTerms) (seat : SeatTerms) (rest : Rest) (calls : List Call) (made : ℕ) (next : Option CallingTerms)
-    → IsBegun b seat rest calls made next → made ≤ length calls → seat.knows.book ≡ b → IsOfOnePass seat rest
+pub IsMakingSo-IsCallBegun : (b : BookTerms) (seat : SeatTerms) (rest : Rest) (calls : List Call) (made : ℕ) (next : Option CallingTerms)
+    → IsCallBegun b seat rest calls made next → made ≤ length calls → seat.knows.book ≡ b → IsOfOnePass seat rest
     → IsMakingSo calls made (get_or calls made (Call.Read 0)) seat rest next
-IsMakingSo-IsBegun b seat rest calls made None begun within book pass = (omega (arith, begun, within), pass)
-IsMakingSo-IsBegun b seat rest calls made (Some c) begun within book pass = record {
+IsMakingSo-IsCallBegun b seat rest calls made None begun within book pass = (omega (arith, begun, within), pass)
+IsMakingSo-IsCallBegun b seat rest calls made (Some c) begun within book pass = record {
   more = begun.more;
   call_is = begun.call;
   mark = begun.mark;
@@ -129,7 +129,7 @@ IsMakingSo-IsBegun b seat rest calls made (Some c) begun within book pass = reco
   book = ap (λ (s : SeatTerms). s.knows.book) begun.start;
   left = subst (λ (x : BookTerms). 0 < call_turns_left x c.stage) (sym book) begun.left;
   way = λ none. subst (λ (x : BookTerms). IsWay x (pass_before c) (get_or calls made (Call.Read 0)) c.stage) (sym book)
-      (way-IsBegun b seat rest calls made (Some c) begun begun.more);
+      (way-IsCallBegun b seat rest calls made (Some c) begun begun.more);
 }
 
 -- a turn of the call in the making, which may be its last
@@ -174,9 +174,9 @@ module _ (b : BookTerms) (seat : SeatTerms) (rest : Rest) (calls : List Call) (r
     few_turns : steps_made c.stage + steps_of c.stage < most_turns b (next_call before)
     few_turns = omega (arith, turns, within_call, kept.history.few)
 
-    turns_left-before : sum_by (most_turns b) (drop (length receipts) calls)
+    all_turns_left-before : sum_by (most_turns b) (drop (length receipts) calls)
         ≡ most_turns b (next_call before) + sum_by (most_turns b) (drop (length receipts + 1) calls)
-    turns_left-before = sum_by-drop_more (most_turns b) calls (length receipts) (Call.Read 0) next.more
+    all_turns_left-before = sum_by-drop_more (most_turns b) calls (length receipts) (Call.Read 0) next.more
 
     -- the call goes on
     module _ (left : 0 < call_turns_left b d.stage) (mark : d.mark ≡ after_seat) (rest_is : d.rest ≡ after_rest) where
@@ -186,8 +186,8 @@ module _ (b : BookTerms) (seat : SeatTerms) (rest : Rest) (calls : List Call) (r
       abbrev going_on : CallerTerms
       going_on = caller_of after_seat after_rest calls receipts (Some d)
 
-      pub GoesOn-turned : GoesOn b before going_on
-      GoesOn-turned = record {
+      pub IsStillCalling-turned : IsStillCalling b before going_on
+      IsStillCalling-turned = record {
         pass = same_pass;
         receipts = refl;
         turns = omega (arith, turns, one_step);
@@ -198,8 +198,8 @@ module _ (b : BookTerms) (seat : SeatTerms) (rest : Rest) (calls : List Call) (r
       pub steps_of-turned : steps_of c.stage ≡ 1
       steps_of-turned = one_step
 
-      pub turns_left-turned : caller_turns_left b going_on < caller_turns_left b before
-      turns_left-turned = omega (arith, turns, one_step, few_turns, turns_left-before)
+      pub all_turns_left-turned : caller_turns_left b going_on < caller_turns_left b before
+      all_turns_left-turned = omega (arith, turns, one_step, few_turns, all_turns_left-before)
 
       pub IsCallerOf-turned : IsCallerOf after_seat after_rest calls receipts (Some d) room
       IsCallerOf-turned = record {
@@ -228,12 +228,12 @@ module _ (b : BookTerms) (seat : SeatTerms) (rest : Rest) (calls : List Call) (r
         (one_pass : IsOfOnePass after_seat after_rest) (one_more : after_rest.calls ≡ one_more_call c.was.calls)
         (within : StaysWithin b (pass_before c) (pass_of after_seat after_rest) c.call (steps_made d.stage) (exchanges_made d.stage) r)
         (all : List Receipt)
-        (pushed : all ≡ receipts ++ r ∷ []) (then : Option CallingTerms) (begun : IsBegun b after_seat after_rest calls (length all) then) where
+        (pushed : all ≡ receipts ++ r ∷ []) (then : Option CallingTerms) (begun : IsCallBegun b after_seat after_rest calls (length all) then) where
       abbrev answered : CallerTerms
       answered = caller_of after_seat after_rest calls all then
 
       after_pass : pass_in after_seat after_rest then ≡ pass_of after_seat after_rest
-      after_pass = pass_in-IsBegun b after_seat after_rest calls (length all) then begun
+      after_pass = pass_in-IsCallBegun b after_seat after_rest calls (length all) then begun
 
       count : length all ≡ length receipts + 1
       count = ap (λ (rs : List Receipt). length rs) pushed ∙ length-append receipts (r ∷ [])
@@ -268,17 +268,17 @@ module _ (b : BookTerms) (seat : SeatTerms) (rest : Rest) (calls : List Call) (r
             (exchanges_made d.stage) r) next.call_is
             (subst (λ (p : PassTerms). StaysWithin b (pass_before c) p c.call (steps_made d.stage) (exchanges_made d.stage) r)
             (sym after_pass) within)));
-        unturned = unturned-IsBegun b after_seat after_rest calls (length all) then begun;
-        unexchanged = unexchanged-IsBegun b after_seat after_rest calls (length all) then begun;
-        way = λ more. way-IsBegun b after_seat after_rest calls (length all) then begun more;
+        unturned = unturned-IsCallBegun b after_seat after_rest calls (length all) then begun;
+        unexchanged = unexchanged-IsCallBegun b after_seat after_rest calls (length all) then begun;
+        way = λ more. way-IsCallBegun b after_seat after_rest calls (length all) then begun more;
       }
 
-      pub turns_left-answered : caller_turns_left b answered < caller_turns_left b before
-      turns_left-answered = omega (
+      pub all_turns_left-answered : caller_turns_left b answered < caller_turns_left b before
+      all_turns_left-answered = omega (
         arith,
         few_turns,
-        turns_left-before,
-        unturned-IsBegun b after_seat after_rest calls (length all) then begun,
+        all_turns_left-before,
+        unturned-IsCallBegun b after_seat after_rest calls (length all) then begun,
         ap (λ n. sum_by (most_turns b) (drop n calls)) count,
       )
 
@@ -298,7 +298,7 @@ module _ (b : BookTerms) (seat : SeatTerms) (rest : Rest) (calls : List Call) (r
           counted = ap (λ (p : PassTerms). p.calls) after_pass
               ∙ omega (arith, one_more, count, was.caller.counted, was.caller.file.few, next.more);
           made =
-              ap calls_of pushed
+              ap calls_answered pushed
               ∙ (map-append (λ (x : Receipt). x.call) receipts (r ∷ [])
               ∙ (ap (λ (cs : List Call). cs ++ r.call ∷ []) was.caller.made
               ∙ (ap (λ (call : Call). take (length receipts) calls ++ call ∷ [])
@@ -307,5 +307,5 @@ module _ (b : BookTerms) (seat : SeatTerms) (rest : Rest) (calls : List Call) (r
           within = omega (arith, count, next.more);
           fits = omega (arith, was.caller.fits, same);
         };
-        making_so = IsMakingSo-IsBegun b after_seat after_rest calls (length all) then begun (omega (arith, count, next.more)) same_book one_pass;
+        making_so = IsMakingSo-IsCallBegun b after_seat after_rest calls (length all) then begun (omega (arith, count, next.more)) same_book one_pass;
       }

@@ -11,8 +11,8 @@ use Rattle.at_log.specs.declared.receipt.Receipt.{Receipt}
 use Rattle.at_stepper.proofs.SteppingLaws.{calls_left-at, some_of}
 use Rattle.at_stepper.specs.Callers.{CallerTerms, answers_in, calls_left_of}
 use Rattle.at_stepper.specs.Replays.{HasTurnedBy, IsSameRun, IsUnturned, TurnBy, TurnInRounds}
-use Rattle.at_stepper.specs.Schedules.{AreTurnsBy, AreTurnsOf, answered_by, rounds_of}
-use Rattle.at_stepper.specs.Stepping.{IsNewStepper, IsOver, StepperTerms, calls_left, files_of, turns_left}
+use Rattle.at_stepper.specs.Schedules.{AreTurnsBy, AreTurnsOf, answered_by, rounds_of_turns}
+use Rattle.at_stepper.specs.Stepping.{IsNewStepper, IsOver, StepperTerms, all_turns_left, calls_left, files_of}
 use Rattle.at_stepper.specs.declared.replaying.TurnMade.{TurnMade}
 use Rattle.at_stepper.specs.declared.turned.Turned.{Turned}
 use Rattle.at_stepper.specs.declared.turned.Turned.TheVariants.{Answer, Step}
@@ -24,7 +24,7 @@ pub record WereIdle (count : ℕ) (before after : StepperTerms) : Type 0 where
 
 -- that, or fewer turns are left
 abbrev pub HasGoneOn : ℕ → StepperTerms → StepperTerms → Type 0
-HasGoneOn count before after = WereIdle count before after ⊎ (turns_left after < turns_left before)
+HasGoneOn count before after = WereIdle count before after ⊎ (all_turns_left after < all_turns_left before)
 
 -- the same run is of itself, and of one before that
 pub IsSameRun-refl : (s : StepperTerms) → IsSameRun s s
@@ -51,7 +51,7 @@ IsOver-idle s count sized idle q =
 
 -- one process more has gone on
 pub HasGoneOn-more : (count : ℕ) (before middle after : StepperTerms) → HasGoneOn count before middle
-    → (slice_index (calls_left middle) count ≡ 0 → after ≡ middle) → (0 < slice_index (calls_left middle) count → turns_left after < turns_left middle)
+    → (slice_index (calls_left middle) count ≡ 0 → after ≡ middle) → (0 < slice_index (calls_left middle) count → all_turns_left after < all_turns_left middle)
     → HasGoneOn (count + 1) before after
 HasGoneOn-more count before middle after was idle busy =
     elim (cases_eq (slice_index (calls_left middle) count) 0) as (λ _. HasGoneOn (count + 1) before after) [
@@ -68,21 +68,21 @@ HasGoneOn-more count before middle after was idle busy =
                     | inr other ↦ were.idle q (omega (arith, within, other))
                   ];
             })
-            | inr fewer ↦ inr (omega (arith, fewer, ap (λ (s : StepperTerms). turns_left s) stays))
+            | inr fewer ↦ inr (omega (arith, fewer, ap (λ (s : StepperTerms). all_turns_left s) stays))
           ]
       | inr some ↦
-          let fewer : turns_left after < turns_left middle = busy (omega (arith, some)) in
+          let fewer : all_turns_left after < all_turns_left middle = busy (omega (arith, some)) in
           elim was as (λ _. HasGoneOn (count + 1) before after) [
-            | inl were ↦ inr (omega (arith, fewer, ap (λ (s : StepperTerms). turns_left s) were.same))
+            | inl were ↦ inr (omega (arith, fewer, ap (λ (s : StepperTerms). all_turns_left s) were.same))
             | inr less ↦ inr (omega (arith, fewer, less))
           ]
     ]
 
 -- all have
 pub HasGoneOn-all : (count : ℕ) (before after : StepperTerms) → length before.callers ≡ count → HasGoneOn count before after
-    → IsOver before ⊎ (turns_left after < turns_left before)
+    → IsOver before ⊎ (all_turns_left after < all_turns_left before)
 HasGoneOn-all count before after sized gone =
-    elim gone as (λ _. IsOver before ⊎ (turns_left after < turns_left before)) [
+    elim gone as (λ _. IsOver before ⊎ (all_turns_left after < all_turns_left before)) [
       | inl were ↦ inl (IsOver-idle before count sized were.idle)
       | inr fewer ↦ inr fewer
     ]
@@ -152,15 +152,15 @@ range_push n =
 
 -- no round, and one more
 pub TurnInRounds-none : (n : ℕ) (turns : List TurnMade) (s : StepperTerms) → TurnInRounds n turns s turns s
-unfolding rounds_of
+unfolding rounds_of_turns
 TurnInRounds-none n turns s = record { times = zero; turned = TurnBy-none turns s }
 
 pub TurnInRounds-more : (n : ℕ) (was middle turns : List TurnMade) (s t u : StepperTerms) → TurnInRounds n was s middle t
     → TurnBy (range_with_len 0 n) middle t turns u → TurnInRounds n was s turns u
-unfolding rounds_of
+unfolding rounds_of_turns
 TurnInRounds-more n was middle turns s t u rounds round = record {
   times = suc rounds.times;
-  turned = TurnBy-then (rounds_of n rounds.times) (range_with_len 0 n) was middle turns s t u rounds.turned round;
+  turned = TurnBy-then (rounds_of_turns n rounds.times) (range_with_len 0 n) was middle turns s t u rounds.turned round;
 }
 
 -- of a new run no call is answered
@@ -196,6 +196,6 @@ AreTurnsOf-over n schedule was turns s t u sized turned rounds over =
     let count : length (files_of s) ≡ n = length-map s.callers (λ (c : CallerTerms). c.calls) ∙ sized in
     let all = rounds.turned (files_of s) schedule turned in record {
       times = rounds.times;
-      made = subst (λ m. AreTurnsBy (files_of s) (schedule ++ rounds_of m rounds.times) turns) (sym count) all.made;
+      made = subst (λ m. AreTurnsBy (files_of s) (schedule ++ rounds_of_turns m rounds.times) turns) (sym count) all.made;
       over = λ p within. omega (arith, all.left p, over p);
     }

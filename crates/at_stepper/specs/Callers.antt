@@ -68,7 +68,7 @@ answers_in Step = 0
 answers_in (Answer r) = 1
 
 -- the call goes on after one step, within its bound so far. The pass between calls stays, and so do the receipts
-pub record GoesOn (b : BookTerms) (before after : CallerTerms) : Type 0 where
+pub record IsStillCalling (b : BookTerms) (before after : CallerTerms) : Type 0 where
   pub pass : after.pass ≡ before.pass
   pub receipts : after.receipts ≡ before.receipts
   pub turns : steps_made after.stage ≡ steps_made before.stage + 1
@@ -92,7 +92,7 @@ pub record IsAnswered (b : BookTerms) (before after : CallerTerms) (r : Receipt)
 
 -- what a turn leaves of its caller, by what it answers
 abbrev pub LeavesCaller : BookTerms → CallerTerms → CallerTerms → Turned → Type 0
-LeavesCaller b before after Step = GoesOn b before after
+LeavesCaller b before after Step = IsStillCalling b before after
 LeavesCaller b before after (Answer r) = IsAnswered b before after r
 
 -- the most turns of a call, whatever the others do

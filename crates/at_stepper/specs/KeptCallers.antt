@@ -33,8 +33,8 @@ caller_of seat rest calls receipts making = record {
 }
 
 -- the calls that receipts are of
-abbrev pub calls_of : List Receipt → List Call
-calls_of receipts = map (λ r. r.call) receipts
+abbrev pub calls_answered : List Receipt → List Call
+calls_answered receipts = map (λ r. r.call) receipts
 
 -- the next call was begun with this pass, of this seat and rest after the last turn, and is not ended
 pub record IsNextInMaking (calls : List Call) (made : ℕ) (call : Call) (seat : SeatTerms) (rest : Rest) (c : CallingTerms) : Type 0 where
@@ -57,7 +57,7 @@ pub record IsCallerSo (caller : CallerTerms) (room : ℕ) : Type 0 where
   pub file : IsFile (length caller.seat.knows.book.accounts) caller.calls
   pub stands : Stands caller.pass caller.receipts
   pub counted : caller.pass.calls ≡ length caller.receipts
-  pub made : calls_of caller.receipts ≡ take (length caller.receipts) caller.calls
+  pub made : calls_answered caller.receipts ≡ take (length caller.receipts) caller.calls
   pub within : length caller.receipts ≤ length caller.calls
   pub fits : length caller.calls ≤ room
 
@@ -78,6 +78,6 @@ pub record BeginsCall (b : BookTerms) (seat : SeatTerms) (rest : Rest) (calls : 
   pub unexchanged : exchanges_made c.stage ≡ 0
   pub left : 0 < call_turns_left b c.stage
 
-abbrev pub IsBegun : BookTerms → SeatTerms → Rest → List Call → ℕ → Option CallingTerms → Type 0
-IsBegun b seat rest calls made None = length calls ≤ made
-IsBegun b seat rest calls made (Some c) = BeginsCall b seat rest calls made c
+abbrev pub IsCallBegun : BookTerms → SeatTerms → Rest → List Call → ℕ → Option CallingTerms → Type 0
+IsCallBegun b seat rest calls made None = length calls ≤ made
+IsCallBegun b seat rest calls made (Some c) = BeginsCall b seat rest calls made c

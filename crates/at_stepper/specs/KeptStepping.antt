@@ -6,12 +6,12 @@ use Rattle.at_ledger.specs.declared.call.Call.{Call}
 use Rattle.at_board.specs.Knowledge.Seats.{BoardTerms, IsOf}
 use Rattle.at_log.specs.declared.receipt.Receipt.{Receipt}
 use Rattle.at_object.specs.Closings.{AreAccountedFor}
-use Rattle.at_object.specs.Parted.{HasRoom}
+use Rattle.at_object.specs.Parted.{HasMemoryFor}
 use Rattle.at_object.specs.Passes.{IsPassOf, PassTerms, Stands}
 use Rattle.at_stepper.specs.Callers.{CallerTerms, LeavesCaller, answers_in, caller_turns_left, calls_left_of}
 use Rattle.at_calling.specs.Calling.{MakesCallStep}
-use Rattle.at_stepper.specs.KeptCallers.{calls_of}
-use Rattle.at_stepper.specs.Stepping.{IsOver, StepperTerms, calls_left, files_of, turns_left}
+use Rattle.at_stepper.specs.KeptCallers.{calls_answered}
+use Rattle.at_stepper.specs.Stepping.{IsOver, StepperTerms, all_turns_left, calls_left, files_of}
 use Rattle.at_stepper.specs.declared.caller.Start.{Start}
 use Rattle.at_stepper.specs.declared.progress.EndedRun.{EndedRun}
 use Rattle.at_stepper.specs.declared.progress.ClosedRun.{ClosedRun}
@@ -29,8 +29,8 @@ abbrev pub receipts_in : List (Vec Receipt Global) → List (List Receipt)
 receipts_in receipts = map (λ (list : Vec Receipt Global). list.items) receipts
 
 -- a run as callers see it
-abbrev pub terms_of : Run → StepperTerms
-terms_of run = record { ledger = run.ledger; callers = run.callers.items }
+abbrev pub stepper_terms : Run → StepperTerms
+stepper_terms run = record { ledger = run.ledger; callers = run.callers.items }
 
 -- the run that is made, or was made
 abbrev pub run_in : Progress → Run
@@ -70,12 +70,12 @@ pub record TurnsOne (process : ℕ) (turned : Turned) (before after : StepperTer
   pub files : files_of after ≡ files_of before
   pub left : slice_index (calls_left before) process ≡ slice_index (calls_left after) process + answers_in turned
   pub others_left : (q : ℕ) → q ≢ process → slice_index (calls_left after) q ≡ slice_index (calls_left before) q
-  pub turns_left : turns_left after < turns_left before
+  pub turns_left : all_turns_left after < all_turns_left before
 
 -- all calls of the run are answered by these receipts
 pub record IsAnsweredBy (run : Run) (receipts : List (List Receipt)) : Type 0 where
-  pub over : IsOver (terms_of run)
-  pub made : map calls_of receipts ≡ files_of (terms_of run)
+  pub over : IsOver (stepper_terms run)
+  pub made : map calls_answered receipts ≡ files_of (stepper_terms run)
   pub few : All (λ list. length list < 2 ^ 32) receipts
 
 -- what is kept of a run whose passes and receipts are put together
@@ -97,7 +97,7 @@ IsProgressSo (Closed over) = IsClosedSo over
 -- the pass and the receipts of a caller that has answered all its calls
 pub record IsSplit (caller : CallerTerms) (pass : PassTerms) (receipts : List Receipt) : Type 0 where
   pub pass_is : pass ≡ caller.pass
-  pub made : calls_of receipts ≡ caller.calls
+  pub made : calls_answered receipts ≡ caller.calls
   pub stands : Stands pass receipts
   pub counted : pass.calls ≡ length receipts
   pub few : length receipts < 2 ^ 32
@@ -106,7 +106,7 @@ pub record IsSplit (caller : CallerTerms) (pass : PassTerms) (receipts : List Re
 pub record AreSplit (callers : List CallerTerms) (passes : List PassTerms) (receipts : List (List Receipt)) : Type 0 where
   pub passes_count : length passes ≡ length callers
   pub receipts_count : length receipts ≡ length callers
-  pub made : map calls_of receipts ≡ map (λ (caller : CallerTerms). caller.calls) callers
+  pub made : map calls_answered receipts ≡ map (λ (caller : CallerTerms). caller.calls) callers
   pub few : All (λ list. length list < 2 ^ 32) receipts
   pub each : (p : ℕ) (d : CallerTerms) (e : PassTerms) → p < length callers →
       IsSplit (slice_index_or callers p d) (slice_index_or passes p e) (slice_index_or receipts p [])
@@ -115,4 +115,4 @@ pub record AreSplit (callers : List CallerTerms) (passes : List PassTerms) (rece
 pub record AreStartsFor (files : List (List Call)) (starts : List Start) : Type 0 where
   pub count : length starts ≡ length files
   pub room : (p : ℕ) (file : List Call) (d : Start) → p < length files →
-      HasRoom (slice_index_or starts p d).receipts (length (slice_index_or files p file))
+      HasMemoryFor (slice_index_or starts p d).receipts (length (slice_index_or files p file))

@@ -1,7 +1,7 @@
 -- What the turns of a schedule leave of a run.
 use Rattle.std.specs.Prelude.{◌≡◌, ℕ, ◌+◌, ◌++◌, List, [], length, slice_index, slice_index_or}
 use Rattle.at_ledger.specs.declared.call.Call.{Call}
-use Rattle.at_stepper.specs.Schedules.{AreTurnsBy, answered_by, rounds_of}
+use Rattle.at_stepper.specs.Schedules.{AreTurnsBy, answered_by, rounds_of_turns}
 use Rattle.at_stepper.specs.Stepping.{StepperTerms, calls_left, files_of}
 use Rattle.at_stepper.specs.declared.replaying.TurnMade.{TurnMade}
 
@@ -28,4 +28,4 @@ TurnBy entries was before turns after = (files : List (List Call)) (earlier : Li
 -- and so are the turns by some rounds of all processes
 pub record TurnInRounds (n : ℕ) (was : List TurnMade) (before : StepperTerms) (turns : List TurnMade) (after : StepperTerms) : Type 0 where
   pub times : ℕ
-  pub turned : TurnBy (rounds_of n times) was before turns after
+  pub turned : TurnBy (rounds_of_turns n times) was before turns after

@@ -21,12 +21,12 @@ pub data AreTurnsBy (files : List (List Call)) : List ℕ → List TurnMade → 
       → AreTurnsBy files (entries ++ t.process ∷ []) (turns ++ t ∷ [])
 
 -- processes 0, 1 and so on in turn, so many times
-unfoldable pub rounds_of : ℕ → ℕ → List ℕ
-rounds_of n zero = []
-rounds_of n (suc times) = rounds_of n times ++ range_with_len 0 n
+unfoldable pub rounds_of_turns : ℕ → ℕ → List ℕ
+rounds_of_turns n zero = []
+rounds_of_turns n (suc times) = rounds_of_turns n times ++ range_with_len 0 n
 
 -- the turns of a schedule are those by the schedule, and by the processes in turn, again and again, until all are idle
 pub record AreTurnsOf (files : List (List Call)) (schedule : List ℕ) (turns : List TurnMade) : Type 0 where
   pub times : ℕ
-  pub made : AreTurnsBy files (schedule ++ rounds_of (length files) times) turns
+  pub made : AreTurnsBy files (schedule ++ rounds_of_turns (length files) times) turns
   pub over : (p : ℕ) → p < length files → IsIdleAfter files turns p

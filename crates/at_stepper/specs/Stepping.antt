@@ -13,8 +13,8 @@ pub record StepperTerms : Type 0 where
   pub callers : List CallerTerms
 
 -- the calls of each file, as they are handed in
-abbrev pub files_in : List (Vec Call Global) → List (List Call)
-files_in files = map (λ (file : Vec Call Global). file.items) files
+abbrev pub calls_handed_in : List (Vec Call Global) → List (List Call)
+calls_handed_in files = map (λ (file : Vec Call Global). file.items) files
 
 -- the calls of each process
 abbrev pub files_of : StepperTerms → List (List Call)
@@ -29,8 +29,8 @@ abbrev pub IsOver : StepperTerms → Type 0
 IsOver s = (p : ℕ) → slice_index (calls_left s) p ≡ 0
 
 -- the turns that are left at most, of all processes
-abbrev pub turns_left : StepperTerms → ℕ
-turns_left s = sum_by (caller_turns_left s.ledger.book) s.callers
+abbrev pub all_turns_left : StepperTerms → ℕ
+all_turns_left s = sum_by (caller_turns_left s.ledger.book) s.callers
 
 -- the caller of a new pass of the ledger, with all calls of a file to make
 pub record IsBegunCaller (ledger : BoardTerms) (process : ℕ) (file : List Call) (caller : CallerTerms) : Type 0 where

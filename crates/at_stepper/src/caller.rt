@@ -4,11 +4,11 @@ ghost use Rattle.std.specs.Prelude.{◌≡◌, ℕ, ◌+◌, ◌^◌, ◌<◌, �
 ghost use Rattle.at_board.specs.Knowledge.Seats.{IsOf};
 ghost use Rattle.at_ledger.specs.Call.{IsCallOn};
 ghost use Rattle.at_ledger.specs.declared.call.Call.{Call};
-ghost use Rattle.at_object.specs.Parted.{HasRoom, IsOfOnePass, seat_of};
+ghost use Rattle.at_object.specs.Parted.{HasMemoryFor, IsOfOnePass, seat_of};
 ghost use Rattle.at_object.specs.Passes.{IsPassOf, Stands};
 ghost use Rattle.at_stepper.specs.Callers.{IsFile, IsNewCaller, LeavesCaller, answers_in, caller_turns_left, calls_left_of, steps_in};
 ghost use Rattle.at_calling.specs.Calling.{MakesCallStep, exchanges_of};
-ghost use Rattle.at_stepper.specs.KeptCallers.{IsBegun, calls_of};
+ghost use Rattle.at_stepper.specs.KeptCallers.{IsCallBegun, calls_answered};
 
 use crate::turned::Turned;
 use at_board::{Board, BoardSeat, Steps};
@@ -46,7 +46,8 @@ impl Model for Caller {
 
     ghost view = { λ c. caller_of c.seat c.rest c.calls.items c.receipts.items c.calling };
 
-    ghost invariant = { λ c. IsCallerOf c.seat c.rest c.calls.items c.receipts.items c.calling (vec_capacity c.receipts) };
+    ghost invariant = { λ c. IsCallerOf c.seat c.rest c.calls.items c.receipts.items c.calling
+        (vec_capacity c.receipts) };
 }
 
 impl Caller {
@@ -56,7 +57,7 @@ impl Caller {
         requires stands { Stands start.pass [] }
         requires uncounted { start.pass.calls ≡ 0 }
         requires file { IsFile (length board.now.book.accounts) calls.items }
-        requires room { HasRoom start.receipts (length calls.items) }
+        requires room { HasMemoryFor start.receipts (length calls.items) }
         ensures { IsNewCaller board.now.book start.pass calls.items result }
     {
         let Start { pass, receipts } = start;
@@ -129,7 +130,7 @@ impl Caller {
         ensures receipts { result.1.items ≡ self.receipts }
         ensures stands { Stands self.pass self.receipts }
         ensures counted { self.pass.calls ≡ length self.receipts }
-        ensures made { calls_of self.receipts ≡ self.calls }
+        ensures made { calls_answered self.receipts ≡ self.calls }
         ensures few { length self.receipts < 2 ^ 32 }
     {
         let Caller {
@@ -161,7 +162,7 @@ fn begun(
     requires board { IsOf seat.now board.now }
     requires pass { IsOfOnePass seat.now rest.now }
     requires calls { All (IsCallOn (length board.now.book.accounts)) calls.now }
-    ensures { IsBegun board.now.book seat.now rest.now calls.now made result }
+    ensures { IsCallBegun board.now.book seat.now rest.now calls.now made result }
 {
     let call = calls.get(made)?;
     Some(Calling::start(board, seat, rest, call.copy()))

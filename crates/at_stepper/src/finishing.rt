@@ -2,9 +2,9 @@
 
 ghost use Rattle.std.specs.Prelude.{◌≡◌, All, IfErr, IfOk, length};
 ghost use Rattle.at_ledger.specs.Run.{Legal, Whole};
-ghost use Rattle.at_object.specs.Parted.{HasRoom};
+ghost use Rattle.at_object.specs.Parted.{HasMemoryFor};
 ghost use Rattle.at_stepper.specs.Callers.{CallerTerms, calls_left_of};
-ghost use Rattle.at_stepper.specs.KeptStepping.{AreCallersOn, AreSplit, IsClosedSo, IsEndedSo, IsProgressSo, receipts_in, run_in, terms_of};
+ghost use Rattle.at_stepper.specs.KeptStepping.{AreCallersOn, AreSplit, IsClosedSo, IsEndedSo, IsProgressSo, receipts_in, run_in, stepper_terms};
 ghost use Rattle.at_stepper.specs.Stepping.{IsOver, files_of};
 
 use crate::caller::Caller;
@@ -48,7 +48,7 @@ impl Stepper {
 /// The run comes back as it was.
 fn refused(progress: Progress) -> FinishRefused
     requires { IsProgressSo progress }
-    ensures { result.stepper ≡ terms_of (run_in progress) }
+    ensures { result.stepper ≡ stepper_terms (run_in progress) }
 {
     FinishRefused {
         stepper: Stepper { progress },
@@ -59,8 +59,9 @@ fn refused(progress: Progress) -> FinishRefused
 fn finish_ended(alloc: Global, ended: EndedRun) -> Result<Vec<Line>, FinishRefused>
     requires { IsEndedSo ended }
     ensures legal { IfOk result (λ lines. Legal ended.run.value.ledger.book lines.items) }
-    ensures whole { IfOk result (λ lines. Whole (files_of (terms_of ended.run.value)) lines.items) }
-    ensures refused { IfErr result (λ r. r.stepper ≡ terms_of ended.run.value) }
+    ensures whole { IfOk result (λ lines. Whole
+        (files_of (stepper_terms ended.run.value)) lines.items) }
+    ensures refused { IfErr result (λ r. r.stepper ≡ stepper_terms ended.run.value) }
 {
     match closed(alloc, ended) {
         Ok(over) => finish_closed(alloc, over),
@@ -72,8 +73,9 @@ fn finish_ended(alloc: Global, ended: EndedRun) -> Result<Vec<Line>, FinishRefus
 fn finish_closed(alloc: Global, over: ClosedRun) -> Result<Vec<Line>, FinishRefused>
     requires { IsClosedSo over }
     ensures legal { IfOk result (λ lines. Legal over.run.value.ledger.book lines.items) }
-    ensures whole { IfOk result (λ lines. Whole (files_of (terms_of over.run.value)) lines.items) }
-    ensures refused { IfErr result (λ r. r.stepper ≡ terms_of over.run.value) }
+    ensures whole { IfOk result (λ lines. Whole
+        (files_of (stepper_terms over.run.value)) lines.items) }
+    ensures refused { IfErr result (λ r. r.stepper ≡ stepper_terms over.run.value) }
 {
     match journal(alloc, over.closed.book(), over.closed.closing()) {
         Ok(lines) => Ok(lines),
@@ -84,7 +86,7 @@ fn finish_closed(alloc: Global, over: ClosedRun) -> Result<Vec<Line>, FinishRefu
 /// Puts the passes and the receipts of a run together, for which all memory is taken first. Where there is none the run comes back.
 fn ended(alloc: Global, run: Run) -> Result<EndedRun, Run>
     requires callers { AreCallersOn run.ledger run.callers.items }
-    requires over { IsOver (terms_of run) }
+    requires over { IsOver (stepper_terms run) }
     ensures ended { IfOk result IsEndedSo }
     ensures run { IfOk result (λ ended. ended.run.value ≡ run) }
     ensures refused { IfErr result (λ r. r ≡ run) }
@@ -105,8 +107,8 @@ fn ended(alloc: Global, run: Run) -> Result<EndedRun, Run>
 
 /// Two empty lists, with the memory for so many passes and so many lists of receipts.
 fn rooms(alloc: Global, count: usize) -> Result<(Vec<Pass>, Vec<Vec<Receipt>>), NoMemory>
-    ensures passes { IfOk result (λ r. HasRoom r.0 count) }
-    ensures receipts { IfOk result (λ r. HasRoom r.1 count) }
+    ensures passes { IfOk result (λ r. HasMemoryFor r.0 count) }
+    ensures receipts { IfOk result (λ r. HasMemoryFor r.1 count) }
 {
     Ok((
         Vec::with_capacity(alloc, count)?,
@@ -121,8 +123,8 @@ fn parts(
     mut receipts: Vec<Vec<Receipt>>,
 ) -> (Vec<Pass>, Vec<Vec<Receipt>>)
     requires idle { All (λ (caller : CallerTerms). calls_left_of caller ≡ 0) callers.items }
-    requires passes { HasRoom passes (length callers.items) }
-    requires receipts { HasRoom receipts (length callers.items) }
+    requires passes { HasMemoryFor passes (length callers.items) }
+    requires receipts { HasMemoryFor receipts (length callers.items) }
     ensures { AreSplit callers.items result.0.items (receipts_in result.1.items) }
 {
     for caller in callers {

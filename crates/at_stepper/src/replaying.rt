@@ -6,7 +6,7 @@ ghost use Rattle.at_ledger.specs.Run.{Legal, Whole};
 ghost use Rattle.at_stepper.specs.Callers.{IsFile};
 ghost use Rattle.at_stepper.specs.Replays.{IsSameRun, IsUnturned, TurnBy, TurnInRounds};
 ghost use Rattle.at_stepper.specs.Schedules.{AreTurnsOf};
-ghost use Rattle.at_stepper.specs.Stepping.{IsOver, calls_left, files_in, files_of, turns_left};
+ghost use Rattle.at_stepper.specs.Stepping.{IsOver, all_turns_left, calls_handed_in, calls_left, files_of};
 
 use crate::stepper::Stepper;
 use at_board::Steps;
@@ -40,12 +40,12 @@ pub fn replay(
     schedule: &[u32],
 ) -> Result<Replayed, NoMemory>
     requires count { length files.items ≡ book.now.processes }
-    requires known { All (IsFile (length book.now.accounts)) (files_in files.items) }
+    requires known { All (IsFile (length book.now.accounts)) (calls_handed_in files.items) }
     requires schedule { All (λ process. process < book.now.processes) schedule.now }
     ensures turns { IfOk result
-        (λ r. AreTurnsOf (files_in files.items) schedule.now r.turns.items) }
+        (λ r. AreTurnsOf (calls_handed_in files.items) schedule.now r.turns.items) }
     ensures legal { IfOk result (λ r. Legal book.now r.lines.items) }
-    ensures whole { IfOk result (λ r. Whole (files_in files.items) r.lines.items) }
+    ensures whole { IfOk result (λ r. Whole (calls_handed_in files.items) r.lines.items) }
 {
     let Ok(mut stepper) = Stepper::new(alloc, book, files) else {
         return Err(AllocError);
@@ -139,7 +139,7 @@ fn make_round<L: Ledger, X: Ledger>(
     ensures turned { OnOk result (TurnBy (range_with_len 0 processes) turns.old.items stepper.old
         turns.new.items stepper.new) }
     ensures left { OnOk result (IsOver stepper.old
-        ⊎ (turns_left stepper.new < turns_left stepper.old)) }
+        ⊎ (all_turns_left stepper.new < all_turns_left stepper.old)) }
     ensures same { IsSameRun stepper.old stepper.new }
 {
     for process in 0..processes {
@@ -162,7 +162,7 @@ fn turn_unless_idle<L: Ledger, X: Ledger>(
     ensures idle { slice_index (calls_left stepper.old) process ≡ 0
         → stepper.new ≡ stepper.old }
     ensures left { 0 < slice_index (calls_left stepper.old) process
-        → turns_left stepper.new < turns_left stepper.old }
+        → all_turns_left stepper.new < all_turns_left stepper.old }
     ensures same { IsSameRun stepper.old stepper.new }
 {
     if stepper.idle(process) {

@@ -3,7 +3,7 @@
 ghost use Rattle.std.specs.Prelude.{◌≡◌, ◌+◌, ◌<◌, ◌==◌, length, slice_index, slice_index_or};
 ghost use Rattle.at_stepper.specs.Callers.{CallerTerms, steps_in};
 ghost use Rattle.at_calling.specs.Calling.{exchanges_of};
-ghost use Rattle.at_stepper.specs.KeptStepping.{AreCallersOn, TurnsOne, terms_of};
+ghost use Rattle.at_stepper.specs.KeptStepping.{AreCallersOn, TurnsOne, stepper_terms};
 ghost use Rattle.at_stepper.specs.Stepping.{calls_left};
 
 use crate::caller::Caller;
@@ -23,7 +23,7 @@ impl Run {
     /// Whether the process has answered all its calls.
     pub(crate) fn is_idle(&self, process: u32) -> bool
         requires { process < length self.now.callers.items }
-        ensures { result ≡ (slice_index (calls_left (terms_of self.now)) process == 0) }
+        ensures { result ≡ (slice_index (calls_left (stepper_terms self.now)) process == 0) }
     {
         self.callers[process as usize].is_idle()
     }
@@ -36,8 +36,8 @@ impl Run {
         exchanges: &mut Steps<X>,
     ) -> Turned
         requires callers { AreCallersOn self.old.ledger self.old.callers.items }
-        requires left { 0 < slice_index (calls_left (terms_of self.old)) process }
-        ensures turned { TurnsOne process result (terms_of self.old) (terms_of self.new) }
+        requires left { 0 < slice_index (calls_left (stepper_terms self.old)) process }
+        ensures turned { TurnsOne process result (stepper_terms self.old) (stepper_terms self.new) }
         ensures callers { AreCallersOn self.new.ledger self.new.callers.items }
         ensures steps { steps.new ≡ steps.old + steps_in result }
         ensures exchanges { (d : CallerTerms) → exchanges.new ≡ exchanges.old

@@ -3,7 +3,7 @@
 ghost use Rattle.std.specs.Prelude.{◌≡◌, ◌≢◌, ℕ, ◌+◌, ◌<◌, ◌==◌, All, IfErr, IfOk, length, slice_index, slice_index_or};
 ghost use Rattle.at_stepper.specs.Callers.{CallerTerms, IsFile, LeavesCaller, answers_in, steps_in};
 ghost use Rattle.at_calling.specs.Calling.{MakesCallStep, exchanges_of};
-ghost use Rattle.at_stepper.specs.Stepping.{IsNewStepper, calls_left, files_in, files_of, turns_left};
+ghost use Rattle.at_stepper.specs.Stepping.{IsNewStepper, all_turns_left, calls_handed_in, calls_left, files_of};
 
 use crate::beginning::{Memory, callers_for, memory_for};
 use crate::progress::Progress;
@@ -23,12 +23,12 @@ pub struct Stepper {
 }
 
 impl Model for Stepper {
-    ghost use Rattle.at_stepper.specs.KeptStepping.{IsProgressSo, run_in, terms_of};
+    ghost use Rattle.at_stepper.specs.KeptStepping.{IsProgressSo, run_in, stepper_terms};
     ghost use Rattle.at_stepper.specs.Stepping.{StepperTerms};
 
     ghost Value = { StepperTerms };
 
-    ghost view = { λ s. terms_of (run_in s.progress) };
+    ghost view = { λ s. stepper_terms (run_in s.progress) };
 
     ghost invariant = { λ s. IsProgressSo s.progress };
 }
@@ -44,8 +44,8 @@ impl Stepper {
     /// for the receipts of all calls. What it takes grows with the book and the calls.
     pub fn new(alloc: Global, book: &Book, files: Vec<Vec<Call>>) -> Result<Stepper, StepperRefused>
         requires count { length files.items ≡ book.now.processes }
-        requires known { All (IsFile (length book.now.accounts)) (files_in files.items) }
-        ensures ok { IfOk result (IsNewStepper book.now (files_in files.items)) }
+        requires known { All (IsFile (length book.now.accounts)) (calls_handed_in files.items) }
+        ensures ok { IfOk result (IsNewStepper book.now (calls_handed_in files.items)) }
         ensures refused { IfErr result (λ r. r.files.items ≡ files.items) }
     {
         let Ok(memory) = memory_for(alloc, book, files.as_slice()) else {
@@ -101,7 +101,7 @@ impl Stepper {
         ensures others_left { (q : ℕ) → q ≢ process
             → slice_index (calls_left self.new) q ≡ slice_index (calls_left self.old) q }
         // Whatever is scheduled, the turns come to an end.
-        ensures turns_left { turns_left self.new < turns_left self.old }
+        ensures turns_left { all_turns_left self.new < all_turns_left self.old }
         ensures steps { steps.new ≡ steps.old + steps_in result }
         ensures exchanges { (d : CallerTerms) → exchanges.new ≡ exchanges.old
             + exchanges_of (slice_index_or self.old.callers process d).stage }

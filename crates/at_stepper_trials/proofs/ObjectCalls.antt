@@ -8,7 +8,7 @@ use Rattle.at_board.specs.Knowledge.Seats.{BoardTerms}
 use Rattle.at_log.specs.declared.receipt.Receipt.{Receipt}
 use Rattle.at_object.specs.Closings.{AreAccountedFor, IsAccountedFor}
 use Rattle.at_object.specs.Passes.{IsPassOf, PassTerms, Stands, one_more_call}
-use Rattle.at_stepper_trials.specs.ObjectCalls.{HasMade, receipts_in}
+use Rattle.at_stepper_trials.specs.ObjectCalls.{HaveMadeCalls, receipts_by_process}
 
 -- one more call was made with a pass
 IsAccountedFor-more : (ledger : BoardTerms) (p : ℕ) (pass after : PassTerms) (list : List Receipt) (r : Receipt) → IsAccountedFor ledger p pass list
@@ -41,16 +41,16 @@ AreAccountedFor-set ledger passes lists p pass list all within accounted = recor
 }
 
 -- one more call was made with the pass of a process, and its receipt is the last of the list
-pub HasMade-more : (ledger : BoardTerms) (passes : List PassTerms) (receipts : List (Vec Receipt Global)) (p : ℕ) (d : PassTerms)
-    (e : Vec Receipt Global) (after : PassTerms) (list : Vec Receipt Global) (r : Receipt) → HasMade ledger passes receipts
+pub HaveMadeCalls-more : (ledger : BoardTerms) (passes : List PassTerms) (receipts : List (Vec Receipt Global)) (p : ℕ) (d : PassTerms)
+    (e : Vec Receipt Global) (after : PassTerms) (list : Vec Receipt Global) (r : Receipt) → HaveMadeCalls ledger passes receipts
     → p < ledger.book.processes → length (get_or receipts p e).items + 1 < 2 ^ 32 → IsPassOf after ledger
     → after.knows.first ≡ (get_or passes p d).knows.first
     → ((earlier : List Receipt) → Stands (get_or passes p d) earlier → Stands after (earlier ++ r ∷ []))
     → after.calls ≡ one_more_call (get_or passes p d).calls → list.items ≡ (get_or receipts p e).items ++ r ∷ []
-    → HasMade ledger (set passes p after) (set receipts p list)
-HasMade-more ledger passes receipts p d e after list r made within few of_ledger process stands calls list_is =
+    → HaveMadeCalls ledger (set passes p after) (set receipts p list)
+HaveMadeCalls-more ledger passes receipts p d e after list r made within few of_ledger process stands calls list_is =
     let items : Vec Receipt Global → List Receipt = λ v. v.items in
-    let lists : List (List Receipt) = receipts_in receipts in
+    let lists : List (List Receipt) = receipts_by_process receipts in
     let old : List Receipt = (get_or receipts p e).items in
     let small : List Receipt → Type 0 = λ rs. length rs < 2 ^ 32 in
     let old_is : get_or lists p [] ≡ old =

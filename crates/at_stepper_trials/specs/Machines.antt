@@ -9,14 +9,14 @@ use Rattle.at_calling.specs.PayingShared.{PayingSharedTerms, share_turns_left}
 use Rattle.at_machines.specs.Snapping.{SnappingTerms}
 
 -- the snapshot of this seat isn't ended
-pub record GoesOn (board : BoardTerms) (seat : SeatTerms) (snapping : SnappingTerms) : Type 0 where
+pub record IsStillSnapping (board : BoardTerms) (seat : SeatTerms) (snapping : SnappingTerms) : Type 0 where
   pub of_board : IsOf seat board
   pub mark : seat.knows ≡ snapping.mark
   pub left : 0 < snapping.left
 
 -- the seat has seen so many records of each process
-abbrev pub HasSeen : SeatTerms → List ℕ → Type 0
-HasSeen seat counts = (p : ℕ) → p < length counts → slice_index counts p ≤ count_of p seat.knows.seen
+abbrev pub HasSeenSoMany : SeatTerms → List ℕ → Type 0
+HasSeenSoMany seat counts = (p : ℕ) → p < length counts → slice_index counts p ≤ count_of p seat.knows.seen
 
 -- the payment of this seat isn't ended, and these are its totals
 pub record IsPaying (board : BoardTerms) (seat : SeatTerms) (totals : TotalSums) (paying : PayingAloneTerms) : Type 0 where

@@ -7,10 +7,10 @@ use Rattle.at_object.specs.Closings.{AreAccountedFor}
 use Rattle.at_object.specs.Passes.{PassTerms}
 
 -- the receipts of each process
-abbrev pub receipts_in : List (Vec Receipt Global) → List (List Receipt)
-receipts_in lists = map (λ (list : Vec Receipt Global). list.items) lists
+abbrev pub receipts_by_process : List (Vec Receipt Global) → List (List Receipt)
+receipts_by_process lists = map (λ (list : Vec Receipt Global). list.items) lists
 
 -- so far these are the passes of all processes and the receipts of all calls, which a journal can number
-pub record HasMade (ledger : BoardTerms) (passes : List PassTerms) (receipts : List (Vec Receipt Global)) : Type 0 where
-  pub accounted : AreAccountedFor ledger passes (receipts_in receipts)
-  pub few : All (λ (list : List Receipt). length list < 2 ^ 32) (receipts_in receipts)
+pub record HaveMadeCalls (ledger : BoardTerms) (passes : List PassTerms) (receipts : List (Vec Receipt Global)) : Type 0 where
+  pub accounted : AreAccountedFor ledger passes (receipts_by_process receipts)
+  pub few : All (λ (list : List Receipt). length list < 2 ^ 32) (receipts_by_process receipts)

@@ -3,7 +3,7 @@
 ghost use Rattle.std.specs.Prelude.{◌≡◌};
 ghost use Rattle.at_board.specs.Knowledge.Records.{SeesRecord};
 ghost use Rattle.at_board.specs.Knowledge.Seats.{IsOf};
-ghost use Rattle.at_stepper_trials.specs.Machines.{HasSeen};
+ghost use Rattle.at_stepper_trials.specs.Machines.{HasSeenSoMany};
 
 use at_base::Counts;
 use at_board::{Board, BoardSeat, Steps};
@@ -20,7 +20,7 @@ fn collects<L: Ledger, X: Ledger>(
 ) -> (Counts, u32)
     requires { IsOf seat.old board.now }
     ensures board { IsOf seat.new board.now }
-    ensures seen { HasSeen seat.new result.0 }
+    ensures seen { HasSeenSoMany seat.new result.0 }
 {
     board.book().known();
     let mut collecting = Collecting::start(board, seat);

@@ -6,7 +6,7 @@ ghost use Rattle.at_board.specs.Words.Addresses.{record_width};
 ghost use Rattle.at_players.specs.SmallBoard.{HasOwnAccount};
 ghost use Rattle.at_snapshot.specs.Collected.{HasLoaded};
 ghost use Rattle.at_snapshot.specs.Snapshots.{IsSnapshot};
-ghost use Rattle.at_stepper_trials.specs.Machines.{GoesOn};
+ghost use Rattle.at_stepper_trials.specs.Machines.{IsStillSnapping};
 
 use at_base::Counts;
 use at_board::{Board, BoardSeat, Steps};
@@ -35,8 +35,8 @@ pub(crate) fn goes_on<L: Ledger, X: Ledger>(
     steps: &mut Steps<L>,
     exchanges: &mut Steps<X>,
 ) -> bool
-    requires { GoesOn board.now seat.old snapping.old }
-    ensures { IsTrue result → GoesOn board.now seat.new snapping.new }
+    requires { IsStillSnapping board.now seat.old snapping.old }
+    ensures { IsTrue result → IsStillSnapping board.now seat.new snapping.new }
 {
     snapping.turn(board, seat, steps, exchanges).is_none()
 }
@@ -49,7 +49,7 @@ pub(crate) fn ends<L: Ledger, X: Ledger>(
     steps: &mut Steps<L>,
     exchanges: &mut Steps<X>,
 ) -> (Counts, u32)
-    requires { GoesOn board.now seat.old snapping }
+    requires { IsStillSnapping board.now seat.old snapping }
     ensures snapshot { IsSnapshot board.now.book snapping.start seat.new.knows result.0 }
     ensures loads { HasLoaded board.now.book snapping.start seat.new.knows }
     ensures board { IsOf seat.new board.now }

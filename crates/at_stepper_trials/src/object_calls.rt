@@ -4,7 +4,7 @@ ghost use Rattle.std.specs.Prelude.{◌≡◌, ◌++◌, ◌<◌, List, [], ◌�
 ghost use Rattle.at_ledger.specs.Call.{IsCallOn};
 ghost use Rattle.at_log.specs.declared.receipt.Receipt.{Receipt};
 ghost use Rattle.at_object.specs.Passes.{IsPassOf, Stands, one_more_call};
-ghost use Rattle.at_stepper_trials.specs.ObjectCalls.{HasMade};
+ghost use Rattle.at_stepper_trials.specs.ObjectCalls.{HaveMadeCalls};
 
 use crate::journals::is_on;
 use crate::small_files::{small_book, small_files};
@@ -57,8 +57,8 @@ fn make_next<L: ledger::Ledger, X: ledger::Ledger>(
     exchanges: &mut Steps<X>,
 ) -> Option<()>
     requires process { process < ledger.now.book.processes }
-    requires made { HasMade ledger.now passes.old receipts.old }
-    ensures { IfSome result (λ _. HasMade ledger.now passes.new receipts.new) }
+    requires made { HaveMadeCalls ledger.now passes.old receipts.old }
+    ensures { IfSome result (λ _. HaveMadeCalls ledger.now passes.new receipts.new) }
 {
     let list = &mut receipts[process];
     let call = file.get(list.len())?;
@@ -83,8 +83,8 @@ fn make_all<L: ledger::Ledger, X: ledger::Ledger>(
     requires names { (steps.name ≡ L.name) × (exchanges.name ≡ X.name) }
     requires parts { (steps.parts ≡ L.parts) × (exchanges.parts ≡ X.parts) }
     requires some { (0 < steps.parts) × (0 < exchanges.parts) }
-    requires made { HasMade ledger.now passes.old receipts.old }
-    ensures { IfSome result (λ _. HasMade ledger.now passes.new receipts.new) }
+    requires made { HaveMadeCalls ledger.now passes.old receipts.old }
+    ensures { IfSome result (λ _. HaveMadeCalls ledger.now passes.new receipts.new) }
 {
     let (steps, exchanges) = (&mut Steps::<L>::new(steps), &mut Steps::<X>::new(exchanges));
     for process in order {
@@ -109,7 +109,7 @@ fn make_all<L: ledger::Ledger, X: ledger::Ledger>(
 /// A new ledger of two processes with its passes, and their receipts, of which there are none.
 fn new_ledger(alloc: Global, book: &Book) -> Option<(Ledger, Vec<Pass>, Vec<Vec<Receipt>>)>
     requires { book.now.processes ≡ 2 }
-    ensures { IfSome result (λ r. HasMade r.0 r.1.items r.2.items) }
+    ensures { IfSome result (λ r. HaveMadeCalls r.0 r.1.items r.2.items) }
 {
     let Ok((ledger, passes)) = Ledger::new(alloc, book) else {
         return None;
@@ -127,7 +127,7 @@ fn journal_of(
     passes: Vec<Pass>,
     receipts: Vec<Vec<Receipt>>,
 ) -> Option<Vec<Line>>
-    requires { HasMade ledger passes.items receipts.items }
+    requires { HaveMadeCalls ledger passes.items receipts.items }
 {
     let closed = ledger.close(alloc, passes, receipts).ok()?;
     journal(alloc, closed.book(), closed.closing()).ok()

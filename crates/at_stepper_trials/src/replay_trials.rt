@@ -2,7 +2,7 @@
 
 ghost use Rattle.std.specs.Prelude.{◌≡◌, ◌<◌, [], ◌∷◌, All, IfOk};
 ghost use Rattle.at_ledger.specs.declared.call.Call.{Call};
-ghost use Rattle.at_stepper.specs.Stepping.{files_in};
+ghost use Rattle.at_stepper.specs.Stepping.{calls_handed_in};
 
 use at_ledger::{Book, BookBuilder, Call, Reply};
 use at_stepper::{Replayed, replay};
@@ -18,7 +18,7 @@ fn two_accounts(alloc: Global) -> Option<Book> {
 
 /// A payment of each process to the other.
 fn two_files(alloc: Global) -> Result<Vec<Vec<Call>>, AllocError>
-    ensures { IfOk result (λ files. files_in files.items
+    ensures { IfOk result (λ files. calls_handed_in files.items
         ≡ (Call.Transfer 0 1 30 ∷ []) ∷ (Call.Transfer 1 0 20 ∷ []) ∷ []) }
 {
     let first = Call::Transfer {

@@ -2,7 +2,7 @@
 
 ghost use Rattle.std.specs.Prelude.{◌≡◌, All, IfOk, IfSome, length};
 ghost use Rattle.at_stepper.specs.Callers.{IsFile};
-ghost use Rattle.at_stepper.specs.Stepping.{files_in};
+ghost use Rattle.at_stepper.specs.Stepping.{calls_handed_in};
 
 use crate::journals::{are_lines, state_after};
 use at_ledger::{Book, BookBuilder, Call, Line, Reply};
@@ -75,7 +75,7 @@ pub(crate) fn small_book(alloc: Global) -> Option<Book>
 /// Process 0 pays from the shared account; process 1 pays to it, and then reads it.
 pub(crate) fn small_files(alloc: Global) -> Result<Vec<Vec<Call>>, AllocError>
     ensures count { IfOk result (λ files. length files.items ≡ 2) }
-    ensures known { IfOk result (λ files. All (IsFile 2) (files_in files.items)) }
+    ensures known { IfOk result (λ files. All (IsFile 2) (calls_handed_in files.items)) }
 {
     let shared = Call::Transfer {
         from: 0,

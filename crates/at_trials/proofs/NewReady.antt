@@ -4,12 +4,12 @@ use Rattle.at_board.specs.Knowledge.Seats.{BoardTerms, SeatTerms}
 use Rattle.at_fold.specs.Sums.{TotalSums}
 use Rattle.at_players.specs.SmallBoard.{new_seat}
 use Rattle.at_trials.specs.SmallFold.{IsNewTotals}
-use Rattle.at_trials.specs.SmallShared.{IsReady}
+use Rattle.at_trials.specs.SmallShared.{MayCall}
 
-pub IsReady-new : (board : BoardTerms) (seat : SeatTerms) (t : TotalSums) (p : ℕ) → seat ≡ new_seat board p → IsNewTotals t board.book
-    → IsReady board seat t
-IsReady-new board seat t p is new =
-    subst (λ (s : SeatTerms). IsReady board s t) (sym is) (record {
+pub MayCall-new : (board : BoardTerms) (seat : SeatTerms) (t : TotalSums) (p : ℕ) → seat ≡ new_seat board p → IsNewTotals t board.book
+    → MayCall board seat t
+MayCall-new board seat t p is new =
+    subst (λ (s : SeatTerms). MayCall board s t) (sym is) (record {
       of_board = record { id = refl; book = refl };
       counted = new.counted (new_seat board p).knows.seen;
       free = refl;

@@ -7,13 +7,13 @@ use Rattle.at_fold.specs.Sums.{TotalSums}
 use Rattle.at_shared.specs.Helpings.{HasAllSettled}
 
 -- a seat of the board that holds no cell
-pub record IsAtRest (board : BoardTerms) (seat : SeatTerms) : Type 0 where
+pub record HoldsNoCell (board : BoardTerms) (seat : SeatTerms) : Type 0 where
   pub of_board : IsOf seat board
   pub free : (own_part seat.knows).held ≡ None
 
 -- with totals of what it has seen
 pub record IsCaller (board : BoardTerms) (seat : SeatTerms) (totals : TotalSums) : Type 0 where
-  pub rest : IsAtRest board seat
+  pub rest : HoldsNoCell board seat
   pub counted : HasCounted totals board.book seat.knows.seen
 
 -- and with all its requests on account 0 settled

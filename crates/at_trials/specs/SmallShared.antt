@@ -8,7 +8,7 @@ use Rattle.at_shared.specs.HelpingTerms.{HelpingTerms}
 use Rattle.at_shared.specs.Helpings.{IsHelping}
 
 -- the seat of a process that may call, with its totals: it holds no cell
-pub record IsReady (board : BoardTerms) (seat : SeatTerms) (t : TotalSums) : Type 0 where
+pub record MayCall (board : BoardTerms) (seat : SeatTerms) (t : TotalSums) : Type 0 where
   pub of_board : IsOf seat board
   pub counted : HasCounted t board.book seat.knows.seen
   pub free : (own_part seat.knows).held ≡ None

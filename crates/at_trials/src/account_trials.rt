@@ -5,7 +5,7 @@ ghost use Rattle.at_board.specs.Ends.Closing.{IsFreeSeat};
 ghost use Rattle.at_players.specs.SmallBoard.{AreLeft, IsIdle};
 ghost use Rattle.at_shared.specs.Helpings.{HasAllSettled};
 ghost use Rattle.at_single.specs.Standing.{IsOnlyOwner};
-ghost use Rattle.at_trials.specs.SmallCrowd.{IsAtRest, IsCaller, IsSharer};
+ghost use Rattle.at_trials.specs.SmallCrowd.{HoldsNoCell, IsCaller, IsSharer};
 
 use crate::fold_trials::new_totals;
 use at_base::{Decision, Head, unpack_decision, unpack_head};
@@ -156,7 +156,7 @@ pub(crate) fn pay_shared_often<L: Ledger, X: Ledger>(
     requires parts { (steps.parts ≡ L.parts) × (exchanges.parts ≡ X.parts) }
     requires some { (0 < steps.parts) × (0 < exchanges.parts) }
     requires idle { IsIdle board.now seat.old }
-    ensures rest { IfSome result (λ _. IsAtRest board.now seat.new) }
+    ensures rest { IfSome result (λ _. HoldsNoCell board.now seat.new) }
 {
     let (steps, exchanges) = (&mut Steps::<L>::new(steps), &mut Steps::<X>::new(exchanges));
     let mut totals = new_totals(alloc, board)?;
@@ -183,7 +183,7 @@ pub(crate) fn pay_own_often<L: Ledger, X: Ledger>(
     requires parts { (steps.parts ≡ L.parts) × (exchanges.parts ≡ X.parts) }
     requires some { (0 < steps.parts) × (0 < exchanges.parts) }
     requires idle { IsIdle board.now seat.old }
-    ensures rest { IfSome result (λ _. IsAtRest board.now seat.new) }
+    ensures rest { IfSome result (λ _. HoldsNoCell board.now seat.new) }
 {
     let (steps, exchanges) = (&mut Steps::<L>::new(steps), &mut Steps::<X>::new(exchanges));
     let mut totals = new_totals(alloc, board)?;
@@ -207,7 +207,7 @@ pub(crate) fn read_often<L: Ledger, X: Ledger>(
     requires parts { (steps.parts ≡ L.parts) × (exchanges.parts ≡ X.parts) }
     requires some { (0 < steps.parts) × (0 < exchanges.parts) }
     requires idle { IsIdle board.now seat.old }
-    ensures rest { IfSome result (λ _. IsAtRest board.now seat.new) }
+    ensures rest { IfSome result (λ _. HoldsNoCell board.now seat.new) }
 {
     let (steps, exchanges) = (&mut Steps::<L>::new(steps), &mut Steps::<X>::new(exchanges));
     let mut totals = new_totals(alloc, board)?;
@@ -222,7 +222,7 @@ pub(crate) fn read_often<L: Ledger, X: Ledger>(
 /// Pays from the shared account with counters of its own, once all threads are there.
 fn share_alone(board: &Board, alloc: Global, gate: &AtomicU64, seat: &mut BoardSeat) -> Receipts
     requires idle { IsIdle board.now seat.old }
-    ensures rest { IfSome result (λ _. IsAtRest board.now seat.new) }
+    ensures rest { IfSome result (λ _. HoldsNoCell board.now seat.new) }
 {
     wait_for_all(gate);
     pay_shared_often::<Brand, Brand>(board, alloc, seat, Blank::new(1), Blank::new(1))
@@ -231,7 +231,7 @@ fn share_alone(board: &Board, alloc: Global, gate: &AtomicU64, seat: &mut BoardS
 /// Pays from the single account with counters of its own, once all threads are there.
 fn own_alone(board: &Board, alloc: Global, gate: &AtomicU64, seat: &mut BoardSeat) -> Receipts
     requires idle { IsIdle board.now seat.old }
-    ensures rest { IfSome result (λ _. IsAtRest board.now seat.new) }
+    ensures rest { IfSome result (λ _. HoldsNoCell board.now seat.new) }
 {
     wait_for_all(gate);
     pay_own_often::<Brand, Brand>(board, alloc, seat, Blank::new(1), Blank::new(1))
@@ -240,7 +240,7 @@ fn own_alone(board: &Board, alloc: Global, gate: &AtomicU64, seat: &mut BoardSea
 /// Reads with counters of its own, once all threads are there.
 fn read_alone(board: &Board, alloc: Global, gate: &AtomicU64, seat: &mut BoardSeat) -> Receipts
     requires idle { IsIdle board.now seat.old }
-    ensures rest { IfSome result (λ _. IsAtRest board.now seat.new) }
+    ensures rest { IfSome result (λ _. HoldsNoCell board.now seat.new) }
 {
     wait_for_all(gate);
     read_often::<Brand, Brand>(board, alloc, seat, Blank::new(1), Blank::new(1))
@@ -257,8 +257,8 @@ fn share_both<R: Threads>(
 ) -> (Receipts, Receipts)
     requires one { IsIdle board.now one.old }
     requires other { IsIdle board.now other.old }
-    ensures one { IfSome result.0 (λ _. IsAtRest board.now one.new) }
-    ensures other { IfSome result.1 (λ _. IsAtRest board.now other.new) }
+    ensures one { IfSome result.0 (λ _. HoldsNoCell board.now one.new) }
+    ensures other { IfSome result.1 (λ _. HoldsNoCell board.now other.new) }
 {
     join_mut(
         rt,
@@ -278,8 +278,8 @@ fn pay_and_read<R: Threads>(
 ) -> (Receipts, Receipts)
     requires one { IsIdle board.now one.old }
     requires other { IsIdle board.now other.old }
-    ensures one { IfSome result.0 (λ _. IsAtRest board.now one.new) }
-    ensures other { IfSome result.1 (λ _. IsAtRest board.now other.new) }
+    ensures one { IfSome result.0 (λ _. HoldsNoCell board.now one.new) }
+    ensures other { IfSome result.1 (λ _. HoldsNoCell board.now other.new) }
 {
     join_mut(
         rt,
@@ -302,10 +302,10 @@ fn call_all<R: Threads + Sync>(
     requires one { IsIdle board.now one.old }
     requires two { IsIdle board.now two.old }
     requires three { IsIdle board.now three.old }
-    ensures zero { IfSome result.0.0 (λ _. IsAtRest board.now zero.new) }
-    ensures one { IfSome result.0.1 (λ _. IsAtRest board.now one.new) }
-    ensures two { IfSome result.1.0 (λ _. IsAtRest board.now two.new) }
-    ensures three { IfSome result.1.1 (λ _. IsAtRest board.now three.new) }
+    ensures zero { IfSome result.0.0 (λ _. HoldsNoCell board.now zero.new) }
+    ensures one { IfSome result.0.1 (λ _. HoldsNoCell board.now one.new) }
+    ensures two { IfSome result.1.0 (λ _. HoldsNoCell board.now two.new) }
+    ensures three { IfSome result.1.1 (λ _. HoldsNoCell board.now three.new) }
 {
     let gate = &AtomicU64::new(0);
     join_mut(
@@ -364,10 +364,10 @@ fn close_rested(
     two: BoardSeat,
     three: BoardSeat,
 ) -> Option<BoardEnd>
-    requires zero { IsAtRest board zero }
-    requires one { IsAtRest board one }
-    requires two { IsAtRest board two }
-    requires three { IsAtRest board three }
+    requires zero { HoldsNoCell board zero }
+    requires one { HoldsNoCell board one }
+    requires two { HoldsNoCell board two }
+    requires three { HoldsNoCell board three }
     ensures { IfSome result (λ e. e.book.processes ≡ 4) }
 {
     if board.book().processes() != 4 || zero.process() != 0 || one.process() != 1 {

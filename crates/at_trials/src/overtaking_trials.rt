@@ -3,7 +3,7 @@
 ghost use Rattle.std.specs.Prelude.{◌≡◌, ◌<◌, All, IfSome, IsTrue};
 ghost use Rattle.at_fold.specs.HasCounted.{HasCounted};
 ghost use Rattle.at_players.specs.SmallBoard.{AreLeft};
-ghost use Rattle.at_trials.specs.SmallShared.{IsReady, IsWaiting};
+ghost use Rattle.at_trials.specs.SmallShared.{IsWaiting, MayCall};
 
 use crate::fold_trials::new_totals;
 use crate::shared_trials::{InRound, asks, in_round, turns, turns_more};
@@ -44,7 +44,7 @@ struct Waiter {
 /// The process of the last seat that is left of a new board's, with totals that have counted nothing.
 fn last_caller(alloc: Global, board: &Board, seats: &mut Vec<BoardSeat>) -> Option<Caller>
     requires { AreLeft board.now seats.old.items }
-    ensures ready { IfSome result (λ c. IsReady board.now c.seat c.totals) }
+    ensures ready { IfSome result (λ c. MayCall board.now c.seat c.totals) }
     ensures rest { AreLeft board.now seats.new.items }
 {
     let totals = new_totals(alloc, board)?;
@@ -55,7 +55,7 @@ fn last_caller(alloc: Global, board: &Board, seats: &mut Vec<BoardSeat>) -> Opti
 /// The last eight processes of a new board, the last of them first.
 fn callers_of(alloc: Global, board: &Board, seats: &mut Vec<BoardSeat>) -> Option<Vec<Caller>>
     requires { AreLeft board.now seats.old.items }
-    ensures { IfSome result (λ cs. All (λ c. IsReady board.now c.seat c.totals) cs.items) }
+    ensures { IfSome result (λ cs. All (λ c. MayCall board.now c.seat c.totals) cs.items) }
 {
     let mut callers = Vec::new(alloc);
     for _owner in 0..OWNERS {
@@ -74,7 +74,7 @@ fn asks_first<L: Ledger, X: Ledger>(
     steps: &mut Steps<L>,
     exchanges: &mut Steps<X>,
 ) -> Option<Waiter>
-    requires { IsReady board.now caller.seat caller.totals }
+    requires { MayCall board.now caller.seat caller.totals }
     ensures { IfSome result (λ w. IsWaiting board.now w.seat w.totals w.helping) }
 {
     let Caller {
@@ -97,8 +97,9 @@ fn all_ask<L: Ledger, X: Ledger>(
     steps: &mut Steps<L>,
     exchanges: &mut Steps<X>,
 ) -> Option<Vec<Waiter>>
-    requires { All (λ c. IsReady board.now c.seat c.totals) callers.old.items }
-    ensures { IfSome result (λ ws. All (λ w. IsWaiting board.now w.seat w.totals w.helping) ws.items) }
+    requires { All (λ c. MayCall board.now c.seat c.totals) callers.old.items }
+    ensures { IfSome result (λ ws. All (λ w. IsWaiting board.now w.seat w.totals w.helping)
+        ws.items) }
 {
     let mut waiters = Vec::new(alloc);
     for _owner in 0..OWNERS {
@@ -119,7 +120,8 @@ fn is_overtaken_by_seven<L: Ledger, X: Ledger>(
     exchanges: &mut Steps<X>,
 ) -> bool
     requires { IsWaiting board.now waiter.old.seat waiter.old.totals waiter.old.helping }
-    ensures { IsTrue result → IsWaiting board.now waiter.new.seat waiter.new.totals waiter.new.helping }
+    ensures { IsTrue result → IsWaiting board.now waiter.new.seat waiter.new.totals
+        waiter.new.helping }
 {
     for _other in 1..OWNERS {
         if !turns_more(

@@ -10,7 +10,7 @@ ghost use Rattle.at_ledger.specs.Book.{HasSlot};
 ghost use Rattle.at_players.specs.SmallBoard.{AreNewPair};
 ghost use Rattle.at_shared.specs.Helpings.{HasAllSettled, IsHelping};
 ghost use Rattle.at_trials.specs.SmallFold.{IsNewTotals};
-ghost use Rattle.at_trials.specs.SmallShared.{IsReady};
+ghost use Rattle.at_trials.specs.SmallShared.{MayCall};
 
 use crate::fold_trials::{OwnerSaid, new_totals, said_of_shared};
 use at_base::{Decision, Head, pack_decision, pack_head};
@@ -50,7 +50,7 @@ fn has_settled(board: &Board, seat: &BoardSeat, totals: &Totals, slot: u32, numb
 
 /// Whether the seat's process may ask for a pay-out from account 0, where all is settled that it has asked.
 fn may_ask(board: &Board, seat: &BoardSeat, totals: &Totals) -> bool
-    requires ready { IsReady board.now seat.now totals.now }
+    requires ready { MayCall board.now seat.now totals.now }
     ensures accounts { IsTrue result → 1 < length board.now.book.accounts }
     ensures asks { IsTrue result
         → (slot : ℕ) × MayStoreRequest board.now.book seat.now.knows 0 slot }
@@ -80,8 +80,8 @@ fn pays<L: Ledger, X: Ledger>(
     steps: &mut Steps<L>,
     exchanges: &mut Steps<X>,
 ) -> InRound
-    requires ready { IsReady board.now seat.old totals.old }
-    ensures ready { IsReady board.now seat.new totals.new }
+    requires ready { MayCall board.now seat.old totals.old }
+    ensures ready { MayCall board.now seat.new totals.new }
     ensures process { seat.new.knows.first ≡ seat.old.knows.first }
 {
     if !may_ask(board, seat, totals) {
@@ -100,8 +100,8 @@ fn pays_listed<L: Ledger, X: Ledger>(
     steps: &mut Steps<L>,
     exchanges: &mut Steps<X>,
 ) -> InRound
-    requires ready { IsReady board.now seat.old totals.old }
-    ensures ready { IsReady board.now seat.new totals.new }
+    requires ready { MayCall board.now seat.old totals.old }
+    ensures ready { MayCall board.now seat.new totals.new }
     ensures process { seat.new.knows.first ≡ seat.old.knows.first }
 {
     if !may_ask(board, seat, totals) {
@@ -120,8 +120,8 @@ fn pays_until_short<L: Ledger, X: Ledger>(
     steps: &mut Steps<L>,
     exchanges: &mut Steps<X>,
 ) -> bool
-    requires ready { IsReady board.now seat.old totals.old }
-    ensures ready { IsReady board.now seat.new totals.new }
+    requires ready { MayCall board.now seat.old totals.old }
+    ensures ready { MayCall board.now seat.new totals.new }
     ensures process { seat.new.knows.first ≡ seat.old.knows.first }
 {
     let first = pays(board, seat, totals, 60, steps, exchanges);
@@ -149,8 +149,8 @@ fn reads<L: Ledger, X: Ledger>(
     steps: &mut Steps<L>,
     exchanges: &mut Steps<X>,
 ) -> Option<Reply>
-    requires ready { IsReady board.now seat.old totals.old }
-    ensures ready { IsReady board.now seat.new totals.new }
+    requires ready { MayCall board.now seat.old totals.old }
+    ensures ready { MayCall board.now seat.new totals.new }
     ensures process { seat.new.knows.first ≡ seat.old.knows.first }
 {
     if board.book().accounts() <= account {
@@ -170,8 +170,8 @@ fn reads_the_rest<L: Ledger, X: Ledger>(
     steps: &mut Steps<L>,
     exchanges: &mut Steps<X>,
 ) -> bool
-    requires ready { IsReady board.now seat.old totals.old }
-    ensures ready { IsReady board.now seat.new totals.new }
+    requires ready { MayCall board.now seat.old totals.old }
+    ensures ready { MayCall board.now seat.new totals.new }
     ensures process { seat.new.knows.first ≡ seat.old.knows.first }
 {
     let from = reads(board, seat, totals, 0, steps, exchanges);
@@ -319,7 +319,7 @@ pub(crate) fn asks<L: Ledger, X: Ledger>(
     steps: &mut Steps<L>,
     exchanges: &mut Steps<X>,
 ) -> Option<Helping>
-    requires ready { IsReady board.now seat.old totals.old }
+    requires ready { MayCall board.now seat.old totals.old }
     ensures helping { IfSome result (λ h. IsHelping board.now.book seat.new.knows h) }
     ensures counted { HasCounted totals.new board.now.book seat.new.knows.seen }
     ensures board { IsOf seat.new board.now }
@@ -429,9 +429,9 @@ fn is_overtaken<L: Ledger, X: Ledger>(
     steps: &mut Steps<L>,
     exchanges: &mut Steps<X>,
 ) -> bool
-    requires zero { IsReady board.now zero.old first.old }
-    requires one { IsReady board.now one.old second.old }
-    requires two { IsReady board.now two.old third.old }
+    requires zero { MayCall board.now zero.old first.old }
+    requires one { MayCall board.now one.old second.old }
+    requires two { MayCall board.now two.old third.old }
 {
     let Some(mut earliest) = asks(board, zero, first, steps, exchanges) else {
         return false;
@@ -501,8 +501,8 @@ fn is_overtaken_once<L: Ledger, X: Ledger>(
     steps: &mut Steps<L>,
     exchanges: &mut Steps<X>,
 ) -> bool
-    requires zero { IsReady board.now zero.old first.old }
-    requires one { IsReady board.now one.old second.old }
+    requires zero { MayCall board.now zero.old first.old }
+    requires one { MayCall board.now one.old second.old }
 {
     let Some(mut earliest) = asks(board, zero, first, steps, exchanges) else {
         return false;

@@ -16,20 +16,20 @@ use Rattle.at_ledger.specs.declared.call.Call.{Call}
 use Rattle.at_ledger.specs.declared.call.Call.TheVariants.{Read}
 use Rattle.at_ledger.specs.declared.call.Line.{Line}
 use Rattle.at_ledger.proofs.Run.{run_from-cons, run_from-nil}
-use Rattle.at_verify.specs.Walk.{AreMade, IsNext, with_made}
-use Rattle.at_verify.proofs.Made.{AreAllMade, AreMade-next, all_made, get_or-with_made, get_or-with_made_other, some_left, sum-all_made, sum-le, sum-with_made}
+use Rattle.at_verify.specs.Walk.{AreWithinFiles, IsNextOfProcess, with_made}
+use Rattle.at_verify.proofs.Made.{AreAllMade, AreWithinFiles-next, all_made, get_or-with_made, get_or-with_made_other, some_left, sum-all_made, sum-le, sum-with_made}
 
 -- each line is the next one at its state, and at the end all calls are made
 unfoldable pub Continues : List (List Call) → LedgerState → List ℕ → List Line → Type 0
 Continues files s made [] = AreAllMade files made
-Continues files s made (l ∷ lines) = IsNext files s made l × Continues files (step s l.process l.call).ledger (with_made made l.process) lines
+Continues files s made (l ∷ lines) = IsNextOfProcess files s made l × Continues files (step s l.process l.call).ledger (with_made made l.process) lines
 
 pub continues-nil : (files : List (List Call)) (s : LedgerState) (made : List ℕ) → Continues files s made [] → AreAllMade files made
 unfolding Continues
 continues-nil files s made is = is
 
 pub continues-cons : (files : List (List Call)) (s : LedgerState) (made : List ℕ) (l : Line) (lines : List Line) → Continues files s made (l ∷ lines)
-    → IsNext files s made l × Continues files (step s l.process l.call).ledger (with_made made l.process) lines
+    → IsNextOfProcess files s made l × Continues files (step s l.process l.call).ledger (with_made made l.process) lines
 unfolding Continues
 continues-cons files s made l lines is = is
 
@@ -37,7 +37,7 @@ pub continues-from_nil : (files : List (List Call)) (s : LedgerState) (made : Li
 unfolding Continues
 continues-from_nil files s made is = is
 
-pub continues-from_cons : (files : List (List Call)) (s : LedgerState) (made : List ℕ) (l : Line) (lines : List Line) → IsNext files s made l
+pub continues-from_cons : (files : List (List Call)) (s : LedgerState) (made : List ℕ) (l : Line) (lines : List Line) → IsNextOfProcess files s made l
     → Continues files (step s l.process l.call).ledger (with_made made l.process) lines → Continues files s made (l ∷ lines)
 unfolding Continues
 continues-from_cons files s made l lines next later = (next, later)
@@ -129,7 +129,7 @@ left-tail files made l lines each inside are = record {
 }
 
 next-left : (files : List (List Call)) (s : LedgerState) (made : List ℕ) (l : Line) (lines : List Line) → l.process < length files → l.reply ≡ (step s l.process l.call).reply
-    → AreLeft files made (l ∷ lines) → IsNext files s made l
+    → AreLeft files made (l ∷ lines) → IsNextOfProcess files s made l
 next-left files s made l lines inside reply are =
     let own : (l.process == l.process) ≡ true = eq-eqb l.process l.process refl in
     let mine = rw (lines_of-own l lines l.process own) at (are.calls l.process inside) in
@@ -153,7 +153,7 @@ record GoesOn (files : List (List Call)) (s : LedgerState) (made : List ℕ) (li
   answered : AreAnswered s lines
   left : AreLeft files made lines
 
-left-cons : (files : List (List Call)) (s : LedgerState) (made : List ℕ) (l : Line) (lines : List Line) → length made ≡ length files → IsNext files s made l
+left-cons : (files : List (List Call)) (s : LedgerState) (made : List ℕ) (l : Line) (lines : List Line) → length made ≡ length files → IsNextOfProcess files s made l
     → AreLeft files (with_made made l.process) lines → AreLeft files made (l ∷ lines)
 left-cons files s made l lines each next left = record {
   within = All-cons (λ (m : Line). m.process < length files) l lines next.process left.within;
@@ -205,8 +205,8 @@ goes_on files s made (l ∷ lines) each continues =
 abbrev pub none_made : List (List Call) → List ℕ
 none_made files = replicate (length files) 0
 
-pub AreMade-none : (files : List (List Call)) → AreMade files (none_made files)
-AreMade-none files = record {
+pub AreWithinFiles-none : (files : List (List Call)) → AreWithinFiles files (none_made files)
+AreWithinFiles-none files = record {
   each = length-replicate (length files) 0;
   within = λ p h. let none : get_or (none_made files) p 0 ≡ 0 = get_or-replicate (length files) p 0 0 h in omega arith;
 }
@@ -235,12 +235,12 @@ whole-continues b files lines continues =
     )
 
 -- as many lines are left as calls
-pub length-continues : (files : List (List Call)) (s : LedgerState) (made : List ℕ) (lines : List Line) → AreMade files made → Continues files s made lines
+pub length-continues : (files : List (List Call)) (s : LedgerState) (made : List ℕ) (lines : List Line) → AreWithinFiles files made → Continues files s made lines
     → sum made + length lines ≡ sum_by (length {A = Call}) files
 length-continues files s made [] are continues = let all = sum-all_made files made are (continues-nil files s made continues) in omega arith
 length-continues files s made (l ∷ lines) are continues =
     let parts = continues-cons files s made l lines continues in
-    let later = length-continues files (step s l.process l.call).ledger (with_made made l.process) lines (AreMade-next files s made l are parts.0) parts.1 in
+    let later = length-continues files (step s l.process l.call).ledger (with_made made l.process) lines (AreWithinFiles-next files s made l are parts.0) parts.1 in
     let one = sum-with_made made l.process (let each = are.each in let inside = parts.0.process in omega arith) in
     omega arith
 
@@ -249,7 +249,7 @@ pub record Completes (files : List (List Call)) (s : LedgerState) (made : List �
   pub lines : List Line
   pub continues : Continues files s made lines
 
-completes-by : (k : ℕ) (files : List (List Call)) (s : LedgerState) (made : List ℕ) → AreMade files made → sum made + k ≡ sum_by (length {A = Call}) files → Completes files s made
+completes-by : (k : ℕ) (files : List (List Call)) (s : LedgerState) (made : List ℕ) → AreWithinFiles files made → sum made + k ≡ sum_by (length {A = Call}) files → Completes files s made
 completes-by zero files s made are count = record { lines = []; continues = continues-from_nil files s made (all_made files made are (omega arith)) }
 completes-by (suc k) files s made are count =
     let left = some_left files made are (omega arith) in
@@ -257,12 +257,12 @@ completes-by (suc k) files s made are count =
     let n : ℕ = get_or made p 0 in
     let call : Call = get_or (get_or files p []) n (Read 0) in
     let l : Line = record { process = p; number = n + 1; call = call; reply = (step s p call).reply } in
-    let next : IsNext files s made l = record { process = left.is; number = refl; call = slice_get-get_or (get_or files p []) n (Read 0) left.left; reply = refl } in
+    let next : IsNextOfProcess files s made l = record { process = left.is; number = refl; call = slice_get-get_or (get_or files p []) n (Read 0) left.left; reply = refl } in
     let one = sum-with_made made p (let each = are.each in let inside = left.is in omega arith) in
-    let later = completes-by k files (step s p call).ledger (with_made made p) (AreMade-next files s made l are next) (omega arith) in
+    let later = completes-by k files (step s p call).ledger (with_made made p) (AreWithinFiles-next files s made l are next) (omega arith) in
     record { lines = l ∷ later.lines; continues = continues-from_cons files s made l later.lines next later.continues }
 
-pub completes : (files : List (List Call)) (s : LedgerState) (made : List ℕ) → AreMade files made → Completes files s made
+pub completes : (files : List (List Call)) (s : LedgerState) (made : List ℕ) → AreWithinFiles files made → Completes files s made
 completes files s made are =
     let le = sum-le files made are in
     completes-by (sum_by (length {A = Call}) files - sum made) files s made are (omega arith)

@@ -10,7 +10,7 @@ use Rattle.at_ledger.specs.declared.call.Call.{Call}
 use Rattle.at_ledger.specs.declared.call.Line.{Line}
 use Rattle.at_ledger.specs.State.{LedgerState}
 use Rattle.at_verify.specs.Right.{IsPlayable, files_in}
-use Rattle.at_verify.specs.Walk.{AreMade, IsNext, with_made}
+use Rattle.at_verify.specs.Walk.{AreWithinFiles, IsNextOfProcess, with_made}
 
 -- a file as the program holds it
 pub get_or-files_in : (files : List (Vec Call Global)) (i : ℕ) (file : Vec Call Global) → i < length files → file ≡ get_or files i file
@@ -36,8 +36,8 @@ sum_by-files_in_more files i file within is =
     ∙ sym (sum_by_more (length {A = Call}) (files_in files) i [] inside)
 
 -- the first file, and the others
-AreMade-tail : (file : List Call) (files : List (List Call)) (n : ℕ) (made : List ℕ) → AreMade (file ∷ files) (n ∷ made) → AreMade files made
-AreMade-tail file files n made are = record {
+AreWithinFiles-tail : (file : List Call) (files : List (List Call)) (n : ℕ) (made : List ℕ) → AreWithinFiles (file ∷ files) (n ∷ made) → AreWithinFiles files made
+AreWithinFiles-tail file files n made are = record {
   each = let same = are.each in omega arith;
   within = λ p h. are.within (suc p) (omega arith);
 }
@@ -49,13 +49,13 @@ sum_by-files-cons : (file : List Call) (files : List (List Call)) → sum_by (le
 sum_by-files-cons file files = sum_by-cons (length {A = Call}) file files
 
 -- no more calls are made than there are
-pub sum-le : (files : List (List Call)) (made : List ℕ) → AreMade files made → sum made ≤ sum_by (length {A = Call}) files
+pub sum-le : (files : List (List Call)) (made : List ℕ) → AreWithinFiles files made → sum made ≤ sum_by (length {A = Call}) files
 sum-le [] [] are = omega arith
 sum-le [] (n ∷ made) are = let same = are.each in absurd (omega arith)
 sum-le (file ∷ files) [] are = let same = are.each in absurd (omega arith)
 sum-le (file ∷ files) (n ∷ made) are =
     let first : n ≤ length file = are.within 0 (omega arith) in
-    let rest = sum-le files made (AreMade-tail file files n made are) in
+    let rest = sum-le files made (AreWithinFiles-tail file files n made are) in
     let a = sum-cons n made in
     let b = sum_by-files-cons file files in
     omega arith
@@ -65,17 +65,17 @@ abbrev pub AreAllMade : List (List Call) → List ℕ → Type 0
 AreAllMade files made = (p : ℕ) → p < length files → length (get_or files p []) ≤ get_or made p 0
 
 -- where as many are made as there are, all are
-pub all_made : (files : List (List Call)) (made : List ℕ) → AreMade files made → sum made ≡ sum_by (length {A = Call}) files → (p : ℕ) → p < length files
+pub all_made : (files : List (List Call)) (made : List ℕ) → AreWithinFiles files made → sum made ≡ sum_by (length {A = Call}) files → (p : ℕ) → p < length files
     → length (get_or files p []) ≤ get_or made p 0
 all_made [] made are same p within = absurd (omega arith)
 all_made (file ∷ files) [] are same p within = let each = are.each in absurd (omega arith)
 all_made (file ∷ files) (n ∷ made) are same zero within =
-    let rest = sum-le files made (AreMade-tail file files n made are) in
+    let rest = sum-le files made (AreWithinFiles-tail file files n made are) in
     let a = sum-cons n made in
     let b = sum_by-files-cons file files in
     omega arith
 all_made (file ∷ files) (n ∷ made) are same (suc p) within =
-    let tail = AreMade-tail file files n made are in
+    let tail = AreWithinFiles-tail file files n made are in
     let first : n ≤ length file = are.within 0 (omega arith) in
     let rest = sum-le files made tail in
     let a = sum-cons n made in
@@ -83,14 +83,14 @@ all_made (file ∷ files) (n ∷ made) are same (suc p) within =
     all_made files made tail (omega arith) p (omega arith)
 
 -- where all are made, they are as many as there are
-pub sum-all_made : (files : List (List Call)) (made : List ℕ) → AreMade files made → AreAllMade files made → sum made ≡ sum_by (length {A = Call}) files
+pub sum-all_made : (files : List (List Call)) (made : List ℕ) → AreWithinFiles files made → AreAllMade files made → sum made ≡ sum_by (length {A = Call}) files
 sum-all_made [] [] are all = refl
 sum-all_made [] (n ∷ made) are all = let each = are.each in absurd (omega arith)
 sum-all_made (file ∷ files) [] are all = let each = are.each in absurd (omega arith)
 sum-all_made (file ∷ files) (n ∷ made) are all =
     let first : n ≤ length file = are.within 0 (omega arith) in
     let last : length file ≤ n = all 0 (omega arith) in
-    let rest = sum-all_made files made (AreMade-tail file files n made are) (λ p h. all (suc p) (omega arith)) in
+    let rest = sum-all_made files made (AreWithinFiles-tail file files n made are) (λ p h. all (suc p) (omega arith)) in
     let a = sum-cons n made in
     let b = sum_by-files-cons file files in
     omega arith
@@ -102,7 +102,7 @@ pub record HasLeft (files : List (List Call)) (made : List ℕ) : Type 0 where
   pub left : get_or made process 0 < length (get_or files process [])
 
 -- where fewer are made than there are, some process has a call left
-pub some_left : (files : List (List Call)) (made : List ℕ) → AreMade files made → sum made < sum_by (length {A = Call}) files → HasLeft files made
+pub some_left : (files : List (List Call)) (made : List ℕ) → AreWithinFiles files made → sum made < sum_by (length {A = Call}) files → HasLeft files made
 some_left [] [] are fewer = absurd (omega arith)
 some_left [] (n ∷ made) are fewer = let each = are.each in absurd (omega arith)
 some_left (file ∷ files) [] are fewer = let each = are.each in absurd (omega arith)
@@ -114,7 +114,7 @@ some_left (file ∷ files) (n ∷ made) are fewer =
     ⊎_elim
     (λ less. record { process = 0; is = omega arith; left = less })
     (λ same.
-    let later = some_left files made (AreMade-tail file files n made are) (omega arith) in
+    let later = some_left files made (AreWithinFiles-tail file files n made are) (omega arith) in
     record { process = suc later.process; is = let h = later.is in omega arith; left = later.left })
     split
 
@@ -128,8 +128,8 @@ get_or-with_made_other made q p differ = get_or-set_other made q p (get_or made 
 pub sum-with_made : (made : List ℕ) (q : ℕ) → q < length made → sum (with_made made q) ≡ sum made + 1
 sum-with_made made q within = let more = sum_by-set (λ (n : ℕ). n) made q (get_or made q 0 + 1) 0 within in omega arith
 
-pub AreMade-next : (files : List (List Call)) (s : LedgerState) (made : List ℕ) (l : Line) → AreMade files made → IsNext files s made l → AreMade files (with_made made l.process)
-AreMade-next files s made l are next =
+pub AreWithinFiles-next : (files : List (List Call)) (s : LedgerState) (made : List ℕ) (l : Line) → AreWithinFiles files made → IsNextOfProcess files s made l → AreWithinFiles files (with_made made l.process)
+AreWithinFiles-next files s made l are next =
     let q : ℕ = l.process in
     let each = are.each in
     let within : q < length made = let h = next.process in omega arith in
@@ -149,7 +149,7 @@ AreMade-next files s made l are next =
         omega arith
 
 -- the call of a next line names accounts that are there
-pub call_known : (accounts : ℕ) (files : List (List Call)) (s : LedgerState) (made : List ℕ) (l : Line) → All (IsPlayable accounts) files → IsNext files s made l
+pub call_known : (accounts : ℕ) (files : List (List Call)) (s : LedgerState) (made : List ℕ) (l : Line) → All (IsPlayable accounts) files → IsNextOfProcess files s made l
     → IsCallOn accounts l.call
 call_known accounts files s made l playable next =
     let file = playable l.process [] next.process in

@@ -16,17 +16,17 @@ use Rattle.at_files.specs.Names.{NameList, process_name}
 use Rattle.at_report.specs.Lines.{IsFirstWord, IsWord, call_words, journal_words, line_text, lines_text, reply_word}
 use Rattle.at_report.specs.Report.{audit_lines, heading_words, report_text}
 use Rattle.at_verify.specs.Right.{IsReport, IsFirstWrong, first_lines, newlines}
-use Rattle.at_verify.specs.Walk.{AreMade, ArePartedAt, IsNext, PartsAt, with_made}
-use Rattle.at_verify.proofs.Continuing.{AreMade-none, Continues, completes, continues-cons, continues-from_cons, continues-from_nil, continues-whole, length-continues, none_made, sum-none, whole-continues}
+use Rattle.at_verify.specs.Walk.{ArePartedAt, AreWithinFiles, IsNextOfProcess, PartsAt, with_made}
+use Rattle.at_verify.proofs.Continuing.{AreWithinFiles-none, Continues, completes, continues-cons, continues-from_cons, continues-from_nil, continues-whole, length-continues, none_made, sum-none, whole-continues}
 use Rattle.at_verify.proofs.FirstLines.{first_byte, first_lines-after, first_lines-fewer, first_lines-within, first_word}
-use Rattle.at_verify.proofs.Made.{AreMade-next, all_made}
+use Rattle.at_verify.proofs.Made.{AreWithinFiles-next, all_made}
 
 -- two next lines of one process are the same
 
 same_line : (l m : Line) → l.process ≡ m.process → l.number ≡ m.number → l.call ≡ m.call → l.reply ≡ m.reply → l ≡ m
 same_line l m process number call reply = λ i. record { process = process i; number = number i; call = call i; reply = reply i }
 
-pub next_line-only : (files : List (List Call)) (s : LedgerState) (made : List ℕ) (l m : Line) → IsNext files s made l → IsNext files s made m → l.process ≡ m.process → l ≡ m
+pub next_line-only : (files : List (List Call)) (s : LedgerState) (made : List ℕ) (l m : Line) → IsNextOfProcess files s made l → IsNextOfProcess files s made m → l.process ≡ m.process → l ≡ m
 next_line-only files s made l m is other same =
     let number : l.number ≡ m.number = is.number ∙ ap (λ (p : ℕ). get_or made p 0 + 1) same ∙ sym other.number in
     let calls : Some l.call ≡ Some m.call = sym is.call ∙ ap (λ (p : ℕ). slice_get (get_or files p []) (get_or made p 0)) same ∙ other.call in
@@ -166,7 +166,7 @@ pub record IsTail (names : NameList) (files : List (List Call)) (s : LedgerState
 -- the reports whose next line is the text's are those that go on from the state
 pub record IsWalked (b : BookTerms) (names : NameList) (files : List (List Call)) (text : List ℕ) (at : ℕ) (s : LedgerState) (made : List ℕ) : Type 0 where
   pub within : at ≤ length text
-  pub are : AreMade files made
+  pub are : AreWithinFiles files made
   pub reports : (more : List Line) → Continues files s made more → IsReport b names files (take at text ++ tail_text names s more)
   pub only : (other : List ℕ) → IsReport b names files other → first_lines (newlines (take at text) + 1) text ≡ first_lines (newlines (take at text) + 1) other
       → IsTail names files s made (take at text) other
@@ -183,7 +183,7 @@ fits text expected at n within are = let most = length-drop at text in let left 
 pub length-report : (b : BookTerms) (names : NameList) (files : List (List Call)) (text : List ℕ) (is : IsReport b names files text)
     → length is.lines ≡ sum_by (length {A = Call}) files
 length-report b names files text is =
-    let count = length-continues files (opening_state b) (none_made files) is.lines (AreMade-none files) (continues-whole b files is.lines is.legal is.whole) in
+    let count = length-continues files (opening_state b) (none_made files) is.lines (AreWithinFiles-none files) (continues-whole b files is.lines is.legal is.whole) in
     let none = sum-none files in
     omega arith
 
@@ -204,7 +204,7 @@ reports_begin : (b : BookTerms) (names : NameList) (files : List (List Call)) (h
     → IsReport b names files (heading ++ tail_text names (opening_state b) more)
 reports_begin b names files heading total total_is heading_is more continues =
     let parts = whole-continues b files more continues in
-    let count = length-continues files (opening_state b) (none_made files) more (AreMade-none files) continues in
+    let count = length-continues files (opening_state b) (none_made files) more (AreWithinFiles-none files) continues in
     let none = sum-none files in
     let same : total ≡ length more = omega arith in
     record {
@@ -217,7 +217,7 @@ reports_begin b names files heading total total_is heading_is more continues =
 pub heading-parts : (b : BookTerms) (names : NameList) (files : List (List Call)) (text heading : List ℕ) (total n : ℕ) → total ≡ sum_by (length {A = Call}) files
     → heading ≡ line_text (heading_words total) → ArePartedAt text heading n → n < length heading → PartsAt b names files text n
 heading-parts b names files text heading total n total_is heading_is are short =
-    let whole = completes files (opening_state b) (none_made files) (AreMade-none files) in
+    let whole = completes files (opening_state b) (none_made files) (AreWithinFiles-none files) in
     let report : List ℕ = heading ++ tail_text names (opening_state b) whole.lines in
     subst (PartsAt b names files text) (zero-add n)
     (parts b names files text 0 n (omega arith) are.left report (reports_begin b names files heading total total_is heading_is whole.lines whole.continues)
@@ -234,7 +234,7 @@ heading-walked b names files text heading total n total_is heading_is are all =
     let front : take n text ≡ heading = are.same ∙ take_all n heading all in
     record {
       within = are.left;
-      are = AreMade-none files;
+      are = AreWithinFiles-none files;
       reports = λ more continues. rw front (reports_begin b names files heading total total_is heading_is more continues);
       only = λ other is same. rw front (begins_report b names files heading total total_is heading_is other is);
     }
@@ -243,13 +243,13 @@ heading-walked b names files text heading total n total_is heading_is are all =
 record GoesWith (names : NameList) (files : List (List Call)) (s : LedgerState) (made c rest other : List ℕ) : Type 0 where
   line : Line
   more : List Line
-  next : IsNext files s made line
+  next : IsNextOfProcess files s made line
   continues : Continues files (step s line.process line.call).ledger (with_made made line.process) more
   is : other ≡ c ++ (line_text (journal_words names line) ++ tail_text names (step s line.process line.call).ledger more)
   named : first_lines 1 rest ≡ first_lines 1 (line_text (journal_words names line) ++ tail_text names (step s line.process line.call).ledger more)
       → IsFirstWord (process_name names line.process) rest
 
-goes_with : (names : NameList) (files : List (List Call)) (s : LedgerState) (made c rest other : List ℕ) → AreMade files made → sum made < sum_by (length {A = Call}) files
+goes_with : (names : NameList) (files : List (List Call)) (s : LedgerState) (made c rest other : List ℕ) → AreWithinFiles files made → sum made < sum_by (length {A = Call}) files
     → ((p : ℕ) → p < length files → IsWord (process_name names p)) → (more : List Line) → Continues files s made more → other ≡ c ++ tail_text names s more
     → GoesWith names files s made c rest other
 goes_with names files s made c rest other are left words [] continues is = absurd (let all = length-continues files s made [] are continues in omega arith)
@@ -277,7 +277,7 @@ same_rest text other after at is agrees =
 -- the text has no next line
 pub line-missing : (b : BookTerms) (names : NameList) (files : List (List Call)) (text : List ℕ) (at : ℕ) (s : LedgerState) (made : List ℕ)
     → IsWalked b names files text at s made → sum made < sum_by (length {A = Call}) files → ((p : ℕ) → p < length files → IsWord (process_name names p))
-    → ((m : Line) → IsNext files s made m → IsFirstWord (process_name names m.process) (drop at text) → ⊥) → PartsAt b names files text at
+    → ((m : Line) → IsNextOfProcess files s made m → IsFirstWord (process_name names m.process) (drop at text) → ⊥) → PartsAt b names files text at
 line-missing b names files text at s made walked left words none =
     let whole = completes files s made walked.are in
     let report : List ℕ = take at text ++ tail_text names s whole.lines in
@@ -312,7 +312,7 @@ goes_with_this names files s made c rest other l with same = record {
 
 this_line : (b : BookTerms) (names : NameList) (files : List (List Call)) (text : List ℕ) (at : ℕ) (s : LedgerState) (made : List ℕ) (l : Line)
     → IsWalked b names files text at s made → sum made < sum_by (length {A = Call}) files → ((p : ℕ) → p < length files → IsWord (process_name names p))
-    → ((m : Line) → IsNext files s made m → IsFirstWord (process_name names m.process) (drop at text) → m ≡ l)
+    → ((m : Line) → IsNextOfProcess files s made m → IsFirstWord (process_name names m.process) (drop at text) → m ≡ l)
     → (other : List ℕ) → IsReport b names files other → first_lines (newlines (take at text) + 1) text ≡ first_lines (newlines (take at text) + 1) other
     → GoesWithThis names files s made (take at text) l other
 this_line b names files text at s made l walked left words only other is agrees =
@@ -324,10 +324,10 @@ this_line b names files text at s made l walked left words only other is agrees 
 -- the text's next line is another one
 pub line-parts : (b : BookTerms) (names : NameList) (files : List (List Call)) (text expected : List ℕ) (at n : ℕ) (s : LedgerState) (made : List ℕ) (l : Line)
     → IsWalked b names files text at s made → sum made < sum_by (length {A = Call}) files → ((p : ℕ) → p < length files → IsWord (process_name names p))
-    → IsNext files s made l → ((m : Line) → IsNext files s made m → IsFirstWord (process_name names m.process) (drop at text) → m ≡ l)
+    → IsNextOfProcess files s made l → ((m : Line) → IsNextOfProcess files s made m → IsFirstWord (process_name names m.process) (drop at text) → m ≡ l)
     → expected ≡ line_text (journal_words names l) → ArePartedAt (drop at text) expected n → n < length expected → PartsAt b names files text (at + n)
 line-parts b names files text expected at n s made l walked left words next only expected_is are short =
-    let whole = completes files (step s l.process l.call).ledger (with_made made l.process) (AreMade-next files s made l walked.are next) in
+    let whole = completes files (step s l.process l.call).ledger (with_made made l.process) (AreWithinFiles-next files s made l walked.are next) in
     let after : List ℕ = tail_text names (step s l.process l.call).ledger whole.lines in
     let report : List ℕ = take at text ++ tail_text names s (l ∷ whole.lines) in
     parts b names files text at n walked.within are.left report (walked.reports (l ∷ whole.lines) (continues-from_cons files s made l whole.lines next whole.continues))
@@ -344,7 +344,7 @@ line-parts b names files text expected at n s made l walked left words next only
 -- the text's next line is this one
 pub line-walked : (b : BookTerms) (names : NameList) (files : List (List Call)) (text expected : List ℕ) (at n : ℕ) (s : LedgerState) (made : List ℕ) (l : Line)
     → IsWalked b names files text at s made → sum made < sum_by (length {A = Call}) files → ((p : ℕ) → p < length files → IsWord (process_name names p))
-    → IsNext files s made l → ((m : Line) → IsNext files s made m → IsFirstWord (process_name names m.process) (drop at text) → m ≡ l)
+    → IsNextOfProcess files s made l → ((m : Line) → IsNextOfProcess files s made m → IsFirstWord (process_name names m.process) (drop at text) → m ≡ l)
     → expected ≡ line_text (journal_words names l) → ArePartedAt (drop at text) expected n → length expected ≤ n
     → IsWalked b names files text (at + n) (step s l.process l.call).ledger (with_made made l.process)
 line-walked b names files text expected at n s made l walked left words next only expected_is are all =
@@ -353,7 +353,7 @@ line-walked b names files text expected at n s made l walked left words next onl
     let line : List ℕ = line_text (journal_words names l) in
     record {
       within = fits text expected at n walked.within are;
-      are = AreMade-next files s made l walked.are next;
+      are = AreWithinFiles-next files s made l walked.are next;
       reports = λ more continues.
           subst (IsReport b names files) (whole front more) (walked.reports (l ∷ more) (continues-from_cons files s made l more next continues));
       only = λ other is agrees. rw front (tail other is (rw front at agrees));
@@ -382,7 +382,7 @@ line-walked b names files text expected at n s made l walked left words next onl
 -- all calls are made
 
 -- every report ends with this audit
-audit_only : (names : NameList) (files : List (List Call)) (s : LedgerState) (made c other audit : List ℕ) → AreMade files made → sum made ≡ sum_by (length {A = Call}) files
+audit_only : (names : NameList) (files : List (List Call)) (s : LedgerState) (made c other audit : List ℕ) → AreWithinFiles files made → sum made ≡ sum_by (length {A = Call}) files
     → audit ≡ lines_text (audit_lines names s) → (more : List Line) → Continues files s made more → other ≡ c ++ tail_text names s more → other ≡ c ++ audit
 audit_only names files s made c other audit are all audit_is [] continues is = is ∙ ap (λ (t : List ℕ). c ++ t) (tail-nil names s ∙ sym audit_is)
 audit_only names files s made c other audit are all audit_is (l ∷ more) continues is = absurd (let count = length-continues files s made (l ∷ more) are continues in omega arith)

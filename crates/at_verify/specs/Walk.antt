@@ -8,7 +8,7 @@ use Rattle.at_files.specs.Names.{NameList}
 use Rattle.at_verify.specs.Right.{IsReport, first_lines, newlines}
 
 -- the line is the next one of its process, which has made so many of its calls: the call of its file, with the ledger's reply
-pub record IsNext (files : List (List Call)) (s : LedgerState) (made : List ℕ) (l : Line) : Type 0 where
+pub record IsNextOfProcess (files : List (List Call)) (s : LedgerState) (made : List ℕ) (l : Line) : Type 0 where
   pub process : l.process < length files
   pub number : l.number ≡ slice_index made l.process + 1
   pub call : slice_get (slice_index_or files l.process []) (slice_index made l.process) ≡ Some l.call
@@ -19,7 +19,7 @@ abbrev pub with_made : List ℕ → ℕ → List ℕ
 with_made made process = slice_set made process (slice_index made process + 1)
 
 -- no process has made more calls than its file has
-pub record AreMade (files : List (List Call)) (made : List ℕ) : Type 0 where
+pub record AreWithinFiles (files : List (List Call)) (made : List ℕ) : Type 0 where
   pub each : length made ≡ length files
   pub within : (p : ℕ) → p < length files → slice_index made p ≤ length (slice_index_or files p [])
 

@@ -6,7 +6,7 @@ ghost use Rattle.at_ledger.specs.declared.call.Line.{Line};
 ghost use Rattle.at_files.specs.Names.{AreNamesOf, process_name};
 ghost use Rattle.at_report.specs.Lines.{IsFirstWord, IsWord};
 ghost use Rattle.at_verify.specs.Right.{IsPlayable, files_in};
-ghost use Rattle.at_verify.specs.Walk.{AreMade, IsNext, with_made};
+ghost use Rattle.at_verify.specs.Walk.{AreWithinFiles, IsNextOfProcess, with_made};
 
 use at_base::Counts;
 use at_files::Names;
@@ -39,11 +39,11 @@ pub(crate) fn next_line(
     requires processes { length files.now ≡ book.now.processes }
     requires files { All (IsPlayable (length book.now.accounts)) (files_in files.now) }
     requires book { state.old.book ≡ book.now }
-    requires made { AreMade (files_in files.now) made.old }
-    ensures next { IfSome result (λ l. IsNext (files_in files.now) state.old made.old l) }
+    requires made { AreWithinFiles (files_in files.now) made.old }
+    ensures next { IfSome result (λ l. IsNextOfProcess (files_in files.now) state.old made.old l) }
     ensures state { IfSome result (λ l. state.new ≡ (step state.old l.process l.call).ledger) }
     ensures made { IfSome result (λ l. made.new ≡ with_made made.old l.process) }
-    ensures only { (l : Line) → IsNext (files_in files.now) state.old made.old l
+    ensures only { (l : Line) → IsNextOfProcess (files_in files.now) state.old made.old l
         → IsFirstWord (process_name names.now l.process) text.now → result ≡ Some l }
     ensures words { (p : ℕ) → p < length files.now → IsWord (process_name names.now p) }
     ensures book { state.new.book ≡ book.now }

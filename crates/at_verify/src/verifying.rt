@@ -3,7 +3,7 @@
 ghost use Rattle.std.specs.Prelude.{◌≡◌, ◌≤◌, ℕ, All, IfOk, Ok, Some, None, length, sum_by};
 ghost use Rattle.at_files.specs.Names.{AreNamesOf};
 ghost use Rattle.at_verify.specs.Right.{IsFirstWrong, IsPlayable, IsReport, IsReportOf, files_in};
-ghost use Rattle.at_verify.specs.Walk.{AreMade, PartsAt};
+ghost use Rattle.at_verify.specs.Walk.{AreWithinFiles, PartsAt};
 
 use crate::NoMemory;
 use crate::comparing::{common, newlines};

@@ -31,9 +31,17 @@ impl Model for Job {
 
     ghost Value = { JobTerms };
 
-    ghost view = { λ j. record { pass = j.pass; calls = j.calls.items; receipts = j.receipts.items } };
+    ghost view = { λ j. record {
+      pass = j.pass;
+      calls = j.calls.items;
+      receipts = j.receipts.items;
+    } };
 
-    ghost invariant = { λ j. IsJob (record { pass = j.pass; calls = j.calls.items; receipts = j.receipts.items })
+    ghost invariant = { λ j. IsJob (record {
+      pass = j.pass;
+      calls = j.calls.items;
+      receipts = j.receipts.items;
+    })
         (vec_capacity j.receipts) };
 }
 
@@ -51,7 +59,11 @@ impl Job {
         requires uncounted { pass.calls ≡ 0 }
         requires accounts { All (IsCallOn (length pass.knows.book.accounts)) calls.items }
         requires few { length calls.items < 2 ^ 32 }
-        ensures ok { IfOk result (λ j. j ≡ record { pass = pass; calls = calls.items; receipts = [] }) }
+        ensures ok { IfOk result (λ j. j ≡ record {
+          pass = pass;
+          calls = calls.items;
+          receipts = [];
+        }) }
         ensures refused { IfErr result (λ r. (r.pass ≡ pass) × (r.calls.items ≡ calls.items)) }
     {
         match Vec::with_capacity(alloc, calls.len()) {

@@ -5,7 +5,7 @@ use Rattle.std.proofs.lemmas.List.{get_or-map, length-map}
 use Rattle.at_broadcast.specs.declared.message.Message.{Message}
 use Rattle.at_files.specs.BookRecords.{NamedBook}
 use Rattle.at_files.specs.Limits.{most_messages}
-use Rattle.at_files.specs.Records.{records_of}
+use Rattle.at_files.specs.Records.{file_records}
 use Rattle.at_files.specs.declared.deliveries.Delivery.{Delivery}
 use Rattle.at_files.proofs.DeliveryLaws.{deliveries_of-Delivers}
 use Rattle.at_files.proofs.MessageLaws.{counts_of-set}
@@ -58,7 +58,7 @@ broadcast-SpellsBroadcast files asked c is =
     let few : length (counts_of c.sent) ≤ 16 =
     omega (arith, length-map c.sent.files (length {A = Message}), is.sent.files.count, is.sent.book.spelled.book.begun.few_processes) in
     let each = few_counted c.sent.files (counts_of c.sent) (λ k within. (is.sent.files.each k within).spelled.few) refl in
-    let read = deliveries_of-Delivers (counts_of c.sent) (records_of is.order.bytes) c.deliveries few each is.order.spelled in
+    let read = deliveries_of-Delivers (counts_of c.sent) (file_records is.order.bytes) c.deliveries few each is.order.spelled in
     let order : order_loaded files asked.order (order_number asked) (counts_of c.sent) ≡ Ok c.deliveries =
     rw (fetched-HoldsFile files asked.order is.order.bytes (order_number asked) is.order.held, read) refl in
     broadcast-ordered files files asked c.sent c.deliveries (order_number asked) (counts_of c.sent) refl refl refl sent order

@@ -7,7 +7,7 @@ use Rattle.at_log.specs.ClosingTerms.{receipts_of}
 use Rattle.at_log.specs.JournalOrder.{journal_lines, journal_order, line_of}
 use Rattle.at_log.specs.Receipts.{receipt_at}
 use Rattle.at_journal.specs.Calls.{calls_in}
-use Rattle.at_journal.specs.Ordered.{AreInOrder}
+use Rattle.at_journal.specs.Ordered.{StandByKey}
 use Rattle.at_journal.proofs.JournalRuns.{Legal-journal_lines, balances-journal_lines, length-journal_order}
 use Rattle.at_journal.proofs.LineOrder.{AreReceipts-order, all_keys, map-journal_lines}
 use Rattle.at_journal.proofs.WholeLaws.{Whole-journal_lines}
@@ -22,7 +22,7 @@ lines-requires-clause-receipts c =
     let closing = c.args.closing.now in
     let keys = map (λ v. v.items) c.as_slice-5.result.now in
     let are : keys ≡ all_keys closing = ap (map (λ v. v.items)) c.as_slice-5.ensures.value ∙ c.in_ok-keys.ensures.keys in
-    AreReceipts-order closing keys c.as_slice-6.result.now are (subst (AreInOrder keys) (sym c.as_slice-6.ensures.value) c.in_ok-calls.ensures)
+    AreReceipts-order closing keys c.as_slice-6.result.now are (subst (StandByKey keys) (sym c.as_slice-6.ensures.value) c.in_ok-calls.ensures)
 
 -- the lines are the journal's
 are_lines : (c : goal.After-drop-fronts-2) → map (λ x. line_of x.process x.number (receipt_at (receipts_of c.args.closing.now x.process) x.number)) c.as_slice-6.result.now
@@ -31,7 +31,7 @@ are_lines c =
     let closing = c.args.closing.now in
     let keys = map (λ v. v.items) c.as_slice-5.result.now in
     let are : keys ≡ all_keys closing = ap (map (λ v. v.items)) c.as_slice-5.ensures.value ∙ c.in_ok-keys.ensures.keys in
-    map-journal_lines c.args.book.now closing keys c.as_slice-6.result.now c.requires.coherent are (subst (AreInOrder keys) (sym c.as_slice-6.ensures.value) c.in_ok-calls.ensures)
+    map-journal_lines c.args.book.now closing keys c.as_slice-6.result.now c.requires.coherent are (subst (StandByKey keys) (sym c.as_slice-6.ensures.value) c.in_ok-calls.ensures)
 
 pub returns-clause-lines : goal.returns-clause-lines
 returns-clause-lines c =

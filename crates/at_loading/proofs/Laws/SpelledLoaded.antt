@@ -4,14 +4,14 @@ use Rattle.std.proofs.lemmas.Bool.Decides.{nat_tests}
 use Rattle.at_ledger.specs.Book.{BookTerms, IsBook}
 use Rattle.at_ledger.specs.declared.call.Call.{Call}
 use Rattle.at_files.specs.BookRecords.{NamedBook}
-use Rattle.at_files.specs.Messages.{messages_of}
+use Rattle.at_files.specs.Messages.{messages_spelled}
 use Rattle.at_files.specs.Names.{AreNamesOf, NameList}
-use Rattle.at_files.specs.Records.{records_of}
+use Rattle.at_files.specs.Records.{file_records}
 use Rattle.at_files.specs.BookFile.{book_of_records}
 use Rattle.at_files.specs.Payments.{payments_of}
 use Rattle.at_files.specs.ReplayPayments.{replay_payments_of}
 use Rattle.at_files.proofs.BookAccepted.{book_of_records-records_of_book}
-use Rattle.at_files.proofs.MessageLaws.{messages_of-Sends}
+use Rattle.at_files.proofs.MessageLaws.{messages_spelled-Sends}
 use Rattle.at_files.proofs.PaymentsAccepted.{payments_of-Pays}
 use Rattle.at_files.proofs.ReplayLaws.{replay_payments_of-PaysReplay}
 use Rattle.at_io.specs.Limits.{most_file_bytes}
@@ -19,7 +19,7 @@ use Rattle.at_report.specs.Lines.{Word}
 use Rattle.at_loading.specs.Words.{Form}
 use Rattle.at_loading.specs.declared.loading.Loaded as program
 use Rattle.at_verify.specs.Right.{IsPlayable, files_in}
-use Rattle.at_loading.specs.Loading.{Files, Giving, HoldsFile, IsSpelled, Loaded, LoadedOf, PaysBytes, PaysReplayBytes, SendsBytes, Spelled, SpelledOf, Spelling, SpellsBook, SpellsFile, all_loaded, book_loaded, calls_given, contents_of, fetched, files_loaded, loaded, messages_given, named, replay_calls_given}
+use Rattle.at_loading.specs.Loading.{Files, Giving, HoldsFile, IsSpelled, Loaded, LoadedOf, PaysBytes, PaysReplayBytes, SendsBytes, Spelled, SpelledOf, Spelling, SpellsBook, SpellsFile, all_loaded, book_loaded, calls_given, contents_of, fetched, files_loaded, loaded, messages_given, named_book, replay_calls_given}
 
 -- a file that is there and not too long is fetched
 pub fetched-HoldsFile : (files : Files) (name : Word) (bytes : List ℕ) (number : ℕ) → HoldsFile files name bytes → fetched (files name) number ≡ Ok bytes
@@ -29,7 +29,7 @@ fetched-HoldsFile files name bytes number held =
 
 book_loaded-SpellsBook : (files : Files) (name : Word) (b : BookTerms) (names : NameList) → SpellsBook files name b names → book_loaded files name ≡ Ok (record { book = b; names = names })
 book_loaded-SpellsBook files name b names is =
-    let read : book_of_records (records_of is.bytes) ≡ Ok (record { book = b; names = names }) = rw is.spelled.spelled (book_of_records-records_of_book b names is.spelled.book is.spelled.named) in
+    let read : book_of_records (file_records is.bytes) ≡ Ok (record { book = b; names = names }) = rw is.spelled.spelled (book_of_records-records_of_book b names is.spelled.book is.spelled.named) in
     rw (fetched-HoldsFile files name is.bytes 0 is.held, read) refl
 
 -- bytes that spell something beside a book give it
@@ -57,7 +57,7 @@ files_loaded-each spells given files accepts process (word ∷ words) (file ∷ 
 pub all_loaded-SpelledOf : {T : Type 0} (spells : Spelling T) (given : NamedBook → Giving T) (files : Files) (name : Word) (words : List Word) (l : LoadedOf T)
     → Accepts spells given → SpelledOf spells files name words l → all_loaded given files name words ≡ Ok l
 all_loaded-SpelledOf spells given files name words l accepts is =
-    let b = named l.book l.names in
+    let b = named_book l.book l.names in
     let book : book_loaded files name ≡ Ok b = book_loaded-SpellsBook files name l.book l.names is.book in
     let enough : length words == l.book.processes ≡ true = eq-eqb _ _ is.files.enough in
     let each : files_loaded (given b) files 0 words ≡ Ok l.files =
@@ -67,17 +67,17 @@ all_loaded-SpelledOf spells given files name words l accepts is =
 
 Accepts-payments : Accepts PaysBytes calls_given
 Accepts-payments b process bytes calls checked are is =
-    let read : payments_of b.names (records_of bytes) ≡ Ok calls = payments_of-Pays b.book b.names (records_of bytes) calls are is in
+    let read : payments_of b.names (file_records bytes) ≡ Ok calls = payments_of-Pays b.book b.names (file_records bytes) calls are is in
     rw read refl
 
 pub Accepts-replay : Accepts PaysReplayBytes replay_calls_given
 Accepts-replay b process bytes calls checked are is =
-    let read : replay_payments_of b.names (records_of bytes) ≡ Ok calls = replay_payments_of-PaysReplay b.book b.names (records_of bytes) calls are is in
+    let read : replay_payments_of b.names (file_records bytes) ≡ Ok calls = replay_payments_of-PaysReplay b.book b.names (file_records bytes) calls are is in
     rw read refl
 
 pub Accepts-messages : Accepts SendsBytes messages_given
 Accepts-messages b process bytes messages checked are is =
-    let read : messages_of b.book (records_of bytes) ≡ Ok messages = messages_of-Sends b.book (records_of bytes) messages (omega (arith, checked.begun.few_accounts)) is in
+    let read : messages_spelled b.book (file_records bytes) ≡ Ok messages = messages_spelled-Sends b.book (file_records bytes) messages (omega (arith, checked.begun.few_accounts)) is in
     rw read refl
 
 -- what the files of a form spell is loaded
@@ -85,7 +85,7 @@ pub loaded-Spelled : (files : Files) (form : Form) (l : Loaded) → Spelled file
 loaded-Spelled files form l is = all_loaded-SpelledOf PaysBytes calls_given files form.book form.payments l Accepts-payments is
 
 -- calls that payment files spell can be played
-pub IsPlayable-spelled : {E : Type 0} (r : Result (program.Loaded Call) E) → IfOk r (λ l. All (IsSpelled (PaysBytes (named l.book l.names))) (contents_of l.files.items))
+pub IsPlayable-spelled : {E : Type 0} (r : Result (program.Loaded Call) E) → IfOk r (λ l. All (IsSpelled (PaysBytes (named_book l.book l.names))) (contents_of l.files.items))
     → IfOk r (λ l. All (IsPlayable (length l.book.accounts)) (files_in l.files.items))
 IsPlayable-spelled (Ok l) spelled = λ k d below.
     let pays = (spelled k d below).1 in

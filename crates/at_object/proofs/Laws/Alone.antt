@@ -37,7 +37,7 @@ use Rattle.at_object.proofs.Laws.Covered.{covered-own}
 use Rattle.at_object.proofs.Laws.Looked.{asking-HasLoaded, AsksNothing-HasLoaded, between-IsPass, own_part-HasLoaded, published-HasLoaded}
 use Rattle.at_object.specs.Paid.{PaysAlone}
 use Rattle.at_object.specs.Passes.{IsPass}
-use Rattle.at_object.specs.Payments.{IsDecided, place_at, sent_after}
+use Rattle.at_object.specs.Payments.{IsDecidedByBalance, place_at, sent_after}
 use Rattle.at_single.proofs.Laws.Placed.{payment_reply-done, payment_reply-short}
 use Rattle.at_single.specs.Standing.{StandsAtFront, StandsAtOwn, front_behind, own_record, payment_reply}
 
@@ -218,9 +218,9 @@ module _ (b : BookTerms) (v w : Knowledge) (kept : IsKept v) (keeps : IsKept w) 
         ∙ ap (λ m. payment_reply b (take m w.seen) source targets) (sym at))
 
   -- so whichever it was
-  pub decided-alone : IsDecided r
+  pub decided-alone : IsDecidedByBalance r
   decided-alone =
-      elim (short_or_done b (prefix_of front w.seen) source targets r.reply paid.reply) as (λ _. IsDecided r) [ inl short ↦ inr short | inr done ↦ inl done ]
+      elim (short_or_done b (prefix_of front w.seen) source targets r.reply paid.reply) as (λ _. IsDecidedByBalance r) [ inl short ↦ inr short | inr done ↦ inl done ]
 
   pub asking-alone : (a : ℕ) → asking_on (own_part w) a ≡ asking_on (own_part v) a
   asking-alone a =

@@ -34,12 +34,12 @@ use Rattle.at_object.proofs.Laws.InRound.{asks-round, loads-round, moved-round, 
 use Rattle.at_object.proofs.Laws.Room.{HasSlot-is_owner}
 use Rattle.at_object.specs.Paid.{PaymentMade, PaysAlone, PaysInRound}
 use Rattle.at_object.specs.Passes.{IsPass, PassTerms, Stands, asked_by, one_more_call, others_counted, sent_by}
-use Rattle.at_object.specs.Payments.{IsDecided, IsRefused, has_used_up, prefix_before, refusal_of, reply_of}
+use Rattle.at_object.specs.Payments.{IsDecidedByBalance, IsRefused, has_used_up, prefix_before, refusal_of, reply_of}
 use Rattle.at_shared.specs.Settling.{StandsAfter}
 use Rattle.at_single.specs.Standing.{IsOnlyOwner, front_behind, payment_reply}
 
 -- no call is both decided and refused
-not_both : (r : Receipt) → IsDecided r → IsRefused r → ⊥
+not_both : (r : Receipt) → IsDecidedByBalance r → IsRefused r → ⊥
 not_both r (inl done) (inl refused) = let both : Done ≡ NotOwner = sym done ∙ refused in absurd (cc both)
 not_both r (inl done) (inr refused) = let both : Done ≡ Full = sym done ∙ refused in absurd (cc both)
 not_both r (inr short) (inl refused) = let both : Short ≡ NotOwner = sym short ∙ refused in absurd (cc both)
@@ -132,7 +132,7 @@ module _ (b : BookTerms) (before after : PassTerms) (source : ℕ) (targets : Li
         let v : Knowledge = before.knows in
         let w : Knowledge = after.knows in
         let moved = moved-round b v w kept keeps book same_book was sent pass source slot has call r paid in
-        let decided : IsDecided r = paid.in_round.reply in
+        let decided : IsDecidedByBalance r = paid.in_round.reply in
         record {
           call_is = paid.call_is;
           reply = reply-round b v w kept keeps book same_book was sent pass source slot has call r paid targets payout

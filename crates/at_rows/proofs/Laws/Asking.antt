@@ -18,7 +18,7 @@ use Rattle.at_board.specs.declared.knowledge.Part.{Part}
 use Rattle.at_board.specs.declared.words.TheConstants.{REQUEST_WORDS}
 use Rattle.at_rows.proofs.Laws.Accounts.{HasAccount, asking_on-with_asking, own_part-with_asking, with_asking-again, with_asking-self}
 use Rattle.at_rows.specs.Asks.{HasAsked, HasLoadedNothing, MayAskFor, asked_for, opened}
-use Rattle.at_rows.specs.Storing.{IsStoringRequest, with_stored}
+use Rattle.at_rows.specs.Storing.{IsStoringRequest, with_request_stored}
 
 pub IsStoringRequest-start : (v : Knowledge) (a : ℕ) (words : List ℕ) → length (asking_on (own_part v) a).stored ≡ REQUEST_WORDS → IsStoringRequest v v a words 0
 IsStoringRequest-start v a words sized = record {
@@ -32,7 +32,7 @@ IsStoringRequest-start v a words sized = record {
 pub IsStoringRequest-more : (v u w : Knowledge) (a : ℕ) (words : List ℕ) (j n : ℕ) → HasAccount v a → j < REQUEST_WORDS → IsStoringRequest v u a words j
     → n ≡ get_or words j 0 → StoresRequestWord u w a j n → IsStoringRequest v w a words (j + 1)
 IsStoringRequest-more v u w a words j n has inside storing word told =
-    let q : Asking = with_stored (asking_on (own_part v) a) storing.stored in
+    let q : Asking = with_request_stored (asking_on (own_part v) a) storing.stored in
     let next : Asking = with_request_word q j n in
     let there : asking_on (own_part u) a ≡ q = ap (λ t. asking_on (own_part t) a) storing.same ∙ asking_on-with_asking v a q has in
     record {
@@ -49,7 +49,7 @@ IsStoringRequest-more v u w a words j n has inside storing word told =
 pub MayStoreRequest-IsStoringRequest : (b : BookTerms) (v u : Knowledge) (a slot : ℕ) (words : List ℕ) (j : ℕ) → HasAccount v a → IsStoringRequest v u a words j → MayStoreRequest b v a slot
     → MayStoreRequest b u a slot
 MayStoreRequest-IsStoringRequest b v u a slot words j has storing may =
-    let q : Asking = with_stored (asking_on (own_part v) a) storing.stored in
+    let q : Asking = with_request_stored (asking_on (own_part v) a) storing.stored in
     subst (λ t. MayStoreRequest b t a slot) (sym storing.same)
     (record {
       slot_in = may.slot_in;
@@ -67,7 +67,7 @@ MayAskFor-slot b v a slot other r may has =
 pub MayAnnounce-IsStoringRequest : (b : BookTerms) (v u : Knowledge) (a slot : ℕ) (r : Request) (j : ℕ) → HasAccount v a → MayAskFor b v a slot r
     → IsStoringRequest v u a (request_words r) j → j ≡ REQUEST_WORDS → MayAnnounce b u a slot r
 MayAnnounce-IsStoringRequest b v u a slot r j has may storing all =
-    let q : Asking = with_stored (asking_on (own_part v) a) storing.stored in
+    let q : Asking = with_request_stored (asking_on (own_part v) a) storing.stored in
     let there = asking_on-with_asking v a q has in
     let words : storing.stored ≡ request_words r = same_number_lists storing.stored (request_words r) storing.sized
     (λ k within. storing.words_so_far k (omega (arith, within, storing.sized, all))) in
@@ -88,7 +88,7 @@ pub Announces-IsStoringRequest : (b : BookTerms) (v u w : Knowledge) (a slot : �
     → Announces b u w a slot r → Announces b v w a slot r
 Announces-IsStoringRequest b v u w a slot r words j has storing told =
     let old : Asking = asking_on (own_part v) a in
-    let q : Asking = with_stored old storing.stored in
+    let q : Asking = with_request_stored old storing.stored in
     let mid : Knowledge = with_asking v a q in
     let here : Announces b mid w a slot r = subst (λ t. Announces b t w a slot r) storing.same told in
     let there : asking_on (own_part mid) a ≡ q = asking_on-with_asking v a q has in

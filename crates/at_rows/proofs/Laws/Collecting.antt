@@ -26,7 +26,7 @@ use Rattle.at_rows.proofs.Laws.Accounts.{HasAccount}
 use Rattle.at_rows.proofs.Laws.Rows.{LoadsOnly-refl, LoadsOnly-trans, announced-LoadsOnly, asking_on-LoadsOnly, first-LoadsOnly}
 use Rattle.at_rows.proofs.Laws.Loading.{Contains-loaded_words, request-loaded_words}
 use Rattle.at_rows.specs.Asks.{HasAsked}
-use Rattle.at_rows.specs.Collecting.{AreWords, HasRow, IsCollectingRows, IsLast}
+use Rattle.at_rows.specs.Collecting.{AreWords, HasRow, IsCollectingRows, IsOwnOrLast}
 use Rattle.at_rows.specs.Loads.{loaded_words}
 use Rattle.at_rows.specs.OpenRequests.{AreBelow, AreRising, IsAmong, request_in, request_of, seen_of}
 use Rattle.at_rows.specs.Rows.{AreCandidates, CollectsRows, LoadsOnly, WordCounts, SeesAsked, IsFound, LoadsRow, row_steps}
@@ -52,10 +52,10 @@ IsCollectingRows-start v a own start sees = record {
 }
 
 -- more rows and words are loaded
-IsLast-more : (a : ℕ) (own : OpenRequest) (rows more_rows : List SeenRow) (words more_words : List LoadedWord) (x : OpenRequest)
-    → IsLast a own rows words x → IsLast a own (rows ++ more_rows) (words ++ more_words) x
-IsLast-more a own rows more_rows words more_words x (inl is) = inl is
-IsLast-more a own rows more_rows words more_words x (inr (apart, counted, whole)) = inr (
+IsOwnOrLast-more : (a : ℕ) (own : OpenRequest) (rows more_rows : List SeenRow) (words more_words : List LoadedWord) (x : OpenRequest)
+    → IsOwnOrLast a own rows words x → IsOwnOrLast a own (rows ++ more_rows) (words ++ more_words) x
+IsOwnOrLast-more a own rows more_rows words more_words x (inl is) = inl is
+IsOwnOrLast-more a own rows more_rows words more_words x (inr (apart, counted, whole)) = inr (
   apart,
   Contains-append_left rows more_rows (record { slot = x.slot; count = x.number + 1 }) counted,
   λ j within. Contains-append_left words more_words (record { request = seen_of a x; word = j }) (whole j within),
@@ -143,7 +143,7 @@ IsCollectingRows-none v u w a own list s start steps count found has so_far told
       below = λ k within. omega (arith, so_far.below k within);
       few = omega (arith, so_far.few);
       own_in = λ below. so_far.own_in (omega (arith, below, apart));
-      last = λ x there. IsLast-more a own so_far.rows (row ∷ []) so_far.words found x (so_far.last x there);
+      last = λ x there. IsOwnOrLast-more a own so_far.rows (row ∷ []) so_far.words found x (so_far.last x there);
       counted = λ slot below other. elim (cases_eq slot s) as (λ _. HasRow rows list slot) [
         | inl same ↦ subst (HasRow rows list) (sym same) (count, Contains-push so_far.rows row, λ number is. absurd (omega (arith, is, zero)))
         | inr before ↦ HasRow-more so_far.rows (row ∷ []) list list slot (λ x there. there) (so_far.counted slot (omega (arith, below, before)) other)
@@ -176,8 +176,8 @@ IsCollectingRows-own v u w a own list s start steps count found has so_far told 
       below = below-push list own s so_far.below (sym at);
       few = omega (arith, so_far.few, size);
       own_in = λ below. Contains-push list own;
-      last = λ x there. elim (Contains-push_cases list own x there) as (λ _. IsLast a own rows (so_far.words ++ found) x) [
-        | inl old ↦ IsLast-more a own so_far.rows (row ∷ []) so_far.words found x (so_far.last x old)
+      last = λ x there. elim (Contains-push_cases list own x there) as (λ _. IsOwnOrLast a own rows (so_far.words ++ found) x) [
+        | inl old ↦ IsOwnOrLast-more a own so_far.rows (row ∷ []) so_far.words found x (so_far.last x old)
         | inr new ↦ inl (sym new)
       ];
       counted = λ slot below other.
@@ -219,9 +219,9 @@ IsCollectingRows-other v u w a own list s start steps count found x has so_far t
       below = below-push list x s so_far.below at;
       few = omega (arith, so_far.few, size);
       own_in = λ below. Contains-append_left list (x ∷ []) own (so_far.own_in (omega (arith, below, apart)));
-      last = λ y there. elim (Contains-push_cases list x y there) as (λ _. IsLast a own rows words y) [
-        | inl old ↦ IsLast-more a own so_far.rows (row ∷ []) so_far.words found y (so_far.last y old)
-        | inr new ↦ subst (IsLast a own rows words) new (inr (λ same. apart (sym at ∙ same), counts, loaded))
+      last = λ y there. elim (Contains-push_cases list x y there) as (λ _. IsOwnOrLast a own rows words y) [
+        | inl old ↦ IsOwnOrLast-more a own so_far.rows (row ∷ []) so_far.words found y (so_far.last y old)
+        | inr new ↦ subst (IsOwnOrLast a own rows words) new (inr (λ same. apart (sym at ∙ same), counts, loaded))
       ];
       counted = λ slot below other. elim (cases_eq slot s) as (λ _. HasRow rows all slot) [
         | inl same ↦ subst (HasRow rows all) (sym same)
@@ -292,10 +292,10 @@ words-IsCollectingRows v w a own list s start steps y has all words =
     (Contains-append_right old.loaded all.words (record { request = y; word = j }) (words j within))
 
 -- an element of another slot is whole
-whole-IsLast : (a : ℕ) (own : OpenRequest) (rows : List SeenRow) (words : List LoadedWord) (x : OpenRequest) → IsLast a own rows words x → x.slot ≢ own.slot
+whole-IsOwnOrLast : (a : ℕ) (own : OpenRequest) (rows : List SeenRow) (words : List LoadedWord) (x : OpenRequest) → IsOwnOrLast a own rows words x → x.slot ≢ own.slot
     → AreWords words (seen_of a x)
-whole-IsLast a own rows words x (inl is) apart = absurd (apart (ap (λ (t : OpenRequest). t.slot) is))
-whole-IsLast a own rows words x (inr (other, counted, whole)) apart = whole
+whole-IsOwnOrLast a own rows words x (inl is) apart = absurd (apart (ap (λ (t : OpenRequest). t.slot) is))
+whole-IsOwnOrLast a own rows words x (inr (other, counted, whole)) apart = whole
 
 pub HasLoadedRows-IsCollectingRows : (b : BookTerms) (v w : Knowledge) (a : ℕ) (own : OpenRequest) (list : List OpenRequest) (s start steps : ℕ) → HasAccount v a
     → HasAsked b v a own → IsCollectingRows v w a own list s start steps → s ≡ slots_of (account_of b a) → HasLoadedRows b w a own.slot
@@ -308,7 +308,7 @@ HasLoadedRows-IsCollectingRows b v w a own list s start steps has asked all whol
         λ number is.
             let (x, there, slot_is, number_is) = last number is in
             let here : x.slot ≢ own.slot = λ same. apart (sym slot_is ∙ same) in
-            let loaded = words-IsCollectingRows v w a own list s start steps (seen_of a x) has all (whole-IsLast a own all.rows all.words x (all.last x there) here) in (
+            let loaded = words-IsCollectingRows v w a own list s start steps (seen_of a x) has all (whole-IsOwnOrLast a own all.rows all.words x (all.last x there) here) in (
               request_of x,
               subst (λ k. HasLoadedRequest (asking_on (own_part w) a) (seen_as a k number (request_of x))) slot_is
                   (subst (λ k. HasLoadedRequest (asking_on (own_part w) a) (seen_as a x.slot k (request_of x))) number_is loaded),

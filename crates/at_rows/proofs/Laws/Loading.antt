@@ -23,7 +23,7 @@ use Rattle.at_board.specs.declared.words.TheConstants.{REQUEST_WORDS}
 use Rattle.at_rows.proofs.Laws.Accounts.{HasAccount, asking_on-with_asking, with_asking-again}
 use Rattle.at_rows.specs.Asks.{opened}
 use Rattle.at_rows.specs.Loads.{LoadsRequest, first_words, with_words, loaded_words}
-use Rattle.at_rows.specs.Loading.{IsLoaded, IsLoading, with_first}
+use Rattle.at_rows.specs.Loading.{IsLoaded, IsLoading, with_first_words}
 use Rattle.at_rows.specs.declared.open_request.OpenRequest.{OpenRequest}
 
 -- the account of a request that the seat knows of is one of the book's
@@ -51,8 +51,8 @@ IsLoading-first b v w a slot number words n some told = record {
 }
 
 -- a seat that has loaded some words has seen the request
-SeesRequest-with_first : (v : Knowledge) (a : ℕ) (x : SeenRequest) (j : ℕ) → 0 < j → Contains (v.requests ++ replicate j x) x
-SeesRequest-with_first v a x j some =
+SeesRequest-with_first_words : (v : Knowledge) (a : ℕ) (x : SeenRequest) (j : ℕ) → 0 < j → Contains (v.requests ++ replicate j x) x
+SeesRequest-with_first_words v a x j some =
     Contains-append_right v.requests (replicate j x) x (0, omega (arith, some, length-replicate j x), get_or-replicate j 0 x x some)
 
 -- one more word
@@ -66,10 +66,10 @@ first_words-more w x j =
 requests-more : (rs : List SeenRequest) (x : SeenRequest) (j : ℕ) → (rs ++ replicate j x) ++ x ∷ [] ≡ rs ++ replicate (j + 1) x
 requests-more rs x j = append_assoc rs (replicate j x) (x ∷ []) ∙ ap (λ (xs : List SeenRequest). rs ++ xs) (sym (replicate_next j x))
 
-with_first-more : (v : Knowledge) (a : ℕ) (x : SeenRequest) (j : ℕ) → HasAccount v a
-    → let u : Knowledge = with_first v a x j in
-    with_asking (record u { requests = u.requests ++ x ∷ [] }) a (with_loaded (asking_on (own_part u) a) x j) ≡ with_first v a x (j + 1)
-with_first-more v a x j has =
+with_first_words-more : (v : Knowledge) (a : ℕ) (x : SeenRequest) (j : ℕ) → HasAccount v a
+    → let u : Knowledge = with_first_words v a x j in
+    with_asking (record u { requests = u.requests ++ x ∷ [] }) a (with_loaded (asking_on (own_part u) a) x j) ≡ with_first_words v a x (j + 1)
+with_first_words-more v a x j has =
     let w : Asking = asking_on (own_part v) a in
     let now : Asking = with_words w (first_words x j) in
     let before : Knowledge = record v { requests = v.requests ++ replicate j x } in
@@ -87,7 +87,7 @@ IsLoading-more b v u w a slot number words j n has some inside loading told =
     let r : Request = loading.request in
     let x : SeenRequest = seen_as a slot number r in
     let sees : SeesRequest u a slot number r =
-    subst (λ t. SeesRequest t a slot number r) (sym loading.same) (SeesRequest-with_first v a x j some) in
+    subst (λ t. SeesRequest t a slot number r) (sym loading.same) (SeesRequest-with_first_words v a x j some) in
     let is : told.request ≡ r = sym (told.known r sees) in
     let step : Knowledge → Request → Knowledge =
     λ t q. with_asking (record t { requests = t.requests ++ seen_as a slot number q ∷ [] }) a (with_loaded (asking_on (own_part t) a) (seen_as a slot number q) j) in
@@ -96,7 +96,7 @@ IsLoading-more b v u w a slot number words j n has some inside loading told =
       known = loading.known;
       targets = loading.targets;
       since = loading.since;
-      same = told.same ∙ (ap (step u) is ∙ (ap (λ t. step t r) loading.same ∙ with_first-more v a x j has));
+      same = told.same ∙ (ap (step u) is ∙ (ap (λ t. step t r) loading.same ∙ with_first_words-more v a x j has));
       words_so_far = below_more (λ k. get_or (set words j n) k 0 ≡ get_or (request_words r) k 0) j
           (λ k below. get_or-set_other words j k n 0 (omega arith) ∙ loading.words_so_far k below)
           (get_or-set_same words j n 0 inside ∙ (told.word ∙ ap (λ q. get_or (request_words q) j 0) is));
@@ -123,7 +123,7 @@ KnowsOf-IsLoaded b v u a slot number words j so_far knows = elim (cases_lt 0 j) 
   | inl some ↦
       let loading = so_far.loading some in
       let x : SeenRequest = seen_as a slot number loading.request in
-      inl (loading.request, subst (λ t. SeesRequest t a slot number loading.request) (sym loading.same) (SeesRequest-with_first v a x j some))
+      inl (loading.request, subst (λ t. SeesRequest t a slot number loading.request) (sym loading.same) (SeesRequest-with_first_words v a x j some))
   | inr none ↦ subst (λ t. KnowsOf t a slot number) (sym (so_far.start (omega (arith, none)))) knows
 ]
 
@@ -149,7 +149,7 @@ LoadsRequest-whole b v w a slot number words has loading =
       slot_is = refl;
       number_is = refl;
       known = loading.known;
-      sees = subst (λ t. SeesRequest t a slot number r) (sym loading.same) (SeesRequest-with_first v a x REQUEST_WORDS (omega arith));
+      sees = subst (λ t. SeesRequest t a slot number r) (sym loading.same) (SeesRequest-with_first_words v a x REQUEST_WORDS (omega arith));
       targets = loading.targets;
       since = loading.since;
       loaded = λ j within. subst (λ (ls : List LoadedWord). Contains ls (record { request = x; word = j })) (sym there)

@@ -20,7 +20,7 @@ use Rattle.at_rows.proofs.Laws.Accounts.{HasAccount}
 use Rattle.at_rows.proofs.Laws.Loading.{request-loaded_words}
 use Rattle.at_rows.specs.Asks.{HasAsked}
 use Rattle.at_rows.specs.Loads.{LoadsRequest, loaded_words}
-use Rattle.at_rows.specs.Oldest.{IsLeft, IsOldestOf}
+use Rattle.at_rows.specs.Oldest.{IsNotDone, IsOldestOf}
 use Rattle.at_rows.specs.OpenRequests.{IsAmong, request_of, seen_of}
 use Rattle.at_rows.specs.Rows.{AreCandidates}
 use Rattle.at_rows.specs.declared.open_request.OpenRequest.{OpenRequest}
@@ -33,7 +33,7 @@ pub record MayChoose (w : Asking) (own : ℕ) (settled : List Publication) (a : 
 
 -- the counts tell of each request of the list whether it is settled
 abbrev pub TellsSettled : ℕ → List Publication → List OpenRequest → List ℕ → Type 0
-TellsSettled a settled asked done = (y : OpenRequest) → Contains asked y → IsLeft done y ↔ (is_settled a y.slot y.number settled ≡ false)
+TellsSettled a settled asked done = (y : OpenRequest) → Contains asked y → IsNotDone done y ↔ (is_settled a y.slot y.number settled ≡ false)
 
 -- after the rows were collected by a seat that had loaded nothing since it asked
 pub MayChoose-AreCandidates : (v w : Knowledge) (a own : ℕ) (settled : List Publication) (asked : List OpenRequest) → AreCandidates v w a own asked
@@ -147,7 +147,7 @@ IsOldest-IsOldestOf w own a settled asked done x may tells oldest = record {
   unsettled = (tells x oldest.among).0 oldest.left;
   first = λ other n q candidate unsettled.
       let (y, there, is) = others-MayChoose w own a settled asked (seen_as a other n q) may candidate unsettled in
-      let left : IsLeft done y = (tells y there).1 (subst (λ (t : SeenRequest). is_settled a t.slot t.number settled ≡ false) is unsettled) in
+      let left : IsNotDone done y = (tells y there).1 (subst (λ (t : SeenRequest). is_settled a t.slot t.number settled ≡ false) is unsettled) in
       subst (λ (t : SeenRequest). ComesFirst x.slot (request_of x) t.slot t.request) (sym is) (oldest.first y there left);
 }
 

@@ -23,7 +23,7 @@ use Rattle.at_board.specs.Knowledge.Parts.{asking_on, own_part, seen_as}
 use Rattle.at_board.specs.Steps.Decide.{MayPropose}
 use Rattle.at_board.specs.declared.knowledge.Knowledge.{Knowledge}
 use Rattle.at_rows.proofs.Laws.Proposals.{IsOldest-IsOldestOf, MayChoose}
-use Rattle.at_rows.specs.Oldest.{IsBefore, IsLeft, IsOldestOf}
+use Rattle.at_rows.specs.Oldest.{IsBefore, IsNotDone, IsOldestOf}
 use Rattle.at_rows.specs.OpenRequests.{request_of, seen_of}
 use Rattle.at_rows.specs.declared.open_request.OpenRequest.{OpenRequest}
 use Rattle.at_shared.specs.HelpingTerms.{HelpingTerms}
@@ -56,7 +56,7 @@ module _ (b : BookTerms) (v : Knowledge) (h : HelpingTerms) (front done : List �
   within : place front ≤ length v.seen
   within = place-IsFront-le b.processes front v.seen is_front (ArePublishedBy-IsHistory b v.seen history)
 
-  tells : (y : OpenRequest) → Contains h.asked y → IsLeft done y ↔ (is_settled h.account y.slot y.number (prefix_of front v.seen) ≡ false)
+  tells : (y : OpenRequest) → Contains h.asked y → IsNotDone done y ↔ (is_settled h.account y.slot y.number (prefix_of front v.seen) ≡ false)
   tells y there =
       let slot_in = All-contains (λ (x : OpenRequest). x.slot < slots_of (account_of b h.account)) h.asked y helping.slots there in
       let counted = are.settled y.slot slot_in in (
@@ -65,7 +65,7 @@ module _ (b : BookTerms) (v : Knowledge) (h : HelpingTerms) (front done : List �
       )
 
   -- the own request is left, so the oldest can be asked for
-  pub own_left : IsLeft done h.own
+  pub own_left : IsNotDone done h.own
   own_left = (tells h.own helping.own_in).1 unsettled
 
   pub slots_in : All (λ x. x.slot < length done) h.asked

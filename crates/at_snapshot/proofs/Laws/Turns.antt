@@ -16,11 +16,11 @@ use Rattle.at_snapshot.specs.Collected.{HasLoaded, IsCollect, collect_of}
 use Rattle.at_snapshot.specs.Scans.{AreCollects, IsScanOf, ScanTerms, SeesOwnRecords, collects_after, scan_after, starting_scan}
 use Rattle.at_snapshot.specs.Snapping.{IsSnapping, turns_left, unmoved}
 use Rattle.at_snapshot.specs.Snapshots.{HasCollected, snapshot_steps}
-use Rattle.at_snapshot.specs.Turns.{IsAnswer, IsUndecided, view_steps}
+use Rattle.at_snapshot.specs.Turns.{IsAnswer, LeavesUndecided, view_steps}
 
 -- no count is two above the first
 close_to_first : (b : BookTerms) (scan : ScanTerms) (c : Collects) (v w : Knowledge) (p : ℕ) → SeesOwnRecords scan.start
-    → IsScanOf b scan v → AreCollects b scan c → IsCollect b v w → IsUndecided c w (collect_of w) → p < b.processes → get_or (collect_of w) p 0 ≤ get_or c.first p 0 + 1
+    → IsScanOf b scan v → AreCollects b scan c → IsCollect b v w → LeavesUndecided c w (collect_of w) → p < b.processes → get_or (collect_of w) p 0 ≤ get_or c.first p 0 + 1
 close_to_first b scan c v w p own so are told undecided known =
     elim (cases_eq p w.first) as (λ _. get_or (collect_of w) p 0 ≤ get_or c.first p 0 + 1) [
       | inl mine ↦
@@ -44,7 +44,7 @@ close_to_first b scan c v w p own so are told undecided known =
 
 -- a turn that answers Again leaves fewer
 turns_left-undecided : (b : BookTerms) (scan : ScanTerms) (c : Collects) (v w : Knowledge) → SeesOwnRecords scan.start
-    → IsScanOf b scan v → AreCollects b scan c → IsCollect b v w → IsUndecided c w (collect_of w) → unmoved c.first (collect_of w) < unmoved c.first c.last
+    → IsScanOf b scan v → AreCollects b scan c → IsCollect b v w → LeavesUndecided c w (collect_of w) → unmoved c.first (collect_of w) < unmoved c.first c.last
 turns_left-undecided b scan c v w own so are told undecided =
     let known : (p : ℕ) → p < length c.first → p < b.processes = λ p within. omega (arith, within, are.first_length) in
     unmoved-falls c.first c.last (collect_of w) (are.last_length ∙ sym are.first_length) (length-collect_of b v w told.loaded ∙ sym are.first_length)

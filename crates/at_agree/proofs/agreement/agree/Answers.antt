@@ -4,12 +4,12 @@ use Rattle.std.proofs.lemmas.List.{length-map}
 use Rattle.at_agree.specs.Agreement.{IsAgreement}
 use Rattle.at_agree.specs.declared.agreement.Agreed.{Agreed}
 use Rattle.at_agree.specs.declared.votes.Vote.{Vote}
-use Rattle.at_agree.proofs.AllVotes.{AreMade-all}
+use Rattle.at_agree.proofs.AllVotes.{AreCast-all}
 use Rattle.at_agree.proofs.agreement.agree.Goals as goal
 
 pub close-requires : goal.close-requires
 close-requires g c =
-    let all = AreMade-all c.in_ok-council.council c.args.values.now c.in_ok-votes.votes.items c.propose_list.new.votes.items
+    let all = AreCast-all c.in_ok-council.council c.args.values.now c.in_ok-votes.votes.items c.propose_list.new.votes.items
     c.in_ok-votes.ensures c.propose_list.ensures in
     let some : 0 < length c.propose_list.new.votes.items =
     omega (
@@ -22,6 +22,6 @@ close-requires g c =
 
 pub returns : goal.returns
 returns g c =
-    let all = AreMade-all c.in_ok-council.council c.args.values.now c.in_ok-votes.votes.items c.propose_list.new.votes.items
+    let all = AreCast-all c.in_ok-council.council c.args.values.now c.in_ok-votes.votes.items c.propose_list.new.votes.items
     c.in_ok-votes.ensures c.propose_list.ensures in
     subst (λ (values : List ℕ). IfOk c.close.result (λ (a : Agreed). IsAgreement values a.closed a.value)) all.1 c.close.ensures

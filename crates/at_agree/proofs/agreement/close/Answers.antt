@@ -1,15 +1,15 @@
 use Rattle.std.proofs.Common.{◌≡◌, List, get_or, map, subst, sym, ◌∙◌}
 use Rattle.at_board.specs.Knowledge.Seats.{BoardTerms}
 use Rattle.at_ledger.specs.Book.{IsBook}
-use Rattle.at_agree.specs.Agreement.{AreMade, IsAgreement, values_of}
+use Rattle.at_agree.specs.Agreement.{AreCast, IsAgreement, values_of}
 use Rattle.at_agree.specs.declared.votes.Vote.{Vote}
 use Rattle.at_agree.proofs.AllVotes.{AreAccountedFor-made, IsAgreement-closed}
 use Rattle.at_agree.proofs.agreement.close.Goals as goal
 
 pub close-requires : goal.close-requires
 close-requires c =
-    let made : AreMade c.council.inside.ledger c.args.votes.items =
-    subst (λ (b : BoardTerms). AreMade b c.args.votes.items) (sym c.council.view_is) c.requires.made in
+    let made : AreCast c.council.inside.ledger c.args.votes.items =
+    subst (λ (b : BoardTerms). AreCast b c.args.votes.items) (sym c.council.view_is) c.requires.made in
     AreAccountedFor-made c.council.inside.ledger c.args.votes.items c.in_ok-passes.passes.items
     (map (λ v. v.items) c.in_ok-passes.receipts.items) made c.in_ok-passes.ensures.stands c.in_ok-passes.ensures.passes
     c.in_ok-passes.ensures.receipts
@@ -18,7 +18,7 @@ pub returns-in-Ok : goal.returns-in-Ok
 returns-in-Ok c =
     let council : BoardTerms = c.council.inside.ledger in
     let votes : List Vote = c.args.votes.items in
-    let made : AreMade council votes = subst (λ (b : BoardTerms). AreMade b votes) (sym c.council.view_is) c.requires.made in
+    let made : AreCast council votes = subst (λ (b : BoardTerms). AreCast b votes) (sym c.council.view_is) c.requires.made in
     let checked : IsBook c.in-Ok.closed.book = subst IsBook c.book.ensures c.known.ensures.checked in
     let first : get_or votes 0 c.index.result.now ≡ c.index.result.now = sym c.index.ensures in
     subst (λ (x : Vote). IsAgreement (values_of votes) c.in-Ok.closed x.answer) first

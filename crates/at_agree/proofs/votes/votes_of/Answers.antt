@@ -3,13 +3,13 @@ use Rattle.std.proofs.lemmas.List.{map-append, nil_from_length, take_all, take_m
 use Rattle.at_agree.specs.Agreement.{values_of}
 use Rattle.at_agree.specs.Voices.{VoiceTerms}
 use Rattle.at_agree.specs.declared.votes.Vote.{Vote}
-use Rattle.at_agree.proofs.AllVotes.{AreReady-all, voice_left, voices_of}
+use Rattle.at_agree.proofs.AllVotes.{AllMayVote-all, voice_left, voices_of}
 use Rattle.at_agree.proofs.votes.votes_of.Goals as goal
 
 pub returns : goal.returns
 returns c =
     let values : List ℕ = c.args.values.now in
-    AreReady-all c.args.council.now values c.args.voices.items c.loop-value.rest.rest.items c.loop-value.votes.items
+    AllMayVote-all c.args.council.now values c.args.voices.items c.loop-value.rest.rest.items c.loop-value.votes.items
     c.requires.voices c.requires.count c.requires.small c.loop-value.invariant.voices
     (c.loop-value.invariant.values ∙ take_all c.loop-value.value-index values c.loop-value-test.false)
 

@@ -1,7 +1,7 @@
 use Rattle.std.proofs.Common.{◌≡◌, Err, string_bytes, [], refl, ap, inr, arith}
 use Rattle.std.proofs.lemmas.List.{length-map}
 use Rattle.at_commands.specs.Delivering.{order_number}
-use Rattle.at_loading.specs.Loading.{all_shown, contents_of, named}
+use Rattle.at_loading.specs.Loading.{all_shown, contents_of, named_book}
 use Rattle.at_loading.specs.Words.{delivering_shown}
 use Rattle.at_commands.proofs.Laws.Deliveries.{AreSent-spelled, few_counted, few_each}
 use Rattle.at_loading.proofs.Laws.MayRefuse.{refusal_of}
@@ -9,12 +9,12 @@ use Rattle.at_commands.proofs.delivering.broadcast_text.Goals as goal
 
 pub counts_of-counts-requires-clause-each : goal.counts_of-counts-requires-clause-each
 counts_of-counts-requires-clause-each g c =
-    rw c.as_slice.ensures.value (few_each (named c.in-Ok.sent.book c.in-Ok.sent.names) (contents_of c.in-Ok.sent.files.items) c.in-Ok.ensures.known)
+    rw c.as_slice.ensures.value (few_each (named_book c.in-Ok.sent.book c.in-Ok.sent.names) (contents_of c.in-Ok.sent.files.items) c.in-Ok.ensures.known)
 
 pub load_order-requires : goal.load_order-requires
 load_order-requires g c =
     let all = contents_of c.in-Ok.sent.files.items in
-    few_counted all c.counts_of-counts.result (λ k within. few_each (named c.in-Ok.sent.book c.in-Ok.sent.names) all c.in-Ok.ensures.known k [] within)
+    few_counted all c.counts_of-counts.result (λ k within. few_each (named_book c.in-Ok.sent.book c.in-Ok.sent.names) all c.in-Ok.ensures.known k [] within)
     (rw c.as_slice.ensures.value at c.counts_of-counts.ensures)
 
 pub returns-in-Err-load_order-clause-reached : goal.returns-in-Err-load_order-clause-reached
@@ -28,4 +28,4 @@ returns-in-Err-load_order-clause-reached g c file is =
 
 pub delivered_text-requires-clause-sent : goal.delivered_text-requires-clause-sent
 delivered_text-requires-clause-sent g c =
-    AreSent-spelled (named c.in-Ok.sent.book c.in-Ok.sent.names) (contents_of c.in-Ok.sent.files.items) c.in-Ok.ensures.known
+    AreSent-spelled (named_book c.in-Ok.sent.book c.in-Ok.sent.names) (contents_of c.in-Ok.sent.files.items) c.in-Ok.ensures.known

@@ -1,6 +1,6 @@
 use Rattle.std.proofs.Common.{◌++◌, length, get_or, ◌∙◌}
 use Rattle.at_log.specs.ClosingTerms.{log_of}
-use Rattle.at_journal.specs.Order.{records_of}
+use Rattle.at_journal.specs.Order.{records_of_process}
 use Rattle.at_journal.proofs.OrderedLaws.{pushed-flat_range}
 use Rattle.at_journal.proofs.order.push_last.Goals as goal
 
@@ -10,5 +10,5 @@ loop-p-preserved c =
     let p = c.loop-p.p in
     let old = c.loop-p.order.items in
     c.in_ok-push_records.ensures
-    ∙ ((λ t. old ++ records_of p (c.get.ensures t) (length (c.log.ensures t)))
-    ∙ pushed-flat_range (λ q. records_of q (get_or c.args.listed.now q 0) (length (log_of closing q))) c.args.order.now.items old p c.loop-p.invariant)
+    ∙ ((λ t. old ++ records_of_process p (c.get.ensures t) (length (c.log.ensures t)))
+    ∙ pushed-flat_range (λ q. records_of_process q (get_or c.args.listed.now q 0) (length (log_of closing q))) c.args.order.now.items old p c.loop-p.invariant)

@@ -1,8 +1,8 @@
 use Rattle.std.proofs.Common.{◌≡◌, ◌++◌, [], ◌∷◌, ◌-◌, ap, append_assoc, arith, map, sym, ◌∙◌}
 use Rattle.std.specs.List.{range_with_len}
-use Rattle.at_journal.specs.Order.{records_of}
+use Rattle.at_journal.specs.Order.{records_of_process}
 use Rattle.at_journal.specs.declared.order.Numbered.{Numbered}
-use Rattle.at_journal.proofs.OrderSteps.{records_of-more}
+use Rattle.at_journal.proofs.OrderSteps.{records_of_process-more}
 use Rattle.at_journal.proofs.order.push_records.Goals as goal
 
 pub loop-number-preserved : goal.loop-number-preserved
@@ -13,8 +13,8 @@ loop-number-preserved c =
     let one : Numbered = record { process = p; number = number } in (
       c.in_ok-push.ensures.items
           ∙ (ap (λ xs. xs ++ one ∷ []) c.loop-number.invariant.0
-          ∙ (append_assoc start (records_of p c.args.from number) (one ∷ [])
-          ∙ ap (λ xs. start ++ xs) (sym (records_of-more p c.args.from number (omega arith))))),
+          ∙ (append_assoc start (records_of_process p c.args.from number) (one ∷ [])
+          ∙ ap (λ xs. start ++ xs) (sym (records_of_process-more p c.args.from number (omega arith))))),
       omega (arith, c.loop-number.invariant.1),
     )
 

@@ -2,7 +2,7 @@ use Rattle.std.proofs.Common.{◌≡◌, ◌∙◌, ◌<◌, [], ◌∷◌, get_
 use Rattle.std.proofs.lemmas.List.{length-map}
 use Rattle.std.proofs.lemmas.List.Elements.{All-push}
 use Rattle.at_loading.specs.Words.{words_of}
-use Rattle.at_loading.specs.Loading.{IsSpelled, contents_of, named}
+use Rattle.at_loading.specs.Loading.{IsSpelled, contents_of, named_book}
 use Rattle.at_loading.proofs.Laws.FilesLoaded.{EachSpells-push, contents_of-nil, contents_of-pushed, files_loaded-nil, files_loaded-refused_at, files_loaded-take_more, get_or-words_of, length-contents_of, same_length}
 use Rattle.at_loading.proofs.Laws.MayRefuse.{MayRefuse-whole}
 use Rattle.at_loading.proofs.loading.load_files.Goals as goal
@@ -14,7 +14,7 @@ loop-process-init g c =
     record {
       same = record { as_told = refl; files = refl };
       kept = refl;
-      prefix = λ told. rw none (files_loaded-nil (g.P.FileForm.given (named c.args.book.now c.args.names.now)) (g.F.Shelf.file c.args.shelf.now));
+      prefix = λ told. rw none (files_loaded-nil (g.P.FileForm.given (named_book c.args.book.now c.args.names.now)) (g.F.Shelf.file c.args.shelf.now));
       spelled = λ told p below. absurd (omega (arith, empty));
       known = λ k d below. absurd (omega (arith, empty));
       count = same_length _ _ c.new-files.ensures.items;
@@ -24,7 +24,7 @@ pub returns-in-Err-clause-err : goal.returns-in-Err-clause-err
 returns-in-Err-clause-err g c =
     let before = c.loop-process.invariant in
     let words = words_of c.args.words.now in
-    let given = g.P.FileForm.given (named c.args.book.now c.args.names.now) in
+    let given = g.P.FileForm.given (named_book c.args.book.now c.args.names.now) in
     let within : c.loop-process.process < length c.args.words.now = omega arith in
     let within_words : c.loop-process.process < length words = rw length-map within in
     let name : get_or words c.loop-process.process [] ≡ c.as_str.result.now =
@@ -38,9 +38,9 @@ pub loop-process-preserved : goal.loop-process-preserved
 loop-process-preserved g c =
     let before = c.loop-process.invariant in
     let words = words_of c.args.words.now in
-    let given = g.P.FileForm.given (named c.args.book.now c.args.names.now) in
+    let given = g.P.FileForm.given (named_book c.args.book.now c.args.names.now) in
     let items = c.in-Ok.items.items in
-    let spells = g.P.FileForm.spells (named c.args.book.now c.args.names.now) in
+    let spells = g.P.FileForm.spells (named_book c.args.book.now c.args.names.now) in
     let within : c.loop-process.process < length c.args.words.now = omega arith in
     let within_words : c.loop-process.process < length words = rw length-map within in
     let name : get_or words c.loop-process.process [] ≡ c.as_str.result.now =

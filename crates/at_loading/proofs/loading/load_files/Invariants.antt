@@ -1,7 +1,7 @@
 use Rattle.std.proofs.Common.{◌≡◌, true, Ok, take, length, All}
 use Rattle.at_io.specs.Shelf.{SameFiles}
 use Rattle.at_loading.specs.Words.{words_of}
-use Rattle.at_loading.specs.Loading.{EachSpells, IsSpelled, contents_of, files_loaded, named}
+use Rattle.at_loading.specs.Loading.{EachSpells, IsSpelled, contents_of, files_loaded, named_book}
 use Rattle.at_loading.proofs.loading.load_files.Given as goal
 
 abbrev pub invariant-loop-process : goal.invariant-loop-process
@@ -9,9 +9,9 @@ invariant-loop-process g l = record {
   same : SameFiles (g.F.Shelf.tells l.fn.shelf) (g.F.Shelf.tells l.shelf) (g.F.Shelf.file l.fn.shelf) (g.F.Shelf.file l.shelf);
   kept : g.F.Shelf.faults l.shelf ≡ g.F.Shelf.faults l.fn.shelf;
   prefix : g.F.Shelf.tells l.fn.shelf ≡ true
-      → files_loaded (g.P.FileForm.given (named l.book l.names)) (g.F.Shelf.file l.fn.shelf) 0 (take l.process (words_of l.words)) ≡ Ok (contents_of l.files.items);
+      → files_loaded (g.P.FileForm.given (named_book l.book l.names)) (g.F.Shelf.file l.fn.shelf) 0 (take l.process (words_of l.words)) ≡ Ok (contents_of l.files.items);
   spelled : g.F.Shelf.tells l.fn.shelf ≡ true
-      → EachSpells (g.P.FileForm.spells (named l.book l.names)) (g.F.Shelf.file l.fn.shelf) (words_of l.words) (contents_of l.files.items);
-  known : All (IsSpelled (g.P.FileForm.spells (named l.book l.names))) (contents_of l.files.items);
+      → EachSpells (g.P.FileForm.spells (named_book l.book l.names)) (g.F.Shelf.file l.fn.shelf) (words_of l.words) (contents_of l.files.items);
+  known : All (IsSpelled (g.P.FileForm.spells (named_book l.book l.names))) (contents_of l.files.items);
   count : length l.files.items ≡ l.process;
 }

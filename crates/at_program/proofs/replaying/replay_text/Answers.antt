@@ -1,6 +1,6 @@
 use Rattle.std.proofs.Common.{◌≡◌, ◌∙◌, ◌+◌, Err, string_bytes, refl, ap, inr, arith}
 use Rattle.std.proofs.lemmas.List.{length-map}
-use Rattle.at_loading.specs.Loading.{contents_of, loaded_shown, named}
+use Rattle.at_loading.specs.Loading.{contents_of, loaded_shown, named_book}
 use Rattle.at_program.specs.Replaying.{schedule_number}
 use Rattle.at_loading.specs.Words.{replaying_shown}
 use Rattle.at_loading.proofs.Laws.MayRefuse.{refusal_of}
@@ -18,7 +18,7 @@ returns-in-Err-load_schedule-clause-reached g c file is =
 
 pub replayed_text-requires-clause-known : goal.replayed_text-requires-clause-known
 replayed_text-requires-clause-known g c =
-    IsPlayable-replayed (named c.in-Ok.loaded.book c.in-Ok.loaded.names) (contents_of c.in-Ok.loaded.files.items) c.in-Ok.ensures.known
+    IsPlayable-replayed (named_book c.in-Ok.loaded.book c.in-Ok.loaded.names) (contents_of c.in-Ok.loaded.files.items) c.in-Ok.ensures.known
 
 pub returns-in-Ok-replayed_text-clause-printed : goal.returns-in-Ok-replayed_text-clause-printed
 returns-in-Ok-replayed_text-clause-printed g c told =

@@ -1,5 +1,5 @@
 use Rattle.at_stepper.specs.Replays.{IsSameRun, TurnInRounds}
-use Rattle.at_stepper.specs.Stepping.{turns_left}
+use Rattle.at_stepper.specs.Stepping.{all_turns_left}
 use Rattle.at_stepper.proofs.replaying.run_out.Given as goal
 
 -- some rounds are made, and each but the last leaves fewer turns
@@ -10,4 +10,4 @@ invariant-loop-stepper g l = record {
 }
 
 abbrev pub decreases-loop-stepper : goal.decreases-loop-stepper
-decreases-loop-stepper g l = turns_left l.stepper
+decreases-loop-stepper g l = all_turns_left l.stepper

@@ -6,7 +6,7 @@ use Rattle.at_history.specs.Publications.{IsPrefix}
 use Rattle.at_ledger.specs.declared.call.Call.TheVariants.{Transfer}
 use Rattle.at_agree.specs.Council.{shared_account, size_of, spent_account}
 use Rattle.at_agree.specs.Plan.{HasShareDecided, HasProposed, HasVoted, share_of, named_account}
-use Rattle.at_agree.specs.Voices.{HasMade, HasRead, IsVoiceOf, VoiceTerms, process_of, seen_by}
+use Rattle.at_agree.specs.Voices.{HasMadeOneMore, HasRead, IsVoiceOf, VoiceTerms, process_of, seen_by}
 use Rattle.at_agree.proofs.FourCalls.{HasShareDecided-IsPrefix, HasProposed-IsPrefix, HasProposed-answered, HasVoted-made}
 use Rattle.at_agree.proofs.VoiceCalls.{in_book}
 use Rattle.at_agree.proofs.council.Council.propose.Goals as goal
@@ -58,8 +58,8 @@ returns-clause-voted g c =
     let k = c.size-size.result in
     let p = process_of v0 in
     let left = c.find-left.result in
-    let asked : HasMade council v1 v2 (Transfer (shared_account k) (spent_account k) (share_of k p)) =
-    subst (λ q. HasMade council v1 v2 (Transfer (shared_account k) (spent_account k) (share_of k q))) c.pay_value.ensures.made.process_is c.ask_for_share.ensures.made in
+    let asked : HasMadeOneMore council v1 v2 (Transfer (shared_account k) (spent_account k) (share_of k p)) =
+    subst (λ q. HasMadeOneMore council v1 v2 (Transfer (shared_account k) (spent_account k) (share_of k q))) c.pay_value.ensures.made.process_is c.ask_for_share.ensures.made in
     let account : c.named_account-account.result ≡ named_account k p left =
     c.named_account-account.ensures.account ∙ ap (λ q. named_account k q left) c.process-process.ensures.process in
     let last : HasRead council v3 v4 (named_account k p left) c.find.result =

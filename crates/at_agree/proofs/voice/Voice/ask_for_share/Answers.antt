@@ -3,7 +3,7 @@ use Rattle.std.specs.Vec.{vec_capacity}
 use Rattle.at_ledger.specs.declared.call.Call.TheVariants.{Transfer}
 use Rattle.at_log.specs.Receipts.{asks_in}
 use Rattle.at_log.specs.declared.receipt.Receipt.{Receipt}
-use Rattle.at_object.specs.Passes.{IsPassOf, PassTerms, newly_counted}
+use Rattle.at_object.specs.Passes.{IsPassOf, PassTerms, counted_anew}
 use Rattle.at_agree.specs.Council.{shared_account, spent_account}
 use Rattle.at_agree.specs.Plan.{HasShareDecided}
 use Rattle.at_agree.specs.Voices.{VoiceTerms, process_of}
@@ -46,7 +46,7 @@ returns-clause-asked g c =
 
 pub returns-clause-steps : goal.returns-clause-steps
 returns-clause-steps g c =
-    let new = ap (λ (v : VoiceTerms). newly_counted v.pass c.transfer-asked.new.pass) c.self.view_is in
+    let new = ap (λ (v : VoiceTerms). counted_anew v.pass c.transfer-asked.new.pass) c.self.view_is in
     omega (
       arith,
       c.transfer-asked.ensures.steps,

@@ -1,6 +1,6 @@
 use Rattle.std.proofs.Common.{subst}
 use Rattle.at_ledger.specs.declared.call.Call.TheVariants.{Read}
-use Rattle.at_agree.specs.Voices.{HasMade, HasRead, VoiceTerms}
+use Rattle.at_agree.specs.Voices.{HasMadeOneMore, HasRead, VoiceTerms}
 use Rattle.at_agree.proofs.voice.Voice.find.Goals as goal
 
 pub returns-clause-read : goal.returns-clause-read
@@ -8,7 +8,7 @@ returns-clause-read g c =
     let council = c.args.ledger.now in
     let before : VoiceTerms = record { pass = c.self.inside.pass; receipts = c.self.inside.receipts.items } in
     let after : VoiceTerms = record { pass = c.read-found.new.pass; receipts = c.push_reserved.new.self.items } in
-    let made : HasMade council before after (Read c.args.account) = record {
+    let made : HasMadeOneMore council before after (Read c.args.account) = record {
       process_is = c.read-found.ensures.process;
       of_council = c.read-found.ensures.pass;
       begins = c.read-found.ensures.begins;

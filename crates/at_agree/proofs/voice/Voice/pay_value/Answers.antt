@@ -1,7 +1,7 @@
 use Rattle.std.proofs.Common.{◌≡◌, ◌+◌, ◌<◌, List, [], ap, arith, length, rules, subst, ◌∙◌}
 use Rattle.std.specs.Vec.{vec_capacity}
 use Rattle.at_log.specs.declared.receipt.Receipt.{Receipt}
-use Rattle.at_object.specs.Passes.{IsPassOf, PassTerms, Stands, newly_counted}
+use Rattle.at_object.specs.Passes.{IsPassOf, PassTerms, Stands, counted_anew}
 use Rattle.at_agree.specs.Plan.{HasProposed}
 use Rattle.at_agree.specs.Voices.{VoiceTerms, process_of}
 use Rattle.at_agree.proofs.VoiceCalls.{HasProposed-paid, IsVoice-made, in_book, is_shared-own, known_in, payment_steps-own}
@@ -50,7 +50,7 @@ returns-clause-steps g c =
     let was : IsPassOf c.self.inside.pass c.args.ledger.now = search rules in
     let known = known_in c.args.ledger.now voice (vec_capacity c.self.inside.receipts) c.args.size c.process-process.result
     c.requires.size c.process-process.ensures was c.self.invariant in
-    let new = ap (λ (v : VoiceTerms). newly_counted v.pass c.transfer-paid.new.pass) c.self.view_is in
+    let new = ap (λ (v : VoiceTerms). counted_anew v.pass c.transfer-paid.new.pass) c.self.view_is in
     omega (
       arith,
       c.transfer-paid.ensures.steps,

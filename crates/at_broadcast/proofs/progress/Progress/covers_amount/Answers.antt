@@ -4,7 +4,7 @@ use Rattle.std.proofs.lemmas.Grind.{get_or_default_zero}
 use Rattle.at_base.specs.Counts.{Covers}
 use Rattle.at_ledger.specs.Book.{BookTerms, account_of}
 use Rattle.at_broadcast.specs.declared.message.Message.{Message}
-use Rattle.at_broadcast.specs.Messages.{credit_of, sum_of_first}
+use Rattle.at_broadcast.specs.Messages.{message_credit, sum_of_first}
 use Rattle.at_broadcast.specs.Node.{NodeState}
 use Rattle.at_broadcast.specs.Validated.{balance_at}
 use Rattle.at_broadcast.proofs.LeftLaws.{covers-left_out}
@@ -21,7 +21,7 @@ returns c = λ p owner own.
     (subst (λ (s : NodeState). (account_of s.book m.from).owners ≡ p ∷ []) (sym c.self.view_is) owner)
     (subst (λ (s : NodeState). get_or m.deps p 0 ≡ get_or s.validated p 0) (sym c.self.view_is) own)
     (subst (λ (s : NodeState). Covers s.validated m.deps) (sym c.self.view_is) c.requires.covered)
-    (subst (λ (s : NodeState). left + sum_of_first (credit_of m.from) s.messages m.deps ≡ sum_of_first (credit_of m.from) s.messages s.validated) (sym c.self.view_is) c.left_out-left_out.ensures.sum) in
+    (subst (λ (s : NodeState). left + sum_of_first (message_credit m.from) s.messages m.deps ≡ sum_of_first (message_credit m.from) s.messages s.validated) (sym c.self.view_is) c.left_out-left_out.ensures.sum) in
     let balance : c.from-2.result ≡ get_or balances m.from 0 =
     c.from-2.ensures ∙ (c.index.ensures ∙ get_or_default_zero balances m.from c.index.result.now (omega (arith, source, c.self.invariant.balanced))) in (
       λ enough. subst (λ (s : NodeState). pos m.amount ≤ℤ balance_at s.book s.messages m.deps m.from) c.self.view_is

@@ -4,7 +4,7 @@ use Rattle.std.proofs.lemmas.List.{get_or_read}
 use Rattle.at_base.specs.Counts.{Covers}
 use Rattle.at_ledger.specs.Book.{BookTerms}
 use Rattle.at_broadcast.specs.Credits.{amount_since}
-use Rattle.at_broadcast.specs.Messages.{credit_of, sum_of_first}
+use Rattle.at_broadcast.specs.Messages.{message_credit, sum_of_first}
 use Rattle.at_broadcast.specs.Node.{NodeState}
 use Rattle.at_broadcast.specs.Progress.{messages_of, no_sender}
 use Rattle.at_broadcast.specs.Sender.{SenderState, credits_to}
@@ -44,7 +44,7 @@ returns-clause-sum c =
     let known : a < length b.accounts = omega (arith, c.requires.account_in, ap (λ (s : NodeState). length s.book.accounts) c.self.view_is) in
     let covered = subst (λ (s : NodeState). Covers s.validated deps) (sym c.self.view_is) c.requires.covered in
     let end : c.loop-q.q ≡ b.processes = omega (arith, c.loop-q-test.false, c.loop-q.auto.q-end, c.processes-q-end.ensures) in
-    subst (λ (s : NodeState). c.loop-q.sum + sum_of_first (credit_of a) s.messages deps ≡ sum_of_first (credit_of a) s.messages s.validated) c.self.view_is
-    (ap (λ n. n + sum_of_first (credit_of a) (messages_of senders) deps)
+    subst (λ (s : NodeState). c.loop-q.sum + sum_of_first (message_credit a) s.messages deps ≡ sum_of_first (message_credit a) s.messages s.validated) c.self.view_is
+    (ap (λ n. n + sum_of_first (message_credit a) (messages_of senders) deps)
     (c.loop-q.invariant.summed ∙ ap (λ n. sum_by (left_of senders deps a) (range_with_len 0 n)) end)
     ∙ left_of-sum b counts senders c.self.inside.balances.items deps a c.self.invariant known covered)

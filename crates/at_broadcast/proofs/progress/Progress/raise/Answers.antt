@@ -4,10 +4,10 @@ use Rattle.std.proofs.lemmas.List.{get_or_read}
 use Rattle.at_broadcast.specs.declared.message.Message.{Message}
 use Rattle.at_broadcast.specs.Node.{NodeState, left}
 use Rattle.at_broadcast.specs.Progress.{messages_of, no_sender, sender_of}
-use Rattle.at_broadcast.specs.Sender.{SenderState, credited, credits_to}
+use Rattle.at_broadcast.specs.Sender.{SenderState, credits_to, message_counted}
 use Rattle.at_broadcast.specs.Validated.{IsValid, raised}
 use Rattle.at_broadcast.proofs.MoveLaws.{moved-le}
-use Rattle.at_broadcast.proofs.ProgressLaws.{Stands, Stands-valid, IsProgress-raised_to, covered-valid, credited-same, left-raised, messages_of-credited, moved-same}
+use Rattle.at_broadcast.proofs.ProgressLaws.{Stands, Stands-valid, IsProgress-raised_to, covered-valid, message_counted-same, left-raised, messages_of-message_counted, moved-same}
 use Rattle.at_broadcast.proofs.SenderLaws.{room-next}
 use Rattle.at_broadcast.proofs.progress.Progress.raise.Goals.{After-index_mut, After-index_mut-2, After-index_mut-3}
 use Rattle.at_broadcast.proofs.progress.Progress.raise.Goals as goal
@@ -92,7 +92,7 @@ invariant_of-self c =
     IsProgress-raised_to c.self.inside.book counts senders balances p m c.self.invariant (valid at.After-index_mut)
     c.credit.new.self c.set.new.self _
     (c.credit.ensures
-    ∙ credited-same (sender_of senders p) c.index_mut.result.now c.get-number.result (get_or counts p 0) c.args.transfer.to m.to c.args.transfer.amount m.amount
+    ∙ message_counted-same (sender_of senders p) c.index_mut.result.now c.get-number.result (get_or counts p 0) c.args.transfer.to m.to c.args.transfer.amount m.amount
     (read at.After-index_mut) c.get-number.ensures c.requires.target c.requires.amount)
     (c.set.ensures ∙ ap (λ n. set counts p (n + 1)) c.get-number.ensures)
     (moved-same balances c.args.transfer.from m.from c.args.transfer.to m.to c.args.transfer.amount m.amount c.index_mut-2.result.now c.index_mut-3.result.now
@@ -103,8 +103,8 @@ returns-clause-messages c =
     let at = goal.at.returns-clause-messages c in
     let senders : List SenderState = c.self.inside.senders.items in
     let p : ℕ = c.args.transfer.sender in
-    ap (λ (s : SenderState). messages_of (set senders p s)) (c.credit.ensures ∙ ap (λ (s : SenderState). credited s c.get-number.result c.args.transfer.to c.args.transfer.amount) (read at.After-index_mut))
-    ∙ (messages_of-credited senders p c.get-number.result c.args.transfer.to c.args.transfer.amount ∙ ap (λ (s : NodeState). s.messages) c.self.view_is)
+    ap (λ (s : SenderState). messages_of (set senders p s)) (c.credit.ensures ∙ ap (λ (s : SenderState). message_counted s c.get-number.result c.args.transfer.to c.args.transfer.amount) (read at.After-index_mut))
+    ∙ (messages_of-message_counted senders p c.get-number.result c.args.transfer.to c.args.transfer.amount ∙ ap (λ (s : NodeState). s.messages) c.self.view_is)
 
 pub returns-clause-left : goal.returns-clause-left
 returns-clause-left c =

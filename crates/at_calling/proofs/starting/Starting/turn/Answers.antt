@@ -22,7 +22,7 @@ use Rattle.at_shared.proofs.Laws.Starting.{same_some}
 use Rattle.at_shared.specs.HelpingTerms.{helping_of}
 use Rattle.at_single.specs.Looks.{HasLooked}
 use Rattle.at_calling.proofs.StartingLaws.{HasSlot-IsAskingThen, HasSlot-IsStartingSo, IsPrefix-MakesNextLoad, IsPrefix-word, IsStartOf-CollectsRows, IsStartWithin-HasLookedToAsk, IsStartWithin-IsCollectingThen, IsStartingSo-ask, IsStartingSo-collect, IsStartingSo-rows, LeavesTotals-CollectsRows, MayAskFor-HasLooked, StaysCounted-HasLookedToAsk, StaysCounted-IsCollectingThen, place-HasLooked-few, slot_in-Announces, slot_of_start, start_after, start_after_look}
-use Rattle.at_machines.specs.Asking.{AskingTerms, request_in, starting_asking}
+use Rattle.at_machines.specs.Asking.{AskingTerms, request_asked, starting_to_ask}
 use Rattle.at_machines.specs.CollectingRows.{CollectingRowsTerms, starting_rows}
 use Rattle.at_calling.specs.KeptStarting.{IsAskingThen, IsCollectingThen, IsLookingToAsk, IsStartStageSo, IsStartingSo}
 use Rattle.at_machines.specs.Looking.{IsWithin}
@@ -111,9 +111,9 @@ invariant_of-self-in-Look g c =
     let ts : List TargetPair = c.targets_of-targets.result in
     let turns : ℕ = c.turn-looked.new.self.turns in
     let so : IsLookingToAsk t c.in-Look.looking = subst (IsStartStageSo t) c.in-Look.is c.self.invariant.stage_so in
-    let stage : StartStage = Ask (starting_asking w t.account ts (place front)) in
+    let stage : StartStage = Ask (starting_to_ask w t.account ts (place front)) in
     let stage_is : c.become_next.new.self ≡ stage =
-    c.become_next.ensures ∙ (ap (λ (a : AskingTerms). Ask a) c.start-asking.ensures ∙ ap (λ k. Ask (starting_asking w t.account ts k)) c.sum.ensures) in
+    c.become_next.ensures ∙ (ap (λ (a : AskingTerms). Ask a) c.start-asking.ensures ∙ ap (λ k. Ask (starting_to_ask w t.account ts k)) c.sum.ensures) in
     let few : IsWithin t.start.book.processes t.was (sum front) turns =
     subst (λ (b : BookTerms). IsWithin b.processes t.was (sum front) turns) (book g first)
     (subst (λ (s : TotalSums). IsWithin c.args.board.now.book.processes s (sum front) turns) so.was_is c.in_ok-front-in-Look.ensures.within) in
@@ -182,12 +182,12 @@ slot_there g c =
 -- the request is announced
 announced : (g : given.Over) (c : After-slot_of g)
     → Announces c.self.inside.start.value.knows.book c.in-Ask.asking.start c.turn-announced.new.seat.knows c.in-Ask.asking.account
-    (slot_of_start (the_view c.self.inside) c.self.invariant) (request_in c.in-Ask.asking)
+    (slot_of_start (the_view c.self.inside) c.self.invariant) (request_asked c.in-Ask.asking)
 announced g c =
     let at = (goal.at.After-slot_of g c).After-turn-announced in
     let a : AskingTerms = c.in-Ask.asking in
     let slot = slot_of_start (the_view c.self.inside) c.self.invariant in
-    subst (λ (b : BookTerms). Announces b a.start c.turn-announced.new.seat.knows a.account slot (request_in a))
+    subst (λ (b : BookTerms). Announces b a.start c.turn-announced.new.seat.knows a.account slot (request_asked a))
     (book g (goal.at.After-turn-announced g at).After-self) (c.in_ok-number-in-Ask.ensures.announced slot (slot_there g at))
 
 -- its slot is found

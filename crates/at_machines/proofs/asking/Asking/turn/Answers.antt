@@ -9,7 +9,7 @@ use Rattle.at_board.specs.Words.Packed.{request_words}
 use Rattle.at_board.specs.declared.knowledge.Knowledge.{Knowledge}
 use Rattle.at_board.specs.declared.words.TheConstants.{REQUEST_WORDS}
 use Rattle.at_machines.proofs.AskingLaws.{Announces-IsAskingSo, HasAsked-IsAskingSo, HasLoadedNothing-IsAskingSo, HasSlot-IsAskingSo, IsAskingSo-announced, IsAskingSo-word, MayAnnounce-IsAskingSo, announced-IsAskingSo}
-use Rattle.at_machines.specs.Asking.{AskingTerms, asking_after, request_in}
+use Rattle.at_machines.specs.Asking.{AskingTerms, asking_after, request_asked}
 use Rattle.at_machines.specs.KeptAsking.{IsAskingSo}
 use Rattle.at_machines.proofs.asking.Asking.turn.Given as given
 use Rattle.at_machines.proofs.asking.Asking.turn.Goals.{After-announce, After-announced-number, After-self}
@@ -32,8 +32,8 @@ invariant_of-self g c =
     let n = c.request_word-word.result in
     let is = c.self.view_is in
     let left : a.stored < REQUEST_WORDS = omega (arith, c.if-self-lt-REQUEST_WORDS.true, ap (λ (t : AskingTerms). t.stored) is) in
-    let word : n ≡ get_or (request_words (request_in a)) a.stored 0 =
-    c.request_word-word.ensures ∙ ap (λ (t : AskingTerms). get_or (request_words (request_in t)) t.stored 0) is in
+    let word : n ≡ get_or (request_words (request_asked a)) a.stored 0 =
+    c.request_word-word.ensures ∙ ap (λ (t : AskingTerms). get_or (request_words (request_asked t)) t.stored 0) is in
     let told : StoresRequestWord a.mark w a.account a.stored n =
     subst (λ (v : Knowledge). StoresRequestWord v w a.account a.stored n) c.requires.mark
     (subst (λ (t : AskingTerms). StoresRequestWord c.args.seat.now.knows w t.account t.stored n) is c.store_request_word.ensures.stored) in
@@ -52,12 +52,12 @@ all g c = omega (arith, c.if-self-lt-REQUEST_WORDS.false, ap (λ (t : AskingTerm
 
 -- the request may be announced
 may : (g : given.Over) (c : After-announced-number g) (slot : ℕ) → HasSlot c.args.board.now.book c.args.self.now.start.first c.args.self.now.account slot
-    → MayAnnounce c.args.board.now.book c.args.seat.now.knows c.args.self.now.account slot (request_in c.args.self.now)
+    → MayAnnounce c.args.board.now.book c.args.seat.now.knows c.args.self.now.account slot (request_asked c.args.self.now)
 may g c slot slot_in =
     let at = (goal.at.After-announced-number g c).After-self in
     let b : BookTerms = c.args.board.now.book in
     let a : AskingTerms = c.args.self.now in
-    subst (λ (v : Knowledge). MayAnnounce b v a.account slot (request_in a)) (sym c.requires.mark)
+    subst (λ (v : Knowledge). MayAnnounce b v a.account slot (request_asked a)) (sym c.requires.mark)
     (MayAnnounce-IsAskingSo b a slot (book g at) (all g c) (before g at) slot_in)
 
 -- the account is one that the process shares
@@ -70,14 +70,14 @@ announce-requires-clause-request g c =
     let first = (goal.at.After-announced-number g at).After-self in
     let slot = (before g first).may.0 in (
       slot,
-      request_in c.args.self.now,
-      subst (λ (t : AskingTerms). MayAnnounce c.args.board.now.book c.args.seat.now.knows t.account slot (request_in c.args.self.now)) (sym c.self.view_is)
+      request_asked c.args.self.now,
+      subst (λ (t : AskingTerms). MayAnnounce c.args.board.now.book c.args.seat.now.knows t.account slot (request_asked c.args.self.now)) (sym c.self.view_is)
           (may g at slot (mine g first)),
     )
 
 -- it is announced
 told : (g : given.Over) (c : After-announce g) (slot : ℕ) → HasSlot c.args.board.now.book c.args.self.now.start.first c.args.self.now.account slot
-    → Announces c.args.board.now.book c.args.self.now.mark c.announce.new.seat.knows c.args.self.now.account slot (request_in c.args.self.now)
+    → Announces c.args.board.now.book c.args.self.now.mark c.announce.new.seat.knows c.args.self.now.account slot (request_asked c.args.self.now)
 told g c slot slot_in =
     let at = (goal.at.After-announce g c).After-announced-number in
     let b : BookTerms = c.args.board.now.book in
@@ -85,11 +85,11 @@ told g c slot slot_in =
     let w : Knowledge = c.announce.new.seat.knows in
     let announced = subst (λ (t : AskingTerms). (s : ℕ) (r : Request) → MayAnnounce b c.args.seat.now.knows t.account s r
     → Announces b c.args.seat.now.knows w t.account s r) c.self.view_is c.announce.ensures.announced in
-    subst (λ (v : Knowledge). Announces b v w a.account slot (request_in a)) c.requires.mark (announced slot (request_in a) (may g at slot slot_in))
+    subst (λ (v : Knowledge). Announces b v w a.account slot (request_asked a)) c.requires.mark (announced slot (request_asked a) (may g at slot slot_in))
 
 -- as if by one step
 from_start : (g : given.Over) (c : After-announce g) (slot : ℕ) → HasSlot c.args.board.now.book c.args.self.now.start.first c.args.self.now.account slot
-    → Announces c.args.board.now.book c.args.self.now.start c.announce.new.seat.knows c.args.self.now.account slot (request_in c.args.self.now)
+    → Announces c.args.board.now.book c.args.self.now.start c.announce.new.seat.knows c.args.self.now.account slot (request_asked c.args.self.now)
 from_start g c slot slot_in =
     let at = (goal.at.After-announce g c).After-announced-number in
     Announces-IsAskingSo c.args.board.now.book c.args.self.now c.announce.new.seat.knows slot (all g at)

@@ -15,7 +15,7 @@ use Rattle.at_machines.proofs.Laws.Snapshots.{snapshot_steps-le}
 use Rattle.at_machines.proofs.LookingLaws.{HasLooked-snapped, StaysCounted-HasLoaded, few-IsSnapped, sum-IsSnapped}
 use Rattle.at_machines.specs.KeptLooking.{IsLookingSo}
 use Rattle.at_machines.specs.KeptSnapshots.{IsSnapped}
-use Rattle.at_machines.specs.Looking.{LookingTerms, turns_left}
+use Rattle.at_machines.specs.Looking.{LookingTerms, look_turns_left}
 use Rattle.at_machines.specs.declared.look_stage.LookStage.TheVariants.{CatchUp, Snap}
 use Rattle.at_machines.proofs.looking.Looking.turn.Given as given
 use Rattle.at_machines.proofs.looking.Looking.turn.Goals.{After-copy, After-turn-caught, After-turn-snapped, then-is_ended, else-is_ended}
@@ -102,9 +102,9 @@ returns-after-is_ended-clause-left g c =
     let v : Knowledge = c.args.self.now.start in
     omega (
       arith,
-      ap turns_left c.become_next.ensures,
+      ap look_turns_left c.become_next.ensures,
       c.start-catching.ensures.left,
-      ap turns_left (snaps g at),
+      ap look_turns_left (snaps g at),
       (before g at).stage_so.left,
       few-IsSnapped v.book v c.turn-snapped.new.seat.knows c.in_ok-front-in-Snap.front (snapped g (goal.at.returns-after-is_ended-clause-left g c).After-copy),
       ap (λ (xs : List ℕ). sum xs) c.copy.ensures,
@@ -170,6 +170,6 @@ returns-in-CatchUp-clause-so_far g c =
       ap snapshot_steps (ap (λ (b : BookTerms). b.processes) same),
       sum-IsSnapped s.start.book s.start s.mark c.in-CatchUp.catching.counts so.stage_so.snapped,
       seen,
-      ap turns_left (catches g at),
+      ap look_turns_left (catches g at),
       c.requires.left,
     )

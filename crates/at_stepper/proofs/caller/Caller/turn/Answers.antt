@@ -5,22 +5,22 @@ use Rattle.at_log.specs.declared.receipt.Receipt.{Receipt}
 use Rattle.at_stepper.proofs.CallerLaws.{IsAnswered-turned, IsCallerOf-answered, process-answered, steps_of-answered}
 use Rattle.at_stepper.specs.Callers.{CallerTerms, IsAnswered, steps_in}
 use Rattle.at_calling.specs.Calling.{CallingTerms}
-use Rattle.at_stepper.specs.KeptCallers.{IsBegun, IsCallerOf, caller_of}
+use Rattle.at_stepper.specs.KeptCallers.{IsCallBegun, IsCallerOf, caller_of}
 use Rattle.at_stepper.specs.declared.turned.Turned.TheVariants.{Answer}
 use Rattle.at_stepper.proofs.caller.Caller.turn.Given.{Over}
 use Rattle.at_stepper.proofs.caller.Caller.turn.Goals.{After-become_next}
 use Rattle.at_stepper.proofs.caller.Caller.turn.Goals as goal
 
 -- the next call is begun with the calls of the caller, behind its receipts
-next_begun : (g : Over) (c : After-become_next g) → IsBegun c.args.board.now.book c.turn-made.new.seat c.turn-made.new.rest c.self.inside.calls.items
+next_begun : (g : Over) (c : After-become_next g) → IsCallBegun c.args.board.now.book c.turn-made.new.seat c.turn-made.new.rest c.self.inside.calls.items
     (length c.push_reserved.new.self.items) c.become_next.new.calling
 next_begun g c =
     let calls = c.self.inside.calls.items in
     let count : c.len.result ≡ length c.push_reserved.new.self.items = omega (arith, c.len.ensures, c.push_reserved.new.self.ok.0) in
-    subst (λ (next : Option CallingTerms). IsBegun c.args.board.now.book c.turn-made.new.seat c.turn-made.new.rest calls
+    subst (λ (next : Option CallingTerms). IsCallBegun c.args.board.now.book c.turn-made.new.seat c.turn-made.new.rest calls
     (length c.push_reserved.new.self.items) next) (sym c.become_next.ensures)
-    (subst (λ n. IsBegun c.args.board.now.book c.turn-made.new.seat c.turn-made.new.rest calls n c.begun-next.result) count
-    (subst (λ (list : List Call). IsBegun c.args.board.now.book c.turn-made.new.seat c.turn-made.new.rest list c.len.result c.begun-next.result)
+    (subst (λ n. IsCallBegun c.args.board.now.book c.turn-made.new.seat c.turn-made.new.rest calls n c.begun-next.result) count
+    (subst (λ (list : List Call). IsCallBegun c.args.board.now.book c.turn-made.new.seat c.turn-made.new.rest list c.len.result c.begun-next.result)
     c.as_slice.ensures.value c.begun-next.ensures))
 
 -- the caller as it was
