@@ -12,7 +12,6 @@ pub mod BookSpelled
 pub mod BookLimits
 pub mod BookAccepted
 pub mod TargetLaws
-pub mod PaymentsWalk
 pub mod PaymentsSpelled
 pub mod PaymentsAccepted
 pub mod ReplayLaws

@@ -1,5 +1,5 @@
 -- A payment file that is calls, written out, is read as these calls.
-use Rattle.std.proofs.Common.{◌≡◌, ℕ, ◌+◌, ◌^◌, ◌<◌, ◌≤◌, Bool, true, false, ◌&&◌, ◌⊎◌, inl, inr, ◌==◌, nat_lt, Some, bytes_eq, List, [], ◌∷◌, length, map, All, Ok, Err, codes, decimal, refl, sym, ◌∙◌, arith}
+use Rattle.std.proofs.Common.{◌≡◌, ℕ, ◌+◌, ◌^◌, ◌<◌, ◌≤◌, Bool, true, false, ◌&&◌, ◌⊎◌, inl, inr, ◌==◌, nat_lt, Some, bytes_eq, List, [], ◌∷◌, length, map, All, Ok, Err, codes, decimal, refl, sym, ap, ◌∙◌, arith}
 use Rattle.std.specs.List.{IsDistinct}
 use Rattle.std.proofs.lemmas.Bool.{eq-eqb}
 use Rattle.std.proofs.lemmas.Bool.Decides.{nat_tests}
@@ -13,14 +13,16 @@ use Rattle.at_ledger.specs.declared.call.Call.TheVariants.{Transfer, Read, Pay}
 use Rattle.at_ledger.specs.Limits.{most_targets}
 use Rattle.at_files.specs.Names.{AreNames, NameList, AreNamesOf, account_name}
 use Rattle.at_files.specs.Records.{Fields, has_shape}
-use Rattle.at_files.specs.Payments.{plain_call_of, named_call_of, call_of, has_amounts, is_pay, targets_spelled, fields_of_targets, payments_from, payments_of, fields_of_call, IsCallOfVersion, HasAmounts, Pays}
+use Rattle.at_files.specs.Payments.{plain_call_of, named_call_of, call_of, has_amounts, is_pay, targets_spelled, fields_of_targets, calls_or_fault, payments_of, fields_of_call, IsCallOfVersion, HasAmounts, Pays}
 use Rattle.at_files.specs.Limits.{most_calls}
+use Rattle.at_files.specs.Spelled.{items_of}
+use Rattle.at_files.specs.declared.payments_fault.PaymentsWhy.TheVariants.{TooManyCalls}
 use Rattle.at_files.specs.declared.payments_fault.BadPayments.{BadPayments}
 use Rattle.at_files.specs.declared.payments_fault.ReadPaymentsFault.{ReadPaymentsFault}
 use Rattle.at_files.specs.declared.payments_fault.ReadPaymentsFault.TheVariants.{NoMemory}
 use Rattle.at_files.proofs.NameLaws.{known_version, position_of-at}
-use Rattle.at_files.proofs.PaymentsWalk.{payments_from-more}
-use Rattle.at_files.proofs.PaymentsSpelled.{AreNumbered, account_name-decimal}
+use Rattle.at_files.proofs.SpelledLaws.{IsForm, items_of-map, items_of-written}
+use Rattle.at_files.proofs.PaymentsSpelled.{AreNumbered, MayCall, account_name-decimal, call_of-reads}
 
 plain_call_of-transfer : (accounts from to amount : ℕ) → from < accounts → to < accounts → accounts ≤ 2 ^ 64 → amount < 2 ^ 64
     → plain_call_of accounts (codes "transfer" ∷ decimal from ∷ decimal to ∷ decimal amount ∷ []) ≡ Ok (Transfer from to amount)
@@ -115,29 +117,35 @@ call_of-fields names call are few known amounts version = by (known_version name
         let test : (names.version == 2) ≡ true = eq-eqb names.version 2 second in
         rw test (named_call_of-fields names call are.distinct known amounts version)
 
-payments_from-calls : (names : NameList) (line : ℕ) (calls : List Call) → AreNames names.version names.accounts → length names.accounts ≤ 2 ^ 64
-    → All (IsCallOn (length names.accounts)) calls → All HasAmounts calls → All (IsCallOfVersion names.version) calls → length calls + line ≤ most_calls + 1
-    → payments_from names line (map (fields_of_call names) calls) ≡ Ok calls
-unfolding payments_from
-payments_from-calls names line [] are few known amounts versions within = refl
-payments_from-calls names line (call ∷ calls) are few known amounts versions within =
-    let here : call_of names (fields_of_call names call) ≡ Ok call =
-    call_of-fields names call are few
-    (All-head (IsCallOn (length names.accounts)) call calls known) (All-head HasAmounts call calls amounts)
-    (All-head (IsCallOfVersion names.version) call calls versions) in
-    let later : payments_from names (line + 1) (map (fields_of_call names) calls) ≡ Ok calls =
-    payments_from-calls names (line + 1) calls are few
-    (All-tail (IsCallOn (length names.accounts)) call calls known) (All-tail HasAmounts call calls amounts)
-    (All-tail (IsCallOfVersion names.version) call calls versions) (omega arith) in
-    payments_from-more names line (fields_of_call names call) (map (fields_of_call names) calls) (omega arith) ∙ rw (here, later) refl
+IsForm-call : (names : NameList) → AreNames names.version names.accounts → length names.accounts ≤ 2 ^ 64 → IsForm (call_of names) (fields_of_call names) (MayCall names)
+IsForm-call names are few = record {
+  reads = λ fields call h. call_of-reads names fields call are h;
+  writes = λ call may. call_of-fields names call are few may.known may.amounts may.version;
+}
 
--- what the file pays is what the walk gives
+-- what the file pays is what its records spell
 pub payments_of-Pays : (b : BookTerms) (names : NameList) (records : List Fields) (calls : List Call) → AreNamesOf b names
     → Pays b names records calls → payments_of names records ≡ Ok calls
 payments_of-Pays b names records calls are pays =
-    rw pays.spelled
-    (payments_from-calls names 1 calls are.formed.accounts (omega (arith, are.formed.few_accounts)) (rw are.accounts pays.known) pays.amounts pays.versions
-    (let fits : length calls ≤ most_calls = pays.few in omega arith))
+    let known : All (IsCallOn (length names.accounts)) calls = rw are.accounts pays.known in
+    let may : All (MayCall names) calls = λ k call at. record { known = known k call at; amounts = pays.amounts k call at; version = pays.versions k call at } in
+    ap calls_or_fault
+    (items_of-map (call_of names) (fields_of_call names) (MayCall names) most_calls TooManyCalls records calls
+    (IsForm-call names are.formed.accounts (omega (arith, are.formed.few_accounts))) pays.spelled may pays.few)
+
+-- the calls that a file's records spell are what it pays
+pub Pays-items_of : (b : BookTerms) (names : NameList) (records : List Fields) (calls : List Call) → AreNamesOf b names
+    → items_of (call_of names) most_calls TooManyCalls records ≡ Ok calls → Pays b names records calls
+Pays-items_of b names records calls are h =
+    let all = items_of-written (call_of names) (fields_of_call names) (MayCall names) most_calls TooManyCalls records calls
+    (IsForm-call names are.formed.accounts (omega (arith, are.formed.few_accounts))) h in
+    record {
+      spelled = all.spelled;
+      known = λ k call at. rw are.accounts at (all.each k call at).known;
+      amounts = λ k call at. (all.each k call at).amounts;
+      versions = λ k call at. (all.each k call at).version;
+      few = let few : length calls + 1 ≤ most_calls + 1 = all.few in omega arith;
+    }
 
 -- a file that pays calls isn't refused
 pub Pays-not_bad : (b : BookTerms) (names : NameList) (records : List Fields) (calls : List Call) (bad : BadPayments) (fault : ReadPaymentsFault) → AreNamesOf b names

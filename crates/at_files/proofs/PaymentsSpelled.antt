@@ -6,17 +6,14 @@ use Rattle.std.proofs.lemmas.List.Elements.{All-cons}
 use Rattle.csv.specs.Records.{field_at}
 use Rattle.at_base.specs.Numbers.{number_of}
 use Rattle.at_base.proofs.NumberLaws.{number_of-some}
-use Rattle.at_ledger.specs.Book.{BookTerms}
 use Rattle.at_ledger.specs.Call.{AreTargetsOn, IsCallOn, TargetPair}
 use Rattle.at_ledger.specs.declared.call.Call.{Call}
 use Rattle.at_ledger.specs.declared.call.Call.TheVariants.{Transfer, Read, Pay}
-use Rattle.at_files.specs.Names.{AreNames, NameList, AreNamesOf, account_name, position_of}
+use Rattle.at_files.specs.Names.{AreNames, NameList, account_name, position_of}
 use Rattle.at_files.specs.Records.{Fields, before, field_of, number_at, has_shape}
-use Rattle.at_files.specs.Payments.{transfer_of, read_of, plain_call_of, named_transfer, named_read, named_pay, named_call_of, has_amounts, is_pay, target_of, targets_spelled, call_of, call_before, payments_from, payments_of, fields_of_call, fields_of_targets, IsCallOfVersion, HasAmounts, Pays}
-use Rattle.at_files.specs.Limits.{most_calls}
+use Rattle.at_files.specs.Payments.{transfer_of, read_of, plain_call_of, named_transfer, named_read, named_pay, named_call_of, has_amounts, is_pay, target_of, targets_spelled, call_of, fields_of_call, fields_of_targets, IsCallOfVersion, HasAmounts}
 use Rattle.at_files.specs.declared.payments_fault.PaymentsWhy.{PaymentsWhy}
-use Rattle.at_files.specs.declared.payments_fault.PaymentsWhy.TheVariants.{Shape, UnknownAccount, TooManyCalls}
-use Rattle.at_files.specs.declared.payments_fault.BadPayments.{BadPayments}
+use Rattle.at_files.specs.declared.payments_fault.PaymentsWhy.TheVariants.{Shape, UnknownAccount}
 use Rattle.at_files.proofs.NameLaws.{decimal-AreNames, known_version, position_of-Some}
 use Rattle.at_files.proofs.FieldLaws.{both_tests, length-has_shape, first-has_shape, two_fields, four_fields, field_of-number_at, number_at-lt}
 
@@ -241,62 +238,14 @@ call_of-spelled names fields call are h = by (names.version == 2) refl h
     by true second is = named_call_of-spelled names fields call (eqb-true names.version 2 second) is
     by false other is = plain_call_of-spelled names fields call (first other, are) is
 
--- the records from a line on are the calls, written out
-record AllSpelled (names : NameList) (line : ℕ) (records : List Fields) (calls : List Call) : Type 0 where
-  spelled : records ≡ map (fields_of_call names) calls
-  known : All (IsCallOn (length names.accounts)) calls
-  amounts : All HasAmounts calls
-  versions : All (IsCallOfVersion names.version) calls
-  few : length calls + line ≤ most_calls + 1
+-- what a payment file may have as a call
+pub record MayCall (names : NameList) (call : Call) : Type 0 where
+  pub known : IsCallOn (length names.accounts) call
+  pub amounts : HasAmounts call
+  pub version : IsCallOfVersion names.version call
 
-AllSpelled-cons : (names : NameList) (line : ℕ) (fields : Fields) (records : List Fields) (call : Call) (calls : List Call) → Spelled names fields call
-    → AllSpelled names (line + 1) records calls → AllSpelled names line (fields ∷ records) (call ∷ calls)
-AllSpelled-cons names line fields records call calls first others = record {
-  spelled = rw (first.spelled, others.spelled) refl;
-  known = All-cons (IsCallOn (length names.accounts)) call calls first.known others.known;
-  amounts = All-cons HasAmounts call calls first.amounts others.amounts;
-  versions = All-cons (IsCallOfVersion names.version) call calls first.version others.versions;
-  few = let few : length calls + (line + 1) ≤ most_calls + 1 = others.few in omega arith;
-}
-
-call_before-spelled : (names : NameList) (line : ℕ) (fields : Fields) (records : List Fields) (calls : List Call) (first : Result Call PaymentsWhy) (later : Result (List Call) BadPayments)
-    → ((call : Call) → first ≡ Ok call → Spelled names fields call) → ((more : List Call) → later ≡ Ok more → AllSpelled names (line + 1) records more)
-    → call_before line first later ≡ Ok calls → AllSpelled names line (fields ∷ records) calls
-call_before-spelled names line fields records calls (Err why) later one all h = absurd (cc)
-call_before-spelled names line fields records calls (Ok call) (Err bad) one all h = absurd (cc)
-call_before-spelled names line fields records calls (Ok call) (Ok more) one all h =
-    let is : call ∷ more ≡ calls = cc in
-    let P : List Call → Type 0 = AllSpelled names line (fields ∷ records) in
-    subst P is (AllSpelled-cons names line fields records call more (one call refl) (all more refl))
-
-payments_from-spelled : (names : NameList) (line : ℕ) (records : List Fields) (calls : List Call) → AreNames names.version names.accounts → line ≤ most_calls + 1
-    → payments_from names line records ≡ Ok calls → AllSpelled names line records calls
-unfolding payments_from
-payments_from-spelled names line [] calls are within h =
-    let is : [] ≡ calls = cc in
-    let P : List Call → Type 0 = AllSpelled names line [] in
-    subst P is (record { spelled = refl; known = λ k d h. absurd (omega arith); amounts = λ k d h. absurd (omega arith); versions = λ k d h. absurd (omega arith); few = omega arith })
-payments_from-spelled names line (fields ∷ records) calls are within h =
-    by (line == most_calls + 1) refl h (λ fits more. payments_from-spelled names (line + 1) records more are fits)
-  where
-    by : (b : Bool) → (line == most_calls + 1) ≡ b
-        → (if b then Err (record { line = line; why = TooManyCalls }) else call_before line (call_of names fields) (payments_from names (line + 1) records)) ≡ Ok calls
-        → (line + 1 ≤ most_calls + 1 → (more : List Call) → payments_from names (line + 1) records ≡ Ok more → AllSpelled names (line + 1) records more)
-        → AllSpelled names line (fields ∷ records) calls
-    by true last is all = absurd (cc)
-    by false other is all =
-        let fits : line + 1 ≤ most_calls + 1 = grind (arith, nat_tests) in
-        call_before-spelled names line fields records calls (call_of names fields) (payments_from names (line + 1) records)
-        (λ call e. call_of-spelled names fields call are e) (all fits) is
-
--- what the walk gives is what the file pays
-pub Pays-payments_of : (b : BookTerms) (names : NameList) (records : List Fields) (calls : List Call) → AreNamesOf b names → payments_of names records ≡ Ok calls → Pays b names records calls
-Pays-payments_of b names records calls are h =
-    let all = payments_from-spelled names 1 records calls are.formed.accounts (omega arith) h in
-    record {
-      spelled = all.spelled;
-      known = rw are.accounts at all.known;
-      amounts = all.amounts;
-      versions = all.versions;
-      few = let few : length calls + 1 ≤ most_calls + 1 = all.few in omega arith;
-    }
+pub call_of-reads : (names : NameList) (fields : Fields) (call : Call) → AreNames names.version names.accounts → call_of names fields ≡ Ok call
+    → (fields ≡ fields_of_call names call) × MayCall names call
+call_of-reads names fields call are h =
+    let is = call_of-spelled names fields call are h in
+    (is.spelled, record { known = is.known; amounts = is.amounts; version = is.version })

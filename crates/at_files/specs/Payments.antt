@@ -12,6 +12,8 @@ use Rattle.at_files.specs.Limits.{most_calls}
 use Rattle.at_files.specs.declared.payments_fault.PaymentsWhy.{PaymentsWhy}
 use Rattle.at_files.specs.declared.payments_fault.PaymentsWhy.TheVariants.{Shape, Number, UnknownAccount, TooManyCalls}
 use Rattle.at_files.specs.declared.payments_fault.BadPayments.{BadPayments}
+use Rattle.at_files.specs.declared.spelled.BadRecord.{BadRecord}
+use Rattle.at_files.specs.Spelled.{items_of}
 
 -- a transfer between two of so many accounts
 abbrev pub transfer_of : ℕ → Option ℕ → Option ℕ → Option ℕ → Result Call PaymentsWhy
@@ -85,30 +87,18 @@ abbrev pub call_of : NameList → Fields → Result Call PaymentsWhy
 call_of names fields =
     if names.version == 2 then named_call_of names.accounts fields else plain_call_of (length names.accounts) fields
 
--- a fault at this line
-abbrev pub bad_payments : ℕ → PaymentsWhy → Result (List Call) BadPayments
-bad_payments line why = Err (record { line = line; why = why })
+-- the file's fault that a fault of its records is
+abbrev pub payments_fault : BadRecord PaymentsWhy → BadPayments
+payments_fault bad = record { line = bad.line; why = bad.why }
 
--- calls before those that come later, unless a fault does
-abbrev pub calls_before : List Call → Result (List Call) BadPayments → Result (List Call) BadPayments
-calls_before calls (Ok later) = Ok (calls ++ later)
-calls_before calls (Err bad) = Err bad
-
--- what the record of this line spells, and then what comes later
-abbrev pub call_before : ℕ → Result Call PaymentsWhy → Result (List Call) BadPayments → Result (List Call) BadPayments
-call_before line (Ok call) later = calls_before (call ∷ []) later
-call_before line (Err why) later = bad_payments line why
-
--- the calls of the records from this line on, or the first fault
-unfoldable pub payments_from : NameList → ℕ → List Fields → Result (List Call) BadPayments
-payments_from names line [] = Ok []
-payments_from names line (fields ∷ records) =
-    if line == most_calls + 1 then bad_payments line TooManyCalls
-    else call_before line (call_of names fields) (payments_from names (line + 1) records)
+-- calls of a file, or the file's fault that the first fault of its records is
+abbrev pub calls_or_fault : Result (List Call) (BadRecord PaymentsWhy) → Result (List Call) BadPayments
+calls_or_fault (Ok calls) = Ok calls
+calls_or_fault (Err bad) = Err (payments_fault bad)
 
 -- the calls of a file's records, or the first fault
 abbrev pub payments_of : NameList → List Fields → Result (List Call) BadPayments
-payments_of names records = payments_from names 1 records
+payments_of names records = calls_or_fault (items_of (call_of names) most_calls TooManyCalls records)
 
 -- the fields of a pay-out's targets, a name and an amount for each
 unfoldable pub fields_of_targets : NameList → List TargetPair → Fields

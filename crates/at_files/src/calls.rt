@@ -204,18 +204,13 @@ fn named_call_of(names: &Names, fields: &ByteRecord) -> Result<Call, PaymentsWhy
     }
 }
 
-/// The call that a record spells beside the names of a book with so many accounts.
-pub(crate) fn call_of(
-    accounts: u32,
-    names: &Names,
-    fields: &ByteRecord,
-) -> Result<Call, PaymentsWhy>
-    requires { accounts ≡ length names.now.accounts }
+/// The call that a record spells beside the names of a book.
+pub(crate) fn call_of(names: &Names, fields: &ByteRecord) -> Result<Call, PaymentsWhy>
     ensures { result ≡ call_of names.now (fields_of fields.now) }
 {
     if names.version() == 2 {
         named_call_of(names, fields)
     } else {
-        plain_call_of(accounts, fields)
+        plain_call_of(names.accounts(), fields)
     }
 }

@@ -78,6 +78,13 @@ impl Names {
         self.version
     }
 
+    /// How many accounts have a name.
+    pub(crate) fn accounts(&self) -> u32
+        ensures { result ≡ length self.now.accounts }
+    {
+        self.accounts.len() as u32
+    }
+
     /// The name of an account.
     pub fn account(&self, account: u32) -> &[u8]
         requires { account < length self.now.accounts }

@@ -1,17 +1,46 @@
 //! The payments of one process.
 
 ghost use Rattle.std.specs.Prelude.{◌≡◌, List, Ok, Err, IfErr, IfOk};
+ghost use Rattle.csv.specs.Records.{fields_of};
 ghost use Rattle.at_files.specs.Names.{AreNamesOf};
 ghost use Rattle.at_files.specs.Records.{file_records};
-ghost use Rattle.at_files.specs.Payments.{payments_of, Pays};
+ghost use Rattle.at_files.specs.Payments.{call_of, payments_fault, payments_of, Pays};
 
 use crate::calls::call_of;
 use crate::names::Names;
 use crate::payments_fault::{BadPayments, CALLS_MAX, PaymentsWhy, ReadPaymentsFault};
-use crate::records::Records;
+use crate::spelled::{BadRecord, ReadFault, RecordForm, read_items};
 use at_ledger::{Book, Call};
 use csv::ByteRecord;
 use std::alloc::Global;
+
+/// What a record of a payment file has to be, beside the names of a book.
+#[derive(Drop)]
+struct CallForm<'a> {
+    names: &'a Names,
+}
+
+impl<'a> RecordForm for CallForm<'a> {
+    type Item = Call;
+
+    type Why = PaymentsWhy;
+
+    ghost item = { λ form. call_of form.names.now };
+
+    fn item_of(&self, fields: &ByteRecord) -> Result<Call, PaymentsWhy> {
+        call_of(self.names, fields)
+    }
+}
+
+/// The file's fault that a fault of its records is.
+fn payments_fault(bad: BadRecord<PaymentsWhy>) -> BadPayments
+    ensures { result ≡ payments_fault bad }
+{
+    BadPayments {
+        line: bad.line,
+        why: bad.why,
+    }
+}
 
 /// Reads the payment file of one process. A file without records is a file without calls.
 ///
@@ -32,33 +61,10 @@ pub fn read_payments(
     ensures bad { (b : BadPayments) → result ≡ Err (ReadPaymentsFault.Bad b)
         → payments_of names.now (file_records bytes.now) ≡ Err b }
 {
-    let accounts = book.accounts();
-    let mut records = Records::new(alloc, bytes);
-    let mut fields = ByteRecord::new(alloc);
-    let mut calls = Vec::new(alloc);
-    for line in 1..CALLS_MAX + 1 {
-        let Ok(found) = records.next(&mut fields) else {
-            return Err(ReadPaymentsFault::NoMemory);
-        };
-        if !found {
-            return Ok(calls);
-        }
-        let call = match call_of(accounts, names, &fields) {
-            Ok(call) => call,
-            Err(why) => return Err(ReadPaymentsFault::Bad(BadPayments { line, why })),
-        };
-        if calls.push(call).is_err() {
-            return Err(ReadPaymentsFault::NoMemory);
-        }
+    let form = CallForm { names };
+    match read_items(alloc, &form, CALLS_MAX, PaymentsWhy::TooManyCalls, bytes) {
+        Ok(calls) => Ok(calls),
+        Err(ReadFault::Bad(bad)) => Err(ReadPaymentsFault::Bad(payments_fault(bad))),
+        Err(ReadFault::NoMemory) => Err(ReadPaymentsFault::NoMemory),
     }
-    let Ok(found) = records.next(&mut fields) else {
-        return Err(ReadPaymentsFault::NoMemory);
-    };
-    if found {
-        return Err(ReadPaymentsFault::Bad(BadPayments {
-            line: CALLS_MAX + 1,
-            why: PaymentsWhy::TooManyCalls,
-        }));
-    }
-    Ok(calls)
 }
