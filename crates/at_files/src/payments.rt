@@ -1,7 +1,6 @@
 //! The payments of one process.
 
 ghost use Rattle.std.specs.Prelude.{◌≡◌, List, Ok, Err, IfErr, IfOk};
-ghost use Rattle.csv.specs.Records.{fields_of};
 ghost use Rattle.at_files.specs.Names.{AreNamesOf};
 ghost use Rattle.at_files.specs.Records.{file_records};
 ghost use Rattle.at_files.specs.Payments.{call_of, payments_fault, payments_of, Pays};
