@@ -1,32 +1,36 @@
 -- A call from one turn to the next, and what its answer leaves.
-use Rattle.std.proofs.Common.{◌≡◌, ℕ, ◌+◌, ◌-◌, ◌<◌, ◌≤◌, [], ◌∷◌, length, Some, refl, sym, ap, subst, ◌∙◌, arith}
+use Rattle.std.proofs.Common.{◌≡◌, ℕ, ◌+◌, ◌-◌, ◌*◌, ◌<◌, ◌≤◌, ◌↔◌, List, [], ◌∷◌, ◌++◌, IfSome, IsSome, Option, length, None, Some, refl, sym, ap, subst, ◌∙◌, arith}
+use Rattle.std.specs.List.{sum}
 use Rattle.at_ledger.specs.Account.{is_shared}
 use Rattle.at_ledger.specs.Book.{BookTerms, account_of}
 use Rattle.at_ledger.specs.Call.{IsCallOn}
 use Rattle.at_ledger.specs.declared.call.Call.{Call}
 use Rattle.at_ledger.specs.declared.call.Reply.{Reply}
 use Rattle.at_history.specs.Fronts.{places_max}
+use Rattle.at_history.specs.Moves.{AreRuns}
 use Rattle.at_board.specs.Knowledge.Seats.{BoardTerms, IsKept, IsOf, SeatTerms}
 use Rattle.at_board.specs.Words.Addresses.{record_width}
 use Rattle.at_board.specs.declared.knowledge.Knowledge.{Knowledge}
+use Rattle.at_board.specs.declared.words.TheConstants.{RECORD_WORDS}
 use Rattle.at_closing.specs.BetweenCalls.{IsBetweenCalls}
 use Rattle.at_fold.specs.HasCounted.{HasCounted, StaysCounted}
 use Rattle.at_fold.specs.Sums.{TotalSums}
+use Rattle.at_log.specs.Placed.{IsPlaced}
 use Rattle.at_log.specs.declared.receipt.At.TheVariants.{Previous}
 use Rattle.at_log.specs.declared.receipt.Receipt.{Receipt}
 use Rattle.at_object.proofs.Laws.Looked.{between-IsPass}
 use Rattle.at_object.proofs.Laws.Made.{PaymentMade-refused}
 use Rattle.at_object.specs.Paid.{PaysAlone, PaysInRound}
 use Rattle.at_object.specs.Parted.{IsOfOnePass, pass_of}
-use Rattle.at_object.specs.Passes.{PassTerms, one_more_call}
+use Rattle.at_object.specs.Passes.{PassTerms, Stands, one_more_call}
 use Rattle.at_object.specs.Payments.{sent_after}
 use Rattle.at_object.specs.declared.parts.Rest.{Rest}
 use Rattle.at_shared.specs.Helpings.{IsPayoutFrom, decides_made}
-use Rattle.at_calling.proofs.CallingLaws.{CallMade-PaysAlone, CallMade-PaysInRound, IsOfOnePass-IsReadOf, IsOfOnePass-PaysAlone, IsOfOnePass-PaysInRound, ReadMade-IsReadOf, StaysWithin-IsReadOf, StaysWithin-PaysAlone, StaysWithin-PaysInRound, refusal_in-payout, small-refusal_of, source-IsCallOn}
-use Rattle.at_calling.specs.Calling.{CallMade, CallingTerms, IsWay, StaysWithin, pass_before, refusal_in}
-use Rattle.at_calling.specs.KeptCalling.{IsCallStageSo, IsCallingSo, IsMakingStill}
-use Rattle.at_machines.specs.Looking.{look_turns_left}
-use Rattle.at_calling.specs.PayingAlone.{PayingAloneTerms, append_steps, pay_turns_left}
+use Rattle.at_calling.proofs.CallingLaws.{CallMade-PaysAlone, CallMade-PaysInRound, IsOfOnePass-IsReadOf, IsOfOnePass-PaysAlone, IsOfOnePass-PaysInRound, ReadMade-IsReadOf, StaysWithin-IsReadOf, StaysWithin-PaysAlone, StaysWithin-PaysInRound, call_steps-payout, payment_steps-shared, payment_steps-single, placed-CallMade, refusal_in-payout, small-refusal_of, source-IsCallOn, stands-CallMade}
+use Rattle.at_calling.specs.Calling.{CallMade, CallingTerms, IsWay, MakesCallStep, StaysWithin, call_steps, call_turns_left, exchanges_made, exchanges_of, pass_before, refusal_in, steps_made, steps_of}
+use Rattle.at_calling.specs.KeptCalling.{IsCallStageSo, IsCallingSo, IsMakingStill, TakesCallTurn}
+use Rattle.at_machines.specs.Looking.{IsWithin, look_turns_left}
+use Rattle.at_calling.specs.PayingAlone.{IsPayWithin, PayingAloneTerms, append_steps, pay_turns_left}
 use Rattle.at_calling.specs.PayingShared.{DecidesFew, IsShareWithin, PayingSharedTerms, settling_steps, share_exchanges_made, share_turns_left, share_turns_most, unless_settled, unless_starting}
 use Rattle.at_calling.specs.Reading.{IsReadOf, LeavesTotals, ReadingTerms}
 use Rattle.at_calling.specs.declared.call_stage.CallStage.{CallStage}
@@ -71,6 +75,9 @@ module _ (board : BoardTerms) (t : CallingTerms) (so : IsCallingSo t) (seat : Se
 
     unmoved : (t.mark ≡ t.start) × (t.rest ≡ t.was)
     unmoved = subst (IsCallStageSo t) stage so.stage_so
+
+    pub was-refused : t.rest ≡ t.was
+    was-refused = unmoved.1
 
     module _ (r : Receipt) (call_is : r.call ≡ t.call) (reply_is : r.reply ≡ reply) (at : r.at ≡ Previous) where
       here : Leaves board.book t t.start (record t.was { calls = one_more_call t.was.calls }) 0 0 r
@@ -120,6 +127,13 @@ module _ (board : BoardTerms) (t : CallingTerms) (so : IsCallingSo t) (seat : Se
       pub way-read : t.call ≡ Call.Read r.account
       way-read = subst (IsWay t.start.knows.book (pass_before t) t.call) stage so.way
 
+      pub few-read : (records turns : ℕ) → IsWithin board.book.processes r.looking.was records turns
+          → turns ≤ call_steps board.book t.call + RECORD_WORDS * (records - sum t.was.totals.upto)
+      few-read records turns few =
+          let few_on : IsWithin board.book.processes t.was.totals records turns =
+          subst (λ (s : TotalSums). IsWithin board.book.processes s records turns) still-read.was_is few in
+          omega (arith, few_on, ap (call_steps board.book) way-read)
+
       pub Leaves-read : (rest : Rest) (turns : ℕ) (receipt : Receipt) → IsKept after.knows
           → IsReadOf board.book r.looking.start after.knows r.account receipt
           → LeavesTotals board.book r.looking.start after.knows r.looking.was rest.totals 0 turns
@@ -155,6 +169,18 @@ module _ (board : BoardTerms) (t : CallingTerms) (so : IsCallingSo t) (seat : Se
           small-refusal_of board.book t.start t.was p.from so.kept book-IsCallingSo so.pass
           (sym (refusal_in-payout board.book p.from p.targets (pass_before t) t.call way-alone.0) ∙ way-alone.2) way-alone.3
 
+      pub few-alone : (records turns : ℕ) → IsPayWithin board.book.processes p.was records turns
+          → turns ≤ call_steps board.book t.call + RECORD_WORDS * (records - sum t.was.totals.upto)
+      few-alone records turns few =
+          let few_on : IsPayWithin board.book.processes t.was.totals records turns =
+          subst (λ (s : TotalSums). IsPayWithin board.book.processes s records turns) still-alone.was_is few in
+          omega (
+            arith,
+            few_on,
+            call_steps-payout board.book p.from p.targets t.call way-alone.0,
+            payment_steps-single board.book p.from way-alone.3,
+          )
+
       pub Leaves-alone : (rest : Rest) (turns : ℕ) (receipt : Receipt) → IsKept after.knows
           → PaysAlone board.book p.start after.knows p.from p.targets p.call receipt
           → LeavesTotals board.book p.start after.knows p.was rest.totals (append_steps (record_width board.book) receipt.reply) turns
@@ -186,6 +212,18 @@ module _ (board : BoardTerms) (t : CallingTerms) (so : IsCallingSo t) (seat : Se
 
       pub way-shared : IsWay board.book (pass_before t) t.call (PayShared p)
       way-shared = subst (IsWay board.book (pass_before t) t.call) stage way_on
+
+      pub few-shared : (records turns : ℕ) → turns ≤ share_turns_most board.book p.account (records - sum p.was.upto)
+          → turns ≤ call_steps board.book t.call + RECORD_WORDS * (records - sum t.was.totals.upto)
+      few-shared records turns few =
+          let few_on : turns ≤ share_turns_most board.book p.account (records - sum t.was.totals.upto) =
+          subst (λ (s : TotalSums). turns ≤ share_turns_most board.book p.account (records - sum s.upto)) still-shared.was_is few in
+          omega (
+            arith,
+            few_on,
+            call_steps-payout board.book p.account way-shared.0.targets t.call way-shared.0.payout,
+            payment_steps-shared board.book p.account way-shared.3,
+          )
 
       pub IsCallingSo-shared : (q : PayingSharedTerms) (rest : Rest) → q.call ≡ p.call → q.account ≡ p.account
           → q.start ≡ p.start → q.mark ≡ after.knows → q.was ≡ p.was
@@ -247,3 +285,44 @@ pub share_exchanges_made-ended : (b : BookTerms) (q : PayingSharedTerms) (record
 share_exchanges_made-ended b q records few room none =
     unless_settled-ended (share_turns_most b q.account places_max + 1 - q.turns) (decides_made q.account q.start q.mark) q.stage
     (omega (arith, few, room)) none
+
+-- what holds of a receipt, where there is one
+if_some : (P Q : Receipt → Type 0) → ((r : Receipt) → P r → Q r) → (answer : Option Receipt) → IfSome answer P → IfSome answer Q
+if_some P Q all None holds = tt
+if_some P Q all (Some r) holds = all r holds
+
+-- what a turn leaves, from one stage to the next
+pub TakesCallTurn-stages : (b : BookTerms) (t : CallingTerms) (before after mark : SeatTerms) → mark ≡ after → (now rest : Rest) → rest ≡ now
+    → (old next : CallStage) → t.stage ≡ old → (answer : Option Receipt) → steps_made next ≡ steps_made old + steps_of old
+    → MakesCallStep b old before after now.totals → call_turns_left b next < call_turns_left b old
+    → steps_made next ≤ call_steps b t.call + RECORD_WORDS * (length after.knows.seen - sum t.was.totals.upto)
+    → (IsSome answer ↔ (call_turns_left b next ≡ 0)) → AreRuns b after.knows.seen → exchanges_made next ≡ exchanges_made old + exchanges_of old
+    → IfSome answer (Leaves b t after now (steps_made next) (exchanges_made next)) → IfSome answer (λ r. now.calls ≡ one_more_call t.was.calls)
+    → TakesCallTurn b t (calling_next t next mark rest) before after now answer
+TakesCallTurn-stages b t before after mark mark_is now rest rest_is old next is answer turns step left so_far ends runs exchanges leaves calls =
+    let all : PassTerms = pass_of after now in
+    record {
+      call_is = refl;
+      start_is = refl;
+      was_is = refl;
+      mark_is = mark_is;
+      rest_is = rest_is;
+      turns = turns ∙ sym (ap (λ (k : CallStage). steps_made k + steps_of k) is);
+      step = subst (λ (k : CallStage). MakesCallStep b k before after now.totals) (sym is) step;
+      left = subst (λ (k : CallStage). call_turns_left b next < call_turns_left b k) (sym is) left;
+      so_far = so_far;
+      ends = ends;
+      made = if_some (Leaves b t after now (steps_made next) (exchanges_made next)) (CallMade b (pass_before t) all t.call) (λ r l. l.made) answer leaves;
+      placed = if_some (Leaves b t after now (steps_made next) (exchanges_made next))
+          (λ r. (earlier : List Receipt) → Stands (pass_before t) earlier → IsPlaced b t.start.knows.first after.knows.seen earlier r)
+          (λ r l. placed-CallMade b (pass_before t) all t.call r l.made) answer leaves;
+      stands = if_some (Leaves b t after now (steps_made next) (exchanges_made next))
+          (λ r. (earlier : List Receipt) → Stands (pass_before t) earlier → Stands all (earlier ++ r ∷ []))
+          (λ r l. stands-CallMade b (pass_before t) all t.call r l.made) answer leaves;
+      kept = if_some (Leaves b t after now (steps_made next) (exchanges_made next)) (λ r. IsOfOnePass after now) (λ r l. l.kept) answer leaves;
+      calls = calls;
+      runs = runs;
+      within = if_some (Leaves b t after now (steps_made next) (exchanges_made next))
+          (StaysWithin b (pass_before t) all t.call (steps_made next) (exchanges_made next)) (λ r l. l.within) answer leaves;
+      exchanges = exchanges ∙ sym (ap (λ (k : CallStage). exchanges_made k + exchanges_of k) is);
+    }

@@ -1,7 +1,9 @@
 pub mod ReadingLaws
 pub mod PayingAloneLaws
+pub mod PayingAloneTurns
 pub mod CallingLaws
 pub mod CallingTurns
 pub mod StartingLaws
 pub mod TurningLaws
+pub mod TurningSteps
 pub mod PayingSharedLaws

@@ -1,12 +1,18 @@
 -- What the type of a call in the making keeps of its fields, which no caller sees.
-use Rattle.std.specs.Prelude.{◌≡◌, ◌<◌, length}
+use Rattle.std.specs.Prelude.{◌≡◌, ◌+◌, ◌++◌, ◌<◌, ◌↔◌, List, [], ◌∷◌, IfSome, IsSome, Option, length}
+use Rattle.at_ledger.specs.Book.{BookTerms}
 use Rattle.at_ledger.specs.Call.{IsCallOn}
-use Rattle.at_board.specs.Knowledge.Seats.{IsKept}
+use Rattle.at_history.specs.Moves.{AreRuns}
+use Rattle.at_board.specs.Knowledge.Seats.{IsKept, SeatTerms}
 use Rattle.at_board.specs.Words.Addresses.{record_width}
 use Rattle.at_board.specs.declared.knowledge.Knowledge.{Knowledge}
 use Rattle.at_fold.specs.Sums.{TotalSums}
-use Rattle.at_object.specs.Parted.{IsOfOnePass}
-use Rattle.at_calling.specs.Calling.{CallingTerms, IsWay, pass_before}
+use Rattle.at_log.specs.Placed.{IsPlaced}
+use Rattle.at_log.specs.declared.receipt.Receipt.{Receipt}
+use Rattle.at_object.specs.Parted.{IsOfOnePass, pass_of}
+use Rattle.at_object.specs.Passes.{Stands, one_more_call}
+use Rattle.at_object.specs.declared.parts.Rest.{Rest}
+use Rattle.at_calling.specs.Calling.{CallMade, CallingTerms, IsCallWithin, IsWay, MakesCallStep, StaysWithin, call_turns_left, exchanges_made, exchanges_of, pass_before, steps_made, steps_of}
 use Rattle.at_machines.specs.Looking.{look_turns_left}
 use Rattle.at_calling.specs.PayingAlone.{pay_turns_left}
 use Rattle.at_calling.specs.PayingShared.{share_turns_left}
@@ -39,3 +45,24 @@ pub record IsCallingSo (t : CallingTerms) : Type 0 where
   pub call_on : IsCallOn (length t.start.knows.book.accounts) t.call
   pub way : IsWay t.start.knows.book (pass_before t) t.call t.stage
   pub stage_so : IsCallStageSo t t.stage
+
+-- what a turn leaves of the call, in whichever stage it was: all but the stage, and what the seat and the rest of its pass are, is as it was
+pub record TakesCallTurn (b : BookTerms) (t u : CallingTerms) (before after : SeatTerms) (now : Rest) (answer : Option Receipt) : Type 0 where
+  pub call_is : u.call ≡ t.call
+  pub start_is : u.start ≡ t.start
+  pub was_is : u.was ≡ t.was
+  pub mark_is : u.mark ≡ after
+  pub rest_is : u.rest ≡ now
+  pub turns : steps_made u.stage ≡ steps_made t.stage + steps_of t.stage
+  pub step : MakesCallStep b t.stage before after now.totals
+  pub left : call_turns_left b u.stage < call_turns_left b t.stage
+  pub so_far : IsCallWithin b u (length after.knows.seen)
+  pub ends : IsSome answer ↔ (call_turns_left b u.stage ≡ 0)
+  pub made : IfSome answer (CallMade b (pass_before t) (pass_of after now) t.call)
+  pub placed : IfSome answer (λ r. (earlier : List Receipt) → Stands (pass_before t) earlier → IsPlaced b t.start.knows.first after.knows.seen earlier r)
+  pub stands : IfSome answer (λ r. (earlier : List Receipt) → Stands (pass_before t) earlier → Stands (pass_of after now) (earlier ++ r ∷ []))
+  pub kept : IfSome answer (λ r. IsOfOnePass after now)
+  pub calls : IfSome answer (λ r. now.calls ≡ one_more_call t.was.calls)
+  pub runs : AreRuns b after.knows.seen
+  pub within : IfSome answer (StaysWithin b (pass_before t) (pass_of after now) t.call (steps_made u.stage) (exchanges_made u.stage))
+  pub exchanges : exchanges_made u.stage ≡ exchanges_made t.stage + exchanges_of t.stage

@@ -1,19 +1,25 @@
 -- What the type of a payment in the making keeps of its fields, which no caller sees.
-use Rattle.std.specs.Prelude.{◌≡◌, ◌<◌, ◌≤◌, Some, length, sum}
+use Rattle.std.specs.Prelude.{◌≡◌, ◌+◌, ◌<◌, ◌≤◌, ◌↔◌, IfSome, IsSome, Option, Some, length, sum}
+use Rattle.at_ledger.specs.Book.{BookTerms}
 use Rattle.at_ledger.specs.Call.{amount_of}
 use Rattle.at_history.specs.Balances.{balance_after}
 use Rattle.at_history.specs.Fronts.{prefix_of}
 use Rattle.at_history.specs.Rounds.{owns_of}
 use Rattle.at_history.specs.Sound.{AreTargets}
 use Rattle.at_history.specs.declared.publication.Entry.{Entry}
-use Rattle.at_board.specs.Knowledge.Seats.{IsKept}
+use Rattle.at_board.specs.Knowledge.Seats.{IsKept, SeatTerms}
 use Rattle.at_board.specs.Words.Addresses.{record_width}
+use Rattle.at_fold.specs.HasCounted.{StaysCounted}
+use Rattle.at_fold.specs.Sums.{TotalSums}
 use Rattle.at_log.specs.Receipts.{payout_of}
+use Rattle.at_log.specs.declared.receipt.Receipt.{Receipt}
+use Rattle.at_object.specs.Paid.{PaysAlone}
 use Rattle.at_single.specs.Looks.{HasLooked}
 use Rattle.at_single.specs.Standing.{IsOnlyOwner}
 use Rattle.at_machines.specs.Appending.{AppendingTerms}
 use Rattle.at_machines.specs.Looking.{IsWithin, LookingTerms, look_turns_left}
-use Rattle.at_calling.specs.PayingAlone.{HasSameAsking, PayingAloneTerms}
+use Rattle.at_calling.specs.PayingAlone.{HasSameAsking, IsPayWithin, MakesPayStep, PayingAloneTerms, append_steps, pay_turns_left, turns_made}
+use Rattle.at_calling.specs.Reading.{LeavesTotals}
 use Rattle.at_calling.specs.declared.pay_stage.PayStage.{PayStage}
 use Rattle.at_calling.specs.declared.pay_stage.PayStage.TheVariants.{Append, Look, Short}
 
@@ -50,3 +56,23 @@ pub record IsPayingAloneSo (t : PayingAloneTerms) : Type 0 where
   pub targets_in : AreTargets t.start.book t.targets
   pub room : owns_of t.start.first t.start.seen < t.start.book.own_room
   pub stage_so : IsPayStageSo t t.stage
+
+-- what a turn leaves of the payment, in whichever stage it was: all but the stage, and what the seat knows and the totals have counted, is
+-- as it was
+pub record TakesPayTurn (b : BookTerms) (t u : PayingAloneTerms) (before after : SeatTerms) (now : TotalSums) (answer : Option Receipt) : Type 0 where
+  pub call_is : u.call ≡ t.call
+  pub from_is : u.from ≡ t.from
+  pub targets_are : u.targets ≡ t.targets
+  pub start_is : u.start ≡ t.start
+  pub mark_is : u.mark ≡ after.knows
+  pub was_is : u.was ≡ t.was
+  pub totals_are : u.totals ≡ now
+  pub turns : turns_made u ≡ turns_made t + 1
+  pub step : MakesPayStep b t.stage before after now
+  pub left : pay_turns_left (record_width b) u.stage < pay_turns_left (record_width b) t.stage
+  pub ends : IsSome answer ↔ (pay_turns_left (record_width b) u.stage ≡ 0)
+  pub so_far : IsPayWithin b.processes t.was (length after.knows.seen) (turns_made u)
+  pub asks : HasSameAsking t.start after.knows
+  pub pays : IfSome answer (PaysAlone b t.start after.knows t.from t.targets t.call)
+  pub counted : IfSome answer (λ r. StaysCounted now b after.knows.seen)
+  pub leaves : IfSome answer (λ r. LeavesTotals b t.start after.knows t.was now (append_steps (record_width b) r.reply) (turns_made u))

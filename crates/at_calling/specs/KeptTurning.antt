@@ -1,11 +1,24 @@
 -- What the type of a turn of helping in the making keeps of its fields, which no caller sees.
-use Rattle.std.specs.Prelude.{◌≡◌, ◌+◌, ◌<◌, ◌≤◌, length, sum}
-use Rattle.at_board.specs.Knowledge.Seats.{IsKept}
-use Rattle.at_shared.specs.Helpings.{IsHelping, decides_on}
+use Rattle.std.specs.Prelude.{◌≡◌, ℕ, ◌+◌, ◌*◌, ◌<◌, ◌≤◌, ◌↔◌, if◌then◌else◌, IfSome, IsSome, Option, length, sum}
+use Rattle.at_base.specs.declared.decision.Decision.{Decision}
+use Rattle.at_ledger.specs.Book.{BookTerms}
+use Rattle.at_ledger.specs.declared.call.Reply.TheVariants.{Done, Short}
+use Rattle.at_board.specs.Knowledge.Seats.{IsKept, SeatTerms}
+use Rattle.at_fold.specs.HasCounted.{HasCounted}
+use Rattle.at_fold.specs.Sums.{TotalSums}
+use Rattle.at_log.specs.declared.receipt.At.{At}
+use Rattle.at_log.specs.declared.receipt.Receipt.{Receipt}
+use Rattle.at_shared.specs.HelpTurns.{NamesOwn}
+use Rattle.at_shared.specs.HelpingTerms.{HelpingTerms}
+use Rattle.at_shared.specs.Helpings.{IsHelping, decides_made, decides_on}
+use Rattle.at_shared.specs.Settling.{round_steps}
+use Rattle.at_shared.specs.declared.helping.HelpTurn.{HelpTurn}
+use Rattle.at_shared.specs.declared.helping.HelpTurn.TheVariants.{More, Settled}
 use Rattle.at_single.specs.Looks.{HasLooked}
 use Rattle.at_machines.specs.Deciding.{DecidingTerms, exchanges_in, left_of_round}
 use Rattle.at_machines.specs.Looking.{IsWithin, LookingTerms, look_turns_left}
-use Rattle.at_calling.specs.Turning.{TurningTerms}
+use Rattle.at_calling.specs.Reading.{LeavesTotals}
+use Rattle.at_calling.specs.Turning.{IsHelpOf, IsHelpWithin, LeavesSeat, MakesTurnStep, TurningTerms, WaitsOn, exchanges_at, help_turns_left, help_turns_made}
 use Rattle.at_calling.specs.declared.turn_stage.TurnStage.{TurnStage}
 use Rattle.at_calling.specs.declared.turn_stage.TurnStage.TheVariants.{Decide, Found, Look}
 
@@ -40,3 +53,36 @@ pub record IsTurningSo (t : TurningTerms) : Type 0 where
   pub book : t.mark.book ≡ t.start.book
   pub helping : IsHelping t.start.book t.start t.helping
   pub stage_so : IsTurnStageSo t t.stage
+
+-- the receipt of the call, where a round has decided its request so
+abbrev pub receipt_in : HelpingTerms → ℕ → Decision → Receipt
+receipt_in h round d = record { call = h.call; reply = (if d.ok then Done else Short); at = At.Round round d.place }
+
+-- the answer once a round has decided so: the receipt exactly where that was the request which waits
+abbrev pub IsAfterRound : HelpingTerms → ℕ → Decision → HelpTurn → Type 0
+IsAfterRound h round d (Settled r) = NamesOwn h d × (r ≡ receipt_in h round d)
+IsAfterRound h round d More = ¬ NamesOwn h d
+
+-- what a step leaves of the turn of helping, in whichever stage it was: all but the stage, and what the seat knows and the totals have
+-- counted, is as it was
+pub record TakesHelpStep (b : BookTerms) (t u : TurningTerms) (before after : SeatTerms) (now : TotalSums) (answer : Option HelpTurn) : Type 0 where
+  pub helping_is : u.helping ≡ t.helping
+  pub start_is : u.start ≡ t.start
+  pub mark_is : u.mark ≡ after.knows
+  pub was_is : u.was ≡ t.was
+  pub totals_are : u.totals ≡ now
+  pub turns : help_turns_made u ≡ help_turns_made t + 1
+  pub step : MakesTurnStep b t.stage u.stage before after now
+  pub left : help_turns_left b.processes u.stage < help_turns_left b.processes t.stage
+  pub ends : IsSome answer ↔ (help_turns_left b.processes u.stage ≡ 0)
+  pub so_far : IsHelpWithin b.processes (decides_made t.helping.account t.start after.knows) t.was (length after.knows.seen) (help_turns_made u)
+  pub decides_few : decides_on t.start t.helping.account ≤ decides_on after.knows t.helping.account
+  pub once : decides_made t.helping.account t.start after.knows ≤ 1
+  pub seen : length t.start.seen ≤ length after.knows.seen
+  pub help : IfSome answer (IsHelpOf b t.start after.knows t.helping)
+  pub waits : IfSome answer (λ h. h ≡ More → WaitsOn b t.start after.knows t.helping)
+  pub seat : IfSome answer (λ h. LeavesSeat t.start after.knows t.helping.account)
+  pub counted : IfSome answer (λ h. HasCounted now b after.knows.seen)
+  pub leaves : IfSome answer (λ h. LeavesTotals b t.start after.knows t.was now
+      (round_steps b.processes * decides_made t.helping.account t.start after.knows) (help_turns_made u))
+  pub decides : decides_made t.helping.account t.start after.knows ≡ decides_made t.helping.account t.start t.mark + exchanges_at t.stage

@@ -1,6 +1,6 @@
 //! A call of a pass that was taken apart, a step a turn.
 
-ghost use Rattle.std.specs.Prelude.{◌≡◌, ℕ, ◌+◌, ◌++◌, ◌<◌, ◌↔◌, List, [], ◌∷◌, IfSome, IsSome, length};
+ghost use Rattle.std.specs.Prelude.{◌≡◌, ℕ, ◌+◌, ◌++◌, ◌<◌, ◌↔◌, List, [], ◌∷◌, IfSome, IsSome, Some, length};
 ghost use Rattle.at_board.specs.Knowledge.Seats.{IsOf};
 ghost use Rattle.at_history.specs.Moves.{AreRuns};
 ghost use Rattle.at_ledger.specs.Call.{IsCallOn};
@@ -10,6 +10,10 @@ ghost use Rattle.at_log.specs.declared.receipt.Receipt.{Receipt};
 ghost use Rattle.at_object.specs.Parted.{IsOfOnePass, pass_of};
 ghost use Rattle.at_object.specs.Passes.{Stands, one_more_call};
 ghost use Rattle.at_object.specs.Payments.{sent_after};
+ghost use Rattle.at_calling.specs.KeptCalling.{TakesCallTurn};
+ghost use Rattle.at_calling.specs.PayingAlone.{PayingAloneTerms};
+ghost use Rattle.at_calling.specs.PayingShared.{PayingSharedTerms};
+ghost use Rattle.at_calling.specs.Reading.{ReadingTerms};
 ghost use Rattle.at_calling.specs.Calling.{CallMade, IsCallWithin, IsWay, MakesCallStep, StaysWithin, call_turns_left, exchanges_made, exchanges_of, pass_before, steps_made, steps_of};
 
 use crate::call_stage::CallStage;
@@ -137,49 +141,133 @@ impl Calling {
         ensures exchanges_made { exchanges_made self.new.stage
             ≡ exchanges_made self.old.stage + exchanges_of self.old.stage }
     {
-        seat.known();
-        match &mut self.stage {
+        match &self.stage {
             CallStage::Refuse(reply) => {
                 let reply = *reply;
-                self.stage.become_next(CallStage::Refused);
-                rest.calls = one_more_call(rest.calls);
-                self.rest = Snapshot::of(rest);
-                Some(refused(&self.call, reply))
+                Some(self.refuse(board, seat, rest, reply))
             }
-            CallStage::Read(reading) => {
-                let read = reading.turn(board, seat, &mut rest.totals, steps, exchanges);
-                seat.known();
-                self.mark = Snapshot::of(seat);
-                self.rest = Snapshot::of(rest);
-                let receipt = read?;
-                rest.calls = one_more_call(rest.calls);
-                self.rest = Snapshot::of(rest);
-                Some(receipt)
-            }
-            CallStage::PayAlone(paying) => {
-                let paid = paying.turn(board, seat, &mut rest.totals, steps, exchanges);
-                seat.known();
-                self.mark = Snapshot::of(seat);
-                self.rest = Snapshot::of(rest);
-                let receipt = paid?;
-                rest.sent = sent_after(rest.sent, &receipt.reply);
-                rest.calls = one_more_call(rest.calls);
-                self.rest = Snapshot::of(rest);
-                Some(receipt)
-            }
-            CallStage::PayShared(paying) => {
-                let shared = paying.turn(board, seat, &mut rest.totals, steps, exchanges);
-                seat.known();
-                self.mark = Snapshot::of(seat);
-                self.rest = Snapshot::of(rest);
-                let receipt = shared?;
-                rest.calls = one_more_call(rest.calls);
-                self.rest = Snapshot::of(rest);
-                Some(receipt)
-            }
+            CallStage::Read(_) => self.read_on(board, seat, rest, steps, exchanges),
+            CallStage::PayAlone(_) => self.pay_alone_on(board, seat, rest, steps, exchanges),
+            CallStage::PayShared(_) => self.pay_shared_on(board, seat, rest, steps, exchanges),
             // Some turn is left, and after a refusal none is.
             CallStage::Refused => unreachable!(),
         }
+    }
+
+    /// Answers that the call is refused, in no step.
+    fn refuse(&mut self, board: &Board, seat: &BoardSeat, rest: &mut Rest, reply: Reply) -> Receipt
+        requires board { IsOf seat.now board.now }
+        requires mark { seat.now ≡ self.old.mark }
+        requires rest { rest.old ≡ self.old.rest }
+        requires stage { self.old.stage ≡ CallStage.Refuse reply }
+        ensures { TakesCallTurn board.now.book self.old self.new seat.now seat.now rest.new
+            (Some result) }
+    {
+        seat.known();
+        self.stage.become_next(CallStage::Refused);
+        rest.calls = one_more_call(rest.calls);
+        self.rest = Snapshot::of(rest);
+        refused(&self.call, reply)
+    }
+
+    /// Makes the next step of the read. The last one answers its receipt.
+    fn read_on<L: Ledger, X: Ledger>(
+        &mut self,
+        board: &Board,
+        seat: &mut BoardSeat,
+        rest: &mut Rest,
+        steps: &mut Steps<L>,
+        exchanges: &mut Steps<X>,
+    ) -> Option<Receipt>
+        requires board { IsOf seat.old board.now }
+        requires mark { seat.old ≡ self.old.mark }
+        requires rest { rest.old ≡ self.old.rest }
+        requires stage { (r : ReadingTerms) × (self.old.stage ≡ CallStage.Read r) }
+        requires left { 0 < call_turns_left board.now.book self.old.stage }
+        ensures turned { TakesCallTurn board.now.book self.old self.new seat.old seat.new rest.new
+            result }
+        ensures board { IsOf seat.new board.now }
+        ensures steps { steps.new ≡ steps.old + 1 }
+        ensures exchanges { exchanges.new ≡ exchanges.old }
+    {
+        let CallStage::Read(reading) = &mut self.stage else {
+            unreachable!()
+        };
+        let read = reading.turn(board, seat, &mut rest.totals, steps, exchanges);
+        seat.known();
+        self.mark = Snapshot::of(seat);
+        self.rest = Snapshot::of(rest);
+        let receipt = read?;
+        rest.calls = one_more_call(rest.calls);
+        self.rest = Snapshot::of(rest);
+        Some(receipt)
+    }
+
+    /// Makes the next step of the payment by the account's one owner. The last one answers its receipt.
+    fn pay_alone_on<L: Ledger, X: Ledger>(
+        &mut self,
+        board: &Board,
+        seat: &mut BoardSeat,
+        rest: &mut Rest,
+        steps: &mut Steps<L>,
+        exchanges: &mut Steps<X>,
+    ) -> Option<Receipt>
+        requires board { IsOf seat.old board.now }
+        requires mark { seat.old ≡ self.old.mark }
+        requires rest { rest.old ≡ self.old.rest }
+        requires stage { (p : PayingAloneTerms) × (self.old.stage ≡ CallStage.PayAlone p) }
+        requires left { 0 < call_turns_left board.now.book self.old.stage }
+        ensures turned { TakesCallTurn board.now.book self.old self.new seat.old seat.new rest.new
+            result }
+        ensures board { IsOf seat.new board.now }
+        ensures steps { steps.new ≡ steps.old + 1 }
+        ensures exchanges { exchanges.new ≡ exchanges.old }
+    {
+        let CallStage::PayAlone(paying) = &mut self.stage else {
+            unreachable!()
+        };
+        let paid = paying.turn(board, seat, &mut rest.totals, steps, exchanges);
+        seat.known();
+        self.mark = Snapshot::of(seat);
+        self.rest = Snapshot::of(rest);
+        let receipt = paid?;
+        rest.sent = sent_after(rest.sent, &receipt.reply);
+        rest.calls = one_more_call(rest.calls);
+        self.rest = Snapshot::of(rest);
+        Some(receipt)
+    }
+
+    /// Makes the next step of the payment by one of the account's owners. The last one answers its receipt.
+    fn pay_shared_on<L: Ledger, X: Ledger>(
+        &mut self,
+        board: &Board,
+        seat: &mut BoardSeat,
+        rest: &mut Rest,
+        steps: &mut Steps<L>,
+        exchanges: &mut Steps<X>,
+    ) -> Option<Receipt>
+        requires board { IsOf seat.old board.now }
+        requires mark { seat.old ≡ self.old.mark }
+        requires rest { rest.old ≡ self.old.rest }
+        requires stage { (p : PayingSharedTerms) × (self.old.stage ≡ CallStage.PayShared p) }
+        requires left { 0 < call_turns_left board.now.book self.old.stage }
+        ensures turned { TakesCallTurn board.now.book self.old self.new seat.old seat.new rest.new
+            result }
+        ensures board { IsOf seat.new board.now }
+        ensures steps { steps.new ≡ steps.old + 1 }
+        ensures exchanges { exchanges.new ≡ exchanges.old + exchanges_of self.old.stage }
+    {
+        let CallStage::PayShared(paying) = &mut self.stage else {
+            unreachable!()
+        };
+        let paid = paying.turn(board, seat, &mut rest.totals, steps, exchanges);
+        seat.known();
+        self.mark = Snapshot::of(seat);
+        self.rest = Snapshot::of(rest);
+        let receipt = paid?;
+        rest.calls = one_more_call(rest.calls);
+        self.rest = Snapshot::of(rest);
+        Some(receipt)
     }
 }
 

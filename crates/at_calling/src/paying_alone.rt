@@ -1,18 +1,26 @@
 //! A payment from a single account, a step a turn.
 
-ghost use Rattle.std.specs.Prelude.{◌≡◌, ◌+◌, ◌<◌, ◌↔◌, IfSome, IsSome, Some, length};
+ghost use Rattle.std.specs.Prelude.{◌≡◌, ◌+◌, ◌<◌, ◌↔◌, IfSome, IsSome, IsTrue, List, Some, length};
 ghost use Rattle.at_board.specs.Knowledge.Seats.{IsOf};
 ghost use Rattle.at_board.specs.Words.Addresses.{record_width};
-ghost use Rattle.at_fold.specs.HasCounted.{HasCounted, StaysCounted};
+ghost use Rattle.at_fold.specs.HasCounted.{CountsAccount, CountsFront, HasCounted, StaysCounted};
+ghost use Rattle.at_history.specs.Balances.{balance_after};
+ghost use Rattle.at_history.specs.Fronts.{prefix_of};
 ghost use Rattle.at_history.specs.Rounds.{owns_of};
-ghost use Rattle.at_ledger.specs.Call.{AreTargetsOn};
+ghost use Rattle.at_history.specs.declared.publication.Publication.{Publication};
+ghost use Rattle.at_ledger.specs.Book.{BookTerms};
+ghost use Rattle.at_ledger.specs.Call.{AreTargetsOn, amount_of};
 ghost use Rattle.at_log.specs.Receipts.{payout_of};
+ghost use Rattle.at_machines.specs.Appending.{AppendingTerms};
+ghost use Rattle.at_machines.specs.Looking.{LookingTerms};
 ghost use Rattle.at_object.specs.Paid.{PaysAlone};
 ghost use Rattle.at_single.specs.Standing.{IsOnlyOwner};
+ghost use Rattle.at_calling.specs.KeptPayingAlone.{TakesPayTurn};
 ghost use Rattle.at_calling.specs.PayingAlone.{HasSameAsking, IsPayWithin, MakesPayStep, append_steps, pay_turns_left, turns_made};
 ghost use Rattle.at_calling.specs.Reading.{LeavesTotals};
 
 use crate::pay_stage::PayStage;
+use at_base::Counts;
 use at_board::{Board, BoardSeat, Entry, Steps};
 use at_fold::Totals;
 use at_ledger::{Call, Reply, Targets};
@@ -156,43 +164,118 @@ impl PayingAlone {
         ensures steps { steps.new ≡ steps.old + 1 }
         ensures exchanges { exchanges.new ≡ exchanges.old }
     {
-        match &mut self.stage {
-            PayStage::Look(looking) => {
-                let looked = looking.turn(board, seat, totals, steps, exchanges);
-                self.looked = looking.turns();
-                self.mark = Snapshot::of(seat);
-                self.totals = Snapshot::of(totals);
-                let view = looked?;
-                seat.known();
-                if u128::from(totals.balance(self.from)) < self.targets.sum() {
-                    self.stage.become_next(PayStage::Short);
-                    return Some(receipt_of(&self.call, Reply::Short, At::Front(view)));
-                }
-                let entry = Entry::Own {
-                    from: self.from,
-                    targets: self.targets.copy(),
-                };
-                // The front stays one, and what it covers stays covered, whatever others publish before this record.
-                let appending = Appending::start(seat, Record { entry, view });
-                self.stage.become_next(PayStage::Append(appending));
-                None
-            }
-            PayStage::Append(appending) => {
-                seat.known();
-                let is_published = appending.turn(board, seat, steps, exchanges);
-                self.mark = Snapshot::of(seat);
-                if !is_published {
-                    return None;
-                }
-                totals.count_own(seat, appending.entry());
-                self.totals = Snapshot::of(totals);
-                let at = At::Own(seat.published() - 1);
-                Some(receipt_of(&self.call, Reply::Done, at))
-            }
+        match &self.stage {
+            PayStage::Look(_) => self.look_on(board, seat, totals, steps, exchanges),
+            PayStage::Append(_) => self.append_on(board, seat, totals, steps, exchanges),
             // Some turn is left, and of a short payment none is.
             PayStage::Short => unreachable!(),
         }
     }
+
+    /// Makes the next load of the look. After the last one the payment is short, or the append of its record comes next.
+    fn look_on<L: Ledger, X: Ledger>(
+        &mut self,
+        board: &Board,
+        seat: &mut BoardSeat,
+        totals: &mut Totals,
+        steps: &mut Steps<L>,
+        exchanges: &mut Steps<X>,
+    ) -> Option<Receipt>
+        requires board { IsOf seat.old board.now }
+        requires mark { seat.old.knows ≡ self.old.mark }
+        requires totals { totals.old ≡ self.old.totals }
+        requires looks { (l : LookingTerms) × (self.old.stage ≡ PayStage.Look l) }
+        ensures turned { TakesPayTurn board.now.book self.old self.new seat.old seat.new totals.new
+            result }
+        ensures board { IsOf seat.new board.now }
+        ensures steps { steps.new ≡ steps.old + 1 }
+        ensures exchanges { exchanges.new ≡ exchanges.old }
+    {
+        let PayStage::Look(looking) = &mut self.stage else {
+            // The look goes on.
+            unreachable!()
+        };
+        let looked = looking.turn(board, seat, totals, steps, exchanges);
+        self.looked = looking.turns();
+        self.mark = Snapshot::of(seat);
+        self.totals = Snapshot::of(totals);
+        let front = looked?;
+        seat.known();
+        if is_short(totals, self.from, &self.targets) {
+            self.stage.become_next(PayStage::Short);
+            return Some(short(&self.call, front));
+        }
+        // The front stays one, and what it covers stays covered, whatever others publish before this record.
+        let rec = record_of(self.from, &self.targets, front);
+        self.stage
+            .become_next(PayStage::Append(Appending::start(seat, rec)));
+        None
+    }
+
+    /// Stores the next word of the payment's record, or publishes it.
+    fn append_on<L: Ledger, X: Ledger>(
+        &mut self,
+        board: &Board,
+        seat: &mut BoardSeat,
+        totals: &mut Totals,
+        steps: &mut Steps<L>,
+        exchanges: &mut Steps<X>,
+    ) -> Option<Receipt>
+        requires board { IsOf seat.old board.now }
+        requires mark { seat.old.knows ≡ self.old.mark }
+        requires totals { totals.old ≡ self.old.totals }
+        requires appends { (a : AppendingTerms) × (self.old.stage ≡ PayStage.Append a) }
+        requires left { 0 < pay_turns_left (record_width board.now.book) self.old.stage }
+        ensures turned { TakesPayTurn board.now.book self.old self.new seat.old seat.new totals.new
+            result }
+        ensures board { IsOf seat.new board.now }
+        ensures steps { steps.new ≡ steps.old + 1 }
+        ensures exchanges { exchanges.new ≡ exchanges.old }
+    {
+        let PayStage::Append(appending) = &mut self.stage else {
+            // The append goes on.
+            unreachable!()
+        };
+        seat.known();
+        let is_published = appending.turn(board, seat, steps, exchanges);
+        self.mark = Snapshot::of(seat);
+        if !is_published {
+            return None;
+        }
+        totals.count_own(seat, appending.entry());
+        self.totals = Snapshot::of(totals);
+        let at = At::Own(seat.published() - 1);
+        Some(receipt_of(&self.call, Reply::Done, at))
+    }
+}
+
+/// Whether the account's balance at the front that is counted is below the sum of the amounts.
+fn is_short(totals: &Totals, from: u32, targets: &Targets) -> bool
+    requires { (b : BookTerms) × (seen : List Publication)
+        × CountsAccount totals.now b seen from × CountsFront totals.now b seen }
+    ensures { (b : BookTerms) (seen : List Publication) → CountsAccount totals.now b seen from
+        → CountsFront totals.now b seen → IsTrue result
+        ↔ (balance_after b (prefix_of totals.now.upto seen) from < amount_of targets.now) }
+{
+    u128::from(totals.balance(from)) < targets.sum()
+}
+
+/// The record of a payment, with a front as its view.
+fn record_of(from: u32, targets: &Targets, view: Counts) -> Record
+    ensures { result ≡ record { entry = Entry.Own from targets.now; view = view } }
+{
+    let entry = Entry::Own {
+        from,
+        targets: targets.copy(),
+    };
+    Record { entry, view }
+}
+
+/// The receipt of a call that the balance at this front doesn't cover.
+fn short(call: &Call, front: Counts) -> Receipt
+    ensures { result ≡ record { call = call.now; reply = Reply.Short; at = At.Front front } }
+{
+    receipt_of(call, Reply::Short, At::Front(front))
 }
 
 /// The receipt of a call with this reply, where it stands.

@@ -1,18 +1,22 @@
 //! The start of a payment from a shared account, a step a turn.
 
-ghost use Rattle.std.specs.Prelude.{◌≡◌, ℕ, ◌+◌, ◌<◌, ◌↔◌, IfSome, IsSome, None, length};
+ghost use Rattle.std.specs.Prelude.{◌≡◌, ℕ, ◌+◌, ◌^◌, ◌<◌, ◌↔◌, IfSome, IsSome, None, length};
 ghost use Rattle.at_board.specs.Knowledge.Parts.{own_part};
 ghost use Rattle.at_board.specs.Knowledge.Seats.{IsOf};
 ghost use Rattle.at_board.specs.Steps.StoreRequestWord.{MayStoreRequest};
 ghost use Rattle.at_fold.specs.HasCounted.{HasCounted, StaysCounted};
+ghost use Rattle.at_history.specs.Fronts.{place};
+ghost use Rattle.at_machines.specs.Asking.{starting_to_ask};
+ghost use Rattle.at_rows.specs.Asks.{MayAskFor, asked_for};
 ghost use Rattle.at_shared.specs.Helpings.{HasAllSettled, IsPayoutFrom};
 ghost use Rattle.at_calling.specs.Reading.{LeavesTotals};
 ghost use Rattle.at_calling.specs.Starting.{IsStartOf, IsStartWithin, MakesStartStep, asking_steps_of, start_turns_left, start_turns_made};
 
 use crate::start_stage::StartStage;
+use at_base::Counts;
 use at_board::{Board, BoardSeat, Steps};
 use at_fold::Totals;
-use at_ledger::Call;
+use at_ledger::{Call, Targets};
 use at_machines::{Asking, CollectingRows, Looking};
 use at_shared::{Helping, targets_of};
 use std::marker::Model;
@@ -149,7 +153,7 @@ impl Starting {
                 // There are one to four targets, as their type keeps.
                 let _count = targets.len();
                 // What is settled at the front stays so, whatever others publish before the request is announced.
-                let asking = Asking::start(seat, self.account, targets, front.sum());
+                let asking = asking_at(seat, self.account, targets, &front);
                 self.stage.become_next(StartStage::Ask(asking));
                 None
             }
@@ -176,4 +180,14 @@ impl Starting {
             }
         }
     }
+}
+
+/// Asks for these targets with the place of a front as the `since`.
+fn asking_at(seat: &BoardSeat, account: u32, targets: Targets, front: &Counts) -> Asking
+    requires place { place front.now < 2 ^ 32 }
+    requires may { (slot : ℕ) × MayAskFor seat.now.knows.book seat.now.knows account slot
+        (asked_for targets (place front.now)) }
+    ensures { result ≡ starting_to_ask seat.now.knows account targets (place front.now) }
+{
+    Asking::start(seat, account, targets, front.sum())
 }

@@ -2,14 +2,18 @@
 
 ghost use Rattle.std.specs.Prelude.{◌≡◌, ◌+◌, ◌*◌, ◌<◌, ◌≤◌, ◌↔◌, IfSome, IsSome, length};
 ghost use Rattle.at_board.specs.Knowledge.Seats.{IsOf};
+ghost use Rattle.at_machines.specs.Deciding.{DecidingTerms};
+ghost use Rattle.at_machines.specs.Looking.{LookingTerms};
 ghost use Rattle.at_fold.specs.HasCounted.{HasCounted};
 ghost use Rattle.at_shared.specs.Helpings.{IsHelping, decides_made, decides_on};
 ghost use Rattle.at_shared.specs.Settling.{round_steps};
 ghost use Rattle.at_shared.specs.declared.helping.HelpTurn.{HelpTurn};
+ghost use Rattle.at_calling.specs.KeptTurning.{IsAfterRound, TakesHelpStep, receipt_in};
 ghost use Rattle.at_calling.specs.Reading.{LeavesTotals};
 ghost use Rattle.at_calling.specs.Turning.{IsHelpOf, IsHelpWithin, LeavesSeat, MakesTurnStep, WaitsOn, exchanges_at, help_turns_left, help_turns_made};
 
 use crate::turn_stage::TurnStage;
+use at_base::Decision;
 use at_board::{Board, BoardSeat, Steps};
 use at_fold::Totals;
 use at_machines::{Deciding, Looking};
@@ -152,39 +156,105 @@ impl Turning {
             ≡ decides_made self.old.helping.account self.old.start self.old.mark
             + exchanges_at self.old.stage }
     {
-        seat.known();
-        match &mut self.stage {
-            TurnStage::Look(looking) => {
-                let looked = looking.turn(board, seat, totals, steps, exchanges);
-                self.looked = looking.turns();
-                self.mark = Snapshot::of(seat);
-                self.totals = Snapshot::of(totals);
-                let front = looked?;
-                seat.known();
-                if let Some((round, decision)) = helping.settled(totals) {
-                    self.stage.become_next(TurnStage::Found);
-                    let receipt = helping.receipt(round, &decision);
-                    return Some(HelpTurn::Settled(receipt));
-                }
-                // What is proposed is fixed here. Others may publish and decide before the exchange, and the front stays one.
-                let deciding = Deciding::start(board, seat, totals, helping, front);
-                self.stage.become_next(TurnStage::Decide(deciding));
-                None
-            }
-            TurnStage::Decide(deciding) => {
-                let decided = deciding.turn(board, seat, totals, steps, exchanges);
-                self.mark = Snapshot::of(seat);
-                self.totals = Snapshot::of(totals);
-                let decision = decided?;
-                seat.known();
-                if helping.is_own(&decision) {
-                    let receipt = helping.receipt(deciding.round(), &decision);
-                    return Some(HelpTurn::Settled(receipt));
-                }
-                Some(HelpTurn::More)
-            }
+        match &self.stage {
+            TurnStage::Look(_) => self.look_on(board, seat, totals, helping, steps, exchanges),
+            TurnStage::Decide(_) => self.decide_on(board, seat, totals, helping, steps, exchanges),
             // Some step is left, and where the request was found settled none is.
             TurnStage::Found => unreachable!(),
         }
     }
+
+    /// Makes the next load of the look. After the last one the request is found settled, or a round comes next.
+    fn look_on<L: Ledger, X: Ledger>(
+        &mut self,
+        board: &Board,
+        seat: &mut BoardSeat,
+        totals: &mut Totals,
+        helping: &Helping,
+        steps: &mut Steps<L>,
+        exchanges: &mut Steps<X>,
+    ) -> Option<HelpTurn>
+        requires board { IsOf seat.old board.now }
+        requires mark { seat.old.knows ≡ self.old.mark }
+        requires totals { totals.old ≡ self.old.totals }
+        requires helping { helping.now ≡ self.old.helping }
+        requires looks { (l : LookingTerms) × (self.old.stage ≡ TurnStage.Look l) }
+        ensures stepped { TakesHelpStep board.now.book self.old self.new seat.old seat.new
+            totals.new result }
+        ensures board { IsOf seat.new board.now }
+        ensures steps { steps.new ≡ steps.old + 1 }
+        ensures exchanges { exchanges.new ≡ exchanges.old }
+    {
+        let TurnStage::Look(looking) = &mut self.stage else {
+            // The look goes on.
+            unreachable!()
+        };
+        let looked = looking.turn(board, seat, totals, steps, exchanges);
+        self.looked = looking.turns();
+        self.mark = Snapshot::of(seat);
+        self.totals = Snapshot::of(totals);
+        let front = looked?;
+        seat.known();
+        if let Some((round, decision)) = helping.settled(totals) {
+            self.stage.become_next(TurnStage::Found);
+            return Some(settled_by(helping, round, &decision));
+        }
+        // What is proposed is fixed here. Others may publish and decide before the exchange, and the front stays one.
+        let deciding = Deciding::start(board, seat, totals, helping, front);
+        self.stage.become_next(TurnStage::Decide(deciding));
+        None
+    }
+
+    /// Makes the next step of the round.
+    fn decide_on<L: Ledger, X: Ledger>(
+        &mut self,
+        board: &Board,
+        seat: &mut BoardSeat,
+        totals: &mut Totals,
+        helping: &Helping,
+        steps: &mut Steps<L>,
+        exchanges: &mut Steps<X>,
+    ) -> Option<HelpTurn>
+        requires board { IsOf seat.old board.now }
+        requires mark { seat.old.knows ≡ self.old.mark }
+        requires totals { totals.old ≡ self.old.totals }
+        requires helping { helping.now ≡ self.old.helping }
+        requires decides { (d : DecidingTerms) × (self.old.stage ≡ TurnStage.Decide d) }
+        requires left { 0 < help_turns_left board.now.book.processes self.old.stage }
+        ensures stepped { TakesHelpStep board.now.book self.old self.new seat.old seat.new
+            totals.new result }
+        ensures board { IsOf seat.new board.now }
+        ensures steps { steps.new ≡ steps.old + 1 }
+        ensures exchanges { exchanges.new ≡ exchanges.old + exchanges_at self.old.stage }
+    {
+        seat.known();
+        let TurnStage::Decide(deciding) = &mut self.stage else {
+            // The round goes on.
+            unreachable!()
+        };
+        let decided = deciding.turn(board, seat, totals, steps, exchanges);
+        self.mark = Snapshot::of(seat);
+        self.totals = Snapshot::of(totals);
+        let decision = decided?;
+        seat.known();
+        Some(after_round(helping, deciding.round(), &decision))
+    }
+}
+
+/// What is answered once a round has decided so: the receipt, where that was the request which waits, and else that more is left.
+fn after_round(helping: &Helping, round: u32, decision: &Decision) -> HelpTurn
+    ensures { IsAfterRound helping.now round decision.now result }
+{
+    if helping.is_own(decision) {
+        settled_by(helping, round, decision)
+    } else {
+        HelpTurn::More
+    }
+}
+
+/// The answer where a round has decided the request so.
+fn settled_by(helping: &Helping, round: u32, decision: &Decision) -> HelpTurn
+    ensures { result ≡ HelpTurn.Settled (receipt_in helping.now round decision.now) }
+{
+    HelpTurn::Settled(helping.receipt(round, decision))
 }

@@ -61,9 +61,9 @@ looked g c =
     (subst (λ (v : Knowledge). HasLooked c.args.board.now.book v w t.was now front) so.start_is
     (subst (λ (s : TotalSums). HasLooked c.args.board.now.book c.in-Look.looking.start w s now front) so.was_is c.in_ok-front-in-Look.ensures.looked))
 
-pub sum-requires : goal.sum-requires
-sum-requires g c =
-    let at = (goal.at.sum-requires g c).After-targets_of-targets in
+pub asking_at-asking-requires-clause-place : goal.asking_at-asking-requires-clause-place
+asking_at-asking-requires-clause-place g c =
+    let at = (goal.at.asking_at-asking-requires-clause-place g c).After-targets_of-targets in
     omega (
       arith,
       place-HasLooked-few (the_view c.self.inside) c.self.invariant c.turn-looked.new.seat.knows c.turn-looked.new.totals c.in_ok-front-in-Look.front (looked g at),
@@ -76,9 +76,9 @@ targets g c =
     payout.payout
     ∙ ap (λ (ts : List TargetPair). Some (c.self.inside.account, ts)) (sym (c.targets_of-targets.ensures c.self.inside.account payout.targets payout.payout))
 
-pub start-asking-requires : goal.start-asking-requires
-start-asking-requires g c =
-    let at = (goal.at.start-asking-requires g c).After-targets_of-targets in
+pub asking_at-asking-requires-clause-may : goal.asking_at-asking-requires-clause-may
+asking_at-asking-requires-clause-may g c =
+    let at = (goal.at.asking_at-asking-requires-clause-may g c).After-targets_of-targets in
     let t : StartingTerms = the_view c.self.inside in
     let so : IsStartingSo t = c.self.invariant in
     let w : Knowledge = c.turn-looked.new.seat.knows in
@@ -95,9 +95,7 @@ start-asking-requires g c =
     let here : MayAskFor t.start.book w t.account slot (asked_for ts (place front)) =
     MayAskFor-HasLooked t so w c.turn-looked.new.totals front has_looked ts are in (
       slot,
-      subst (λ k. MayAskFor w.book w t.account slot (asked_for ts k)) (sym c.sum.ensures)
-          (subst (λ (b : BookTerms). MayAskFor b w t.account slot (asked_for ts (place front)))
-          (sym (ap (λ (v : Knowledge). v.book) has_looked.loads.same)) here),
+      subst (λ (b : BookTerms). MayAskFor b w t.account slot (asked_for ts (place front))) (sym (ap (λ (v : Knowledge). v.book) has_looked.loads.same)) here,
     )
 
 pub invariant_of-self-in-Look : goal.invariant_of-self-in-Look
@@ -113,7 +111,7 @@ invariant_of-self-in-Look g c =
     let so : IsLookingToAsk t c.in-Look.looking = subst (IsStartStageSo t) c.in-Look.is c.self.invariant.stage_so in
     let stage : StartStage = Ask (starting_to_ask w t.account ts (place front)) in
     let stage_is : c.become_next.new.self ≡ stage =
-    c.become_next.ensures ∙ (ap (λ (a : AskingTerms). Ask a) c.start-asking.ensures ∙ ap (λ k. Ask (starting_to_ask w t.account ts k)) c.sum.ensures) in
+    c.become_next.ensures ∙ ap (λ (a : AskingTerms). Ask a) c.asking_at-asking.ensures in
     let few : IsWithin t.start.book.processes t.was (sum front) turns =
     subst (λ (b : BookTerms). IsWithin b.processes t.was (sum front) turns) (book g first)
     (subst (λ (s : TotalSums). IsWithin c.args.board.now.book.processes s (sum front) turns) so.was_is c.in_ok-front-in-Look.ensures.within) in

@@ -1,0 +1,105 @@
+-- What a turn of a payment from a single account leaves of it.
+use Rattle.std.proofs.Common.{◌≡◌, ℕ, ◌+◌, ◌<◌, ◌≤◌, ◌↔◌, IfSome, IsSome, Option, length, refl, sym, ap, subst, ◌∙◌, arith}
+use Rattle.std.specs.List.{sum}
+use Rattle.at_ledger.specs.Book.{BookTerms}
+use Rattle.at_board.specs.Knowledge.Seats.{SeatTerms}
+use Rattle.at_board.specs.Words.Addresses.{record_width}
+use Rattle.at_board.specs.declared.knowledge.Knowledge.{Knowledge}
+use Rattle.at_fold.specs.HasCounted.{StaysCounted}
+use Rattle.at_fold.specs.Sums.{TotalSums}
+use Rattle.at_log.specs.declared.receipt.Receipt.{Receipt}
+use Rattle.at_object.specs.Paid.{PaysAlone}
+use Rattle.at_snapshot.specs.Collected.{HasLoaded}
+use Rattle.at_calling.proofs.PayingAloneLaws.{HasSameAsking-HasLoaded, paying_next}
+use Rattle.at_calling.specs.KeptPayingAlone.{IsAppendingThen, IsLookingFirst, IsPayStageSo, IsPayingAloneSo, TakesPayTurn}
+use Rattle.at_calling.specs.PayingAlone.{HasSameAsking, IsPayWithin, MakesPayStep, PayingAloneTerms, append_steps, pay_turns_left, turns_in}
+use Rattle.at_calling.specs.Reading.{LeavesTotals}
+use Rattle.at_calling.specs.declared.pay_stage.PayStage.{PayStage}
+use Rattle.at_calling.specs.declared.pay_stage.PayStage.TheVariants.{Append, Look}
+use Rattle.at_machines.specs.Appending.{AppendingTerms, appending_after}
+use Rattle.at_machines.specs.Looking.{IsWithin, LookingTerms, MakesLookLoad}
+
+module _ (b : BookTerms) (t : PayingAloneTerms) (so : IsPayingAloneSo t) (book : t.start.book ≡ b) (before after : SeatTerms) (now : TotalSums)
+    (mark : Knowledge) (mark_is : mark ≡ after.knows) (totals : TotalSums) (totals_are : totals ≡ now) where
+  -- a turn of the look
+  module _ (l : LookingTerms) (is : t.stage ≡ Look l) (turns : ℕ) (made : turns ≡ l.turns + 1) (load : MakesLookLoad b l.stage before after now)
+      (loads : HasLoaded b l.start after.knows) (so_far : IsWithin b.processes l.was (length after.knows.seen) turns) where
+    looks : IsLookingFirst t l
+    looks = subst (IsPayStageSo t) is so.stage_so
+
+    loads_on : HasLoaded t.start.book t.start after.knows
+    loads_on =
+        subst (λ (k : BookTerms). HasLoaded k t.start after.knows) (sym book) (subst (λ (v : Knowledge). HasLoaded b v after.knows) looks.start_is loads)
+
+    within : IsPayWithin b.processes t.was (length after.knows.seen) turns
+    within =
+        let so_far_on : IsWithin b.processes t.was (length after.knows.seen) turns =
+        subst (λ (s : TotalSums). IsWithin b.processes s (length after.knows.seen) turns) looks.was_is so_far in
+        omega arith
+
+    pub TakesPayTurn-look : (stage : PayStage) (answer : Option Receipt) → turns_in turns stage ≡ turns
+        → pay_turns_left (record_width b) stage < pay_turns_left (record_width b) (Look l)
+        → (IsSome answer ↔ (pay_turns_left (record_width b) stage ≡ 0)) → IfSome answer (PaysAlone b t.start after.knows t.from t.targets t.call)
+        → IfSome answer (λ r. StaysCounted now b after.knows.seen)
+        → IfSome answer (λ r. LeavesTotals b t.start after.knows t.was now (append_steps (record_width b) r.reply) turns)
+        → TakesPayTurn b t (paying_next t stage turns mark totals) before after now answer
+    TakesPayTurn-look stage answer same left ends pays counted leaves = record {
+      call_is = refl;
+      from_is = refl;
+      targets_are = refl;
+      start_is = refl;
+      mark_is = mark_is;
+      was_is = refl;
+      totals_are = totals_are;
+      turns = same ∙ (made ∙ ap (λ n. n + 1) (sym (ap (turns_in t.looked) is)));
+      step = subst (λ (k : PayStage). MakesPayStep b k before after now) (sym is) load;
+      left = subst (λ (k : PayStage). pay_turns_left (record_width b) stage < pay_turns_left (record_width b) k) (sym is) left;
+      ends = ends;
+      so_far = subst (IsPayWithin b.processes t.was (length after.knows.seen)) (sym same) within;
+      asks = HasSameAsking-HasLoaded t.start.book t.start after.knows (omega (arith, so.kept.one_part)) loads_on;
+      pays = pays;
+      counted = counted;
+      leaves = subst (λ n. IfSome answer (λ r. LeavesTotals b t.start after.knows t.was now (append_steps (record_width b) r.reply) n)) (sym same) leaves;
+    }
+
+  -- a turn of the append
+  module _ (a next : AppendingTerms) (is : t.stage ≡ Append a) (after_is : next ≡ appending_after a after.knows) (few : a.stored ≤ record_width b)
+      (step : MakesPayStep b (Append a) before after now) where
+    appends : IsAppendingThen t a
+    appends = subst (IsPayStageSo t) is so.stage_so (omega (arith, few, ap record_width book))
+
+    stored : next.stored ≡ a.stored + 1
+    stored = ap (λ (x : AppendingTerms). x.stored) after_is
+
+    within_append : length t.mark.seen ≤ length after.knows.seen → IsPayWithin b.processes t.was (length after.knows.seen) (t.looked + next.stored)
+    within_append more =
+        let looked : IsWithin b.processes t.was (sum a.rec.view) t.looked =
+        subst (λ (k : BookTerms). IsWithin k.processes t.was (sum a.rec.view) t.looked) book appends.few in
+        omega (arith, looked, stored, few, more, appends.seen)
+
+    pub TakesPayTurn-append : (answer : Option Receipt) → length t.mark.seen ≤ length after.knows.seen
+        → (IsSome answer ↔ (a.stored ≡ record_width b)) → HasSameAsking t.mark after.knows
+        → IfSome answer (PaysAlone b t.start after.knows t.from t.targets t.call) → IfSome answer (λ r. StaysCounted now b after.knows.seen)
+        → IfSome answer (λ r. LeavesTotals b t.start after.knows t.was now (append_steps (record_width b) r.reply) (t.looked + next.stored))
+        → TakesPayTurn b t (paying_next t (Append next) t.looked mark totals) before after now answer
+    TakesPayTurn-append answer more ends asks pays counted leaves = record {
+      call_is = refl;
+      from_is = refl;
+      targets_are = refl;
+      start_is = refl;
+      mark_is = mark_is;
+      was_is = refl;
+      totals_are = totals_are;
+      turns = omega (arith, stored, ap (turns_in t.looked) is);
+      step = subst (λ (k : PayStage). MakesPayStep b k before after now) (sym is) step;
+      left = omega (arith, stored, few, ap (pay_turns_left (record_width b)) is);
+      ends = (
+        λ some. let all = ends.0 some in omega (arith, all, stored),
+        λ none. ends.1 (omega (arith, none, few, stored)),
+      );
+      so_far = within_append more;
+      asks = λ account. asks account ∙ so.asks account;
+      pays = pays;
+      counted = counted;
+      leaves = leaves;
+    }

@@ -1,0 +1,153 @@
+-- What a step of a turn of helping leaves of it.
+use Rattle.std.proofs.Common.{◌≡◌, ℕ, ◌+◌, ◌-◌, ◌*◌, ◌<◌, ◌≤◌, ◌↔◌, IfSome, IsSome, Option, None, length, refl, sym, ap, subst, ◌∙◌, arith}
+use Rattle.at_ledger.specs.Book.{BookTerms}
+use Rattle.at_history.proofs.Laws.Prefixes.{IsPrefix-length}
+use Rattle.at_board.specs.Knowledge.Parts.{own_part}
+use Rattle.at_board.specs.Knowledge.Seats.{SeatTerms}
+use Rattle.at_board.specs.declared.knowledge.Asking.{Asking}
+use Rattle.at_board.specs.declared.knowledge.Knowledge.{Knowledge}
+use Rattle.at_board.specs.declared.knowledge.Part.{Part}
+use Rattle.at_fold.specs.HasCounted.{HasCounted}
+use Rattle.at_fold.specs.Sums.{TotalSums}
+use Rattle.at_object.proofs.Laws.Looked.{own_part-HasLoaded}
+use Rattle.at_rows.proofs.Laws.Accounts.{HasAccount}
+use Rattle.at_shared.specs.Helpings.{decides_made, decides_on}
+use Rattle.at_shared.specs.Settling.{round_steps}
+use Rattle.at_shared.specs.declared.helping.HelpTurn.{HelpTurn}
+use Rattle.at_shared.specs.declared.helping.HelpTurn.TheVariants.{More}
+use Rattle.at_single.proofs.Laws.Looks.{first-HasLoaded, published-HasLoaded}
+use Rattle.at_snapshot.specs.Collected.{HasLoaded}
+use Rattle.at_calling.proofs.PayingAloneLaws.{HasSameAsking-HasLoaded}
+use Rattle.at_calling.proofs.TurningLaws.{IsHelpWithin-step, decides_made-step, left_of_round-le, seen-step}
+use Rattle.at_calling.specs.KeptTurning.{IsDecidingThen, IsLookingStill, IsTurnStageSo, IsTurningSo, TakesHelpStep}
+use Rattle.at_calling.specs.PayingAlone.{HasSameAsking}
+use Rattle.at_calling.specs.Reading.{LeavesTotals}
+use Rattle.at_calling.specs.Turning.{IsHelpOf, IsHelpWithin, LeavesSeat, MakesTurnStep, TurningTerms, WaitsOn, exchanges_at, help_turns_in, help_turns_left}
+use Rattle.at_calling.specs.declared.turn_stage.TurnStage.{TurnStage}
+use Rattle.at_calling.specs.declared.turn_stage.TurnStage.TheVariants.{Decide, Look}
+use Rattle.at_machines.specs.Deciding.{DecidingTerms, MakesRoundStep, NextOfRound, deciding_after, exchanges_in}
+use Rattle.at_machines.specs.Deciding.NextOfRound.{exchange, request_word, record_word, nothing}
+use Rattle.at_machines.specs.Looking.{IsWithin, LookingTerms, MakesLookLoad}
+
+-- loads of lengths alone leave a seat so on an account
+pub LeavesSeat-HasLoaded : (b : BookTerms) (v w : Knowledge) (a : ℕ) → 0 < length v.parts → HasLoaded b v w → (own_part v).held ≡ None → LeavesSeat v w a
+LeavesSeat-HasLoaded b v w a part loads free =
+    let own = own_part-HasLoaded b v w part loads in
+    let same : HasSameAsking v w = HasSameAsking-HasLoaded b v w part loads in
+    let decides : decides_on w a ≡ decides_on v a = ap (λ (k : Asking). k.decides) (same a) in
+    record {
+      heard = ap (λ (k : Asking). k.heard) (same a);
+      free = ap (λ (q : Part). q.held) own ∙ free;
+      begins = loads.more;
+      process = first-HasLoaded b v w loads;
+      decides_few = omega (arith, decides);
+      decides_at_most = omega (arith, decides);
+      decides_elsewhere = λ c other. ap (λ (k : Asking). k.decides) (same c);
+      published = omega (arith, published-HasLoaded b v w part loads);
+    }
+
+-- a step makes one exchange at most
+exchanges_in-le : (next : NextOfRound) → exchanges_in next ≤ 1
+exchanges_in-le exchange = omega arith
+exchanges_in-le (request_word d word) = omega arith
+exchanges_in-le (record_word d word) = omega arith
+exchanges_in-le nothing = omega arith
+
+module _ (b : BookTerms) (t : TurningTerms) (so : IsTurningSo t) (book : t.start.book ≡ b) (before after : SeatTerms) (now : TotalSums)
+    (mark : Knowledge) (mark_is : mark ≡ after.knows) (totals : TotalSums) (totals_are : totals ≡ now) where
+  abbrev a : ℕ
+  a = t.helping.account
+
+  abbrev w : Knowledge
+  w = after.knows
+
+  -- a step of the look
+  module _ (l : LookingTerms) (is : t.stage ≡ Look l) (turns : ℕ) (made : turns ≡ l.turns + 1) (load : MakesLookLoad b l.stage before after now)
+      (loads : HasLoaded b l.start w) (so_far : IsWithin b.processes l.was (length w.seen) turns) where
+    looks : IsLookingStill t l
+    looks = subst (IsTurnStageSo t) is so.stage_so
+
+    pub loads-look : HasLoaded b t.start w
+    loads-look = subst (λ (v : Knowledge). HasLoaded b v w) looks.start_is loads
+
+    pub decides_on-look : decides_on w a ≡ decides_on t.start a
+    decides_on-look = ap (λ (k : Asking). k.decides) (HasSameAsking-HasLoaded b t.start w (omega (arith, so.kept.one_part)) loads-look a)
+
+    within : IsHelpWithin b.processes (decides_made a t.start w) t.was (length w.seen) turns
+    within =
+        let so_far_on : IsWithin b.processes t.was (length w.seen) turns =
+        subst (λ (s : TotalSums). IsWithin b.processes s (length w.seen) turns) looks.was_is so_far in
+        omega arith
+
+    pub TakesHelpStep-look : (stage : TurnStage) (answer : Option HelpTurn) → help_turns_in turns stage ≡ turns
+        → help_turns_left b.processes stage < help_turns_left b.processes (Look l)
+        → (IsSome answer ↔ (help_turns_left b.processes stage ≡ 0)) → IfSome answer (IsHelpOf b t.start w t.helping)
+        → IfSome answer (λ h. h ≡ More → WaitsOn b t.start w t.helping) → IfSome answer (λ h. LeavesSeat t.start w a)
+        → IfSome answer (λ h. HasCounted now b w.seen)
+        → IfSome answer (λ h. LeavesTotals b t.start w t.was now (round_steps b.processes * decides_made a t.start w) turns)
+        → TakesHelpStep b t (record t { stage = stage; looked = turns; mark = mark; totals = totals }) before after now answer
+    TakesHelpStep-look stage answer same left ends help waits seat counted leaves = record {
+      helping_is = refl;
+      start_is = refl;
+      mark_is = mark_is;
+      was_is = refl;
+      totals_are = totals_are;
+      turns = same ∙ (made ∙ ap (λ n. n + 1) (sym (ap (help_turns_in t.looked) is)));
+      step = subst (λ (k : TurnStage). MakesTurnStep b k stage before after now) (sym is) load;
+      left = subst (λ (k : TurnStage). help_turns_left b.processes stage < help_turns_left b.processes k) (sym is) left;
+      ends = ends;
+      so_far = subst (IsHelpWithin b.processes (decides_made a t.start w) t.was (length w.seen)) (sym same) within;
+      decides_few = omega (arith, decides_on-look);
+      once = omega (arith, decides_on-look);
+      seen = IsPrefix-length t.start.seen w.seen loads-look.more;
+      help = help;
+      waits = waits;
+      seat = seat;
+      counted = counted;
+      leaves = subst (λ n. IfSome answer (λ h. LeavesTotals b t.start w t.was now (round_steps b.processes * decides_made a t.start w) n)) (sym same) leaves;
+      decides = omega (arith, decides_on-look, looks.undecided, ap exchanges_at is);
+    }
+
+  -- a step of the round
+  module _ (d e : DecidingTerms) (is : t.stage ≡ Decide d) (some : 0 < d.left) (has : HasAccount t.mark a) (known : before.knows ≡ t.mark)
+      (after_is : e ≡ deciding_after d w e.next) (less : e.left + 1 ≡ d.left) (step : MakesRoundStep b d w e.next) where
+    pub decides-decide : IsDecidingThen t d
+    decides-decide = subst (IsTurnStageSo t) is so.stage_so some
+
+    decided : decides_made a t.start w ≡ 1
+    decided = decides_made-step b t d e w book decides-decide has some after_is less step
+
+    pub TakesHelpStep-decide : (answer : Option HelpTurn) → (IsSome answer ↔ (e.left ≡ 0)) → IfSome answer (IsHelpOf b t.start w t.helping)
+        → IfSome answer (λ h. h ≡ More → WaitsOn b t.start w t.helping) → IfSome answer (λ h. LeavesSeat t.start w a)
+        → IfSome answer (λ h. HasCounted now b w.seen)
+        → IfSome answer (λ h. LeavesTotals b t.start w t.was now (round_steps b.processes * decides_made a t.start w)
+        (t.looked + (round_steps e.start.book.processes - e.left)))
+        → TakesHelpStep b t (record t { stage = Decide e; mark = mark; totals = totals }) before after now answer
+    TakesHelpStep-decide answer ends help waits seat counted leaves = record {
+      helping_is = refl;
+      start_is = refl;
+      mark_is = mark_is;
+      was_is = refl;
+      totals_are = totals_are;
+      turns = omega (
+        arith,
+        less,
+        decides-decide.left_is,
+        left_of_round-le d.start.book.processes d.next,
+        ap (λ (c : DecidingTerms). round_steps c.start.book.processes) after_is,
+        ap (help_turns_in t.looked) is,
+      );
+      step = subst (λ (k : TurnStage). MakesTurnStep b k (Decide e) before after now) (sym is) (decides-decide.mark_is ∙ sym known, step);
+      left = omega (arith, less, ap (help_turns_left b.processes) is);
+      ends = ends;
+      so_far = IsHelpWithin-step b t d e w book decides-decide has some after_is less step;
+      decides_few = omega (arith, decided);
+      once = omega (arith, decided);
+      seen = seen-step b t d e w book decides-decide has some after_is less step;
+      help = help;
+      waits = waits;
+      seat = seat;
+      counted = counted;
+      leaves = leaves;
+      decides = omega (arith, decided, decides-decide.once, exchanges_in-le d.next, ap exchanges_at is);
+    }

@@ -1,0 +1,56 @@
+use Rattle.std.proofs.Common.{◌≡◌, ℕ, Some, refl, sym, ap, subst, ◌∙◌, arith}
+use Rattle.at_history.specs.Moves.{AreRuns}
+use Rattle.at_ledger.specs.Book.{BookTerms}
+use Rattle.at_board.specs.Knowledge.Seats.{SeatTerms}
+use Rattle.at_log.specs.declared.receipt.At.TheVariants.{Previous}
+use Rattle.at_log.specs.declared.receipt.Receipt.{Receipt}
+use Rattle.at_object.specs.Passes.{one_more_call}
+use Rattle.at_object.specs.declared.parts.Rest.{Rest}
+use Rattle.at_calling.proofs.CallingTurns.{Leaves, Leaves-refused, TakesCallTurn-stages, calling_next, was-refused}
+use Rattle.at_calling.specs.Calling.{CallingTerms}
+use Rattle.at_calling.specs.KeptCalling.{IsCallingSo, TakesCallTurn}
+use Rattle.at_calling.specs.declared.call_stage.CallStage.{CallStage}
+use Rattle.at_calling.specs.declared.call_stage.CallStage.TheVariants.{Refuse, Refused}
+use Rattle.at_calling.proofs.calling.Calling.refuse.Goals.{After-self}
+use Rattle.at_calling.proofs.calling.Calling.refuse.Goals as goal
+
+pub returns : goal.returns
+returns c =
+    let b : BookTerms = c.args.board.now.book in
+    let t : CallingTerms = c.args.self.now in
+    let seat : SeatTerms = c.args.seat.now in
+    let so : IsCallingSo t = subst IsCallingSo c.self.view_is c.self.invariant in
+    let now : Rest = record c.args.rest.now { calls = c.one_more_call-rest.result } in
+    let now_is : now ≡ record t.rest { calls = one_more_call t.rest.calls } =
+    ap (λ (n : ℕ). record c.args.rest.now { calls = n }) c.one_more_call-rest.ensures
+    ∙ ap (λ (q : Rest). record q { calls = one_more_call q.calls }) c.requires.rest in
+    let r : Receipt = record { call = t.call; reply = c.args.reply; at = Previous } in
+    let receipt : c.refused.result ≡ r =
+    c.refused.ensures ∙ ap (λ (s : CallingTerms). record { call = s.call; reply = c.args.reply; at = Previous }) c.self.view_is in
+    let leaves : Leaves b t seat now 0 0 r =
+    subst (λ (q : Rest). Leaves b t seat q 0 0 r) (sym now_is)
+    (Leaves-refused c.args.board.now t so seat c.requires.mark c.requires.board c.args.reply c.requires.stage r refl refl refl) in
+    let was = was-refused c.args.board.now t so seat c.requires.mark c.requires.board c.args.reply c.requires.stage in
+    subst (λ (x : Receipt). TakesCallTurn b t (calling_next (record {
+      call = c.self.inside.call;
+      stage = c.self.inside.stage;
+      start = c.self.inside.start.value;
+      was = c.self.inside.was.value;
+      mark = c.self.inside.mark.value;
+      rest = c.self.inside.rest.value;
+    }) c.become_next.new.self c.self.inside.mark.value
+    c.of.result.value) seat seat now (Some x)) (sym receipt)
+    (subst (λ (k : CallStage). TakesCallTurn b t (calling_next (record {
+      call = c.self.inside.call;
+      stage = c.self.inside.stage;
+      start = c.self.inside.start.value;
+      was = c.self.inside.was.value;
+      mark = c.self.inside.mark.value;
+      rest = c.self.inside.rest.value;
+    }) k c.self.inside.mark.value
+    c.of.result.value) seat seat now (Some r)) (sym c.become_next.ensures)
+    (subst (λ (s : CallingTerms). TakesCallTurn b t (calling_next s Refused s.mark c.of.result.value) seat seat now (Some r)) (sym c.self.view_is)
+    (TakesCallTurn-stages b t seat seat t.mark (sym c.requires.mark) now c.of.result.value c.of.ensures (Refuse c.args.reply) Refused c.requires.stage (Some r)
+    refl refl (omega arith) (omega arith) (λ some. refl, λ none. refl)
+    (subst (λ (k : BookTerms). AreRuns k seat.knows.seen) c.requires.board.book c.known.ensures.seat.history.runs) refl leaves
+    (ap (λ (q : Rest). q.calls) now_is ∙ ap (λ (q : Rest). one_more_call q.calls) was))))

@@ -1,0 +1,224 @@
+use Rattle.std.proofs.Common.{◌≡◌, ℕ, ◌<◌, ◌≤◌, ◌↔◌, List, IfSome, IsSome, Option, None, Some, IsTrue, length, false, true, refl, sym, ap, subst, ◌∙◌, arith, inl, inr}
+use Rattle.std.proofs.lemmas.Bool.{cases_lt}
+use Rattle.std.specs.List.{sum}
+use Rattle.at_ledger.specs.Book.{BookTerms}
+use Rattle.at_ledger.specs.Call.{amount_of}
+use Rattle.at_ledger.specs.declared.call.Reply.TheVariants.{Short}
+use Rattle.at_history.specs.Balances.{balance_after}
+use Rattle.at_history.specs.Fronts.{prefix_of}
+use Rattle.at_history.specs.declared.publication.Entry.{Entry}
+use Rattle.at_board.specs.Knowledge.Seats.{SeatTerms}
+use Rattle.at_board.specs.declared.knowledge.Knowledge.{Knowledge}
+use Rattle.at_board.specs.Words.Addresses.{record_width}
+use Rattle.at_fold.specs.HasCounted.{CountsAccount, CountsFront, StaysCounted}
+use Rattle.at_fold.specs.Sums.{TotalSums}
+use Rattle.at_log.specs.Appending.{MayAppend}
+use Rattle.at_log.specs.declared.receipt.At.TheVariants.{Front}
+use Rattle.at_log.specs.declared.receipt.Receipt.{Receipt}
+use Rattle.at_object.specs.Paid.{PaysAlone}
+use Rattle.at_single.proofs.Laws.Looks.{CountsAccount-HasLooked, CountsFront-HasLooked}
+use Rattle.at_single.proofs.Laws.Placed.{MayAppend-IsSnapshot}
+use Rattle.at_single.specs.Looks.{HasLooked}
+use Rattle.at_calling.proofs.PayingAloneLaws.{IsPayingAloneSo-append, PaysAlone-short, next_append, paying_next}
+use Rattle.at_calling.proofs.PayingAloneTurns.{TakesPayTurn-look}
+use Rattle.at_calling.proofs.ReadingLaws.{LeavesTotals-HasLooked}
+use Rattle.at_calling.specs.KeptPayingAlone.{IsLookingFirst, IsPayStageSo, IsPayingAloneSo, TakesPayTurn}
+use Rattle.at_calling.specs.PayingAlone.{PayingAloneTerms, append_steps, pay_turns_left, turns_in}
+use Rattle.at_calling.specs.Reading.{LeavesTotals}
+use Rattle.at_calling.specs.contracts.paying_alone.PayingAlone.{the_view}
+use Rattle.at_calling.specs.declared.pay_stage.PayStage.{PayStage}
+use Rattle.at_calling.specs.declared.pay_stage.PayStage.TheVariants.{Append, Look}
+use Rattle.at_machines.specs.Appending.{AppendingTerms, starting_appending}
+use Rattle.at_machines.specs.Looking.{IsWithin}
+use Rattle.at_calling.proofs.paying_alone.PayingAlone.look_on.Given as given
+use Rattle.at_calling.proofs.paying_alone.PayingAlone.look_on.Goals.{After-is_short, After-known, After-self, After-start, After-turn-looked}
+use Rattle.at_calling.proofs.paying_alone.PayingAlone.look_on.Goals as goal
+
+-- the book is the board's
+book : (g : given.Over) (c : After-self g) → (the_view c.self.inside).start.book ≡ c.args.board.now.book
+book g c =
+    sym c.self.invariant.book
+    ∙ (ap (λ (t : PayingAloneTerms). t.mark.book) c.self.view_is ∙ (ap (λ (v : Knowledge). v.book) (sym c.requires.mark) ∙ c.requires.board.book))
+
+-- the look goes on
+looks : (g : given.Over) (c : After-turn-looked g) → IsLookingFirst (the_view c.self.inside) c.in-Look.looking
+looks g c = subst (IsPayStageSo (the_view c.self.inside)) c.in-Look.is c.self.invariant.stage_so
+
+-- what the turn leaves, with whichever stage next
+turned : (g : given.Over) (c : After-turn-looked g) (turns : ℕ) → turns ≡ c.turn-looked.new.self.turns → (mark : SeatTerms) → mark ≡ c.turn-looked.new.seat
+    → (totals : TotalSums) → totals ≡ c.turn-looked.new.totals → (stage : PayStage) (answer : Option Receipt) → turns_in turns stage ≡ turns
+    → pay_turns_left (record_width c.args.board.now.book) stage < pay_turns_left (record_width c.args.board.now.book) (Look c.in-Look.looking)
+    → (IsSome answer ↔ (pay_turns_left (record_width c.args.board.now.book) stage ≡ 0))
+    → IfSome answer (PaysAlone c.args.board.now.book (the_view c.self.inside).start c.turn-looked.new.seat.knows c.self.inside.from c.self.inside.targets
+    c.self.inside.call)
+    → IfSome answer (λ r. StaysCounted c.turn-looked.new.totals c.args.board.now.book c.turn-looked.new.seat.knows.seen)
+    → IfSome answer (λ r. LeavesTotals c.args.board.now.book (the_view c.self.inside).start c.turn-looked.new.seat.knows (the_view c.self.inside).was
+    c.turn-looked.new.totals (append_steps (record_width c.args.board.now.book) r.reply) turns)
+    → TakesPayTurn c.args.board.now.book c.args.self.now (paying_next (the_view c.self.inside) stage turns mark.knows totals) c.args.seat.now
+    c.turn-looked.new.seat c.turn-looked.new.totals answer
+turned g c turns turns_are mark mark_is totals totals_are stage answer same left ends pays counted leaves =
+    let b : BookTerms = c.args.board.now.book in
+    let t : PayingAloneTerms = the_view c.self.inside in
+    let after : SeatTerms = c.turn-looked.new.seat in
+    let now : TotalSums = c.turn-looked.new.totals in
+    let told = c.turn-looked.ensures in
+    subst (λ (s : PayingAloneTerms). TakesPayTurn b s (paying_next t stage turns mark.knows totals) c.args.seat.now after now answer) c.self.view_is
+    (TakesPayTurn-look b t c.self.invariant (book g (goal.at.After-turn-looked g c).After-self) c.args.seat.now after now mark.knows
+    (ap (λ (m : SeatTerms). m.knows) mark_is) totals totals_are c.in-Look.looking c.in-Look.is turns (turns_are ∙ told.turns) told.load told.loads
+    (subst (IsWithin b.processes c.in-Look.looking.was (length after.knows.seen)) (sym turns_are) told.so_far) stage answer same left ends pays counted leaves)
+
+pub returns-in_err-front-clause-turned : goal.returns-in_err-front-clause-turned
+returns-in_err-front-clause-turned g c =
+    let at = (goal.at.returns-in_err-front-clause-turned g c).After-turn-looked in
+    let next : PayStage = Look c.turn-looked.new.self in
+    subst (TakesPayTurn c.args.board.now.book c.args.self.now
+    (paying_next (the_view c.self.inside) next c.turns-self-inside.result c.of.result.value.knows c.of-2.result.value) c.args.seat.now
+    c.turn-looked.new.seat c.turn-looked.new.totals)
+    (sym c.from_residual.ensures)
+    (turned g at c.turns-self-inside.result c.turns-self-inside.ensures c.of.result.value c.of.ensures c.of-2.result.value c.of-2.ensures next None
+    (sym c.turns-self-inside.ensures)
+    (omega (arith, c.turn-looked.ensures.left))
+    (λ some. let wrong : false ≡ true = some in absurd (cc wrong), λ none. absurd (omega (arith, none)))
+    tt tt tt)
+
+-- the look has ended
+looked : (g : given.Over) (c : After-known g)
+    → HasLooked (the_view c.self.inside).start.book (the_view c.self.inside).start c.turn-looked.new.seat.knows (the_view c.self.inside).was
+    c.turn-looked.new.totals c.in_ok-front.front
+looked g c =
+    let at = (goal.at.After-known g c).After-turn-looked in
+    let t : PayingAloneTerms = the_view c.self.inside in
+    let w : Knowledge = c.turn-looked.new.seat.knows in
+    let now : TotalSums = c.turn-looked.new.totals in
+    let front : List ℕ = c.in_ok-front.front in
+    subst (λ (b : BookTerms). HasLooked b t.start w t.was now front) (sym (book g (goal.at.After-turn-looked g at).After-self))
+    (subst (λ (v : Knowledge). HasLooked c.args.board.now.book v w t.was now front) (looks g at).start_is
+    (subst (λ (s : TotalSums). HasLooked c.args.board.now.book c.in-Look.looking.start w s now front) (looks g at).was_is c.in_ok-front.ensures.looked))
+
+counts_account : (g : given.Over) (c : After-known g)
+    → CountsAccount c.turn-looked.new.totals (the_view c.self.inside).start.book c.turn-looked.new.seat.knows.seen c.self.inside.from
+counts_account g c =
+    let t : PayingAloneTerms = the_view c.self.inside in
+    CountsAccount-HasLooked t.start.book t.start c.turn-looked.new.seat.knows t.was c.turn-looked.new.totals c.in_ok-front.front t.from (looked g c)
+    c.self.invariant.account_in
+
+counts_front : (g : given.Over) (c : After-known g)
+    → CountsFront c.turn-looked.new.totals (the_view c.self.inside).start.book c.turn-looked.new.seat.knows.seen
+counts_front g c =
+    let t : PayingAloneTerms = the_view c.self.inside in
+    CountsFront-HasLooked t.start.book t.start c.turn-looked.new.seat.knows t.was c.turn-looked.new.totals c.in_ok-front.front (looked g c)
+
+pub is_short-requires : goal.is_short-requires
+is_short-requires g c =
+    let at = (goal.at.is_short-requires g c).After-known in
+    ((the_view c.self.inside).start.book, c.turn-looked.new.seat.knows.seen, counts_account g at, counts_front g at)
+
+-- it is short exactly where the balance of the front is
+is_short : (g : given.Over) (c : After-is_short g)
+    → IsTrue c.is_short.result ↔ (balance_after (the_view c.self.inside).start.book (prefix_of c.in_ok-front.front c.turn-looked.new.seat.knows.seen)
+    c.self.inside.from < amount_of c.self.inside.targets)
+is_short g c =
+    let at = (goal.at.After-is_short g c).After-known in
+    let t : PayingAloneTerms = the_view c.self.inside in
+    let seen = c.turn-looked.new.seat.knows.seen in
+    subst (λ (front : List ℕ). IsTrue c.is_short.result ↔ (balance_after t.start.book (prefix_of front seen) t.from < amount_of t.targets))
+    (looked g at).upto (c.is_short.ensures t.start.book seen (counts_account g at) (counts_front g at))
+
+pub returns-then-is_short-clause-turned : goal.returns-then-is_short-clause-turned
+returns-then-is_short-clause-turned g c =
+    let short_is = (goal.at.returns-then-is_short-clause-turned g c).After-is_short in
+    let known = (goal.at.After-is_short g short_is).After-known in
+    let at = (goal.at.After-known g known).After-turn-looked in
+    let b : BookTerms = c.args.board.now.book in
+    let t : PayingAloneTerms = the_view c.self.inside in
+    let w : Knowledge = c.turn-looked.new.seat.knows in
+    let now : TotalSums = c.turn-looked.new.totals in
+    let front : List ℕ = c.in_ok-front.front in
+    let so = c.self.invariant in
+    let same = book g (goal.at.After-turn-looked g at).After-self in
+    let r : Receipt = record { call = t.call; reply = Short; at = Front front } in
+    let here = PaysAlone-short t.start.book t.start w t.was now front t.from t.targets t.call (looked g known) so.payout so.owner so.room
+    ((is_short g short_is).0 c.if-is_short.true) in
+    let looked_on : HasLooked b t.start w t.was now front = subst (λ (k : BookTerms). HasLooked k t.start w t.was now front) same (looked g known) in
+    let few : IsWithin b.processes t.was (sum front) c.turn-looked.new.self.turns =
+    subst (λ (s : TotalSums). IsWithin b.processes s (sum front) c.turn-looked.new.self.turns) (looks g at).was_is c.in_ok-front.ensures.within in
+    subst (λ (k : PayStage). TakesPayTurn b c.args.self.now (paying_next t k c.turns-self-inside.result c.of.result.value.knows c.of-2.result.value) c.args.seat.now
+    c.turn-looked.new.seat now (Some c.short.result)) (sym c.become_next.ensures)
+    (subst (λ (x : Receipt). TakesPayTurn b c.args.self.now (paying_next t PayStage.Short c.turns-self-inside.result c.of.result.value.knows c.of-2.result.value)
+    c.args.seat.now c.turn-looked.new.seat now (Some x)) (sym c.short.ensures)
+    (turned g at c.turns-self-inside.result c.turns-self-inside.ensures c.of.result.value c.of.ensures c.of-2.result.value c.of-2.ensures PayStage.Short (Some r) refl
+    (omega arith) (λ some. refl, λ none. refl)
+    (subst (λ (k : BookTerms). PaysAlone k t.start w t.from t.targets t.call r) same here)
+    looked_on.counted
+    (LeavesTotals-HasLooked b t.start w t.was now front looked_on c.turns-self-inside.result (omega (arith, so.kept.one_part))
+    (omega (arith, few, c.turns-self-inside.ensures)))))
+
+-- and else it is covered
+enough : (g : given.Over) (c : After-is_short g) → c.is_short.result ≡ false
+    → amount_of c.self.inside.targets ≤ balance_after (the_view c.self.inside).start.book (prefix_of c.in_ok-front.front c.turn-looked.new.seat.knows.seen)
+    c.self.inside.from
+enough g c covered =
+    let t : PayingAloneTerms = the_view c.self.inside in
+    let balance : ℕ = balance_after t.start.book (prefix_of c.in_ok-front.front c.turn-looked.new.seat.knows.seen) t.from in
+    elim (cases_lt balance (amount_of t.targets)) as (λ _. amount_of t.targets ≤ balance) [
+      | inl less ↦ let wrong : true ≡ false = sym ((is_short g c).1 less) ∙ covered in absurd (cc wrong)
+      | inr all ↦ all
+    ]
+
+pub start-requires : goal.start-requires
+start-requires g c =
+    let short_is = (goal.at.start-requires g c).After-is_short in
+    let known = (goal.at.After-is_short g short_is).After-known in
+    let at = (goal.at.After-known g known).After-turn-looked in
+    let t : PayingAloneTerms = the_view c.self.inside in
+    let w : Knowledge = c.turn-looked.new.seat.knows in
+    let front : List ℕ = c.in_ok-front.front in
+    let so = c.self.invariant in
+    let done = looked g known in
+    let here = MayAppend-IsSnapshot t.start.book t.start w front t.from t.targets done.snapshot done.loads so.kept.known so.kept.own so.owner so.account_in
+    so.targets_in so.room (enough g short_is c.if-is_short.false) in
+    subst (λ (b : BookTerms). MayAppend b w c.record_of-rec.result) (book g (goal.at.After-turn-looked g at).After-self ∙ sym c.turn-looked.ensures.board.book)
+    (subst (MayAppend t.start.book w) (sym c.record_of-rec.ensures) here)
+
+-- its append comes next
+appends : (g : given.Over) (c : After-start g) → c.start.result ≡ starting_appending c.turn-looked.new.seat.knows
+    (record { entry = Entry.Own c.self.inside.from c.self.inside.targets; view = c.in_ok-front.front })
+appends g c = c.start.ensures ∙ ap (starting_appending c.turn-looked.new.seat.knows) c.record_of-rec.ensures
+
+pub invariant_of-self-2 : goal.invariant_of-self-2
+invariant_of-self-2 g c =
+    let start = (goal.at.invariant_of-self-2 g c).After-start in
+    let short_is = (goal.at.After-start g start).After-is_short in
+    let known = (goal.at.After-is_short g short_is).After-known in
+    let at = (goal.at.After-known g known).After-turn-looked in
+    let t : PayingAloneTerms = the_view c.self.inside in
+    let w : Knowledge = c.turn-looked.new.seat.knows in
+    let now : TotalSums = c.turn-looked.new.totals in
+    let front : List ℕ = c.in_ok-front.front in
+    let turns : ℕ = c.turn-looked.new.self.turns in
+    let same = book g (goal.at.After-turn-looked g at).After-self in
+    let within : IsWithin t.start.book.processes t.was (sum front) turns =
+    subst (λ (b : BookTerms). IsWithin b.processes t.was (sum front) turns) (sym same)
+    (subst (λ (s : TotalSums). IsWithin c.args.board.now.book.processes s (sum front) turns) (looks g at).was_is c.in_ok-front.ensures.within) in
+    let here : IsPayingAloneSo (paying_next t (next_append t w front) turns w now) =
+    IsPayingAloneSo-append t w now front turns c.self.invariant (c.turn-looked.ensures.board.book ∙ sym same) (looked g known)
+    (enough g short_is c.if-is_short.false) within in
+    subst (λ (k : PayStage). IsPayingAloneSo (paying_next t k c.turns-self-inside.result c.of.result.value.knows c.of-2.result.value))
+    (sym (c.become_next-2.ensures ∙ ap (λ (a : AppendingTerms). Append a) (appends g start)))
+    (subst (λ (n : ℕ). IsPayingAloneSo (paying_next t (next_append t w front) n c.of.result.value.knows c.of-2.result.value)) (sym c.turns-self-inside.ensures)
+    (subst (λ (m : SeatTerms). IsPayingAloneSo (paying_next t (next_append t w front) turns m.knows c.of-2.result.value)) (sym c.of.ensures)
+    (subst (λ (s : TotalSums). IsPayingAloneSo (paying_next t (next_append t w front) turns w s)) (sym c.of-2.ensures) here)))
+
+pub returns-clause-turned : goal.returns-clause-turned
+returns-clause-turned g c =
+    let start = (goal.at.returns-clause-turned g c).After-start in
+    let short_is = (goal.at.After-start g start).After-is_short in
+    let known = (goal.at.After-is_short g short_is).After-known in
+    let at = (goal.at.After-known g known).After-turn-looked in
+    let t : PayingAloneTerms = the_view c.self.inside in
+    let next : PayStage = next_append t c.turn-looked.new.seat.knows c.in_ok-front.front in
+    subst (λ (k : PayStage). TakesPayTurn c.args.board.now.book c.args.self.now
+    (paying_next t k c.turns-self-inside.result c.of.result.value.knows c.of-2.result.value) c.args.seat.now c.turn-looked.new.seat c.turn-looked.new.totals None)
+    (sym (c.become_next-2.ensures ∙ ap (λ (a : AppendingTerms). Append a) (appends g start)))
+    (turned g at c.turns-self-inside.result c.turns-self-inside.ensures c.of.result.value c.of.ensures c.of-2.result.value c.of-2.ensures next None (omega arith)
+    (omega (arith, (looks g at).left)) (λ some. let wrong : false ≡ true = some in absurd (cc wrong), λ none. absurd (omega (arith, none))) tt tt tt)

@@ -1,0 +1,197 @@
+use Rattle.std.proofs.Common.{◌↔◌, IfSome, IsSome, Option, None, Some, true, refl, ◌≡◌, ℕ, ◌+◌, ◌-◌, ◌*◌, ◌<◌, List, length, false, sym, ap, subst, ◌∙◌}
+use Rattle.std.specs.List.{sum}
+use Rattle.at_base.specs.declared.decision.Decision.{Decision}
+use Rattle.at_ledger.specs.Book.{BookTerms}
+use Rattle.at_history.specs.Fronts.{prefix_of}
+use Rattle.at_history.specs.Rounds.{rounds}
+use Rattle.at_board.specs.Knowledge.Parts.{own_part}
+use Rattle.at_board.specs.Knowledge.Seats.{IsKept, SeatTerms}
+use Rattle.at_board.specs.declared.knowledge.Knowledge.{Knowledge}
+use Rattle.at_fold.specs.HasCounted.{HasCounted}
+use Rattle.at_fold.specs.Sums.{TotalSums}
+use Rattle.at_rows.proofs.Laws.Accounts.{HasAccount, HasAccount-IsSeat}
+use Rattle.at_shared.specs.HelpTurns.{DecidesNext}
+use Rattle.at_shared.specs.HelpingTerms.{HelpingTerms}
+use Rattle.at_shared.specs.Helpings.{IsHelping, decides_made}
+use Rattle.at_shared.specs.Settling.{round_steps}
+use Rattle.at_log.specs.declared.receipt.Receipt.{Receipt}
+use Rattle.at_calling.proofs.TurningSteps.{TakesHelpStep-decide}
+use Rattle.at_shared.specs.declared.helping.HelpTurn.{HelpTurn}
+use Rattle.at_shared.specs.declared.helping.HelpTurn.TheVariants.{Settled, More}
+use Rattle.at_single.specs.Looks.{HasLooked}
+use Rattle.at_calling.proofs.TurningLaws.{IsDecidingThen-step, IsHelpOf-other, IsHelpOf-own, LeavesSeat-decided, LeavesTotals-decided, WaitsOn-other, help_turns_in-le}
+use Rattle.at_machines.specs.Deciding.{DecidingTerms, round_in}
+use Rattle.at_calling.specs.KeptTurning.{IsAfterRound, IsDecidingThen, IsTurnStageSo, IsTurningSo, TakesHelpStep, receipt_in}
+use Rattle.at_machines.specs.Looking.{IsWithin}
+use Rattle.at_calling.specs.Reading.{LeavesTotals}
+use Rattle.at_calling.specs.Turning.{IsHelpOf, LeavesSeat, TurningTerms, WaitsOn, help_turns_left}
+use Rattle.at_calling.specs.contracts.turning.Turning.{the_view}
+use Rattle.at_calling.specs.declared.turn_stage.TurnStage.TheVariants.{Decide}
+use Rattle.at_calling.proofs.turning.Turning.decide_on.Given as given
+use Rattle.at_calling.proofs.turning.Turning.decide_on.Goals.{After-self, After-turn-decided}
+use Rattle.at_calling.proofs.turning.Turning.decide_on.Goals as goal
+
+-- the board's book is that of the start
+book : (g : given.Over) (c : After-self g) → c.self.inside.start.value.knows.book ≡ c.args.board.now.book
+book g c =
+    sym c.self.invariant.book
+    ∙ (ap (λ (t : TurningTerms). t.mark.book) c.self.view_is ∙ (ap (λ (v : Knowledge). v.book) (sym c.requires.mark) ∙ c.requires.board.book))
+
+-- the request is the one that the turn of helping was started with
+helping : (g : given.Over) (c : After-self g) → c.self.inside.helping.value ≡ c.args.helping.now
+helping g c = ap (λ (t : TurningTerms). t.helping) c.self.view_is ∙ sym c.requires.helping
+
+-- and it waited then
+waits : (g : given.Over) (c : After-self g) → IsHelping c.args.board.now.book c.self.inside.start.value.knows c.args.helping.now
+waits g c =
+    let v : Knowledge = c.self.inside.start.value.knows in
+    subst (λ (b : BookTerms). IsHelping b v c.args.helping.now) (book g c) (subst (IsHelping v.book v) (helping g c) c.self.invariant.helping)
+
+-- the seat had something on the account
+has_account : (g : given.Over) (c : After-self g) → HasAccount c.self.inside.start.value.knows c.args.helping.now.account
+has_account g c =
+    let v : Knowledge = c.self.inside.start.value.knows in
+    HasAccount-IsSeat v v.first (own_part v).published c.args.helping.now.account c.self.invariant.kept
+    (subst (λ (b : BookTerms). c.args.helping.now.account < length b.accounts) (sym (book g c)) (waits g c).asked.slot_in.account_in)
+
+-- some turn of the round was left
+some : (g : given.Over) (c : After-turn-decided g) → 0 < c.in-Decide.deciding.left
+some g c =
+    subst (λ s. 0 < help_turns_left c.args.board.now.book.processes s) (sym (ap (λ (t : TurningTerms). t.stage) c.self.view_is) ∙ c.in-Decide.is) c.requires.left
+
+-- the round goes on
+decides : (g : given.Over) (c : After-turn-decided g) → IsDecidingThen (the_view c.self.inside) c.in-Decide.deciding
+decides g c = subst (IsTurnStageSo (the_view c.self.inside)) c.in-Decide.is c.self.invariant.stage_so (some g c)
+
+-- the seat has something on the account still
+has_account_now : (g : given.Over) (c : After-turn-decided g) → HasAccount c.self.inside.mark.value.knows c.self.inside.helping.value.account
+has_account_now g c =
+    let start = (goal.at.After-turn-decided g c).After-self in
+    let v : Knowledge = c.args.seat.now.knows in
+    let account_in = subst (λ (b : BookTerms). c.args.helping.now.account < length b.accounts) (sym c.requires.board.book) (waits g start).asked.slot_in.account_in in
+    let here : HasAccount v c.args.helping.now.account =
+    HasAccount-IsSeat v v.first (own_part v).published c.args.helping.now.account c.known.ensures.seat account_in in
+    subst (λ (u : Knowledge). HasAccount u c.self.inside.helping.value.account) (c.requires.mark ∙ sym (ap (λ (t : TurningTerms). t.mark) c.self.view_is))
+    (subst (λ (h : HelpingTerms). HasAccount v h.account) (sym (helping g start)) here)
+
+pub invariant_of-self : goal.invariant_of-self
+invariant_of-self g c =
+    let at = (goal.at.invariant_of-self g c).After-turn-decided in
+    let start = (goal.at.After-turn-decided g at).After-self in
+    let b : BookTerms = c.args.board.now.book in
+    let t : TurningTerms = the_view c.self.inside in
+    let w : Knowledge = c.turn-decided.new.seat.knows in
+    let e : DecidingTerms = c.turn-decided.new.self in
+    let told = c.turn-decided.ensures in
+    let kept = c.self.invariant in
+    let before : c.args.totals.now ≡ t.totals = c.requires.totals ∙ sym (ap (λ (s : TurningTerms). s.totals) c.self.view_is) in
+    let here : IsTurningSo (record t { stage = Decide e; mark = w; totals = c.turn-decided.new.totals }) = record {
+      kept = kept.kept;
+      book = told.board.book ∙ sym (book g start);
+      helping = kept.helping;
+      stage_so = λ left.
+          IsDecidingThen-step b t c.in-Decide.deciding e w (book g start) (decides g at) (has_account_now g at) (some g at) told.after told.left told.step
+          c.turn-decided.new.totals (told.waits left ∙ before);
+    } in
+    subst (λ (s : SeatTerms). IsTurningSo (record t { stage = Decide e; mark = s.knows; totals = c.of-2.result.value })) (sym c.of.ensures)
+    (subst (λ (s : TotalSums). IsTurningSo (record t { stage = Decide e; mark = w; totals = s })) (sym c.of-2.ensures) here)
+
+-- the look behind the round
+looked_then : (g : given.Over) (c : After-turn-decided g)
+    → HasLooked c.args.board.now.book c.self.inside.start.value.knows c.in-Decide.deciding.start c.self.inside.was.value c.self.inside.totals.value
+    c.in-Decide.deciding.front
+looked_then g c =
+    let d : DecidingTerms = c.in-Decide.deciding in
+    let i = c.self.inside in
+    subst (λ (b : BookTerms). HasLooked b i.start.value.knows d.start i.was.value i.totals.value d.front) (book g (goal.at.After-turn-decided g c).After-self) (decides g c).looked_at
+
+-- what the step leaves
+stepped : (g : given.Over) (c : After-turn-decided g) (mark : SeatTerms) → mark ≡ c.turn-decided.new.seat → (totals : TotalSums)
+    → totals ≡ c.turn-decided.new.totals → (answer : Option HelpTurn) → (IsSome answer ↔ (c.turn-decided.new.self.left ≡ 0))
+    → IfSome answer (IsHelpOf c.args.board.now.book c.self.inside.start.value.knows c.turn-decided.new.seat.knows c.self.inside.helping.value)
+    → IfSome answer (λ h. h ≡ More
+    → WaitsOn c.args.board.now.book c.self.inside.start.value.knows c.turn-decided.new.seat.knows c.self.inside.helping.value)
+    → IfSome answer (λ h. LeavesSeat c.self.inside.start.value.knows c.turn-decided.new.seat.knows c.self.inside.helping.value.account)
+    → IfSome answer (λ h. HasCounted c.turn-decided.new.totals c.args.board.now.book c.turn-decided.new.seat.knows.seen)
+    → IfSome answer (λ h. LeavesTotals c.args.board.now.book c.self.inside.start.value.knows c.turn-decided.new.seat.knows c.self.inside.was.value
+    c.turn-decided.new.totals (round_steps c.args.board.now.book.processes
+    * decides_made c.self.inside.helping.value.account c.self.inside.start.value.knows c.turn-decided.new.seat.knows)
+    (c.self.inside.looked + (round_steps c.turn-decided.new.self.start.book.processes - c.turn-decided.new.self.left)))
+    → TakesHelpStep c.args.board.now.book c.args.self.now
+    (record (the_view c.self.inside) { stage = Decide c.turn-decided.new.self; mark = mark.knows; totals = totals }) c.args.seat.now
+    c.turn-decided.new.seat c.turn-decided.new.totals answer
+stepped g c mark mark_is totals totals_are answer ends help waits seat counted leaves =
+    let b : BookTerms = c.args.board.now.book in
+    let t : TurningTerms = the_view c.self.inside in
+    let e : DecidingTerms = c.turn-decided.new.self in
+    let after : SeatTerms = c.turn-decided.new.seat in
+    let now : TotalSums = c.turn-decided.new.totals in
+    let told = c.turn-decided.ensures in
+    subst (λ (s : TurningTerms). TakesHelpStep b s (record t { stage = Decide e; mark = mark.knows; totals = totals }) c.args.seat.now after now answer)
+    c.self.view_is
+    (TakesHelpStep-decide b t c.self.invariant (book g (goal.at.After-turn-decided g c).After-self) c.args.seat.now after now mark.knows
+    (ap (λ (m : SeatTerms). m.knows) mark_is) totals totals_are c.in-Decide.deciding e c.in-Decide.is (some g c) (has_account_now g c)
+    (c.requires.mark ∙ sym (ap (λ (s : TurningTerms). s.mark) c.self.view_is)) told.after told.left told.step answer ends help waits seat counted leaves)
+
+pub returns-in_err-decision-clause-stepped : goal.returns-in_err-decision-clause-stepped
+returns-in_err-decision-clause-stepped g c =
+    let at = (goal.at.returns-in_err-decision-clause-stepped g c).After-turn-decided in
+    subst (TakesHelpStep c.args.board.now.book c.args.self.now
+    (record (the_view c.self.inside) { stage = Decide c.turn-decided.new.self; mark = c.of.result.value.knows; totals = c.of-2.result.value })
+    c.args.seat.now c.turn-decided.new.seat c.turn-decided.new.totals) (sym c.from_residual.ensures)
+    (stepped g at c.of.result.value c.of.ensures c.of-2.result.value c.of-2.ensures None (
+      λ some. let wrong : false ≡ true = some in absurd (cc wrong),
+      λ none. let wrong : false ≡ true = c.in_err-decision.ensures.ends.1 none in absurd (cc wrong),
+    ) tt tt tt tt tt)
+
+-- what an answer leaves, whichever it is
+module _ (b : BookTerms) (v w x : Knowledge) (was now : TotalSums) (front : List ℕ) (h : HelpingTerms) (has : HasAccount v h.account)
+    (looked_at : HasLooked b v w was now front) (waiting : IsHelping b v h) (d : Decision) (next : DecidesNext b w x h front d) (kept : IsKept x)
+    (same : x.book ≡ b) where
+  helps : (round : ℕ) (answer : HelpTurn) → round ≡ rounds h.account (prefix_of front w.seen) → IsAfterRound h round d answer → IsHelpOf b v x h answer
+  helps round (Settled r) is (own, receipt) =
+      subst (λ (k : Receipt). IsHelpOf b v x h (Settled k)) (sym receipt)
+      (IsHelpOf-own b v w was now front h has looked_at waiting x d next round (receipt_in h round d) kept.agrees is own refl refl refl)
+  helps round More is other = IsHelpOf-other b v w was now front h has looked_at waiting x d next other
+
+  waits_on : (round : ℕ) (answer : HelpTurn) → IsAfterRound h round d answer → answer ≡ More → WaitsOn b v x h
+  waits_on round (Settled r) after more = absurd (cc more)
+  waits_on round More other more = WaitsOn-other b v w was now front h has looked_at waiting x d next kept same other
+
+pub returns-clause-stepped : goal.returns-clause-stepped
+returns-clause-stepped g c =
+    let at = (goal.at.returns-clause-stepped g c).After-turn-decided in
+    let start = (goal.at.After-turn-decided g at).After-self in
+    let b : BookTerms = c.args.board.now.book in
+    let t : TurningTerms = the_view c.self.inside in
+    let d : DecidingTerms = c.in-Decide.deciding in
+    let e : DecidingTerms = c.turn-decided.new.self in
+    let w : Knowledge = c.turn-decided.new.seat.knows in
+    let now : TotalSums = c.turn-decided.new.totals in
+    let told = c.turn-decided.ensures in
+    let last = c.in_ok-decision.ensures in
+    let decision = c.in_ok-decision.decision in
+    let answer = c.after_round.result in
+    let has = subst (λ (h : HelpingTerms). HasAccount t.start h.account) (sym (helping g start)) (has_account g start) in
+    let waiting = subst (IsHelping b t.start) (sym (helping g start)) (waits g start) in
+    let next : DecidesNext b d.start w t.helping d.front decision =
+    subst (λ (h : HelpingTerms). DecidesNext b d.start w h d.front decision) (decides g at).helping_is last.decided in
+    let after : IsAfterRound t.helping c.round.result decision answer =
+    subst (λ (h : HelpingTerms). IsAfterRound h c.round.result decision answer) (sym (helping g start)) c.after_round.ensures in
+    let round : c.round.result ≡ rounds t.helping.account (prefix_of d.front d.start.seen) =
+    c.round.ensures ∙ (ap (λ (k : DecidingTerms). round_in k) told.after
+    ∙ ap (λ (h : HelpingTerms). rounds h.account (prefix_of d.front d.start.seen)) (decides g at).helping_is) in
+    let turns : ℕ = t.looked + (round_steps e.start.book.processes - e.left) in
+    let known : t.start.first < b.processes = subst (λ (k : BookTerms). t.start.first < k.processes) (book g start) c.self.invariant.kept.known in
+    let few : IsWithin b.processes t.was (sum d.front) t.looked =
+    subst (λ (k : BookTerms). IsWithin k.processes t.was (sum d.front) t.looked) (book g start) (decides g at).few in
+    stepped g at c.of.result.value c.of.ensures c.of-2.result.value c.of-2.ensures (Some answer)
+    (λ some. last.ends.0 refl, λ none. refl)
+    (helps b t.start d.start w t.was t.totals d.front t.helping has (looked_then g at) waiting decision next c.known-2.ensures.seat told.board.book
+    c.round.result answer round after)
+    (waits_on b t.start d.start w t.was t.totals d.front t.helping has (looked_then g at) waiting decision next c.known-2.ensures.seat told.board.book
+    c.round.result answer after)
+    (LeavesSeat-decided b t.start d.start t.was t.totals d.front t.helping has (looked_then g at) waiting w decision next)
+    last.counted
+    (LeavesTotals-decided b t.start d.start t.was t.totals d.front t.helping has (looked_then g at) waiting w decision next now t.looked turns known last.upto few
+    (help_turns_in-le b t d e w (book g start) (decides g at) (has_account_now g at) (some g at) told.after told.left told.step))
