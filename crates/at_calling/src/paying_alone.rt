@@ -192,7 +192,7 @@ impl PayingAlone {
         ensures exchanges { exchanges.new ≡ exchanges.old }
     {
         let PayStage::Look(looking) = &mut self.stage else {
-            // The look goes on.
+            // The stage is a look, as is asked.
             unreachable!()
         };
         let looked = looking.turn(board, seat, totals, steps, exchanges);
@@ -233,7 +233,7 @@ impl PayingAlone {
         ensures exchanges { exchanges.new ≡ exchanges.old }
     {
         let PayStage::Append(appending) = &mut self.stage else {
-            // The append goes on.
+            // The stage is an append, as is asked.
             unreachable!()
         };
         seat.known();

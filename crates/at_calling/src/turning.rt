@@ -186,7 +186,7 @@ impl Turning {
         ensures exchanges { exchanges.new ≡ exchanges.old }
     {
         let TurnStage::Look(looking) = &mut self.stage else {
-            // The look goes on.
+            // The stage is a look, as is asked.
             unreachable!()
         };
         let looked = looking.turn(board, seat, totals, steps, exchanges);
@@ -229,7 +229,7 @@ impl Turning {
     {
         seat.known();
         let TurnStage::Decide(deciding) = &mut self.stage else {
-            // The round goes on.
+            // The stage is a round, as is asked.
             unreachable!()
         };
         let decided = deciding.turn(board, seat, totals, steps, exchanges);
