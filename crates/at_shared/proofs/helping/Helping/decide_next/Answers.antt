@@ -6,7 +6,7 @@ use Rattle.at_board.specs.declared.knowledge.Knowledge.{Knowledge}
 use Rattle.at_fold.proofs.Laws.MorePublished.{StaysCounted-HasCounted}
 use Rattle.at_rounds.specs.Answers.{DecidesAs}
 use Rattle.at_shared.proofs.Laws.Turns.{IsSoundRound-Decides}
-use Rattle.at_shared.specs.HelpTurns.{PublishesRound}
+use Rattle.at_shared.specs.HelpTurns.{AnswersRound, PublishesRound}
 use Rattle.at_shared.specs.HelpingTerms.{HelpingTerms}
 use Rattle.at_shared.proofs.helping.Helping.decide_next.Given as given
 use Rattle.at_shared.proofs.helping.Helping.decide_next.Goals.{After-rounds-round}
@@ -51,14 +51,18 @@ returns-clause-decided g c =
     let z : Knowledge = c.publish.new.seat.knows in
     let a = c.args.self.now.account in
     let round = round_is g (goal.at.returns-clause-decided g c).After-rounds-round in
-    record {
-      unsettled = c.requires.unsettled;
-      proposal = c.proposal-proposal.result;
-      at_front = c.proposal-proposal.ensures.place;
-      may = c.proposal-proposal.ensures.proposal;
-      decided = x;
-      decides = subst (λ r. DecidesAs b v x a r c.proposal-proposal.result c.propose-decided.result) round
-          (subst (λ (h : HelpingTerms). DecidesAs b v x h.account c.rounds-round.result c.proposal-proposal.result c.propose-decided.result) c.self.view_is
-          c.propose-decided.ensures.decided);
-      publishes = subst (λ r. PublishesRound b x z a r c.propose-decided.result c.args.front.now) round c.publish.ensures.published;
-    }
+    let h : HelpingTerms = c.args.self.now in
+    let d = c.propose-decided.result in (
+      d,
+      record {
+        unsettled = c.requires.unsettled;
+        proposal = c.proposal-proposal.result;
+        at_front = c.proposal-proposal.ensures.place;
+        may = c.proposal-proposal.ensures.proposal;
+        decided = x;
+        decides = subst (λ r. DecidesAs b v x a r c.proposal-proposal.result d) round
+            (subst (λ (t : HelpingTerms). DecidesAs b v x t.account c.rounds-round.result c.proposal-proposal.result d) c.self.view_is c.propose-decided.ensures.decided);
+        publishes = subst (λ r. PublishesRound b x z a r d c.args.front.now) round c.publish.ensures.published;
+      },
+      subst (λ r. AnswersRound h r d c.answer.result) round c.answer.ensures,
+    )
