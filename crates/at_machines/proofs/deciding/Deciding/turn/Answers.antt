@@ -2,7 +2,6 @@ use Rattle.std.proofs.Common.{◌≡◌, get_or, refl, sym, ap, subst, ◌∙◌
 use Rattle.std.specs.Prelude.{slice_set}
 use Rattle.at_board.specs.Knowledge.Parts.{own_part}
 use Rattle.at_log.specs.LastRecord.{IsLast}
-use Rattle.at_history.specs.declared.publication.Entry.{Entry}
 use Rattle.at_ledger.specs.Book.{BookTerms}
 use Rattle.at_board.specs.Steps.Publish.{Publishes}
 use Rattle.at_board.specs.Words.Addresses.{record_width}

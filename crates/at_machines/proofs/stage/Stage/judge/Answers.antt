@@ -1,7 +1,7 @@
 use Rattle.std.proofs.Common.{◌≡◌, refl, subst}
 use Rattle.at_snapshot.specs.Verdicts.{IsVerdictOn}
 use Rattle.at_snapshot.specs.declared.collects.Verdict.{Verdict}
-use Rattle.at_snapshot.specs.declared.collects.Verdict.TheVariants.{Lent, Repeated, Undecided}
+use Rattle.at_snapshot.specs.declared.collects.Verdict.TheVariants.{Repeated}
 use Rattle.at_machines.proofs.stage.Stage.judge.Goals.{After-compare}
 use Rattle.at_machines.proofs.stage.Stage.judge.Goals as goal
 

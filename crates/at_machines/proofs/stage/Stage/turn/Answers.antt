@@ -3,7 +3,7 @@ use Rattle.at_ledger.specs.Book.{BookTerms}
 use Rattle.at_board.specs.Knowledge.Seats.{SeatTerms}
 use Rattle.at_board.specs.declared.knowledge.Knowledge.{Knowledge}
 use Rattle.at_snapshot.proofs.Laws.Scans.{length-collect_of}
-use Rattle.at_snapshot.specs.Collected.{IsCollect, collect_of}
+use Rattle.at_snapshot.specs.Collected.{IsCollect}
 use Rattle.at_snapshot.specs.Verdicts.{IsVerdictOn}
 use Rattle.at_machines.proofs.SnappingLaws.{TurnsStage-judge, TurnsStage-load}
 use Rattle.at_machines.specs.Collecting.{CollectingTerms, LoadsLengthOf, collecting_after}
