@@ -112,3 +112,24 @@ returns-in_err-entry-clause-counted g c =
     let at = (goal.at.returns-in_err-entry-clause-counted g c).After-turn in
     let seen = c.turn.new.seat.knows.seen in
     stays g at c.args.totals.now (before g at).catching.counted seen (IsPrefix-refl seen)
+
+pub returns-in_err-entry-clause-same : goal.returns-in_err-entry-clause-same
+returns-in_err-entry-clause-same g c = c.turn.ensures.same
+
+pub returns-in_err-entry-clause-steps : goal.returns-in_err-entry-clause-steps
+returns-in_err-entry-clause-steps g c = c.turn.ensures.steps
+
+pub returns-in_err-entry-clause-exchanges : goal.returns-in_err-entry-clause-exchanges
+returns-in_err-entry-clause-exchanges g c = c.turn.ensures.exchanges
+
+pub returns-clause-same : goal.returns-clause-same
+returns-clause-same g c = c.turn.ensures.same
+
+pub returns-clause-steps : goal.returns-clause-steps
+returns-clause-steps g c = c.turn.ensures.steps
+
+pub returns-clause-exchanges : goal.returns-clause-exchanges
+returns-clause-exchanges g c = c.turn.ensures.exchanges
+
+pub returns-clause-ends : goal.returns-clause-ends
+returns-clause-ends g c = c.answer.ensures.ends
