@@ -9,7 +9,6 @@ use Rattle.at_board.specs.Knowledge.Parts.{loads_of, own_part}
 use Rattle.at_board.specs.Knowledge.Seats.{IsKept, SeatTerms}
 use Rattle.at_board.specs.Steps.LoadLength.{LoadsLength}
 use Rattle.at_ledger.specs.Book.{BookTerms}
-use Rattle.at_log.specs.Loading.{IsViewOf}
 use Rattle.at_snapshot.proofs.Laws.Loads.{HasLoaded-LoadsLength, HasLoaded-trans, parts-HasLoaded}
 use Rattle.at_snapshot.proofs.Laws.Turns.{IsSnapped-IsSnapping, IsSnapping-Again, IsSnapping-start, turns_left-some}
 use Rattle.at_snapshot.proofs.Laws.Verdicts.{IsAnswer-IsVerdictOn, OnCounts-IsAnswer}
@@ -23,7 +22,7 @@ use Rattle.at_snapshot.specs.declared.collects.Verdict.{Verdict}
 use Rattle.at_snapshot.specs.declared.collects.Verdict.TheVariants.{Lent, Repeated, Undecided}
 use Rattle.at_snapshot.specs.declared.scan.Turn.{Turn}
 use Rattle.at_machines.specs.Collecting.{CollectingTerms, LoadsLengthOf, collecting_after, starting_collecting}
-use Rattle.at_machines.specs.Loading.{LoadingTerms, loading_after, starting_loading}
+use Rattle.at_machines.specs.Loading.{starting_loading}
 use Rattle.at_machines.specs.KeptSnapshots.{HasLoadedSoFar, IsSnapped, IsSnappingSo, LeadsTo, TurnsStage, scan_of}
 use Rattle.at_machines.specs.Snapping.{left_of}
 use Rattle.at_machines.specs.declared.stage.Stage.{Stage}
@@ -226,39 +225,3 @@ TurnsStage-judge start before after collects more collected c Undecided next cou
       ends = (λ some. absurd (cc some), λ none. absurd (omega (arith, none, last)));
       snapped = tt;
     })))
-
--- a turn that leaves a view unfinished
-pub TurnsStage-word : (start : Knowledge) (before after : SeatTerms) (collects : Option Collects) (collected : ℕ) (l : LoadingTerms)
-    → IsSnappingSo start before.knows collects collected (Borrow l) → after ≡ before → l.loaded + 1 < start.book.processes
-    → TurnsStage start.book start before after collected (Borrow l) collects collected (Borrow (loading_after l)) None
-TurnsStage-word start before after collects collected l so same left =
-    let (knows, within, snapped) = so.stage_so in
-    subst (λ (s : SeatTerms). TurnsStage start.book start before s collected (Borrow l) collects collected (Borrow (loading_after l)) None) (sym same)
-    (record {
-      so = record { kept = so.kept; book = so.book; stage_so = (knows, left, snapped) };
-      load = refl;
-      loads = snapped.loads;
-      follows = (λ more. refl, λ whole. absurd (omega (arith, whole, left)));
-      left = omega (arith, left);
-      ends = (λ some. absurd (cc some), λ none. absurd (omega (arith, none, left)));
-      snapped = tt;
-    })
-
--- a turn that ends one
-pub TurnsStage-view : (start : Knowledge) (before after : SeatTerms) (collects : Option Collects) (collected : ℕ) (l : LoadingTerms) (view : List ℕ)
-    → IsSnappingSo start before.knows collects collected (Borrow l) → after ≡ before → l.loaded + 1 ≡ start.book.processes
-    → IsViewOf l.knows l.process l.number view → TurnsStage start.book start before after collected (Borrow l) collects collected Ended (Some view)
-TurnsStage-view start before after collects collected l view so same last is =
-    let (knows, within, snapped) = so.stage_so in
-    let view_is : view ≡ (publication_at (publications_of l.process before.knows.seen) l.number).view =
-    is ∙ ap (λ (v : Knowledge). (publication_at (publications_of l.process v.seen) l.number).view) knows in
-    subst (λ (s : SeatTerms). TurnsStage start.book start before s collected (Borrow l) collects collected Ended (Some view)) (sym same)
-    (record {
-      so = record { kept = so.kept; book = so.book; stage_so = tt };
-      load = refl;
-      loads = snapped.loads;
-      follows = (λ less. absurd (omega (arith, less, last)), λ whole. refl);
-      left = omega (arith, last);
-      ends = (λ some. refl, λ none. refl);
-      snapped = subst (IsSnapped start.book start before.knows) (sym view_is) snapped;
-    })
