@@ -1,5 +1,5 @@
 -- A round from one turn to the next.
-use Rattle.std.proofs.Common.{◌≡◌, ℕ, ◌++◌, false, List, [], ◌∷◌, get_or, refl, sym, ap, subst, ◌∙◌, arith, inl}
+use Rattle.std.proofs.Common.{◌≡◌, ℕ, ◌<◌, ◌++◌, false, List, [], ◌∷◌, get_or, refl, sym, ap, subst, ◌∙◌, arith, inl}
 use Rattle.std.proofs.lemmas.List.{append_assoc}
 use Rattle.std.specs.List.{Contains}
 use Rattle.at_base.specs.Decision.{word_of}
@@ -20,6 +20,7 @@ use Rattle.at_board.specs.Knowledge.Seats.{IsKept}
 use Rattle.at_board.specs.Steps.Decide.{Decides, MayPropose}
 use Rattle.at_board.specs.Steps.Publish.{Publishes}
 use Rattle.at_board.specs.declared.knowledge.Knowledge.{Knowledge}
+use Rattle.at_board.specs.declared.knowledge.Part.{Part}
 use Rattle.at_board.specs.declared.knowledge.SeenDecision.{SeenDecision}
 use Rattle.at_fold.proofs.Laws.MorePublished.{StaysCounted-HasCounted}
 use Rattle.at_fold.specs.HasCounted.{CountsFront, HasCounted}
@@ -31,7 +32,7 @@ use Rattle.at_rows.proofs.Laws.Accounts.{HasAccount, HasAccount-IsSeat}
 use Rattle.at_rows.specs.Loads.{LoadsRequest, loaded_words}
 use Rattle.at_rows.specs.OpenRequests.{request_of, seen_of}
 use Rattle.at_rows.specs.declared.open_request.OpenRequest.{OpenRequest}
-use Rattle.at_shared.proofs.Laws.After.{HasAccount-IsAfter, IsAfter, IsAfter-Decides, IsAfter-LoadsRequest, IsAfter-trans}
+use Rattle.at_shared.proofs.Laws.After.{HasAccount-IsAfter, IsAfter, IsAfter-Decides, IsAfter-LoadsRequest, IsAfter-trans, own_part-Decides, own_part-LoadsRequest}
 use Rattle.at_shared.proofs.Laws.Turns.{IsSoundRound-Decides}
 use Rattle.at_shared.specs.HelpTurns.{DecidesNext}
 use Rattle.at_shared.specs.HelpingTerms.{HelpingTerms}
@@ -129,6 +130,21 @@ module _ (start mark : Knowledge) (totals : TotalSums) (h : HelpingTerms) (front
   counts_own =
       ap (λ p. get_or front p 0) after_loads.first
       ∙ (so.own ∙ (sym decides.own ∙ (ap (λ (list : List Publication). count_of start.first list) (sym seen_is) ∙ ap (λ p. count_of p loaded.seen) (sym after_loads.first))))
+
+  -- and counts the records of the seat's process, which are as many still
+  published_loaded : (own_part loaded).published ≡ (own_part start).published
+  published_loaded =
+      ap (λ (q : Part). q.published) (own_part-LoadsRequest b told.decided loaded h.account d.slot d.number told.request
+      (HasAccount-IsAfter start told.decided h.account 1 [] after_decides has_account).part told.loads)
+      ∙ ap (λ (q : Part). q.published) (own_part-Decides b start told.decided h.account next_round told.decides.proposal (word_of d) has_account.part decides)
+
+  pub own-HasLoadedDecided : get_or totals.upto loaded.first 0 ≡ (own_part loaded).published
+  own-HasLoadedDecided =
+      ap (λ upto. get_or upto loaded.first 0) so.upto
+      ∙ (ap (λ p. get_or front p 0) after_loads.first ∙ (so.own ∙ sym published_loaded))
+
+  pub process-HasLoadedDecided : loaded.first < loaded.book.processes
+  process-HasLoadedDecided = omega (arith, so.seat.known, after_loads.first, ap (λ (t : BookTerms). t.processes) book-HasLoadedDecided)
 
   -- the round is the next one there
   sound_decided : IsSoundRound b told.decided.first (prefix_of front told.decided.seen) h.account next_round

@@ -1,15 +1,20 @@
 -- What the type of a snapshot in the making keeps of its fields, which no caller sees.
-use Rattle.std.specs.Prelude.{◌≡◌, ℕ, ◌+◌, ◌<◌, ◌⊎◌, List, Option}
+use Rattle.std.specs.Prelude.{◌≡◌, ◌↔◌, ℕ, ◌+◌, ◌-◌, ◌<◌, ◌⊎◌, List, slice_index, Option, Some, None, IfSome, IsSome}
 use Rattle.at_ledger.specs.Book.{BookTerms}
 use Rattle.at_history.specs.BoardState.{publication_at}
 use Rattle.at_history.specs.Publications.{publications_of}
 use Rattle.at_board.specs.declared.knowledge.Knowledge.{Knowledge}
-use Rattle.at_board.specs.Knowledge.Seats.{IsKept}
+use Rattle.at_board.specs.Knowledge.Seats.{IsKept, SeatTerms}
 use Rattle.at_snapshot.specs.declared.collects.Collects.{Collects}
-use Rattle.at_snapshot.specs.Scans.{ScanTerms}
+use Rattle.at_snapshot.specs.declared.collects.Verdict.{Verdict}
+use Rattle.at_snapshot.specs.declared.collects.Verdict.TheVariants.{Lent, Repeated, Undecided}
+use Rattle.at_snapshot.specs.Scans.{ScanTerms, collects_after}
 use Rattle.at_snapshot.specs.Collected.{HasLoaded}
 use Rattle.at_snapshot.specs.Snapshots.{HasCollected, IsSnapshot}
 use Rattle.at_snapshot.specs.Snapping.{IsSnapping}
+use Rattle.at_machines.specs.Collecting.{starting_collecting}
+use Rattle.at_machines.specs.Loading.{starting_loading}
+use Rattle.at_machines.specs.Snapping.{MakesLoad, MayFollow, left_of, next_of}
 use Rattle.at_machines.specs.declared.stage.Stage.{Stage}
 use Rattle.at_machines.specs.declared.stage.Stage.TheVariants.{Borrow, Collect, Ended}
 
@@ -40,3 +45,22 @@ pub record IsSnappingSo (start mark : Knowledge) (collects : Option Collects) (c
   pub kept : IsKept start
   pub book : mark.book ≡ start.book
   pub stage_so : IsStageSo start.book start mark collects collected stage
+
+-- what a whole collect leads to, by what it says beside those before it: its counts are answered, or the view that is lent comes next,
+-- or the next collect does, and this one is kept
+abbrev pub LeadsTo : Knowledge → List ℕ → Option Collects → Verdict → Option Collects → Stage → Option (List ℕ) → Type 0
+LeadsTo v now collects Repeated after stage counts = (stage ≡ Ended) × (counts ≡ Some now)
+LeadsTo v now collects (Lent p) after stage counts = (stage ≡ Borrow (starting_loading v p (slice_index now p - 1))) × (counts ≡ None)
+LeadsTo v now collects Undecided after stage counts =
+    (stage ≡ Collect (starting_collecting v)) × (counts ≡ None) × (after ≡ Some (collects_after collects now))
+
+-- a turn has made the next load of a stage, so many collects being whole, and leaves these collects, so many, and this stage
+pub record TurnsStage (b : BookTerms) (start : Knowledge) (before after : SeatTerms) (collected : ℕ) (stage : Stage) (collects : Option Collects)
+    (whole : ℕ) (next : Stage) (counts : Option (List ℕ)) : Type 0 where
+  pub so : IsSnappingSo start after.knows collects whole next
+  pub load : MakesLoad b (next_of stage) before after
+  pub loads : HasLoaded b start after.knows
+  pub follows : MayFollow b.processes (next_of stage) (next_of next)
+  pub left : left_of b.processes whole next < left_of b.processes collected stage
+  pub ends : IsSome counts ↔ (left_of b.processes whole next ≡ 0)
+  pub snapped : IfSome counts (IsSnapped b start after.knows)

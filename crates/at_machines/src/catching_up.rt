@@ -132,10 +132,20 @@ impl CatchingUp {
         let upto = totals.counted(self.process) + 1;
         totals.count(self.process, upto, &entry);
         *self = CatchingUp::at(seat, totals, self.counts.copy(), self.process);
-        if !self.is_ended() {
-            return None;
+        self.answer()
+    }
+
+    /// The counts, where all are counted.
+    fn answer(&self) -> Option<Counts>
+        ensures ends { IsSome result ↔ (loads_left self.now ≡ 0) }
+        ensures upto { IfSome result (λ counts. self.now.totals.upto ≡ counts) }
+        ensures whole { IfSome result (λ counts. counts ≡ self.now.counts) }
+    {
+        if self.is_ended() {
+            Some(self.counts.copy())
+        } else {
+            None
         }
-        Some(self.counts.copy())
     }
 }
 

@@ -1,26 +1,26 @@
 //! One round of a shared payment, a step a turn.
 
 ghost use Rattle.std.specs.Prelude.{◌≡◌, ◌+◌, ◌<◌, ◌↔◌, false, slice_index, slice_set, IfSome, IsSome};
-ghost use Rattle.at_board.specs.Knowledge.Parts.{own_part};
+ghost use Rattle.at_board.specs.Knowledge.Parts.{SeesDecision, own_part};
 ghost use Rattle.at_board.specs.Knowledge.Seats.{IsOf};
 ghost use Rattle.at_fold.specs.HasCounted.{CountsFront, HasCounted};
 ghost use Rattle.at_history.specs.Fronts.{prefix_of};
 ghost use Rattle.at_history.specs.Rounds.{is_settled};
-ghost use Rattle.at_history.specs.declared.publication.Entry.{Entry};
+ghost use Rattle.at_log.specs.LastRecord.{IsLast};
 ghost use Rattle.at_shared.specs.HelpTurns.{DecidesNext};
 ghost use Rattle.at_shared.specs.Helpings.{IsHelpingAt};
+ghost use Rattle.at_machines.specs.Appending.{publication_of};
 ghost use Rattle.at_machines.specs.Deciding.{MakesRoundStep, deciding_after, exchanges_in, round_in, starting_deciding};
+ghost use Rattle.at_machines.specs.LoadingRequest.{starting_request};
 
 use crate::appending::Appending;
 use crate::loading_request::LoadingRequest;
 use crate::round_stage::RoundStage;
 use at_base::{Counts, Decision};
-use at_board::{Board, BoardSeat, Entry, Steps};
+use at_board::{Board, BoardSeat, Steps};
 use at_fold::Totals;
-use at_ledger::Targets;
-use at_log::Record;
 use at_rounds::propose;
-use at_shared::Helping;
+use at_shared::{Helping, record_of_round};
 use std::marker::Model;
 use std::snapshot::Snapshot;
 use std::sync::ledger::Ledger;
@@ -43,6 +43,7 @@ pub struct Deciding {
 }
 
 impl Model for Deciding {
+    ghost use Rattle.at_machines.specs.Appending.{publication_of};
     ghost use Rattle.at_machines.specs.Deciding.{DecidingTerms, left_of_round, next_of_round};
     ghost use Rattle.at_machines.specs.KeptDeciding.{IsDecidingSo};
 
@@ -143,7 +144,7 @@ impl Deciding {
                 // at the same time: one proposal wins, and all are answered that decision.
                 let decision = propose(board, seat, a, r, proposal, steps, exchanges);
                 self.mark = Snapshot::of(seat);
-                let loading = LoadingRequest::start(seat, a, decision.slot, decision.number);
+                let loading = decided_request(seat, a, r, &decision);
                 self.stage = RoundStage::Loading(decision, loading);
                 None
             }
@@ -152,7 +153,7 @@ impl Deciding {
                 self.mark = Snapshot::of(seat);
                 let targets = loaded?.targets;
                 let decision = *decision;
-                let record = record_of(a, r, decision, targets, &self.front);
+                let record = record_of_round(a, r, decision, targets, &self.front);
                 self.stage = RoundStage::Publishing(decision, Appending::start(seat, record));
                 None
             }
@@ -163,7 +164,7 @@ impl Deciding {
                     return None;
                 }
                 let decision = *decision;
-                totals.count_own(seat, appending.entry());
+                count_published(totals, seat, appending);
                 self.stage = RoundStage::Ended;
                 Some(decision)
             }
@@ -173,24 +174,30 @@ impl Deciding {
     }
 }
 
-/// The record of a round, with a front as its view.
-fn record_of(
+/// A load of the request that a round has decided.
+fn decided_request(
+    seat: &BoardSeat,
     account: u32,
     round: u32,
-    decision: Decision,
-    targets: Targets,
-    front: &Counts,
-) -> Record
-    ensures entry { result.entry ≡ Entry.Round account round decision targets }
-    ensures view { result.view ≡ front.now }
+    decision: &Decision,
+) -> LoadingRequest
+    requires { SeesDecision seat.now.knows account round decision.now }
+    ensures { result ≡ starting_request seat.now.knows account decision.now.slot
+        decision.now.number }
 {
-    Record {
-        entry: Entry::Round {
-            account,
-            round,
-            decision,
-            targets,
-        },
-        view: front.copy(),
-    }
+    LoadingRequest::start(seat, account, decision.slot, decision.number)
+}
+
+/// Counts the record that an append has published last.
+fn count_published(totals: &mut Totals, seat: &BoardSeat, appending: &Appending)
+    requires counted { HasCounted totals.old seat.now.knows.book seat.now.knows.seen }
+    requires process { seat.now.knows.first < seat.now.knows.book.processes }
+    requires last { IsLast appending.now.start seat.now.knows (publication_of appending.now) }
+    requires own { slice_index totals.old.upto seat.now.knows.first
+        ≡ (own_part appending.now.start).published }
+    ensures counted { HasCounted totals.new seat.now.knows.book seat.now.knows.seen }
+    ensures upto { totals.new.upto ≡ slice_set totals.old.upto seat.now.knows.first
+        (own_part seat.now.knows).published }
+{
+    totals.count_own(seat, appending.entry());
 }

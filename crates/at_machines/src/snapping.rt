@@ -7,11 +7,10 @@ ghost use Rattle.at_snapshot.specs.Snapshots.{HasCollected, IsSnapshot, snapshot
 ghost use Rattle.at_machines.specs.Snapping.{MakesLoad, MayFollow, length_of};
 
 use crate::collecting::Collecting;
-use crate::loading_view::LoadingView;
 use crate::stage::Stage;
 use at_base::Counts;
 use at_board::{Board, BoardSeat, Steps};
-use at_snapshot::{Collects, Verdict, add_collect, compare};
+use at_snapshot::Collects;
 use std::marker::Model;
 use std::snapshot::Snapshot;
 use std::sync::ledger::Ledger;
@@ -93,36 +92,15 @@ impl Snapping {
         ensures exchanges { exchanges.new ≡ exchanges.old }
     {
         seat.known();
-        match &mut self.stage {
-            Stage::Collect(collecting) => {
-                let collected = collecting.turn(board, seat, steps, exchanges);
-                self.mark = Snapshot::of(seat);
-                let now = collected?;
-                match compare(&self.collects, &now, seat.process()) {
-                    Verdict::Repeated => {
-                        self.stage = Stage::Ended;
-                        Some(now)
-                    }
-                    Verdict::Lent(p) => {
-                        let last = now.get(p) - 1;
-                        self.stage = Stage::Borrow(LoadingView::start(board, seat, p, last));
-                        None
-                    }
-                    Verdict::Undecided => {
-                        add_collect(&mut self.collects, now);
-                        self.collected += 1;
-                        self.stage = Stage::Collect(Collecting::start(board, seat));
-                        None
-                    }
-                }
-            }
-            Stage::Borrow(loading) => {
-                let view = loading.turn(board, seat, steps, exchanges)?;
-                self.stage = Stage::Ended;
-                Some(view)
-            }
-            // Some turn is left, and of an ended snapshot none is.
-            Stage::Ended => unreachable!(),
-        }
+        let counts = self.stage.turn(
+            board,
+            seat,
+            &mut self.collects,
+            &mut self.collected,
+            steps,
+            exchanges,
+        );
+        self.mark = Snapshot::of(seat);
+        counts
     }
 }

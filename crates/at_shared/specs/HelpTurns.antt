@@ -1,8 +1,9 @@
 -- What a turn of helping does, and when it answers what.
-use Rattle.std.specs.Prelude.{◌≡◌, ℕ, ◌⊎◌, true, false, List}
+use Rattle.std.specs.Prelude.{◌≡◌, ℕ, ◌⊎◌, true, false, List, if◌then◌else◌}
 use Rattle.at_base.specs.declared.decision.Decision.{Decision}
 use Rattle.at_ledger.specs.Book.{BookTerms}
 use Rattle.at_ledger.specs.Call.{TargetPair}
+use Rattle.at_ledger.specs.declared.call.Reply.TheVariants.{Done, Short}
 use Rattle.at_history.specs.Fronts.{place, prefix_of}
 use Rattle.at_history.specs.Rounds.{is_settled, rounds}
 use Rattle.at_history.specs.declared.publication.Entry.{Entry}
@@ -11,6 +12,7 @@ use Rattle.at_history.specs.declared.request.Request.{Request}
 use Rattle.at_board.specs.Steps.Decide.{MayPropose}
 use Rattle.at_board.specs.Steps.Publish.{Publishes}
 use Rattle.at_board.specs.declared.knowledge.Knowledge.{Knowledge}
+use Rattle.at_log.specs.declared.receipt.At.{At}
 use Rattle.at_log.specs.declared.receipt.Receipt.{Receipt}
 use Rattle.at_rounds.specs.Answers.{DecidesAs}
 use Rattle.at_rows.specs.Loads.{LoadsRequest}
@@ -62,6 +64,17 @@ pub record FindsSettled (b : BookTerms) (before after : Knowledge) (h : HelpingT
 -- the decision names the own request
 abbrev pub NamesOwn : HelpingTerms → Decision → Type 0
 NamesOwn h d = (d.slot ≡ h.own.slot) × (d.number ≡ h.own.number)
+
+-- the call's receipt, where a round has decided its request so
+pub record IsReceiptOf (h : HelpingTerms) (round : ℕ) (d : Decision) (r : Receipt) : Type 0 where
+  pub call : r.call ≡ h.call
+  pub reply : r.reply ≡ (if d.ok then Done else Short)
+  pub at : r.at ≡ At.Round round d.place
+
+-- what is answered by a round: the receipt where that has decided the own request, and else more
+abbrev pub AnswersRound : HelpingTerms → ℕ → Decision → HelpTurn → Type 0
+AnswersRound h round d (Settled receipt) = NamesOwn h d × IsReceiptOf h round d receipt
+AnswersRound h round d More = ¬ NamesOwn h d
 
 -- settled exactly where the request is settled at the turn's front or the turn's own round decides it; and else more
 abbrev pub HelpAnswers : BookTerms → Knowledge → Knowledge → HelpingTerms → HelpTurn → Type 0

@@ -19,7 +19,7 @@ ghost use Rattle.at_log.specs.Placed.{IsPlaced};
 ghost use Rattle.at_log.specs.Receipts.{asks_in, payout_of};
 ghost use Rattle.at_log.specs.declared.receipt.At.{At};
 ghost use Rattle.at_log.specs.declared.receipt.Receipt.{Receipt};
-ghost use Rattle.at_shared.specs.HelpTurns.{HelpAnswers, NamesOwn, OnSettled};
+ghost use Rattle.at_shared.specs.HelpTurns.{AnswersRound, HelpAnswers, NamesOwn, OnSettled};
 ghost use Rattle.at_shared.specs.HelpingTerms.{helping_of};
 ghost use Rattle.at_shared.specs.Helpings.{HasAllSettled, HasStarted, IsHelping, IsPayoutFrom, decides_made, decides_on, heard_on};
 ghost use Rattle.at_shared.specs.Settling.{StandsAfter, StandsInRound, asking_steps, round_steps};
@@ -234,11 +234,17 @@ impl Helping {
         if let Some((round, decision)) = self.settled(totals) {
             return HelpTurn::Settled(self.receipt(round, &decision));
         }
-        let round = totals.rounds(self.account);
-        let decision = self.decide_next(board, seat, totals, &front, steps, exchanges);
+        let turn = self.decide_next(board, seat, totals, &front, steps, exchanges);
         seat.known();
-        if self.is_own(&decision) {
-            HelpTurn::Settled(self.receipt(round, &decision))
+        turn
+    }
+
+    /// What a turn answers whose round was decided so.
+    pub(crate) fn answer(&self, round: u32, decision: &Decision) -> HelpTurn
+        ensures { AnswersRound self.now round decision.now result }
+    {
+        if self.is_own(decision) {
+            HelpTurn::Settled(self.receipt(round, decision))
         } else {
             HelpTurn::More
         }

@@ -17,3 +17,4 @@ mod rounds;
 
 pub use crate::helping::{HelpTurn, Helping, targets_of};
 pub use crate::payments::{pay_shared, transfer_shared};
+pub use crate::rounds::record_of_round;

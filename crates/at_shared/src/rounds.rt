@@ -1,33 +1,40 @@
 //! One round: a proposal for the front of a turn, and the record of what was decided.
 
-ghost use Rattle.std.specs.Prelude.{◌≡◌, ℕ, ◌+◌, ◌<◌, ◌≤◌, false, length, slice_index, slice_set, sum};
+ghost use Rattle.std.specs.Prelude.{◌≡◌, ◌↔◌, ◌+◌, ◌<◌, ◌≤◌, true, false, List, length, slice_index, slice_set};
+ghost use Rattle.at_base.specs.declared.decision.Decision.{Decision};
 ghost use Rattle.at_board.specs.Knowledge.Parts.{SeesDecision, own_part};
 ghost use Rattle.at_board.specs.Knowledge.Seats.{IsOf};
 ghost use Rattle.at_board.specs.Steps.Decide.{MayPropose};
 ghost use Rattle.at_board.specs.declared.words.TheConstants.{RECORD_WORDS, REQUEST_WORDS};
-ghost use Rattle.at_fold.specs.HasCounted.{CountsFront, HasCounted};
+ghost use Rattle.at_fold.specs.HasCounted.{CountsAccount, CountsFront, HasCounted};
+ghost use Rattle.at_history.specs.Balances.{balance_after};
 ghost use Rattle.at_history.specs.Fronts.{IsFront, place, prefix_of};
-ghost use Rattle.at_history.specs.Rounds.{is_settled, named, rounds};
+ghost use Rattle.at_history.specs.Rounds.{is_settled, rounds};
 ghost use Rattle.at_history.specs.Sound.{IsSoundRound};
+ghost use Rattle.at_history.specs.declared.publication.Entry.{Entry};
+ghost use Rattle.at_history.specs.declared.publication.Publication.{Publication};
 ghost use Rattle.at_history.specs.declared.request.Request.{Request};
 ghost use Rattle.at_ledger.specs.Account.{slots_of};
-ghost use Rattle.at_ledger.specs.Book.{account_of};
+ghost use Rattle.at_ledger.specs.Book.{BookTerms, account_of};
+ghost use Rattle.at_ledger.specs.Call.{amount_of};
 ghost use Rattle.at_ledger.specs.Limits.{most_owners};
-ghost use Rattle.at_shared.specs.HelpTurns.{DecidesNext, PublishesRound};
+ghost use Rattle.at_shared.specs.HelpTurns.{AnswersRound, DecidesNext, PublishesRound};
 ghost use Rattle.at_shared.specs.Helpings.{IsHelpingAt};
 ghost use Rattle.at_shared.specs.Settling.{round_steps};
+ghost use Rattle.at_shared.specs.Unsettled.{AreDone, IsNextUnsettled};
 
-use crate::helping::Helping;
+use crate::helping::{HelpTurn, Helping};
 use at_base::{Counts, Decision};
 use at_board::{Board, BoardSeat, Entry, Steps};
 use at_fold::Totals;
+use at_ledger::Targets;
 use at_log::{Record, append};
 use at_rounds::propose;
-use at_rows::{load_request, oldest};
+use at_rows::{OpenRequest, load_request, oldest};
 use std::sync::ledger::Ledger;
 
 impl Helping {
-    /// Has the next round at the front decided, and publishes it with that front as the view.
+    /// Has the next round at the front decided, publishes it with that front as the view, and answers by it.
     pub(crate) fn decide_next<L: Ledger, X: Ledger>(
         &self,
         board: &Board,
@@ -36,7 +43,7 @@ impl Helping {
         front: &Counts,
         steps: &mut Steps<L>,
         exchanges: &mut Steps<X>,
-    ) -> Decision
+    ) -> HelpTurn
         requires seat { IsOf seat.old board.now }
         requires totals { HasCounted totals.old board.now.book seat.old.knows.seen }
         requires at_front { CountsFront totals.old board.now.book seat.old.knows.seen }
@@ -47,8 +54,10 @@ impl Helping {
             (prefix_of front.now seat.old.knows.seen) self.now }
         requires unsettled { is_settled self.now.account self.now.own.slot self.now.own.number
             (prefix_of front.now seat.old.knows.seen) ≡ false }
-        ensures decided { DecidesNext board.now.book seat.old.knows seat.new.knows self.now
-            front.now result }
+        ensures decided { (decision : Decision)
+            × DecidesNext board.now.book seat.old.knows seat.new.knows self.now front.now decision
+            × AnswersRound self.now
+            (rounds self.now.account (prefix_of front.now seat.old.knows.seen)) decision result }
         ensures upto { totals.new.upto ≡ slice_set front.now seat.new.knows.first
             (own_part seat.new.knows).published }
         ensures counted { HasCounted totals.new board.now.book seat.new.knows.seen }
@@ -72,7 +81,7 @@ impl Helping {
         self.publish(
             board, seat, totals, round, &decided, front, steps, exchanges,
         );
-        decided
+        self.answer(round, &decided)
     }
 
     /// What the next round should decide: the oldest request that is unsettled at the front, done where the balance there covers
@@ -99,15 +108,29 @@ impl Helping {
     {
         board.book().known();
         seat.known();
-        let done = self.done(board, seat, totals);
-        let next = oldest(&self.asked, &done);
-        let covered = next.targets.sum() <= u128::from(totals.balance(self.account));
+        let next = self.next_unsettled(board, seat, totals);
         Decision {
-            ok: covered,
+            ok: covers(totals, self.account, &next.targets),
             slot: next.slot,
             number: next.number,
             place: front.sum(),
         }
+    }
+
+    /// The oldest request that is unsettled at the front that the totals have counted.
+    fn next_unsettled(&self, board: &Board, seat: &BoardSeat, totals: &Totals) -> OpenRequest
+        requires totals { HasCounted totals.now board.now.book seat.now.knows.seen }
+        requires at_front { CountsFront totals.now board.now.book seat.now.knows.seen }
+        requires helping { IsHelpingAt board.now.book seat.now.knows
+            (prefix_of totals.now.upto seat.now.knows.seen) self.now }
+        requires unsettled { is_settled self.now.account self.now.own.slot self.now.own.number
+            (prefix_of totals.now.upto seat.now.knows.seen) ≡ false }
+        ensures few { slots_of (account_of board.now.book self.now.account) ≤ most_owners }
+        ensures next { IsNextUnsettled board.now.book
+            (prefix_of totals.now.upto seat.now.knows.seen) self.now result }
+    {
+        let done = self.done(board, seat, totals);
+        oldest(&self.asked, &done)
     }
 
     /// How many requests of each owner are settled at the front that the totals have counted.
@@ -117,10 +140,8 @@ impl Helping {
         requires account { self.now.account < length board.now.book.accounts }
         requires shared { 1 ≤ slots_of (account_of board.now.book self.now.account) }
         ensures few { slots_of (account_of board.now.book self.now.account) ≤ most_owners }
-        ensures sized { length result ≡ slots_of (account_of board.now.book self.now.account) }
-        ensures settled { (slot : ℕ) → slot < slots_of (account_of board.now.book self.now.account)
-            → slice_index result slot
-            ≡ named self.now.account slot (prefix_of totals.now.upto seat.now.knows.seen) }
+        ensures done { AreDone board.now.book (prefix_of totals.now.upto seat.now.knows.seen)
+            self.now.account result }
     {
         let slots = board.book().slot_count(self.account);
         let mut done = Counts::zeros(slots);
@@ -171,19 +192,45 @@ impl Helping {
             steps,
             exchanges,
         );
-        let entry = Entry::Round {
-            account: self.account,
-            round,
-            decision: *decision,
-            targets: request.targets,
-        };
-        let record = Record {
-            entry,
-            view: front.copy(),
-        };
+        let record = record_of_round(self.account, round, *decision, request.targets, front);
         // The front stays one whatever others publish before this record. A round that another owner has published already counts
         // once.
         append(board, seat, &record, steps, exchanges);
         totals.count_own(seat, &record.entry);
     }
+}
+
+/// The record of a round, with a front as its view.
+pub fn record_of_round(
+    account: u32,
+    round: u32,
+    decision: Decision,
+    targets: Targets,
+    front: &Counts,
+) -> Record
+    ensures { result ≡ record {
+      entry = Entry.Round account round decision targets;
+      view = front.now;
+    } }
+{
+    Record {
+        entry: Entry::Round {
+            account,
+            round,
+            decision,
+            targets,
+        },
+        view: front.copy(),
+    }
+}
+
+/// Does the balance at the front that the totals have counted cover the amounts of these targets?
+fn covers(totals: &Totals, account: u32, targets: &Targets) -> bool
+    requires { (b : BookTerms) × (seen : List Publication) × CountsAccount totals.now b seen account
+        × CountsFront totals.now b seen }
+    ensures { (b : BookTerms) (seen : List Publication) → CountsAccount totals.now b seen account
+        → CountsFront totals.now b seen → (result ≡ true)
+        ↔ (amount_of targets.now ≤ balance_after b (prefix_of totals.now.upto seen) account) }
+{
+    targets.sum() <= u128::from(totals.balance(account))
 }

@@ -1,5 +1,5 @@
 -- How many steps a snapshot can have.
-use Rattle.std.proofs.Common.{ℕ, ◌≤◌, arith}
+use Rattle.std.proofs.Common.{◌≤◌, arith}
 use Rattle.std.proofs.lemmas.Nat.{mul-le}
 use Rattle.at_ledger.specs.Book.{BookTerms, IsBegun}
 use Rattle.at_snapshot.specs.Snapshots.{snapshot_steps}

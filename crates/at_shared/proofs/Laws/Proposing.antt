@@ -1,5 +1,5 @@
 -- What a helping may propose for a front: of the requests that are unsettled there the oldest.
-use Rattle.std.proofs.Common.{◌≡◌, ◌↔◌, ℕ, ◌<◌, ◌≤◌, Bool, true, false, List, length, get_or, refl, sym, ap, subst, ◌∙◌, arith, inl, inr}
+use Rattle.std.proofs.Common.{◌≡◌, ◌↔◌, ℕ, ◌<◌, ◌≤◌, Bool, true, false, List, length, refl, sym, ap, subst, ◌∙◌, arith, inl, inr}
 use Rattle.std.proofs.lemmas.List.{length-take}
 use Rattle.std.proofs.lemmas.List.Elements.{All-contains}
 use Rattle.std.specs.List.{All, Contains}
@@ -14,7 +14,7 @@ use Rattle.at_history.specs.Balances.{balance_after}
 use Rattle.at_history.specs.BoardState.{request_at}
 use Rattle.at_history.specs.Fronts.{IsFront, place, prefix_of}
 use Rattle.at_history.specs.Histories.{IsHistory}
-use Rattle.at_history.specs.Rounds.{is_settled, named, rounds}
+use Rattle.at_history.specs.Rounds.{is_settled, rounds}
 use Rattle.at_history.specs.declared.publication.Publication.{Publication}
 use Rattle.at_history.specs.declared.request.Request.{Request}
 use Rattle.at_board.specs.Knowledge.Agreement.{RequestInRange, SeesInRange}
@@ -28,11 +28,7 @@ use Rattle.at_rows.specs.OpenRequests.{request_of, seen_of}
 use Rattle.at_rows.specs.declared.open_request.OpenRequest.{OpenRequest}
 use Rattle.at_shared.specs.HelpingTerms.{HelpingTerms}
 use Rattle.at_shared.specs.Helpings.{IsHelpingAt}
-
--- so many requests of each slot are settled in a prefix
-pub record AreDone (b : BookTerms) (list : List Publication) (a : ℕ) (done : List ℕ) : Type 0 where
-  pub sized : length done ≡ slots_of (account_of b a)
-  pub settled : (slot : ℕ) → slot < slots_of (account_of b a) → get_or done slot 0 ≡ named a slot list
+use Rattle.at_shared.specs.Unsettled.{AreDone}
 
 MayChoose-IsHelpingAt : (b : BookTerms) (v : Knowledge) (list : List Publication) (h : HelpingTerms) → IsHelpingAt b v list h
     → MayChoose (asking_on (own_part v) h.account) h.own.slot list h.account h.asked

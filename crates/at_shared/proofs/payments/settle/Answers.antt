@@ -274,3 +274,51 @@ returns-in-Settled-clause-turns g c =
       turned = so_far.turned;
       settles = subst (λ (h : HelpingTerms). HelpAnswers b y z h (Settled c.in-Settled.receipt)) so_far.same c.in-Settled.ensures.answers;
     }
+
+pub returns-in-Settled-clause-in_round : goal.returns-in-Settled-clause-in_round
+returns-in-Settled-clause-in_round g c = c.in-Settled.ensures.in_round
+
+pub returns-in-Settled-clause-free : goal.returns-in-Settled-clause-free
+returns-in-Settled-clause-free g c = c.turn.ensures.free
+
+pub returns-in-Settled-clause-begins : goal.returns-in-Settled-clause-begins
+returns-in-Settled-clause-begins g c =
+    IsPrefix-trans c.args.seat.now.knows.seen c.loop-receipt.seat.knows.seen c.turn.new.seat.knows.seen c.loop-receipt.invariant.begins c.turn.ensures.begins
+
+pub returns-in-Settled-clause-process : goal.returns-in-Settled-clause-process
+returns-in-Settled-clause-process g c = c.turn.ensures.process ∙ c.loop-receipt.invariant.process
+
+pub returns-in-Settled-clause-counted : goal.returns-in-Settled-clause-counted
+returns-in-Settled-clause-counted g c = c.turn.ensures.counted
+
+pub returns-in-Settled-clause-own_counted : goal.returns-in-Settled-clause-own_counted
+returns-in-Settled-clause-own_counted g c = c.turn.ensures.own_counted
+
+pub returns-in-Settled-clause-board : goal.returns-in-Settled-clause-board
+returns-in-Settled-clause-board g c = c.turn.ensures.board
+
+pub returns-in-Settled-clause-call : goal.returns-in-Settled-clause-call
+returns-in-Settled-clause-call g c = c.in-Settled.ensures.call ∙ (ap (λ (h : HelpingTerms). h.call) c.loop-receipt.invariant.same ∙ c.start-helping.ensures.call)
+
+pub returns-in-Settled-clause-after_start : goal.returns-in-Settled-clause-after_start
+returns-in-Settled-clause-after_start g c = λ previous.
+    let since = ap (λ (h : HelpingTerms). h.own.since) c.loop-receipt.invariant.same in
+    omega (arith, c.in-Settled.ensures.after_start previous, since, c.start-helping.ensures.since)
+
+pub returns-in-Settled-clause-decides : goal.returns-in-Settled-clause-decides
+returns-in-Settled-clause-decides g c =
+    let account = account_is g (goal.at.returns-in-Settled-clause-decides g c).After-turn in
+    let on_y = ap (decides_on c.loop-receipt.seat.knows) account in
+    let on_z = ap (decides_on c.turn.new.seat.knows) account in
+    let told = c.turn.ensures in
+    let so_far = c.loop-receipt.invariant in
+    omega (arith, so_far.few, so_far.decides, told.decides_at_most, told.decides_few, on_y, on_z)
+
+pub returns-in-Settled-clause-exchanges : goal.returns-in-Settled-clause-exchanges
+returns-in-Settled-clause-exchanges g c =
+    let account = account_is g (goal.at.returns-in-Settled-clause-exchanges g c).After-turn in
+    let on_y = ap (decides_on c.loop-receipt.seat.knows) account in
+    let on_z = ap (decides_on c.turn.new.seat.knows) account in
+    let told = c.turn.ensures in
+    let so_far = c.loop-receipt.invariant in
+    omega (arith, so_far.exchanges, so_far.decides, told.exchanges, told.decides_few, on_y, on_z)

@@ -4,6 +4,7 @@ use Rattle.at_board.specs.Knowledge.Seats.{SeatTerms}
 use Rattle.at_board.specs.declared.knowledge.Knowledge.{Knowledge}
 use Rattle.at_board.specs.declared.words.TheConstants.{RECORD_WORDS}
 use Rattle.at_fold.proofs.Laws.MorePublished.{StaysCounted-HasCounted}
+use Rattle.at_history.proofs.Laws.Prefixes.{IsPrefix-refl}
 use Rattle.at_fold.specs.CatchingUp.{IsCatchingUp}
 use Rattle.at_fold.specs.HasCounted.{HasCounted, StaysCounted}
 use Rattle.at_fold.specs.Sums.{TotalSums}
@@ -81,9 +82,9 @@ at-requires-clause-so_far g c =
     subst (λ (s : SeatTerms). IsCatchingUp s.knows.book s.knows.seen c.copy.result t'.upto t' p) (sym c.turn.ensures.same)
     (subst (λ xs. IsCatchingUp v.book v.seen xs t'.upto t' p) (sym c.copy.ensures) here)
 
-pub returns-then-not-is_ended-clause-word : goal.returns-then-not-is_ended-clause-word
-returns-then-not-is_ended-clause-word g c =
-    let at = (goal.at.returns-then-not-is_ended-clause-word g c).After-count in
+pub returns-clause-word : goal.returns-clause-word
+returns-clause-word g c =
+    let at = (goal.at.returns-clause-word g c).After-count in
     let t' : TotalSums = c.count.new.self in
     let l : LoadingTerms = c.in-Some.loading in
     let whole : l.loaded + 1 ≡ RECORD_WORDS = ap (λ (k : LoadingTerms). k.loaded) (sym c.in_ok-entry.ensures.after) ∙ c.in_ok-entry.ensures.ends.0 refl in
@@ -95,12 +96,40 @@ returns-then-not-is_ended-clause-word g c =
           (subst (λ (t : TotalSums). CountsNext c.self.inside.counts t t') c.requires.totals here),
     )
 
-pub returns-then-not-is_ended-clause-stays : goal.returns-then-not-is_ended-clause-stays
-returns-then-not-is_ended-clause-stays g c =
-    let at = (goal.at.returns-then-not-is_ended-clause-stays g c).After-count in
-    stays g (goal.at.After-count g at).After-turn c.count.new.self (counted g at)
-
 pub returns-clause-stays : goal.returns-clause-stays
 returns-clause-stays g c =
     let at = (goal.at.returns-clause-stays g c).After-count in
     stays g (goal.at.After-count g at).After-turn c.count.new.self (counted g at)
+
+pub returns-clause-counted : goal.returns-clause-counted
+returns-clause-counted g c =
+    let at = (goal.at.returns-clause-counted g c).After-count in
+    let seen = c.turn.new.seat.knows.seen in
+    stays g (goal.at.After-count g at).After-turn c.count.new.self (counted g at) seen (IsPrefix-refl seen)
+
+pub returns-in_err-entry-clause-counted : goal.returns-in_err-entry-clause-counted
+returns-in_err-entry-clause-counted g c =
+    let at = (goal.at.returns-in_err-entry-clause-counted g c).After-turn in
+    let seen = c.turn.new.seat.knows.seen in
+    stays g at c.args.totals.now (before g at).catching.counted seen (IsPrefix-refl seen)
+
+pub returns-in_err-entry-clause-same : goal.returns-in_err-entry-clause-same
+returns-in_err-entry-clause-same g c = c.turn.ensures.same
+
+pub returns-in_err-entry-clause-steps : goal.returns-in_err-entry-clause-steps
+returns-in_err-entry-clause-steps g c = c.turn.ensures.steps
+
+pub returns-in_err-entry-clause-exchanges : goal.returns-in_err-entry-clause-exchanges
+returns-in_err-entry-clause-exchanges g c = c.turn.ensures.exchanges
+
+pub returns-clause-same : goal.returns-clause-same
+returns-clause-same g c = c.turn.ensures.same
+
+pub returns-clause-steps : goal.returns-clause-steps
+returns-clause-steps g c = c.turn.ensures.steps
+
+pub returns-clause-exchanges : goal.returns-clause-exchanges
+returns-clause-exchanges g c = c.turn.ensures.exchanges
+
+pub returns-clause-ends : goal.returns-clause-ends
+returns-clause-ends g c = c.answer.ensures.ends

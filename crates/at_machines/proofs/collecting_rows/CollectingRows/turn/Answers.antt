@@ -1,10 +1,11 @@
-use Rattle.std.proofs.Common.{◌≡◌, ◌≢◌, ◌+◌, ◌<◌, List, true, false, refl, ap, subst, sym, ◌∙◌, arith}
+use Rattle.std.proofs.Common.{◌≡◌, ◌≢◌, ◌+◌, ◌-◌, ◌*◌, ◌<◌, ◌≤◌, List, true, false, refl, ap, subst, sym, ◌∙◌, arith}
 use Rattle.at_ledger.specs.Account.{slots_of}
 use Rattle.at_ledger.specs.Book.{BookTerms, account_of}
 use Rattle.at_board.specs.declared.knowledge.Knowledge.{Knowledge}
+use Rattle.at_board.specs.declared.words.TheConstants.{REQUEST_WORDS}
 use Rattle.at_rows.specs.Collecting.{IsCollectingRows}
 use Rattle.at_rows.specs.declared.open_request.OpenRequest.{OpenRequest}
-use Rattle.at_machines.proofs.CollectingRowsLaws.{HasCollected, HasCollected-IsCollectingRows, IsCollectingRows-IsCollectingRowsSo, IsCollectingRowsSo-more, IsCollectingRowsSo-row, MakesNextLoad-more, MakesNextLoad-row}
+use Rattle.at_machines.proofs.CollectingRowsLaws.{HasCollected, HasCollected-IsCollectingRows, IsCollectingRows-IsCollectingRowsSo, IsCollectingRowsSo-more, IsCollectingRowsSo-row, MakesNextLoad-more, MakesNextLoad-row, made-IsCollectingRowsSo}
 use Rattle.at_machines.specs.CollectingRows.{CollectingRowsTerms, MakesNextLoad}
 use Rattle.at_machines.specs.KeptRows.{IsCollectingRowsSo}
 use Rattle.at_machines.specs.LoadingRow.{LoadingRowTerms, MakesLoadOf, row_after, starting_row}
@@ -172,3 +173,40 @@ returns-then-next-slots-clause-rows g c = (all g c).rows
 
 pub returns-then-next-slots-clause-candidates : goal.returns-then-next-slots-clause-candidates
 returns-then-next-slots-clause-candidates g c = (all g c).candidates
+
+pub returns-then-next-slots-clause-own : goal.returns-then-next-slots-clause-own
+returns-then-next-slots-clause-own g c = (all g c).own_is
+
+pub returns-then-next-slots-clause-turns : goal.returns-then-next-slots-clause-turns
+returns-then-next-slots-clause-turns g c = (all g c).turns
+
+pub returns-then-next-slots-clause-few : goal.returns-then-next-slots-clause-few
+returns-then-next-slots-clause-few g c = (all g c).few
+
+-- so many turns were made at most
+most : (g : given.Over) (c : After-turn g) → c.self.inside.made + 1 ≤ slots_of (account_of c.args.board.now.book c.args.self.now.account)
+    + REQUEST_WORDS * (slots_of (account_of c.args.board.now.book c.args.self.now.account) - 1)
+most g c =
+    let made = c.self.inside.made + 1 in
+    let told = made-IsCollectingRowsSo c.self.inside.start.value.knows c.self.inside.row c.self.inside.asked c.self.inside.made c.self.invariant (left g c) in
+    subst (λ (t : CollectingRowsTerms). made ≤ slots_of (account_of c.args.board.now.book t.account)
+    + REQUEST_WORDS * (slots_of (account_of c.args.board.now.book t.account) - 1)) c.self.view_is
+    (subst (λ (b : BookTerms). made ≤ slots_of (account_of b c.self.inside.row.account) + REQUEST_WORDS * (slots_of (account_of b c.self.inside.row.account) - 1))
+    (start_book g c) told)
+
+pub returns-in_err-found-clause-most : goal.returns-in_err-found-clause-most
+returns-in_err-found-clause-most g c = most g (goal.at.returns-in_err-found-clause-most g c).After-turn
+
+pub returns-then-next-slots-clause-most : goal.returns-then-next-slots-clause-most
+returns-then-next-slots-clause-most g c =
+    let replace = (goal.at.returns-then-next-slots-clause-most g c).After-replace in
+    let next = (goal.at.After-replace g replace).After-slot-next in
+    let add = (goal.at.After-slot-next g next).After-add in
+    most g (goal.at.After-add g add).After-turn
+
+pub returns-clause-most : goal.returns-clause-most
+returns-clause-most g c =
+    let last = (goal.at.returns-clause-most g c).After-start in
+    let next = (goal.at.After-start g last).After-slot-next in
+    let add = (goal.at.After-slot-next g next).After-add in
+    most g (goal.at.After-add g add).After-turn

@@ -1,5 +1,7 @@
-use Rattle.std.proofs.Common.{◌≡◌, refl, sym, ap, subst, ◌∙◌, arith}
-use Rattle.at_history.specs.declared.publication.Entry.{Entry}
+use Rattle.std.proofs.Common.{◌≡◌, get_or, refl, sym, ap, subst, ◌∙◌, arith}
+use Rattle.std.specs.Prelude.{slice_set}
+use Rattle.at_board.specs.Knowledge.Parts.{own_part}
+use Rattle.at_log.specs.LastRecord.{IsLast}
 use Rattle.at_ledger.specs.Book.{BookTerms}
 use Rattle.at_board.specs.Steps.Publish.{Publishes}
 use Rattle.at_board.specs.Words.Addresses.{record_width}
@@ -10,7 +12,7 @@ use Rattle.at_log.specs.Appending.{MayAppend}
 use Rattle.at_log.specs.declared.record.Record.{Record}
 use Rattle.at_rounds.specs.Answers.{DecidesAs}
 use Rattle.at_shared.specs.HelpTurns.{DecidesNext}
-use Rattle.at_machines.proofs.DecidingLaws.{DecidesNext-HasLoadedDecided, HasCounted-Publishes, HasLoadedDecided-LoadsRequest, MayAppend-HasLoadedDecided, book-HasLoadedDecided}
+use Rattle.at_machines.proofs.DecidingLaws.{DecidesNext-HasLoadedDecided, HasCounted-Publishes, HasLoadedDecided-LoadsRequest, MayAppend-HasLoadedDecided, book-HasLoadedDecided, own-HasLoadedDecided, process-HasLoadedDecided}
 use Rattle.at_machines.specs.Appending.{AppendingTerms, publication_of}
 use Rattle.at_machines.specs.Deciding.{DecidingTerms, MakesRoundStep, MakesStep, nothing, request_word, next_of_round, round_in}
 use Rattle.at_machines.specs.KeptDeciding.{HasLoadedDecided, IsDecidingSo}
@@ -19,7 +21,7 @@ use Rattle.at_machines.specs.contracts.deciding.Deciding.{the_view}
 use Rattle.at_machines.specs.declared.round_stage.RoundStage.{RoundStage}
 use Rattle.at_machines.specs.declared.round_stage.RoundStage.TheVariants.{Loading, Publishing}
 use Rattle.at_machines.proofs.deciding.Deciding.turn.Given as given
-use Rattle.at_machines.proofs.deciding.Deciding.turn.Goals.{After-entry, After-self}
+use Rattle.at_machines.proofs.deciding.Deciding.turn.Goals.{Else-not-published, After-self}
 use Rattle.at_machines.proofs.deciding.Deciding.turn.Goals as goal
 
 -- the round before the turn
@@ -52,12 +54,9 @@ start-requires g c =
     let l : LoadingRequestTerms = c.in-Loading.loading in
     let x = c.in_ok-targets-in-Loading.field-0 in
     let so = before g at (Loading d l) c.in-Loading.is in
-    let rec : Record = c.record_of-record.result in
-    let made : rec ≡ record { entry = Entry.Round i.account i.round d x.targets; view = i.front } =
-    ap (λ e. record { entry = e; view = rec.view }) c.record_of-record.ensures.entry
-    ∙ ap (λ v. record { entry = Entry.Round i.account i.round d x.targets; view = v }) c.record_of-record.ensures.view in
+    let rec : Record = c.record_of_round-record.result in
     let told : HasLoadedDecided start w i.helping.value i.front d rec =
-    subst (HasLoadedDecided start w i.helping.value i.front d) (sym made)
+    subst (HasLoadedDecided start w i.helping.value i.front d) (sym c.record_of_round-record.ensures)
     (HasLoadedDecided-LoadsRequest c.args.board.now.book start i.mark.value.knows i.totals.value i.helping.value i.front i.account i.round d l w x (book g at) so
     c.in_ok-targets-in-Loading.ensures.request) in
     subst (λ (t : BookTerms). MayAppend t w rec)
@@ -65,17 +64,17 @@ start-requires g c =
     (MayAppend-HasLoadedDecided start i.mark.value.knows i.totals.value i.helping.value i.front i.account i.round (Loading d l) so w d rec told)
 
 -- the record is published
-published : (g : given.Over) (c : After-entry g)
+published : (g : given.Over) (c : Else-not-published g)
     → Publishes c.self.inside.start.value.knows.book c.in-Publishing.appending.start c.turn-published.new.seat.knows (publication_of c.in-Publishing.appending)
 published g c =
     let a : AppendingTerms = c.in-Publishing.appending in
-    subst (λ (t : BookTerms). Publishes t a.start c.turn-published.new.seat.knows (publication_of a)) (book g (goal.at.After-entry g c).After-self)
+    subst (λ (t : BookTerms). Publishes t a.start c.turn-published.new.seat.knows (publication_of a)) (book g (goal.at.Else-not-published g c).After-self)
     (c.if-not-published.ensures.published refl)
 
-pub count_own-requires-clause-counted : goal.count_own-requires-clause-counted
-count_own-requires-clause-counted g c =
-    let entry = (goal.at.count_own-requires-clause-counted g c).After-entry in
-    let at = (goal.at.After-entry g entry).After-self in
+pub count_published-requires-clause-counted : goal.count_published-requires-clause-counted
+count_published-requires-clause-counted g c =
+    let entry = (goal.at.count_published-requires-clause-counted g c).Else-not-published in
+    let at = (goal.at.Else-not-published g entry).After-self in
     let i = c.self.inside in
     let d = c.in-Publishing.decision in
     let a : AppendingTerms = c.in-Publishing.appending in
@@ -98,9 +97,9 @@ returns-in-Proposing-clause-step g c =
     subst (λ (v : Knowledge). DecidesAs b v w old.helping.account (round_in old) p d) (known_before g at)
     (subst (λ r. DecidesAs b c.args.seat.now.knows w old.helping.account r p d) c.self.invariant.round_is
     (subst (λ a. DecidesAs b c.args.seat.now.knows w a i.round p d) c.self.invariant.account_is c.propose-decision.ensures.decided)) in
-    let next : request_word d c.start-loading.result.loaded ≡ request_word d 0 = ap (λ (l : LoadingRequestTerms). request_word d l.loaded) c.start-loading.ensures in
-    subst (λ (t : DecidingTerms). MakesRoundStep b t w (request_word d c.start-loading.result.loaded)) c.self.view_is
-    (subst (λ (s : RoundStage). MakesStep b old w (next_of_round s) (request_word d c.start-loading.result.loaded)) (sym c.in-Proposing.is) (d, p, told, next))
+    let next : request_word d c.decided_request-loading.result.loaded ≡ request_word d 0 = ap (λ (l : LoadingRequestTerms). request_word d l.loaded) c.decided_request-loading.ensures in
+    subst (λ (t : DecidingTerms). MakesRoundStep b t w (request_word d c.decided_request-loading.result.loaded)) c.self.view_is
+    (subst (λ (s : RoundStage). MakesStep b old w (next_of_round s) (request_word d c.decided_request-loading.result.loaded)) (sym c.in-Proposing.is) (d, p, told, next))
 
 pub returns-else-not-published-clause-step : goal.returns-else-not-published-clause-step
 returns-else-not-published-clause-step g c =
@@ -120,8 +119,8 @@ returns-else-not-published-clause-step g c =
 
 pub returns-else-not-published-clause-decided : goal.returns-else-not-published-clause-decided
 returns-else-not-published-clause-decided g c =
-    let entry = (goal.at.returns-else-not-published-clause-decided g c).After-entry in
-    let at = (goal.at.After-entry g entry).After-self in
+    let entry = (goal.at.returns-else-not-published-clause-decided g c).Else-not-published in
+    let at = (goal.at.Else-not-published g entry).After-self in
     let i = c.self.inside in
     let d = c.in-Publishing.decision in
     let a : AppendingTerms = c.in-Publishing.appending in
@@ -132,3 +131,54 @@ returns-else-not-published-clause-decided g c =
     so.stage_so.2 w (published g entry) in
     subst (λ (t : DecidingTerms). DecidesNext c.args.board.now.book t.start w t.helping t.front d) c.self.view_is
     (subst (λ (t : BookTerms). DecidesNext t i.start.value.knows w i.helping.value i.front d) (sym (book g at)) told)
+
+-- the totals count the own records up to the one that was published
+pub count_published-requires-clause-own : goal.count_published-requires-clause-own
+count_published-requires-clause-own g c =
+    let entry = (goal.at.count_published-requires-clause-own g c).Else-not-published in
+    let at = (goal.at.Else-not-published g entry).After-self in
+    let i = c.self.inside in
+    let a : AppendingTerms = c.in-Publishing.appending in
+    let w : Knowledge = c.turn-published.new.seat.knows in
+    let so = before g at (Publishing c.in-Publishing.decision a) c.in-Publishing.is in
+    let first : w.first ≡ a.start.first = ap (λ (v : Knowledge). v.first) (published g entry).same in
+    let own = own-HasLoadedDecided i.start.value.knows i.mark.value.knows i.totals.value i.helping.value i.front i.account i.round
+    (Publishing c.in-Publishing.decision a) so a.start c.in-Publishing.decision a.rec so.stage_so.2 in
+    let start : c.turn-published.new.self.start ≡ a.start = ap (λ (t : AppendingTerms). t.start) c.turn-published.ensures.after in
+    ap (λ (t : TotalSums). get_or t.upto w.first 0) (totals_before g at)
+    ∙ (ap (λ p. get_or i.totals.value.upto p 0) first ∙ (own ∙ ap (λ (v : Knowledge). (own_part v).published) (sym start)))
+
+pub count_published-requires-clause-process : goal.count_published-requires-clause-process
+count_published-requires-clause-process g c =
+    let entry = (goal.at.count_published-requires-clause-process g c).Else-not-published in
+    let at = (goal.at.Else-not-published g entry).After-self in
+    let i = c.self.inside in
+    let a : AppendingTerms = c.in-Publishing.appending in
+    let so = before g at (Publishing c.in-Publishing.decision a) c.in-Publishing.is in
+    let same = (published g entry).same in
+    omega (
+      arith,
+      process-HasLoadedDecided i.start.value.knows i.mark.value.knows i.totals.value i.helping.value i.front i.account i.round
+          (Publishing c.in-Publishing.decision a) so a.start c.in-Publishing.decision a.rec so.stage_so.2,
+      ap (λ (v : Knowledge). v.first) same,
+      ap (λ (v : Knowledge). v.book.processes) same,
+    )
+
+pub count_published-requires-clause-last : goal.count_published-requires-clause-last
+count_published-requires-clause-last g c =
+    subst (λ (t : AppendingTerms). IsLast t.start c.turn-published.new.seat.knows (publication_of t)) (sym c.turn-published.ensures.after)
+    (c.if-not-published.ensures.last refl)
+
+pub returns-else-not-published-clause-upto : goal.returns-else-not-published-clause-upto
+returns-else-not-published-clause-upto g c =
+    let entry = (goal.at.returns-else-not-published-clause-upto g c).Else-not-published in
+    let at = (goal.at.Else-not-published g entry).After-self in
+    let w : Knowledge = c.turn-published.new.seat.knows in
+    let front : c.args.totals.now.upto ≡ c.args.self.now.front =
+    ap (λ (t : TotalSums). t.upto) (totals_before g at) ∙ (c.self.invariant.upto ∙ ap (λ (t : DecidingTerms). t.front) c.self.view_is) in
+    c.count_published.ensures.upto ∙ ap (λ upto. slice_set upto w.first (own_part w).published) front
+
+pub returns-else-not-published-clause-counted : goal.returns-else-not-published-clause-counted
+returns-else-not-published-clause-counted g c =
+    subst (λ (t : BookTerms). HasCounted c.count_published.new.totals t c.turn-published.new.seat.knows.seen) c.turn-published.ensures.board.book
+    c.count_published.ensures.counted

@@ -1,12 +1,15 @@
-use Rattle.std.proofs.Common.{◌≡◌, ◌<◌, length, sym, ap, subst, ◌∙◌}
+use Rattle.std.proofs.Common.{◌≡◌, ◌<◌, length, sym, ap, subst, ◌∙◌, arith}
 use Rattle.at_ledger.specs.Book.{BookTerms}
+use Rattle.at_history.proofs.Laws.Fronts.{IsFront-IsPrefix}
+use Rattle.at_history.proofs.Laws.Histories.{ArePublishedBy-IsHistory}
 use Rattle.at_history.specs.Fronts.{IsFront, prefix_of}
 use Rattle.at_history.specs.Rounds.{rounds}
+use Rattle.at_board.specs.Knowledge.Parts.{SeesDecision}
 use Rattle.at_board.specs.declared.knowledge.Knowledge.{Knowledge}
 use Rattle.at_fold.proofs.Laws.MorePublished.{StaysCounted-HasCounted}
 use Rattle.at_rounds.specs.Answers.{DecidesAs}
 use Rattle.at_shared.proofs.Laws.Turns.{IsSoundRound-Decides}
-use Rattle.at_shared.specs.HelpTurns.{PublishesRound}
+use Rattle.at_shared.specs.HelpTurns.{AnswersRound, PublishesRound}
 use Rattle.at_shared.specs.HelpingTerms.{HelpingTerms}
 use Rattle.at_shared.proofs.helping.Helping.decide_next.Given as given
 use Rattle.at_shared.proofs.helping.Helping.decide_next.Goals.{After-rounds-round}
@@ -51,14 +54,52 @@ returns-clause-decided g c =
     let z : Knowledge = c.publish.new.seat.knows in
     let a = c.args.self.now.account in
     let round = round_is g (goal.at.returns-clause-decided g c).After-rounds-round in
-    record {
-      unsettled = c.requires.unsettled;
-      proposal = c.proposal-proposal.result;
-      at_front = c.proposal-proposal.ensures.place;
-      may = c.proposal-proposal.ensures.proposal;
-      decided = x;
-      decides = subst (λ r. DecidesAs b v x a r c.proposal-proposal.result c.propose-decided.result) round
-          (subst (λ (h : HelpingTerms). DecidesAs b v x h.account c.rounds-round.result c.proposal-proposal.result c.propose-decided.result) c.self.view_is
-          c.propose-decided.ensures.decided);
-      publishes = subst (λ r. PublishesRound b x z a r c.propose-decided.result c.args.front.now) round c.publish.ensures.published;
-    }
+    let h : HelpingTerms = c.args.self.now in
+    let d = c.propose-decided.result in (
+      d,
+      record {
+        unsettled = c.requires.unsettled;
+        proposal = c.proposal-proposal.result;
+        at_front = c.proposal-proposal.ensures.place;
+        may = c.proposal-proposal.ensures.proposal;
+        decided = x;
+        decides = subst (λ r. DecidesAs b v x a r c.proposal-proposal.result d) round
+            (subst (λ (t : HelpingTerms). DecidesAs b v x t.account c.rounds-round.result c.proposal-proposal.result d) c.self.view_is c.propose-decided.ensures.decided);
+        publishes = subst (λ r. PublishesRound b x z a r d c.args.front.now) round c.publish.ensures.published;
+      },
+      subst (λ r. AnswersRound h r d c.answer.result) round c.answer.ensures,
+    )
+
+pub publish-requires-clause-seat : goal.publish-requires-clause-seat
+publish-requires-clause-seat g c = c.propose-decided.ensures.board
+
+pub publish-requires-clause-front : goal.publish-requires-clause-front
+publish-requires-clause-front g c =
+    let b : BookTerms = c.args.board.now.book in
+    let v : Knowledge = c.args.seat.now.knows in
+    let front = subst (λ f. IsFront b.processes f v.seen) c.requires.front c.requires.at_front.front in
+    IsFront-IsPrefix b.processes c.args.front.now v.seen c.propose-decided.new.seat.knows.seen front (ArePublishedBy-IsHistory b v.seen c.requires.at_front.history)
+    c.propose-decided.ensures.decided.decides.more
+
+pub publish-requires-clause-upto : goal.publish-requires-clause-upto
+publish-requires-clause-upto g c = c.requires.front
+
+pub publish-requires-clause-decided : goal.publish-requires-clause-decided
+publish-requires-clause-decided g c =
+    subst (λ (h : HelpingTerms). SeesDecision c.propose-decided.new.seat.knows h.account c.rounds-round.result c.propose-decided.result) c.self.view_is
+    c.propose-decided.ensures.seen
+
+pub returns-clause-upto : goal.returns-clause-upto
+returns-clause-upto g c = c.publish.ensures.upto
+
+pub returns-clause-counted : goal.returns-clause-counted
+returns-clause-counted g c = c.publish.ensures.counted
+
+pub returns-clause-board : goal.returns-clause-board
+returns-clause-board g c = c.publish.ensures.board
+
+pub returns-clause-steps : goal.returns-clause-steps
+returns-clause-steps g c = omega (arith, c.propose-decided.ensures.steps, c.publish.ensures.steps)
+
+pub returns-clause-exchanges : goal.returns-clause-exchanges
+returns-clause-exchanges g c = omega (arith, c.propose-decided.ensures.exchanges, c.publish.ensures.exchanges)

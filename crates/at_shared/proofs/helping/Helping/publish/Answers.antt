@@ -1,10 +1,16 @@
-use Rattle.std.proofs.Common.{[], ◌∷◌, ◌++◌, sym, ap, subst, ◌∙◌, append_assoc}
+use Rattle.std.proofs.Common.{[], ◌∷◌, ◌++◌, sym, ap, subst, ◌∙◌, append_assoc, rules}
 use Rattle.at_ledger.specs.Book.{BookTerms}
 use Rattle.at_history.specs.Publications.{IsPrefix}
 use Rattle.at_board.specs.declared.knowledge.Knowledge.{Knowledge}
 use Rattle.at_fold.proofs.Laws.MorePublished.{StaysCounted-HasCounted}
 use Rattle.at_fold.specs.HasCounted.{HasCounted}
+use Rattle.at_log.specs.Appending.{MayAppend}
+use Rattle.at_log.specs.declared.record.Record.{Record}
 use Rattle.at_shared.proofs.helping.Helping.publish.Goals as goal
+
+pub append-requires-clause-record : goal.append-requires-clause-record
+append-requires-clause-record g c =
+    subst (λ (r : Record). MayAppend c.args.board.now.book c.load_request-request.new.seat.knows r) (sym c.record_of_round-record.ensures) (search rules)
 
 pub count_own-requires-clause-counted : goal.count_own-requires-clause-counted
 count_own-requires-clause-counted g c =

@@ -1,16 +1,24 @@
-use Rattle.std.proofs.Common.{◌≡◌, length, false, sym, ap, subst, ◌∙◌, arith, inl, inr}
+use Rattle.std.proofs.Common.{◌≡◌, ◌+◌, ◌*◌, ◌<◌, length, get_or, sum, false, ap, subst, ◌∙◌, arith}
 use Rattle.at_ledger.specs.Book.{BookTerms}
+use Rattle.std.proofs.lemmas.List.{get_or-set_same}
+use Rattle.at_board.specs.Knowledge.Parts.{own_part}
+use Rattle.at_board.specs.declared.knowledge.Knowledge.{Knowledge}
+use Rattle.at_fold.proofs.Laws.LoadedRecords.{sum-caught}
+use Rattle.at_history.proofs.Laws.Fronts.{length-IsFront}
 use Rattle.at_history.specs.Fronts.{prefix_of}
-use Rattle.at_history.specs.Rounds.{is_settled, rounds}
+use Rattle.at_history.specs.Rounds.{is_settled}
 use Rattle.at_fold.specs.Counted.{IsDecidedIn}
 use Rattle.at_fold.specs.HasCounted.{CountsAccount, CountsFront, CountsSlot}
 use Rattle.at_rows.proofs.Laws.Accounts.{HasAccount}
-use Rattle.at_shared.proofs.Laws.Turned.{FindsSettled-turn, HelpsDecide-turn, IsHelping-turn, IsHelpingAt-turn, IsPlaced-turn-found, IsPlaced-turn-own, StandsAfter-turn-found, StandsAfter-turn-own, overtaken-turn, rounds-turn}
-use Rattle.at_shared.specs.HelpTurns.{NamesOwn}
+use Rattle.at_shared.proofs.Laws.Turned.{IsHelpingAt-turn}
+use Rattle.at_shared.proofs.TurnLaws.{IsTurned, IsTurned-decided, IsTurned-found}
 use Rattle.at_shared.specs.HelpingTerms.{HelpingTerms}
+use Rattle.at_shared.specs.Helpings.{decides_made}
+use Rattle.at_shared.specs.Settling.{round_steps}
+use Rattle.at_shared.specs.declared.helping.HelpTurn.TheVariants.{Settled}
 use Rattle.at_single.proofs.Laws.Looks.{CountsAccount-HasLooked, CountsFront-HasLooked, HasCounted-HasLooked}
 use Rattle.at_shared.proofs.helping.Helping.turn.Given as given
-use Rattle.at_shared.proofs.helping.Helping.turn.Goals.{After-look-front, After-receipt, After-receipt-then-is_own, Else-is_own}
+use Rattle.at_shared.proofs.helping.Helping.turn.Goals.{After-known-3, After-look-front, After-receipt}
 use Rattle.at_shared.proofs.helping.Helping.turn.Goals as goal
 
 -- the seat has something on the account
@@ -55,120 +63,231 @@ found g c =
     subst (λ f. IsDecidedIn (prefix_of f seen) h.account h.own.slot h.own.number c.in-Some.round c.in-Some.decision) c.look-front.ensures.looked.upto
     (c.in-Some.ensures.front b seen (counts_slot g before) c.requires.helping.room (counts_front g before))
 
+-- what the turn leaves where it was
+turned_found : (g : given.Over) (c : After-receipt g)
+    → IsTurned c.args.board.now.book c.args.seat.now.knows c.look-front.new.seat.knows c.args.self.now (Settled c.receipt.result) 0
+turned_found g c =
+    let before : After-look-front g = (goal.at.After-receipt g c).After-look-front in
+    IsTurned-found c.args.board.now.book c.args.seat.now.knows c.look-front.new.seat.knows c.args.self.now c.look-front.result (has_account g before)
+    c.look-front.ensures.looked.snapshot c.look-front.ensures.looked.loads c.requires.helping c.in-Some.round c.in-Some.decision c.receipt.result
+    c.known-2.ensures.seat.agrees (found g c)
+    (record { call = c.receipt.ensures.call; reply = c.receipt.ensures.reply; at = c.receipt.ensures.at })
+
 pub returns-in-Some-clause-answers : goal.returns-in-Some-clause-answers
-returns-in-Some-clause-answers g c =
-    let before : After-look-front g = (goal.at.returns-in-Some-clause-answers g c).After-look-front in
-    inl (FindsSettled-turn c.args.board.now.book c.args.seat.now.knows c.look-front.new.seat.knows c.args.self.now c.look-front.result (has_account g before)
-    c.look-front.ensures.looked.snapshot c.look-front.ensures.looked.loads c.requires.helping c.in-Some.round c.in-Some.decision (found g c))
+returns-in-Some-clause-answers g c = (turned_found g c).answers
+
+pub returns-in-Some-clause-call : goal.returns-in-Some-clause-call
+returns-in-Some-clause-call g c = (turned_found g c).call
+
+pub returns-in-Some-clause-in_round : goal.returns-in-Some-clause-in_round
+returns-in-Some-clause-in_round g c = (turned_found g c).in_round
 
 pub returns-in-Some-clause-placed : goal.returns-in-Some-clause-placed
-returns-in-Some-clause-placed g c =
-    let before : After-look-front g = (goal.at.returns-in-Some-clause-placed g c).After-look-front in
-    IsPlaced-turn-found c.args.board.now.book c.args.seat.now.knows c.look-front.new.seat.knows c.args.self.now c.look-front.result (has_account g before)
-    c.look-front.ensures.looked.snapshot c.look-front.ensures.looked.loads c.requires.helping c.in-Some.round c.in-Some.decision c.receipt.result c.known-2.ensures.seat.agrees (found g c)
-    c.receipt.ensures.call c.receipt.ensures.reply c.receipt.ensures.at
+returns-in-Some-clause-placed g c = (turned_found g c).placed
 
 pub returns-in-Some-clause-after_start : goal.returns-in-Some-clause-after_start
-returns-in-Some-clause-after_start g c =
-    let before : After-look-front g = (goal.at.returns-in-Some-clause-after_start g c).After-look-front in
-    StandsAfter-turn-found c.args.board.now.book c.args.seat.now.knows c.look-front.new.seat.knows c.args.self.now c.look-front.result (has_account g before)
-    c.look-front.ensures.looked.snapshot c.look-front.ensures.looked.loads c.requires.helping c.in-Some.round c.in-Some.decision c.receipt.result c.known-2.ensures.seat.agrees (found g c)
-    c.receipt.ensures.call c.receipt.ensures.at
+returns-in-Some-clause-after_start g c = (turned_found g c).after_start
+
+pub returns-in-Some-clause-helping : goal.returns-in-Some-clause-helping
+returns-in-Some-clause-helping g c = (turned_found g c).helping
+
+pub returns-in-Some-clause-rounds_more : goal.returns-in-Some-clause-rounds_more
+returns-in-Some-clause-rounds_more g c = (turned_found g c).rounds_more
+
+pub returns-in-Some-clause-overtaken : goal.returns-in-Some-clause-overtaken
+returns-in-Some-clause-overtaken g c = (turned_found g c).overtaken
+
+pub returns-in-Some-clause-heard : goal.returns-in-Some-clause-heard
+returns-in-Some-clause-heard g c = (turned_found g c).heard
+
+pub returns-in-Some-clause-free : goal.returns-in-Some-clause-free
+returns-in-Some-clause-free g c = (turned_found g c).free
+
+pub returns-in-Some-clause-begins : goal.returns-in-Some-clause-begins
+returns-in-Some-clause-begins g c = (turned_found g c).begins
+
+pub returns-in-Some-clause-process : goal.returns-in-Some-clause-process
+returns-in-Some-clause-process g c = (turned_found g c).process
+
+pub returns-in-Some-clause-decides_more : goal.returns-in-Some-clause-decides_more
+returns-in-Some-clause-decides_more g c = λ more. absurd (cc more)
+
+pub returns-in-Some-clause-decides_few : goal.returns-in-Some-clause-decides_few
+returns-in-Some-clause-decides_few g c = omega (arith, (turned_found g c).decides)
+
+pub returns-in-Some-clause-decides_at_most : goal.returns-in-Some-clause-decides_at_most
+returns-in-Some-clause-decides_at_most g c = omega (arith, (turned_found g c).decides)
+
+pub returns-in-Some-clause-decides_elsewhere : goal.returns-in-Some-clause-decides_elsewhere
+returns-in-Some-clause-decides_elsewhere g c = (turned_found g c).elsewhere
+
+pub returns-in-Some-clause-published : goal.returns-in-Some-clause-published
+returns-in-Some-clause-published g c = omega (arith, (turned_found g c).published)
+
+pub returns-in-Some-clause-more : goal.returns-in-Some-clause-more
+returns-in-Some-clause-more g c = omega (arith, (turned_found g c).published, c.look-front.ensures.looked.more, ap sum c.look-front.ensures.looked.upto)
 
 pub returns-in-Some-clause-counted : goal.returns-in-Some-clause-counted
 returns-in-Some-clause-counted g c =
     HasCounted-HasLooked c.args.board.now.book c.args.seat.now.knows c.look-front.new.seat.knows c.args.totals.now c.look-front.new.totals c.look-front.result
     c.look-front.ensures.looked
 
-pub decide_next-decision-requires-clause-totals : goal.decide_next-decision-requires-clause-totals
-decide_next-decision-requires-clause-totals g c =
+pub returns-in-Some-clause-own_counted : goal.returns-in-Some-clause-own_counted
+returns-in-Some-clause-own_counted g c =
+    let own = c.look-front.ensures.looked.snapshot.own in
+    let turned = turned_found g c in
+    ap (λ upto. get_or upto c.look-front.new.seat.knows.first 0) c.look-front.ensures.looked.upto
+    ∙ (ap (λ p. get_or c.look-front.result p 0) turned.process ∙ omega (arith, own, turned.published))
+
+pub returns-in-Some-clause-steps : goal.returns-in-Some-clause-steps
+returns-in-Some-clause-steps g c =
+    let turned = turned_found g c in
+    let made : decides_made c.args.self.now.account c.args.seat.now.knows c.look-front.new.seat.knows ≡ 0 = omega (arith, turned.decides) in
+    omega (
+      arith,
+      c.look-front.ensures.steps,
+      ap (λ k. round_steps c.args.board.now.book.processes * k) made,
+      turned.published,
+      c.look-front.ensures.looked.more,
+      ap sum c.look-front.ensures.looked.upto,
+    )
+
+pub returns-in-Some-clause-exchanges : goal.returns-in-Some-clause-exchanges
+returns-in-Some-clause-exchanges g c = omega (arith, c.look-front.ensures.exchanges, (turned_found g c).decides)
+
+pub decide_next-turn-requires-clause-totals : goal.decide_next-turn-requires-clause-totals
+decide_next-turn-requires-clause-totals g c =
     HasCounted-HasLooked c.args.board.now.book c.args.seat.now.knows c.look-front.new.seat.knows c.args.totals.now c.look-front.new.totals c.look-front.result
     c.look-front.ensures.looked
 
--- the round of the totals is the next one at the front
-pub rounds-round-requires : goal.rounds-round-requires
-rounds-round-requires g c =
-    let before : After-look-front g = (goal.at.rounds-round-requires g c).After-look-front in (
-      c.args.board.now.book,
-      c.look-front.new.seat.knows.seen,
-      subst (λ (h : HelpingTerms). CountsAccount c.look-front.new.totals c.args.board.now.book c.look-front.new.seat.knows.seen h.account) (sym c.self.view_is)
-          (counts_account g before),
-    )
-
-round_is : (g : given.Over) (c : After-receipt-then-is_own g)
-    → c.rounds-round.result ≡ rounds c.args.self.now.account (prefix_of c.look-front.result c.look-front.new.seat.knows.seen)
-round_is g c =
-    let before : After-look-front g = (goal.at.After-receipt-then-is_own g c).After-look-front in
-    let b : BookTerms = c.args.board.now.book in
-    let seen = c.look-front.new.seat.knows.seen in
-    let account = ap (λ (h : HelpingTerms). h.account) c.self.view_is in
-    c.rounds-round.ensures.front b seen
-    (subst (λ (h : HelpingTerms). CountsAccount c.look-front.new.totals b seen h.account) (sym c.self.view_is) (counts_account g before)) (counts_front g before)
-    ∙ (ap (λ f. rounds c.self.inside.account (prefix_of f seen)) c.look-front.ensures.looked.upto
-    ∙ ap (λ a. rounds a (prefix_of c.look-front.result seen)) account)
-
-pub decide_next-decision-requires-clause-helping : goal.decide_next-decision-requires-clause-helping
-decide_next-decision-requires-clause-helping g c =
-    let before : After-look-front g = (goal.at.decide_next-decision-requires-clause-helping g c).After-look-front in
+pub decide_next-turn-requires-clause-helping : goal.decide_next-turn-requires-clause-helping
+decide_next-turn-requires-clause-helping g c =
+    let before : After-look-front g = (goal.at.decide_next-turn-requires-clause-helping g c).After-look-front in
     IsHelpingAt-turn c.args.board.now.book c.args.seat.now.knows c.look-front.new.seat.knows c.args.self.now c.look-front.result (has_account g before)
     c.look-front.ensures.looked.snapshot c.look-front.ensures.looked.loads c.requires.helping
 
-pub decide_next-decision-requires-clause-unsettled : goal.decide_next-decision-requires-clause-unsettled
-decide_next-decision-requires-clause-unsettled g c =
-    let before : After-look-front g = (goal.at.decide_next-decision-requires-clause-unsettled g c).After-look-front in
+pub decide_next-turn-requires-clause-unsettled : goal.decide_next-turn-requires-clause-unsettled
+decide_next-turn-requires-clause-unsettled g c =
+    let before : After-look-front g = (goal.at.decide_next-turn-requires-clause-unsettled g c).After-look-front in
     let h : HelpingTerms = c.args.self.now in
     let seen = c.look-front.new.seat.knows.seen in
     subst (λ f. is_settled h.account h.own.slot h.own.number (prefix_of f seen) ≡ false) c.look-front.ensures.looked.upto
     (c.in_default.ensures.front c.args.board.now.book seen (counts_slot g before) c.requires.helping.room (counts_front g before))
 
-pub returns-then-is_own-clause-answers : goal.returns-then-is_own-clause-answers
-returns-then-is_own-clause-answers g c =
-    let before : After-look-front g = (goal.at.returns-then-is_own-clause-answers g c).After-look-front in
-    inr (
-      c.decide_next-decision.result,
-      HelpsDecide-turn c.args.board.now.book c.args.seat.now.knows c.look-front.new.seat.knows c.args.self.now c.look-front.result (has_account g before)
-          c.look-front.ensures.looked.snapshot c.look-front.ensures.looked.loads c.requires.helping c.decide_next-decision.new.seat.knows c.decide_next-decision.result
-          c.decide_next-decision.ensures.decided,
-      c.is_own.ensures.0 c.if-is_own.true,
+-- what the turn leaves where it has decided a round
+turned : (g : given.Over) (c : After-known-3 g)
+    → IsTurned c.args.board.now.book c.args.seat.now.knows c.decide_next-turn.new.seat.knows c.args.self.now c.decide_next-turn.result 1
+turned g c =
+    let before : After-look-front g = (goal.at.After-known-3 g c).After-look-front in
+    let (d, next, answer) = c.decide_next-turn.ensures.decided in
+    IsTurned-decided c.args.board.now.book c.args.seat.now.knows c.look-front.new.seat.knows c.args.self.now c.look-front.result (has_account g before)
+    c.look-front.ensures.looked.snapshot c.look-front.ensures.looked.loads c.requires.helping c.decide_next-turn.new.seat.knows d next c.known-3.ensures.seat
+    c.decide_next-turn.ensures.board.book c.decide_next-turn.result answer
+
+pub returns-clause-answers : goal.returns-clause-answers
+returns-clause-answers g c = (turned g c).answers
+
+pub returns-clause-call : goal.returns-clause-call
+returns-clause-call g c = (turned g c).call
+
+pub returns-clause-in_round : goal.returns-clause-in_round
+returns-clause-in_round g c = (turned g c).in_round
+
+pub returns-clause-placed : goal.returns-clause-placed
+returns-clause-placed g c = (turned g c).placed
+
+pub returns-clause-after_start : goal.returns-clause-after_start
+returns-clause-after_start g c = (turned g c).after_start
+
+pub returns-clause-helping : goal.returns-clause-helping
+returns-clause-helping g c = (turned g c).helping
+
+pub returns-clause-rounds_more : goal.returns-clause-rounds_more
+returns-clause-rounds_more g c = (turned g c).rounds_more
+
+pub returns-clause-overtaken : goal.returns-clause-overtaken
+returns-clause-overtaken g c = (turned g c).overtaken
+
+pub returns-clause-heard : goal.returns-clause-heard
+returns-clause-heard g c = (turned g c).heard
+
+pub returns-clause-free : goal.returns-clause-free
+returns-clause-free g c = (turned g c).free
+
+pub returns-clause-begins : goal.returns-clause-begins
+returns-clause-begins g c = (turned g c).begins
+
+pub returns-clause-process : goal.returns-clause-process
+returns-clause-process g c = (turned g c).process
+
+pub returns-clause-decides_more : goal.returns-clause-decides_more
+returns-clause-decides_more g c = λ more. (turned g c).decides
+
+pub returns-clause-decides_few : goal.returns-clause-decides_few
+returns-clause-decides_few g c = omega (arith, (turned g c).decides)
+
+pub returns-clause-decides_at_most : goal.returns-clause-decides_at_most
+returns-clause-decides_at_most g c = omega (arith, (turned g c).decides)
+
+pub returns-clause-decides_elsewhere : goal.returns-clause-decides_elsewhere
+returns-clause-decides_elsewhere g c = (turned g c).elsewhere
+
+pub returns-clause-published : goal.returns-clause-published
+returns-clause-published g c = omega (arith, (turned g c).published)
+
+-- the own count is the last that the totals have caught up
+own_count : (g : given.Over) (c : After-known-3 g)
+    → get_or c.look-front.result c.decide_next-turn.new.seat.knows.first 0 ≡ (own_part c.args.seat.now.knows).published
+own_count g c = ap (λ p. get_or c.look-front.result p 0) (turned g c).process ∙ c.look-front.ensures.looked.snapshot.own
+
+within : (g : given.Over) (c : After-known-3 g) → c.decide_next-turn.new.seat.knows.first < length c.look-front.result
+within g c =
+    let b : BookTerms = c.args.board.now.book in
+    let w : Knowledge = c.look-front.new.seat.knows in
+    omega (
+      arith,
+      c.known-3.ensures.seat.known,
+      ap (λ (t : BookTerms). t.processes) c.decide_next-turn.ensures.board.book,
+      length-IsFront b.processes c.look-front.result w.seen c.look-front.ensures.looked.snapshot.front,
     )
 
-pub returns-then-is_own-clause-placed : goal.returns-then-is_own-clause-placed
-returns-then-is_own-clause-placed g c =
-    let before : After-look-front g = (goal.at.returns-then-is_own-clause-placed g c).After-look-front in
-    IsPlaced-turn-own c.args.board.now.book c.args.seat.now.knows c.look-front.new.seat.knows c.args.self.now c.look-front.result (has_account g before)
-    c.look-front.ensures.looked.snapshot c.look-front.ensures.looked.loads c.requires.helping c.decide_next-decision.new.seat.knows c.decide_next-decision.result
-    c.decide_next-decision.ensures.decided c.rounds-round.result c.receipt-then-is_own.result c.known-3.ensures.seat.agrees (round_is g c) (c.is_own.ensures.0 c.if-is_own.true)
-    c.receipt-then-is_own.ensures.call c.receipt-then-is_own.ensures.reply c.receipt-then-is_own.ensures.at
+counted_more : (g : given.Over) (c : After-known-3 g)
+    → sum c.decide_next-turn.new.totals.upto ≡ sum c.look-front.result + 1
+counted_more g c =
+    let z : Knowledge = c.decide_next-turn.new.seat.knows in
+    let published = (turned g c).published in
+    let own = own_count g c in
+    omega (
+      arith,
+      ap sum c.decide_next-turn.ensures.upto,
+      sum-caught c.look-front.result z.first (own_part z).published (within g c) (omega (arith, own, published)),
+      own,
+      published,
+    )
 
-pub returns-then-is_own-clause-after_start : goal.returns-then-is_own-clause-after_start
-returns-then-is_own-clause-after_start g c =
-    let before : After-look-front g = (goal.at.returns-then-is_own-clause-after_start g c).After-look-front in
-    StandsAfter-turn-own c.args.board.now.book c.args.seat.now.knows c.look-front.new.seat.knows c.args.self.now c.look-front.result (has_account g before)
-    c.look-front.ensures.looked.snapshot c.look-front.ensures.looked.loads c.requires.helping c.decide_next-decision.new.seat.knows c.decide_next-decision.result
-    c.decide_next-decision.ensures.decided c.rounds-round.result c.receipt-then-is_own.result c.known-3.ensures.seat.agrees (round_is g c) (c.is_own.ensures.0 c.if-is_own.true)
-    c.receipt-then-is_own.ensures.call c.receipt-then-is_own.ensures.at
+pub returns-clause-more : goal.returns-clause-more
+returns-clause-more g c = omega (arith, counted_more g c, (turned g c).published, c.look-front.ensures.looked.more)
 
--- another request was decided
-other : (g : given.Over) (c : Else-is_own g) → ¬ NamesOwn c.args.self.now c.decide_next-decision.result
-other g c = λ own. absurd (cc (sym (c.is_own.ensures.1 own) ∙ c.if-is_own.false))
+pub returns-clause-own_counted : goal.returns-clause-own_counted
+returns-clause-own_counted g c =
+    let z : Knowledge = c.decide_next-turn.new.seat.knows in
+    ap (λ upto. get_or upto z.first 0) c.decide_next-turn.ensures.upto
+    ∙ get_or-set_same c.look-front.result z.first (own_part z).published 0 (within g c)
 
-pub returns-else-is_own-clause-helping : goal.returns-else-is_own-clause-helping
-returns-else-is_own-clause-helping g c = λ more.
-    let before : After-look-front g = (goal.at.returns-else-is_own-clause-helping g c).After-look-front in
-    IsHelping-turn c.args.board.now.book c.args.seat.now.knows c.look-front.new.seat.knows c.args.self.now c.look-front.result (has_account g before)
-    c.look-front.ensures.looked.snapshot c.look-front.ensures.looked.loads c.requires.helping c.decide_next-decision.new.seat.knows c.decide_next-decision.result
-    c.decide_next-decision.ensures.decided
+pub returns-clause-steps : goal.returns-clause-steps
+returns-clause-steps g c =
+    let h : HelpingTerms = c.args.self.now in
+    let all = turned g c in
+    let made : decides_made h.account c.args.seat.now.knows c.decide_next-turn.new.seat.knows ≡ 1 = omega (arith, all.decides) in
+    omega (
+      arith,
+      c.look-front.ensures.steps,
+      c.decide_next-turn.ensures.steps,
+      ap (λ k. round_steps c.args.board.now.book.processes * k) made,
+      all.published,
+      counted_more g c,
+      c.look-front.ensures.looked.more,
+    )
 
-pub returns-else-is_own-clause-rounds_more : goal.returns-else-is_own-clause-rounds_more
-returns-else-is_own-clause-rounds_more g c = λ more.
-    let before : After-look-front g = (goal.at.returns-else-is_own-clause-rounds_more g c).After-look-front in
-    rounds-turn c.args.board.now.book c.args.seat.now.knows c.look-front.new.seat.knows c.args.self.now c.look-front.result (has_account g before)
-    c.look-front.ensures.looked.snapshot c.look-front.ensures.looked.loads c.requires.helping c.decide_next-decision.new.seat.knows c.decide_next-decision.result
-    c.decide_next-decision.ensures.decided
-
-pub returns-else-is_own-clause-overtaken : goal.returns-else-is_own-clause-overtaken
-returns-else-is_own-clause-overtaken g c = λ more.
-    let before : After-look-front g = (goal.at.returns-else-is_own-clause-overtaken g c).After-look-front in
-    overtaken-turn c.args.board.now.book c.args.seat.now.knows c.look-front.new.seat.knows c.args.self.now c.look-front.result (has_account g before)
-    c.look-front.ensures.looked.snapshot c.look-front.ensures.looked.loads c.requires.helping c.decide_next-decision.new.seat.knows c.decide_next-decision.result
-    c.decide_next-decision.ensures.decided c.known-3.ensures.seat c.decide_next-decision.ensures.board.book (other g c)
+pub returns-clause-exchanges : goal.returns-clause-exchanges
+returns-clause-exchanges g c = omega (arith, c.look-front.ensures.exchanges, c.decide_next-turn.ensures.exchanges, (turned g c).decides)

@@ -1,0 +1,35 @@
+use Rattle.std.proofs.Common.{◌≡◌, ◌-◌, get_or, refl, ap, subst, ◌∙◌}
+use Rattle.at_snapshot.specs.Verdicts.{IsVerdictOn}
+use Rattle.at_snapshot.specs.declared.collects.Verdict.{Verdict}
+use Rattle.at_snapshot.specs.declared.collects.Verdict.TheVariants.{Lent, Repeated, Undecided}
+use Rattle.at_machines.specs.Collecting.{CollectingTerms}
+use Rattle.at_machines.specs.Loading.{LoadingTerms, starting_loading}
+use Rattle.at_machines.specs.declared.stage.Stage.TheVariants.{Borrow, Collect}
+use Rattle.at_machines.proofs.stage.Stage.judge.Goals.{After-compare}
+use Rattle.at_machines.proofs.stage.Stage.judge.Goals as goal
+
+-- what the collect says
+says : (c : After-compare) (verdict : Verdict) → c.compare.result ≡ verdict
+    → IsVerdictOn c.args.collects.now c.args.seat.now.knows.first c.args.now verdict
+says c verdict is =
+    subst (IsVerdictOn c.args.collects.now c.args.seat.now.knows.first c.args.now) is
+    (subst (λ p. IsVerdictOn c.args.collects.now p c.args.now c.compare.result) c.process.ensures.process c.compare.ensures)
+
+pub returns-in-Repeated : goal.returns-in-Repeated
+returns-in-Repeated c = (Repeated, says (goal.at.returns-in-Repeated c).After-compare Repeated c.in-Repeated.is, (refl, refl))
+
+pub returns-in-Lent : goal.returns-in-Lent
+returns-in-Lent c =
+    let p = c.in-Lent.p in
+    let last : c.get-last.result - 1 ≡ get_or c.args.now p 0 - 1 = ap (λ k. k - 1) c.get-last.ensures in (
+      Lent p,
+      says (goal.at.returns-in-Lent c).After-compare (Lent p) c.in-Lent.is,
+      (ap (λ (l : LoadingTerms). Borrow l) (c.start.ensures ∙ ap (starting_loading c.args.seat.now.knows p) last), refl),
+    )
+
+pub returns-in-Undecided : goal.returns-in-Undecided
+returns-in-Undecided c = (
+  Undecided,
+  says (goal.at.returns-in-Undecided c).After-compare Undecided c.in-Undecided.is,
+  (ap (λ (t : CollectingTerms). Collect t) c.start-in-Undecided.ensures, refl, c.add_collect.ensures),
+)
