@@ -1,4 +1,5 @@
 pub mod Limits
+pub mod Writing
 pub mod Generator
 pub mod Unread
 pub mod Running

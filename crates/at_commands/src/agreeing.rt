@@ -5,9 +5,9 @@ ghost use Rattle.at_agree.specs.Council.{IsSize};
 ghost use Rattle.at_io.specs.Faults.{Rose};
 ghost use Rattle.at_commands.specs.Agreed.{KeepsAgreement, PrintsAgreed, TookAgreed, TookAgreedPrefix};
 
-use crate::answering::Printed;
+use crate::ending::{Printed, finish};
 use at_agree::agree;
-use at_io::{Sink, put_all};
+use at_io::Sink;
 use at_object::{Closed, NoMemory};
 use at_report::{Status, UsageFault, agreed_text};
 use std::alloc::Global;
@@ -57,9 +57,5 @@ pub fn answer_agree<R: Threads + Sync, O: Sink>(
     let Ok(printed) = agreement(rt, alloc, values) else {
         return Status::NoMemory;
     };
-    *kept = printed.closed;
-    match put_all(out, printed.text.as_slice()) {
-        Ok(()) => Status::Done,
-        Err(_) => Status::WriteFault,
-    }
+    finish(printed, out, kept)
 }

@@ -1,6 +1,6 @@
 //! What `run`, `check`, `make` and `agree` answer.
 
-ghost use Rattle.std.specs.Prelude.{◌≡◌, ◌≢◌, ◌↔◌, ◌⊎◌, ◌≤◌, ◌++◌, ℕ, All, List, length, true, None, Ok, Err, IfOk, IfErr, OnOk};
+ghost use Rattle.std.specs.Prelude.{◌≡◌, ◌≢◌, ◌↔◌, ◌⊎◌, ◌≤◌, ◌++◌, ℕ, All, List, length, sum_by, true, None, Ok, Err, IfOk, IfErr, OnOk};
 ghost use Rattle.at_commands.specs.Agreed.{KeepsAgreement, TookAgreed, TookAgreedPrefix};
 ghost use Rattle.at_commands.specs.Answer.{Prints, PrintsSpelled, TookAll, TookPrefix, TookLine};
 ghost use Rattle.at_commands.specs.Generator.{MayMake};
@@ -14,14 +14,17 @@ ghost use Rattle.at_io.specs.Sink.{TakesPrefix};
 ghost use Rattle.at_loading.specs.Faults.{HasFileNumbers, MayRefuse};
 ghost use Rattle.at_loading.specs.Loading.{Loaded, MayReach, loaded, loaded_shown};
 ghost use Rattle.at_loading.specs.Words.{form_shown, words_of};
+ghost use Rattle.at_report.specs.Report.{checked_line};
 ghost use Rattle.at_verify.specs.Right.{IsPlayable, files_in};
 
 use crate::agreeing::answer_agree;
+use crate::ending::{Printed, finish};
 use crate::generating::{Made, generate};
 use crate::playing::{journal_of, play};
 use crate::unread::{Making, what_to_agree, what_to_make};
+use at_files::Names;
 use at_io::{Shelf, Sink, put_all};
-use at_ledger::Call;
+use at_ledger::{Book, Call};
 use at_loading::{Command, Form, load};
 use at_object::Closed;
 use at_report::{Status, UsageFault, checked_text, fault_text, report, summary};
@@ -30,34 +33,42 @@ use at_workers::Gate;
 use std::alloc::{AllocError, Global};
 use std::thread::Threads;
 
-/// What a command prints, and the closed ledger on which it made calls, if it did.
-#[derive(Drop)]
-pub struct Printed {
-    pub text: Vec<u8>,
-    pub closed: Option<Closed>,
-}
-
 /// The report of a run of the files, all of them at once.
 fn run_text<R: Threads + Sync, G: Gate + Sync>(
     rt: &R,
     alloc: Global,
-    loaded: at_loading::Loaded<Call>,
+    book: &Book,
+    names: &Names,
+    files: Vec<Vec<Call>>,
     gate: &G,
 ) -> Result<Printed, AllocError>
-    requires names { AreNamesOf loaded.book loaded.names }
-    requires count { length loaded.files.items ≡ loaded.book.processes }
-    requires known { All (IsPlayable (length loaded.book.accounts)) (files_in loaded.files.items) }
-    ensures { IfOk result
-        (λ p. Prints Command.Run (loaded_shown loaded) p.closed p.text.items) }
+    requires names { AreNamesOf book.now names.now }
+    requires count { length files.items ≡ book.now.processes }
+    requires known { All (IsPlayable (length book.now.accounts)) (files_in files.items) }
+    ensures { IfOk result (λ p. Prints Command.Run
+        (record { book = book.now; names = names.now; files = files_in files.items })
+        p.closed p.text.items) }
 {
-    let at_loading::Loaded { book, names, files } = loaded;
-    let closed = play(rt, alloc, &book, files, gate)?;
+    let closed = play(rt, alloc, book, files, gate)?;
     let lines = journal_of(alloc, &closed)?;
-    let text = report(alloc, &book, &names, lines.as_slice())?;
+    let text = report(alloc, book, names, lines.as_slice())?;
     Ok(Printed {
         text,
         closed: Some(closed),
     })
+}
+
+/// The line of how many calls the files have.
+fn check_text(alloc: Global, book: &Book, files: &[Vec<Call>]) -> Result<Printed, AllocError>
+    requires count { length files.now ≡ book.now.processes }
+    requires known { All (IsPlayable (length book.now.accounts)) (files_in files.now) }
+    ensures none { IfOk result (λ p. p.closed ≡ None) }
+    ensures text { IfOk result
+        (λ p. p.text.items ≡ checked_line book.now (sum_by length (files_in files.now))) }
+{
+    let _known = book.accounts();
+    let text = checked_text(alloc, book, count_calls(files))?;
+    Ok(Printed { text, closed: None })
 }
 
 /// What the command prints of what was loaded.
@@ -73,14 +84,10 @@ fn text_of<R: Threads + Sync, G: Gate + Sync>(
     requires known { All (IsPlayable (length loaded.book.accounts)) (files_in loaded.files.items) }
     ensures { IfOk result (λ p. Prints command (loaded_shown loaded) p.closed p.text.items) }
 {
-    let _known = loaded.book.accounts();
+    let at_loading::Loaded { book, names, files } = loaded;
     match command {
-        Command::Run => run_text(rt, alloc, loaded, gate),
-        Command::Check => {
-            let calls = count_calls(loaded.files.as_slice());
-            let text = checked_text(alloc, &loaded.book, calls)?;
-            Ok(Printed { text, closed: None })
-        }
+        Command::Run => run_text(rt, alloc, &book, &names, files, gate),
+        Command::Check => check_text(alloc, &book, files.as_slice()),
     }
 }
 
@@ -179,11 +186,7 @@ pub fn answer_files<R: Threads + Sync, F: Shelf, O: Sink, G: Gate + Sync>(
         Ok(printed) => printed,
         Err(refusal) => return refusal,
     };
-    *kept = printed.closed;
-    match put_all(out, printed.text.as_slice()) {
-        Ok(()) => Status::Done,
-        Err(_) => Status::WriteFault,
-    }
+    finish(printed, out, kept)
 }
 
 /// The summary of a run of the calls that a number gives, all processes at once.
@@ -243,11 +246,7 @@ fn answer_made<R: Threads + Sync, O: Sink, G: Gate + Sync>(
     let Ok(printed) = made_text(rt, alloc, making, gate) else {
         return Status::NoMemory;
     };
-    *kept = printed.closed;
-    match put_all(out, printed.text.as_slice()) {
-        Ok(()) => Status::Done,
-        Err(_) => Status::WriteFault,
-    }
+    finish(printed, out, kept)
 }
 
 /// Does what words of no file ask: those of `make` and of `agree`, and no others.

@@ -11,11 +11,12 @@ ghost use Rattle.at_loading.specs.Loading.{all_shown, contents_of};
 ghost use Rattle.at_commands.specs.Nodes.{AreSent, Broadcast, PrintsNodes, counts_of};
 ghost use Rattle.at_loading.specs.Words.{delivering_shown};
 
+use crate::ending::write_text;
 use crate::nodes::nodes_given;
 use at_base::Counts;
 use at_broadcast::Message;
 use at_files::{Delivery, ReadOrderFault, read_deliveries};
-use at_io::{Shelf, Sink, put_all};
+use at_io::{Shelf, Sink};
 use at_loading::{Delivering, Loaded, Messages, fetch_file, load_all};
 use at_report::{Status, UsageFault, nodes_text};
 use std::alloc::{AllocError, Global};
@@ -172,8 +173,5 @@ pub fn answer_deliver<F: Shelf, O: Sink>(
         Ok(text) => text,
         Err(refusal) => return refusal,
     };
-    match put_all(out, text.as_slice()) {
-        Ok(()) => Status::Done,
-        Err(_) => Status::WriteFault,
-    }
+    write_text(out, text.as_slice())
 }

@@ -2,12 +2,13 @@
 //! the refusal that comes in its place.
 //!
 //! `answer_files` is `run` and `check`, `answer_unread` is `make` and `agree`, `answer_deliver` and `answer_verify` are the
-//! commands of their names. Each makes its whole text before the first write. `tell` writes the line of a refusal.
+//! commands of their names. Each makes its whole text before `write_text` writes it. `tell` writes the line of a refusal.
 #![tactic(auto)]
 
 mod agreeing;
 mod answering;
 mod delivering;
+mod ending;
 mod generating;
 mod nodes;
 mod playing;
@@ -16,6 +17,7 @@ mod verifying;
 
 pub use crate::answering::{answer_files, answer_unread, tell};
 pub use crate::delivering::answer_deliver;
+pub use crate::ending::write_text;
 pub use crate::unread::{
     MADE_CALLS_MAX, MADE_PROCESSES_MAX, Making, VALUE_MAX, VALUES_MAX, VALUES_MIN,
 };

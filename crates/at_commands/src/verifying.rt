@@ -10,7 +10,8 @@ ghost use Rattle.at_loading.specs.Faults.{HasFurtherNumbers};
 ghost use Rattle.at_commands.specs.Claims.{IsRightClaim, MayReachClaim, MayRefuseClaim, RefusesClaim, TookVerified, TookVerifiedPrefix, Verifies, VerifiesSpelled, claim_shown, claimed};
 ghost use Rattle.at_loading.specs.Words.{verifying_shown};
 
-use at_io::{Shelf, Sink, put_all};
+use crate::ending::write_text;
+use at_io::{Shelf, Sink};
 use at_ledger::Call;
 use at_loading::{Loaded, Verifying, fetch_file, load};
 use at_report::{Status, UsageFault, verified_text};
@@ -113,8 +114,5 @@ pub fn answer_verify<F: Shelf, O: Sink>(
         Ok(text) => text,
         Err(refusal) => return refusal,
     };
-    match put_all(out, text.as_slice()) {
-        Ok(()) => Status::Done,
-        Err(_) => Status::WriteFault,
-    }
+    write_text(out, text.as_slice())
 }
