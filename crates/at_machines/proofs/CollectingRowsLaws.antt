@@ -1,5 +1,5 @@
 -- Collecting rows from one turn to the next.
-use Rattle.std.proofs.Common.{◌≡◌, ◌≢◌, ℕ, ◌+◌, ◌-◌, ◌*◌, ◌<◌, ◌≤◌, ◌++◌, List, [], length, Option, IfSome, refl, sym, ap, subst, ◌∙◌, arith, inl, inr}
+use Rattle.std.proofs.Common.{◌≡◌, ◌≢◌, ℕ, ◌+◌, ◌-◌, ◌*◌, ◌<◌, ◌≤◌, ◌++◌, List, [], length, Option, refl, sym, ap, subst, ◌∙◌, arith, inl, inr}
 use Rattle.std.proofs.lemmas.Bool.{cases_lt}
 use Rattle.std.specs.Option.{option_to_list}
 use Rattle.at_ledger.specs.Account.{slots_of}
@@ -10,10 +10,10 @@ use Rattle.at_board.specs.Knowledge.Seats.{IsKept}
 use Rattle.at_board.specs.declared.knowledge.Knowledge.{Knowledge}
 use Rattle.at_board.specs.declared.words.TheConstants.{REQUEST_WORDS}
 use Rattle.at_rows.proofs.Laws.Accounts.{HasAccount, HasAccount-IsSeat}
-use Rattle.at_rows.proofs.Laws.Collecting.{AreBelow-LoadsRow, AreCandidates-IsCollectingRows, CollectsRows-IsCollectingRows, HasAsked-IsCollectingRows, HasLoadedRows-IsCollectingRows, IsCollectingRows-row, IsCollectingRows-start, SeesRequest-HasAsked, steps-IsCollectingRows}
+use Rattle.at_rows.proofs.Laws.Collecting.{AreCandidates-IsCollectingRows, CollectsRows-IsCollectingRows, HasAsked-IsCollectingRows, HasLoadedRows-IsCollectingRows, IsCollectingRows-row, IsCollectingRows-start, SeesRequest-HasAsked, steps-IsCollectingRows}
 use Rattle.at_rows.specs.Asks.{HasAsked}
 use Rattle.at_rows.specs.Collecting.{IsCollectingRows}
-use Rattle.at_rows.specs.OpenRequests.{AreBelow, request_of}
+use Rattle.at_rows.specs.OpenRequests.{request_of}
 use Rattle.at_rows.specs.Rows.{AreCandidates, CollectsRows, LoadsRow, row_steps}
 use Rattle.at_rows.specs.declared.open_request.OpenRequest.{OpenRequest}
 use Rattle.at_machines.specs.CollectingRows.{CollectingRowsTerms, GoesOn, MakesNextLoad, rows_after}
@@ -129,17 +129,6 @@ made-IsCollectingRowsSo start row list made so left =
                 )
           ]
     ]
-
--- what is found in a row stands above the list, which has room for it
-pub AreBelow-IsCollectingRowsSo : (start w : Knowledge) (row : LoadingRowTerms) (list : List OpenRequest) (made : ℕ) (found : Option OpenRequest)
-    → IsCollectingRowsSo start row list made → row.next ≢ nothing → LoadsRow row.start w row.account row.slot row.own found
-    → IfSome found (λ x. AreBelow list x.slot)
-AreBelow-IsCollectingRowsSo start w row list made found so left told =
-    AreBelow-LoadsRow row.start w row.account row.slot row.own list found (so.amid left).so_far.below told
-
-pub length-IsCollectingRowsSo : (start : Knowledge) (row : LoadingRowTerms) (list : List OpenRequest) (made : ℕ) → IsCollectingRowsSo start row list made
-    → row.next ≢ nothing → length list < slots_of (account_of start.book row.account)
-length-IsCollectingRowsSo start row list made so left = omega (arith, (so.amid left).so_far.few, (so.amid left).slot_in)
 
 -- a row is whole
 pub IsCollectingRows-IsCollectingRowsSo : (start w : Knowledge) (row : LoadingRowTerms) (list : List OpenRequest) (made : ℕ) (found : Option OpenRequest)

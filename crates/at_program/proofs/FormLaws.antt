@@ -1,11 +1,12 @@
 -- Words of one command have no other command's form.
-use Rattle.std.proofs.Common.{◌≡◌, List, [], ◌∷◌, Bool, true, false, cond, Option, Some, None, codes, refl, subst, sym}
+use Rattle.std.proofs.Common.{◌≡◌, List, [], ◌∷◌, Bool, true, false, cond, Some, None, codes, refl, subst, sym}
 use Rattle.std.specs.Prelude.{bytes_eq}
 use Rattle.std.proofs.lemmas.Slice.Eq.{bytes_eq-Decides}
 use Rattle.at_report.specs.Lines.{Word}
 use Rattle.at_commands.specs.Unread.{make_of}
 use Rattle.at_loading.specs.Words.{Delivering, Form, Replaying, Verifying, deliver_of, form_of, replay_of, verify_of}
 use Rattle.at_commands.specs.declared.unread.Making.{Making}
+use Rattle.at_commands.proofs.Laws.UnreadWords.{first-make_of}
 
 -- words that ask `verify` for something begin with its name
 first-verify_of : (word book report : Word) (payments : List Word) (asked : Verifying) → verify_of (word ∷ book ∷ report ∷ payments) ≡ Some asked
@@ -87,14 +88,6 @@ deliver_of-replay_of (word ∷ book ∷ []) asked other replays has = cc
 deliver_of-replay_of (word ∷ book ∷ schedule ∷ payments) asked other replays has =
     let named = subst (λ (w : Word). deliver_of (w ∷ book ∷ schedule ∷ payments) ≡ Some other) (first-replay_of word book schedule payments asked replays) has in
     cc
-
--- words that ask `make` for numbers begin with its name
-first-make_of : (word first processes calls : Word) (m : Making) → make_of (word ∷ first ∷ processes ∷ calls ∷ []) ≡ Some m → word ≡ codes "make"
-first-make_of word first processes calls m is = by (bytes_eq word (codes "make")) refl _ is
-  where
-    by : (b : Bool) → bytes_eq word (codes "make") ≡ b → (other : Option Making) → cond b other None ≡ Some m → word ≡ codes "make"
-    by true same other is = (bytes_eq-Decides word (codes "make")).0 same
-    by false same other is = absurd (cc)
 
 -- the words have no form of a command that reads files
 pub record ReadNothing (words : List Word) : Type 0 where

@@ -1,9 +1,8 @@
--- Words of `make` and of `agree` begin with the command's name.
-use Rattle.std.proofs.Common.{◌≡◌, ℕ, length, List, [], ◌∷◌, Bool, true, false, cond, Option, Some, None, codes, refl, subst, sym}
-use Rattle.std.specs.Prelude.{bytes_eq, nat_le, ◌&&◌}
+-- Words of `make` begin with the command's name, and are none of `agree`.
+use Rattle.std.proofs.Common.{◌≡◌, List, [], ◌∷◌, Bool, true, false, cond, Option, Some, None, codes, refl, subst, sym}
+use Rattle.std.specs.Prelude.{bytes_eq}
 use Rattle.std.proofs.lemmas.Slice.Eq.{bytes_eq-Decides}
 use Rattle.at_report.specs.Lines.{Word}
-use Rattle.at_commands.specs.Limits.{least_values, most_values}
 use Rattle.at_commands.specs.Unread.{agree_of, make_of}
 use Rattle.at_commands.specs.declared.unread.Making.{Making}
 
@@ -13,13 +12,6 @@ first-make_of word first processes calls m is = by (bytes_eq word (codes "make")
     by : (b : Bool) → bytes_eq word (codes "make") ≡ b → (other : Option Making) → cond b other None ≡ Some m → word ≡ codes "make"
     by true same other is = (bytes_eq-Decides word (codes "make")).0 same
     by false same other is = absurd (cc)
-
-pub first-agree_of : (word : Word) (rest : List Word) (values : List ℕ) → agree_of (word ∷ rest) ≡ Some values → word ≡ codes "agree"
-first-agree_of word rest values is = by (bytes_eq word (codes "agree")) (nat_le least_values (length rest) && nat_le (length rest) most_values) refl _ is
-  where
-    by : (b few : Bool) → bytes_eq word (codes "agree") ≡ b → (other : Option (List ℕ)) → cond (b && few) other None ≡ Some values → word ≡ codes "agree"
-    by true few same other is = (bytes_eq-Decides word (codes "agree")).0 same
-    by false few same other is = absurd (cc)
 
 -- words of `make` are none of `agree`
 pub agree_of-make_of : (words : List Word) (m : Making) → make_of words ≡ Some m → agree_of words ≡ None
