@@ -2,7 +2,7 @@
 //! one hands the other what it has seen, and the journal of the closed ledger is printed.
 #![tactic(auto)]
 
-ghost use Rattle.std.specs.Prelude.{◌≡◌, ◌^◌, ◌<◌, length, All, IfOk};
+ghost use Rattle.std.specs.Prelude.{◌≡◌, ◌^◌, ◌<◌, [], ◌∷◌, length, map, All, IfOk};
 ghost use Rattle.at_object.specs.Closings.{IsAccountedFor};
 ghost use Rattle.at_object.specs.Passes.{IsNewPass};
 
@@ -75,14 +75,25 @@ fn closed_after<L: ledger::Ledger, X: ledger::Ledger>(
     let mut one = passes.pop().unwrap();
     let mut zero = passes.pop().unwrap();
     let (first, second) = deal(&ledger, &mut zero, &mut one, steps, exchanges);
+    let receipts = listed(alloc, first, second)?;
     let passes = Vec::from_array(alloc, [zero, one])?;
-    let first = Vec::from_array(alloc, first)?;
-    let second = Vec::from_array(alloc, second)?;
-    let receipts = Vec::from_array(alloc, [first, second])?;
     match ledger.close(alloc, passes, receipts) {
         Ok(closed) => Ok(closed),
         Err(_refused) => Err(AllocError),
     }
+}
+
+/// The receipts of each process, in process order.
+fn listed(
+    alloc: Global,
+    first: [Receipt; 3],
+    second: [Receipt; 3],
+) -> Result<Vec<Vec<Receipt>>, AllocError>
+    ensures { IfOk result (λ lists. map (λ list. list.items) lists.items ≡ first ∷ second ∷ []) }
+{
+    let first = Vec::from_array(alloc, first)?;
+    let second = Vec::from_array(alloc, second)?;
+    Ok(Vec::from_array(alloc, [first, second])?)
 }
 
 /// Prints a call.
@@ -113,6 +124,18 @@ fn print_line(rt: &impl Print, line: &Line) -> io::Result<()> {
     }
 }
 
+/// Prints the journal of the closed ledger, and the total of its book.
+fn print_journal(rt: &impl Print, alloc: Global, closed: &Closed) -> anyhow::Result<()>
+    requires few { All (λ receipts. length receipts < 2 ^ 32) closed.now.closing.receipts }
+{
+    for line in &journal(alloc, closed.book(), closed.closing())? {
+        print_line(rt, line)?;
+    }
+    let total = State::new(alloc, closed.book())?.total();
+    println!(rt; "total {total}")?;
+    Ok(())
+}
+
 fn main(rt: HostRuntime) -> anyhow::Result<()> {
     let alloc = rt.alloc();
     let book = book_of_four(alloc)?;
@@ -120,9 +143,5 @@ fn main(rt: HostRuntime) -> anyhow::Result<()> {
         return Ok(());
     }
     let closed = closed_after::<Brand, Brand>(alloc, &book, Blank::new(1), Blank::new(1))?;
-    for line in &journal(alloc, closed.book(), closed.closing())? {
-        print_line(&rt, line)?;
-    }
-    println!(rt; "total {}", State::new(alloc, closed.book())?.total())?;
-    Ok(())
+    print_journal(&rt, alloc, &closed)
 }
