@@ -1,9 +1,9 @@
 -- Words of one command have no other command's form.
-use Rattle.std.proofs.Common.{◌≡◌, List, [], ◌∷◌, Bool, true, false, cond, Some, None, codes, refl, subst, sym}
+use Rattle.std.proofs.Common.{◌≡◌, ◌&&◌, ℕ, List, [], ◌∷◌, Bool, true, false, cond, Option, Some, None, codes, refl, subst, sym}
 use Rattle.std.specs.Prelude.{bytes_eq}
 use Rattle.std.proofs.lemmas.Slice.Eq.{bytes_eq-Decides}
 use Rattle.at_report.specs.Lines.{Word}
-use Rattle.at_commands.specs.Unread.{make_of}
+use Rattle.at_commands.specs.Unread.{agree_of, make_of}
 use Rattle.at_loading.specs.Words.{Delivering, Form, Replaying, Verifying, deliver_of, form_of, replay_of, verify_of}
 use Rattle.at_commands.specs.declared.unread.Making.{Making}
 use Rattle.at_commands.proofs.Laws.UnreadWords.{first-make_of}
@@ -106,3 +106,22 @@ ReadNothing-make_of (word ∷ first ∷ processes ∷ calls ∷ []) m makes =
     subst (λ (w : Word). ReadNothing (w ∷ first ∷ processes ∷ calls ∷ [])) (sym (first-make_of word first processes calls m makes))
     (record { forms_none = refl; verifies_none = refl; delivers_none = refl; replays_none = refl })
 ReadNothing-make_of (word ∷ first ∷ processes ∷ calls ∷ other ∷ others) m makes = absurd (cc)
+
+-- the first word of `agree` is its name
+first-agree_of : (word : Word) (others : List Word) (values : List ℕ) → agree_of (word ∷ others) ≡ Some values → word ≡ codes "agree"
+first-agree_of word others values is = by (bytes_eq word (codes "agree")) refl _ _ is
+  where
+    by : (b : Bool) → bytes_eq word (codes "agree") ≡ b → (rest : Bool) → (other : Option (List ℕ)) → cond (b && rest) other None ≡ Some values → word ≡ codes "agree"
+    by true same rest other is = (bytes_eq-Decides word (codes "agree")).0 same
+    by false same rest other is = absurd (cc)
+
+-- words of `agree` have no form of a command that reads files
+pub ReadNothing-agree_of : (words : List Word) (values : List ℕ) → agree_of words ≡ Some values → ReadNothing words
+ReadNothing-agree_of [] values agrees = absurd (cc)
+ReadNothing-agree_of (word ∷ others) values agrees =
+    subst (λ (w : Word). ReadNothing (w ∷ others)) (sym (first-agree_of word others values agrees)) (named others)
+  where
+    named : (others : List Word) → ReadNothing (codes "agree" ∷ others)
+    named [] = record { forms_none = refl; verifies_none = refl; delivers_none = refl; replays_none = refl }
+    named (a ∷ []) = record { forms_none = refl; verifies_none = refl; delivers_none = refl; replays_none = refl }
+    named (a ∷ b ∷ more) = record { forms_none = refl; verifies_none = refl; delivers_none = refl; replays_none = refl }

@@ -1,2 +1,4 @@
-pub mod ReplayingLaws
+pub mod AskedLaws
+pub mod ExactLaws
 pub mod FormLaws
+pub mod ReplayingLaws

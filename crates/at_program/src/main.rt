@@ -11,6 +11,7 @@
 
 ghost use Rattle.std.specs.Prelude.{◌≢◌, IfErr};
 
+mod asked;
 mod replaying;
 mod serving;
 #[cfg(test)]

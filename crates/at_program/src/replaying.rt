@@ -10,8 +10,9 @@ ghost use Rattle.at_loading.specs.Loading.{loaded_shown};
 ghost use Rattle.at_program.specs.Replaying.{MayReachReplay, Replay, ReplaysSpelled, ReportsReplay, SpellsSchedule, TookReplayed, TookReplayedPrefix, replay_loaded, schedule_loaded};
 ghost use Rattle.at_loading.specs.Words.{replaying_shown};
 
+use at_commands::write_text;
 use at_files::{ReadScheduleFault, read_schedule};
-use at_io::{Shelf, Sink, put_all};
+use at_io::{Shelf, Sink};
 use at_ledger::Call;
 use at_loading::{Loaded, ReplayPayments, Replaying, fetch_file, load_all};
 use at_report::{Status, UsageFault, report};
@@ -151,8 +152,5 @@ pub fn answer_replay<F: Shelf, O: Sink>(
         Ok(text) => text,
         Err(refusal) => return refusal,
     };
-    match put_all(out, text.as_slice()) {
-        Ok(()) => Status::Done,
-        Err(_) => Status::WriteFault,
-    }
+    write_text(out, text.as_slice())
 }

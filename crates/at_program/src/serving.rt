@@ -15,12 +15,15 @@ ghost use Rattle.at_io.specs.Sink.{TakesPrefix};
 ghost use Rattle.at_loading.specs.Faults.{Answers, HasFileNumbers, HasFurtherNumbers, IsFaultless, Kind, MayRefuse, MayRefuseOf};
 ghost use Rattle.at_loading.specs.Loading.{Loaded, MayReach, Spelled, loaded};
 ghost use Rattle.at_loading.specs.Words.{AskToDeliver, AskToReplay, AskToVerify, Delivering, Form, HaveForm, Replaying, Verifying, deliver_of, form_of, replay_of, verify_of, words_of};
+ghost use Rattle.at_report.specs.Lines.{Word};
+ghost use Rattle.at_program.specs.Answered.{Answered};
+ghost use Rattle.at_program.specs.Asked.{Wanted, asked_shown};
 ghost use Rattle.at_program.specs.Replaying.{MayReachReplay, Replay, SpellsReplay, TookReplayed, TookReplayedPrefix, replay_loaded};
 
+use crate::asked::{Asked, asked_by};
 use crate::replaying::answer_replay;
 use at_commands::{answer_deliver, answer_files, answer_unread, answer_verify, tell};
 use at_io::{Shelf, Sink};
-use at_loading::{form_of, what_to_deliver, what_to_replay, what_to_verify};
 use at_object::Closed;
 use at_report::{Status, UsageFault};
 use at_workers::Gate;
@@ -38,6 +41,52 @@ fn tell_unless_done<E: Sink>(err: &mut E, status: &Status)
 {
     if *status != Status::Done {
         tell(err, status);
+    }
+}
+
+/// Does what was asked, and tells nobody of a refusal.
+fn answer<R: Threads + Sync, F: Shelf, O: Sink, G: Gate + Sync>(
+    rt: &R,
+    alloc: Global,
+    asked: &Asked<'_>,
+    shelf: &mut F,
+    out: &mut O,
+    gate: &G,
+    kept: &mut Option<Closed>,
+) -> Status
+    requires { kept.old ≡ None }
+    ensures files { SameFiles (F.tells shelf.old) (F.tells shelf.new) (F.file shelf.old)
+        (F.file shelf.new) }
+    ensures later { (F.faults shelf.old ≤ F.faults shelf.new)
+        × (O.faults out.old ≤ O.faults out.new) }
+    ensures as_told { O.tells out.new ≡ O.tells out.old }
+    ensures unread { (words : List Word) → asked_shown asked.now ≡ Wanted.Unread words
+        → shelf.new ≡ shelf.old }
+    ensures done_kept { result ≡ Status.Done
+        → (F.faults shelf.new ≡ F.faults shelf.old) × (O.faults out.new ≡ O.faults out.old) }
+    ensures write_fault { result ≡ Status.WriteFault
+        → Rose (O.faults out.old) (O.faults out.new) × (F.faults shelf.new ≡ F.faults shelf.old) }
+    ensures untouched { result ≢ Status.Done → result ≢ Status.WriteFault
+        → (out.new ≡ out.old) × (kept.new ≡ None) }
+    ensures answered { Answered (asked_shown asked.now)
+        (record {
+          tells = F.tells shelf.old;
+          files = F.file shelf.old;
+          faults = F.faults shelf.old;
+          faults_now = F.faults shelf.new;
+          out_tells = O.tells out.old;
+          before = O.taken out.old;
+          after = O.taken out.new;
+          kept = kept.new;
+          answer = result;
+        }) }
+{
+    match asked {
+        Asked::Files(form) => answer_files(rt, alloc, shelf, out, form, gate, kept),
+        Asked::Verify(asked) => answer_verify(alloc, shelf, out, asked),
+        Asked::Deliver(asked) => answer_deliver(alloc, shelf, out, asked),
+        Asked::Replay(asked) => answer_replay(alloc, shelf, out, asked),
+        Asked::Unread(words) => answer_unread(rt, alloc, words, out, gate, kept),
     }
 }
 
@@ -267,17 +316,8 @@ pub fn serve<R: Threads + Sync, F: Shelf, O: Sink, E: Sink, G: Gate + Sync>(
         → TookLine result (E.faults err.old) (E.faults err.new) (E.taken err.old)
         (E.taken err.new) }
 {
-    let status = if let Some(form) = form_of(words) {
-        answer_files(rt, alloc, shelf, out, &form, gate, kept)
-    } else if let Some(asked) = what_to_verify(words) {
-        answer_verify(alloc, shelf, out, &asked)
-    } else if let Some(asked) = what_to_deliver(words) {
-        answer_deliver(alloc, shelf, out, &asked)
-    } else if let Some(asked) = what_to_replay(words) {
-        answer_replay(alloc, shelf, out, &asked)
-    } else {
-        answer_unread(rt, alloc, words, out, gate, kept)
-    };
+    let asked = asked_by(words);
+    let status = answer(rt, alloc, &asked, shelf, out, gate, kept);
     tell_unless_done(err, &status);
     status
 }

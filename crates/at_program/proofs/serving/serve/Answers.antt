@@ -1,182 +1,209 @@
-use Rattle.std.proofs.Common.{◌≡◌, ◌∙◌, ap, sym, List, length, String, string_bytes}
-use Rattle.std.proofs.lemmas.List.{length-map}
-use Rattle.std.specs.Global.{Global}
-use Rattle.at_loading.specs.Words.{Replaying, delivering_shown, form_shown, replaying_shown, verifying_shown, words_of}
-use Rattle.at_commands.specs.Delivering.{broadcast}
-use Rattle.at_program.specs.Replaying.{replay_loaded}
+use Rattle.std.proofs.Common.{◌∙◌}
 use Rattle.at_loading.specs.Faults.Kind.{messages, payments, scheduled}
 use Rattle.at_loading.specs.Loading.{loaded}
-use Rattle.at_commands.specs.Claims.{claimed}
-use Rattle.at_commands.proofs.Laws.Claims.{MayRefuseClaim-right, claimed-SpellsClaim}
-use Rattle.at_commands.proofs.Laws.Deliveries.{broadcast-SpellsBroadcast}
-use Rattle.at_program.proofs.FormLaws.{deliver_of-replay_of, form_of-deliver_of, form_of-replay_of, form_of-verify_of, verify_of-deliver_of, verify_of-replay_of, ReadNothing-make_of}
+use Rattle.at_loading.specs.Words.{words_of}
 use Rattle.at_loading.proofs.Laws.MayRefuse.{MayRefuse-loaded}
-use Rattle.at_program.proofs.ReplayingLaws.{replay_loaded-SpellsReplay}
 use Rattle.at_loading.proofs.Laws.SpelledLoaded.{loaded-Spelled}
+use Rattle.at_commands.specs.Claims.{claimed}
+use Rattle.at_commands.specs.Delivering.{broadcast}
+use Rattle.at_commands.proofs.Laws.Claims.{AnswersVerify-exact, MayRefuseClaim-right, claimed-SpellsClaim}
+use Rattle.at_commands.proofs.Laws.Deliveries.{broadcast-SpellsBroadcast}
+use Rattle.at_program.specs.Replaying.{replay_loaded}
+use Rattle.at_program.proofs.AskedLaws.{Answered-agree_of, Answered-deliver_of, Answered-form_of, Answered-formless, Answered-make_of, Answered-no_ledger, Answered-replay_of, Answered-verify_of, wanted_in-agree_of, wanted_in-formless, wanted_in-make_of}
+use Rattle.at_program.proofs.ExactLaws.{MayRefuse-exact}
+use Rattle.at_program.proofs.ReplayingLaws.{replay_loaded-SpellsReplay}
 use Rattle.at_program.proofs.serving.serve.Goals as goal
-use Rattle.at_program.proofs.serving.serve.Goals.{in-Some, in_default+in-Some-what_to_verify, in_default+in_default-what_to_verify+in-Some-what_to_deliver, in_default+in_default-what_to_verify+in_default-what_to_deliver+in-Some-what_to_replay, in_default+in_default-what_to_verify+in_default-what_to_deliver+in_default-what_to_replay}
 
-pub returns-clause-reached : goal.returns-clause-reached
-returns-clause-reached g c form file asked is =
-    elim c.match-form_of.branch [
-      | in-Some w ↦
-          let same : form_shown w.in-Some.form ≡ form = cc (asked, w.in-Some.ensures) in
-          rw (← same) (w.answer_files-status.ensures.reached file (sym w.status-is ∙ is))
-      | in_default+in-Some-what_to_verify w ↦ cc (asked, w.in_default.ensures)
-      | in_default+in_default-what_to_verify+in-Some-what_to_deliver w ↦ cc (asked, w.in_default.ensures)
-      | in_default+in_default-what_to_verify+in_default-what_to_deliver+in-Some-what_to_replay w ↦ cc (asked, w.in_default.ensures)
-      | in_default+in_default-what_to_verify+in_default-what_to_deliver+in_default-what_to_replay w ↦ cc (asked, w.in_default.ensures)
-    ]
+pub returns-clause-files : goal.returns-clause-files
+returns-clause-files g c = c.answer-status.ensures.files
 
-pub returns-clause-complete : goal.returns-clause-complete
-returns-clause-complete g c form l asked told spelled shelf out =
-    elim c.match-form_of.branch [
-      | in-Some w ↦
-          let same : form_shown w.in-Some.form ≡ form = cc (asked, w.in-Some.ensures) in
-          let does = rw (← w.status-is) at w.answer_files-status.ensures in
-          MayRefuse-loaded payments _ (loaded (g.F.Shelf.file c.args.shelf.now) form) l _ _ _ _ c.match-form_of.status told (loaded-Spelled (g.F.Shelf.file c.args.shelf.now) form l spelled)
-          shelf out (λ failed. rw w.out-is (does.write_fault failed).0) (λ undone written. rw (w.shelf-is, ← same) (does.refusal undone written))
-      | in_default+in-Some-what_to_verify w ↦ cc (asked, w.in_default.ensures)
-      | in_default+in_default-what_to_verify+in-Some-what_to_deliver w ↦ cc (asked, w.in_default.ensures)
-      | in_default+in_default-what_to_verify+in_default-what_to_deliver+in-Some-what_to_replay w ↦ cc (asked, w.in_default.ensures)
-      | in_default+in_default-what_to_verify+in_default-what_to_deliver+in_default-what_to_replay w ↦ cc (asked, w.in_default.ensures)
-    ]
+pub returns-clause-later : goal.returns-clause-later
+returns-clause-later g c = (c.answer-status.ensures.later.0, c.answer-status.ensures.later.1, c.tell_unless_done.ensures.later)
 
-pub returns-clause-verify_complete : goal.returns-clause-verify_complete
-returns-clause-verify_complete g c wanted claim asked told spells right shelf out =
-    elim c.match-form_of.branch [
-      | in-Some w ↦ absurd (form_of-verify_of (words_of c.args.words.now) wanted (form_shown w.in-Some.form) asked (sym w.in-Some.ensures))
-      | in_default+in-Some-what_to_verify w ↦
-          let same : verifying_shown w.in-Some-what_to_verify.asked ≡ wanted = cc (asked, w.in-Some-what_to_verify.ensures) in
-          let does = rw (← w.status-is) at w.answer_verify.ensures in
-          MayRefuseClaim-right _ (claimed (g.F.Shelf.file c.args.shelf.now) wanted) claim _ _ _ _ c.match-form_of.status told
-          (claimed-SpellsClaim (g.F.Shelf.file c.args.shelf.now) wanted claim spells) right
-          shelf out (λ failed. rw w.out-is (does.write_fault failed).0) (λ undone written. rw (w.shelf-is, ← same) (does.refusal undone written))
-      | in_default+in_default-what_to_verify+in-Some-what_to_deliver w ↦ cc (asked, w.in_default-what_to_verify.ensures)
-      | in_default+in_default-what_to_verify+in_default-what_to_deliver+in-Some-what_to_replay w ↦ cc (asked, w.in_default-what_to_verify.ensures)
-      | in_default+in_default-what_to_verify+in_default-what_to_deliver+in_default-what_to_replay w ↦ cc (asked, w.in_default-what_to_verify.ensures)
-    ]
+pub returns-clause-as_told : goal.returns-clause-as_told
+returns-clause-as_told g c = (c.answer-status.ensures.as_told, c.tell_unless_done.ensures.as_told)
 
-pub returns-clause-deliver_complete : goal.returns-clause-deliver_complete
-returns-clause-deliver_complete g c wanted sent asked told spells shelf out =
-    elim c.match-form_of.branch [
-      | in-Some w ↦ absurd (form_of-deliver_of (words_of c.args.words.now) wanted (form_shown w.in-Some.form) asked (sym w.in-Some.ensures))
-      | in_default+in-Some-what_to_verify w ↦
-          absurd (verify_of-deliver_of (words_of c.args.words.now) wanted (verifying_shown w.in-Some-what_to_verify.asked) asked (sym w.in-Some-what_to_verify.ensures))
-      | in_default+in_default-what_to_verify+in-Some-what_to_deliver w ↦
-          let same : delivering_shown w.in-Some-what_to_deliver.asked ≡ wanted = cc (asked, w.in-Some-what_to_deliver.ensures) in
-          let does = rw (← w.status-is) at w.answer_deliver.ensures in
-          MayRefuse-loaded messages _ (broadcast (g.F.Shelf.file c.args.shelf.now) wanted) sent _ _ _ _ c.match-form_of.status told
-          (broadcast-SpellsBroadcast (g.F.Shelf.file c.args.shelf.now) wanted sent spells)
-          shelf out (λ failed. rw w.out-is (does.write_fault failed).0) (λ undone written. rw (w.shelf-is, ← same) (does.refusal undone written))
-      | in_default+in_default-what_to_verify+in_default-what_to_deliver+in-Some-what_to_replay w ↦ cc (asked, w.in_default-what_to_deliver.ensures)
-      | in_default+in_default-what_to_verify+in_default-what_to_deliver+in_default-what_to_replay w ↦ cc (asked, w.in_default-what_to_deliver.ensures)
-    ]
+pub returns-clause-words : goal.returns-clause-words
+returns-clause-words g c = Answered-formless (words_of c.args.words.now) c.asked_by-asked.ensures c.answer-status.ensures.answered
 
-pub returns-clause-replay_complete : goal.returns-clause-replay_complete
-returns-clause-replay_complete g c wanted replay asked told spells shelf out =
-    elim c.match-form_of.branch [
-      | in-Some w ↦ absurd (form_of-replay_of (words_of c.args.words.now) wanted (form_shown w.in-Some.form) asked (sym w.in-Some.ensures))
-      | in_default+in-Some-what_to_verify w ↦
-          absurd (verify_of-replay_of (words_of c.args.words.now) wanted (verifying_shown w.in-Some-what_to_verify.asked) asked (sym w.in-Some-what_to_verify.ensures))
-      | in_default+in_default-what_to_verify+in-Some-what_to_deliver w ↦
-          absurd (deliver_of-replay_of (words_of c.args.words.now) wanted (delivering_shown w.in-Some-what_to_deliver.asked) asked (sym w.in-Some-what_to_deliver.ensures))
-      | in_default+in_default-what_to_verify+in_default-what_to_deliver+in-Some-what_to_replay w ↦
-          let same : replaying_shown w.in-Some-what_to_replay.asked ≡ wanted = cc (asked, w.in-Some-what_to_replay.ensures) in
-          let does = rw (← w.status-is) at w.answer_replay.ensures in
-          MayRefuse-loaded scheduled _ (replay_loaded (g.F.Shelf.file c.args.shelf.now) wanted) replay _ _ _ _ c.match-form_of.status told
-          (replay_loaded-SpellsReplay (g.F.Shelf.file c.args.shelf.now) wanted replay spells)
-          shelf out (λ failed. rw w.out-is (does.write_fault failed).0) (λ undone written. rw (w.shelf-is, ← same) (does.refusal undone written))
-      | in_default+in_default-what_to_verify+in_default-what_to_deliver+in_default-what_to_replay w ↦ cc (asked, w.in_default-what_to_replay.ensures)
-    ]
+pub returns-clause-unread : goal.returns-clause-unread
+returns-clause-unread g c refused = c.answer-status.ensures.unread (words_of c.args.words.now) (wanted_in-formless (words_of c.args.words.now) c.asked_by-asked.ensures c.answer-status.ensures.answered refused)
 
-pub returns-clause-replay_kept : goal.returns-clause-replay_kept
-returns-clause-replay_kept g c wanted asked =
-    elim c.match-form_of.branch [
-      | in-Some w ↦ absurd (form_of-replay_of (words_of c.args.words.now) wanted (form_shown w.in-Some.form) asked (sym w.in-Some.ensures))
-      | in_default+in-Some-what_to_verify w ↦ w.kept-is ∙ c.requires
-      | in_default+in_default-what_to_verify+in-Some-what_to_deliver w ↦ w.kept-is ∙ c.requires
-      | in_default+in_default-what_to_verify+in_default-what_to_deliver+in-Some-what_to_replay w ↦ w.kept-is ∙ c.requires
-      | in_default+in_default-what_to_verify+in_default-what_to_deliver+in_default-what_to_replay w ↦ cc (asked, w.in_default-what_to_replay.ensures)
-    ]
+pub returns-clause-done : goal.returns-clause-done
+returns-clause-done g c form is = (Answered-form_of (words_of c.args.words.now) form c.asked_by-asked.ensures is c.answer-status.ensures.answered).done
+
+pub returns-clause-loads : goal.returns-clause-loads
+returns-clause-loads g c form is = (Answered-form_of (words_of c.args.words.now) form c.asked_by-asked.ensures is c.answer-status.ensures.answered).loads
+
+pub returns-clause-ran_spelled : goal.returns-clause-ran_spelled
+returns-clause-ran_spelled g c form is = (Answered-form_of (words_of c.args.words.now) form c.asked_by-asked.ensures is c.answer-status.ensures.answered).ran_spelled
+
+pub returns-clause-ran : goal.returns-clause-ran
+returns-clause-ran g c form is = (Answered-form_of (words_of c.args.words.now) form c.asked_by-asked.ensures is c.answer-status.ensures.answered).ran
+
+pub returns-clause-done_kept : goal.returns-clause-done_kept
+returns-clause-done_kept g c = c.answer-status.ensures.done_kept
+
+pub returns-clause-kept_of_no_ledger : goal.returns-clause-kept_of_no_ledger
+returns-clause-kept_of_no_ledger g c none = Answered-no_ledger c.args.words.now c.asked_by-asked.ensures c.answer-status.ensures.answered (λ undone written. (c.answer-status.ensures.untouched undone written).1) none
+
+pub returns-clause-kept_of_refusal : goal.returns-clause-kept_of_refusal
+returns-clause-kept_of_refusal g c undone written = (c.answer-status.ensures.untouched undone written).1
+
+pub returns-clause-made : goal.returns-clause-made
+returns-clause-made g c m is = (Answered-make_of (words_of c.args.words.now) m c.asked_by-asked.ensures is c.answer-status.ensures.answered).done
 
 pub returns-clause-made_all : goal.returns-clause-made_all
-returns-clause-made_all g c m asked done =
-    let none = ReadNothing-make_of (words_of c.args.words.now) m asked in
-    elim c.match-form_of.branch [
-      | in-Some w ↦ cc (none.forms_none, w.in-Some.ensures)
-      | in_default+in-Some-what_to_verify w ↦ cc (none.verifies_none, w.in-Some-what_to_verify.ensures)
-      | in_default+in_default-what_to_verify+in-Some-what_to_deliver w ↦ cc (none.delivers_none, w.in-Some-what_to_deliver.ensures)
-      | in_default+in_default-what_to_verify+in_default-what_to_deliver+in-Some-what_to_replay w ↦ cc (none.replays_none, w.in-Some-what_to_replay.ensures)
-      | in_default+in_default-what_to_verify+in_default-what_to_deliver+in_default-what_to_replay w ↦ w.answer_unread.ensures.all m asked (sym w.status-is ∙ done)
-    ]
+returns-clause-made_all g c m is = (Answered-make_of (words_of c.args.words.now) m c.asked_by-asked.ensures is c.answer-status.ensures.answered).all
 
 pub returns-clause-made_ran : goal.returns-clause-made_ran
-returns-clause-made_ran g c m asked answered =
-    let none = ReadNothing-make_of (words_of c.args.words.now) m asked in
-    elim c.match-form_of.branch [
-      | in-Some w ↦ cc (none.forms_none, w.in-Some.ensures)
-      | in_default+in-Some-what_to_verify w ↦ cc (none.verifies_none, w.in-Some-what_to_verify.ensures)
-      | in_default+in_default-what_to_verify+in-Some-what_to_deliver w ↦ cc (none.delivers_none, w.in-Some-what_to_deliver.ensures)
-      | in_default+in_default-what_to_verify+in_default-what_to_deliver+in-Some-what_to_replay w ↦ cc (none.replays_none, w.in-Some-what_to_replay.ensures)
-      | in_default+in_default-what_to_verify+in_default-what_to_deliver+in_default-what_to_replay w ↦
-          let does = rw (← w.status-is) at w.answer_unread.ensures in rw w.kept-is (does.ran m asked answered)
-    ]
+returns-clause-made_ran g c m is = (Answered-make_of (words_of c.args.words.now) m c.asked_by-asked.ensures is c.answer-status.ensures.answered).ran
 
 pub returns-clause-made_prefix : goal.returns-clause-made_prefix
-returns-clause-made_prefix g c m asked failed told =
-    let none = ReadNothing-make_of (words_of c.args.words.now) m asked in
-    elim c.match-form_of.branch [
-      | in-Some w ↦ cc (none.forms_none, w.in-Some.ensures)
-      | in_default+in-Some-what_to_verify w ↦ cc (none.verifies_none, w.in-Some-what_to_verify.ensures)
-      | in_default+in_default-what_to_verify+in-Some-what_to_deliver w ↦ cc (none.delivers_none, w.in-Some-what_to_deliver.ensures)
-      | in_default+in_default-what_to_verify+in_default-what_to_deliver+in-Some-what_to_replay w ↦ cc (none.replays_none, w.in-Some-what_to_replay.ensures)
-      | in_default+in_default-what_to_verify+in_default-what_to_deliver+in_default-what_to_replay w ↦
-          let does = rw (← w.status-is) at w.answer_unread.ensures in rw w.out-is (does.prefix m asked failed told)
-    ]
+returns-clause-made_prefix g c m is = (Answered-make_of (words_of c.args.words.now) m c.asked_by-asked.ensures is c.answer-status.ensures.answered).prefix
+
+pub returns-clause-made_answers : goal.returns-clause-made_answers
+returns-clause-made_answers g c m is = (Answered-make_of (words_of c.args.words.now) m c.asked_by-asked.ensures is c.answer-status.ensures.answered).answers
+
+pub returns-clause-made_unread : goal.returns-clause-made_unread
+returns-clause-made_unread g c m is = c.answer-status.ensures.unread (words_of c.args.words.now) (c.asked_by-asked.ensures ∙ wanted_in-make_of (words_of c.args.words.now) m is)
+
+pub returns-clause-agree_done : goal.returns-clause-agree_done
+returns-clause-agree_done g c values is = (Answered-agree_of (words_of c.args.words.now) values c.asked_by-asked.ensures is c.answer-status.ensures.answered).done
+
+pub returns-clause-agree_prefix : goal.returns-clause-agree_prefix
+returns-clause-agree_prefix g c values is = (Answered-agree_of (words_of c.args.words.now) values c.asked_by-asked.ensures is c.answer-status.ensures.answered).prefix
+
+pub returns-clause-agree_ran : goal.returns-clause-agree_ran
+returns-clause-agree_ran g c values is = (Answered-agree_of (words_of c.args.words.now) values c.asked_by-asked.ensures is c.answer-status.ensures.answered).ran
+
+pub returns-clause-agree_answers : goal.returns-clause-agree_answers
+returns-clause-agree_answers g c values is = (Answered-agree_of (words_of c.args.words.now) values c.asked_by-asked.ensures is c.answer-status.ensures.answered).answers
+
+pub returns-clause-agree_unread : goal.returns-clause-agree_unread
+returns-clause-agree_unread g c values is = c.answer-status.ensures.unread (words_of c.args.words.now) (c.asked_by-asked.ensures ∙ wanted_in-agree_of (words_of c.args.words.now) values is)
+
+pub returns-clause-write_fault : goal.returns-clause-write_fault
+returns-clause-write_fault g c = c.answer-status.ensures.write_fault
+
+pub returns-clause-prefix : goal.returns-clause-prefix
+returns-clause-prefix g c form is = (Answered-form_of (words_of c.args.words.now) form c.asked_by-asked.ensures is c.answer-status.ensures.answered).prefix
+
+pub returns-clause-refusal : goal.returns-clause-refusal
+returns-clause-refusal g c form is = (Answered-form_of (words_of c.args.words.now) form c.asked_by-asked.ensures is c.answer-status.ensures.answered).refusal
+
+pub returns-clause-numbered : goal.returns-clause-numbered
+returns-clause-numbered g c form is = (Answered-form_of (words_of c.args.words.now) form c.asked_by-asked.ensures is c.answer-status.ensures.answered).numbered
+
+pub returns-clause-reached : goal.returns-clause-reached
+returns-clause-reached g c form file is = (Answered-form_of (words_of c.args.words.now) form c.asked_by-asked.ensures is c.answer-status.ensures.answered).reached file
+
+pub returns-clause-exact : goal.returns-clause-exact
+returns-clause-exact g c form is told faultless =
+    let left = (Answered-form_of (words_of c.args.words.now) form c.asked_by-asked.ensures is c.answer-status.ensures.answered) in
+    MayRefuse-exact payments _ (loaded (g.F.Shelf.file c.args.shelf.now) form) _ _ _ told faultless left.loads left.refusal
+
+pub returns-clause-untouched : goal.returns-clause-untouched
+returns-clause-untouched g c undone written = (c.answer-status.ensures.untouched undone written).0
+
+pub returns-clause-complete : goal.returns-clause-complete
+returns-clause-complete g c form l is told spelled shelf out =
+    let left = (Answered-form_of (words_of c.args.words.now) form c.asked_by-asked.ensures is c.answer-status.ensures.answered) in
+    MayRefuse-loaded payments _ (loaded (g.F.Shelf.file c.args.shelf.now) form) l _ _ _ _ _ told (loaded-Spelled (g.F.Shelf.file c.args.shelf.now) form l spelled)
+    shelf out (λ failed. (c.answer-status.ensures.write_fault failed).0) left.refusal
+
+pub returns-clause-verify_sound : goal.returns-clause-verify_sound
+returns-clause-verify_sound g c asked is = (Answered-verify_of (words_of c.args.words.now) asked c.asked_by-asked.ensures is c.answer-status.ensures.answered).done
+
+pub returns-clause-verify_right : goal.returns-clause-verify_right
+returns-clause-verify_right g c asked is = (Answered-verify_of (words_of c.args.words.now) asked c.asked_by-asked.ensures is c.answer-status.ensures.answered).right
+
+pub returns-clause-verify_prefix : goal.returns-clause-verify_prefix
+returns-clause-verify_prefix g c asked is = (Answered-verify_of (words_of c.args.words.now) asked c.asked_by-asked.ensures is c.answer-status.ensures.answered).prefix
+
+pub returns-clause-verify_complete : goal.returns-clause-verify_complete
+returns-clause-verify_complete g c asked claim is told spells right shelf out =
+    let left = (Answered-verify_of (words_of c.args.words.now) asked c.asked_by-asked.ensures is c.answer-status.ensures.answered) in
+    MayRefuseClaim-right _ (claimed (g.F.Shelf.file c.args.shelf.now) asked) claim _ _ _ _ _ told
+    (claimed-SpellsClaim (g.F.Shelf.file c.args.shelf.now) asked claim spells) right shelf out (λ failed. (c.answer-status.ensures.write_fault failed).0) left.refusal
+
+pub returns-clause-verify_refusal : goal.returns-clause-verify_refusal
+returns-clause-verify_refusal g c asked is = (Answered-verify_of (words_of c.args.words.now) asked c.asked_by-asked.ensures is c.answer-status.ensures.answered).refusal
+
+pub returns-clause-verify_reached : goal.returns-clause-verify_reached
+returns-clause-verify_reached g c asked file is = (Answered-verify_of (words_of c.args.words.now) asked c.asked_by-asked.ensures is c.answer-status.ensures.answered).reached file
+
+pub returns-clause-verify_numbered : goal.returns-clause-verify_numbered
+returns-clause-verify_numbered g c asked is = (Answered-verify_of (words_of c.args.words.now) asked c.asked_by-asked.ensures is c.answer-status.ensures.answered).numbered
+
+pub returns-clause-verify_exact : goal.returns-clause-verify_exact
+returns-clause-verify_exact g c asked is told faultless =
+    let left = (Answered-verify_of (words_of c.args.words.now) asked c.asked_by-asked.ensures is c.answer-status.ensures.answered) in
+    AnswersVerify-exact _ (claimed (g.F.Shelf.file c.args.shelf.now) asked) _ _ _ told faultless left.refusal (left.right told)
+
+pub returns-clause-deliver_done : goal.returns-clause-deliver_done
+returns-clause-deliver_done g c asked is = (Answered-deliver_of (words_of c.args.words.now) asked c.asked_by-asked.ensures is c.answer-status.ensures.answered).done
 
 pub returns-clause-deliver_prefix : goal.returns-clause-deliver_prefix
-returns-clause-deliver_prefix g c wanted asked failed files_told told =
-    elim c.match-form_of.branch [
-      | in-Some w ↦ absurd (form_of-deliver_of (words_of c.args.words.now) wanted (form_shown w.in-Some.form) asked (sym w.in-Some.ensures))
-      | in_default+in-Some-what_to_verify w ↦
-          absurd (verify_of-deliver_of (words_of c.args.words.now) wanted (verifying_shown w.in-Some-what_to_verify.asked) asked (sym w.in-Some-what_to_verify.ensures))
-      | in_default+in_default-what_to_verify+in-Some-what_to_deliver w ↦
-          let same : delivering_shown w.in-Some-what_to_deliver.asked ≡ wanted = cc (asked, w.in-Some-what_to_deliver.ensures) in
-          let does = rw (← w.status-is) at w.answer_deliver.ensures in
-          rw (w.out-is, ← same) (does.prefix failed files_told told)
-      | in_default+in_default-what_to_verify+in_default-what_to_deliver+in-Some-what_to_replay w ↦ cc (asked, w.in_default-what_to_deliver.ensures)
-      | in_default+in_default-what_to_verify+in_default-what_to_deliver+in_default-what_to_replay w ↦ cc (asked, w.in_default-what_to_deliver.ensures)
-    ]
+returns-clause-deliver_prefix g c asked is = (Answered-deliver_of (words_of c.args.words.now) asked c.asked_by-asked.ensures is c.answer-status.ensures.answered).prefix
+
+pub returns-clause-deliver_loads : goal.returns-clause-deliver_loads
+returns-clause-deliver_loads g c asked is = (Answered-deliver_of (words_of c.args.words.now) asked c.asked_by-asked.ensures is c.answer-status.ensures.answered).loads
+
+pub returns-clause-deliver_complete : goal.returns-clause-deliver_complete
+returns-clause-deliver_complete g c asked what is told spells shelf out =
+    let left = (Answered-deliver_of (words_of c.args.words.now) asked c.asked_by-asked.ensures is c.answer-status.ensures.answered) in
+    MayRefuse-loaded messages _ (broadcast (g.F.Shelf.file c.args.shelf.now) asked) what _ _ _ _ _ told (broadcast-SpellsBroadcast (g.F.Shelf.file c.args.shelf.now) asked what spells)
+    shelf out (λ failed. (c.answer-status.ensures.write_fault failed).0) left.refusal
+
+pub returns-clause-deliver_refusal : goal.returns-clause-deliver_refusal
+returns-clause-deliver_refusal g c asked is = (Answered-deliver_of (words_of c.args.words.now) asked c.asked_by-asked.ensures is c.answer-status.ensures.answered).refusal
+
+pub returns-clause-deliver_reached : goal.returns-clause-deliver_reached
+returns-clause-deliver_reached g c asked file is = (Answered-deliver_of (words_of c.args.words.now) asked c.asked_by-asked.ensures is c.answer-status.ensures.answered).reached file
+
+pub returns-clause-deliver_numbered : goal.returns-clause-deliver_numbered
+returns-clause-deliver_numbered g c asked is = (Answered-deliver_of (words_of c.args.words.now) asked c.asked_by-asked.ensures is c.answer-status.ensures.answered).numbered
+
+pub returns-clause-deliver_exact : goal.returns-clause-deliver_exact
+returns-clause-deliver_exact g c asked is told faultless =
+    let left = (Answered-deliver_of (words_of c.args.words.now) asked c.asked_by-asked.ensures is c.answer-status.ensures.answered) in
+    MayRefuse-exact messages _ (broadcast (g.F.Shelf.file c.args.shelf.now) asked) _ _ _ told faultless left.loads left.refusal
+
+pub returns-clause-replay_done : goal.returns-clause-replay_done
+returns-clause-replay_done g c asked is = (Answered-replay_of (words_of c.args.words.now) asked c.asked_by-asked.ensures is c.answer-status.ensures.answered).done
 
 pub returns-clause-replay_prefix : goal.returns-clause-replay_prefix
-returns-clause-replay_prefix g c wanted asked failed files_told told =
-    elim c.match-form_of.branch [
-      | in-Some w ↦ absurd (form_of-replay_of (words_of c.args.words.now) wanted (form_shown w.in-Some.form) asked (sym w.in-Some.ensures))
-      | in_default+in-Some-what_to_verify w ↦
-          absurd (verify_of-replay_of (words_of c.args.words.now) wanted (verifying_shown w.in-Some-what_to_verify.asked) asked (sym w.in-Some-what_to_verify.ensures))
-      | in_default+in_default-what_to_verify+in-Some-what_to_deliver w ↦
-          absurd (deliver_of-replay_of (words_of c.args.words.now) wanted (delivering_shown w.in-Some-what_to_deliver.asked) asked (sym w.in-Some-what_to_deliver.ensures))
-      | in_default+in_default-what_to_verify+in_default-what_to_deliver+in-Some-what_to_replay w ↦
-          let same : replaying_shown w.in-Some-what_to_replay.asked ≡ wanted = cc (asked, w.in-Some-what_to_replay.ensures) in
-          let does = rw (← w.status-is) at w.answer_replay.ensures in
-          rw (w.out-is, ← same) (does.prefix failed files_told told)
-      | in_default+in_default-what_to_verify+in_default-what_to_deliver+in_default-what_to_replay w ↦ cc (asked, w.in_default-what_to_replay.ensures)
-    ]
+returns-clause-replay_prefix g c asked is = (Answered-replay_of (words_of c.args.words.now) asked c.asked_by-asked.ensures is c.answer-status.ensures.answered).prefix
+
+pub returns-clause-replay_loads : goal.returns-clause-replay_loads
+returns-clause-replay_loads g c asked is = (Answered-replay_of (words_of c.args.words.now) asked c.asked_by-asked.ensures is c.answer-status.ensures.answered).loads
+
+pub returns-clause-replay_kept : goal.returns-clause-replay_kept
+returns-clause-replay_kept g c asked is = (Answered-replay_of (words_of c.args.words.now) asked c.asked_by-asked.ensures is c.answer-status.ensures.answered).none
+
+pub returns-clause-replay_complete : goal.returns-clause-replay_complete
+returns-clause-replay_complete g c asked what is told spells shelf out =
+    let left = (Answered-replay_of (words_of c.args.words.now) asked c.asked_by-asked.ensures is c.answer-status.ensures.answered) in
+    MayRefuse-loaded scheduled _ (replay_loaded (g.F.Shelf.file c.args.shelf.now) asked) what _ _ _ _ _ told (replay_loaded-SpellsReplay (g.F.Shelf.file c.args.shelf.now) asked what spells)
+    shelf out (λ failed. (c.answer-status.ensures.write_fault failed).0) left.refusal
+
+pub returns-clause-replay_refusal : goal.returns-clause-replay_refusal
+returns-clause-replay_refusal g c asked is = (Answered-replay_of (words_of c.args.words.now) asked c.asked_by-asked.ensures is c.answer-status.ensures.answered).refusal
+
+pub returns-clause-replay_reached : goal.returns-clause-replay_reached
+returns-clause-replay_reached g c asked file is = (Answered-replay_of (words_of c.args.words.now) asked c.asked_by-asked.ensures is c.answer-status.ensures.answered).reached file
 
 pub returns-clause-replay_numbered : goal.returns-clause-replay_numbered
-returns-clause-replay_numbered g c wanted asked =
-    elim c.match-form_of.branch [
-      | in-Some w ↦ absurd (form_of-replay_of (words_of c.args.words.now) wanted (form_shown w.in-Some.form) asked (sym w.in-Some.ensures))
-      | in_default+in-Some-what_to_verify w ↦
-          absurd (verify_of-replay_of (words_of c.args.words.now) wanted (verifying_shown w.in-Some-what_to_verify.asked) asked (sym w.in-Some-what_to_verify.ensures))
-      | in_default+in_default-what_to_verify+in-Some-what_to_deliver w ↦
-          absurd (deliver_of-replay_of (words_of c.args.words.now) wanted (delivering_shown w.in-Some-what_to_deliver.asked) asked (sym w.in-Some-what_to_deliver.ensures))
-      | in_default+in_default-what_to_verify+in_default-what_to_deliver+in-Some-what_to_replay w ↦
-          let same : replaying_shown w.in-Some-what_to_replay.asked ≡ wanted = cc (asked, w.in-Some-what_to_replay.ensures) in
-          let does = rw (← w.status-is) at w.answer_replay.ensures in
-          let payments : List (String Global) = w.in-Some-what_to_replay.asked.payments.now in
-          let many : length wanted.payments ≡ length payments = ap (λ (r : Replaying). length r.payments) (sym same) ∙ length-map payments string_bytes in
-          rw many does.numbered
-      | in_default+in_default-what_to_verify+in_default-what_to_deliver+in_default-what_to_replay w ↦ cc (asked, w.in_default-what_to_replay.ensures)
-    ]
+returns-clause-replay_numbered g c asked is = (Answered-replay_of (words_of c.args.words.now) asked c.asked_by-asked.ensures is c.answer-status.ensures.answered).numbered
+
+pub returns-clause-replay_exact : goal.returns-clause-replay_exact
+returns-clause-replay_exact g c asked is told faultless =
+    let left = (Answered-replay_of (words_of c.args.words.now) asked c.asked_by-asked.ensures is c.answer-status.ensures.answered) in
+    MayRefuse-exact scheduled _ (replay_loaded (g.F.Shelf.file c.args.shelf.now) asked) _ _ _ told faultless left.loads left.refusal
+
+pub returns-clause-silent : goal.returns-clause-silent
+returns-clause-silent g c done = c.tell_unless_done.ensures.silent done
+
+pub returns-clause-told : goal.returns-clause-told
+returns-clause-told g c undone told = c.tell_unless_done.ensures.told undone told
