@@ -8,3 +8,4 @@ pub mod StartingSteps
 pub mod TurningLaws
 pub mod TurningSteps
 pub mod PayingSharedLaws
+pub mod PayingSharedTurns

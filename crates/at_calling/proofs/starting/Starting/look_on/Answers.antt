@@ -1,38 +1,24 @@
-use Rattle.std.proofs.Common.{◌↔◌, IfSome, Option, None, ◌≡◌, ℕ, ◌+◌, ◌-◌, ◌*◌, ◌<◌, ◌≤◌, ◌≢◌, IsSome, Some, List, false, true, length, refl, sym, ap, subst, ◌∙◌, arith}
+use Rattle.std.proofs.Common.{None, ◌≡◌, ℕ, ◌<◌, Some, List, length, sym, ap, subst, ◌∙◌, arith}
 use Rattle.std.specs.List.{sum}
-use Rattle.at_ledger.specs.Account.{slot_in, slots_of}
-use Rattle.at_ledger.specs.Book.{BookTerms, HasSlot, account_of}
+use Rattle.at_ledger.specs.Book.{BookTerms}
 use Rattle.at_ledger.specs.Call.{AreTargetsOn, TargetPair}
-use Rattle.at_ledger.specs.declared.call.Call.{Call}
 use Rattle.at_history.specs.Fronts.{place}
-use Rattle.at_history.specs.Publications.{IsPrefix}
 use Rattle.at_history.specs.Sound.{AreTargets}
-use Rattle.at_board.specs.Knowledge.Candidates.{HasLoadedRows}
 use Rattle.at_board.specs.Knowledge.Seats.{SeatTerms}
-use Rattle.at_board.specs.Steps.Announce.{Announces}
 use Rattle.at_board.specs.declared.knowledge.Knowledge.{Knowledge}
-use Rattle.at_board.specs.declared.words.TheConstants.{REQUEST_WORDS}
-use Rattle.at_fold.specs.HasCounted.{StaysCounted}
 use Rattle.at_fold.specs.Sums.{TotalSums}
 use Rattle.at_log.specs.Receipts.{payout_of}
-use Rattle.at_rows.specs.Asks.{HasAsked, MayAskFor, asked_for, opened}
-use Rattle.at_rows.specs.Rows.{CollectsRows}
-use Rattle.at_rows.specs.declared.open_request.OpenRequest.{OpenRequest}
-use Rattle.at_shared.proofs.Laws.Starting.{same_some}
-use Rattle.at_shared.specs.HelpingTerms.{HelpingTerms, helping_of}
+use Rattle.at_rows.specs.Asks.{MayAskFor, asked_for}
 use Rattle.at_single.specs.Looks.{HasLooked}
-use Rattle.at_calling.proofs.StartingLaws.{HasSlot-IsAskingThen, HasSlot-IsStartingSo, IsPrefix-MakesNextLoad, IsPrefix-word, IsStartOf-CollectsRows, IsStartWithin-HasLookedToAsk, IsStartWithin-IsCollectingThen, IsStartingSo-ask, IsStartingSo-collect, IsStartingSo-rows, LeavesTotals-CollectsRows, MayAskFor-HasLooked, StaysCounted-HasLookedToAsk, StaysCounted-IsCollectingThen, place-HasLooked-few, slot_in-Announces, slot_of_start, start_after, start_after_look}
+use Rattle.at_calling.proofs.StartingLaws.{IsStartingSo-ask, MayAskFor-HasLooked, place-HasLooked-few, slot_of_start, start_after_look}
 use Rattle.at_calling.proofs.StartingSteps.{TakesStartTurn-look}
-use Rattle.at_machines.specs.Asking.{AskingTerms, request_asked, starting_to_ask}
-use Rattle.at_machines.specs.CollectingRows.{CollectingRowsTerms, MakesNextLoad, starting_rows}
-use Rattle.at_machines.specs.LoadingRow.NextRowLoad.{nothing}
-use Rattle.at_calling.specs.KeptStarting.{IsAskingThen, IsCollectingThen, IsLookingToAsk, IsStartStageSo, IsStartingSo, TakesStartTurn}
+use Rattle.at_machines.specs.Asking.{AskingTerms, starting_to_ask}
+use Rattle.at_calling.specs.KeptStarting.{IsLookingToAsk, IsStartStageSo, IsStartingSo, TakesStartTurn}
 use Rattle.at_machines.specs.Looking.{IsWithin, LookingTerms}
-use Rattle.at_calling.specs.Reading.{LeavesTotals}
-use Rattle.at_calling.specs.Starting.{IsStartOf, IsStartWithin, MakesStartStep, StartingTerms, asking_steps_of, start_turns_after, start_turns_in, start_turns_left, unless_ended}
+use Rattle.at_calling.specs.Starting.{StartingTerms, asking_steps_of, start_turns_after, start_turns_in}
 use Rattle.at_calling.specs.contracts.starting.Starting.{the_view}
 use Rattle.at_calling.specs.declared.start_stage.StartStage.{StartStage}
-use Rattle.at_calling.specs.declared.start_stage.StartStage.TheVariants.{Ask, Collect, Look}
+use Rattle.at_calling.specs.declared.start_stage.StartStage.TheVariants.{Ask, Look}
 use Rattle.at_calling.proofs.starting.Starting.look_on.Given as given
 use Rattle.at_calling.proofs.starting.Starting.look_on.Goals.{After-self, After-targets_of-targets, After-turn-looked}
 use Rattle.at_calling.proofs.starting.Starting.look_on.Goals as goal
