@@ -4,6 +4,8 @@ pub mod PayingAloneTurns
 pub mod CallingLaws
 pub mod CallingTurns
 pub mod StartingLaws
+pub mod StartingSteps
 pub mod TurningLaws
 pub mod TurningSteps
 pub mod PayingSharedLaws
+pub mod PayingSharedTurns

@@ -1,23 +1,27 @@
 -- What the type of a payment in the making keeps of its fields, which no caller sees.
-use Rattle.std.specs.Prelude.{◌≡◌, ◌≢◌, ℕ, ◌+◌, ◌*◌, ◌<◌, ◌≤◌, length, sum}
+use Rattle.std.specs.Prelude.{◌≡◌, ◌≢◌, ℕ, ◌+◌, ◌*◌, ◌<◌, ◌≤◌, ◌↔◌, IfSome, IsSome, Option, length, sum}
 use Rattle.at_ledger.specs.Account.{slots_of}
 use Rattle.at_ledger.specs.Book.{BookTerms, HasSlot, account_of}
 use Rattle.at_ledger.specs.declared.call.Call.{Call}
 use Rattle.at_history.specs.Publications.{IsPrefix}
 use Rattle.at_history.specs.Rounds.{rounds}
 use Rattle.at_board.specs.Knowledge.Parts.{own_part}
-use Rattle.at_board.specs.Knowledge.Seats.{IsKept}
+use Rattle.at_board.specs.Knowledge.Seats.{IsKept, SeatTerms}
 use Rattle.at_board.specs.declared.knowledge.Knowledge.{Knowledge}
 use Rattle.at_board.specs.declared.words.TheConstants.{RECORD_WORDS}
+use Rattle.at_fold.specs.HasCounted.{HasCounted}
 use Rattle.at_fold.specs.Sums.{TotalSums}
+use Rattle.at_log.specs.declared.receipt.Receipt.{Receipt}
+use Rattle.at_object.specs.Paid.{PaysInRound}
 use Rattle.at_shared.specs.HelpingTerms.{HelpingTerms}
 use Rattle.at_shared.specs.Helpings.{HasAllSettled, decides_made, decides_on, heard_on}
-use Rattle.at_shared.specs.PaymentTurns.{HasTurned}
+use Rattle.at_shared.specs.PaymentTurns.{HasTurned, SettlesInTurns}
 use Rattle.at_shared.specs.Settling.{asking_steps, round_steps}
 use Rattle.at_single.specs.Standing.{newly_counted}
 use Rattle.at_snapshot.specs.Scans.{SeesOwnRecords}
 use Rattle.at_snapshot.specs.Snapshots.{snapshot_steps}
-use Rattle.at_calling.specs.PayingShared.{PayingSharedTerms}
+use Rattle.at_calling.specs.PayingShared.{DecidesFew, IsShareWithin, MakesShareStep, PayingSharedTerms, settling_steps, share_exchanges_at, share_exchanges_made, share_turns_left}
+use Rattle.at_calling.specs.Reading.{LeavesTotals}
 use Rattle.at_calling.specs.Starting.{IsStartOf, StartingTerms, start_turns_left, start_turns_made}
 use Rattle.at_calling.specs.Turning.{TurningTerms, help_turns_left, help_turns_made}
 use Rattle.at_calling.specs.declared.share_stage.ShareStage.{ShareStage}
@@ -81,3 +85,24 @@ pub record IsPayingSharedSo (t : PayingSharedTerms) : Type 0 where
   pub slot : ℕ
   pub slot_in : HasSlot t.start.book t.start.first t.account slot
   pub stage_so : IsShareStageSo t t.stage
+
+-- what a turn leaves of the payment, in whichever stage it was: all but the stage and the count of turns, and what the seat knows and the
+-- totals have counted, is as it was
+pub record TakesShareTurn (b : BookTerms) (t u : PayingSharedTerms) (before after : SeatTerms) (now : TotalSums) (answer : Option Receipt) : Type 0 where
+  pub call_is : u.call ≡ t.call
+  pub account_is : u.account ≡ t.account
+  pub start_is : u.start ≡ t.start
+  pub mark_is : u.mark ≡ after.knows
+  pub was_is : u.was ≡ t.was
+  pub totals_are : u.totals ≡ now
+  pub turns : u.turns ≡ t.turns + 1
+  pub step : MakesShareStep b t.stage before after now
+  pub left : share_turns_left b u < share_turns_left b t
+  pub so_far : IsShareWithin b u (length after.knows.seen)
+  pub ends : IsSome answer ↔ (share_turns_left b u ≡ 0)
+  pub pays : IfSome answer (PaysInRound b t.start after.knows t.account t.call)
+  pub settles : IfSome answer (SettlesInTurns b t.start after.knows t.account)
+  pub few : IfSome answer (λ r. DecidesFew b t.start after.knows t.account)
+  pub counted : IfSome answer (λ r. HasCounted now b after.knows.seen)
+  pub leaves : IfSome answer (λ r. LeavesTotals b t.start after.knows t.was now (settling_steps b t.account) u.turns)
+  pub decides : share_exchanges_made u ≡ share_exchanges_made t + share_exchanges_at t.stage

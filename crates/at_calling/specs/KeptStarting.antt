@@ -1,23 +1,28 @@
 -- What the type of a start in the making keeps of its fields, which no caller sees.
-use Rattle.std.specs.Prelude.{◌≡◌, ℕ, ◌+◌, ◌<◌, ◌≤◌, List, None, Some, length, sum}
+use Rattle.std.specs.Prelude.{◌≡◌, ℕ, ◌+◌, ◌<◌, ◌≤◌, ◌↔◌, List, IfSome, IsSome, Option, None, Some, length, sum}
+use Rattle.at_ledger.specs.Book.{BookTerms}
 use Rattle.at_ledger.specs.Call.{TargetPair}
 use Rattle.at_history.specs.Fronts.{place}
 use Rattle.at_history.specs.Publications.{IsPrefix}
 use Rattle.at_board.specs.Knowledge.Parts.{asking_on, own_part}
-use Rattle.at_board.specs.Knowledge.Seats.{IsKept}
+use Rattle.at_board.specs.Knowledge.Seats.{IsKept, SeatTerms}
 use Rattle.at_board.specs.Steps.Announce.{Announces}
 use Rattle.at_board.specs.Steps.StoreRequestWord.{MayStoreRequest}
 use Rattle.at_board.specs.declared.knowledge.Knowledge.{Knowledge}
 use Rattle.at_board.specs.declared.words.TheConstants.{REQUEST_WORDS}
+use Rattle.at_fold.specs.HasCounted.{StaysCounted}
+use Rattle.at_fold.specs.Sums.{TotalSums}
 use Rattle.at_log.specs.Receipts.{payout_of}
 use Rattle.at_rows.specs.Asks.{HasLoadedNothing}
 use Rattle.at_rows.specs.OpenRequests.{request_of}
+use Rattle.at_shared.specs.HelpingTerms.{HelpingTerms}
 use Rattle.at_shared.specs.Helpings.{HasAllSettled, IsPayoutFrom}
 use Rattle.at_single.specs.Looks.{HasLooked}
 use Rattle.at_machines.specs.Asking.{AskingTerms}
 use Rattle.at_machines.specs.CollectingRows.{CollectingRowsTerms}
 use Rattle.at_machines.specs.Looking.{IsWithin, LookingTerms, look_turns_left}
-use Rattle.at_calling.specs.Starting.{StartingTerms, asking_steps_of}
+use Rattle.at_calling.specs.Reading.{LeavesTotals}
+use Rattle.at_calling.specs.Starting.{IsStartOf, IsStartWithin, MakesStartStep, StartingTerms, asking_steps_of, start_turns_left, start_turns_made}
 use Rattle.at_calling.specs.declared.start_stage.StartStage.{StartStage}
 use Rattle.at_calling.specs.declared.start_stage.StartStage.TheVariants.{Ask, Collect, Look}
 
@@ -69,3 +74,21 @@ pub record IsStartingSo (t : StartingTerms) : Type 0 where
   pub settled : HasAllSettled t.start.book t.start t.account
   pub free : (own_part t.start).held ≡ None
   pub stage_so : IsStartStageSo t t.stage
+
+-- what a turn leaves of the start, in whichever stage it was: all but the stage, and what the seat knows and the totals have counted, is as it
+-- was
+pub record TakesStartTurn (b : BookTerms) (t u : StartingTerms) (before after : SeatTerms) (now : TotalSums) (answer : Option HelpingTerms) : Type 0 where
+  pub call_is : u.call ≡ t.call
+  pub account_is : u.account ≡ t.account
+  pub start_is : u.start ≡ t.start
+  pub mark_is : u.mark ≡ after.knows
+  pub was_is : u.was ≡ t.was
+  pub totals_are : u.totals ≡ now
+  pub turns : start_turns_made u ≡ start_turns_made t + 1
+  pub step : MakesStartStep b t.stage before after now
+  pub counted : StaysCounted now b after.knows.seen
+  pub left : start_turns_left b u < start_turns_left b t
+  pub so_far : IsStartWithin b u (length after.knows.seen)
+  pub ends : IsSome answer ↔ (start_turns_left b u ≡ 0)
+  pub starts : IfSome answer (IsStartOf b t.start after.knows t.account t.call)
+  pub leaves : IfSome answer (λ h. LeavesTotals b t.start after.knows t.was now (asking_steps_of b t) (start_turns_made u))

@@ -17,6 +17,7 @@ use crate::reading::Reading;
 use at_board::{Board, BoardSeat};
 use at_ledger::{Call, Reply, Targets};
 use at_object::Rest;
+use std::mem::{drop, replace};
 
 /// What a call's next turn goes on with.
 #[derive(Drop)]
@@ -38,7 +39,8 @@ impl CallStage {
     pub(crate) fn become_next(&mut self, next: CallStage)
         ensures { self.new ≡ next }
     {
-        *self = next;
+        // A call drops what stood here: an assignment would write that out, variant by variant.
+        drop(replace(self, next));
     }
 
     /// What a call begins with, by what it is. It makes no step.

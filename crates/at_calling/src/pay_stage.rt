@@ -3,6 +3,7 @@
 ghost use Rattle.std.specs.Prelude.{◌≡◌};
 
 use at_machines::{Appending, Looking};
+use std::mem::{drop, replace};
 
 /// What a payment's next turn goes on with.
 #[derive(Drop)]
@@ -20,6 +21,7 @@ impl PayStage {
     pub(crate) fn become_next(&mut self, next: PayStage)
         ensures { self.new ≡ next }
     {
-        *self = next;
+        // A call drops what stood here: an assignment would write that out, variant by variant.
+        drop(replace(self, next));
     }
 }

@@ -6,10 +6,14 @@ ghost use Rattle.at_board.specs.Knowledge.Seats.{IsOf};
 ghost use Rattle.at_board.specs.Steps.StoreRequestWord.{MayStoreRequest};
 ghost use Rattle.at_fold.specs.HasCounted.{HasCounted};
 ghost use Rattle.at_object.specs.Paid.{PaysInRound};
+ghost use Rattle.at_shared.specs.HelpingTerms.{HelpingTerms};
 ghost use Rattle.at_shared.specs.Helpings.{HasAllSettled, IsPayoutFrom};
 ghost use Rattle.at_shared.specs.PaymentTurns.{SettlesInTurns};
+ghost use Rattle.at_calling.specs.KeptPayingShared.{TakesShareTurn};
 ghost use Rattle.at_calling.specs.PayingShared.{DecidesFew, IsShareWithin, MakesShareStep, settling_steps, share_exchanges_at, share_exchanges_made, share_turns_left};
 ghost use Rattle.at_calling.specs.Reading.{LeavesTotals};
+ghost use Rattle.at_calling.specs.Starting.{StartingTerms};
+ghost use Rattle.at_calling.specs.Turning.{TurningTerms};
 
 use crate::share_stage::ShareStage;
 use crate::starting::Starting;
@@ -153,34 +157,85 @@ impl PayingShared {
         ensures decides { share_exchanges_made self.new
             ≡ share_exchanges_made self.old + share_exchanges_at self.old.stage }
     {
-        match &mut self.stage {
-            ShareStage::Start(starting) => {
-                let started = starting.turn(board, seat, totals, steps, exchanges);
-                self.turns += 1;
-                self.mark = Snapshot::of(seat);
-                self.totals = Snapshot::of(totals);
-                seat.known();
-                let helping = started?;
-                let turning = Turning::start(board, seat, totals, &helping);
-                self.stage.become_next(ShareStage::Help(helping, turning));
-                None
-            }
-            ShareStage::Help(helping, turning) => {
-                let helped = turning.turn(board, seat, totals, helping, steps, exchanges);
-                self.turns += 1;
-                self.mark = Snapshot::of(seat);
-                self.totals = Snapshot::of(totals);
-                seat.known();
-                if let HelpTurn::Settled(receipt) = helped? {
-                    self.stage.become_next(ShareStage::Ended);
-                    return Some(receipt);
-                }
-                // The round of another request was published, and few are decided before this one: the next turn of helping begins.
-                turning.become_next(Turning::start(board, seat, totals, helping));
-                None
-            }
+        match &self.stage {
+            ShareStage::Start(_) => self.start_on(board, seat, totals, steps, exchanges),
+            ShareStage::Help(..) => self.help_on(board, seat, totals, steps, exchanges),
             // Some turn is left, and of a settled request none is.
             ShareStage::Ended => unreachable!(),
         }
+    }
+
+    /// Makes the next step of the start. After the last one a turn of helping by the request that waits comes next.
+    fn start_on<L: Ledger, X: Ledger>(
+        &mut self,
+        board: &Board,
+        seat: &mut BoardSeat,
+        totals: &mut Totals,
+        steps: &mut Steps<L>,
+        exchanges: &mut Steps<X>,
+    ) -> Option<Receipt>
+        requires board { IsOf seat.old board.now }
+        requires mark { seat.old.knows ≡ self.old.mark }
+        requires totals { totals.old ≡ self.old.totals }
+        requires starts { (s : StartingTerms) × (self.old.stage ≡ ShareStage.Start s) }
+        requires left { 0 < share_turns_left board.now.book self.old }
+        ensures turned { TakesShareTurn board.now.book self.old self.new seat.old seat.new
+            totals.new result }
+        ensures board { IsOf seat.new board.now }
+        ensures steps { steps.new ≡ steps.old + 1 }
+        ensures exchanges { exchanges.new ≡ exchanges.old }
+    {
+        let ShareStage::Start(starting) = &mut self.stage else {
+            // The stage is the start, as is asked.
+            unreachable!()
+        };
+        let started = starting.turn(board, seat, totals, steps, exchanges);
+        self.turns += 1;
+        self.mark = Snapshot::of(seat);
+        self.totals = Snapshot::of(totals);
+        seat.known();
+        let helping = started?;
+        let turning = Turning::start(board, seat, totals, &helping);
+        self.stage.become_next(ShareStage::Help(helping, turning));
+        None
+    }
+
+    /// Makes the next step of the turn of helping. After its last one the request is settled, or the next turn of helping begins.
+    fn help_on<L: Ledger, X: Ledger>(
+        &mut self,
+        board: &Board,
+        seat: &mut BoardSeat,
+        totals: &mut Totals,
+        steps: &mut Steps<L>,
+        exchanges: &mut Steps<X>,
+    ) -> Option<Receipt>
+        requires board { IsOf seat.old board.now }
+        requires mark { seat.old.knows ≡ self.old.mark }
+        requires totals { totals.old ≡ self.old.totals }
+        requires helps { (h : HelpingTerms) × (u : TurningTerms)
+            × (self.old.stage ≡ ShareStage.Help h u) }
+        requires left { 0 < share_turns_left board.now.book self.old }
+        ensures turned { TakesShareTurn board.now.book self.old self.new seat.old seat.new
+            totals.new result }
+        ensures board { IsOf seat.new board.now }
+        ensures steps { steps.new ≡ steps.old + 1 }
+        ensures exchanges { exchanges.new ≡ exchanges.old + share_exchanges_at self.old.stage }
+    {
+        let ShareStage::Help(helping, turning) = &mut self.stage else {
+            // The stage is a turn of helping, as is asked.
+            unreachable!()
+        };
+        let helped = turning.turn(board, seat, totals, helping, steps, exchanges);
+        self.turns += 1;
+        self.mark = Snapshot::of(seat);
+        self.totals = Snapshot::of(totals);
+        seat.known();
+        if let HelpTurn::Settled(receipt) = helped? {
+            self.stage.become_next(ShareStage::Ended);
+            return Some(receipt);
+        }
+        // The round of another request was published, and few are decided before this one: the next turn of helping begins.
+        turning.become_next(Turning::start(board, seat, totals, helping));
+        None
     }
 }

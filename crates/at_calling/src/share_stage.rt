@@ -5,6 +5,7 @@ ghost use Rattle.std.specs.Prelude.{◌≡◌};
 use crate::starting::Starting;
 use crate::turning::Turning;
 use at_shared::Helping;
+use std::mem::{drop, replace};
 
 /// What the next turn of a payment from a shared account goes on with.
 #[derive(Drop)]
@@ -22,6 +23,7 @@ impl ShareStage {
     pub(crate) fn become_next(&mut self, next: ShareStage)
         ensures { self.new ≡ next }
     {
-        *self = next;
+        // A call drops what stood here: an assignment would write that out, variant by variant.
+        drop(replace(self, next));
     }
 }

@@ -3,6 +3,7 @@
 ghost use Rattle.std.specs.Prelude.{◌≡◌};
 
 use at_machines::{Asking, CollectingRows, Looking};
+use std::mem::{drop, replace};
 
 /// What a start's next turn goes on with.
 #[derive(Drop)]
@@ -20,6 +21,7 @@ impl StartStage {
     pub(crate) fn become_next(&mut self, next: StartStage)
         ensures { self.new ≡ next }
     {
-        *self = next;
+        // A call drops what stood here: an assignment would write that out, variant by variant.
+        drop(replace(self, next));
     }
 }

@@ -6,9 +6,12 @@ ghost use Rattle.at_board.specs.Knowledge.Seats.{IsOf};
 ghost use Rattle.at_board.specs.Steps.StoreRequestWord.{MayStoreRequest};
 ghost use Rattle.at_fold.specs.HasCounted.{HasCounted, StaysCounted};
 ghost use Rattle.at_history.specs.Fronts.{place};
-ghost use Rattle.at_machines.specs.Asking.{starting_to_ask};
+ghost use Rattle.at_machines.specs.Asking.{AskingTerms, starting_to_ask};
+ghost use Rattle.at_machines.specs.CollectingRows.{CollectingRowsTerms};
+ghost use Rattle.at_machines.specs.Looking.{LookingTerms};
 ghost use Rattle.at_rows.specs.Asks.{MayAskFor, asked_for};
 ghost use Rattle.at_shared.specs.Helpings.{HasAllSettled, IsPayoutFrom};
+ghost use Rattle.at_calling.specs.KeptStarting.{TakesStartTurn};
 ghost use Rattle.at_calling.specs.Reading.{LeavesTotals};
 ghost use Rattle.at_calling.specs.Starting.{IsStartOf, IsStartWithin, MakesStartStep, asking_steps_of, start_turns_left, start_turns_made};
 
@@ -142,43 +145,108 @@ impl Starting {
         ensures steps { steps.new ≡ steps.old + 1 }
         ensures exchanges { exchanges.new ≡ exchanges.old }
     {
-        match &mut self.stage {
-            StartStage::Look(looking) => {
-                let looked = looking.turn(board, seat, totals, steps, exchanges);
-                self.looked = looking.turns();
-                self.mark = Snapshot::of(seat);
-                self.totals = Snapshot::of(totals);
-                let front = looked?;
-                let targets = targets_of(&self.call);
-                // There are one to four targets, as their type keeps.
-                let _count = targets.len();
-                // What is settled at the front stays so, whatever others publish before the request is announced.
-                let asking = asking_at(seat, self.account, targets, &front);
-                self.stage.become_next(StartStage::Ask(asking));
-                None
-            }
-            StartStage::Ask(asking) => {
-                let announced = asking.turn(board, seat, steps, exchanges);
-                self.mark = Snapshot::of(seat);
-                let number = announced?;
-                let slot = board.book().slot_of(self.account, seat.process()).unwrap();
-                // Others may ask at once after each load of the rows. Whoever isn't found asked after this request was announced,
-                // and waits less long.
-                let collecting = CollectingRows::start(
-                    seat,
-                    self.account,
-                    asking.opened(slot, number),
-                );
-                self.stage.become_next(StartStage::Collect(collecting));
-                None
-            }
-            StartStage::Collect(collecting) => {
-                let collected = collecting.turn(board, seat, steps, exchanges);
-                self.mark = Snapshot::of(seat);
-                let asked = collected?;
-                Some(Helping::of(self.call.copy(), self.account, collecting.own(), asked))
-            }
+        match &self.stage {
+            StartStage::Look(_) => self.look_on(board, seat, totals, steps, exchanges),
+            StartStage::Ask(_) => self.ask_on(board, seat, steps, exchanges),
+            StartStage::Collect(_) => self.collect_on(board, seat, steps, exchanges),
         }
+    }
+
+    /// Makes the next load of the look. After the last one asking comes next.
+    fn look_on<L: Ledger, X: Ledger>(
+        &mut self,
+        board: &Board,
+        seat: &mut BoardSeat,
+        totals: &mut Totals,
+        steps: &mut Steps<L>,
+        exchanges: &mut Steps<X>,
+    ) -> Option<Helping>
+        requires board { IsOf seat.old board.now }
+        requires mark { seat.old.knows ≡ self.old.mark }
+        requires totals { totals.old ≡ self.old.totals }
+        requires looks { (l : LookingTerms) × (self.old.stage ≡ StartStage.Look l) }
+        ensures turned { TakesStartTurn board.now.book self.old self.new seat.old seat.new
+            totals.new result }
+        ensures board { IsOf seat.new board.now }
+        ensures steps { steps.new ≡ steps.old + 1 }
+        ensures exchanges { exchanges.new ≡ exchanges.old }
+    {
+        let StartStage::Look(looking) = &mut self.stage else {
+            // The stage is a look, as is asked.
+            unreachable!()
+        };
+        let looked = looking.turn(board, seat, totals, steps, exchanges);
+        self.looked = looking.turns();
+        self.mark = Snapshot::of(seat);
+        self.totals = Snapshot::of(totals);
+        let front = looked?;
+        let targets = targets_of(&self.call);
+        // There are one to four targets, as their type keeps.
+        let _count = targets.len();
+        // What is settled at the front stays so, whatever others publish before the request is announced.
+        let asking = asking_at(seat, self.account, targets, &front);
+        self.stage.become_next(StartStage::Ask(asking));
+        None
+    }
+
+    /// Stores the next word of the request, or announces it. After that the rows come next.
+    fn ask_on<L: Ledger, X: Ledger>(
+        &mut self,
+        board: &Board,
+        seat: &mut BoardSeat,
+        steps: &mut Steps<L>,
+        exchanges: &mut Steps<X>,
+    ) -> Option<Helping>
+        requires board { IsOf seat.old board.now }
+        requires mark { seat.old.knows ≡ self.old.mark }
+        requires asks { (a : AskingTerms) × (self.old.stage ≡ StartStage.Ask a) }
+        ensures turned { TakesStartTurn board.now.book self.old self.new seat.old seat.new
+            self.old.totals result }
+        ensures board { IsOf seat.new board.now }
+        ensures steps { steps.new ≡ steps.old + 1 }
+        ensures exchanges { exchanges.new ≡ exchanges.old }
+    {
+        let StartStage::Ask(asking) = &mut self.stage else {
+            // The stage is asking, as is asked.
+            unreachable!()
+        };
+        let announced = asking.turn(board, seat, steps, exchanges);
+        self.mark = Snapshot::of(seat);
+        let number = announced?;
+        let slot = board.book().slot_of(self.account, seat.process()).unwrap();
+        // Others may ask at once after each load of the rows. Whoever isn't found asked after this request was announced, and
+        // waits less long.
+        let collecting = CollectingRows::start(seat, self.account, asking.opened(slot, number));
+        self.stage.become_next(StartStage::Collect(collecting));
+        None
+    }
+
+    /// Makes the next load of the rows. The last one answers the request that waits.
+    fn collect_on<L: Ledger, X: Ledger>(
+        &mut self,
+        board: &Board,
+        seat: &mut BoardSeat,
+        steps: &mut Steps<L>,
+        exchanges: &mut Steps<X>,
+    ) -> Option<Helping>
+        requires board { IsOf seat.old board.now }
+        requires mark { seat.old.knows ≡ self.old.mark }
+        requires collects { (c : CollectingRowsTerms) × (self.old.stage ≡ StartStage.Collect c) }
+        requires left { 0 < start_turns_left board.now.book self.old }
+        ensures turned { TakesStartTurn board.now.book self.old self.new seat.old seat.new
+            self.old.totals result }
+        ensures board { IsOf seat.new board.now }
+        ensures steps { steps.new ≡ steps.old + 1 }
+        ensures exchanges { exchanges.new ≡ exchanges.old }
+    {
+        let StartStage::Collect(collecting) = &mut self.stage else {
+            // The stage is the rows, as is asked.
+            unreachable!()
+        };
+        let collected = collecting.turn(board, seat, steps, exchanges);
+        self.mark = Snapshot::of(seat);
+        let asked = collected?;
+        Some(Helping::of(self.call.copy(), self.account, collecting.own(), asked))
     }
 }
 

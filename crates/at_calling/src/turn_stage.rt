@@ -3,6 +3,7 @@
 ghost use Rattle.std.specs.Prelude.{◌≡◌};
 
 use at_machines::{Deciding, Looking};
+use std::mem::{drop, replace};
 
 /// What the next step of a turn of helping belongs to.
 #[derive(Drop)]
@@ -20,6 +21,7 @@ impl TurnStage {
     pub(crate) fn become_next(&mut self, next: TurnStage)
         ensures { self.new ≡ next }
     {
-        *self = next;
+        // A call drops what stood here: an assignment would write that out, variant by variant.
+        drop(replace(self, next));
     }
 }

@@ -19,6 +19,7 @@ use at_fold::Totals;
 use at_machines::{Deciding, Looking};
 use at_shared::{HelpTurn, Helping};
 use std::marker::Model;
+use std::mem::{drop, replace};
 use std::snapshot::Snapshot;
 use std::sync::ledger::Ledger;
 
@@ -97,7 +98,8 @@ impl Turning {
     pub(crate) fn become_next(&mut self, next: Turning)
         ensures { self.new ≡ next }
     {
-        *self = next;
+        // A call drops what stood here: an assignment would write that out, field by field.
+        drop(replace(self, next));
     }
 
     /// Makes the next step of the turn of helping. Where the request is settled at the front of the look, it answers with the

@@ -1,0 +1,106 @@
+-- What a turn of a payment from a shared account leaves of it.
+use Rattle.std.proofs.Common.{◌≡◌, ℕ, ◌+◌, ◌-◌, ◌<◌, ◌≤◌, None, Some, length, false, true, refl, arith}
+use Rattle.std.specs.List.{sum}
+use Rattle.at_ledger.specs.Book.{BookTerms}
+use Rattle.at_history.specs.Fronts.{places_max}
+use Rattle.at_board.specs.Knowledge.Seats.{SeatTerms}
+use Rattle.at_board.specs.declared.knowledge.Knowledge.{Knowledge}
+use Rattle.at_fold.specs.HasCounted.{HasCounted}
+use Rattle.at_fold.specs.Sums.{TotalSums}
+use Rattle.at_log.specs.declared.receipt.Receipt.{Receipt}
+use Rattle.at_object.specs.Paid.{PaysInRound}
+use Rattle.at_shared.specs.Helpings.{decides_made}
+use Rattle.at_shared.specs.PaymentTurns.{SettlesInTurns}
+use Rattle.at_calling.specs.KeptPayingShared.{TakesShareTurn}
+use Rattle.at_calling.specs.PayingShared.{DecidesFew, MakesShareStep, PayingSharedTerms, settling_steps, share_exchanges_at, share_exchanges_made, share_turns_left, share_turns_most, unless_settled, unless_starting}
+use Rattle.at_calling.specs.Reading.{LeavesTotals}
+use Rattle.at_calling.specs.declared.share_stage.ShareStage.{ShareStage}
+use Rattle.at_calling.specs.declared.share_stage.ShareStage.TheVariants.{Ended, Help, Start}
+
+-- a payment in this stage after one more turn, with this known and counted
+abbrev pub share_next : PayingSharedTerms → ShareStage → Knowledge → TotalSums → PayingSharedTerms
+share_next t stage w now = record t { stage = stage; turns = t.turns + 1; mark = w; totals = now }
+
+-- at most so many are left
+unless_settled-le : (most : ℕ) (stage : ShareStage) → unless_settled most stage ≤ most
+unless_settled-le most (Start s) = omega arith
+unless_settled-le most (Help h u) = omega arith
+unless_settled-le most Ended = omega arith
+
+-- all of them, where any is
+unless_settled-some : (most : ℕ) (stage : ShareStage) → 0 < unless_settled most stage → unless_settled most stage ≡ most
+unless_settled-some most (Start s) some = refl
+unless_settled-some most (Help h u) some = refl
+unless_settled-some most Ended some = absurd (omega (arith, some))
+
+module _ (b : BookTerms) (t : PayingSharedTerms) (before after : SeatTerms) (now : TotalSums) (mark : Knowledge) (mark_is : mark ≡ after.knows)
+    (totals : TotalSums) (totals_are : totals ≡ now) (some : 0 < share_turns_left b t) (step : MakesShareStep b t.stage before after now)
+    (within : t.turns + 1 ≤ share_turns_most b t.account (length after.knows.seen - sum t.was.upto)) where
+  abbrev most : ℕ
+  most = share_turns_most b t.account places_max
+
+  -- some turn was left
+  one_more : t.turns + 1 ≤ most + 1
+  one_more = omega (arith, some, unless_settled-some (most + 1 - t.turns) t.stage some)
+
+  less : (stage : ShareStage) → share_turns_left b (share_next t stage mark totals) < share_turns_left b t
+  less stage =
+      omega (
+        arith,
+        one_more,
+        unless_settled-some (most + 1 - t.turns) t.stage some,
+        unless_settled-le (most + 1 - (t.turns + 1)) stage,
+      )
+
+  -- nothing is answered, and the payment goes on in this stage
+  pub TakesShareTurn-on : (stage : ShareStage) → ((n : ℕ) → unless_settled n stage ≡ n) → t.turns + 1 ≤ most
+      → unless_starting (decides_made t.account t.start mark) stage ≡ share_exchanges_made t + share_exchanges_at t.stage
+      → TakesShareTurn b t (share_next t stage mark totals) before after now None
+  TakesShareTurn-on stage goes few decides = record {
+    call_is = refl;
+    account_is = refl;
+    start_is = refl;
+    mark_is = mark_is;
+    was_is = refl;
+    totals_are = totals_are;
+    turns = refl;
+    step = step;
+    left = less stage;
+    so_far = within;
+    ends = (
+      λ answered. let wrong : false ≡ true = answered in absurd (cc wrong),
+      λ ended. absurd (omega (arith, ended, few, goes (most + 1 - (t.turns + 1)))),
+    );
+    pays = tt;
+    settles = tt;
+    few = tt;
+    counted = tt;
+    leaves = tt;
+    decides = decides;
+  }
+
+  -- the request is settled
+  pub TakesShareTurn-settled : (r : Receipt) → PaysInRound b t.start after.knows t.account t.call r → SettlesInTurns b t.start after.knows t.account r
+      → DecidesFew b t.start after.knows t.account → HasCounted now b after.knows.seen
+      → LeavesTotals b t.start after.knows t.was now (settling_steps b t.account) (t.turns + 1)
+      → decides_made t.account t.start mark ≡ share_exchanges_made t + share_exchanges_at t.stage
+      → TakesShareTurn b t (share_next t Ended mark totals) before after now (Some r)
+  TakesShareTurn-settled r pays settles few counted leaves decides = record {
+    call_is = refl;
+    account_is = refl;
+    start_is = refl;
+    mark_is = mark_is;
+    was_is = refl;
+    totals_are = totals_are;
+    turns = refl;
+    step = step;
+    left = less Ended;
+    so_far = within;
+    ends = (λ answered. refl, λ ended. refl);
+    pays = pays;
+    settles = settles;
+    few = few;
+    counted = counted;
+    leaves = leaves;
+    decides = decides;
+  }

@@ -1,0 +1,153 @@
+-- What a turn of a start leaves of it.
+use Rattle.std.proofs.Common.{◌≡◌, ◌≢◌, ℕ, ◌+◌, ◌-◌, ◌<◌, ◌≤◌, ◌↔◌, IfSome, IsSome, Option, None, length, false, true, refl, sym, ap, subst, ◌∙◌, arith}
+use Rattle.at_ledger.specs.Book.{BookTerms}
+use Rattle.at_history.specs.Publications.{IsPrefix}
+use Rattle.at_board.specs.Knowledge.Seats.{SeatTerms}
+use Rattle.at_board.specs.declared.knowledge.Knowledge.{Knowledge}
+use Rattle.at_board.specs.declared.words.TheConstants.{REQUEST_WORDS}
+use Rattle.at_fold.specs.HasCounted.{StaysCounted}
+use Rattle.at_fold.specs.Sums.{TotalSums}
+use Rattle.at_shared.specs.HelpingTerms.{HelpingTerms}
+use Rattle.at_machines.specs.Asking.{AskingTerms}
+use Rattle.at_machines.specs.CollectingRows.{CollectingRowsTerms}
+use Rattle.at_machines.specs.LoadingRow.{NextRowLoad}
+use Rattle.at_machines.specs.LoadingRow.NextRowLoad.{announced_word, request_word, nothing}
+use Rattle.at_machines.specs.Looking.{IsWithin, LookingTerms, MakesLookLoad}
+use Rattle.at_calling.proofs.StartingLaws.{HasSlot-IsStartingSo, IsStartWithin-HasLookedToAsk, IsStartWithin-IsCollectingThen, StaysCounted-HasLookedToAsk, StaysCounted-IsCollectingThen, start_after, start_after_look}
+use Rattle.at_calling.specs.KeptStarting.{IsAskingThen, IsCollectingThen, IsLookingToAsk, IsStartStageSo, IsStartingSo, TakesStartTurn}
+use Rattle.at_calling.specs.Reading.{LeavesTotals}
+use Rattle.at_calling.specs.Starting.{IsStartOf, IsStartWithin, MakesStartStep, StartingTerms, asking_steps_of, start_turns_after, start_turns_in, unless_ended}
+use Rattle.at_calling.specs.declared.start_stage.StartStage.{StartStage}
+use Rattle.at_calling.specs.declared.start_stage.StartStage.TheVariants.{Ask, Collect, Look}
+
+-- at most so many are left
+unless_ended-le : (most : ℕ) (next : NextRowLoad) → unless_ended most next ≤ most
+unless_ended-le most announced_word = omega arith
+unless_ended-le most (request_word number word) = omega arith
+unless_ended-le most nothing = omega arith
+
+-- all of them, where a load comes next
+unless_ended-goes : (most : ℕ) (next : NextRowLoad) → next ≢ nothing → unless_ended most next ≡ most
+unless_ended-goes most announced_word goes = refl
+unless_ended-goes most (request_word number word) goes = refl
+unless_ended-goes most nothing goes = absurd (goes refl)
+
+-- and none only where none does
+unless_ended-none : (most : ℕ) (next : NextRowLoad) → 0 < most → unless_ended most next ≡ 0 → next ≡ nothing
+unless_ended-none most announced_word some none = absurd (omega (arith, some, none))
+unless_ended-none most (request_word number word) some none = absurd (omega (arith, some, none))
+unless_ended-none most nothing some none = refl
+
+module _ (b : BookTerms) (t : StartingTerms) (so : IsStartingSo t) (book : t.start.book ≡ b) (before after : SeatTerms) (mark : Knowledge)
+    (mark_is : mark ≡ after.knows) where
+  abbrev most : ℕ
+  most = asking_steps_of b t
+
+  -- a turn of the look
+  module _ (now totals : TotalSums) (totals_are : totals ≡ now) (l : LookingTerms) (is : t.stage ≡ Look l) (turns : ℕ) (made : turns ≡ l.turns + 1)
+      (load : MakesLookLoad b l.stage before after now) (counted : StaysCounted now b after.knows.seen)
+      (so_far : IsWithin b.processes l.was (length after.knows.seen) turns) where
+    looks : IsLookingToAsk t l
+    looks = subst (IsStartStageSo t) is so.stage_so
+
+    within : (stage : StartStage) → start_turns_in turns stage ≡ turns → IsStartWithin b (start_after_look t stage mark totals turns) (length after.knows.seen)
+    within stage same =
+        let so_far_on : IsWithin b.processes t.was (length after.knows.seen) turns =
+        subst (λ (s : TotalSums). IsWithin b.processes s (length after.knows.seen) turns) looks.was_is so_far in
+        omega (arith, so_far_on, same)
+
+    pub TakesStartTurn-look : (stage : StartStage) → start_turns_in turns stage ≡ turns → 0 < start_turns_after most stage
+        → start_turns_after most stage < start_turns_after most (Look l)
+        → TakesStartTurn b t (start_after_look t stage mark totals turns) before after now None
+    TakesStartTurn-look stage same some left = record {
+      call_is = refl;
+      account_is = refl;
+      start_is = refl;
+      mark_is = mark_is;
+      was_is = refl;
+      totals_are = totals_are;
+      turns = same ∙ (made ∙ ap (λ n. n + 1) (sym (ap (start_turns_in t.looked) is)));
+      step = subst (λ (k : StartStage). MakesStartStep b k before after now) (sym is) load;
+      counted = counted;
+      left = subst (λ (k : StartStage). start_turns_after most stage < start_turns_after most k) (sym is) left;
+      so_far = within stage same;
+      ends = (λ has. let wrong : false ≡ true = has in absurd (cc wrong), λ none. absurd (omega (arith, some, none)));
+      starts = tt;
+      leaves = tt;
+    }
+
+  -- a store of the request, or its announcement
+  module _ (a : AskingTerms) (is : t.stage ≡ Ask a) (more : IsPrefix a.start.seen after.knows.seen) where
+    asks : IsAskingThen t a
+    asks = subst (IsStartStageSo t) is so.stage_so
+
+    pub TakesStartTurn-ask : (stage : StartStage) → start_turns_in t.looked stage ≡ t.looked + a.stored + 1
+        → MakesStartStep b (Ask a) before after t.totals → 0 < start_turns_after most stage
+        → start_turns_after most stage < start_turns_after most (Ask a)
+        → TakesStartTurn b t (start_after t stage mark) before after t.totals None
+    TakesStartTurn-ask stage same step some left = record {
+      call_is = refl;
+      account_is = refl;
+      start_is = refl;
+      mark_is = mark_is;
+      was_is = refl;
+      totals_are = refl;
+      turns = same ∙ ap (λ n. n + 1) (sym (ap (start_turns_in t.looked) is));
+      step = subst (λ (k : StartStage). MakesStartStep b k before after t.totals) (sym is) step;
+      counted = subst (λ (k : BookTerms). StaysCounted t.totals k after.knows.seen) book
+          (StaysCounted-HasLookedToAsk t so a.start a.account a.targets a.since asks.to_ask after.knows more);
+      left = subst (λ (k : StartStage). start_turns_after most stage < start_turns_after most k) (sym is) left;
+      so_far = subst (λ (k : BookTerms). IsStartWithin k (start_after t stage after.knows) (length after.knows.seen)) book
+          (IsStartWithin-HasLookedToAsk t so a.start a.account a.targets a.since asks.to_ask after.knows more stage
+          (omega (arith, same, asks.left, (HasSlot-IsStartingSo t so).within)));
+      ends = (λ has. let wrong : false ≡ true = has in absurd (cc wrong), λ none. absurd (omega (arith, some, none)));
+      starts = tt;
+      leaves = tt;
+    }
+
+  -- a load of the rows
+  module _ (c next : CollectingRowsTerms) (is : t.stage ≡ Collect c) (goes : c.next ≢ nothing) (made : next.made ≡ c.made + 1)
+      (more : IsPrefix c.mark.seen after.knows.seen) (few : REQUEST_WORDS + next.made < asking_steps_of t.start.book t) where
+    collects : IsCollectingThen t c
+    collects = subst (IsStartStageSo t) is so.stage_so
+
+    few_on : REQUEST_WORDS + next.made < most
+    few_on = subst (λ (k : BookTerms). REQUEST_WORDS + next.made < asking_steps_of k t) book few
+
+    abbrev left_at_most : ℕ
+    left_at_most = most - (REQUEST_WORDS + next.made)
+
+    less : start_turns_after most (Collect next) < start_turns_after most (Collect c)
+    less =
+        omega (
+          arith,
+          unless_ended-le left_at_most next.next,
+          unless_ended-goes (most - (REQUEST_WORDS + c.made)) c.next goes,
+          made,
+          few_on,
+        )
+
+    pub TakesStartTurn-collect : (answer : Option HelpingTerms) → MakesStartStep b (Collect c) before after t.totals
+        → (IsSome answer ↔ (next.next ≡ nothing)) → IfSome answer (IsStartOf b t.start after.knows t.account t.call)
+        → IfSome answer (λ h. LeavesTotals b t.start after.knows t.was t.totals most (start_turns_in t.looked (Collect next)))
+        → TakesStartTurn b t (start_after t (Collect next) mark) before after t.totals answer
+    TakesStartTurn-collect answer step ends starts leaves = record {
+      call_is = refl;
+      account_is = refl;
+      start_is = refl;
+      mark_is = mark_is;
+      was_is = refl;
+      totals_are = refl;
+      turns = omega (arith, made, ap (start_turns_in t.looked) is);
+      step = subst (λ (k : StartStage). MakesStartStep b k before after t.totals) (sym is) step;
+      counted = subst (λ (k : BookTerms). StaysCounted t.totals k after.knows.seen) book (StaysCounted-IsCollectingThen t so c collects after.knows more);
+      left = subst (λ (k : StartStage). start_turns_after most (Collect next) < start_turns_after most k) (sym is) less;
+      so_far = subst (λ (k : BookTerms). IsStartWithin k (start_after t (Collect next) after.knows) (length after.knows.seen)) book
+          (IsStartWithin-IsCollectingThen t so c collects after.knows (Collect next) more (omega (arith, few)));
+      ends = (
+        λ some. ap (unless_ended left_at_most) (ends.0 some),
+        λ none. ends.1 (unless_ended-none left_at_most next.next (omega (arith, few_on)) none),
+      );
+      starts = starts;
+      leaves = leaves;
+    }

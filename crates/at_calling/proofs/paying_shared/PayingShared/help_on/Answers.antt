@@ -1,0 +1,275 @@
+use Rattle.std.proofs.Common.{None, Some, ◌≡◌, ℕ, ◌+◌, ◌-◌, ◌*◌, ◌<◌, ◌≤◌, length, sum, refl, sym, ap, subst, ◌∙◌, arith}
+use Rattle.at_ledger.specs.Book.{BookTerms}
+use Rattle.at_history.specs.Fronts.{places_max}
+use Rattle.at_shared.specs.PaymentTurns.{SettlesInTurns}
+use Rattle.at_history.specs.Histories.{IsHistory}
+use Rattle.at_board.specs.Knowledge.Seats.{SeatTerms}
+use Rattle.at_board.specs.declared.knowledge.Knowledge.{Knowledge}
+use Rattle.at_fold.specs.HasCounted.{HasCounted}
+use Rattle.at_fold.specs.Sums.{TotalSums}
+use Rattle.at_log.specs.declared.receipt.Receipt.{Receipt}
+use Rattle.at_object.specs.Paid.{PaysInRound}
+use Rattle.at_shared.specs.HelpingTerms.{HelpingTerms}
+use Rattle.at_shared.specs.Helpings.{decides_made, decides_on}
+use Rattle.at_shared.specs.Settling.{round_steps}
+use Rattle.at_shared.specs.declared.helping.HelpTurn.{HelpTurn}
+use Rattle.at_shared.specs.declared.helping.HelpTurn.TheVariants.{More, Settled}
+use Rattle.at_calling.proofs.PayingSharedLaws.{SettlesInTurns-settled, DecidesFew-settled, HasCountedSo-more, HasHelped-more, IsHelpingThen-begun, LeavesTotals-settled, PaysInRound-settled, few-so_far, share_turns_most-le}
+use Rattle.at_calling.proofs.PayingSharedTurns.{share_next, TakesShareTurn-on, TakesShareTurn-settled}
+use Rattle.at_calling.specs.KeptPayingShared.{TakesShareTurn, HasCountedSo, IsHelpingThen, IsPayingSharedSo, IsShareStageSo}
+use Rattle.at_calling.specs.PayingShared.{DecidesFew, MakesShareStep, PayingSharedTerms, settling_steps, share_exchanges_at, share_exchanges_made, share_turns_left, share_turns_most, unless_settled, unless_starting}
+use Rattle.at_calling.specs.Reading.{LeavesTotals}
+use Rattle.at_calling.specs.Turning.{IsHelpOf, IsHelpWithin, LeavesSeat, TurningTerms, WaitsOn, help_turns_left, help_turns_made}
+use Rattle.at_calling.specs.contracts.paying_shared.PayingShared.{the_view}
+use Rattle.at_calling.specs.declared.share_stage.ShareStage.{ShareStage}
+use Rattle.at_calling.specs.declared.share_stage.ShareStage.TheVariants.{Ended, Help}
+use Rattle.at_calling.proofs.paying_shared.PayingShared.help_on.Given as given
+use Rattle.at_calling.proofs.paying_shared.PayingShared.help_on.Goals.{After-known, After-self, After-turn-helped}
+use Rattle.at_calling.proofs.paying_shared.PayingShared.help_on.Goals as goal
+
+-- the board's book is that of the start
+book : (g : given.Over) (c : After-self g) → c.args.board.now.book ≡ c.self.inside.start.value.knows.book
+book g c =
+    sym c.requires.board.book
+    ∙ (ap (λ (v : Knowledge). v.book) (c.requires.mark ∙ sym (ap (λ (t : PayingSharedTerms). t.mark) c.self.view_is)) ∙ c.self.invariant.book)
+
+-- the turn of helping goes on
+helps : (g : given.Over) (c : After-turn-helped g) → IsHelpingThen (the_view c.self.inside) c.in-Help.helping c.in-Help.turning
+helps g c = subst (IsShareStageSo (the_view c.self.inside)) c.in-Help.is c.self.invariant.stage_so
+
+pub overflow_add-self : goal.overflow_add-self
+overflow_add-self g c =
+    let at = (goal.at.overflow_add-self g c).After-turn-helped in
+    let b : BookTerms = c.args.board.now.book in
+    let i = c.self.inside in
+    let v : Knowledge = i.start.value.knows in
+    let most : ℕ = share_turns_most b i.account places_max in
+    let few : most ≡ share_turns_most v.book i.account places_max =
+    ap (λ (k : BookTerms). share_turns_most k i.account places_max) (book g (goal.at.After-turn-helped g at).After-self) in
+    omega (
+      arith,
+      c.requires.left,
+      ap (share_turns_left b) c.self.view_is,
+      ap (unless_settled (most + 1 - i.turns)) c.in-Help.is,
+      few,
+      share_turns_most-le v.book i.account c.self.invariant.kept.book.begun c.self.invariant.slot_in.account_in,
+    )
+
+-- one turn more
+turns_now : (g : given.Over) (c : After-turn-helped g) → (helps g c).before + help_turns_made c.turn-helped.new.self ≡ c.self.inside.turns + 1
+turns_now g c = omega (arith, (helps g c).turns_are, c.turn-helped.ensures.turns)
+
+-- which are few
+within : (g : given.Over) (c : After-turn-helped g) → c.self.inside.turns + 1
+    ≤ share_turns_most c.args.board.now.book c.self.inside.account (length c.turn-helped.new.seat.knows.seen - sum c.self.inside.was.value.upto)
+within g c =
+    let same = book g (goal.at.After-turn-helped g c).After-self in
+    let b : BookTerms = c.args.board.now.book in
+    let i = c.self.inside in
+    let t : PayingSharedTerms = the_view i in
+    let v : Knowledge = i.start.value.knows in
+    let h : HelpingTerms = c.in-Help.helping in
+    let u : TurningTerms = c.in-Help.turning in
+    let w : Knowledge = c.turn-helped.new.seat.knows in
+    let turns : ℕ = help_turns_made c.turn-helped.new.self in
+    let so = helps g c in
+    let told = c.turn-helped.ensures in
+    let so_far : IsHelpWithin v.book.processes (decides_made h.account u.start w) u.was (length w.seen) turns =
+    subst (λ (k : BookTerms). IsHelpWithin k.processes (decides_made h.account u.start w) u.was (length w.seen) turns) same
+    (subst (λ (x : HelpingTerms). IsHelpWithin b.processes (decides_made x.account u.start w) u.was (length w.seen) turns) so.helping_is told.so_far) in
+    let once : decides_made h.account u.start w ≤ 1 = subst (λ (x : HelpingTerms). decides_made x.account u.start w ≤ 1) so.helping_is told.once in
+    omega (
+      arith,
+      few-so_far v.book v u.start w t.account t.call h so.helped t.was u.was so.before turns so.counted once told.seen so_far,
+      turns_now g c,
+      ap (λ (k : BookTerms). share_turns_most k i.account (length w.seen - sum i.was.value.upto)) same,
+    )
+
+within_all : (g : given.Over) (c : After-known g)
+    → c.self.inside.turns + 1 ≤ share_turns_most c.args.board.now.book c.self.inside.account places_max
+within_all g c = omega (arith, within g (goal.at.After-known g c).After-turn-helped, c.known.ensures.seat.history.few)
+
+-- the exchanges so far are those that were decided
+made : (g : given.Over) (c : After-turn-helped g)
+    → decides_made c.self.inside.account c.self.inside.start.value.knows c.turn-helped.new.seat.knows
+    ≡ share_exchanges_made (the_view c.self.inside) + share_exchanges_at c.self.inside.stage
+made g c =
+    let i = c.self.inside in
+    let v : Knowledge = i.start.value.knows in
+    let u : TurningTerms = c.in-Help.turning in
+    let w : Knowledge = c.turn-helped.new.seat.knows in
+    let so = helps g c in
+    let told = c.turn-helped.ensures in
+    let account : u.helping.account ≡ i.account = ap (λ (x : HelpingTerms). x.account) so.helping_is ∙ so.helped.start.account_is in
+    omega (
+      arith,
+      told.decides,
+      told.decides_few,
+      so.decides,
+      so.helped.decides,
+      ap (decides_on u.start) account,
+      ap (decides_on u.mark) account,
+      ap (decides_on w) account,
+      ap (λ (p : Knowledge). decides_on p i.account) so.mark_is,
+      ap (unless_starting (decides_made i.account v i.mark.value.knows)) c.in-Help.is,
+      ap share_exchanges_at c.in-Help.is,
+    )
+
+-- what a turn of helping answers and leaves, on the book of the start
+help_of : (g : given.Over) (c : After-turn-helped g) (answer : HelpTurn)
+    → IsHelpOf c.args.board.now.book c.in-Help.turning.start c.turn-helped.new.seat.knows c.in-Help.turning.helping answer
+    → IsHelpOf c.self.inside.start.value.knows.book c.in-Help.turning.start c.turn-helped.new.seat.knows c.in-Help.helping answer
+help_of g c answer told =
+    let u : TurningTerms = c.in-Help.turning in
+    let w : Knowledge = c.turn-helped.new.seat.knows in
+    subst (λ (k : BookTerms). IsHelpOf k u.start w c.in-Help.helping answer) (book g (goal.at.After-turn-helped g c).After-self)
+    (subst (λ (x : HelpingTerms). IsHelpOf c.args.board.now.book u.start w x answer) (helps g c).helping_is told)
+
+seat_of : (g : given.Over) (c : After-turn-helped g)
+    → LeavesSeat c.in-Help.turning.start c.turn-helped.new.seat.knows c.in-Help.turning.helping.account
+    → LeavesSeat c.in-Help.turning.start c.turn-helped.new.seat.knows c.in-Help.helping.account
+seat_of g c told =
+    subst (λ (x : HelpingTerms). LeavesSeat c.in-Help.turning.start c.turn-helped.new.seat.knows x.account) (helps g c).helping_is told
+
+totals_of : (g : given.Over) (c : After-turn-helped g)
+    → LeavesTotals c.args.board.now.book c.in-Help.turning.start c.turn-helped.new.seat.knows c.in-Help.turning.was c.turn-helped.new.totals
+    (round_steps c.args.board.now.book.processes
+    * decides_made c.in-Help.turning.helping.account c.in-Help.turning.start c.turn-helped.new.seat.knows) (help_turns_made c.turn-helped.new.self)
+    → LeavesTotals c.self.inside.start.value.knows.book c.in-Help.turning.start c.turn-helped.new.seat.knows c.in-Help.turning.was c.turn-helped.new.totals
+    (round_steps c.self.inside.start.value.knows.book.processes
+    * decides_made c.in-Help.helping.account c.in-Help.turning.start c.turn-helped.new.seat.knows) (help_turns_made c.turn-helped.new.self)
+totals_of g c told =
+    let b : BookTerms = c.args.board.now.book in
+    let h : HelpingTerms = c.in-Help.helping in
+    let u : TurningTerms = c.in-Help.turning in
+    let w : Knowledge = c.turn-helped.new.seat.knows in
+    let now : TotalSums = c.turn-helped.new.totals in
+    let turns : ℕ = help_turns_made c.turn-helped.new.self in
+    subst (λ (k : BookTerms). LeavesTotals k u.start w u.was now (round_steps k.processes * decides_made h.account u.start w) turns)
+    (book g (goal.at.After-turn-helped g c).After-self)
+    (subst (λ (x : HelpingTerms). LeavesTotals b u.start w u.was now (round_steps b.processes * decides_made x.account u.start w) turns)
+    (helps g c).helping_is told)
+
+pub invariant_of-self-2 : goal.invariant_of-self-2
+invariant_of-self-2 g c =
+    let at = (goal.at.invariant_of-self-2 g c).After-turn-helped in
+    let same = book g (goal.at.After-turn-helped g at).After-self in
+    let b : BookTerms = c.args.board.now.book in
+    let i = c.self.inside in
+    let t : PayingSharedTerms = the_view i in
+    let v : Knowledge = i.start.value.knows in
+    let h : HelpingTerms = c.in-Help.helping in
+    let u : TurningTerms = c.in-Help.turning in
+    let w : Knowledge = c.turn-helped.new.seat.knows in
+    let now : TotalSums = c.turn-helped.new.totals in
+    let turns : ℕ = help_turns_made c.turn-helped.new.self in
+    let next : TurningTerms = c.start.result in
+    let so = helps g at in
+    let told = c.in_ok-receipt.ensures in
+    let begun = c.start.ensures in
+    let more = c.in_default-2.is in
+    let seat = seat_of g at told.seat in
+    let help : IsHelpOf v.book u.start w h More =
+    subst (IsHelpOf v.book u.start w h) more (help_of g at c.in_ok-receipt.field-0 told.answer) in
+    let waits : WaitsOn v.book u.start w h =
+    subst (λ (k : BookTerms). WaitsOn k u.start w h) same (subst (λ (x : HelpingTerms). WaitsOn b u.start w x) so.helping_is (told.waits more)) in
+    let book_now : w.book ≡ v.book = c.turn-helped.ensures.board.book ∙ same in
+    let history : IsHistory v.book w.seen = subst (λ (k : BookTerms). IsHistory k w.seen) book_now c.known.ensures.seat.history in
+    let counted : HasCounted now v.book w.seen = subst (λ (k : BookTerms). HasCounted now k w.seen) same told.counted in
+    let counted_so : HasCountedSo v.book v w t.was now t.account (i.turns + 1) =
+    subst (HasCountedSo v.book v w t.was now t.account) (turns_now g at)
+    (HasCountedSo-more v.book v u.start w t.account t.call h so.helped seat waits t.was u.was now so.before turns so.counted (totals_of g at told.leaves) counted history) in
+    let stage : ShareStage = Help h next in
+    let here : IsPayingSharedSo (record t { stage = stage; turns = i.turns + 1; mark = w; totals = now }) = record {
+      kept = c.self.invariant.kept;
+      book = book_now;
+      settled = c.self.invariant.settled;
+      slot = c.self.invariant.slot;
+      slot_in = c.self.invariant.slot_in;
+      stage_so = IsHelpingThen-begun (record t { stage = stage; turns = i.turns + 1; mark = w; totals = now }) h next begun.helping begun.start begun.mark begun.was
+          begun.totals begun.turns (subst (λ (k : BookTerms). 0 < help_turns_left k.processes next.stage) same begun.left)
+          (HasHelped-more v.book v u.start w t.account t.call h so.helped seat waits help) counted_so;
+    } in
+    subst (λ (x : TurningTerms). IsPayingSharedSo (record t { stage = Help h x; turns = i.turns + 1; mark = c.of.result.value.knows; totals = c.of-2.result.value }))
+    (sym c.become_next-2.ensures)
+    (subst (λ (x : SeatTerms). IsPayingSharedSo (record t { stage = stage; turns = i.turns + 1; mark = x.knows; totals = c.of-2.result.value })) (sym c.of.ensures)
+    (subst (λ (x : TotalSums). IsPayingSharedSo (record t { stage = stage; turns = i.turns + 1; mark = w; totals = x })) (sym c.of-2.ensures) here))
+
+-- some turn was left
+some : (g : given.Over) (c : After-turn-helped g) → 0 < share_turns_left c.args.board.now.book (the_view c.self.inside)
+some g c = subst (λ (x : PayingSharedTerms). 0 < share_turns_left c.args.board.now.book x) (sym c.self.view_is) c.requires.left
+
+-- the step that was made
+step : (g : given.Over) (c : After-turn-helped g)
+    → MakesShareStep c.args.board.now.book c.self.inside.stage c.args.seat.now c.turn-helped.new.seat c.turn-helped.new.totals
+step g c =
+    subst (λ (k : ShareStage). MakesShareStep c.args.board.now.book k c.args.seat.now c.turn-helped.new.seat c.turn-helped.new.totals) (sym c.in-Help.is)
+    (c.turn-helped.new.self.stage, c.turn-helped.ensures.step)
+
+-- what the turn leaves where helping goes on
+goes_on : (g : given.Over) (c : After-known g) (mark : SeatTerms) → mark ≡ c.turn-helped.new.seat → (totals : TotalSums) → totals ≡ c.turn-helped.new.totals
+    → (u : TurningTerms)
+    → TakesShareTurn c.args.board.now.book c.args.self.now (share_next (the_view c.self.inside) (Help c.in-Help.helping u) mark.knows totals)
+    c.args.seat.now c.turn-helped.new.seat c.turn-helped.new.totals None
+goes_on g c mark mark_is totals totals_are u =
+    let at = (goal.at.After-known g c).After-turn-helped in
+    let b : BookTerms = c.args.board.now.book in
+    let t : PayingSharedTerms = the_view c.self.inside in
+    let before : SeatTerms = c.args.seat.now in
+    let after : SeatTerms = c.turn-helped.new.seat in
+    let now : TotalSums = c.turn-helped.new.totals in
+    let stage : ShareStage = Help c.in-Help.helping u in
+    subst (λ (x : PayingSharedTerms). TakesShareTurn b x (share_next t stage mark.knows totals) before after now None) c.self.view_is
+    (TakesShareTurn-on b t before after now mark.knows (ap (λ (m : SeatTerms). m.knows) mark_is) totals totals_are (some g at) (step g at) (within g at)
+    stage (λ n. refl) (within_all g c) (ap (λ (m : SeatTerms). decides_made t.account t.start m.knows) mark_is ∙ made g at))
+
+pub returns-in_err-receipt-clause-turned : goal.returns-in_err-receipt-clause-turned
+returns-in_err-receipt-clause-turned g c =
+    subst (TakesShareTurn c.args.board.now.book c.args.self.now
+    (share_next (the_view c.self.inside) (Help c.in-Help.helping c.turn-helped.new.self) c.of.result.value.knows c.of-2.result.value) c.args.seat.now
+    c.turn-helped.new.seat c.turn-helped.new.totals) (sym c.from_residual.ensures)
+    (goes_on g (goal.at.returns-in_err-receipt-clause-turned g c).After-known c.of.result.value c.of.ensures c.of-2.result.value c.of-2.ensures
+    c.turn-helped.new.self)
+
+pub returns-clause-turned : goal.returns-clause-turned
+returns-clause-turned g c =
+    goes_on g (goal.at.returns-clause-turned g c).After-known c.of.result.value c.of.ensures c.of-2.result.value c.of-2.ensures
+    c.become_next-2.new.self
+
+pub returns-in-Settled-clause-turned : goal.returns-in-Settled-clause-turned
+returns-in-Settled-clause-turned g c =
+    let at = (goal.at.returns-in-Settled-clause-turned g c).After-turn-helped in
+    let same = book g (goal.at.After-turn-helped g at).After-self in
+    let b : BookTerms = c.args.board.now.book in
+    let t : PayingSharedTerms = the_view c.self.inside in
+    let v : Knowledge = t.start in
+    let h : HelpingTerms = c.in-Help.helping in
+    let u : TurningTerms = c.in-Help.turning in
+    let before : SeatTerms = c.args.seat.now in
+    let after : SeatTerms = c.turn-helped.new.seat in
+    let w : Knowledge = after.knows in
+    let now : TotalSums = c.turn-helped.new.totals in
+    let mark : Knowledge = c.of.result.value.knows in
+    let totals : TotalSums = c.of-2.result.value in
+    let r : Receipt = c.in-Settled.receipt in
+    let so = helps g at in
+    let told = c.in_ok-receipt.ensures in
+    let seat = seat_of g at told.seat in
+    let help : IsHelpOf v.book u.start w h (Settled r) =
+    subst (IsHelpOf v.book u.start w h) c.in-Settled.is (help_of g at c.in_ok-receipt.field-0 told.answer) in
+    let pays : PaysInRound v.book v w t.account t.call r =
+    PaysInRound-settled v.book v u.start w t.account t.call h so.helped seat r help c.self.invariant.kept refl c.self.invariant.settled in
+    let settles : SettlesInTurns v.book v w t.account r = SettlesInTurns-settled v.book v u.start w t.account t.call h so.helped seat r help in
+    let few : DecidesFew v.book v w t.account = DecidesFew-settled v.book v u.start w t.account t.call h so.helped seat in
+    let leaves : LeavesTotals v.book v w t.was now (settling_steps v.book t.account) (t.turns + 1) =
+    subst (LeavesTotals v.book v w t.was now (settling_steps v.book t.account)) (turns_now g at)
+    (LeavesTotals-settled v.book v u.start w t.account t.call h so.helped seat t.was u.was now so.before (help_turns_made c.turn-helped.new.self) so.counted
+    (totals_of g at told.leaves)) in
+    subst (λ (k : ShareStage). TakesShareTurn b c.args.self.now (share_next t k mark totals) before after now (Some r)) (sym c.become_next.ensures)
+    (subst (λ (x : PayingSharedTerms). TakesShareTurn b x (share_next t Ended mark totals) before after now (Some r)) c.self.view_is
+    (TakesShareTurn-settled b t before after now mark (ap (λ (m : SeatTerms). m.knows) c.of.ensures) totals c.of-2.ensures (some g at) (step g at) (within g at) r
+    (subst (λ (k : BookTerms). PaysInRound k v w t.account t.call r) (sym same) pays)
+    (subst (λ (k : BookTerms). SettlesInTurns k v w t.account r) (sym same) settles)
+    (subst (λ (k : BookTerms). DecidesFew k v w t.account) (sym same) few) told.counted
+    (subst (λ (k : BookTerms). LeavesTotals k v w t.was now (settling_steps k t.account) (t.turns + 1)) (sym same) leaves)
+    (ap (λ (m : SeatTerms). decides_made t.account t.start m.knows) c.of.ensures ∙ made g at)))

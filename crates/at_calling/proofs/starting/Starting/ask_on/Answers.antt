@@ -1,0 +1,190 @@
+use Rattle.std.proofs.Common.{None, ◌≡◌, ℕ, ◌+◌, ◌<◌, ◌≤◌, ◌≢◌, IsSome, Some, false, true, refl, sym, ap, subst, ◌∙◌, arith}
+use Rattle.at_ledger.specs.Account.{slot_in, slots_of}
+use Rattle.at_ledger.specs.Book.{BookTerms, HasSlot, account_of}
+use Rattle.at_history.specs.Publications.{IsPrefix}
+use Rattle.at_board.specs.Knowledge.Seats.{SeatTerms}
+use Rattle.at_board.specs.Steps.Announce.{Announces}
+use Rattle.at_board.specs.declared.knowledge.Knowledge.{Knowledge}
+use Rattle.at_board.specs.declared.words.TheConstants.{REQUEST_WORDS}
+use Rattle.at_rows.specs.Asks.{HasAsked, opened}
+use Rattle.at_rows.specs.declared.open_request.OpenRequest.{OpenRequest}
+use Rattle.at_shared.proofs.Laws.Starting.{same_some}
+use Rattle.at_calling.proofs.StartingLaws.{HasSlot-IsAskingThen, HasSlot-IsStartingSo, IsPrefix-word, IsStartingSo-collect, slot_in-Announces, slot_of_start, start_after}
+use Rattle.at_calling.proofs.StartingSteps.{TakesStartTurn-ask}
+use Rattle.at_machines.specs.Asking.{AskingTerms, request_asked}
+use Rattle.at_machines.specs.CollectingRows.{CollectingRowsTerms, starting_rows}
+use Rattle.at_calling.specs.KeptStarting.{IsAskingThen, IsStartStageSo, IsStartingSo, TakesStartTurn}
+use Rattle.at_calling.specs.Starting.{MakesStartStep, StartingTerms, asking_steps_of, start_turns_after, start_turns_in}
+use Rattle.at_calling.specs.contracts.starting.Starting.{the_view}
+use Rattle.at_calling.specs.declared.start_stage.StartStage.{StartStage}
+use Rattle.at_calling.specs.declared.start_stage.StartStage.TheVariants.{Ask, Collect}
+use Rattle.at_calling.proofs.starting.Starting.ask_on.Given as given
+use Rattle.at_calling.proofs.starting.Starting.ask_on.Goals.{After-become_next, After-opened, After-self, After-slot_of, After-turn-announced}
+use Rattle.at_calling.proofs.starting.Starting.ask_on.Goals as goal
+
+-- what the seat knew is what the last turn left
+known_before : (g : given.Over) (c : After-self g) → c.args.seat.now.knows ≡ c.self.inside.mark.value.knows
+known_before g c = c.requires.mark ∙ sym (ap (λ (t : StartingTerms). t.mark) c.self.view_is)
+
+-- its seat is the board's
+book : (g : given.Over) (c : After-self g) → c.args.board.now.book ≡ c.self.inside.start.value.knows.book
+book g c = sym c.requires.board.book ∙ (ap (λ (v : Knowledge). v.book) (known_before g c) ∙ c.self.invariant.book)
+
+-- the request is stored
+asks : (g : given.Over) (c : After-turn-announced g) → IsAskingThen (the_view c.self.inside) c.in-Ask.asking
+asks g c = subst (IsStartStageSo (the_view c.self.inside)) c.in-Ask.is c.self.invariant.stage_so
+
+-- the slot is the seat's on the board
+slot_there : (g : given.Over) (c : After-turn-announced g)
+    → HasSlot c.args.board.now.book c.in-Ask.asking.start.first c.in-Ask.asking.account (slot_of_start (the_view c.self.inside) c.self.invariant)
+slot_there g c =
+    let t : StartingTerms = the_view c.self.inside in
+    let a : AskingTerms = c.in-Ask.asking in
+    subst (λ (b : BookTerms). HasSlot b a.start.first a.account (slot_of_start t c.self.invariant)) (sym (book g (goal.at.After-turn-announced g c).After-self))
+    (HasSlot-IsAskingThen t c.self.invariant a (asks g c) c.turn-announced.new.seat.knows)
+
+-- the request is announced
+announced : (g : given.Over) (c : After-slot_of g)
+    → Announces c.self.inside.start.value.knows.book c.in-Ask.asking.start c.turn-announced.new.seat.knows c.in-Ask.asking.account
+    (slot_of_start (the_view c.self.inside) c.self.invariant) (request_asked c.in-Ask.asking)
+announced g c =
+    let at = (goal.at.After-slot_of g c).After-turn-announced in
+    let a : AskingTerms = c.in-Ask.asking in
+    let slot = slot_of_start (the_view c.self.inside) c.self.invariant in
+    subst (λ (b : BookTerms). Announces b a.start c.turn-announced.new.seat.knows a.account slot (request_asked a))
+    (book g (goal.at.After-turn-announced g at).After-self) (c.in_ok-number.ensures.announced slot (slot_there g at))
+
+-- its slot is found
+found : (g : given.Over) (c : After-slot_of g) → c.slot_of.result ≡ Some (slot_of_start (the_view c.self.inside) c.self.invariant)
+found g c =
+    let at = (goal.at.After-slot_of g c).After-turn-announced in
+    let t : StartingTerms = the_view c.self.inside in
+    let a : AskingTerms = c.in-Ask.asking in
+    let w : Knowledge = c.turn-announced.new.seat.knows in
+    let same : c.book.result.now ≡ t.start.book = c.book.ensures ∙ book g (goal.at.After-turn-announced g at).After-self in
+    c.slot_of.ensures.slot
+    ∙ (ap (λ (b : BookTerms). slot_in (account_of b t.account) c.process.result) same
+    ∙ (ap (slot_in (account_of t.start.book t.account)) c.process.ensures.process
+    ∙ (ap (λ n. slot_in (account_of t.start.book n) w.first) (sym (asks g at).to_ask.account_is)
+    ∙ slot_in-Announces t c.self.invariant a (asks g at) w (announced g c))))
+
+pub unwrap-slot-requires : goal.unwrap-slot-requires
+unwrap-slot-requires g c = subst IsSome (sym (found g (goal.at.unwrap-slot-requires g c).After-slot_of)) refl
+
+-- and the request that waits is this one
+own_is : (g : given.Over) (c : After-opened g)
+    → c.opened.result ≡ opened (slot_of_start (the_view c.self.inside) c.self.invariant) c.in_ok-number.number c.in-Ask.asking.targets c.in-Ask.asking.since
+own_is g c =
+    let at = (goal.at.After-opened g c).After-slot_of in
+    let a : AskingTerms = c.in-Ask.asking in
+    let number : ℕ = c.in_ok-number.number in
+    let slot = slot_of_start (the_view c.self.inside) c.self.invariant in
+    let same : c.unwrap-slot.result ≡ slot = same_some c.unwrap-slot.result slot (sym c.unwrap-slot.ensures ∙ found g at) in
+    c.opened.ensures
+    ∙ (ap (λ (x : AskingTerms). opened c.unwrap-slot.result number x.targets x.since) c.turn-announced.ensures.after
+    ∙ ap (λ n. opened n number a.targets a.since) same)
+
+pub start-collecting-requires : goal.start-collecting-requires
+start-collecting-requires g c =
+    let here = (goal.at.start-collecting-requires g c).After-opened in
+    let at = (goal.at.start-collecting-requires g c).After-turn-announced in
+    let a : AskingTerms = c.in-Ask.asking in
+    let b : BookTerms = c.args.board.now.book in
+    let w : Knowledge = c.turn-announced.new.seat.knows in
+    let slot = slot_of_start (the_view c.self.inside) c.self.invariant in
+    let own : HasAsked b w a.account (opened slot c.in_ok-number.number a.targets a.since) =
+    c.in_ok-number.ensures.own slot (slot_there g at) in
+    subst (λ (k : BookTerms). HasAsked k w c.self.inside.account c.opened.result) (sym c.turn-announced.ensures.board.book)
+    (subst (λ n. HasAsked b w n c.opened.result) (asks g at).to_ask.account_is (subst (HasAsked b w a.account) (sym (own_is g here)) own))
+
+-- the rows come next
+rows_next : (g : given.Over) (c : After-become_next g)
+    → c.become_next.new.self
+    ≡ Collect (starting_rows c.turn-announced.new.seat.knows c.in-Ask.asking.account
+    (opened (slot_of_start (the_view c.self.inside) c.self.invariant) c.in_ok-number.number c.in-Ask.asking.targets c.in-Ask.asking.since))
+rows_next g c =
+    let here = (goal.at.After-become_next g c).After-opened in
+    let at = (goal.at.After-become_next g c).After-turn-announced in
+    let a : AskingTerms = c.in-Ask.asking in
+    let w : Knowledge = c.turn-announced.new.seat.knows in
+    let own : OpenRequest = opened (slot_of_start (the_view c.self.inside) c.self.invariant) c.in_ok-number.number a.targets a.since in
+    c.become_next.ensures
+    ∙ (ap (λ (r : CollectingRowsTerms). Collect r) c.start-collecting.ensures
+    ∙ (ap (λ (x : OpenRequest). Collect (starting_rows w c.self.inside.account x)) (own_is g here)
+    ∙ ap (λ n. Collect (starting_rows w n own)) (sym (asks g at).to_ask.account_is)))
+
+pub invariant_of-self-2 : goal.invariant_of-self-2
+invariant_of-self-2 g c =
+    let next = (goal.at.invariant_of-self-2 g c).After-become_next in
+    let slot_found = (goal.at.invariant_of-self-2 g c).After-slot_of in
+    let at = (goal.at.invariant_of-self-2 g c).After-turn-announced in
+    let t : StartingTerms = the_view c.self.inside in
+    let a : AskingTerms = c.in-Ask.asking in
+    let w : Knowledge = c.turn-announced.new.seat.knows in
+    let told = c.in_ok-number.ensures in
+    let number : ℕ = c.in_ok-number.number in
+    let stage : StartStage = Collect (starting_rows w a.account (opened (slot_of_start t c.self.invariant) number a.targets a.since)) in
+    let same : w.book ≡ t.start.book = c.turn-announced.ensures.board.book ∙ book g (goal.at.After-turn-announced g at).After-self in
+    let here : IsStartingSo (start_after t stage w) =
+    IsStartingSo-collect t c.self.invariant a (asks g at) w (announced g slot_found) number same told.number told.nothing in
+    subst (λ (s : StartStage). IsStartingSo (start_after t s c.of.result.value.knows)) (sym (rows_next g next))
+    (subst (λ (s : SeatTerms). IsStartingSo (start_after t stage s.knows)) (sym c.of.ensures) here)
+
+-- the account has a slot on the board
+some_slot : (g : given.Over) (c : After-turn-announced g) → 1 ≤ slots_of (account_of c.args.board.now.book c.self.inside.account)
+some_slot g c =
+    omega (
+      arith,
+      (HasSlot-IsStartingSo (the_view c.self.inside) c.self.invariant).within,
+      ap (λ (b : BookTerms). slots_of (account_of b c.self.inside.account)) (book g (goal.at.After-turn-announced g c).After-self),
+    )
+
+-- what the turn leaves, with whichever stage next
+turned : (g : given.Over) (c : After-turn-announced g) (mark : SeatTerms) → mark ≡ c.turn-announced.new.seat
+    → IsPrefix c.in-Ask.asking.start.seen c.turn-announced.new.seat.knows.seen → (stage : StartStage)
+    → start_turns_in c.self.inside.looked stage ≡ c.self.inside.looked + c.in-Ask.asking.stored + 1
+    → MakesStartStep c.args.board.now.book (Ask c.in-Ask.asking) c.args.seat.now c.turn-announced.new.seat c.self.inside.totals.value
+    → 0 < start_turns_after (asking_steps_of c.args.board.now.book (the_view c.self.inside)) stage
+    → start_turns_after (asking_steps_of c.args.board.now.book (the_view c.self.inside)) stage
+    < start_turns_after (asking_steps_of c.args.board.now.book (the_view c.self.inside)) (Ask c.in-Ask.asking)
+    → TakesStartTurn c.args.board.now.book c.args.self.now (start_after (the_view c.self.inside) stage mark.knows) c.args.seat.now
+    c.turn-announced.new.seat c.args.self.now.totals None
+turned g c mark mark_is more stage same step some left =
+    let b : BookTerms = c.args.board.now.book in
+    let t : StartingTerms = the_view c.self.inside in
+    let after : SeatTerms = c.turn-announced.new.seat in
+    subst (λ (s : StartingTerms). TakesStartTurn b s (start_after t stage mark.knows) c.args.seat.now after s.totals None) c.self.view_is
+    (TakesStartTurn-ask b t c.self.invariant (sym (book g (goal.at.After-turn-announced g c).After-self)) c.args.seat.now after mark.knows
+    (ap (λ (m : SeatTerms). m.knows) mark_is) c.in-Ask.asking c.in-Ask.is more stage same step some left)
+
+pub returns-in_err-number-clause-turned : goal.returns-in_err-number-clause-turned
+returns-in_err-number-clause-turned g c =
+    let at = (goal.at.returns-in_err-number-clause-turned g c).After-turn-announced in
+    let t : StartingTerms = the_view c.self.inside in
+    let a : AskingTerms = c.in-Ask.asking in
+    let told = c.turn-announced.ensures in
+    let other : a.stored ≢ REQUEST_WORDS = λ all. let wrong : false ≡ true = c.in_err-number.ensures.ends.1 all in absurd (cc wrong) in
+    let left : a.stored < REQUEST_WORDS = omega (arith, (asks g at).left, other) in
+    let next : StartStage = Ask c.turn-announced.new.self in
+    let stored : c.turn-announced.new.self.stored ≡ a.stored + 1 = ap (λ (x : AskingTerms). x.stored) told.after in
+    subst (TakesStartTurn c.args.board.now.book c.args.self.now (start_after t next c.of.result.value.knows) c.args.seat.now
+    c.turn-announced.new.seat c.args.self.now.totals) (sym c.from_residual.ensures)
+    (turned g at c.of.result.value c.of.ensures (IsPrefix-word t c.self.invariant a (asks g at) c.turn-announced.new.seat.knows (told.word left)) next
+    (omega (arith, stored)) (λ inside. told.word inside, λ all. absurd (other all)) (omega (arith, stored, left, some_slot g at))
+    (omega (arith, stored, left, some_slot g at)))
+
+pub returns-clause-turned : goal.returns-clause-turned
+returns-clause-turned g c =
+    let next = (goal.at.returns-clause-turned g c).After-become_next in
+    let slot_found = (goal.at.returns-clause-turned g c).After-slot_of in
+    let at = (goal.at.returns-clause-turned g c).After-turn-announced in
+    let t : StartingTerms = the_view c.self.inside in
+    let a : AskingTerms = c.in-Ask.asking in
+    let told = c.in_ok-number.ensures in
+    let all : a.stored ≡ REQUEST_WORDS = told.ends.0 refl in
+    let stage : StartStage = Collect (starting_rows c.turn-announced.new.seat.knows a.account
+    (opened (slot_of_start t c.self.invariant) c.in_ok-number.number a.targets a.since)) in
+    subst (λ (k : StartStage). TakesStartTurn c.args.board.now.book c.args.self.now (start_after t k c.of.result.value.knows) c.args.seat.now
+    c.turn-announced.new.seat c.args.self.now.totals None) (sym (rows_next g next))
+    (turned g at c.of.result.value c.of.ensures (announced g slot_found).more stage (omega (arith, all))
+    (λ inside. absurd (omega (arith, inside, all)), λ full. told.announced) (omega (arith, some_slot g at)) (omega (arith, all, some_slot g at)))
