@@ -1,11 +1,10 @@
 use Rattle.std.proofs.Common.{◌≡◌, [], ◌∷◌, ◌++◌, Err, refl, ◌∙◌, ap, sym, arith}
 use Rattle.at_files.proofs.SpelledWalk.{AreSpelled-start, AreSpelled-more, AreSpelled-end, AreSpelled-bad, AreSpelled-many, Bad-same}
-use Rattle.at_files.proofs.spelled.read_items.Goals as goal
+use Rattle.at_files.proofs.spelled.read_into.Goals as goal
 
 pub loop-line-init : goal.loop-line-init
 loop-line-init g c =
-    rw (c.new-items.ensures.items, c.new-records.ensures)
-    (AreSpelled-start _ _ _ _)
+    rw c.requires.none (AreSpelled-start _ _ _ _)
 
 pub loop-line-preserved : goal.loop-line-preserved
 loop-line-preserved g c =
