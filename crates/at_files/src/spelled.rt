@@ -3,7 +3,7 @@
 ghost use Rattle.std.specs.Prelude.{◌≡◌, ◌+◌, ◌^◌, ◌<◌, Result, Err, Ok, IfOk, OnOk, []};
 ghost use Rattle.csv.specs.Records.{fields_of};
 ghost use Rattle.at_files.specs.Records.{Fields, file_records};
-ghost use Rattle.at_files.specs.Spelled.{items_of};
+ghost use Rattle.at_files.specs.Spelled.{items_of, with_item};
 
 use crate::records::Records;
 use csv::ByteRecord;
@@ -37,6 +37,29 @@ pub(crate) trait RecordForm {
         ensures { result ≡ item self.now (fields_of fields.now) };
 }
 
+/// Adds what the record of a line spells to the items.
+fn add_item<F: RecordForm>(
+    form: &F,
+    line: u32,
+    fields: &ByteRecord,
+    items: &mut Vec<F::Item>,
+) -> Result<(), ReadFault<F::Why>>
+    ensures ok { OnOk result
+        (with_item line items.old.items (F.item form.now (fields_of fields.now))
+        ≡ Ok items.new.items) }
+    ensures bad { (b : BadRecord F.Why) → result ≡ Err (ReadFault.Bad b)
+        → with_item line items.old.items (F.item form.now (fields_of fields.now)) ≡ Err b }
+{
+    let item = match form.item_of(fields) {
+        Ok(item) => item,
+        Err(why) => return Err(ReadFault::Bad(BadRecord { line, why })),
+    };
+    if items.push(item).is_err() {
+        return Err(ReadFault::NoMemory);
+    }
+    Ok(())
+}
+
 /// Reads the records of a file into the items, of which there are none yet.
 ///
 /// It holds only references: what is owned stands in its caller.
@@ -62,12 +85,8 @@ fn read_into<F: RecordForm>(
         if !found {
             return Ok(());
         }
-        let item = match form.item_of(fields) {
-            Ok(item) => item,
-            Err(why) => return Err(ReadFault::Bad(BadRecord { line, why })),
-        };
-        if items.push(item).is_err() {
-            return Err(ReadFault::NoMemory);
+        if let Err(fault) = add_item(form, line, fields, items) {
+            return Err(fault);
         }
     }
     let Ok(found) = records.next(fields) else {
