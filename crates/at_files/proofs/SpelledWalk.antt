@@ -2,7 +2,7 @@
 use Rattle.std.proofs.Common.{◌≡◌, ℕ, ◌+◌, ◌<◌, Bool, true, false, ◌==◌, List, [], ◌∷◌, ◌++◌, Result, Ok, Err, if◌then◌else◌, refl, sym, ◌∙◌, ap, append_assoc, append-nil, arith}
 use Rattle.std.proofs.lemmas.Bool.Decides.{nat_tests}
 use Rattle.at_files.specs.Records.{Fields}
-use Rattle.at_files.specs.Spelled.{bad_record, items_before, item_before, items_from, items_of}
+use Rattle.at_files.specs.Spelled.{bad_record, items_before, item_before, items_from, items_of, with_item}
 use Rattle.at_files.specs.declared.spelled.BadRecord.{BadRecord}
 use Rattle.at_files.specs.declared.spelled.ReadFault.{ReadFault}
 use Rattle.at_files.specs.declared.spelled.ReadFault.TheVariants.{Bad}
@@ -35,15 +35,27 @@ AreSpelled-start item most over all = record { walk = sym (items_before-none (it
 abbrev pub IsNext : List Fields → Bool → Fields → List Fields → Type 0
 IsNext records found fields rest = records ≡ (if found then fields ∷ rest else [])
 
+-- the items with one more stand before what comes after its record
+items_before-with_item : {T W : Type 0} (line : ℕ) (items : List T) (spelled : Result T W) (more : List T) (later : Result (List T) (BadRecord W)) → with_item line items spelled ≡ Ok more
+    → items_before items (item_before line spelled later) ≡ items_before more later
+items_before-with_item line items (Ok x) more later h = let same : items ++ x ∷ [] ≡ more = cc in items_before-push items x later ∙ rw same refl
+items_before-with_item line items (Err why) more later h = absurd (cc)
+
+-- what comes after a fault changes nothing
+items_before-bad : {T W : Type 0} (line : ℕ) (items : List T) (spelled : Result T W) (bad : BadRecord W) (later : Result (List T) (BadRecord W)) → with_item line items spelled ≡ Err bad
+    → items_before items (item_before line spelled later) ≡ Err bad
+items_before-bad line items (Ok x) bad later h = absurd (cc)
+items_before-bad line items (Err why) bad later h = h
+
 pub AreSpelled-more : {T W : Type 0} (item : Fields → Result T W) (most : ℕ) (over : W) (all : List Fields) (items : List T) (line : ℕ) (records : List Fields) (found : Bool)
-    (fields : Fields) (rest : List Fields) (x : T) → AreSpelled item most over all items line records → IsNext records found fields rest → found ≡ true → line < most + 1
-    → item fields ≡ Ok x → AreSpelled item most over all (items ++ x ∷ []) (line + 1) rest
-AreSpelled-more item most over all items line records found fields rest x are next some h is =
+    (fields : Fields) (rest : List Fields) (more : List T) → AreSpelled item most over all items line records → IsNext records found fields rest → found ≡ true → line < most + 1
+    → with_item line items (item fields) ≡ Ok more → AreSpelled item most over all more (line + 1) rest
+AreSpelled-more item most over all items line records found fields rest more are next some h is =
     let here : records ≡ fields ∷ rest = next ∙ rw some refl in
     record {
       walk =
           (rw here at are.walk)
-          ∙ rw (items_from-more item most over line fields rest h, is) (items_before-push items x (items_from item most over (line + 1) rest));
+          ∙ rw (items_from-more item most over line fields rest h) (items_before-with_item line items (item fields) more (items_from item most over (line + 1) rest) is);
     }
 
 pub AreSpelled-end : {T W : Type 0} (item : Fields → Result T W) (most : ℕ) (over : W) (all : List Fields) (items : List T) (line : ℕ) (records : List Fields) (found : Bool)
@@ -55,11 +67,12 @@ AreSpelled-end item most over all items line records found fields rest are next 
     (rw here at are.walk) ∙ ap Ok (append-nil items)
 
 pub AreSpelled-bad : {T W : Type 0} (item : Fields → Result T W) (most : ℕ) (over : W) (all : List Fields) (items : List T) (line : ℕ) (records : List Fields) (found : Bool)
-    (fields : Fields) (rest : List Fields) (why : W) → AreSpelled item most over all items line records → IsNext records found fields rest → found ≡ true → line < most + 1
-    → item fields ≡ Err why → items_of item most over all ≡ bad_record line why
-AreSpelled-bad item most over all items line records found fields rest why are next some h is =
+    (fields : Fields) (rest : List Fields) (bad : BadRecord W) → AreSpelled item most over all items line records → IsNext records found fields rest → found ≡ true → line < most + 1
+    → with_item line items (item fields) ≡ Err bad → items_of item most over all ≡ Err bad
+AreSpelled-bad item most over all items line records found fields rest bad are next some h is =
     let here : records ≡ fields ∷ rest = next ∙ rw some refl in
-    (rw here at are.walk) ∙ rw (items_from-more item most over line fields rest h, is) refl
+    (rw here at are.walk)
+    ∙ rw (items_from-more item most over line fields rest h) (items_before-bad line items (item fields) bad (items_from item most over (line + 1) rest) is)
 
 pub AreSpelled-many : {T W : Type 0} (item : Fields → Result T W) (most : ℕ) (over : W) (all : List Fields) (items : List T) (line : ℕ) (records : List Fields) (found : Bool)
     (fields : Fields) (rest : List Fields) → AreSpelled item most over all items line records → IsNext records found fields rest → found ≡ true → line ≡ most + 1

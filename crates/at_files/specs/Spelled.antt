@@ -17,6 +17,11 @@ abbrev pub item_before : {T W : Type 0} → ℕ → Result T W → Result (List 
 item_before line (Ok item) later = items_before (item ∷ []) later
 item_before line (Err why) later = bad_record line why
 
+-- the items so far with what the record of this line spells
+abbrev pub with_item : {T W : Type 0} → ℕ → List T → Result T W → Result (List T) (BadRecord W)
+with_item line items (Ok item) = Ok (items ++ item ∷ [])
+with_item line items (Err why) = bad_record line why
+
 -- what the records spell from this line on, by what one of them does: no more than `most`, and else `over` is the cause
 unfoldable pub items_from : {T W : Type 0} → (Fields → Result T W) → ℕ → W → ℕ → List Fields → Result (List T) (BadRecord W)
 items_from item most over line [] = Ok []

@@ -1,6 +1,6 @@
 //! The book of a file.
 
-ghost use Rattle.std.specs.Prelude.{◌≡◌, ◌⊎◌, [], Err, IfErr, IfOk, Ok};
+ghost use Rattle.std.specs.Prelude.{◌≡◌, ◌⊎◌, [], Err, IfErr, IfOk, Ok, OnOk};
 ghost use Rattle.at_ledger.specs.Book.{BookTerms, IsBook};
 ghost use Rattle.at_files.specs.Names.{AreNames, AreNamesOf, NameList};
 ghost use Rattle.at_files.specs.Records.{file_records};
@@ -91,28 +91,29 @@ fn read_limits(
 }
 
 /// Reads the records from the fourth on into a book without accounts.
+///
+/// It holds only references: what is owned stands in its caller.
 fn read_accounts(
     alloc: Global,
-    begun: Begun,
+    begun: &mut Begun,
     records: &mut Records<'_>,
     fields: &mut ByteRecord,
-) -> Result<Begun, ReadBookFault>
-    requires empty { begun.book.accounts ≡ [] }
-    requires names { AreNamesOf begun.book begun.names }
-    ensures ok { IfOk result (λ b. accounts_from begun records.old ≡ book_at_end b) }
-    ensures names { IfOk result (λ b. AreNamesOf b.book b.names) }
+) -> Result<(), ReadBookFault>
+    requires empty { begun.old.book.accounts ≡ [] }
+    requires names { AreNamesOf begun.old.book begun.old.names }
+    ensures ok { OnOk result (accounts_from begun.old records.old ≡ book_at_end begun.new) }
+    ensures names { OnOk result (AreNamesOf begun.new.book begun.new.names) }
     ensures bad { (b : BadBook) → result ≡ Err (ReadBookFault.Bad b)
-        → accounts_from begun records.old ≡ Err b }
+        → accounts_from begun.old records.old ≡ Err b }
 {
-    let mut begun = begun;
     for account in 0..ACCOUNTS_MAX {
         let Ok(found) = records.next(fields) else {
             return Err(ReadBookFault::NoMemory);
         };
         if !found {
-            return Ok(begun);
+            return Ok(());
         }
-        if let Err(fault) = add_record(alloc, &mut begun, account, fields) {
+        if let Err(fault) = add_record(alloc, begun, account, fields) {
             return Err(fault);
         }
     }
@@ -122,7 +123,7 @@ fn read_accounts(
     if found {
         return Err(bad_book(ACCOUNTS_MAX + 4, BookWhy::Book(BookError::TooManyAccounts)));
     }
-    Ok(begun)
+    Ok(())
 }
 
 /// Ends a book: it has an account.
@@ -166,14 +167,13 @@ fn read_terms(
         Ok(processes) => processes,
         Err(fault) => return Err(fault),
     };
-    let begun = match read_limits(alloc, version, processes, records, fields) {
+    let mut begun = match read_limits(alloc, version, processes, records, fields) {
         Ok(begun) => begun,
         Err(fault) => return Err(fault),
     };
-    let begun = match read_accounts(alloc, begun, records, fields) {
-        Ok(begun) => begun,
-        Err(fault) => return Err(fault),
-    };
+    if let Err(fault) = read_accounts(alloc, &mut begun, records, fields) {
+        return Err(fault);
+    }
     finish_book(begun)
 }
 

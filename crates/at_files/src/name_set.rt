@@ -19,9 +19,15 @@ pub(crate) const NAME_MAX: usize = 16;
 type Name = ArrayVec<u8, NAME_MAX>;
 
 /// Names in order, no two of which are the same. A name is looked up by its hash.
-#[derive(Drop)]
 pub(crate) struct NameSet {
     names: IndexSet<Name>,
+}
+
+// written out, so that each end of a function that owns one calls it, and doesn't drop the fields there
+impl Drop for NameSet {
+    fn drop(self) {
+        let NameSet { names: _ } = self;
+    }
 }
 
 impl Model for NameSet {

@@ -11,11 +11,21 @@ use std::marker::Model;
 
 /// The names of a book's processes and accounts, as its file gives them. Those of a book of version 1 are
 /// its numbers, as canonical decimals.
-#[derive(Drop)]
 pub struct Names {
     version: u32,
     processes: NameSet,
     accounts: NameSet,
+}
+
+// written out, so that each end of a function that owns one calls it, and doesn't drop the fields there
+impl Drop for Names {
+    fn drop(self) {
+        let Names {
+            version: _,
+            processes: _,
+            accounts: _,
+        } = self;
+    }
 }
 
 impl Model for Names {

@@ -10,10 +10,19 @@ use std::alloc::{AllocError, Global};
 use std::marker::Model;
 
 /// The records that are left of a file.
-#[derive(Drop)]
 pub(crate) struct Records<'a> {
     reader: Reader<&'a [u8]>,
     ended: bool,
+}
+
+// written out, so that each end of a function that owns one calls it, and doesn't drop the fields there
+impl<'a> Drop for Records<'a> {
+    fn drop(self) {
+        let Records {
+            reader: _,
+            ended: _,
+        } = self;
+    }
 }
 
 impl<'a> Model for Records<'a> {

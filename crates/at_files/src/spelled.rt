@@ -1,9 +1,9 @@
 //! Files of which each record spells one thing.
 
-ghost use Rattle.std.specs.Prelude.{◌≡◌, ◌+◌, ◌^◌, ◌<◌, Result, Err, Ok, IfOk};
+ghost use Rattle.std.specs.Prelude.{◌≡◌, ◌+◌, ◌^◌, ◌<◌, Result, Err, Ok, IfOk, OnOk, []};
 ghost use Rattle.csv.specs.Records.{fields_of};
 ghost use Rattle.at_files.specs.Records.{Fields, file_records};
-ghost use Rattle.at_files.specs.Spelled.{items_of};
+ghost use Rattle.at_files.specs.Spelled.{items_of, with_item};
 
 use crate::records::Records;
 use csv::ByteRecord;
@@ -37,6 +37,70 @@ pub(crate) trait RecordForm {
         ensures { result ≡ item self.now (fields_of fields.now) };
 }
 
+/// Adds what the record of a line spells to the items.
+fn add_item<F: RecordForm>(
+    form: &F,
+    line: u32,
+    fields: &ByteRecord,
+    items: &mut Vec<F::Item>,
+) -> Result<(), ReadFault<F::Why>>
+    ensures ok { OnOk result
+        (with_item line items.old.items (F.item form.now (fields_of fields.now))
+        ≡ Ok items.new.items) }
+    ensures bad { (b : BadRecord F.Why) → result ≡ Err (ReadFault.Bad b)
+        → with_item line items.old.items (F.item form.now (fields_of fields.now)) ≡ Err b }
+{
+    let item = match form.item_of(fields) {
+        Ok(item) => item,
+        Err(why) => return Err(ReadFault::Bad(BadRecord { line, why })),
+    };
+    if items.push(item).is_err() {
+        return Err(ReadFault::NoMemory);
+    }
+    Ok(())
+}
+
+/// Reads the records of a file into the items, of which there are none yet.
+///
+/// It holds only references: what is owned stands in its caller.
+fn read_into<F: RecordForm>(
+    form: &F,
+    most: u32,
+    over: F::Why,
+    records: &mut Records<'_>,
+    fields: &mut ByteRecord,
+    items: &mut Vec<F::Item>,
+) -> Result<(), ReadFault<F::Why>>
+    requires most { most + 1 < 2 ^ 32 }
+    requires none { items.old.items ≡ [] }
+    ensures ok { OnOk result
+        (items_of (F.item form.now) most over records.old ≡ Ok items.new.items) }
+    ensures bad { (b : BadRecord F.Why) → result ≡ Err (ReadFault.Bad b)
+        → items_of (F.item form.now) most over records.old ≡ Err b }
+{
+    for line in 1..most + 1 {
+        let Ok(found) = records.next(fields) else {
+            return Err(ReadFault::NoMemory);
+        };
+        if !found {
+            return Ok(());
+        }
+        if let Err(fault) = add_item(form, line, fields, items) {
+            return Err(fault);
+        }
+    }
+    let Ok(found) = records.next(fields) else {
+        return Err(ReadFault::NoMemory);
+    };
+    if found {
+        return Err(ReadFault::Bad(BadRecord {
+            line: most + 1,
+            why: over,
+        }));
+    }
+    Ok(())
+}
+
 /// Reads a file of at most `most` records; the fault of the record after these is `over`.
 ///
 /// Fields are looked at where they lie; beside the items only one record is held at a time.
@@ -56,29 +120,8 @@ pub(crate) fn read_items<F: RecordForm>(
     let mut records = Records::new(alloc, bytes);
     let mut fields = ByteRecord::new(alloc);
     let mut items = Vec::new(alloc);
-    for line in 1..most + 1 {
-        let Ok(found) = records.next(&mut fields) else {
-            return Err(ReadFault::NoMemory);
-        };
-        if !found {
-            return Ok(items);
-        }
-        let item = match form.item_of(&fields) {
-            Ok(item) => item,
-            Err(why) => return Err(ReadFault::Bad(BadRecord { line, why })),
-        };
-        if items.push(item).is_err() {
-            return Err(ReadFault::NoMemory);
-        }
+    match read_into(form, most, over, &mut records, &mut fields, &mut items) {
+        Ok(()) => Ok(items),
+        Err(fault) => Err(fault),
     }
-    let Ok(found) = records.next(&mut fields) else {
-        return Err(ReadFault::NoMemory);
-    };
-    if found {
-        return Err(ReadFault::Bad(BadRecord {
-            line: most + 1,
-            why: over,
-        }));
-    }
-    Ok(items)
 }
