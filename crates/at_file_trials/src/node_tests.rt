@@ -148,7 +148,7 @@ const ONE_EACH: &[u8] =
     b"node 0\nvalidated 1 1\n0 90\n1 10\ntotal 100\nnode 1\nvalidated 0 0\n0 100\n1 0\ntotal 100\n";
 
 /// A message before the one that it needs; with one that its balance never covers; and with a repeated delivery.
-const ORDERS: [&[u8]; 3] = [
+const ORDERS: &[&[u8]] = &[
     b"0,1,0\n0,0,0\n1,1,0\n",
     b"0,1,0\n0,0,0\n1,1,0\n0,0,1\n",
     b"0,1,0\n0,1,0\n0,0,0\n1,1,0\n0,0,0\n",
@@ -156,7 +156,7 @@ const ORDERS: [&[u8]; 3] = [
 
 #[test]
 fn deliveries_in_any_order(rt: HostRuntime) {
-    for order in &ORDERS {
+    for order in ORDERS {
         assert!(rt; leads_to(rt.alloc(), order, ONE_EACH), "{order:?}");
     }
 }
