@@ -1,13 +1,11 @@
 //! Worked rows, orders of delivery, and messages that never become valid.
 
-ghost use Rattle.std.specs.Prelude.{◌≡◌, length, IfOk};
+ghost use Rattle.std.specs.Prelude.{◌≡◌, length, IfSome};
 
 use at_base::Counts;
 use at_broadcast::{MESSAGES_MAX, Message, Node};
 use at_ledger::{Book, BookBuilder};
 use std::alloc::{AllocError, Global};
-use std::process::Abort;
-use std::test::Fail;
 
 /// A message of two processes: its sender and number, then source, target and amount, then `deps`.
 type Sent = (u32, u32, (u32, u32, u64), [u32; 2]);
@@ -52,19 +50,51 @@ fn shown_by(node: &Node) -> Shown
     )
 }
 
-/// A node of two processes. Account 0 is process 0's and account 1 process 1's, account 2 has no owner, and account 3 both.
-fn new_node<R: Abort>(rt: &R, alloc: Global) -> Result<Node, Fail>
-    ensures processes { IfOk result (λ n. n.book.processes ≡ 2) }
-    ensures accounts { IfOk result (λ n. length n.book.accounts ≡ 4) }
+/// Account 0 is process 0's and account 1 process 1's, account 2 has no owner, and account 3 both.
+const ACCOUNTS: &[(u64, &[u64])] = &[(100, &[0]), (0, &[1]), (50, &[]), (50, &[0, 1])];
+
+/// Whether the accounts are added to the book.
+fn are_added(builder: &mut BookBuilder) -> bool {
+    for (opening, owners) in ACCOUNTS {
+        if builder.add(*opening, owners).is_err() {
+            return false;
+        }
+    }
+    true
+}
+
+/// A book of two processes and these accounts.
+fn new_book(alloc: Global) -> Option<Book> {
+    let Ok(mut builder) = BookBuilder::new(alloc, 2, 1, 1) else {
+        return None;
+    };
+    if are_added(&mut builder) {
+        builder.finish().ok()
+    } else {
+        None
+    }
+}
+
+/// A node of the book, if it has two processes and four accounts.
+fn node_of(alloc: Global, book: &Book) -> Option<Node>
+    ensures processes { IfSome result (λ n. n.book.processes ≡ 2) }
+    ensures accounts { IfSome result (λ n. length n.book.accounts ≡ 4) }
 {
-    let mut builder = BookBuilder::new(alloc, 2, 1, 1)?;
-    builder.add(100, &[0])?;
-    builder.add(0, &[1])?;
-    builder.add(50, &[])?;
-    builder.add(50, &[0, 1])?;
-    let book = builder.finish()?;
-    assert!(rt; book.processes() == 2 && book.accounts() == 4);
-    Ok(Node::new(alloc, &book)?)
+    if book.processes() != 2 || book.accounts() != 4 {
+        return None;
+    }
+    Node::new(alloc, book).ok()
+}
+
+/// A node that has been given no message.
+fn new_node(alloc: Global) -> Option<Node>
+    ensures processes { IfSome result (λ n. n.book.processes ≡ 2) }
+    ensures accounts { IfSome result (λ n. length n.book.accounts ≡ 4) }
+{
+    match new_book(alloc) {
+        Some(book) => node_of(alloc, &book),
+        None => None,
+    }
 }
 
 /// Delivers all messages in turn.
@@ -87,7 +117,7 @@ const OPENINGS: Shown = ([0, 0], [100, 0, 50, 50]);
 const BOTH: Shown = ([1, 1], [90, 10, 50, 50]);
 
 /// The messages in the order of their delivery, and what the node shows then.
-const CASES: [(&str, &[Sent], Shown); 12] = [
+const CASES: &[(&str, &[Sent], Shown)] = &[
     (
         "a message before the one that it needs",
         &[NEEDS, FIRST],
@@ -160,18 +190,23 @@ const CASES: [(&str, &[Sent], Shown); 12] = [
     ),
 ];
 
-#[test]
-fn worked_rows(rt: HostRuntime) -> Result<(), Fail> {
-    for (name, messages, shown) in &CASES {
-        let mut node = new_node(&rt, rt.alloc())?;
-        let got = deliver_all(&mut node, messages)?;
-        assert!(rt; got == *shown, "{name}");
+/// Whether the messages lead to this on a new node.
+fn lead_to(alloc: Global, messages: &[Sent], shown: &Shown) -> bool {
+    match new_node(alloc) {
+        Some(mut node) => deliver_all(&mut node, messages) == Ok(*shown),
+        None => false,
     }
-    Ok(())
+}
+
+#[test]
+fn worked_rows(rt: HostRuntime) {
+    for (name, messages, shown) in CASES {
+        assert!(rt; lead_to(rt.alloc(), messages, shown), "{name}");
+    }
 }
 
 /// Six messages. The last is never valid: account 1 holds 5 at its `deps`.
-const SIX: [Sent; 6] = [
+const SIX: &[Sent] = &[
     FIRST,
     NEEDS,
     (0, 1, (0, 1, 40), [1, 0]),
@@ -185,7 +220,7 @@ fn deliver_in_order(node: &mut Node, alloc: Global, order: usize) -> Result<Show
     requires processes { node.old.book.processes ≡ 2 }
     requires accounts { length node.old.book.accounts ≡ 4 }
 {
-    let mut left = Vec::from_slice(alloc, &SIX)?;
+    let mut left = Vec::from_slice(alloc, SIX)?;
     let mut order = order;
     while !left.is_empty() {
         let count = left.len();
@@ -196,25 +231,40 @@ fn deliver_in_order(node: &mut Node, alloc: Global, order: usize) -> Result<Show
     Ok(shown_by(node))
 }
 
-#[test]
-fn all_orders_end_alike(rt: HostRuntime) -> Result<(), Fail> {
-    for order in 0..720 {
-        let mut node = new_node(&rt, rt.alloc())?;
-        let got = deliver_in_order(&mut node, rt.alloc(), order)?;
-        assert!(rt; got == ([3, 2], [0, 5, 95, 100]), "{order}");
+/// Whether a new node ends as all do, after the six messages in this order.
+fn ends_alike(alloc: Global, order: usize) -> bool {
+    match new_node(alloc) {
+        Some(mut node) => {
+            deliver_in_order(&mut node, alloc, order) == Ok(([3, 2], [0, 5, 95, 100]))
+        }
+        None => false,
     }
-    Ok(())
 }
 
 #[test]
-fn tells_new_from_repeated(rt: HostRuntime) -> Result<(), Fail> {
-    let mut node = new_node(&rt, rt.alloc())?;
-    let told = [
-        deliver(&mut node, &NEEDS)?,
-        deliver(&mut node, &FIRST)?,
-        deliver(&mut node, &NEEDS)?,
-        deliver(&mut node, &(0, 0, (0, 1, 1), [0, 0]))?,
-    ];
-    assert!(rt; told == [true, true, false, false] && shown_by(&node) == BOTH);
-    Ok(())
+fn all_orders_end_alike(rt: HostRuntime) {
+    for order in 0..720 {
+        assert!(rt; ends_alike(rt.alloc(), order), "{order}");
+    }
+}
+
+/// Whether the node tells new messages from those that it was given before.
+fn tells_new(node: &mut Node) -> bool
+    requires processes { node.old.book.processes ≡ 2 }
+    requires accounts { length node.old.book.accounts ≡ 4 }
+{
+    deliver(node, &NEEDS) == Ok(true)
+        && deliver(node, &FIRST) == Ok(true)
+        && deliver(node, &NEEDS) == Ok(false)
+        && deliver(node, &(0, 0, (0, 1, 1), [0, 0])) == Ok(false)
+        && shown_by(node) == BOTH
+}
+
+#[test]
+fn tells_new_from_repeated(rt: HostRuntime) {
+    let told = match new_node(rt.alloc()) {
+        Some(mut node) => tells_new(&mut node),
+        None => false,
+    };
+    assert!(rt; told);
 }

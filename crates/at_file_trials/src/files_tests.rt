@@ -2,7 +2,7 @@
 
 ghost use Rattle.at_files.specs.Names.{AreNamesOf};
 
-use crate::test_files::{NAMED, ONE_PROCESS, book_of, repeated};
+use crate::test_files::{BookFile, NAMED, ONE_PROCESS, book_of, counted, repeated};
 use at_files::{
     BadBook, BadPayments, BookWhy, Names, PaymentsWhy, ReadBookFault, ReadPaymentsFault, read_book,
     read_payments,
@@ -16,30 +16,32 @@ const TWO_PROCESSES: &[u8] =
 /// A file with the line and the cause of its first fault.
 type BadFile<W> = (&'static [u8], u32, W);
 
+/// How many processes and accounts the book has, or why there is none.
+fn counts_of(alloc: Global, text: &[u8]) -> Result<(u32, u32), ReadBookFault> {
+    match read_book(alloc, text) {
+        Ok((book, _)) => Ok((book.processes(), book.accounts())),
+        Err(fault) => Err(fault),
+    }
+}
+
 /// Whether the book is refused for this fault.
 fn is_bad_book(alloc: Global, text: &[u8], line: u32, why: BookWhy) -> bool {
-    match read_book(alloc, text) {
-        Ok(_) => false,
-        Err(fault) => fault == ReadBookFault::Bad(BadBook { line, why }),
-    }
+    counts_of(alloc, text) == Err(ReadBookFault::Bad(BadBook { line, why }))
 }
 
 /// Whether the book has so many processes and accounts.
 fn is_good_book(alloc: Global, text: &[u8], processes: u32, accounts: u32) -> bool {
-    match book_of(alloc, text) {
-        Some((book, _)) => book.processes() == processes && book.accounts() == accounts,
-        None => false,
-    }
+    counts_of(alloc, text) == Ok((processes, accounts))
 }
 
-/// The first of the books that is not refused so.
-fn first_not_bad(alloc: Global, cases: &[BadFile<BookWhy>]) -> Option<&'static [u8]> {
+/// Whether each of the books is refused so.
+fn are_bad_books(alloc: Global, cases: &[BadFile<BookWhy>]) -> bool {
     for (text, line, why) in cases {
         if !is_bad_book(alloc, text, *line, *why) {
-            return Some(*text);
+            return false;
         }
     }
-    None
+    true
 }
 
 const CUT_BOOKS: &[(usize, u32, BookWhy)] = &[
@@ -58,16 +60,37 @@ const CUT_BOOKS: &[(usize, u32, BookWhy)] = &[
     (43, 4, BookWhy::Shape),
 ];
 
+/// The first bytes of the book of one process, so many of them.
+fn cut(length: usize) -> &'static [u8] {
+    ONE_PROCESS.get(..length).unwrap_or(b"")
+}
+
+/// Whether the book is refused so where it ends too early.
+fn are_bad_where_cut(alloc: Global) -> bool {
+    for (length, line, why) in CUT_BOOKS {
+        if !is_bad_book(alloc, cut(*length), *line, *why) {
+            return false;
+        }
+    }
+    true
+}
+
+/// Lengths of books that end early, with their accounts.
+const SHORT_BOOKS: &[(usize, u32)] = &[(44, 1), (45, 1), (46, 1), (58, 2), (59, 2)];
+
+/// Whether the book has so many accounts where it ends early.
+fn are_good_where_cut(alloc: Global) -> bool {
+    for (length, accounts) in SHORT_BOOKS {
+        if !is_good_book(alloc, cut(*length), 1, *accounts) {
+            return false;
+        }
+    }
+    true
+}
+
 #[test]
 fn books_that_are_cut(rt: HostRuntime) {
-    for (length, line, why) in CUT_BOOKS {
-        let text = ONE_PROCESS.get(..*length).unwrap_or(b"");
-        assert!(rt; is_bad_book(rt.alloc(), text, *line, *why), "at {length}");
-    }
-    for (length, accounts) in [(44, 1), (45, 1), (46, 1), (58, 2), (59, 2)] {
-        let text = ONE_PROCESS.get(..length).unwrap_or(b"");
-        assert!(rt; is_good_book(rt.alloc(), text, 1, accounts), "at {length}");
-    }
+    assert!(rt; are_bad_where_cut(rt.alloc()) && are_good_where_cut(rt.alloc()));
 }
 
 const BAD_BOOKS: &[BadFile<BookWhy>] = &[
@@ -126,67 +149,63 @@ const BAD_BOOKS: &[BadFile<BookWhy>] = &[
 
 #[test]
 fn books(rt: HostRuntime) {
-    assert_eq!(rt; first_not_bad(rt.alloc(), BAD_BOOKS), None);
-    assert!(rt; is_good_book(rt.alloc(), TWO_PROCESSES, 2, 3));
+    let alloc = rt.alloc();
+    assert!(rt; are_bad_books(alloc, BAD_BOOKS) && is_good_book(alloc, TWO_PROCESSES, 2, 3));
+}
+
+/// Adds an account that process 0 owns.
+fn push_account(book: &mut Vec<u8>, account: u32) -> Result<(), AllocError> {
+    book.extend_from_slice(b"account,")?;
+    at_base::push_number(book, u64::from(account))?;
+    book.extend_from_slice(b",1,0\n")
 }
 
 /// The text of a book of so many accounts.
 fn text_of(alloc: Global, accounts: u32) -> Result<Vec<u8>, AllocError> {
     let mut book = Vec::from_slice(alloc, b"book,1\nprocesses,1\nlimits,4,4\n")?;
     for account in 0..accounts {
-        book.extend_from_slice(b"account,")?;
-        at_base::push_number(&mut book, u64::from(account))?;
-        book.extend_from_slice(b",1,0\n")?;
+        push_account(&mut book, account)?;
     }
     Ok(book)
 }
 
-#[test]
-fn most_accounts(rt: HostRuntime) -> Result<(), AllocError> {
-    let alloc = rt.alloc();
-    let most = text_of(alloc, 1_024)?;
-    let more = text_of(alloc, 1_025)?;
-    let why = BookWhy::Book(BookError::TooManyAccounts);
-    assert!(rt; is_good_book(alloc, &most, 1, 1_024) && is_bad_book(alloc, &more, 1_028, why));
-    Ok(())
+/// How many processes and accounts are read from a book of so many accounts.
+fn read_counts(alloc: Global, accounts: u32) -> Result<(u32, u32), ReadBookFault> {
+    match text_of(alloc, accounts) {
+        Ok(text) => counts_of(alloc, text.as_slice()),
+        Err(_) => Err(ReadBookFault::NoMemory),
+    }
 }
 
-/// The calls beside the book. A book that is refused counts as no memory.
-fn calls_of(alloc: Global, book: &[u8], text: &[u8]) -> Result<Vec<Call>, ReadPaymentsFault> {
+#[test]
+fn most_accounts(rt: HostRuntime) {
+    let too_many = BadBook {
+        line: 1_028,
+        why: BookWhy::Book(BookError::TooManyAccounts),
+    };
+    assert!(rt;
+        read_counts(rt.alloc(), 1_024) == Ok((1, 1_024))
+            && read_counts(rt.alloc(), 1_025) == Err(ReadBookFault::Bad(too_many))
+    );
+}
+
+/// How many calls there are beside the book, or why none. A book that is refused counts as no memory.
+fn count_of(alloc: Global, book: &[u8], text: &[u8]) -> Result<usize, ReadPaymentsFault> {
     match book_of(alloc, book) {
-        Some((book, names)) => read_payments(alloc, &book, &names, text),
+        Some(file) => counted(read_payments(alloc, &file.book, &file.names, text)),
         None => Err(ReadPaymentsFault::NoMemory),
     }
 }
 
-/// Whether the calls beside the book are refused for this fault.
-fn are_bad_payments(alloc: Global, book: &[u8], text: &[u8], line: u32, why: PaymentsWhy) -> bool {
-    match calls_of(alloc, book, text) {
-        Ok(_) => false,
-        Err(fault) => fault == ReadPaymentsFault::Bad(BadPayments { line, why }),
-    }
-}
-
-/// How many calls there are beside the book, if all is good.
-fn count_of(alloc: Global, book: &[u8], text: &[u8]) -> Option<usize> {
-    match calls_of(alloc, book, text) {
-        Ok(calls) => Some(calls.len()),
-        Err(_) => None,
-    }
-}
-
-/// The first of the payments beside the book that are not refused so.
-fn first_not_bad_payments(
-    alloc: Global,
-    book: &[u8],
-    cases: &[BadFile<PaymentsWhy>],
-) -> Option<&'static [u8]> {
+/// Whether each of the calls beside the book are refused so.
+fn are_bad_payments(alloc: Global, book: &[u8], cases: &[BadFile<PaymentsWhy>]) -> bool {
     for (text, line, why) in cases {
-        if !are_bad_payments(alloc, book, text, *line, *why) {
-            return Some(*text);
+        let (line, why) = (*line, *why);
+        if count_of(alloc, book, text) != Err(ReadPaymentsFault::Bad(BadPayments { line, why })) {
+            return false;
         }
     }
-    None
+    true
 }
 
 const BAD_PAYMENTS: &[BadFile<PaymentsWhy>] = &[
@@ -211,13 +230,9 @@ const BAD_PAYMENTS: &[BadFile<PaymentsWhy>] = &[
 #[test]
 fn payments(rt: HostRuntime) {
     let alloc = rt.alloc();
-    assert_eq!(rt;
-        first_not_bad_payments(alloc, ONE_PROCESS, BAD_PAYMENTS),
-        None
-    );
-    assert_eq!(rt;
-        first_not_bad_payments(alloc, TWO_PROCESSES, BAD_PAYMENTS),
-        None
+    assert!(rt;
+        are_bad_payments(alloc, ONE_PROCESS, BAD_PAYMENTS)
+            && are_bad_payments(alloc, TWO_PROCESSES, BAD_PAYMENTS)
     );
 }
 
@@ -226,22 +241,29 @@ fn good_payments(rt: HostRuntime) {
     let alloc = rt.alloc();
     let quoted = b"\"transfer\",0,1,30\r\n\r\nread,0";
     assert!(rt;
-        count_of(alloc, ONE_PROCESS, quoted) == Some(2)
-            && count_of(alloc, ONE_PROCESS, b"\n\n\n") == Some(0)
+        count_of(alloc, ONE_PROCESS, quoted) == Ok(2)
+            && count_of(alloc, ONE_PROCESS, b"\n\n\n") == Ok(0)
     );
 }
 
+/// How many reads of account 0 are read from a file of so many.
+fn read_count(alloc: Global, count: u32) -> Result<usize, ReadPaymentsFault> {
+    match repeated(alloc, b"read,0\n", count) {
+        Ok(text) => count_of(alloc, ONE_PROCESS, text.as_slice()),
+        Err(_) => Err(ReadPaymentsFault::NoMemory),
+    }
+}
+
 #[test]
-fn many_payments(rt: HostRuntime) -> Result<(), AllocError> {
-    let alloc = rt.alloc();
-    let most = repeated(alloc, b"read,0\n", 16_384)?;
-    let more = repeated(alloc, b"read,0\n", 16_385)?;
-    let why = PaymentsWhy::TooManyCalls;
+fn many_payments(rt: HostRuntime) {
+    let too_many = BadPayments {
+        line: 16_385,
+        why: PaymentsWhy::TooManyCalls,
+    };
     assert!(rt;
-        count_of(alloc, ONE_PROCESS, &most) == Some(16_384)
-            && are_bad_payments(alloc, ONE_PROCESS, &more, 16_385, why)
+        read_count(rt.alloc(), 16_384) == Ok(16_384)
+            && read_count(rt.alloc(), 16_385) == Err(ReadPaymentsFault::Bad(too_many))
     );
-    Ok(())
 }
 
 /// Whether the account and the process of this number have these names.
@@ -254,24 +276,34 @@ fn are_named(book: &Book, names: &Names, number: u32, account: &[u8], process: &
         && names.process(number) == process
 }
 
+/// Whether account 0 and process 0 are named by their number, and account 1 is found by its own.
+fn are_numbered(book: &Book, names: &Names) -> bool
+    requires { AreNamesOf book.now names.now }
+{
+    are_named(book, names, 0, b"0", b"0") && names.find(b"1") == Some(1)
+}
+
+/// Whether these are no names of accounts.
+fn are_no_names(names: &Names) -> bool {
+    names.find(b"2").is_none()
+        && names.find(b"01").is_none()
+        && names.find(b"").is_none()
+        && names.find(b"ann").is_none()
+}
+
 /// Whether this is the book of one process, and its names are its numbers.
 fn are_plain(book: &Book, names: &Names) -> bool
     requires { AreNamesOf book.now names.now }
 {
-    book.processes() == 1
-        && book.accounts() == 2
-        && names.version() == 1
-        && are_named(book, names, 0, b"0", b"0")
-        && names.find(b"1") == Some(1)
-        && [b"2".as_slice(), b"01", b"", b"ann"]
-            .iter()
-            .all(|name| names.find(name).is_none())
+    (book.processes(), book.accounts(), names.version()) == (1, 2, 1)
+        && are_numbered(book, names)
+        && are_no_names(names)
 }
 
 #[test]
 fn names_of_version_1(rt: HostRuntime) {
     let plain = match book_of(rt.alloc(), ONE_PROCESS) {
-        Some((book, names)) => are_plain(&book, &names),
+        Some(file) => are_plain(&file.book, &file.names),
         None => false,
     };
     assert!(rt; plain);
@@ -292,11 +324,21 @@ fn are_two_calls(calls: &[Call]) -> bool {
     ) && matches!(second, Call::Read { account: 1 })
 }
 
-#[test]
-fn calls_of_version_1(rt: HostRuntime) {
-    let two = match calls_of(rt.alloc(), ONE_PROCESS, b"transfer,0,1,30\nread,1\n") {
+/// Whether the text spells these two beside the book.
+fn spells_two_calls(alloc: Global, file: &BookFile, text: &[u8]) -> bool
+    requires { AreNamesOf file.now.book file.now.names }
+{
+    match read_payments(alloc, &file.book, &file.names, text) {
         Ok(calls) => are_two_calls(calls.as_slice()),
         Err(_) => false,
+    }
+}
+
+#[test]
+fn calls_of_version_1(rt: HostRuntime) {
+    let two = match book_of(rt.alloc(), ONE_PROCESS) {
+        Some(file) => spells_two_calls(rt.alloc(), &file, b"transfer,0,1,30\nread,1\n"),
+        None => false,
     };
     assert!(rt; two);
 }
@@ -336,16 +378,33 @@ const BAD_ACCOUNTS: &[(&[u8], BookWhy)] = &[
     ),
 ];
 
-#[test]
-fn named_accounts(rt: HostRuntime) -> Result<(), AllocError> {
-    for (text, why) in BAD_ACCOUNTS {
-        let book = book_with(rt.alloc(), text)?;
-        assert!(rt; is_bad_book(rt.alloc(), &book, 5, *why), "{text:?}");
+/// How many processes and accounts the book has that goes on so.
+fn counts_with(alloc: Global, text: &[u8]) -> Result<(u32, u32), ReadBookFault> {
+    match book_with(alloc, text) {
+        Ok(book) => counts_of(alloc, book.as_slice()),
+        Err(_) => Err(ReadBookFault::NoMemory),
     }
-    let longest = book_with(rt.alloc(), b"account,a123456789012345,0,")?;
-    let owned = book_with(rt.alloc(), b"account,ann,5,ann bob")?;
-    assert!(rt; is_good_book(rt.alloc(), &longest, 2, 2) && is_good_book(rt.alloc(), &owned, 2, 2));
-    Ok(())
+}
+
+/// Whether each of the accounts is refused so.
+fn are_bad_accounts(alloc: Global) -> bool {
+    for (text, why) in BAD_ACCOUNTS {
+        let why = *why;
+        if counts_with(alloc, text) != Err(ReadBookFault::Bad(BadBook { line: 5, why })) {
+            return false;
+        }
+    }
+    true
+}
+
+#[test]
+fn named_accounts(rt: HostRuntime) {
+    let alloc = rt.alloc();
+    assert!(rt;
+        are_bad_accounts(alloc)
+            && counts_with(alloc, b"account,a123456789012345,0,") == Ok((2, 2))
+            && counts_with(alloc, b"account,ann,5,ann bob") == Ok((2, 2))
+    );
 }
 
 const BAD_NAMED_BOOKS: &[BadFile<BookWhy>] = &[
@@ -393,8 +452,8 @@ const BAD_NAMED_BOOKS: &[BadFile<BookWhy>] = &[
 
 #[test]
 fn named_books(rt: HostRuntime) {
-    assert_eq!(rt; first_not_bad(rt.alloc(), BAD_NAMED_BOOKS), None);
-    assert!(rt; is_good_book(rt.alloc(), NAMED, 2, 3));
+    let alloc = rt.alloc();
+    assert!(rt; are_bad_books(alloc, BAD_NAMED_BOOKS) && is_good_book(alloc, NAMED, 2, 3));
 }
 
 const BAD_NAMED_PAYMENTS: &[BadFile<PaymentsWhy>] = &[
@@ -418,21 +477,18 @@ const BAD_NAMED_PAYMENTS: &[BadFile<PaymentsWhy>] = &[
 
 #[test]
 fn named_payments(rt: HostRuntime) {
-    assert_eq!(rt;
-        first_not_bad_payments(rt.alloc(), NAMED, BAD_NAMED_PAYMENTS),
-        None
-    );
+    let alloc = rt.alloc();
     let text = b"pay,ann-cash,shop,30,joint,20\nread,shop\ntransfer,ann-cash,shop,1\n";
-    assert_eq!(rt; count_of(rt.alloc(), NAMED, text), Some(3));
+    assert!(rt;
+        are_bad_payments(alloc, NAMED, BAD_NAMED_PAYMENTS) && count_of(alloc, NAMED, text) == Ok(3)
+    );
 }
 
 /// Whether this is the book of two processes with names.
 fn has_names(book: &Book, names: &Names) -> bool
     requires { AreNamesOf book.now names.now }
 {
-    book.processes() == 2
-        && book.accounts() == 3
-        && names.version() == 2
+    (book.processes(), book.accounts(), names.version()) == (2, 3, 2)
         && are_named(book, names, 1, b"joint", b"bob")
         && names.find(b"shop") == Some(2)
         && names.find(b"ann").is_none()
@@ -441,7 +497,7 @@ fn has_names(book: &Book, names: &Names) -> bool
 #[test]
 fn names_of_version_2(rt: HostRuntime) {
     let named = match book_of(rt.alloc(), NAMED) {
-        Some((book, names)) => has_names(&book, &names),
+        Some(file) => has_names(&file.book, &file.names),
         None => false,
     };
     assert!(rt; named);
@@ -457,11 +513,21 @@ fn is_pay_out(call: Option<&Call>) -> bool {
         && (targets.to(1), targets.amount(1)) == (0, 20)
 }
 
-#[test]
-fn pay_outs(rt: HostRuntime) {
-    let paid = match calls_of(rt.alloc(), NAMED, b"pay,joint,shop,30,ann-cash,20\n") {
+/// Whether the text spells this pay-out beside the book.
+fn spells_pay_out(alloc: Global, file: &BookFile, text: &[u8]) -> bool
+    requires { AreNamesOf file.now.book file.now.names }
+{
+    match read_payments(alloc, &file.book, &file.names, text) {
         Ok(calls) => is_pay_out(calls.first()),
         Err(_) => false,
+    }
+}
+
+#[test]
+fn pay_outs(rt: HostRuntime) {
+    let paid = match book_of(rt.alloc(), NAMED) {
+        Some(file) => spells_pay_out(rt.alloc(), &file, b"pay,joint,shop,30,ann-cash,20\n"),
+        None => false,
     };
     assert!(rt; paid);
 }

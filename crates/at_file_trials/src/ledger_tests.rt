@@ -1,6 +1,6 @@
 //! Worked cases of the ledger, and each of its public calls once.
 
-ghost use Rattle.std.specs.Prelude.{◌≡◌, length};
+ghost use Rattle.std.specs.Prelude.{◌≡◌, ◌<◌, length, IfSome};
 ghost use Rattle.at_ledger.specs.Call.{AreTargetsOn};
 
 use at_ledger::{
@@ -8,22 +8,27 @@ use at_ledger::{
     Targets,
 };
 use std::alloc::{AllocError, Global};
-use std::process::Abort;
-use std::test::Fail;
 
-/// A draft with these accounts, each with its opening and its owners.
+/// An account of a draft: its opening and its owners.
+type Account = (u64, &'static [u64]);
+
+fn account_with(alloc: Global, opening: u64, owners: &[u64]) -> Result<DraftAccount, AllocError> {
+    Ok(DraftAccount {
+        opening,
+        owners: Vec::from_slice(alloc, owners)?,
+    })
+}
+
+/// A draft with these accounts.
 fn draft_with(
     alloc: Global,
     processes: u64,
     rooms: (u64, u64),
-    accounts: &[(u64, &[u64])],
+    accounts: &[Account],
 ) -> Result<Draft, AllocError> {
     let mut drafts = Vec::new(alloc);
     for (opening, owners) in accounts {
-        drafts.push(DraftAccount {
-            opening: *opening,
-            owners: Vec::from_slice(alloc, owners)?,
-        })?;
+        drafts.push(account_with(alloc, *opening, owners)?)?;
     }
     Ok(Draft {
         processes,
@@ -33,226 +38,373 @@ fn draft_with(
     })
 }
 
-fn is_shared_by_threads<T: Send + Sync>(_: &T) {}
-
-/// Why there is no such book.
-fn fault_of(
+/// The book of a draft with these accounts.
+fn book_with(
     alloc: Global,
     processes: u64,
     rooms: (u64, u64),
-    accounts: &[(u64, &[u64])],
-) -> Result<Option<BookError>, AllocError> {
-    let draft = draft_with(alloc, processes, rooms, accounts)?;
-    match Book::new(alloc, &draft) {
-        Ok(_) => Ok(None),
-        Err(BookFault::Bad(e)) => Ok(Some(e)),
-        Err(BookFault::NoMemory) => Err(AllocError),
+    accounts: &[Account],
+) -> Option<Book> {
+    match draft_with(alloc, processes, rooms, accounts) {
+        Ok(draft) => Book::new(alloc, &draft).ok(),
+        Err(_) => None,
     }
 }
 
-/// Pays from account 0 of three accounts, and gets this reply and these balances.
-fn pays_so<R: Abort>(rt: &R, state: &mut State, targets: &Targets, reply: Reply, balances: [u64; 3])
+/// The state at the openings, if the book has so many processes and three accounts.
+fn opened(alloc: Global, book: &Book, processes: u32) -> Option<State>
+    ensures processes { IfSome result (λ s. s.book.processes ≡ processes) }
+    ensures accounts { IfSome result (λ s. length s.book.accounts ≡ 3) }
+{
+    if book.processes() != processes || book.accounts() != 3 {
+        return None;
+    }
+    State::new(alloc, book).ok()
+}
+
+fn is_shared_by_threads<T: Send + Sync>(_: &T) {}
+
+/// Account 0 is process 0's and opens with 100. The others have no owner.
+const ONE_OWNED: &[Account] = &[(100, &[0]), (0, &[]), (0, &[])];
+
+/// The state of a book of process 0 at the openings.
+fn one_owned(alloc: Global) -> Option<State>
+    ensures processes { IfSome result (λ s. s.book.processes ≡ 1) }
+    ensures accounts { IfSome result (λ s. length s.book.accounts ≡ 3) }
+{
+    match book_with(alloc, 1, (4, 4), ONE_OWNED) {
+        Some(book) => opened(alloc, &book, 1),
+        None => None,
+    }
+}
+
+/// What a payment answers, and the balances after it.
+type Paid = (Reply, [u64; 3]);
+
+/// Pays from account 0 of three accounts.
+fn paid(state: &mut State, targets: &Targets) -> Paid
     requires processes { state.old.book.processes ≡ 1 }
     requires accounts { length state.old.book.accounts ≡ 3 }
     requires targets { AreTargetsOn 3 targets.now }
 {
-    assert_eq!(rt; state.pay(0, 0, targets), reply);
-    assert_eq!(rt;
+    let reply = state.pay(0, 0, targets);
+    (
+        reply,
         [state.balance(0), state.balance(1), state.balance(2)],
-        balances
-    );
-    assert_eq!(rt; state.total(), 100);
+    )
 }
 
-#[test]
-fn pays_out(rt: HostRuntime) -> Result<(), Fail> {
-    let draft = draft_with(rt.alloc(), 1, (4, 4), &[(100, &[0]), (0, &[]), (0, &[])])?;
-    let book = Book::new(rt.alloc(), &draft)?;
-    assert!(rt; book.processes() == 1 && book.accounts() == 3);
-    for (first, to, second, sum, reply, balances) in [
-        (60, 2, 40, 100, Reply::Done, [0, 60, 40]),
-        (60, 2, 41, 101, Reply::Short, [100, 0, 0]),
-        (50, 1, 50, 100, Reply::Done, [0, 100, 0]),
-    ] {
-        assert!(rt; to < 3);
-        let mut targets = Targets::one(1, first);
-        targets.push(to, second);
-        let mut state = State::new(rt.alloc(), &book)?;
-        assert_eq!(rt; targets.sum(), sum);
-        pays_so(&rt, &mut state, &targets, reply, balances);
+/// Whether a payment from account 0 at the openings ends so, and the total stays.
+fn pays_so(alloc: Global, targets: &Targets, want: &Paid) -> bool
+    requires targets { AreTargetsOn 3 targets.now }
+{
+    match one_owned(alloc) {
+        Some(mut state) => paid(&mut state, targets) == *want && state.total() == 100,
+        None => false,
     }
-    Ok(())
+}
+
+/// An amount to account 1, and one to a target of its own, their sum, and what the payment of both ends with.
+type Payment = (u64, u32, u64, u128, Paid);
+
+const PAYMENTS: &[Payment] = &[
+    (60, 2, 40, 100, (Reply::Done, [0, 60, 40])),
+    (60, 2, 41, 101, (Reply::Short, [100, 0, 0])),
+    (50, 1, 50, 100, (Reply::Done, [0, 100, 0])),
+];
+
+/// Whether the payment ends as it stands there.
+fn ends_so(alloc: Global, payment: &Payment) -> bool {
+    let (first, to, second, sum, want) = payment;
+    if *to >= 3 {
+        return false;
+    }
+    let mut targets = Targets::one(1, *first);
+    targets.push(*to, *second);
+    targets.sum() == *sum && pays_so(alloc, &targets, want)
 }
 
 #[test]
-fn sums_past_64_bits(rt: HostRuntime) -> Result<(), Fail> {
-    let draft = draft_with(rt.alloc(), 1, (4, 4), &[(100, &[0]), (0, &[]), (0, &[])])?;
-    let book = Book::new(rt.alloc(), &draft)?;
-    assert!(rt; book.processes() == 1 && book.accounts() == 3);
+fn pays_out(rt: HostRuntime) {
+    for payment in PAYMENTS {
+        assert!(rt; ends_so(rt.alloc(), payment));
+    }
+}
+
+#[test]
+fn sums_past_64_bits(rt: HostRuntime) {
     let mut targets = Targets::one(1, u64::MAX);
     targets.push(2, u64::MAX);
     targets.push(1, u64::MAX);
     targets.push(2, u64::MAX);
-    assert_eq!(rt; targets.sum(), 73786976294838206460);
-    let mut state = State::new(rt.alloc(), &book)?;
-    assert_eq!(rt; state.pay(0, 0, &targets), Reply::Short);
-    assert_eq!(rt;
-        [state.balance(0), state.balance(1), state.balance(2)],
-        [100, 0, 0]
-    );
-    Ok(())
+    let want = (Reply::Short, [100, 0, 0]);
+    assert!(rt; targets.sum() == 73786976294838206460 && pays_so(rt.alloc(), &targets, &want));
+}
+
+/// What a book answers of an account: its opening, its owners and its slots.
+fn account_of(book: &Book, account: u32) -> (u64, u32, u32)
+    requires { account < length book.now.accounts }
+{
+    (
+        book.opening(account),
+        book.owner_count(account),
+        book.slot_count(account),
+    )
+}
+
+/// Whether a book of three accounts answers so of these.
+fn has_accounts(book: &Book) -> bool
+    requires { length book.now.accounts ≡ 3 }
+{
+    let accounts = [
+        account_of(book, 0),
+        account_of(book, 1),
+        account_of(book, 2),
+    ];
+    accounts == [(100, 1, 0), (50, 2, 2), (7, 0, 0)]
+        && (book.slot_of(1, 2), book.slot_of(1, 1)) == (Some(1), None)
+        && book.owner_count(1) == 2
+        && book.owner(1, 1) == 2
+}
+
+/// Whether the book has three processes and so much room.
+fn has_rooms(book: &Book) -> bool {
+    (book.processes(), book.own_room(), book.request_room()) == (3, 4, 5)
+        && [book.log_room(0), book.log_room(1), book.log_room(2)] == [14, 4, 14]
+}
+
+/// Whether the copy of the book may be shared and answers so.
+fn is_copied_so(alloc: Global, book: &Book) -> bool {
+    let Ok(book) = book.copy(alloc) else {
+        return false;
+    };
+    is_shared_by_threads(&book);
+    book.accounts() == 3 && has_rooms(&book) && has_accounts(&book)
 }
 
 #[test]
-fn answers_of_a_book(rt: HostRuntime) -> Result<(), Fail> {
-    let accounts: [(u64, &[u64]); 3] = [(100, &[0]), (50, &[0, 2]), (7, &[])];
-    let draft = draft_with(rt.alloc(), 3, (4, 5), &accounts)?;
-    let book = Book::new(rt.alloc(), &draft)?.copy(rt.alloc())?;
-    is_shared_by_threads(&book);
-    assert_eq!(rt;
-        (book.processes(), book.own_room(), book.request_room()),
-        (3, 4, 5)
-    );
-    assert_eq!(rt; book.accounts(), 3);
-    assert_eq!(rt;
-        [book.opening(0), book.opening(1), book.opening(2)],
-        [100, 50, 7]
-    );
-    assert_eq!(rt;
-        [
-            book.owner_count(0),
-            book.owner_count(1),
-            book.owner_count(2)
-        ],
-        [1, 2, 0]
-    );
-    assert_eq!(rt;
-        [book.slot_count(0), book.slot_count(1), book.slot_count(2)],
-        [0, 2, 0]
-    );
-    assert_eq!(rt; (book.slot_of(1, 2), book.slot_of(1, 1)), (Some(1), None));
-    assert!(rt; book.owner_count(1) == 2);
-    assert_eq!(rt; book.owner(1, 1), 2);
-    assert_eq!(rt;
-        [book.log_room(0), book.log_room(1), book.log_room(2)],
-        [14, 4, 14]
-    );
-    Ok(())
+fn answers_of_a_book(rt: HostRuntime) {
+    let accounts: &[Account] = &[(100, &[0]), (50, &[0, 2]), (7, &[])];
+    let copied = match book_with(rt.alloc(), 3, (4, 5), accounts) {
+        Some(book) => is_copied_so(rt.alloc(), &book),
+        None => false,
+    };
+    assert!(rt; copied);
+}
+
+/// A process, its transfer and the reply.
+type Transfer = (u32, (u32, u32, u64), Reply);
+
+const TRANSFERS: &[Transfer] = &[
+    (1, (0, 2, 0), Reply::NotOwner),
+    (0, (0, 2, 1), Reply::Done),
+    (0, (0, 2, 1000), Reply::Full),
+    (1, (1, 2, 6), Reply::Short),
+    (1, (1, 1, 5), Reply::Done),
+    (1, (1, 2, 6), Reply::Full),
+    (0, (1, 2, 5), Reply::Done),
+    (0, (2, 2, 0), Reply::NotOwner),
+];
+
+/// Makes the transfer. Whether the reply is the one that is wanted.
+fn transfers_so(state: &mut State, transfer: &Transfer) -> bool
+    requires processes { state.old.book.processes ≡ 2 }
+    requires accounts { length state.old.book.accounts ≡ 3 }
+    ensures book { state.new.book ≡ state.old.book }
+{
+    let (process, (from, to, amount), reply) = *transfer;
+    if process >= 2 || from >= 3 || to >= 3 {
+        return false;
+    }
+    let call = Call::Transfer { from, to, amount };
+    state.step(process, &call.copy()) == reply
 }
 
 /// Makes transfers from one account to another, of which some are refused.
-fn does_transfers<R: Abort>(rt: &R, state: &mut State)
+fn does_transfers(state: &mut State) -> bool
     requires processes { state.old.book.processes ≡ 2 }
     requires accounts { length state.old.book.accounts ≡ 3 }
     ensures book { state.new.book ≡ state.old.book }
 {
-    for (process, from, to, amount, reply) in [
-        (1, 0, 2, 0, Reply::NotOwner),
-        (0, 0, 2, 1, Reply::Done),
-        (0, 0, 2, 1000, Reply::Full),
-        (1, 1, 2, 6, Reply::Short),
-        (1, 1, 1, 5, Reply::Done),
-        (1, 1, 2, 6, Reply::Full),
-        (0, 1, 2, 5, Reply::Done),
-        (0, 2, 2, 0, Reply::NotOwner),
-    ] {
-        assert!(rt; process < 2 && from < 3 && to < 3);
-        let call = Call::Transfer { from, to, amount };
-        assert_eq!(rt; state.step(process, &call.copy()), reply);
+    for transfer in TRANSFERS {
+        if !transfers_so(state, transfer) {
+            return false;
+        }
     }
+    true
 }
 
-/// Reads an account, and makes a payment of nothing to two accounts.
-fn reads_and_pays<R: Abort>(rt: &R, state: &mut State)
+/// Reads account 2.
+fn read(state: &mut State) -> Reply
     requires processes { state.old.book.processes ≡ 2 }
     requires accounts { length state.old.book.accounts ≡ 3 }
     ensures book { state.new.book ≡ state.old.book }
 {
-    let read = Call::Read { account: 2 };
-    assert_eq!(rt; state.step(1, &read), Reply::Balance(6));
+    state.step(1, &Call::Read { account: 2 })
+}
+
+/// Pays nothing to two accounts. The reply, and what is told of the targets.
+fn pay_nothing(state: &mut State) -> (Reply, (u32, u32, u64))
+    requires processes { state.old.book.processes ≡ 2 }
+    requires accounts { length state.old.book.accounts ≡ 3 }
+    ensures book { state.new.book ≡ state.old.book }
+{
     let mut targets = Targets::one(0, 0);
     targets.push(1, 0);
     let pay = Call::Pay {
         from: 1,
         targets: targets.copy(),
     };
-    assert_eq!(rt; state.step(0, &pay.copy()), Reply::Done);
-    assert_eq!(rt;
-        (targets.len(), targets.to(1), targets.amount(1)),
-        (2, 1, 0)
-    );
+    let reply = state.step(0, &pay.copy());
+    (reply, (targets.len(), targets.to(1), targets.amount(1)))
 }
 
-#[test]
-fn does_each_call(rt: HostRuntime) -> Result<(), Fail> {
-    let accounts: [(u64, &[u64]); 3] = [(10, &[0]), (5, &[0, 1]), (0, &[])];
-    let draft = draft_with(rt.alloc(), 2, (1, 2), &accounts)?;
-    let book = Book::new(rt.alloc(), &draft)?;
-    assert!(rt; book.processes() == 2 && book.accounts() == 3);
-    let mut state = State::new(rt.alloc(), &book)?;
-    is_shared_by_threads(&state);
-    does_transfers(&rt, &mut state);
-    reads_and_pays(&rt, &mut state);
-    assert_eq!(rt; (state.sent(0), state.sent(1)), (1, 0));
-    assert_eq!(rt;
-        (state.asked(0, 1), state.asked(1, 1), state.asked(1, 2)),
-        (2, 2, 0)
-    );
-    assert_eq!(rt; state.total(), 15);
-    Ok(())
+/// What was sent and asked, and the total.
+fn used(state: &State) -> ([u32; 5], u64)
+    requires processes { state.now.book.processes ≡ 2 }
+    requires accounts { length state.now.book.accounts ≡ 3 }
+{
+    let used = [
+        state.sent(0),
+        state.sent(1),
+        state.asked(0, 1),
+        state.asked(1, 1),
+        state.asked(1, 2),
+    ];
+    (used, state.total())
 }
 
-#[test]
-fn names_the_first_fault(rt: HostRuntime) -> Result<(), Fail> {
-    let alloc = rt.alloc();
-    let one: [(u64, &[u64]); 1] = [(0, &[])];
-    for (processes, own_room, request_room, want) in [
-        (0, 0, 0, Some(BookError::NoProcess)),
-        (17, 0, 0, Some(BookError::TooManyProcesses)),
-        (16, 4_096, 1_024, None),
-        (1, 0, 1, Some(BookError::RoomOutOfRange)),
-        (1, 4_097, 1, Some(BookError::RoomOutOfRange)),
-        (1, 1, 0, Some(BookError::RoomOutOfRange)),
-        (1, 1, 1_025, Some(BookError::RoomOutOfRange)),
-    ] {
-        assert_eq!(rt;
-            fault_of(alloc, processes, (own_room, request_room), &one)?,
-            want
-        );
+/// Whether each call does what it should on a state that may be shared.
+fn does_calls(state: &mut State) -> bool
+    requires processes { state.old.book.processes ≡ 2 }
+    requires accounts { length state.old.book.accounts ≡ 3 }
+{
+    is_shared_by_threads(&*state);
+    does_transfers(state)
+        && read(state) == Reply::Balance(6)
+        && pay_nothing(state) == (Reply::Done, (2, 1, 0))
+        && used(state) == ([1, 0, 2, 2, 0], 15)
+}
+
+/// Whether the book, of two processes and three accounts, leads to the replies that are wanted.
+fn leads_to_replies(alloc: Global, book: &Book) -> bool {
+    match opened(alloc, book, 2) {
+        Some(mut state) => does_calls(&mut state),
+        None => false,
     }
-    let all = [0, 1, 2, 3, 4, 5, 6, 7, 8];
-    let two_out: [(u64, &[u64]); 2] = [(0, &[2, 1]), (0, &[1, 0])];
-    let nine: [(u64, &[u64]); 1] = [(0, &all)];
-    let rounds: [(u64, &[u64]); 2] = [(1, &all[..8]), (u64::MAX, &[0, 1])];
-    let total: [(u64, &[u64]); 2] = [(1, &all[..8]), (u64::MAX, &[0])];
-    for (processes, accounts, want) in [
-        (9, &rounds[..0], BookError::NoAccount),
-        (2, &two_out, BookError::OwnerOutOfRange { account: 0 }),
-        (9, &two_out[1..], BookError::OwnersNotRising { account: 0 }),
-        (9, &nine, BookError::TooManyOwners { account: 0 }),
-        (9, &rounds, BookError::RoundsOverLimit { account: 1 }),
-        (9, &total, BookError::TotalOverLimit { account: 1 }),
-    ] {
-        assert_eq!(rt;
-            fault_of(alloc, processes, (1, 1_024), accounts)?,
-            Some(want)
-        );
-    }
-    Ok(())
 }
 
 #[test]
-fn counts_the_accounts(rt: HostRuntime) -> Result<(), Fail> {
-    let mut builder = BookBuilder::new(rt.alloc(), 1, 1, 1)?;
+fn does_each_call(rt: HostRuntime) {
+    let accounts: &[Account] = &[(10, &[0]), (5, &[0, 1]), (0, &[])];
+    let done = match book_with(rt.alloc(), 2, (1, 2), accounts) {
+        Some(book) => leads_to_replies(rt.alloc(), &book),
+        None => false,
+    };
+    assert!(rt; done);
+}
+
+/// The processes, rooms and accounts of a draft, and its first fault.
+type Judged = (u64, (u64, u64), &'static [Account], Option<BookError>);
+
+/// An account that no process owns.
+const ONE: &[Account] = &[(0, &[])];
+
+const ALL: &[u64] = &[0, 1, 2, 3, 4, 5, 6, 7, 8];
+
+const EIGHT: &[u64] = &[0, 1, 2, 3, 4, 5, 6, 7];
+
+const JUDGED: &[Judged] = &[
+    (0, (0, 0), ONE, Some(BookError::NoProcess)),
+    (17, (0, 0), ONE, Some(BookError::TooManyProcesses)),
+    (16, (4_096, 1_024), ONE, None),
+    (1, (0, 1), ONE, Some(BookError::RoomOutOfRange)),
+    (1, (4_097, 1), ONE, Some(BookError::RoomOutOfRange)),
+    (1, (1, 0), ONE, Some(BookError::RoomOutOfRange)),
+    (1, (1, 1_025), ONE, Some(BookError::RoomOutOfRange)),
+    (9, (1, 1_024), &[], Some(BookError::NoAccount)),
+    (
+        2,
+        (1, 1_024),
+        &[(0, &[2, 1]), (0, &[1, 0])],
+        Some(BookError::OwnerOutOfRange { account: 0 }),
+    ),
+    (
+        9,
+        (1, 1_024),
+        &[(0, &[1, 0])],
+        Some(BookError::OwnersNotRising { account: 0 }),
+    ),
+    (
+        9,
+        (1, 1_024),
+        &[(0, ALL)],
+        Some(BookError::TooManyOwners { account: 0 }),
+    ),
+    (
+        9,
+        (1, 1_024),
+        &[(1, EIGHT), (u64::MAX, &[0, 1])],
+        Some(BookError::RoundsOverLimit { account: 1 }),
+    ),
+    (
+        9,
+        (1, 1_024),
+        &[(1, EIGHT), (u64::MAX, &[0])],
+        Some(BookError::TotalOverLimit { account: 1 }),
+    ),
+];
+
+/// Why there is no book of the draft.
+fn fault_of(alloc: Global, draft: &Draft) -> Result<Option<BookError>, AllocError> {
+    match Book::new(alloc, draft) {
+        Ok(_) => Ok(None),
+        Err(BookFault::Bad(error)) => Ok(Some(error)),
+        Err(BookFault::NoMemory) => Err(AllocError),
+    }
+}
+
+/// Whether the draft has this first fault.
+fn is_judged_so(alloc: Global, case: &Judged) -> bool {
+    let (processes, rooms, accounts, want) = case;
+    match draft_with(alloc, *processes, *rooms, accounts) {
+        Ok(draft) => fault_of(alloc, &draft) == Ok(*want),
+        Err(_) => false,
+    }
+}
+
+#[test]
+fn names_the_first_fault(rt: HostRuntime) {
+    for case in JUDGED {
+        assert!(rt; is_judged_so(rt.alloc(), case), "{:?}", case.3);
+    }
+}
+
+/// Fills the builder. Whether it is full then and not before, and refuses one account more.
+fn is_filled(builder: &mut BookBuilder) -> bool {
     for _ in 0..ACCOUNTS_MAX {
-        assert!(rt; !builder.is_full());
-        builder.add(0, &[0])?;
+        if builder.is_full() || builder.add(0, &[0]).is_err() {
+            return false;
+        }
     }
-    assert!(rt; builder.is_full());
-    assert_eq!(rt;
-        builder.add(1, &[1]),
-        Err(BookFault::Bad(BookError::TooManyAccounts))
-    );
-    assert_eq!(rt; builder.finish()?.accounts(), 1_024);
-    Ok(())
+    builder.is_full() && builder.add(1, &[1]) == Err(BookFault::Bad(BookError::TooManyAccounts))
+}
+
+/// How many accounts the fullest book has.
+fn most_accounts(alloc: Global) -> Option<u32> {
+    let Ok(mut builder) = BookBuilder::new(alloc, 1, 1, 1) else {
+        return None;
+    };
+    if !is_filled(&mut builder) {
+        return None;
+    }
+    match builder.finish() {
+        Ok(book) => Some(book.accounts()),
+        Err(_) => None,
+    }
+}
+
+#[test]
+fn counts_the_accounts(rt: HostRuntime) {
+    assert!(rt; most_accounts(rt.alloc()) == Some(1_024));
 }

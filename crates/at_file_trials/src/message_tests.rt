@@ -2,36 +2,26 @@
 
 ghost use Rattle.std.specs.Prelude.{◌≤◌, All};
 
-use crate::test_files::{TWO_OWNERS, book_of, repeated};
+use crate::test_files::{TWO_OWNERS, book_of, counted, repeated};
 use at_base::Counts;
 use at_broadcast::Message;
 use at_files::{
     BadRecord, Delivery, MessagesWhy, OrderWhy, ReadFault, read_deliveries, read_messages,
 };
-use std::alloc::{AllocError, Global};
+use at_ledger::Book;
+use std::alloc::Global;
 
-/// The messages beside the book. A book that is refused counts as no memory.
-fn messages_of(alloc: Global, text: &[u8]) -> Result<Vec<Message>, ReadFault<MessagesWhy>> {
+/// How many messages there are beside the book, or why none. A book that is refused counts as no memory.
+fn message_count(alloc: Global, text: &[u8]) -> Result<usize, ReadFault<MessagesWhy>> {
     match book_of(alloc, TWO_OWNERS) {
-        Some((book, _)) => read_messages(alloc, &book, text),
+        Some(file) => counted(read_messages(alloc, &file.book, text)),
         None => Err(ReadFault::NoMemory),
     }
 }
 
 /// Whether the messages beside the book are refused for this fault.
 fn are_bad_messages(alloc: Global, text: &[u8], line: u32, why: MessagesWhy) -> bool {
-    match messages_of(alloc, text) {
-        Ok(_) => false,
-        Err(fault) => fault == ReadFault::Bad(BadRecord { line, why }),
-    }
-}
-
-/// How many messages there are, if all is good.
-fn message_count(alloc: Global, text: &[u8]) -> Option<usize> {
-    match messages_of(alloc, text) {
-        Ok(messages) => Some(messages.len()),
-        Err(_) => None,
-    }
+    message_count(alloc, text) == Err(ReadFault::Bad(BadRecord { line, why }))
 }
 
 const BAD_MESSAGES: &[(&[u8], u32, MessagesWhy)] = &[
@@ -66,25 +56,41 @@ fn is_usual(message: Option<&Message>) -> bool {
         && (message.deps.get(0), message.deps.get(1)) == (0, 1)
 }
 
-#[test]
-fn good_messages(rt: HostRuntime) {
-    let usual = match messages_of(rt.alloc(), b"send,0,1,60,0,1\n") {
+/// Whether the text spells the usual message beside the book.
+fn spells_usual(alloc: Global, book: &Book, text: &[u8]) -> bool {
+    match read_messages(alloc, book, text) {
         Ok(messages) => is_usual(messages.first()),
         Err(_) => false,
-    };
-    assert!(rt; usual && message_count(rt.alloc(), b"") == Some(0));
+    }
 }
 
 #[test]
-fn most_messages(rt: HostRuntime) -> Result<(), AllocError> {
-    let alloc = rt.alloc();
-    let most = repeated(alloc, b"send,0,1,1,0,0\n", 256)?;
-    let more = repeated(alloc, b"send,0,1,1,0,0\n", 257)?;
-    let why = MessagesWhy::TooManyMessages;
+fn good_messages(rt: HostRuntime) {
+    let usual = match book_of(rt.alloc(), TWO_OWNERS) {
+        Some(file) => spells_usual(rt.alloc(), &file.book, b"send,0,1,60,0,1\n"),
+        None => false,
+    };
+    assert!(rt; usual && message_count(rt.alloc(), b"") == Ok(0));
+}
+
+/// How many messages are read from a file of so many.
+fn read_count(alloc: Global, count: u32) -> Result<usize, ReadFault<MessagesWhy>> {
+    match repeated(alloc, b"send,0,1,1,0,0\n", count) {
+        Ok(text) => message_count(alloc, text.as_slice()),
+        Err(_) => Err(ReadFault::NoMemory),
+    }
+}
+
+#[test]
+fn most_messages(rt: HostRuntime) {
+    let too_many = BadRecord {
+        line: 257,
+        why: MessagesWhy::TooManyMessages,
+    };
     assert!(rt;
-        message_count(alloc, &most) == Some(256) && are_bad_messages(alloc, &more, 257, why)
+        read_count(rt.alloc(), 256) == Ok(256)
+            && read_count(rt.alloc(), 257) == Err(ReadFault::Bad(too_many))
     );
-    Ok(())
 }
 
 /// Two processes with two messages and with one.
@@ -97,20 +103,14 @@ fn two_and_one() -> Counts
     counts
 }
 
-/// Whether the deliveries are refused for this fault.
-fn are_bad_deliveries(alloc: Global, text: &[u8], line: u32, why: OrderWhy) -> bool {
-    match read_deliveries(alloc, &two_and_one(), text) {
-        Ok(_) => false,
-        Err(fault) => fault == ReadFault::Bad(BadRecord { line, why }),
-    }
+/// How many deliveries there are, or why none.
+fn delivery_count(alloc: Global, text: &[u8]) -> Result<usize, ReadFault<OrderWhy>> {
+    counted(read_deliveries(alloc, &two_and_one(), text))
 }
 
-/// How many deliveries there are, if all is good.
-fn delivery_count(alloc: Global, text: &[u8]) -> Option<usize> {
-    match read_deliveries(alloc, &two_and_one(), text) {
-        Ok(deliveries) => Some(deliveries.len()),
-        Err(_) => None,
-    }
+/// Whether the deliveries are refused for this fault.
+fn are_bad_deliveries(alloc: Global, text: &[u8], line: u32, why: OrderWhy) -> bool {
+    delivery_count(alloc, text) == Err(ReadFault::Bad(BadRecord { line, why }))
 }
 
 const BAD_DELIVERIES: &[(&[u8], u32, OrderWhy)] = &[
@@ -141,25 +141,37 @@ fn are_three(deliveries: &[Delivery]) -> bool {
     (last.node, last.sender, last.number) == (1, 0, 0)
 }
 
-#[test]
-fn good_deliveries(rt: HostRuntime) {
-    let alloc = rt.alloc();
-    let three = match read_deliveries(alloc, &two_and_one(), b"0,1,0\n0,0,1\n1,0,0") {
+/// Whether the text spells these three.
+fn spells_three(alloc: Global, text: &[u8]) -> bool {
+    match read_deliveries(alloc, &two_and_one(), text) {
         Ok(deliveries) => are_three(deliveries.as_slice()),
         Err(_) => false,
-    };
-    assert!(rt; three && delivery_count(alloc, b"") == Some(0));
+    }
 }
 
 #[test]
-fn most_deliveries(rt: HostRuntime) -> Result<(), AllocError> {
-    let alloc = rt.alloc();
-    let most = repeated(alloc, b"0,0,0\n", 65_536)?;
-    let more = repeated(alloc, b"0,0,0\n", 65_537)?;
-    let why = OrderWhy::TooManyDeliveries;
+fn good_deliveries(rt: HostRuntime) {
     assert!(rt;
-        delivery_count(alloc, &most) == Some(65_536)
-            && are_bad_deliveries(alloc, &more, 65_537, why)
+        spells_three(rt.alloc(), b"0,1,0\n0,0,1\n1,0,0") && delivery_count(rt.alloc(), b"") == Ok(0)
     );
-    Ok(())
+}
+
+/// How many deliveries are read from a file of so many.
+fn delivered_count(alloc: Global, count: u32) -> Result<usize, ReadFault<OrderWhy>> {
+    match repeated(alloc, b"0,0,0\n", count) {
+        Ok(text) => delivery_count(alloc, text.as_slice()),
+        Err(_) => Err(ReadFault::NoMemory),
+    }
+}
+
+#[test]
+fn most_deliveries(rt: HostRuntime) {
+    let too_many = BadRecord {
+        line: 65_537,
+        why: OrderWhy::TooManyDeliveries,
+    };
+    assert!(rt;
+        delivered_count(rt.alloc(), 65_536) == Ok(65_536)
+            && delivered_count(rt.alloc(), 65_537) == Err(ReadFault::Bad(too_many))
+    );
 }

@@ -79,66 +79,123 @@ fn counts_of(first: usize, second: usize) -> Option<Counts>
     Some(counts)
 }
 
-/// The messages of two processes, and deliveries of them.
-#[derive(Drop)]
-struct Given {
+/// The messages of two processes. What holds them has a call where it drops them, so that its proof is short.
+struct Messages {
     first: Vec<Message>,
     second: Vec<Message>,
-    deliveries: Vec<Delivery>,
 }
 
-/// The messages of the files, and the deliveries.
-fn given_by(alloc: Global, book: &Book, order: &[u8]) -> Option<Given> {
+impl Drop for Messages {
+    fn drop(self) {
+        let Messages {
+            first: _,
+            second: _,
+        } = self;
+    }
+}
+
+/// The messages of the files.
+fn messages_of(alloc: Global, book: &Book) -> Option<Messages> {
     let Ok(first) = read_messages(alloc, book, FIRST) else {
         return None;
     };
-    let Ok(second) = read_messages(alloc, book, SECOND) else {
-        return None;
-    };
-    let Some(counts) = counts_of(first.len(), second.len()) else {
-        return None;
-    };
-    let Ok(deliveries) = read_deliveries(alloc, &counts, order) else {
-        return None;
-    };
-    Some(Given {
-        first,
-        second,
-        deliveries,
-    })
+    match read_messages(alloc, book, SECOND) {
+        Ok(second) => Some(Messages { first, second }),
+        Err(_) => None,
+    }
+}
+
+/// The deliveries of the messages.
+fn deliveries_of(alloc: Global, messages: &Messages, order: &[u8]) -> Option<Vec<Delivery>> {
+    match counts_of(messages.first.len(), messages.second.len()) {
+        Some(counts) => read_deliveries(alloc, &counts, order).ok(),
+        None => None,
+    }
 }
 
 /// What two nodes of the book print after the deliveries.
-fn output_of(alloc: Global, book: &Book, given: &Given) -> Option<Vec<u8>>
+fn printed_by(
+    alloc: Global,
+    book: &Book,
+    nodes: (Node, Node),
+    messages: &Messages,
+    deliveries: &[Delivery],
+) -> Option<Vec<u8>>
+    requires books { (nodes.0.book ≡ book.now) × (nodes.1.book ≡ book.now) }
     requires processes { book.now.processes ≡ 2 }
     requires accounts { length book.now.accounts ≡ 2 }
 {
-    let Ok(mut first) = Node::new(alloc, book) else {
-        return None;
-    };
-    let Ok(mut second) = Node::new(alloc, book) else {
-        return None;
-    };
-    let files = (given.first.as_slice(), given.second.as_slice());
-    if !play(&mut first, &mut second, files, given.deliveries.as_slice()) {
-        return None;
+    let (mut first, mut second) = nodes;
+    let files = (messages.first.as_slice(), messages.second.as_slice());
+    if play(&mut first, &mut second, files, deliveries) {
+        nodes_text(alloc, book, &[first, second]).ok()
+    } else {
+        None
     }
-    nodes_text(alloc, book, &[first, second]).ok()
+}
+
+/// What two new nodes of the book print after the deliveries.
+fn output_of(
+    alloc: Global,
+    book: &Book,
+    messages: &Messages,
+    deliveries: &[Delivery],
+) -> Option<Vec<u8>>
+    requires processes { book.now.processes ≡ 2 }
+    requires accounts { length book.now.accounts ≡ 2 }
+{
+    let Ok(first) = Node::new(alloc, book) else {
+        return None;
+    };
+    match Node::new(alloc, book) {
+        Ok(second) => printed_by(alloc, book, (first, second), messages, deliveries),
+        Err(_) => None,
+    }
 }
 
 /// Whether the deliveries lead to this output.
-fn leads_to(alloc: Global, order: &[u8], want: &[u8]) -> bool {
-    let Some((book, _)) = book_of(alloc, TWO_OWNERS) else {
-        return false;
-    };
+fn lead_to(
+    alloc: Global,
+    book: &Book,
+    messages: &Messages,
+    deliveries: &[Delivery],
+    want: &[u8],
+) -> bool {
     if book.processes() != 2 || book.accounts() != 2 {
         return false;
     }
-    let Some(given) = given_by(alloc, &book, order) else {
-        return false;
-    };
-    match output_of(alloc, &book, &given) {
+    match output_of(alloc, book, messages, deliveries) {
         Some(text) => text.as_slice() == want,
+        None => false,
+    }
+}
+
+/// Whether the messages of the files lead to this output by these deliveries.
+fn leads_beside(
+    alloc: Global,
+    book: &Book,
+    messages: &Messages,
+    order: &[u8],
+    want: &[u8],
+) -> bool {
+    match deliveries_of(alloc, messages, order) {
+        Some(deliveries) => lead_to(alloc, book, messages, deliveries.as_slice(), want),
+        None => false,
+    }
+}
+
+/// Whether deliveries to nodes of the book lead to this output.
+fn leads_on(alloc: Global, book: &Book, order: &[u8], want: &[u8]) -> bool {
+    match messages_of(alloc, book) {
+        Some(messages) => leads_beside(alloc, book, &messages, order, want),
+        None => false,
+    }
+}
+
+/// Whether the deliveries of a file lead to this output.
+fn leads_to(alloc: Global, order: &[u8], want: &[u8]) -> bool {
+    match book_of(alloc, TWO_OWNERS) {
+        Some(file) => leads_on(alloc, &file.book, order, want),
         None => false,
     }
 }
@@ -148,7 +205,7 @@ const ONE_EACH: &[u8] =
     b"node 0\nvalidated 1 1\n0 90\n1 10\ntotal 100\nnode 1\nvalidated 0 0\n0 100\n1 0\ntotal 100\n";
 
 /// A message before the one that it needs; with one that its balance never covers; and with a repeated delivery.
-const ORDERS: [&[u8]; 3] = [
+const ORDERS: &[&[u8]] = &[
     b"0,1,0\n0,0,0\n1,1,0\n",
     b"0,1,0\n0,0,0\n1,1,0\n0,0,1\n",
     b"0,1,0\n0,1,0\n0,0,0\n1,1,0\n0,0,0\n",
@@ -156,7 +213,7 @@ const ORDERS: [&[u8]; 3] = [
 
 #[test]
 fn deliveries_in_any_order(rt: HostRuntime) {
-    for order in &ORDERS {
+    for order in ORDERS {
         assert!(rt; leads_to(rt.alloc(), order, ONE_EACH), "{order:?}");
     }
 }

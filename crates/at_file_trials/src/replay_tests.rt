@@ -1,12 +1,11 @@
 //! Schedules and payments of a replay that are read, and those that are refused, each with its line and cause.
 
-use crate::test_files::{book_of, repeated};
+use crate::test_files::{book_of, counted, repeated};
 use at_files::{
     BadPayments, BadRecord, PaymentsWhy, ReadFault, ReadPaymentsFault, ScheduleWhy,
     read_replay_payments, read_schedule,
 };
-use at_ledger::Call;
-use std::alloc::{AllocError, Global};
+use std::alloc::Global;
 
 /// Whether the schedule of two processes is refused for this fault.
 fn is_bad_schedule(alloc: Global, text: &[u8], line: u32, why: ScheduleWhy) -> bool {
@@ -58,47 +57,49 @@ fn good_schedules(rt: HostRuntime) {
 
 const BOOK: &[u8] = b"book,1\nprocesses,1\nlimits,4,4\naccount,0,100,0\n";
 
-/// The calls of the payment file for a replay. A book that is refused counts as no memory.
-fn replay_calls(alloc: Global, text: &[u8]) -> Result<Vec<Call>, ReadPaymentsFault> {
+/// How many calls the payment file for a replay has, or why none. A book that is refused counts as no memory.
+fn replay_count(alloc: Global, text: &[u8]) -> Result<usize, ReadPaymentsFault> {
     match book_of(alloc, BOOK) {
-        Some((book, names)) => read_replay_payments(alloc, &book, &names, text),
+        Some(file) => counted(read_replay_payments(alloc, &file.book, &file.names, text)),
         None => Err(ReadPaymentsFault::NoMemory),
     }
 }
 
-/// How many calls the payment file for a replay has, if all is good.
-fn replay_count(alloc: Global, text: &[u8]) -> Option<usize> {
-    match replay_calls(alloc, text) {
-        Ok(calls) => Some(calls.len()),
-        Err(_) => None,
+/// How many reads of account 0 are read from a file of so many.
+fn read_count(alloc: Global, count: u32) -> Result<usize, ReadPaymentsFault> {
+    match repeated(alloc, b"read,0\n", count) {
+        Ok(text) => replay_count(alloc, text.as_slice()),
+        Err(_) => Err(ReadPaymentsFault::NoMemory),
     }
 }
 
-/// Whether the payment file for a replay is refused for this fault.
-fn is_bad_replay(alloc: Global, text: &[u8], line: u32, why: PaymentsWhy) -> bool {
-    match replay_calls(alloc, text) {
-        Ok(_) => false,
-        Err(fault) => fault == ReadPaymentsFault::Bad(BadPayments { line, why }),
-    }
+/// The fault of a payment file at this line.
+fn fault_at(line: u32, why: PaymentsWhy) -> ReadPaymentsFault {
+    ReadPaymentsFault::Bad(BadPayments { line, why })
 }
 
 #[test]
-fn most_replay_calls(rt: HostRuntime) -> Result<(), AllocError> {
-    let alloc = rt.alloc();
-    let most = repeated(alloc, b"read,0\n", 64)?;
-    let more = repeated(alloc, b"read,0\n", 70)?;
+fn most_replay_calls(rt: HostRuntime) {
+    let too_many = fault_at(65, PaymentsWhy::TooManyCalls);
     assert!(rt;
-        replay_count(alloc, &most) == Some(64)
-            && is_bad_replay(alloc, &more, 65, PaymentsWhy::TooManyCalls)
+        read_count(rt.alloc(), 64) == Ok(64) && read_count(rt.alloc(), 70) == Err(too_many)
     );
-    Ok(())
+}
+
+/// What is read of so many reads, and one of an account that is not there.
+fn count_before_fault(alloc: Global, count: u32) -> Result<usize, ReadPaymentsFault> {
+    let Ok(mut text) = repeated(alloc, b"read,0\n", count) else {
+        return Err(ReadPaymentsFault::NoMemory);
+    };
+    match text.extend_from_slice(b"read,9\n") {
+        Ok(()) => replay_count(alloc, text.as_slice()),
+        Err(_) => Err(ReadPaymentsFault::NoMemory),
+    }
 }
 
 /// A fault behind the most calls comes before their number.
 #[test]
-fn fault_behind_the_most_replay_calls(rt: HostRuntime) -> Result<(), AllocError> {
-    let mut text = repeated(rt.alloc(), b"read,0\n", 69)?;
-    text.extend_from_slice(b"read,9\n")?;
-    assert!(rt; is_bad_replay(rt.alloc(), &text, 70, PaymentsWhy::UnknownAccount));
-    Ok(())
+fn fault_behind_the_most_replay_calls(rt: HostRuntime) {
+    let unknown = fault_at(70, PaymentsWhy::UnknownAccount);
+    assert!(rt; count_before_fault(rt.alloc(), 69) == Err(unknown));
 }

@@ -4,16 +4,15 @@ ghost use Rattle.std.specs.Prelude.{◌≡◌, ◌<◌, length, All, IfSome};
 ghost use Rattle.at_ledger.specs.Call.{IsLineOn};
 ghost use Rattle.at_files.specs.Names.{AreNamesOf};
 
-use crate::test_files::{ONE_PROCESS, book_of};
+use crate::test_files::{BookFile, ONE_PROCESS, book_of};
 use at_files::{
-    BadBook, BadPayments, BookWhy, MessagesWhy, Names, OrderWhy, PaymentsWhy, ScheduleWhy,
+    BadBook, BadPayments, BookWhy, MessagesWhy, NoMemory, OrderWhy, PaymentsWhy, ScheduleWhy,
 };
 use at_ledger::{Book, BookError, Call, Line, Reply};
 use at_report::{
     Status, UsageFault, agreed_text, checked_text, fault_text, report, summary, verified_text,
 };
 use std::alloc::Global;
-use std::test::Fail;
 
 const REFUSALS: &[(Status, u8, &str)] = &[
     (Status::Done, 0, ""),
@@ -98,16 +97,22 @@ fn refusals(rt: HostRuntime) {
 }
 
 /// A book of process 0 with two accounts, and its names. The process owns the first, which opens with 100.
-fn book(alloc: Global) -> Option<(Book, Names)>
-    ensures processes { IfSome result (λ b. b.0.processes ≡ 1) }
-    ensures accounts { IfSome result (λ b. length b.0.accounts ≡ 2) }
-    ensures names { IfSome result (λ b. AreNamesOf b.0 b.1) }
+fn book(alloc: Global) -> Option<BookFile>
+    ensures processes { IfSome result (λ file. file.book.processes ≡ 1) }
+    ensures accounts { IfSome result (λ file. length file.book.accounts ≡ 2) }
+    ensures names { IfSome result (λ file. AreNamesOf file.book file.names) }
 {
-    let (book, names) = book_of(alloc, ONE_PROCESS)?;
-    if book.processes() == 1 && book.accounts() == 2 {
-        Some((book, names))
-    } else {
-        None
+    match book_of(alloc, ONE_PROCESS) {
+        Some(file) if file.book.processes() == 1 && file.book.accounts() == 2 => Some(file),
+        _ => None,
+    }
+}
+
+/// Whether this text was made.
+fn is_text(made: Result<Vec<u8>, NoMemory>, want: &[u8]) -> bool {
+    match made {
+        Ok(text) => text.as_slice() == want,
+        Err(_) => false,
     }
 }
 
@@ -154,43 +159,59 @@ fn two_transfers() -> [Line; 2]
     [transfer(1, 71, Reply::Done), transfer(2, 71, Reply::Short)]
 }
 
+/// The report of the usual lines.
+fn usual_report(alloc: Global, file: &BookFile) -> Result<Vec<u8>, NoMemory>
+    requires processes { file.now.book.processes ≡ 1 }
+    requires accounts { length file.now.book.accounts ≡ 2 }
+    requires names { AreNamesOf file.now.book file.now.names }
+{
+    report(alloc, &file.book, &file.names, &usual_lines())
+}
+
 #[test]
-fn a_report(rt: HostRuntime) -> Result<(), Fail> {
-    let (book, names) = book(rt.alloc()).ok_or("no book")?;
-    let text = report(rt.alloc(), &book, &names, &usual_lines())?;
+fn a_report(rt: HostRuntime) {
     let want =
         b"journal 3\n0 1 transfer 0 1 30 done\n0 2 read 0 70\n0 3 read 1 30\nbalances 2\n0 70\n1 30\ntotal 100\n";
-    assert!(rt; text.as_slice() == want.as_slice());
-    Ok(())
+    let reported = match book(rt.alloc()) {
+        Some(file) => is_text(usual_report(rt.alloc(), &file), want),
+        None => false,
+    };
+    assert!(rt; reported);
 }
 
 #[test]
-fn a_check(rt: HostRuntime) -> Result<(), Fail> {
-    let (book, _) = book(rt.alloc()).ok_or("no book")?;
-    let text = checked_text(rt.alloc(), &book, 3)?;
-    assert!(rt; text.as_slice() == b"checked 1 2 3\n".as_slice());
-    Ok(())
+fn a_check(rt: HostRuntime) {
+    let checked = match book(rt.alloc()) {
+        Some(file) => is_text(checked_text(rt.alloc(), &file.book, 3), b"checked 1 2 3\n"),
+        None => false,
+    };
+    assert!(rt; checked);
 }
 
 #[test]
-fn a_verified_report(rt: HostRuntime) -> Result<(), Fail> {
-    let text = verified_text(rt.alloc(), 3)?;
-    assert!(rt; text.as_slice() == b"verified 3\n".as_slice());
-    Ok(())
+fn a_verified_report(rt: HostRuntime) {
+    assert!(rt; is_text(verified_text(rt.alloc(), 3), b"verified 3\n"));
 }
 
 #[test]
-fn an_agreement(rt: HostRuntime) -> Result<(), Fail> {
-    let text = agreed_text(rt.alloc(), 3, 9)?;
-    assert!(rt; text.as_slice() == b"agreed 3 9\n".as_slice());
-    Ok(())
+fn an_agreement(rt: HostRuntime) {
+    assert!(rt; is_text(agreed_text(rt.alloc(), 3, 9), b"agreed 3 9\n"));
+}
+
+/// The summary of two transfers.
+fn short_summary(alloc: Global, book: &Book) -> Result<Vec<u8>, NoMemory>
+    requires processes { book.now.processes ≡ 1 }
+    requires accounts { length book.now.accounts ≡ 2 }
+{
+    summary(alloc, book, &two_transfers(), 7, 2)
 }
 
 #[test]
-fn a_summary(rt: HostRuntime) -> Result<(), Fail> {
-    let (book, _) = book(rt.alloc()).ok_or("no book")?;
-    let text = summary(rt.alloc(), &book, &two_transfers(), 7, 2)?;
+fn a_summary(rt: HostRuntime) {
     let want = b"made 7 1 2\ndone 1\nread 0\nbalances 2\n0 29\n1 71\ntotal 100\n";
-    assert!(rt; text.as_slice() == want.as_slice());
-    Ok(())
+    let made = match book(rt.alloc()) {
+        Some(file) => is_text(short_summary(rt.alloc(), &file.book), want),
+        None => false,
+    };
+    assert!(rt; made);
 }

@@ -17,12 +17,25 @@ pub(crate) const TWO_OWNERS: &[u8] =
 pub(crate) const NAMED: &[u8] =
     b"book,2\nprocesses,ann,bob\nlimits,10,10\naccount,ann-cash,100,ann\naccount,joint,50,ann bob\naccount,shop,0,\n";
 
+/// A book that was read, and its names. What holds one has a call where it drops it, and not the drop of each field, so
+/// that its proof is short.
+pub(crate) struct BookFile {
+    pub(crate) book: Book,
+    pub(crate) names: Names,
+}
+
+impl Drop for BookFile {
+    fn drop(self) {
+        let BookFile { book: _, names: _ } = self;
+    }
+}
+
 /// The book of this text and its names, if all is good. It says less than the reader, so that a proof above it is short.
-pub(crate) fn book_of(alloc: Global, text: &[u8]) -> Option<(Book, Names)>
-    ensures names { IfSome result (λ b. AreNamesOf b.0 b.1) }
+pub(crate) fn book_of(alloc: Global, text: &[u8]) -> Option<BookFile>
+    ensures names { IfSome result (λ file. AreNamesOf file.book file.names) }
 {
     match read_book(alloc, text) {
-        Ok(read) => Some(read),
+        Ok((book, names)) => Some(BookFile { book, names }),
         Err(_) => None,
     }
 }
@@ -34,4 +47,12 @@ pub(crate) fn repeated(alloc: Global, record: &[u8], count: u32) -> Result<Vec<u
         text.extend_from_slice(record)?;
     }
     Ok(text)
+}
+
+/// How many values were read, or why none.
+pub(crate) fn counted<T: Drop, E: Copy>(read: Result<Vec<T>, E>) -> Result<usize, E> {
+    match read {
+        Ok(values) => Ok(values.len()),
+        Err(fault) => Err(fault),
+    }
 }

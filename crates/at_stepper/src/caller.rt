@@ -1,6 +1,7 @@
 //! A process that makes its calls one after another, a step a turn.
 
-ghost use Rattle.std.specs.Prelude.{◌≡◌, ℕ, ◌+◌, ◌^◌, ◌<◌, ◌==◌, [], All, Option, Some, None, length, slice_index_or, take};
+ghost use Rattle.std.specs.Prelude.{◌≡◌, ℕ, ◌+◌, ◌^◌, ◌<◌, ◌==◌, ◌++◌, [], ◌∷◌, All, Option, Some, None, length, slice_index_or, take};
+ghost use Rattle.std.specs.Vec.{vec_capacity};
 ghost use Rattle.at_board.specs.Knowledge.Seats.{IsOf};
 ghost use Rattle.at_ledger.specs.Call.{IsCallOn};
 ghost use Rattle.at_ledger.specs.declared.call.Call.{Call};
@@ -26,6 +27,18 @@ pub(crate) struct Start {
     pub(crate) receipts: Vec<Receipt>,
 }
 
+/// The next call, which is begun as soon as the one before it is answered: that makes no step. There is none where all are answered.
+/// What holds it has a call where it drops it, and not the drop of each stage, so that its proof is short.
+struct Making {
+    calling: Option<Calling>,
+}
+
+impl Drop for Making {
+    fn drop(self) {
+        let Making { calling: _ } = self;
+    }
+}
+
 /// The calls of one process, made one after another, a step a turn. It has the memory for the receipts of all calls.
 #[derive(Drop)]
 pub(crate) struct Caller {
@@ -33,8 +46,7 @@ pub(crate) struct Caller {
     rest: Rest,
     calls: Vec<Call>,
     receipts: Vec<Receipt>,
-    /// The next call, which is begun as soon as the one before it is answered: that makes no step.
-    calling: Option<Calling>,
+    making: Making,
 }
 
 impl Model for Caller {
@@ -44,9 +56,9 @@ impl Model for Caller {
 
     ghost Value = { CallerTerms };
 
-    ghost view = { λ c. caller_of c.seat c.rest c.calls.items c.receipts.items c.calling };
+    ghost view = { λ c. caller_of c.seat c.rest c.calls.items c.receipts.items c.making.calling };
 
-    ghost invariant = { λ c. IsCallerOf c.seat c.rest c.calls.items c.receipts.items c.calling
+    ghost invariant = { λ c. IsCallerOf c.seat c.rest c.calls.items c.receipts.items c.making.calling
         (vec_capacity c.receipts) };
 }
 
@@ -62,13 +74,13 @@ impl Caller {
     {
         let Start { pass, receipts } = start;
         let (seat, rest) = pass.into_parts();
-        let calling = begun(board, &seat, &rest, calls.as_slice(), 0);
+        let making = begun(board, &seat, &rest, calls.as_slice(), 0);
         Caller {
             seat,
             rest,
             calls,
             receipts,
-            calling,
+            making,
         }
     }
 
@@ -76,7 +88,7 @@ impl Caller {
     pub(crate) fn is_idle(&self) -> bool
         ensures { result ≡ (calls_left_of self.now == 0) }
     {
-        self.calling.is_none()
+        self.making.calling.is_none()
     }
 
     /// Makes the next step of the call in the making. Where this ends the call, its receipt is kept and answered.
@@ -101,7 +113,7 @@ impl Caller {
         ensures steps { steps.new ≡ steps.old + steps_in result }
         ensures exchanges { exchanges.new ≡ exchanges.old + exchanges_of self.old.stage }
     {
-        let Some(calling) = &mut self.calling else {
+        let Some(calling) = &mut self.making.calling else {
             // A call is left, and so it is in the making.
             unreachable!()
         };
@@ -111,15 +123,15 @@ impl Caller {
             return Turned::Step;
         };
         let answer = copy_of(&receipt);
-        self.receipts.push_reserved(receipt);
-        let next = begun(
+        let next = keep(
             board,
             &self.seat,
             &self.rest,
             self.calls.as_slice(),
-            self.receipts.len(),
+            &mut self.receipts,
+            receipt,
         );
-        become_next(&mut self.calling, next);
+        become_next(&mut self.making, next);
         Turned::Answer(answer)
     }
 
@@ -138,34 +150,53 @@ impl Caller {
             rest,
             calls: _,
             receipts,
-            calling: _,
+            making: _,
         } = self;
         (Pass::from_parts(seat, rest), receipts)
     }
 }
 
 /// Goes on with this call.
-fn become_next(calling: &mut Option<Calling>, next: Option<Calling>)
-    ensures { calling.new ≡ next }
+fn become_next(making: &mut Making, next: Making)
+    ensures { making.new ≡ next }
 {
-    *calling = next;
+    *making = next;
 }
 
-/// The call at this place, begun by a pass that is between two calls, in no step. There is none where all are made.
-fn begun(
+/// Keeps the receipt of the call that was made last, and begins the next one.
+fn keep(
     board: &Board,
     seat: &BoardSeat,
     rest: &Rest,
     calls: &[Call],
-    made: usize,
-) -> Option<Calling>
+    receipts: &mut Vec<Receipt>,
+    receipt: Receipt,
+) -> Making
     requires board { IsOf seat.now board.now }
     requires pass { IsOfOnePass seat.now rest.now }
     requires calls { All (IsCallOn (length board.now.book.accounts)) calls.now }
-    ensures { IsCallBegun board.now.book seat.now rest.now calls.now made result }
+    requires room { length receipts.old.items < vec_capacity receipts.old }
+    ensures receipts { receipts.new.items ≡ receipts.old.items ++ receipt ∷ [] }
+    ensures capacity { vec_capacity receipts.new ≡ vec_capacity receipts.old }
+    ensures begun { IsCallBegun board.now.book seat.now rest.now calls.now
+        (length receipts.new.items) result.calling }
 {
-    let call = calls.get(made)?;
-    Some(Calling::start(board, seat, rest, call.copy()))
+    receipts.push_reserved(receipt);
+    begun(board, seat, rest, calls, receipts.len())
+}
+
+/// The call at this place, begun by a pass that is between two calls, in no step. There is none where all are made.
+fn begun(board: &Board, seat: &BoardSeat, rest: &Rest, calls: &[Call], made: usize) -> Making
+    requires board { IsOf seat.now board.now }
+    requires pass { IsOfOnePass seat.now rest.now }
+    requires calls { All (IsCallOn (length board.now.book.accounts)) calls.now }
+    ensures { IsCallBegun board.now.book seat.now rest.now calls.now made result.calling }
+{
+    let calling = match calls.get(made) {
+        Some(call) => Some(Calling::start(board, seat, rest, call.copy())),
+        None => None,
+    };
+    Making { calling }
 }
 
 /// The same receipt. Takes no memory.

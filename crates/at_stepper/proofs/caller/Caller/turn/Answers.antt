@@ -6,6 +6,7 @@ use Rattle.at_stepper.proofs.CallerLaws.{IsAnswered-turned, IsCallerOf-answered,
 use Rattle.at_stepper.specs.Callers.{CallerTerms, IsAnswered, steps_in}
 use Rattle.at_calling.specs.Calling.{CallingTerms}
 use Rattle.at_stepper.specs.KeptCallers.{IsCallBegun, IsCallerOf, caller_of}
+use Rattle.at_stepper.specs.declared.caller.Making.{Making}
 use Rattle.at_stepper.specs.declared.turned.Turned.TheVariants.{Answer}
 use Rattle.at_stepper.proofs.caller.Caller.turn.Given.{Over}
 use Rattle.at_stepper.proofs.caller.Caller.turn.Goals.{After-become_next}
@@ -13,15 +14,13 @@ use Rattle.at_stepper.proofs.caller.Caller.turn.Goals as goal
 
 -- the next call is begun with the calls of the caller, behind its receipts
 next_begun : (g : Over) (c : After-become_next g) → IsCallBegun c.args.board.now.book c.turn-made.new.seat c.turn-made.new.rest c.self.inside.calls.items
-    (length c.push_reserved.new.self.items) c.become_next.new.calling
+    (length c.keep-next.new.receipts.items) c.become_next.new.making.calling
 next_begun g c =
-    let calls = c.self.inside.calls.items in
-    let count : c.len.result ≡ length c.push_reserved.new.self.items = omega (arith, c.len.ensures, c.push_reserved.new.self.ok.0) in
-    subst (λ (next : Option CallingTerms). IsCallBegun c.args.board.now.book c.turn-made.new.seat c.turn-made.new.rest calls
-    (length c.push_reserved.new.self.items) next) (sym c.become_next.ensures)
-    (subst (λ n. IsCallBegun c.args.board.now.book c.turn-made.new.seat c.turn-made.new.rest calls n c.begun-next.result) count
-    (subst (λ (list : List Call). IsCallBegun c.args.board.now.book c.turn-made.new.seat c.turn-made.new.rest list c.len.result c.begun-next.result)
-    c.as_slice.ensures.value c.begun-next.ensures))
+    let number = length c.keep-next.new.receipts.items in
+    subst (λ (making : Making). IsCallBegun c.args.board.now.book c.turn-made.new.seat c.turn-made.new.rest c.self.inside.calls.items number
+    making.calling) (sym c.become_next.ensures)
+    (subst (λ (list : List Call). IsCallBegun c.args.board.now.book c.turn-made.new.seat c.turn-made.new.rest list number c.keep-next.result.calling)
+    c.as_slice.ensures.value c.keep-next.ensures.begun)
 
 -- the caller as it was
 was_making : (g : Over) (c : After-become_next g) → caller_of c.self.inside.seat c.self.inside.rest c.self.inside.calls.items
@@ -41,13 +40,13 @@ invariant_of-self-2 g c =
     c.turn-made.new.rest c.known.ensures.seat c.turn-made.ensures.board.book c.turn-made.ensures.call c.turn-made.ensures.start
     c.turn-made.ensures.was c.turn-made.ensures.turns c.turn-made.ensures.exchanges_made c.turn-made.ensures.left c.turn-made.ensures.so_far
     c.in-Some-made.receipt c.in-Some-made.ensures.made c.in-Some-made.ensures.stands c.in-Some-made.ensures.kept c.in-Some-made.ensures.calls
-    c.in-Some-made.ensures.within c.push_reserved.new.self.items c.push_reserved.ensures.items c.become_next.new.calling (next_begun g c)
-    (vec_capacity c.push_reserved.new.self) c.push_reserved.ensures.capacity
+    c.in-Some-made.ensures.within c.keep-next.new.receipts.items c.keep-next.ensures.receipts c.become_next.new.making.calling (next_begun g c)
+    (vec_capacity c.keep-next.new.receipts) c.keep-next.ensures.capacity
 
 pub returns-clause-turned : goal.returns-clause-turned
 returns-clause-turned g c =
     let answered : CallerTerms =
-    caller_of c.turn-made.new.seat c.turn-made.new.rest c.self.inside.calls.items c.push_reserved.new.self.items c.become_next.new.calling in
+    caller_of c.turn-made.new.seat c.turn-made.new.rest c.self.inside.calls.items c.keep-next.new.receipts.items c.become_next.new.making.calling in
     subst (λ (r : Receipt). IsAnswered c.args.board.now.book c.args.self.now answered r) (sym c.copy_of-answer.ensures)
     (subst (λ (t : CallerTerms). IsAnswered c.args.board.now.book t answered c.in-Some-made.receipt) (was_making g c)
     (IsAnswered-turned c.args.board.now.book c.self.inside.seat c.self.inside.rest c.self.inside.calls.items c.self.inside.receipts.items
@@ -58,7 +57,7 @@ returns-clause-turned g c =
     c.turn-made.new.rest c.known.ensures.seat c.turn-made.ensures.board.book c.turn-made.ensures.call c.turn-made.ensures.start
     c.turn-made.ensures.was c.turn-made.ensures.turns c.turn-made.ensures.exchanges_made c.turn-made.ensures.left c.turn-made.ensures.so_far
     c.in-Some-made.receipt c.in-Some-made.ensures.made c.in-Some-made.ensures.stands c.in-Some-made.ensures.kept c.in-Some-made.ensures.calls
-    c.in-Some-made.ensures.within c.push_reserved.new.self.items c.push_reserved.ensures.items c.become_next.new.calling (next_begun g c)))
+    c.in-Some-made.ensures.within c.keep-next.new.receipts.items c.keep-next.ensures.receipts c.become_next.new.making.calling (next_begun g c)))
 
 pub returns-clause-process : goal.returns-clause-process
 returns-clause-process g c =
@@ -70,7 +69,7 @@ returns-clause-process g c =
     c.turn-made.new.rest c.known.ensures.seat c.turn-made.ensures.board.book c.turn-made.ensures.call c.turn-made.ensures.start
     c.turn-made.ensures.was c.turn-made.ensures.turns c.turn-made.ensures.exchanges_made c.turn-made.ensures.left c.turn-made.ensures.so_far
     c.in-Some-made.receipt c.in-Some-made.ensures.made c.in-Some-made.ensures.stands c.in-Some-made.ensures.kept c.in-Some-made.ensures.calls
-    c.in-Some-made.ensures.within c.push_reserved.new.self.items c.push_reserved.ensures.items c.become_next.new.calling (next_begun g c)
+    c.in-Some-made.ensures.within c.keep-next.new.receipts.items c.keep-next.ensures.receipts c.become_next.new.making.calling (next_begun g c)
     ∙ ap (λ (t : CallerTerms). t.pass.knows.first) (was_making g c)
 
 pub returns-clause-steps : goal.returns-clause-steps
@@ -85,5 +84,5 @@ returns-clause-steps g c =
     c.turn-made.new.rest c.known.ensures.seat c.turn-made.ensures.board.book c.turn-made.ensures.call c.turn-made.ensures.start
     c.turn-made.ensures.was c.turn-made.ensures.turns c.turn-made.ensures.exchanges_made c.turn-made.ensures.left c.turn-made.ensures.so_far
     c.in-Some-made.receipt c.in-Some-made.ensures.made c.in-Some-made.ensures.stands c.in-Some-made.ensures.kept c.in-Some-made.ensures.calls
-    c.in-Some-made.ensures.within c.push_reserved.new.self.items c.push_reserved.ensures.items c.become_next.new.calling (next_begun g c)
+    c.in-Some-made.ensures.within c.keep-next.new.receipts.items c.keep-next.ensures.receipts c.become_next.new.making.calling (next_begun g c)
     ∙ ap (λ (r : Receipt). steps_in (Answer r)) (sym c.copy_of-answer.ensures))
