@@ -1,6 +1,9 @@
 -- The faults that answers carry.
-use Rattle.std.proofs.Common.{◌≡◌, Result, Err, ap}
+use Rattle.std.proofs.Common.{◌≡◌, ℕ, Result, Ok, Err, ap}
+use Rattle.at_files.specs.BookFile.{at_line}
+use Rattle.at_files.specs.Results.{and_then}
 use Rattle.at_files.specs.declared.book_fault.BadBook.{BadBook}
+use Rattle.at_files.specs.declared.book_fault.BookWhy.{BookWhy}
 use Rattle.at_files.specs.declared.book_fault.ReadBookFault.{ReadBookFault}
 use Rattle.at_files.specs.declared.book_fault.ReadBookFault.TheVariants.{Bad}
 
@@ -10,3 +13,8 @@ Bad-same x b h = cc
 -- the same answer, of two calls that give other values
 pub Err-same : {T U : Type 0} (fault other : ReadBookFault) → ◌≡◌ {A = Result T ReadBookFault} (Err fault) (Err other) → ◌≡◌ {A = Result U ReadBookFault} (Err fault) (Err other)
 Err-same fault other h = let same : fault ≡ other = cc in ap Err same
+
+-- what comes after a fault changes nothing
+pub at_line-stops : {A B : Type 0} (line : ℕ) (first : Result A BookWhy) (then : A → Result B BookWhy) (bad : BadBook) → at_line line first ≡ Err bad → at_line line (and_then first then) ≡ Err bad
+at_line-stops line (Ok x) then bad h = absurd (cc)
+at_line-stops line (Err w) then bad h = let same : record { line = line; why = w } ≡ bad = cc in ap Err same

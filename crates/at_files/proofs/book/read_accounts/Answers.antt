@@ -20,3 +20,6 @@ returns-in-Err-clause-bad c = λ b same.
 pub loop-account-preserved : goal.loop-account-preserved
 loop-account-preserved c =
     Added-more _ c.loop-account.begun _ _ _ _ _ c.add_record.new.begun c.loop-account.invariant c.in-Ok.ensures.ok c.if-not-found.false c.in_default-add_record.ensures.ok c.in_default-add_record.ensures.names
+
+pub add_record-requires-clause-room : goal.add_record-requires-clause-room
+add_record-requires-clause-room c = c.loop-account-test.true

@@ -1,6 +1,11 @@
-use Rattle.std.proofs.Common.{sym, ◌∙◌}
+use Rattle.std.proofs.Common.{sym, ◌∙◌, Err, ap}
 use Rattle.at_files.proofs.BookWalk.{AreNamesOf-limits_of}
+use Rattle.at_files.proofs.Faults.{Bad-same}
 use Rattle.at_files.proofs.book.read_limits.Goals as goal
 
 pub returns-in-Ok-limits_of-clause-names : goal.returns-in-Ok-limits_of-clause-names
 returns-in-Ok-limits_of-clause-names c = AreNamesOf-limits_of c.args.version _ _ c.in-Ok-limits_of.begun c.requires (sym c.limits_of.ensures ∙ c.in-Ok-limits_of.is)
+
+pub returns-in-Err-clause-bad : goal.returns-in-Err-clause-bad
+returns-in-Err-clause-bad c = λ b same.
+    rw (c.in-Ok.ensures.ok, c.if-not-found.false, sym c.limits_of.ensures ∙ c.in-Err.is) (ap Err (Bad-same _ b (ap Err (sym c.bad_book-in-Err.ensures) ∙ same)))

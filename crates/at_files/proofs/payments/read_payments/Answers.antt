@@ -1,4 +1,4 @@
-use Rattle.std.proofs.Common.{Err, ap, ◌∙◌}
+use Rattle.std.proofs.Common.{Err, ap, ◌∙◌, ◌≡◌, sym}
 use Rattle.at_files.specs.Payments.{calls_or_fault}
 use Rattle.at_files.proofs.PaymentsAccepted.{Pays-items_of, Pays-not_bad}
 use Rattle.at_files.proofs.payments.read_payments.Goals as goal
@@ -9,3 +9,11 @@ returns-in-Ok-clause-pays c = Pays-items_of _ _ _ _ c.requires c.in-Ok.ensures.o
 pub returns-in-Err-Bad-clause-accepts : goal.returns-in-Err-Bad-clause-accepts
 returns-in-Err-Bad-clause-accepts c = λ calls pays.
     Pays-not_bad c.args.book.now _ _ calls _ _ c.requires pays (ap calls_or_fault (c.read_items.ensures.bad c.in-Err-Bad.bad (c.in-Err-Bad.is ∙ ap Err c.in-Err-Bad.field-0-is)))
+
+pub returns-in-Ok-clause-ok : goal.returns-in-Ok-clause-ok
+returns-in-Ok-clause-ok c = ap calls_or_fault c.in-Ok.ensures.ok
+
+pub returns-in-Err-Bad-clause-bad : goal.returns-in-Err-Bad-clause-bad
+returns-in-Err-Bad-clause-bad c = λ b same.
+    let is : c.payments_fault.result ≡ b = cc in
+    ap calls_or_fault (c.read_items.ensures.bad c.in-Err-Bad.bad (c.in-Err-Bad.is ∙ ap Err c.in-Err-Bad.field-0-is)) ∙ ap Err (sym c.payments_fault.ensures ∙ is)

@@ -1,0 +1,18 @@
+use Rattle.std.proofs.Common.{◌≡◌, nat_lt, length, true, refl, arith}
+use Rattle.std.proofs.lemmas.Bool.Decides.{nat_tests}
+use Rattle.std.specs.List.{slice_index}
+use Rattle.at_files.proofs.deliveries.delivery_to.Goals as goal
+
+pub returns : goal.returns
+returns c =
+    let count = c.len.ensures.length in
+    let processes = c.from-processes.ensures in
+    let node_below = c.if-node-processes.false in
+    let sender_below = c.if-sender-processes.false in
+    let number_below = c.if-number-from.false in
+    let messages = c.from.ensures in
+    let told = c.get.ensures in
+    let node : nat_lt c.args.node (length c.args.counts.now) ≡ true = grind (arith, nat_tests) in
+    let sender : nat_lt c.args.sender (length c.args.counts.now) ≡ true = grind (arith, nat_tests) in
+    let number : nat_lt c.args.number (slice_index c.args.counts.now c.args.sender) ≡ true = grind (arith, nat_tests) in
+    rw (node, sender, number) refl
