@@ -1,14 +1,10 @@
 -- What the type of a turn of helping in the making keeps of its fields, which no caller sees.
-use Rattle.std.specs.Prelude.{◌≡◌, ℕ, ◌+◌, ◌*◌, ◌<◌, ◌≤◌, ◌↔◌, if◌then◌else◌, IfSome, IsSome, Option, length, sum}
+use Rattle.std.specs.Prelude.{◌≡◌, ℕ, ◌+◌, ◌*◌, ◌<◌, ◌≤◌, ◌↔◌, IfSome, IsSome, Option, length, sum}
 use Rattle.at_base.specs.declared.decision.Decision.{Decision}
 use Rattle.at_ledger.specs.Book.{BookTerms}
-use Rattle.at_ledger.specs.declared.call.Reply.TheVariants.{Done, Short}
 use Rattle.at_board.specs.Knowledge.Seats.{IsKept, SeatTerms}
 use Rattle.at_fold.specs.HasCounted.{HasCounted}
 use Rattle.at_fold.specs.Sums.{TotalSums}
-use Rattle.at_log.specs.declared.receipt.At.{At}
-use Rattle.at_log.specs.declared.receipt.Receipt.{Receipt}
-use Rattle.at_shared.specs.HelpTurns.{NamesOwn}
 use Rattle.at_shared.specs.HelpingTerms.{HelpingTerms}
 use Rattle.at_shared.specs.Helpings.{IsHelping, decides_made, decides_on}
 use Rattle.at_shared.specs.Settling.{round_steps}
@@ -53,15 +49,6 @@ pub record IsTurningSo (t : TurningTerms) : Type 0 where
   pub book : t.mark.book ≡ t.start.book
   pub helping : IsHelping t.start.book t.start t.helping
   pub stage_so : IsTurnStageSo t t.stage
-
--- the receipt of the call, where a round has decided its request so
-abbrev pub receipt_in : HelpingTerms → ℕ → Decision → Receipt
-receipt_in h round d = record { call = h.call; reply = (if d.ok then Done else Short); at = At.Round round d.place }
-
--- the answer once a round has decided so: the receipt exactly where that was the request which waits
-abbrev pub IsAfterRound : HelpingTerms → ℕ → Decision → HelpTurn → Type 0
-IsAfterRound h round d (Settled r) = NamesOwn h d × (r ≡ receipt_in h round d)
-IsAfterRound h round d More = ¬ NamesOwn h d
 
 -- what a step leaves of the turn of helping, in whichever stage it was: all but the stage, and what the seat knows and the totals have
 -- counted, is as it was

@@ -8,7 +8,7 @@ ghost use Rattle.at_fold.specs.HasCounted.{HasCounted};
 ghost use Rattle.at_shared.specs.Helpings.{IsHelping, decides_made, decides_on};
 ghost use Rattle.at_shared.specs.Settling.{round_steps};
 ghost use Rattle.at_shared.specs.declared.helping.HelpTurn.{HelpTurn};
-ghost use Rattle.at_calling.specs.KeptTurning.{IsAfterRound, TakesHelpStep, receipt_in};
+ghost use Rattle.at_calling.specs.KeptTurning.{TakesHelpStep};
 ghost use Rattle.at_calling.specs.Reading.{LeavesTotals};
 ghost use Rattle.at_calling.specs.Turning.{IsHelpOf, IsHelpWithin, LeavesSeat, MakesTurnStep, WaitsOn, exchanges_at, help_turns_left, help_turns_made};
 
@@ -199,7 +199,7 @@ impl Turning {
         seat.known();
         if let Some((round, decision)) = helping.settled(totals) {
             self.stage.become_next(TurnStage::Found);
-            return Some(settled_by(helping, round, &decision));
+            return Some(HelpTurn::Settled(helping.receipt(round, &decision)));
         }
         // What is proposed is fixed here. Others may publish and decide before the exchange, and the front stays one.
         let deciding = Deciding::start(board, seat, totals, helping, front);
@@ -239,24 +239,6 @@ impl Turning {
         self.totals = Snapshot::of(totals);
         let decision = decided?;
         seat.known();
-        Some(after_round(helping, deciding.round(), &decision))
+        Some(helping.answer(deciding.round(), &decision))
     }
-}
-
-/// What is answered once a round has decided so: the receipt, where that was the request which waits, and else that more is left.
-fn after_round(helping: &Helping, round: u32, decision: &Decision) -> HelpTurn
-    ensures { IsAfterRound helping.now round decision.now result }
-{
-    if helping.is_own(decision) {
-        settled_by(helping, round, decision)
-    } else {
-        HelpTurn::More
-    }
-}
-
-/// The answer where a round has decided the request so.
-fn settled_by(helping: &Helping, round: u32, decision: &Decision) -> HelpTurn
-    ensures { result ≡ HelpTurn.Settled (receipt_in helping.now round decision.now) }
-{
-    HelpTurn::Settled(helping.receipt(round, decision))
 }

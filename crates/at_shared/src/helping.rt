@@ -239,8 +239,8 @@ impl Helping {
         turn
     }
 
-    /// What a turn answers whose round was decided so.
-    pub(crate) fn answer(&self, round: u32, decision: &Decision) -> HelpTurn
+    /// What a turn answers whose round was decided so: the receipt of the request that waits, or that more is left.
+    pub fn answer(&self, round: u32, decision: &Decision) -> HelpTurn
         ensures { AnswersRound self.now round decision.now result }
     {
         if self.is_own(decision) {

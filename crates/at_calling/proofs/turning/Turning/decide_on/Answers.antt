@@ -10,7 +10,7 @@ use Rattle.at_board.specs.declared.knowledge.Knowledge.{Knowledge}
 use Rattle.at_fold.specs.HasCounted.{HasCounted}
 use Rattle.at_fold.specs.Sums.{TotalSums}
 use Rattle.at_rows.proofs.Laws.Accounts.{HasAccount, HasAccount-IsSeat}
-use Rattle.at_shared.specs.HelpTurns.{DecidesNext}
+use Rattle.at_shared.specs.HelpTurns.{AnswersRound, DecidesNext}
 use Rattle.at_shared.specs.HelpingTerms.{HelpingTerms}
 use Rattle.at_shared.specs.Helpings.{IsHelping, decides_made}
 use Rattle.at_shared.specs.Settling.{round_steps}
@@ -21,7 +21,7 @@ use Rattle.at_shared.specs.declared.helping.HelpTurn.TheVariants.{Settled, More}
 use Rattle.at_single.specs.Looks.{HasLooked}
 use Rattle.at_calling.proofs.TurningLaws.{IsDecidingThen-step, IsHelpOf-other, IsHelpOf-own, LeavesSeat-decided, LeavesTotals-decided, WaitsOn-other, help_turns_in-le}
 use Rattle.at_machines.specs.Deciding.{DecidingTerms, round_in}
-use Rattle.at_calling.specs.KeptTurning.{IsAfterRound, IsDecidingThen, IsTurnStageSo, IsTurningSo, TakesHelpStep, receipt_in}
+use Rattle.at_calling.specs.KeptTurning.{IsDecidingThen, IsTurnStageSo, IsTurningSo, TakesHelpStep}
 use Rattle.at_machines.specs.Looking.{IsWithin}
 use Rattle.at_calling.specs.Reading.{LeavesTotals}
 use Rattle.at_calling.specs.Turning.{IsHelpOf, LeavesSeat, TurningTerms, WaitsOn, help_turns_left}
@@ -148,13 +148,12 @@ returns-in_err-decision-clause-stepped g c =
 module _ (b : BookTerms) (v w x : Knowledge) (was now : TotalSums) (front : List ℕ) (h : HelpingTerms) (has : HasAccount v h.account)
     (looked_at : HasLooked b v w was now front) (waiting : IsHelping b v h) (d : Decision) (next : DecidesNext b w x h front d) (kept : IsKept x)
     (same : x.book ≡ b) where
-  helps : (round : ℕ) (answer : HelpTurn) → round ≡ rounds h.account (prefix_of front w.seen) → IsAfterRound h round d answer → IsHelpOf b v x h answer
+  helps : (round : ℕ) (answer : HelpTurn) → round ≡ rounds h.account (prefix_of front w.seen) → AnswersRound h round d answer → IsHelpOf b v x h answer
   helps round (Settled r) is (own, receipt) =
-      subst (λ (k : Receipt). IsHelpOf b v x h (Settled k)) (sym receipt)
-      (IsHelpOf-own b v w was now front h has looked_at waiting x d next round (receipt_in h round d) kept.agrees is own refl refl refl)
+      IsHelpOf-own b v w was now front h has looked_at waiting x d next round r kept.agrees is own receipt.call receipt.reply receipt.at
   helps round More is other = IsHelpOf-other b v w was now front h has looked_at waiting x d next other
 
-  waits_on : (round : ℕ) (answer : HelpTurn) → IsAfterRound h round d answer → answer ≡ More → WaitsOn b v x h
+  waits_on : (round : ℕ) (answer : HelpTurn) → AnswersRound h round d answer → answer ≡ More → WaitsOn b v x h
   waits_on round (Settled r) after more = absurd (cc more)
   waits_on round More other more = WaitsOn-other b v w was now front h has looked_at waiting x d next kept same other
 
@@ -171,13 +170,13 @@ returns-clause-stepped g c =
     let told = c.turn-decided.ensures in
     let last = c.in_ok-decision.ensures in
     let decision = c.in_ok-decision.decision in
-    let answer = c.after_round.result in
+    let answer = c.answer.result in
     let has = subst (λ (h : HelpingTerms). HasAccount t.start h.account) (sym (helping g start)) (has_account g start) in
     let waiting = subst (IsHelping b t.start) (sym (helping g start)) (waits g start) in
     let next : DecidesNext b d.start w t.helping d.front decision =
     subst (λ (h : HelpingTerms). DecidesNext b d.start w h d.front decision) (decides g at).helping_is last.decided in
-    let after : IsAfterRound t.helping c.round.result decision answer =
-    subst (λ (h : HelpingTerms). IsAfterRound h c.round.result decision answer) (sym (helping g start)) c.after_round.ensures in
+    let after : AnswersRound t.helping c.round.result decision answer =
+    subst (λ (h : HelpingTerms). AnswersRound h c.round.result decision answer) (sym (helping g start)) c.answer.ensures in
     let round : c.round.result ≡ rounds t.helping.account (prefix_of d.front d.start.seen) =
     c.round.ensures ∙ (ap (λ (k : DecidingTerms). round_in k) told.after
     ∙ ap (λ (h : HelpingTerms). rounds h.account (prefix_of d.front d.start.seen)) (decides g at).helping_is) in

@@ -27,14 +27,14 @@ use Rattle.at_single.proofs.Laws.Looks.{CountsAccount-HasLooked, CountsFront-Has
 use Rattle.at_single.specs.Looks.{HasLooked}
 use Rattle.at_calling.proofs.TurningLaws.{IsHelpOf-found}
 use Rattle.at_machines.specs.Deciding.{DecidingTerms}
-use Rattle.at_calling.specs.KeptTurning.{IsLookingStill, IsTurnStageSo, TakesHelpStep, receipt_in}
+use Rattle.at_calling.specs.KeptTurning.{IsLookingStill, IsTurnStageSo, TakesHelpStep}
 use Rattle.at_machines.specs.Looking.{IsWithin}
 use Rattle.at_calling.specs.Reading.{LeavesTotals}
 use Rattle.at_calling.specs.Turning.{IsHelpOf, LeavesSeat, TurningTerms, WaitsOn, help_turns_in, help_turns_left}
 use Rattle.at_calling.specs.contracts.turning.Turning.{the_view}
 use Rattle.at_calling.specs.declared.turn_stage.TurnStage.TheVariants.{Decide, Found, Look}
 use Rattle.at_calling.proofs.turning.Turning.look_on.Given as given
-use Rattle.at_calling.proofs.turning.Turning.look_on.Goals.{After-known, After-self, After-settled_by, After-start-deciding, After-turn-looked}
+use Rattle.at_calling.proofs.turning.Turning.look_on.Goals.{After-known, After-self, After-receipt, After-start-deciding, After-turn-looked}
 use Rattle.at_calling.proofs.turning.Turning.look_on.Goals as goal
 
 -- the board's book is that of the start
@@ -109,15 +109,15 @@ settled-requires g c = (
 )
 
 -- what was found was decided at the front
-found : (g : given.Over) (c : After-settled_by g) → IsDecidedIn (prefix_of c.in_ok-front.front c.turn-looked.new.seat.knows.seen)
+found : (g : given.Over) (c : After-receipt g) → IsDecidedIn (prefix_of c.in_ok-front.front c.turn-looked.new.seat.knows.seen)
     c.args.helping.now.account c.args.helping.now.own.slot c.args.helping.now.own.number c.in-Some.round c.in-Some.decision
 found g c =
-    let at = (goal.at.After-settled_by g c).After-known in
+    let at = (goal.at.After-receipt g c).After-known in
     let h : HelpingTerms = c.args.helping.now in
     let b : BookTerms = c.args.board.now.book in
     let seen = c.turn-looked.new.seat.knows.seen in
     subst (λ f. IsDecidedIn (prefix_of f seen) h.account h.own.slot h.own.number c.in-Some.round c.in-Some.decision) (looked g at).upto
-    (c.in-Some.ensures.front b seen (counts_slot g at) (waits g (goal.at.After-settled_by g c).After-self).room (counts_front g at))
+    (c.in-Some.ensures.front b seen (counts_slot g at) (waits g (goal.at.After-receipt g c).After-self).room (counts_front g at))
 
 -- what the step leaves, with whichever stage next
 stepped : (g : given.Over) (c : After-turn-looked g) (turns : ℕ) → turns ≡ c.turn-looked.new.self.turns → (mark : SeatTerms) → mark ≡ c.turn-looked.new.seat
@@ -179,8 +179,8 @@ leaves_found g c =
 
 pub returns-in-Some-clause-stepped : goal.returns-in-Some-clause-stepped
 returns-in-Some-clause-stepped g c =
-    let by = (goal.at.returns-in-Some-clause-stepped g c).After-settled_by in
-    let known = (goal.at.After-settled_by g by).After-known in
+    let by = (goal.at.returns-in-Some-clause-stepped g c).After-receipt in
+    let known = (goal.at.After-receipt g by).After-known in
     let at = (goal.at.After-known g known).After-turn-looked in
     let start = (goal.at.After-turn-looked g at).After-self in
     let b : BookTerms = c.args.board.now.book in
@@ -189,23 +189,20 @@ returns-in-Some-clause-stepped g c =
     let now : TotalSums = c.turn-looked.new.totals in
     let front : List ℕ = c.in_ok-front.front in
     let h : HelpingTerms = c.args.helping.now in
-    let r : Receipt = receipt_in h c.in-Some.round c.in-Some.decision in
+    let r : Receipt = c.receipt.result in
     let help : IsHelpOf b t.start w h (Settled r) =
     IsHelpOf-found b t.start w t.was now front h (has_account g start) (looked g known) (waits g start) c.in-Some.round c.in-Some.decision r
-    c.known.ensures.seat.agrees (found g by) refl refl refl in
+    c.known.ensures.seat.agrees (found g by) c.receipt.ensures.call c.receipt.ensures.reply c.receipt.ensures.at in
     subst (λ (k : TurnStage). TakesHelpStep b c.args.self.now
     (record t { stage = k; looked = c.turns-self-inside.result; mark = c.of.result.value.knows; totals = c.of-2.result.value }) c.args.seat.now c.turn-looked.new.seat
-    now (Some c.settled_by.result)) (sym c.become_next.ensures)
-    (subst (λ (x : HelpTurn). TakesHelpStep b c.args.self.now
-    (record t { stage = Found; looked = c.turns-self-inside.result; mark = c.of.result.value.knows; totals = c.of-2.result.value }) c.args.seat.now
-    c.turn-looked.new.seat now (Some x)) (sym c.settled_by.ensures)
+    now (Some (Settled r))) (sym c.become_next.ensures)
     (stepped g at c.turns-self-inside.result c.turns-self-inside.ensures c.of.result.value c.of.ensures c.of-2.result.value c.of-2.ensures Found (Some (Settled r)) refl
     (omega arith) (λ some. refl, λ none. refl)
     (subst (λ (k : HelpingTerms). IsHelpOf b t.start w k (Settled r)) (sym (helping g start)) help)
     (λ more. absurd (cc more))
     (subst (λ (k : HelpingTerms). LeavesSeat t.start w k.account) (sym (helping g start))
     (LeavesSeat-HasLoaded b t.start w h.account (omega (arith, c.self.invariant.kept.one_part)) (looked g known).loads (waits g start).free))
-    (has_counted g known) (leaves_found g known)))
+    (has_counted g known) (leaves_found g known))
 
 pub start-deciding-requires-clause-totals : goal.start-deciding-requires-clause-totals
 start-deciding-requires-clause-totals g c = has_counted g (goal.at.start-deciding-requires-clause-totals g c).After-known
