@@ -33,7 +33,7 @@ among-unread : (forms : Option Form) (verifies : Option Verifying) (delivers : O
 among-unread forms verifies delivers replays words forms_none verifies_none delivers_none replays_none =
     rw (forms_none, verifies_none, delivers_none, replays_none) refl
 
-wanted_in-form_of : (words : List Word) (form : Form) → form_of words ≡ Some form → wanted_in words ≡ Wanted.Files form
+pub wanted_in-form_of : (words : List Word) (form : Form) → form_of words ≡ Some form → wanted_in words ≡ Wanted.Files form
 wanted_in-form_of words form is = rw is refl
 
 wanted_in-verify_of : (words : List Word) (asked : Verifying) → verify_of words ≡ Some asked → wanted_in words ≡ Wanted.Verify asked

@@ -32,12 +32,12 @@ use std::{io, mem};
 fn words_given(rt: &(impl Env + AllocGlobal)) -> Result<Vec<String>, Status>
     ensures { IfErr result (λ refusal. refusal ≢ Status.Done) }
 {
-    let mut words = Vec::new(rt.alloc());
     let given = match std::env::args(rt) {
         Ok(given) => given,
         Err(error) if error.kind() == io::ErrorKind::OutOfMemory => return Err(Status::NoMemory),
         Err(_) => return Err(Status::Usage(UsageFault::Words)),
     };
+    let mut words = Vec::new(rt.alloc());
     for word in given.skip(1) {
         if words.push(word).is_err() {
             return Err(Status::NoMemory);

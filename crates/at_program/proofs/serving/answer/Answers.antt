@@ -1,4 +1,4 @@
-use Rattle.std.proofs.Common.{string_bytes}
+use Rattle.std.proofs.Common.{refl, string_bytes}
 use Rattle.std.proofs.lemmas.List.{length-map}
 use Rattle.at_program.proofs.serving.answer.Goals as goal
 
@@ -83,3 +83,12 @@ returns-in-Unread-clause-answered g c =
         };
       };
     })
+
+pub returns-in-Unread-clause-unread : goal.returns-in-Unread-clause-unread
+returns-in-Unread-clause-unread g c words is = refl
+
+pub returns-in-Unread-clause-done_kept : goal.returns-in-Unread-clause-done_kept
+returns-in-Unread-clause-done_kept g c done = (refl, c.answer_unread.ensures.done_kept done)
+
+pub returns-in-Unread-clause-write_fault : goal.returns-in-Unread-clause-write_fault
+returns-in-Unread-clause-write_fault g c failed = (c.answer_unread.ensures.write_fault failed, refl)
