@@ -147,15 +147,6 @@ with_name-added names more name h = by (is_name name) (has_name names name) refl
     by true true e f is = absurd (cc)
     by true false e f is = record { form = e; new = f; more_is = let same : names ++ name ∷ [] ≡ more = cc in sym same }
 
--- a name of the right form that is new is added
-pub with_name-new : (names : List (List ℕ)) (name : List ℕ) (more : List (List ℕ)) → is_name name ≡ true → not (has_name names name) ≡ true → more ≡ names ++ name ∷ []
-    → with_name names name ≡ Ok more
-with_name-new names name more form new is = by (has_name names name) new
-  where
-    by : (twice : Bool) → not twice ≡ true → (if is_name name then (if twice then Err why.NameTwice else Ok (names ++ name ∷ [])) else Err why.Name) ≡ Ok more
-    by true h = absurd (cc)
-    by false h = rw (form, is) refl
-
 AreNamesOf-with_named : (b : NamedBook) (name : List ℕ) (t : AccountTerms) → AreNamesOf b.book b.names → AreNames b.names.version (b.names.accounts ++ name ∷ [])
     → length b.book.accounts < most_accounts → AreNamesOf (with_named b name t).book (with_named b name t).names
 AreNamesOf-with_named b name t are formed room = record {

@@ -1,7 +1,17 @@
-use Rattle.std.proofs.Common.{sym, ◌∙◌, refl}
-use Rattle.at_files.proofs.AccountLaws.{with_name-new}
+use Rattle.std.proofs.Common.{Ok, Err, refl, sym, ◌∙◌, ap}
+use Rattle.std.proofs.lemmas.Bool.{not-false, not-true}
+use Rattle.at_files.proofs.Faults.{Bad-same}
 use Rattle.at_files.proofs.first_records.add_name.Goals as goal
 
 pub returns-then-added-clause-ok : goal.returns-then-added-clause-ok
 returns-then-added-clause-ok c =
-    with_name-new _ c.args.name.now _ (sym c.is_name.ensures ∙ c.if-not-is_name.false) (sym c.in-Ok.ensures.added ∙ c.if-added.true) (c.in-Ok.ensures.names ∙ rw c.if-added.true refl)
+    rw (sym c.is_name.ensures ∙ c.if-not-is_name.false, not-true _ (sym c.in-Ok.ensures.added ∙ c.if-added.true))
+    (ap Ok (sym (c.in-Ok.ensures.names ∙ rw c.if-added.true refl)))
+
+pub returns-else-added : goal.returns-else-added
+returns-else-added c = record {
+  ok = tt;
+  bad = λ b same.
+      rw (sym c.is_name.ensures ∙ c.if-not-is_name.false, not-false _ (sym c.in-Ok.ensures.added ∙ c.if-added.false))
+      (ap Err (Bad-same _ b (ap Err (sym c.bad_book-else-added.ensures) ∙ same)));
+}
