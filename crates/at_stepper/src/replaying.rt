@@ -86,11 +86,33 @@ fn turns_of<L: Ledger, X: Ledger>(
 {
     let (steps, exchanges) = (&mut Steps::<L>::new(steps), &mut Steps::<X>::new(exchanges));
     let mut turns = Vec::new(alloc);
-    for process in schedule {
-        turn_unless_idle(stepper, *process, &mut turns, steps, exchanges)?;
-    }
-    run_out(stepper, processes, &mut turns, steps, exchanges)?;
+    make_turns(stepper, processes, schedule, &mut turns, steps, exchanges)?;
     Ok(turns)
+}
+
+/// Makes all turns of a new run: those of the schedule, and then those of all processes in turn until all are idle.
+fn make_turns<L: Ledger, X: Ledger>(
+    stepper: &mut Stepper,
+    processes: u32,
+    schedule: &[u32],
+    turns: &mut Vec<TurnMade>,
+    steps: &mut Steps<L>,
+    exchanges: &mut Steps<X>,
+) -> Result<(), NoMemory>
+    requires unturned { IsUnturned stepper.old }
+    requires count { length stepper.old.callers ≡ processes }
+    requires schedule { All (λ process. process < processes) schedule.now }
+    requires none { turns.old.items ≡ [] }
+    ensures turns { OnOk result
+        (AreTurnsOf (files_of stepper.old) schedule.now turns.new.items) }
+    ensures over { OnOk result (IsOver stepper.new) }
+    ensures same { IsSameRun stepper.old stepper.new }
+{
+    for process in schedule {
+        turn_unless_idle(stepper, *process, turns, steps, exchanges)?;
+    }
+    run_out(stepper, processes, turns, steps, exchanges)?;
+    Ok(())
 }
 
 /// Makes turns of processes 0, 1 and so on in turn, again and again, until all are idle.

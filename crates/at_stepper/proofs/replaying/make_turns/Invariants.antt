@@ -1,7 +1,7 @@
 use Rattle.std.proofs.Common.{take}
 use Rattle.at_stepper.specs.Replays.{HasTurnedBy, IsSameRun}
 use Rattle.at_stepper.specs.Stepping.{files_of}
-use Rattle.at_stepper.proofs.replaying.turns_of.Given as goal
+use Rattle.at_stepper.proofs.replaying.make_turns.Given as goal
 
 -- the turns by the schedule so far are made
 abbrev pub invariant-loop-process : goal.invariant-loop-process
