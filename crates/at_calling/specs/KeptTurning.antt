@@ -1,15 +1,13 @@
 -- What the type of a turn of helping in the making keeps of its fields, which no caller sees.
-use Rattle.std.specs.Prelude.{◌≡◌, ℕ, ◌+◌, ◌*◌, ◌<◌, ◌≤◌, ◌↔◌, IfSome, IsSome, Option, length, sum}
-use Rattle.at_base.specs.declared.decision.Decision.{Decision}
+use Rattle.std.specs.Prelude.{◌≡◌, ◌+◌, ◌*◌, ◌<◌, ◌≤◌, ◌↔◌, IfSome, IsSome, Option, length, sum}
 use Rattle.at_ledger.specs.Book.{BookTerms}
 use Rattle.at_board.specs.Knowledge.Seats.{IsKept, SeatTerms}
 use Rattle.at_fold.specs.HasCounted.{HasCounted}
 use Rattle.at_fold.specs.Sums.{TotalSums}
-use Rattle.at_shared.specs.HelpingTerms.{HelpingTerms}
 use Rattle.at_shared.specs.Helpings.{IsHelping, decides_made, decides_on}
 use Rattle.at_shared.specs.Settling.{round_steps}
 use Rattle.at_shared.specs.declared.helping.HelpTurn.{HelpTurn}
-use Rattle.at_shared.specs.declared.helping.HelpTurn.TheVariants.{More, Settled}
+use Rattle.at_shared.specs.declared.helping.HelpTurn.TheVariants.{More}
 use Rattle.at_single.specs.Looks.{HasLooked}
 use Rattle.at_machines.specs.Deciding.{DecidingTerms, exchanges_in, left_of_round}
 use Rattle.at_machines.specs.Looking.{IsWithin, LookingTerms, look_turns_left}

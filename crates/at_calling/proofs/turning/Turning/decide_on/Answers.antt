@@ -14,7 +14,6 @@ use Rattle.at_shared.specs.HelpTurns.{AnswersRound, DecidesNext}
 use Rattle.at_shared.specs.HelpingTerms.{HelpingTerms}
 use Rattle.at_shared.specs.Helpings.{IsHelping, decides_made}
 use Rattle.at_shared.specs.Settling.{round_steps}
-use Rattle.at_log.specs.declared.receipt.Receipt.{Receipt}
 use Rattle.at_calling.proofs.TurningSteps.{TakesHelpStep-decide}
 use Rattle.at_shared.specs.declared.helping.HelpTurn.{HelpTurn}
 use Rattle.at_shared.specs.declared.helping.HelpTurn.TheVariants.{Settled, More}
