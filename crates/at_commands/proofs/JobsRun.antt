@@ -1,5 +1,8 @@
 -- Jobs that were run: their passes are accounted for by their receipts, which are of the calls of the jobs.
-use Rattle.std.proofs.Common.{◌≡◌, ℕ, ◌^◌, ◌<◌, All, List, [], ◌∷◌, length, get_or, map, refl, sym, ap, subst, ◌∙◌, arith}
+use Rattle.std.proofs.Common.{◌≡◌, ℕ, ◌^◌, ◌<◌, All, List, [], ◌∷◌, length, get_or, map, refl, sym, ap, subst, ◌∙◌, arith, Result, Ok, Err, Vec}
+use Rattle.std.specs.Global.{Global}
+use Rattle.std.specs.declared.alloc.AllocError.{AllocError}
+use Rattle.std.specs.Result.{IfOk}
 use Rattle.std.proofs.lemmas.List.{get_or-map, length-map}
 use Rattle.std.proofs.lemmas.List.Elements.{AllZip-get_or}
 use Rattle.std.proofs.lemmas.Slice.Zip.{AllZip-long}
@@ -10,6 +13,7 @@ use Rattle.at_ledger.specs.declared.call.Call.{Call}
 use Rattle.at_log.specs.ClosingTerms.{ClosingTerms}
 use Rattle.at_log.specs.declared.receipt.Receipt.{Receipt}
 use Rattle.at_object.specs.Closings.{AreAccountedFor, IsAccountedFor}
+use Rattle.at_object.specs.Passes.{PassTerms}
 use Rattle.at_commands.specs.Running.{AreJobsFor}
 use Rattle.at_commands.proofs.JobsMade.{files_of, passes_in}
 use Rattle.at_verify.specs.Right.{IsPlayable}
@@ -53,6 +57,22 @@ AreAccountedFor-ran ledger files before after jobs ran =
             counted = one.counted;
           }));
     }
+
+-- what is left of jobs: their passes, and the receipts of each
+abbrev Left : Type 0
+Left = Result (Vec PassTerms Global × Vec (Vec Receipt Global) Global) AllocError
+
+pub IfOk-accounted : (ledger : BoardTerms) (after : List JobTerms) (left : Left) → AreAccountedFor ledger (passes_in after) (receipts_in after)
+    → IfOk left (λ r. r.0.items ≡ passes_in after) → IfOk left (λ r. map (λ (list : Vec Receipt Global). list.items) r.1.items ≡ receipts_in after)
+    → IfOk left (λ r. AreAccountedFor ledger r.0.items (map (λ (list : Vec Receipt Global). list.items) r.1.items))
+IfOk-accounted ledger after (Ok left) accounted passes receipts = rw (passes, receipts) accounted
+IfOk-accounted ledger after (Err refusal) accounted passes receipts = tt
+
+pub IfOk-receipts : (after : List JobTerms) (files : List (List Call)) (left : Left) → map calls_of (receipts_in after) ≡ files
+    → IfOk left (λ r. map (λ (list : Vec Receipt Global). list.items) r.1.items ≡ receipts_in after)
+    → IfOk left (λ r. map calls_of (map (λ (list : Vec Receipt Global). list.items) r.1.items) ≡ files)
+IfOk-receipts after files (Ok left) are receipts = rw receipts are
+IfOk-receipts after files (Err refusal) are receipts = tt
 
 -- the receipts of a closing are as few as the calls of the files
 pub few-calls_in : (accounts : ℕ) (c : ClosingTerms) → All (IsPlayable accounts) (calls_in c) → All (λ receipts. length receipts < 2 ^ 32) c.receipts

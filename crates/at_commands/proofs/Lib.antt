@@ -10,3 +10,4 @@ pub mod SettledSteps
 pub mod SettledRuns
 pub mod DrawnCalls
 pub mod GeneratedRuns
+pub mod LoadedTexts

@@ -28,6 +28,10 @@ order_read (Err bad) = Err (status.BadOrder bad.line bad.why)
 abbrev pub order_loaded : Files → Word → ℕ → List ℕ → Result (List Delivery) Status
 order_loaded files name number counts = and_then (fetched (files name) number) (λ bytes. order_read (deliveries_of counts (file_records bytes)))
 
+-- the same of the file after those of the messages that were loaded
+abbrev pub order_beside : Files → LoadedOf Message → Word → Result (List Delivery) Status
+order_beside files l name = order_loaded files name (l.book.processes + 1) (counts_of l)
+
 -- the deliveries beside what was loaded
 abbrev pub with_order : LoadedOf Message → Result (List Delivery) Status → Result Broadcast Status
 with_order l order = and_then order (λ deliveries. Ok (record { sent = l; deliveries = deliveries }))
@@ -46,6 +50,13 @@ pub record SpellsOrder (files : Files) (name : Word) (counts : List ℕ) (delive
   pub bytes : List ℕ
   pub held : HoldsFile files name bytes
   pub spelled : Delivers counts (file_records bytes) deliveries
+
+-- the text is the output of the nodes for messages that were loaded, with the deliveries that the file of this name spells
+pub record DeliversLoaded (files : Files) (l : LoadedOf Message) (name : Word) (text : List ℕ) : Type 0 where
+  pub deliveries : List Delivery
+  pub read : order_beside files l name ≡ Ok deliveries
+  pub spelled : SpellsOrder files name (counts_of l) deliveries
+  pub printed : PrintsNodes (record { sent = l; deliveries = deliveries }) text
 
 -- the words' files spell a book, messages and deliveries
 pub record SpellsBroadcast (files : Files) (asked : Delivering) (c : Broadcast) : Type 0 where

@@ -12,9 +12,13 @@ ghost use Rattle.at_io.specs.Faults.{Rose};
 ghost use Rattle.at_io.specs.Shelf.{SameFiles};
 ghost use Rattle.at_io.specs.Sink.{TakesPrefix};
 ghost use Rattle.at_loading.specs.Faults.{HasFileNumbers, MayRefuse};
-ghost use Rattle.at_loading.specs.Loading.{Loaded, MayReach, loaded, loaded_shown};
+ghost use Rattle.at_loading.specs.Loading.{Loaded, MayReach, loaded};
 ghost use Rattle.at_loading.specs.Words.{form_shown, words_of};
 ghost use Rattle.at_report.specs.Report.{checked_line};
+ghost use Rattle.at_report.specs.Summary.{summary_text};
+ghost use Rattle.at_journal.specs.Calls.{calls_in};
+ghost use Rattle.at_ledger.specs.Run.{Legal, Whole};
+ghost use Rattle.at_commands.specs.Running.{journal_of};
 ghost use Rattle.at_verify.specs.Right.{IsPlayable, files_in};
 
 use crate::agreeing::answer_agree;
@@ -71,23 +75,26 @@ fn check_text(alloc: Global, book: &Book, files: &[Vec<Call>]) -> Result<Printed
     Ok(Printed { text, closed: None })
 }
 
-/// What the command prints of what was loaded.
+/// What the command prints of the files.
 fn text_of<R: Threads + Sync, G: Gate + Sync>(
     rt: &R,
     alloc: Global,
     command: Command,
-    loaded: at_loading::Loaded<Call>,
+    book: &Book,
+    names: &Names,
+    files: Vec<Vec<Call>>,
     gate: &G,
 ) -> Result<Printed, AllocError>
-    requires names { AreNamesOf loaded.book loaded.names }
-    requires count { length loaded.files.items ≡ loaded.book.processes }
-    requires known { All (IsPlayable (length loaded.book.accounts)) (files_in loaded.files.items) }
-    ensures { IfOk result (λ p. Prints command (loaded_shown loaded) p.closed p.text.items) }
+    requires names { AreNamesOf book.now names.now }
+    requires count { length files.items ≡ book.now.processes }
+    requires known { All (IsPlayable (length book.now.accounts)) (files_in files.items) }
+    ensures { IfOk result (λ p. Prints command
+        (record { book = book.now; names = names.now; files = files_in files.items })
+        p.closed p.text.items) }
 {
-    let at_loading::Loaded { book, names, files } = loaded;
     match command {
-        Command::Run => run_text(rt, alloc, &book, &names, files, gate),
-        Command::Check => check_text(alloc, &book, files.as_slice()),
+        Command::Run => run_text(rt, alloc, book, names, files, gate),
+        Command::Check => check_text(alloc, book, files.as_slice()),
     }
 }
 
@@ -116,11 +123,11 @@ fn files_text<R: Threads + Sync, F: Shelf, G: Gate + Sync>(
         → MayReach (F.tells shelf.old) (F.file shelf.old) (form_shown form.now) file }
     ensures numbered { IfErr result (HasFileNumbers (length form.now.payments.now)) }
 {
-    let loaded = match load(alloc, shelf, form) {
+    let at_loading::Loaded { book, names, files } = match load(alloc, shelf, form) {
         Ok(loaded) => loaded,
         Err(refusal) => return Err(refusal),
     };
-    match text_of(rt, alloc, form.command, loaded, gate) {
+    match text_of(rt, alloc, form.command, &book, &names, files, gate) {
         Ok(printed) => Ok(printed),
         Err(_) => Err(Status::NoMemory),
     }
@@ -189,6 +196,27 @@ pub fn answer_files<R: Threads + Sync, F: Shelf, O: Sink, G: Gate + Sync>(
     finish(printed, out, kept)
 }
 
+/// The summary of the journal of a closed ledger on which such calls were run.
+fn run_summary(
+    alloc: Global,
+    book: &Book,
+    closed: &Closed,
+    first: u64,
+    calls: u32,
+) -> Result<Vec<u8>, AllocError>
+    requires book { closed.now.book ≡ book.now }
+    requires count { length (calls_in closed.now.closing) ≡ closed.now.book.processes }
+    requires known { All (IsPlayable (length closed.now.book.accounts))
+        (calls_in closed.now.closing) }
+    ensures text { IfOk result
+        (λ text. text.items ≡ summary_text book.now (journal_of closed.now) first calls) }
+    ensures whole { IfOk result (λ _. Whole (calls_in closed.now.closing) (journal_of closed.now)) }
+    ensures legal { IfOk result (λ _. Legal closed.now.book (journal_of closed.now)) }
+{
+    let lines = journal_of(alloc, closed)?;
+    summary(alloc, book, lines.as_slice(), first, calls)
+}
+
 /// The summary of a run of the calls that a number gives, all processes at once.
 fn made_text<R: Threads + Sync, G: Gate + Sync>(
     rt: &R,
@@ -205,8 +233,7 @@ fn made_text<R: Threads + Sync, G: Gate + Sync>(
 {
     let Made { book, files } = generate(alloc, making.first, making.processes, making.calls)?;
     let closed = play(rt, alloc, &book, files, gate)?;
-    let lines = journal_of(alloc, &closed)?;
-    let text = summary(alloc, &book, lines.as_slice(), making.first, making.calls)?;
+    let text = run_summary(alloc, &book, &closed, making.first, making.calls)?;
     Ok(Printed {
         text,
         closed: Some(closed),

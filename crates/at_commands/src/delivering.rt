@@ -5,7 +5,7 @@ ghost use Rattle.at_files.specs.Deliveries.{IsDelivery};
 ghost use Rattle.at_files.specs.Limits.{most_messages};
 ghost use Rattle.at_io.specs.Faults.{Rose};
 ghost use Rattle.at_io.specs.Shelf.{SameFiles};
-ghost use Rattle.at_commands.specs.Delivering.{DeliversSpelled, MayReachBroadcast, SpellsOrder, TookDelivered, TookDeliveredPrefix, broadcast, order_loaded};
+ghost use Rattle.at_commands.specs.Delivering.{DeliversLoaded, DeliversSpelled, MayReachBroadcast, SpellsOrder, TookDelivered, TookDeliveredPrefix, broadcast, order_beside, order_loaded};
 ghost use Rattle.at_loading.specs.Faults.{HasFurtherNumbers, Kind, MayRefuseOf};
 ghost use Rattle.at_loading.specs.Loading.{all_shown, contents_of};
 ghost use Rattle.at_commands.specs.Nodes.{AreSent, Broadcast, PrintsNodes, counts_of};
@@ -94,6 +94,44 @@ fn delivered_text(
     nodes_text(alloc, &sent.book, nodes.as_slice())
 }
 
+/// What `deliver` prints of messages that were loaded, with the deliveries of the file of this name, or why it prints nothing.
+fn ordered_text<F: Shelf>(
+    alloc: Global,
+    shelf: &mut F,
+    sent: &Loaded<Message>,
+    name: &str,
+) -> Result<Vec<u8>, Status>
+    requires count { length sent.now.files.items ≡ sent.now.book.processes }
+    requires sent { All (AreSent sent.now.book) (contents_of sent.now.files.items) }
+    ensures files { SameFiles (F.tells shelf.old) (F.tells shelf.new) (F.file shelf.old)
+        (F.file shelf.new) }
+    ensures later { F.faults shelf.old ≤ F.faults shelf.new }
+    ensures kept { OnOk result (F.faults shelf.new ≡ F.faults shelf.old) }
+    ensures printed { F.tells shelf.old ≡ true
+        → IfOk result
+        (λ text. DeliversLoaded (F.file shelf.old) (all_shown sent.now) name.now text.items) }
+    ensures err { IfErr result
+        (λ refusal. MayRefuseOf Kind.messages (F.tells shelf.old)
+        (order_beside (F.file shelf.old) (all_shown sent.now) name.now) (F.faults shelf.old)
+        (F.faults shelf.new) refusal) }
+    ensures file { (file : ℕ) → result ≡ Err (Status.ReadFault file)
+        → file ≡ sent.now.book.processes + 1 }
+    ensures numbered { (files : ℕ) → sent.now.book.processes ≤ files
+        → IfErr result (HasFurtherNumbers files) }
+{
+    let _known = sent.book.accounts();
+    let counts = counts_of(sent.files.as_slice());
+    let number = sent.book.processes() + 1;
+    let deliveries = match load_order(alloc, shelf, &counts, name, number) {
+        Ok(deliveries) => deliveries,
+        Err(refusal) => return Err(refusal),
+    };
+    match delivered_text(alloc, sent, deliveries.as_slice()) {
+        Ok(text) => Ok(text),
+        Err(_) => Err(Status::NoMemory),
+    }
+}
+
 /// What `deliver` prints of the files that the words name, or why it prints nothing. The deliveries are fetched last.
 fn broadcast_text<F: Shelf>(
     alloc: Global,
@@ -120,17 +158,7 @@ fn broadcast_text<F: Shelf>(
         Ok(sent) => sent,
         Err(refusal) => return Err(refusal),
     };
-    let _known = sent.book.accounts();
-    let counts = counts_of(sent.files.as_slice());
-    let number = sent.book.processes() + 1;
-    let deliveries = match load_order(alloc, shelf, &counts, asked.order, number) {
-        Ok(deliveries) => deliveries,
-        Err(refusal) => return Err(refusal),
-    };
-    match delivered_text(alloc, &sent, deliveries.as_slice()) {
-        Ok(text) => Ok(text),
-        Err(_) => Err(Status::NoMemory),
-    }
+    ordered_text(alloc, shelf, &sent, asked.order)
 }
 
 /// Does what the words of `deliver` ask.

@@ -6,10 +6,11 @@ ghost use Rattle.at_journal.specs.Calls.{calls_in};
 ghost use Rattle.at_ledger.specs.Book.{total_of};
 ghost use Rattle.at_ledger.specs.Call.{IsLineOn};
 ghost use Rattle.at_ledger.specs.Run.{Legal, Whole, last_state};
+ghost use Rattle.at_object.specs.Closings.{AreAccountedFor};
 ghost use Rattle.at_object.specs.Passes.{AreNewPasses};
 ghost use Rattle.at_commands.specs.Running.{AreJobsFor, IsClosedAfter, journal_of};
 ghost use Rattle.at_verify.specs.Right.{IsPlayable, files_in};
-ghost use Rattle.at_workers.specs.Jobs.{IsReady, JobTerms, Ran};
+ghost use Rattle.at_workers.specs.Jobs.{IsReady, JobTerms, Ran, calls_of};
 
 use at_journal::journal;
 use at_ledger::{Book, Call, Line};
@@ -76,6 +77,29 @@ fn taken_apart(alloc: Global, jobs: Vec<Job>) -> Result<(Vec<Pass>, Vec<Vec<Rece
     Ok((passes, receipts))
 }
 
+/// Makes the calls of each file on the ledger, each process's by a thread of its own. What is left are the passes, and the
+/// receipts of each process.
+fn make_calls<R: Threads + Sync, G: Gate + Sync>(
+    rt: &R,
+    alloc: Global,
+    ledger: &Ledger,
+    passes: Vec<Pass>,
+    files: Vec<Vec<Call>>,
+    gate: &G,
+) -> Result<(Vec<Pass>, Vec<Vec<Receipt>>), NoMemory>
+    requires passes { AreNewPasses ledger.now passes.items }
+    requires count { length files.items ≡ ledger.now.book.processes }
+    requires known { All (IsPlayable (length ledger.now.book.accounts)) (files_in files.items) }
+    ensures accounted { IfOk result
+        (λ r. AreAccountedFor ledger.now r.0.items (map (λ list. list.items) r.1.items)) }
+    ensures calls { IfOk result
+        (λ r. map calls_of (map (λ list. list.items) r.1.items) ≡ files_in files.items) }
+{
+    let mut jobs = jobs_for(alloc, ledger, passes, files)?;
+    run_jobs(rt, ledger, &mut jobs, gate);
+    taken_apart(alloc, jobs)
+}
+
 /// Makes the calls of each file on a new ledger of the book, each process's by a thread of its own, and closes the ledger. The work
 /// grows with the calls.
 pub fn play<R: Threads + Sync, G: Gate + Sync>(
@@ -90,9 +114,7 @@ pub fn play<R: Threads + Sync, G: Gate + Sync>(
     ensures { IfOk result (IsClosedAfter book.now (files_in files.items)) }
 {
     let (ledger, passes) = Ledger::new(alloc, book)?;
-    let mut jobs = jobs_for(alloc, &ledger, passes, files)?;
-    run_jobs(rt, &ledger, &mut jobs, gate);
-    let (passes, receipts) = taken_apart(alloc, jobs)?;
+    let (passes, receipts) = make_calls(rt, alloc, &ledger, passes, files, gate)?;
     match ledger.close(alloc, passes, receipts) {
         Ok(closed) => Ok(closed),
         Err(_refused) => Err(AllocError),

@@ -10,7 +10,7 @@ use Rattle.at_files.specs.declared.deliveries.Delivery.{Delivery}
 use Rattle.at_files.proofs.DeliveryLaws.{deliveries_of-Delivers}
 use Rattle.at_files.proofs.MessageLaws.{counts_of-set}
 use Rattle.at_report.specs.declared.status.Status.{Status}
-use Rattle.at_commands.specs.Delivering.{SpellsBroadcast, broadcast, order_loaded, order_number, sent_loaded}
+use Rattle.at_commands.specs.Delivering.{SpellsBroadcast, broadcast, order_beside, order_loaded, order_number, sent_loaded}
 use Rattle.at_loading.specs.Loading.{Files, IsSpelled, LoadedOf, SendsBytes, messages_given}
 use Rattle.at_commands.specs.Nodes.{AreSent, Broadcast, counts_of}
 use Rattle.at_loading.specs.Words.{Delivering}
@@ -30,6 +30,11 @@ pub broadcast-disordered : (files now : Files) (asked : Delivering) (l : LoadedO
 broadcast-disordered files now asked l refusal number counts same last are is there =
     let order : order_loaded files asked.order (order_number asked) (counts_of l) ≡ Err refusal = rw (← same, ← last, ← are) there in
     rw (is, order) refl
+
+pub broadcast-beside : (files : Files) (asked : Delivering) (l : LoadedOf Message) (refusal : Status) → l.book.processes + 1 ≡ order_number asked
+    → sent_loaded files asked ≡ Ok l → order_beside files l asked.order ≡ Err refusal → broadcast files asked ≡ Err refusal
+broadcast-beside files asked l refusal last is there =
+    broadcast-disordered files files asked l refusal (l.book.processes + 1) (counts_of l) refl last refl is there
 
 pub broadcast-refused : (files : Files) (asked : Delivering) (refusal : Status) → sent_loaded files asked ≡ Err refusal → broadcast files asked ≡ Err refusal
 broadcast-refused files asked refusal is = rw is refl
