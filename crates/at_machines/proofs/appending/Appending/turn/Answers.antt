@@ -1,4 +1,4 @@
-use Rattle.std.proofs.Common.{◌≡◌, ◌+◌, ◌<◌, length, get_or, ap, subst, sym, ◌∙◌, arith}
+use Rattle.std.proofs.Common.{◌≡◌, refl, ◌+◌, ◌<◌, length, get_or, ap, subst, sym, ◌∙◌, arith}
 use Rattle.at_ledger.specs.Book.{BookTerms}
 use Rattle.at_board.specs.Knowledge.Seats.{SeatTerms}
 use Rattle.at_board.specs.Steps.Publish.{MayPublish, Publishes}
@@ -100,6 +100,12 @@ from_start : (g : given.Over) (c : After-publish g)
 from_start g c =
     let at = (goal.at.After-publish g c).After-processes in
     Publishes-IsAppendingSo c.args.board.now.book c.args.self.now c.publish.new.seat.knows (book g at) (all g c) (before g at) (published g c)
+
+pub returns-else-self-processes-clause-ends : goal.returns-else-self-processes-clause-ends
+returns-else-self-processes-clause-ends g c = (
+  λ is. all g (goal.at.returns-else-self-processes-clause-ends g c).After-publish,
+  λ full. refl,
+)
 
 pub returns-else-self-processes-clause-publishes : goal.returns-else-self-processes-clause-publishes
 returns-else-self-processes-clause-publishes g c = λ is. published g (goal.at.returns-else-self-processes-clause-publishes g c).After-publish

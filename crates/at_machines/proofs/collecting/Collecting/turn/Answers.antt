@@ -71,3 +71,30 @@ returns-clause-collect g c = (collected g c).0
 
 pub returns-clause-counts : goal.returns-clause-counts
 returns-clause-counts g c = (collected g c).1
+
+-- one load more
+after : (g : given.Over) (c : After-of g) → collecting_after (record {
+  start = c.self.inside.start.value.knows;
+  mark = c.self.inside.mark.value.knows;
+  loaded = c.self.inside.loaded;
+}) c.of.result.value.knows ≡ collecting_after c.args.self.now c.load_length-count.new.seat.knows
+after g c =
+    let inside : CollectingTerms = record {
+      start = c.self.inside.start.value.knows;
+      mark = c.self.inside.mark.value.knows;
+      loaded = c.self.inside.loaded;
+    } in
+    ap (λ (s : SeatTerms). collecting_after inside s.knows) c.of.ensures
+    ∙ ap (λ (t : CollectingTerms). collecting_after t c.load_length-count.new.seat.knows) c.self.view_is
+
+pub returns-then-self-processes-clause-after : goal.returns-then-self-processes-clause-after
+returns-then-self-processes-clause-after g c = after g (goal.at.returns-then-self-processes-clause-after g c).After-of
+
+pub returns-clause-after : goal.returns-clause-after
+returns-clause-after g c = after g (goal.at.returns-clause-after g c).After-of
+
+pub returns-then-self-processes-clause-steps : goal.returns-then-self-processes-clause-steps
+returns-then-self-processes-clause-steps g c = c.load_length-count.ensures.steps
+
+pub returns-clause-steps : goal.returns-clause-steps
+returns-clause-steps g c = c.load_length-count.ensures.steps

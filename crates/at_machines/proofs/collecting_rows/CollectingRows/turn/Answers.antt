@@ -165,6 +165,32 @@ all g c =
     subst (λ (t : CollectingRowsTerms). HasCollected b t.start w t.account t.own c.replace.result (c.self.inside.made + 1)) c.self.view_is
     (subst (λ (l : List OpenRequest). HasCollected b start w row.account row.own l (c.self.inside.made + 1)) (sym c.replace.ensures.value) told)
 
+-- and nothing comes next
+pub returns-then-next-slots-clause-load : goal.returns-then-next-slots-clause-load
+returns-then-next-slots-clause-load g c =
+    let replace = (goal.at.returns-then-next-slots-clause-load g c).After-replace in
+    let next = (goal.at.After-replace g replace).After-slot-next in
+    let add = (goal.at.After-slot-next g next).After-add in
+    let at = (goal.at.After-add g add).After-turn in
+    let b : BookTerms = c.args.board.now.book in
+    let w : Knowledge = c.turn.new.seat.knows in
+    let row : LoadingRowTerms = c.self.inside.row in
+    let old : CollectingRowsTerms = the_view c.self.inside in
+    let after : LoadingRowTerms → CollectingRowsTerms = λ r. the_view (record {
+      asked = c.add.new.self;
+      row = r;
+      made = c.self.inside.made + 1;
+      start = c.self.inside.start;
+    }) in
+    let last : row.slot + 1 ≡ slots_of (account_of b row.account) = omega (arith, slots g add, slot_is g next, c.if-next-slots.true) in
+    let told : MakesNextLoad b old (after (row_after row w nothing)) = record {
+      row_next = nothing;
+      load = subst (MakesLoadOf b row.mark w row.account row.slot row.own.slot row.next) (ended g add) (load g at);
+      goes_on = (λ less. absurd (omega (arith, less, last)), λ is_last. refl);
+    } in
+    subst (λ (t : CollectingRowsTerms). MakesNextLoad b t (after c.turn.new.self)) c.self.view_is
+    (subst (λ (r : LoadingRowTerms). MakesNextLoad b old (after r)) (sym (c.turn.ensures.after ∙ ap (row_after row w) (ended g add))) told)
+
 pub returns-then-next-slots-clause-collected : goal.returns-then-next-slots-clause-collected
 returns-then-next-slots-clause-collected g c = (all g c).collected
 
