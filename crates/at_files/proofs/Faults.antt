@@ -1,9 +1,12 @@
 -- The faults that answers carry.
-use Rattle.std.proofs.Common.{◌≡◌, ℕ, Result, Ok, Err, ap}
+use Rattle.std.proofs.Common.{◌≡◌, ℕ, Option, Some, None, Result, Ok, Err, ap}
+use Rattle.at_ledger.specs.declared.draft.BookError.{BookError}
 use Rattle.at_files.specs.BookFile.{at_line}
+use Rattle.at_files.specs.BookRecords.{within_limits}
 use Rattle.at_files.specs.Results.{and_then}
 use Rattle.at_files.specs.declared.book_fault.BadBook.{BadBook}
 use Rattle.at_files.specs.declared.book_fault.BookWhy.{BookWhy}
+use Rattle.at_files.specs.declared.book_fault.BookWhy.TheVariants.{Book}
 use Rattle.at_files.specs.declared.book_fault.ReadBookFault.{ReadBookFault}
 use Rattle.at_files.specs.declared.book_fault.ReadBookFault.TheVariants.{Bad}
 
@@ -18,3 +21,9 @@ Err-same fault other h = let same : fault ≡ other = cc in ap Err same
 pub at_line-stops : {A B : Type 0} (line : ℕ) (first : Result A BookWhy) (then : A → Result B BookWhy) (bad : BadBook) → at_line line first ≡ Err bad → at_line line (and_then first then) ≡ Err bad
 at_line-stops line (Ok x) then bad h = absurd (cc)
 at_line-stops line (Err w) then bad h = let same : record { line = line; why = w } ≡ bad = cc in ap Err same
+
+-- a limit that is broken is told, whatever the value would have been
+pub within_limits-bad : {A B : Type 0} (line : ℕ) (broken : Option BookError) (x : A) (y : B) (bad : BadBook) → at_line line (within_limits broken x) ≡ Err bad
+    → at_line line (within_limits broken y) ≡ Err bad
+within_limits-bad line None x y bad h = absurd (cc)
+within_limits-bad line (Some e) x y bad h = let same : record { line = line; why = Book e } ≡ bad = cc in ap Err same

@@ -1,6 +1,6 @@
 //! The messages of one process.
 
-ghost use Rattle.std.specs.Prelude.{◌≡◌, ◌+◌, ◌≤◌, List, Ok, Err, Some, None, IfErr, IfOk, IfSome, drop, length, map, option_map, if◌then◌else◌};
+ghost use Rattle.std.specs.Prelude.{◌≡◌, ◌+◌, ◌≤◌, List, Ok, Err, Some, None, IfErr, IfOk, IfSome, drop, length, map, option_map, nat_le, if◌then◌else◌};
 ghost use Rattle.csv.specs.Records.{fields_of};
 ghost use Rattle.at_broadcast.specs.declared.message.Message.{Message};
 ghost use Rattle.at_files.specs.BookRecords.{numbers_of};
@@ -63,11 +63,18 @@ fn numbers_from(fields: &ByteRecord, first: usize) -> Option<ArrayVec<u64, 16>>
     Some(numbers)
 }
 
+/// Whether a sender can have so many messages.
+fn is_count(count: u64) -> bool
+    ensures { result ≡ nat_le count most_messages }
+{
+    count <= u64::from(MESSAGES_MAX)
+}
+
 /// Whether each of the numbers is a count of messages that a sender can have.
 fn are_counts(deps: &[u64]) -> bool
     ensures { result ≡ are_counts deps.now }
 {
-    deps.iter().all(|count| *count <= u64::from(MESSAGES_MAX))
+    deps.iter().all(|count| is_count(*count))
 }
 
 /// The numbers as counts of messages that senders can have.

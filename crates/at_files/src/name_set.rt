@@ -1,6 +1,6 @@
 //! Names that are told apart, each with its position.
 
-ghost use Rattle.std.specs.Prelude.{◌≡◌, ◌≤◌, ◌<◌, ◌++◌, [], ◌∷◌, bytes_eq, length, not, if◌then◌else◌, slice_index, slice_index_or, IfNone, IfOk, IfSome};
+ghost use Rattle.std.specs.Prelude.{◌≡◌, ◌≤◌, ◌<◌, ◌++◌, [], ◌∷◌, bytes_eq, length, nat_le, not, if◌then◌else◌, slice_index, slice_index_or, IfNone, IfOk, IfSome};
 ghost use Rattle.at_files.specs.Limits.{most_name_bytes};
 ghost use Rattle.std.specs.Char.{is_ascii_lowercase};
 ghost use Rattle.std.specs.List.{IsDistinct, list_all};
@@ -128,9 +128,16 @@ fn has_name_bytes(text: &[u8]) -> bool
     text.iter().all(|byte| is_name_byte(*byte))
 }
 
+/// Whether the text is no longer than a name.
+fn has_name_length(text: &[u8]) -> bool
+    ensures { result ≡ nat_le (length text.now) most_name_bytes }
+{
+    text.len() <= NAME_MAX
+}
+
 /// Whether the text has the form of a name.
 pub(crate) fn is_name(text: &[u8]) -> bool
     ensures { result ≡ is_name text.now }
 {
-    text.len() <= NAME_MAX && has_name_bytes(text) && begins_with_letter(text)
+    has_name_length(text) && has_name_bytes(text) && begins_with_letter(text)
 }

@@ -1,7 +1,24 @@
 use Rattle.std.proofs.Common.{◌∙◌, ◌+◌}
-use Rattle.at_files.proofs.Faults.{at_line-stops}
+use Rattle.at_files.proofs.Faults.{Err-same, at_line-stops, within_limits-bad}
 use Rattle.at_files.proofs.accounts.add_named_record.Goals as goal
 
 pub returns-in-Err-clause-bad : goal.returns-in-Err-clause-bad
 returns-in-Err-clause-bad c = λ b same.
     rw (← c.begun.view_is) (at_line-stops (c.args.account + 4) _ _ b (rw c.field_of.ensures at (c.add_name.ensures.bad b (c.in-Err.is ∙ same))))
+
+pub returns-in-Err-named_terms-clause-bad : goal.returns-in-Err-named_terms-clause-bad
+returns-in-Err-named_terms-clause-bad c = λ b same.
+    rw (
+      ← c.begun.view_is,
+      rw c.field_of.ensures at c.in_default.ensures.ok,
+      ← (rw (← c.begun.view_is) at c.requires.account),
+    ) (at_line-stops (c.args.account + 4) _ _ b (rw (c.number_at.ensures, c.field_of-2.ensures) at (c.named_terms.ensures.bad b (c.in-Err-named_terms.is ∙ Err-same _ _ same))))
+
+pub returns-clause-bad : goal.returns-clause-bad
+returns-clause-bad c = λ b same.
+    rw (
+      ← c.begun.view_is,
+      rw c.field_of.ensures at c.in_default.ensures.ok,
+      ← (rw (← c.begun.view_is) at c.requires.account),
+      rw (c.number_at.ensures, c.field_of-2.ensures) at c.in-Ok.ensures.ok,
+    ) (within_limits-bad (c.args.account + 4) _ _ _ b (rw c.deref.ensures.value at (c.add_terms.ensures.bad b same)))

@@ -1,5 +1,7 @@
+use Rattle.std.proofs.Common.{◌+◌, Err, ap, sym, ◌∙◌}
 use Rattle.at_ledger.specs.Draft.{terms_with}
 use Rattle.at_files.proofs.AccountLaws.{length-numbered, with_plain_record-built}
+use Rattle.at_files.proofs.Faults.{Bad-same, within_limits-bad}
 use Rattle.at_files.proofs.accounts.add_plain_record.Goals as goal
 
 pub add-requires : goal.add-requires
@@ -14,3 +16,16 @@ returns-clause-ok c =
     (rw (← c.begun.view_is) at c.requires.names) (rw (← c.begun.view_is) at c.requires.version)
     (rw (c.requires.account, c.number_at.ensures, c.number_at-2.ensures, c.in-Ok.ensures, c.field_of.ensures, ← c.begun.view_is) at c.in-Ok-numbered_terms.ensures.ok)
     (rw c.deref.ensures.value at c.in_default-add_terms.ensures.ok) (rw c.field_of-2.ensures at c.in-Ok-add.ensures.added) (rw c.field_of-2.ensures at c.in-Ok-add.ensures.names))
+
+pub returns-in-Err-clause-bad : goal.returns-in-Err-clause-bad
+returns-in-Err-clause-bad c = λ b same.
+    rw (← c.requires.account, rw (c.number_at.ensures, c.number_at-2.ensures, c.in-Ok.ensures, c.field_of.ensures) at c.in-Err.ensures.bad)
+    (ap Err (Bad-same _ b (ap Err (sym c.bad_book.ensures) ∙ same)))
+
+pub returns-in-Err-add_terms-clause-bad : goal.returns-in-Err-add_terms-clause-bad
+returns-in-Err-add_terms-clause-bad c = λ b same.
+    rw (
+      ← c.begun.view_is,
+      ← (rw (← c.begun.view_is) at c.requires.account),
+      rw (c.number_at.ensures, c.number_at-2.ensures, c.in-Ok.ensures, c.field_of.ensures) at c.in-Ok-numbered_terms.ensures.ok,
+    ) (within_limits-bad (c.args.account + 4) _ _ _ b (rw c.deref.ensures.value at (c.add_terms.ensures.bad b (c.in-Err-add_terms.is ∙ same))))

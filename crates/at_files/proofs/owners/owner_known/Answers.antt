@@ -20,3 +20,9 @@ returns-then-count-ge-OWNERS_MAX-clause-known c =
     let risen : nat_lt c.in-Some.position c.args.least ≡ false = grind (arith, nat_tests) in
     let full : nat_le 8 c.args.count ≡ true = grind (arith, nat_tests) in
     rw (c.in-Some.is, risen, full) refl
+
+pub returns-then-owner-least-clause-known : goal.returns-then-owner-least-clause-known
+returns-then-owner-least-clause-known c =
+    let below = c.if-owner-least.true in
+    let falls : nat_lt c.in-Some.position c.args.least ≡ true = grind (arith, nat_tests) in
+    rw (c.in-Some.is, falls) refl
