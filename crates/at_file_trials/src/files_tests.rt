@@ -2,9 +2,9 @@
 
 ghost use Rattle.at_files.specs.Names.{AreNamesOf};
 
-use crate::test_files::{BookFile, NAMED, ONE_PROCESS, book_of, counted, repeated};
+use crate::test_files::{BookFile, NAMED, ONE_PROCESS, book_of, counted, read_file, repeated};
 use at_files::{
-    BadBook, BadPayments, BookWhy, Names, PaymentsWhy, ReadBookFault, ReadPaymentsFault, read_book,
+    BadBook, BadPayments, BookWhy, Names, PaymentsWhy, ReadBookFault, ReadPaymentsFault,
     read_payments,
 };
 use at_ledger::{Book, BookError, Call};
@@ -18,8 +18,8 @@ type BadFile<W> = (&'static [u8], u32, W);
 
 /// How many processes and accounts the book has, or why there is none.
 fn counts_of(alloc: Global, text: &[u8]) -> Result<(u32, u32), ReadBookFault> {
-    match read_book(alloc, text) {
-        Ok((book, _)) => Ok((book.processes(), book.accounts())),
+    match read_file(alloc, text) {
+        Ok(file) => Ok((file.book.processes(), file.book.accounts())),
         Err(fault) => Err(fault),
     }
 }

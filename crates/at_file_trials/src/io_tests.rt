@@ -20,16 +20,30 @@ const SAMPLE: &[(&str, &[u8])] = &[
     ("greeting", b"second"),
 ];
 
-fn file_of(alloc: Global, name: &str, bytes: &[u8]) -> Result<(String, Vec<u8>), NoMemory> {
-    let name = String::from_str(alloc, name)?;
-    Ok((name, Vec::from_slice(alloc, bytes)?))
+/// Files in memory, each with its name.
+type Files = Vec<(String, Vec<u8>)>;
+
+/// Adds a file of these bytes.
+fn push_file(files: &mut Files, alloc: Global, name: &str, bytes: Vec<u8>) -> Result<(), NoMemory> {
+    files.push((String::from_str(alloc, name)?, bytes))?;
+    Ok(())
+}
+
+/// Adds a file of a copy of these bytes.
+fn push_copy(files: &mut Files, alloc: Global, name: &str, bytes: &[u8]) -> Result<(), NoMemory> {
+    push_file(files, alloc, name, Vec::from_slice(alloc, bytes)?)
+}
+
+/// Adds a file of so many bytes.
+fn push_long(files: &mut Files, alloc: Global, name: &str, size: usize) -> Result<(), NoMemory> {
+    push_file(files, alloc, name, vec![in alloc; 7; size]?)
 }
 
 /// The files of the sample.
-fn sample(alloc: Global) -> Result<Vec<(String, Vec<u8>)>, NoMemory> {
+fn sample(alloc: Global) -> Result<Files, NoMemory> {
     let mut files = Vec::new(alloc);
     for (name, bytes) in SAMPLE {
-        files.push(file_of(alloc, name, bytes)?)?;
+        push_copy(&mut files, alloc, name, bytes)?;
     }
     Ok(files)
 }
@@ -122,18 +136,11 @@ fn memory_shelf_fails_at_given_calls(rt: HostRuntime) {
     );
 }
 
-/// A file of so many bytes.
-fn long_file(alloc: Global, name: &str, size: usize) -> Result<(String, Vec<u8>), NoMemory> {
-    let name = String::from_str(alloc, name)?;
-    Ok((name, vec![in alloc; 7; size]?))
-}
-
 /// The sample, with a file of the most bytes and one of a byte more.
-fn long_files(alloc: Global) -> Result<Vec<(String, Vec<u8>)>, NoMemory> {
+fn long_files(alloc: Global) -> Result<Files, NoMemory> {
     let mut files = sample(alloc)?;
-    for (name, size) in &[("longest", FILE_MAX), ("too long", FILE_MAX + 1)] {
-        files.push(long_file(alloc, name, *size)?)?;
-    }
+    push_long(&mut files, alloc, "longest", FILE_MAX)?;
+    push_long(&mut files, alloc, "too long", FILE_MAX + 1)?;
     Ok(files)
 }
 

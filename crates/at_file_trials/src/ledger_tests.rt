@@ -12,11 +12,16 @@ use std::alloc::{AllocError, Global};
 /// An account of a draft: its opening and its owners.
 type Account = (u64, &'static [u64]);
 
-fn account_with(alloc: Global, opening: u64, owners: &[u64]) -> Result<DraftAccount, AllocError> {
-    Ok(DraftAccount {
-        opening,
-        owners: Vec::from_slice(alloc, owners)?,
-    })
+/// Adds an account.
+fn push_account(
+    accounts: &mut Vec<DraftAccount>,
+    alloc: Global,
+    opening: u64,
+    owners: &[u64],
+) -> Result<(), AllocError> {
+    let owners = Vec::from_slice(alloc, owners)?;
+    accounts.push(DraftAccount { opening, owners })?;
+    Ok(())
 }
 
 /// A draft with these accounts.
@@ -28,7 +33,7 @@ fn draft_with(
 ) -> Result<Draft, AllocError> {
     let mut drafts = Vec::new(alloc);
     for (opening, owners) in accounts {
-        drafts.push(account_with(alloc, *opening, owners)?)?;
+        push_account(&mut drafts, alloc, *opening, owners)?;
     }
     Ok(Draft {
         processes,

@@ -1,9 +1,9 @@
 //! Books that are read, and texts that are long.
 
-ghost use Rattle.std.specs.Prelude.{IfSome};
+ghost use Rattle.std.specs.Prelude.{IfOk, IfSome};
 ghost use Rattle.at_files.specs.Names.{AreNamesOf};
 
-use at_files::{Names, read_book};
+use at_files::{Names, ReadBookFault, read_book};
 use at_ledger::Book;
 use std::alloc::{AllocError, Global};
 
@@ -30,14 +30,21 @@ impl Drop for BookFile {
     }
 }
 
-/// The book of this text and its names, if all is good. It says less than the reader, so that a proof above it is short.
+/// The book of this text and its names, or why there is none. It says less than the reader, so that a proof above it is short.
+pub(crate) fn read_file(alloc: Global, text: &[u8]) -> Result<BookFile, ReadBookFault>
+    ensures names { IfOk result (λ file. AreNamesOf file.book file.names) }
+{
+    match read_book(alloc, text) {
+        Ok((book, names)) => Ok(BookFile { book, names }),
+        Err(fault) => Err(fault),
+    }
+}
+
+/// The book of this text and its names, if all is good.
 pub(crate) fn book_of(alloc: Global, text: &[u8]) -> Option<BookFile>
     ensures names { IfSome result (λ file. AreNamesOf file.book file.names) }
 {
-    match read_book(alloc, text) {
-        Ok((book, names)) => Some(BookFile { book, names }),
-        Err(_) => None,
-    }
+    read_file(alloc, text).ok()
 }
 
 /// So many records that are the same.
