@@ -14,7 +14,7 @@ use std::sync::ledger::Blank;
 use std::thread::{Threads, join_mut, yield_now};
 
 /// What eight processes propose.
-const VALUES: [u64; 8] = [11, 22, 33, 0, 4_294_967_295, 44, 44, 55];
+const VALUES: &[u64] = &[11, 22, 33, 0, 4_294_967_295, 44, 44, 55];
 
 /// How often eight processes agree, and how often two race.
 const AGREEMENTS: u32 = 50;
@@ -48,30 +48,62 @@ fn last_voice(council: &Council, voices: &mut Vec<Voice>) -> Option<Voice>
     voices.pop()
 }
 
-/// Processes 2, 0 and 1 propose one after another, and these are their answers.
-fn answers_in_turn<L: ledger::Ledger, X: ledger::Ledger>(
-    alloc: Global,
+/// What the last of the voices that are left answers when it proposes a value.
+fn last_answer<L: ledger::Ledger, X: ledger::Ledger>(
+    council: &Council,
+    voices: &mut Vec<Voice>,
+    value: u64,
+    steps: &mut Steps<L>,
+    exchanges: &mut Steps<X>,
+) -> Option<u64>
+    requires voices { All (MayProposeValue council.now) voices.old.items }
+    requires value { value < 2 ^ 32 }
+    ensures { All (MayProposeValue council.now) voices.new.items }
+{
+    match last_voice(council, voices) {
+        Some(mut voice) => Some(council.propose(&mut voice, value, steps, exchanges)),
+        None => None,
+    }
+}
+
+/// Whether process 0 and then process 1 answer 9, where they propose 7 and 8.
+fn others_answer_nine<L: ledger::Ledger, X: ledger::Ledger>(
+    council: &Council,
+    voices: &mut Vec<Voice>,
+    steps: &mut Steps<L>,
+    exchanges: &mut Steps<X>,
+) -> bool
+    requires { All (MayProposeValue council.now) voices.old.items }
+{
+    match last_voice(council, voices) {
+        Some(mut one) => {
+            last_answer(council, voices, 7, steps, exchanges) == Some(9)
+                && council.propose(&mut one, 8, steps, exchanges) == 9
+        }
+        None => false,
+    }
+}
+
+/// Whether processes 2, 0 and 1, which propose 9, 7 and 8 one after another, all answer 9.
+fn all_answer_nine<L: ledger::Ledger, X: ledger::Ledger>(
+    council: &Council,
+    voices: &mut Vec<Voice>,
     steps: Blank,
     exchanges: Blank,
-) -> Option<[u64; 3]>
+) -> bool
     requires names { (steps.name ≡ L.name) × (exchanges.name ≡ X.name) }
     requires parts { (steps.parts ≡ L.parts) × (exchanges.parts ≡ X.parts) }
     requires some { (0 < steps.parts) × (0 < exchanges.parts) }
+    requires voices { All (MayProposeValue council.now) voices.old.items }
 {
     let (steps, exchanges) = (&mut Steps::<L>::new(steps), &mut Steps::<X>::new(exchanges));
-    let (council, mut voices) = new_council(alloc, 3)?;
-    let mut two = last_voice(&council, &mut voices)?;
-    let mut one = last_voice(&council, &mut voices)?;
-    let mut zero = last_voice(&council, &mut voices)?;
-    let first = council.propose(&mut two, 9, steps, exchanges);
-    let second = council.propose(&mut zero, 7, steps, exchanges);
-    let third = council.propose(&mut one, 8, steps, exchanges);
-    Some([first, second, third])
+    last_answer(council, voices, 9, steps, exchanges) == Some(9)
+        && others_answer_nine(council, voices, steps, exchanges)
 }
 
 /// Whether eight processes agree on one of their values.
 fn agree_once<R: Threads + Sync>(rt: &R, alloc: Global) -> bool {
-    match agree(rt, alloc, VALUES.as_slice()) {
+    match agree(rt, alloc, VALUES) {
         Ok(agreed) => VALUES.contains(&agreed.value),
         Err(_) => false,
     }
@@ -129,17 +161,38 @@ fn race(council: &Council, gate: &AtomicU64, voice: &mut Voice, value: u64) -> u
 }
 
 /// Two processes propose at once. The value of the first one, if both get one answer.
-fn winner<R: Threads>(rt: &R, alloc: Global) -> Option<u64> {
-    let (council, mut voices) = new_council(alloc, 2)?;
-    let mut one = last_voice(&council, &mut voices)?;
-    let mut zero = last_voice(&council, &mut voices)?;
-    let (gate, council) = (&AtomicU64::new(0), &council);
+fn race_both<R: Threads>(rt: &R, council: &Council, mut zero: Voice, mut one: Voice) -> Option<u64>
+    requires zero { MayProposeValue council.now zero }
+    requires one { MayProposeValue council.now one }
+{
+    let gate = &AtomicU64::new(0);
     let (a, b) = join_mut(
         rt,
         &mut || race(council, gate, &mut zero, ZERO),
         &mut || race(council, gate, &mut one, ONE),
     );
     (a == b).then_some(a)
+}
+
+/// The last two of the voices propose at once.
+fn race_last<R: Threads>(rt: &R, council: &Council, voices: &mut Vec<Voice>) -> Option<u64>
+    requires { All (MayProposeValue council.now) voices.old.items }
+{
+    match last_voice(council, voices) {
+        Some(one) => match last_voice(council, voices) {
+            Some(zero) => race_both(rt, council, zero, one),
+            None => None,
+        },
+        None => None,
+    }
+}
+
+/// Two processes of a new council propose at once.
+fn winner<R: Threads>(rt: &R, alloc: Global) -> Option<u64> {
+    match new_council(alloc, 2) {
+        Some((council, mut voices)) => race_last(rt, &council, &mut voices),
+        None => None,
+    }
 }
 
 /// Whether each of two processes was first in some race, if each race had one answer.
@@ -157,8 +210,13 @@ fn winners<R: Threads>(rt: &R, alloc: Global) -> Option<(bool, bool)> {
 
 #[test]
 fn three_voices_in_turn(rt: HostRuntime) {
-    let answers = answers_in_turn::<Brand, Brand>(rt.alloc(), Blank::new(1), Blank::new(1));
-    assert!(rt; answers == Some([9, 9, 9]));
+    let answered = match new_council(rt.alloc(), 3) {
+        Some((council, mut voices)) => {
+            all_answer_nine::<Brand, Brand>(&council, &mut voices, Blank::new(1), Blank::new(1))
+        }
+        None => false,
+    };
+    assert!(rt; answered);
 }
 
 #[test]

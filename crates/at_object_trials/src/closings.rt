@@ -4,7 +4,7 @@ ghost use Rattle.std.specs.Prelude.{◌≡◌, ◌<◌, All, IfSome, map};
 ghost use Rattle.at_object.specs.Closings.{AreAccountedFor};
 ghost use Rattle.at_object_trials.specs.Players.{AreFew, PlaysOn};
 
-use crate::players::{MOST_CALLS, Player};
+use crate::players::{Game, MOST_CALLS, Player};
 use at_board::Steps;
 use at_log::Receipt;
 use at_object::{CloseRefused, Closed, Ledger, Pass};
@@ -15,14 +15,11 @@ use std::sync::ledger::Blank;
 
 /// Closes a ledger with its players, and answers how many calls more were made. Where the ledger can't be closed for want of memory,
 /// process 0 reads account 0 by what is handed back, and the ledger is closed again.
-pub(crate) fn close_all(
-    ledger: Ledger,
-    alloc: Global,
-    players: Vec<Player>,
-) -> Option<(Closed, usize)>
-    requires { All (PlaysOn ledger) players.items }
+pub(crate) fn close_all(alloc: Global, game: Game) -> Option<(Closed, usize)>
+    requires { All (PlaysOn game.ledger) game.players.items }
     ensures { IfSome result (λ r. AreFew r.0.closing.receipts) }
 {
+    let (ledger, players) = game.split();
     let (passes, receipts) = taken_apart(alloc, &ledger, players)?;
     match ledger.close(alloc, passes, receipts) {
         Ok(closed) => Some((closed, 0)),

@@ -5,10 +5,10 @@ ghost use Rattle.at_object_trials.specs.Players.{AreFew, PlaysOn};
 
 use crate::closings::close_all;
 use crate::journals::{is_run, journal_of};
-use crate::players::{Player, new_players};
-use crate::scenes::{book_of, targets_of};
+use crate::players::{Game, Player, new_game};
+use crate::scenes::{Account, book_of, targets_of};
 use at_board::Steps;
-use at_ledger::{Call, Line, Reply};
+use at_ledger::{Book, Call, Line, Reply};
 use at_object::{Closed, Ledger};
 use at_players::crowd::wait_for_all;
 use std::alloc::Global;
@@ -23,7 +23,7 @@ const CALLS: u32 = 60;
 
 /// Processes 0 and 1 share account 0, process 2 owns account 1 and process 3 account 2, all four share account 3, and nobody owns
 /// account 4.
-const ACCOUNTS: [(u64, &[u64]); 5] = [
+const ACCOUNTS: &[Account] = &[
     (100, &[0, 1]),
     (100, &[2]),
     (100, &[3]),
@@ -113,25 +113,57 @@ fn count_of(lines: &[Line], reply: Reply) -> usize {
     lines.iter().filter(|line| line.reply == reply).count()
 }
 
-/// Whether the journal has all calls, and is a run of the sequential ledger. Of the payments that are refused whatever the balances,
-/// 20, 30 and 30 are from accounts that the process doesn't own, and the last two of ten requests on a shared account are over the
-/// room.
+/// Whether the lines are all calls, and a run of the sequential ledger. Of the payments that are refused whatever the balances, 20,
+/// 30 and 30 are from accounts that the process doesn't own, and the last two of ten requests on a shared account are over the room.
+fn are_run(alloc: Global, book: &Book, lines: &[Line]) -> Option<bool> {
+    if lines.len() == 240
+        && count_of(lines, Reply::NotOwner) == 80
+        && count_of(lines, Reply::Full) == 12
+    {
+        is_run(alloc, book, lines)
+    } else {
+        Some(false)
+    }
+}
+
+/// Whether the journal of a closed ledger is such a run.
 fn has_run(alloc: Global, closed: &Closed) -> Option<bool>
     requires { AreFew closed.now.closing.receipts }
 {
-    let lines = journal_of(alloc, closed)?;
-    let lines = lines.as_slice();
-    let refused = count_of(lines, Reply::NotOwner) == 80 && count_of(lines, Reply::Full) == 12;
-    Some(lines.len() == 240 && refused && is_run(alloc, closed.book(), lines)?)
+    match journal_of(alloc, closed) {
+        Some(lines) => are_run(alloc, closed.book(), lines.as_slice()),
+        None => None,
+    }
 }
 
-/// Four threads call on a new ledger, which is then closed. Whether its journal is right.
+/// Closes the ledger at once. Whether its journal is right.
+fn closes(alloc: Global, game: Game) -> Option<bool>
+    requires { All (PlaysOn game.ledger) game.players.items }
+{
+    match close_all(alloc, game) {
+        Some((closed, 0)) => has_run(alloc, &closed),
+        Some(_) => Some(false),
+        None => None,
+    }
+}
+
+/// Four threads call on a new ledger of this book, which is then closed. Whether its journal is right.
+fn plays_on<R: Threads + Sync>(rt: &R, alloc: Global, book: &Book) -> Option<bool> {
+    match new_game(alloc, book) {
+        Some(mut game) => {
+            play_all(rt, &game.ledger, game.players.as_mut_slice());
+            closes(alloc, game)
+        }
+        None => None,
+    }
+}
+
+/// Four threads call on a new ledger. Whether its journal is right.
 fn plays_at_once<R: Threads + Sync>(rt: &R, alloc: Global) -> Option<bool> {
-    let book = book_of(alloc, 4, 16, 8, ACCOUNTS.as_slice())?;
-    let (ledger, mut players) = new_players(alloc, &book)?;
-    play_all(rt, &ledger, players.as_mut_slice());
-    let (closed, more) = close_all(ledger, alloc, players)?;
-    Some(more == 0 && has_run(alloc, &closed)?)
+    match book_of(alloc, 4, 16, 8, ACCOUNTS) {
+        Some(book) => plays_on(rt, alloc, &book),
+        None => None,
+    }
 }
 
 #[test]

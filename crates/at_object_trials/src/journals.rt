@@ -26,15 +26,24 @@ fn is_answered(state: &mut State, book: &Book, line: &Line) -> bool
         && state.step(line.process, &line.call) == line.reply
 }
 
-/// Whether the sequential ledger answers all calls, one after another, as their lines say.
-pub(crate) fn is_run(alloc: Global, book: &Book, lines: &[Line]) -> Option<bool> {
-    let mut state = State::new(alloc, book).ok()?;
+/// Whether the sequential ledger in this state answers all calls, one after another, as their lines say.
+fn are_answered(state: &mut State, book: &Book, lines: &[Line]) -> bool
+    requires { state.old.book ≡ book.now }
+{
     for line in lines {
-        if !is_answered(&mut state, book, line) {
-            return Some(false);
+        if !is_answered(state, book, line) {
+            return false;
         }
     }
-    Some(true)
+    true
+}
+
+/// Whether the sequential ledger answers all calls, one after another, as their lines say.
+pub(crate) fn is_run(alloc: Global, book: &Book, lines: &[Line]) -> Option<bool> {
+    match State::new(alloc, book) {
+        Ok(mut state) => Some(are_answered(&mut state, book, lines)),
+        Err(_) => None,
+    }
 }
 
 /// Whether the lines are of these processes with these numbers and replies.

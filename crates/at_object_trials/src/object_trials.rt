@@ -2,9 +2,10 @@
 
 use crate::scenes::{Counted, Deed, Place, Row, Scene, plays};
 use at_ledger::Reply;
+use std::alloc::Global;
 
 /// Room for one payment: the second is full, whether it is covered or not.
-const ROOM_OF_ONE: Scene = Scene {
+const ROOM_OF_ONE: &Scene = &Scene {
     own_room: 1,
     request_room: 1,
     accounts: &[(10, &[0]), (0, &[])],
@@ -24,7 +25,7 @@ const ROOM_OF_ONE: Scene = Scene {
 };
 
 /// A short payment from a shared account uses the room for one request.
-const SHORT_USES_ROOM: Scene = Scene {
+const SHORT_USES_ROOM: &Scene = &Scene {
     own_room: 4,
     request_room: 1,
     accounts: &[(10, &[0, 1]), (0, &[])],
@@ -42,7 +43,7 @@ const SHORT_USES_ROOM: Scene = Scene {
 };
 
 /// Two owners pay 60 from a shared account of 100, one after the other.
-const TWO_OWNERS: Scene = Scene {
+const TWO_OWNERS: &Scene = &Scene {
     own_room: 4,
     request_room: 4,
     accounts: &[(100, &[0, 1]), (0, &[])],
@@ -67,7 +68,7 @@ const TWO_OWNERS: Scene = Scene {
 };
 
 /// Process 0 pays and tells process 1, which then reads what it was paid.
-const WHAT_WAS_TOLD: Scene = Scene {
+const WHAT_WAS_TOLD: &Scene = &Scene {
     own_room: 4,
     request_room: 4,
     accounts: &[(100, &[0]), (0, &[1])],
@@ -86,7 +87,7 @@ const WHAT_WAS_TOLD: Scene = Scene {
 };
 
 /// A credit between two rounds of a shared account covers the second.
-const CREDIT_BETWEEN_ROUNDS: Scene = Scene {
+const CREDIT_BETWEEN_ROUNDS: &Scene = &Scene {
     own_room: 4,
     request_room: 4,
     accounts: &[(10, &[0, 1]), (100, &[2]), (0, &[])],
@@ -113,7 +114,7 @@ const CREDIT_BETWEEN_ROUNDS: Scene = Scene {
 };
 
 /// The journal follows the payments and not the numbers of the processes.
-const PAID_BACK: Scene = Scene {
+const PAID_BACK: &Scene = &Scene {
     own_room: 4,
     request_room: 4,
     accounts: &[(0, &[0]), (10, &[1])],
@@ -126,7 +127,7 @@ const PAID_BACK: Scene = Scene {
 };
 
 /// A process pays from an account without an owner, and from that of another.
-const NO_OWNER: Scene = Scene {
+const NO_OWNER: &Scene = &Scene {
     own_room: 4,
     request_room: 4,
     accounts: &[(100, &[0]), (0, &[1]), (50, &[])],
@@ -139,7 +140,7 @@ const NO_OWNER: Scene = Scene {
 };
 
 /// Pay-outs to four targets: one whose sum has more than 64 bits, and one that takes all there is.
-const FOUR_TARGETS: Scene = Scene {
+const FOUR_TARGETS: &Scene = &Scene {
     own_room: 4,
     request_room: 4,
     accounts: &[(100, &[0]), (0, &[]), (0, &[])],
@@ -173,41 +174,49 @@ const FOUR_TARGETS: Scene = Scene {
     ],
 };
 
+/// Whether all is as the scene says.
+fn is_played(alloc: Global, scene: &Scene) -> bool {
+    plays(alloc, scene) == Some(true)
+}
+
+/// Whether all is as the scene says, or there was no memory.
+fn is_not_refuted(alloc: Global, scene: &Scene) -> bool {
+    plays(alloc, scene) != Some(false)
+}
+
 #[test]
 fn room_is_used_up(rt: HostRuntime) {
-    assert!(rt; plays(rt.alloc(), &ROOM_OF_ONE) == Some(true));
-    assert!(rt; plays(rt.alloc(), &SHORT_USES_ROOM) == Some(true));
+    assert!(rt; is_played(rt.alloc(), ROOM_OF_ONE) && is_played(rt.alloc(), SHORT_USES_ROOM));
 }
 
 #[test]
 fn owners_agree(rt: HostRuntime) {
-    assert!(rt; plays(rt.alloc(), &TWO_OWNERS) == Some(true));
-    assert!(rt; plays(rt.alloc(), &CREDIT_BETWEEN_ROUNDS) == Some(true));
+    assert!(rt; is_played(rt.alloc(), TWO_OWNERS) && is_played(rt.alloc(), CREDIT_BETWEEN_ROUNDS));
 }
 
 #[test]
 fn what_was_told_is_seen(rt: HostRuntime) {
-    assert!(rt; plays(rt.alloc(), &WHAT_WAS_TOLD) == Some(true));
+    assert!(rt; is_played(rt.alloc(), WHAT_WAS_TOLD));
 }
 
 #[test]
 fn journals_follow_payments(rt: HostRuntime) {
-    assert!(rt; plays(rt.alloc(), &PAID_BACK) == Some(true));
+    assert!(rt; is_played(rt.alloc(), PAID_BACK));
 }
 
 #[test]
 fn only_owners_pay(rt: HostRuntime) {
-    assert!(rt; plays(rt.alloc(), &NO_OWNER) == Some(true));
+    assert!(rt; is_played(rt.alloc(), NO_OWNER));
 }
 
 #[test]
 fn four_targets_are_paid(rt: HostRuntime) {
-    assert!(rt; plays(rt.alloc(), &FOUR_TARGETS) == Some(true));
+    assert!(rt; is_played(rt.alloc(), FOUR_TARGETS));
 }
 
 /// With ample memory this is the scene again. With `rt try --test --fail-alloc N` the closing may be refused: then one more call is
 /// made with what was handed back, and the ledger is closed again.
 #[test]
 fn a_refused_closing_is_tried_again(rt: HostRuntime) {
-    assert!(rt; plays(rt.alloc(), &WHAT_WAS_TOLD) != Some(false));
+    assert!(rt; is_not_refuted(rt.alloc(), WHAT_WAS_TOLD));
 }

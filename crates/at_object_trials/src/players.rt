@@ -126,13 +126,43 @@ impl Player {
     }
 }
 
+/// A ledger and its players. What holds one has a call where it drops it, and not the drop of each field.
+pub(crate) struct Game {
+    pub(crate) ledger: Ledger,
+    pub(crate) players: Vec<Player>,
+}
+
+impl Drop for Game {
+    fn drop(self) {
+        let Game {
+            ledger: _,
+            players: _,
+        } = self;
+    }
+}
+
+impl Game {
+    /// The ledger and the players.
+    pub(crate) fn split(self) -> (Ledger, Vec<Player>)
+        ensures ledger { result.0 ≡ self.ledger }
+        ensures players { result.1.items ≡ self.players.items }
+    {
+        let Game { ledger, players } = self;
+        (ledger, players)
+    }
+}
+
 /// A new ledger for a book, with a player for each process, or none where there is no memory.
-pub(crate) fn new_players(alloc: Global, book: &Book) -> Option<(Ledger, Vec<Player>)>
-    ensures { IfSome result (λ r. All (PlaysOn r.0) r.1.items) }
+pub(crate) fn new_game(alloc: Global, book: &Book) -> Option<Game>
+    ensures { IfSome result (λ g. All (PlaysOn g.ledger) g.players.items) }
 {
-    let (ledger, passes) = Ledger::new(alloc, book).ok()?;
-    let players = players_for(alloc, &ledger, passes).ok()?;
-    Some((ledger, players))
+    let Ok((ledger, passes)) = Ledger::new(alloc, book) else {
+        return None;
+    };
+    match players_for(alloc, &ledger, passes) {
+        Ok(players) => Some(Game { ledger, players }),
+        Err(_) => None,
+    }
 }
 
 /// A player for each new pass.

@@ -5,10 +5,10 @@ ghost use Rattle.at_object_trials.specs.Players.{AreFew, PlaysOn};
 
 use crate::closings::close_all;
 use crate::journals::{are_lines, is_run, journal_of};
-use crate::players::{Player, new_players};
+use crate::players::{Game, Player, new_game};
 use at_base::Counts;
 use at_board::Steps;
-use at_ledger::{Book, BookBuilder, Call, Reply, TARGETS_MAX, Targets};
+use at_ledger::{Book, BookBuilder, Call, Line, Reply, TARGETS_MAX, Targets};
 use at_log::At;
 use at_object::{Closed, Ledger};
 use std::alloc::Global;
@@ -45,8 +45,7 @@ pub(crate) struct Counted(pub(crate) u64, pub(crate) u32, pub(crate) u32);
 pub(crate) struct Scene {
     pub(crate) own_room: u64,
     pub(crate) request_room: u64,
-    /// What each account opens with, and its owners.
-    pub(crate) accounts: &'static [(u64, &'static [u64])],
+    pub(crate) accounts: &'static [Account],
     pub(crate) rows: &'static [Row],
     /// The counts of each process at the end, and so how many processes there are.
     pub(crate) counted: &'static [Counted],
@@ -54,19 +53,35 @@ pub(crate) struct Scene {
     pub(crate) journal: &'static [(u32, u32, Reply)],
 }
 
-/// A book of these accounts, each by its opening and its owners.
+/// An account: what it opens with, and its owners.
+pub(crate) type Account = (u64, &'static [u64]);
+
+/// Whether the accounts are added to the book.
+fn are_added(builder: &mut BookBuilder, accounts: &[Account]) -> bool {
+    for (opening, owners) in accounts {
+        if builder.add(*opening, owners).is_err() {
+            return false;
+        }
+    }
+    true
+}
+
+/// A book of these accounts.
 pub(crate) fn book_of(
     alloc: Global,
     processes: u64,
     own_room: u64,
     request_room: u64,
-    accounts: &[(u64, &[u64])],
+    accounts: &[Account],
 ) -> Option<Book> {
-    let mut builder = BookBuilder::new(alloc, processes, own_room, request_room).ok()?;
-    for (opening, owners) in accounts {
-        builder.add(*opening, owners).ok()?;
+    let Ok(mut builder) = BookBuilder::new(alloc, processes, own_room, request_room) else {
+        return None;
+    };
+    if are_added(&mut builder, accounts) {
+        builder.finish().ok()
+    } else {
+        None
     }
-    builder.finish().ok()
 }
 
 /// These targets, of which there are one to four.
@@ -166,6 +181,26 @@ fn plays_rows<L: ledger::Ledger, X: ledger::Ledger>(
     ledger: &Ledger,
     players: &mut [Player],
     rows: &[Row],
+    steps: &mut Steps<L>,
+    exchanges: &mut Steps<X>,
+) -> Option<bool>
+    requires { All (PlaysOn ledger.now) players.old }
+    ensures { All (PlaysOn ledger.now) players.new }
+{
+    for row in rows {
+        let played = plays_row(ledger, players, row, steps, exchanges);
+        if played != Some(true) {
+            return played;
+        }
+    }
+    Some(true)
+}
+
+/// Does what the rows say with new counters, and answers whether all replies and places are right.
+fn plays_all<L: ledger::Ledger, X: ledger::Ledger>(
+    ledger: &Ledger,
+    players: &mut [Player],
+    rows: &[Row],
     steps: Blank,
     exchanges: Blank,
 ) -> Option<bool>
@@ -176,12 +211,7 @@ fn plays_rows<L: ledger::Ledger, X: ledger::Ledger>(
     ensures { All (PlaysOn ledger.now) players.new }
 {
     let (steps, exchanges) = (&mut Steps::<L>::new(steps), &mut Steps::<X>::new(exchanges));
-    for row in rows {
-        if !plays_row(ledger, players, row, steps, exchanges)? {
-            return Some(false);
-        }
-    }
-    Some(true)
+    plays_rows(ledger, players, rows, steps, exchanges)
 }
 
 /// Whether each player has these counts.
@@ -200,6 +230,25 @@ fn are_counted(ledger: &Ledger, players: &[Player], counted: &[Counted]) -> bool
     true
 }
 
+/// Whether these lines are as wanted, or so many more, and a run.
+fn are_right(
+    alloc: Global,
+    book: &Book,
+    lines: &[Line],
+    more: usize,
+    wanted: &[(u32, u32, Reply)],
+) -> Option<bool> {
+    let is_wanted = match more {
+        0 => are_lines(lines, wanted),
+        _ => lines.len() == wanted.len().saturating_add(more),
+    };
+    if is_wanted {
+        is_run(alloc, book, lines)
+    } else {
+        Some(false)
+    }
+}
+
 /// Whether a closed ledger's journal is a run that has these lines, or so many more.
 fn has_journal(
     alloc: Global,
@@ -209,35 +258,52 @@ fn has_journal(
 ) -> Option<bool>
     requires { AreFew closed.now.closing.receipts }
 {
-    let lines = journal_of(alloc, closed)?;
-    let lines = lines.as_slice();
-    let is_wanted = match more {
-        0 => are_lines(lines, wanted),
-        _ => lines.len() == wanted.len().saturating_add(more),
-    };
-    Some(is_wanted && is_run(alloc, closed.book(), lines)?)
+    match journal_of(alloc, closed) {
+        Some(lines) => are_right(alloc, closed.book(), lines.as_slice(), more, wanted),
+        None => None,
+    }
+}
+
+/// Plays a scene with the players, and answers whether all replies, places and counts are right.
+fn plays_with(ledger: &Ledger, players: &mut [Player], scene: &Scene) -> Option<bool>
+    requires { All (PlaysOn ledger.now) players.old }
+    ensures { All (PlaysOn ledger.now) players.new }
+{
+    let (steps, exchanges) = (Blank::new(1), Blank::new(1));
+    match plays_all::<Brand, Brand>(ledger, players, scene.rows, steps, exchanges) {
+        Some(right) => Some(right && are_counted(ledger, players, scene.counted)),
+        None => None,
+    }
+}
+
+/// Closes the ledger, and answers whether its journal is as the scene says.
+fn closes(alloc: Global, game: Game, scene: &Scene) -> Option<bool>
+    requires { All (PlaysOn game.ledger) game.players.items }
+{
+    match close_all(alloc, game) {
+        Some((closed, more)) => has_journal(alloc, &closed, more, scene.journal),
+        None => None,
+    }
+}
+
+/// Plays a scene on a new ledger of this book, which is then closed.
+fn plays_on(alloc: Global, book: &Book, scene: &Scene) -> Option<bool> {
+    match new_game(alloc, book) {
+        Some(mut game) => match plays_with(&game.ledger, game.players.as_mut_slice(), scene) {
+            Some(true) => closes(alloc, game, scene),
+            other => other,
+        },
+        None => None,
+    }
 }
 
 /// Plays a scene on a new ledger, which is then closed, and answers whether all is as the scene says, or none where there was no
 /// memory.
 pub(crate) fn plays(alloc: Global, scene: &Scene) -> Option<bool> {
     let processes = scene.counted.len() as u64;
-    let book = book_of(
-        alloc,
-        processes,
-        scene.own_room,
-        scene.request_room,
-        scene.accounts,
-    )?;
-    let (ledger, mut players) = new_players(alloc, &book)?;
-    let right = plays_rows::<Brand, Brand>(
-        &ledger,
-        players.as_mut_slice(),
-        scene.rows,
-        Blank::new(1),
-        Blank::new(1),
-    )?;
-    let counted = are_counted(&ledger, players.as_slice(), scene.counted);
-    let (closed, more) = close_all(ledger, alloc, players)?;
-    Some(right && counted && has_journal(alloc, &closed, more, scene.journal)?)
+    let (own, requests) = (scene.own_room, scene.request_room);
+    match book_of(alloc, processes, own, requests, scene.accounts) {
+        Some(book) => plays_on(alloc, &book, scene),
+        None => None,
+    }
 }

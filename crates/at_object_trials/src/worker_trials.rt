@@ -6,6 +6,7 @@ ghost use Rattle.at_object.specs.Passes.{AreNewPasses, IsPassOf, Stands};
 ghost use Rattle.at_workers.specs.Jobs.{IsReady};
 
 use at_ledger::{Book, BookBuilder, Call, Reply, Targets};
+use at_log::Receipt;
 use at_object::{Ledger, Pass};
 use at_workers::{Gate, Job, OpenGate, run_all};
 use std::alloc::Global;
@@ -83,12 +84,21 @@ impl Gate for Meeting {
     }
 }
 
+/// Whether two accounts that open with 100 are added: the first of process 0, the second of all others.
+fn are_added(builder: &mut BookBuilder, others: &[u64]) -> bool {
+    builder.add(100, &[0]).is_ok() && builder.add(100, others).is_ok()
+}
+
 /// A book of two accounts that open with 100: the first of process 0, the second of all others.
 fn book_of(alloc: Global, others: &[u64]) -> Option<Book> {
-    let mut builder = BookBuilder::new(alloc, others.len() as u64 + 1, 4, 4).ok()?;
-    builder.add(100, &[0]).ok()?;
-    builder.add(100, others).ok()?;
-    builder.finish().ok()
+    let Ok(mut builder) = BookBuilder::new(alloc, others.len() as u64 + 1, 4, 4) else {
+        return None;
+    };
+    if are_added(&mut builder, others) {
+        builder.finish().ok()
+    } else {
+        None
+    }
 }
 
 /// One to each of the two accounts.
@@ -158,14 +168,24 @@ fn jobs_of(alloc: Global, ledger: &Ledger, passes: Vec<Pass>) -> Option<Vec<Job>
     Some(jobs)
 }
 
+/// Whether the two receipts are of a payment that was done, and of a balance.
+fn are_two_done(receipts: &[Receipt]) -> bool {
+    match (receipts.get(0), receipts.get(1)) {
+        (Some(paid), Some(read)) => receipts.len() == 2 && is_done(&paid.reply, &read.reply),
+        _ => false,
+    }
+}
+
+/// Whether a job has a payment that was done, and a balance.
+fn has_done(job: Job) -> bool {
+    let (_pass, _calls, receipts) = job.split();
+    are_two_done(receipts.as_slice())
+}
+
 /// Whether each job has a payment that was done, and a balance.
 fn are_done(jobs: Vec<Job>) -> bool {
     for job in jobs {
-        let (_pass, _calls, receipts) = job.split();
-        let (Some(paid), Some(read)) = (receipts.get(0), receipts.get(1)) else {
-            return false;
-        };
-        if !is_done(&paid.reply, &read.reply) || receipts.len() != 2 {
+        if !has_done(job) {
             return false;
         }
     }
@@ -180,30 +200,60 @@ fn is_done(paid: &Reply, read: &Reply) -> bool {
     }
 }
 
+/// Whether all payments are done, where each pass of the new ledger has a thread.
+fn run_passes<R: Threads + Sync, G: Gate + Sync>(
+    rt: &R,
+    alloc: Global,
+    ledger: &Ledger,
+    passes: Vec<Pass>,
+    gate: &G,
+) -> bool
+    requires { AreNewPasses ledger.now passes.items }
+{
+    match jobs_of(alloc, ledger, passes) {
+        Some(mut jobs) => {
+            run_all(rt, ledger, jobs.as_mut_slice(), gate);
+            are_done(jobs)
+        }
+        None => false,
+    }
+}
+
+/// Whether all payments on a new ledger of this book are done.
+fn run_book<R: Threads + Sync, G: Gate + Sync>(
+    rt: &R,
+    alloc: Global,
+    book: &Book,
+    gate: &G,
+) -> bool {
+    match Ledger::new(alloc, book) {
+        Ok((ledger, passes)) => run_passes(rt, alloc, &ledger, passes, gate),
+        Err(_) => false,
+    }
+}
+
 /// Whether all payments of process 0 and these others are done, where each has a thread.
-fn runs<R: Threads + Sync, G: Gate + Sync>(
+fn are_paid<R: Threads + Sync, G: Gate + Sync>(
     rt: &R,
     alloc: Global,
     others: &[u64],
     gate: &G,
-) -> Option<bool>
+) -> bool
     requires { length others.now < 16 }
 {
-    let book = book_of(alloc, others)?;
-    let (ledger, passes) = Ledger::new(alloc, &book).ok()?;
-    let mut jobs = jobs_of(alloc, &ledger, passes)?;
-    run_all(rt, &ledger, jobs.as_mut_slice(), gate);
-    Some(are_done(jobs))
+    match book_of(alloc, others) {
+        Some(book) => run_book(rt, alloc, &book, gate),
+        None => false,
+    }
 }
 
 #[test]
 fn two_processes_meet(rt: HostRuntime) {
     let meeting = Meeting::new();
-    let done = runs(&rt, rt.alloc(), &[1], &meeting);
-    assert!(rt; done == Some(true) && meeting.is_kept());
+    assert!(rt; are_paid(&rt, rt.alloc(), &[1], &meeting) && meeting.is_kept());
 }
 
 #[test]
 fn three_processes_pay(rt: HostRuntime) {
-    assert!(rt; runs(&rt, rt.alloc(), &[1, 2], &OpenGate) == Some(true));
+    assert!(rt; are_paid(&rt, rt.alloc(), &[1, 2], &OpenGate));
 }
