@@ -16,7 +16,7 @@ use std::process::Abort;
 use std::sync::ledger::{Blank, Ledger};
 
 /// Account 1 of process 0 and account 2 of process 1.
-const ACCOUNTS: [(u64, &[u64]); 3] = [(0, &[]), (10, &[0]), (10, &[1])];
+const ACCOUNTS: &[(u64, &[u64])] = &[(0, &[]), (10, &[0]), (10, &[1])];
 
 /// Whether a receipt stands at its process's first record, done.
 fn is_done_first(receipt: &Receipt) -> bool {
@@ -77,9 +77,7 @@ fn pays_and_reads<L: Ledger, X: Ledger, R: Abort>(
     requires some { (0 < one.parts) × (0 < another.parts) }
 {
     let (steps, exchanges) = (&mut Steps::<L>::new(one), &mut Steps::<X>::new(another));
-    let (board, mut seat, mut other) = new_pair(alloc, 4, ACCOUNTS.as_slice()).expect(
-        rt, "a board",
-    );
+    let (board, mut seat, mut other) = new_pair(alloc, 4, ACCOUNTS).expect(rt, "a board");
     let mut totals = Totals::new(alloc, board.book()).expect(rt, "totals");
     let mut others = Totals::new(alloc, board.book()).expect(rt, "totals of the other");
     let (balance, turns) = read;

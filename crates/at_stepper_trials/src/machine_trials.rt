@@ -17,7 +17,7 @@ use std::process::Abort;
 use std::sync::ledger::{Blank, Ledger};
 
 /// Account 1 of process 0 and account 2 of process 1.
-const ACCOUNTS: [(u64, &[u64]); 3] = [(0, &[]), (10, &[0]), (10, &[1])];
+const ACCOUNTS: &[(u64, &[u64])] = &[(0, &[]), (10, &[0]), (10, &[1])];
 
 /// The counts of two processes.
 fn two(counts: &Counts) -> Option<(u32, u32)> {
@@ -114,9 +114,7 @@ fn tells<L: Ledger, X: Ledger, R: Abort>(rt: &R, alloc: Global, one: Blank, anot
     requires some { (0 < one.parts) × (0 < another.parts) }
 {
     let (steps, exchanges) = (&mut Steps::<L>::new(one), &mut Steps::<X>::new(another));
-    let (board, mut seat, mut other) = new_pair(alloc, 4, ACCOUNTS.as_slice()).expect(
-        rt, "a board",
-    );
+    let (board, mut seat, mut other) = new_pair(alloc, 4, ACCOUNTS).expect(rt, "a board");
     assert!(rt; is_told(&board, &mut seat, &mut other, steps, exchanges));
 }
 
@@ -135,9 +133,7 @@ fn meets<L: Ledger, X: Ledger, R: Abort>(
     requires some { (0 < one.parts) × (0 < another.parts) }
 {
     let (steps, exchanges) = (&mut Steps::<L>::new(one), &mut Steps::<X>::new(another));
-    let (board, mut seat, mut other) = new_pair(alloc, 4, ACCOUNTS.as_slice()).expect(
-        rt, "a board",
-    );
+    let (board, mut seat, mut other) = new_pair(alloc, 4, ACCOUNTS).expect(rt, "a board");
     let snapped = snaps_beside(&board, &mut seat, &mut other, records, steps, exchanges);
     assert!(rt; has_ended(&snapped, counts, turns));
 }

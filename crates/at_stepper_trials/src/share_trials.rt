@@ -17,7 +17,7 @@ use std::process::Abort;
 use std::sync::ledger::{Blank, Ledger};
 
 /// Account 0 of both processes, and account 1 of nobody.
-const ACCOUNTS: [(u64, &[u64]); 2] = [(10, &[0, 1]), (0, &[])];
+const ACCOUNTS: &[(u64, &[u64])] = &[(10, &[0, 1]), (0, &[])];
 
 /// A payment of so much, and how it is answered: in which round, before which one record of each earlier round stands, and in how many
 /// turns.
@@ -73,7 +73,7 @@ fn shares_alone<L: Ledger, X: Ledger, R: Abort>(
     requires some { (0 < one.parts) × (0 < another.parts) }
 {
     let (steps, exchanges) = (&mut Steps::<L>::new(one), &mut Steps::<X>::new(another));
-    let (board, mut seat, _other) = new_pair(alloc, 4, ACCOUNTS.as_slice()).expect(rt, "a board");
+    let (board, mut seat, _other) = new_pair(alloc, 4, ACCOUNTS).expect(rt, "a board");
     let mut totals = Totals::new(alloc, board.book()).expect(rt, "totals");
     let paid = is_shared(&board, &mut seat, &mut totals, payment, steps, exchanges);
     assert!(rt; paid);
@@ -127,9 +127,7 @@ fn shares_with_another<L: Ledger, X: Ledger, R: Abort>(
     requires some { (0 < one.parts) × (0 < another.parts) }
 {
     let (steps, exchanges) = (&mut Steps::<L>::new(one), &mut Steps::<X>::new(another));
-    let (board, mut seat, mut other) = new_pair(alloc, 4, ACCOUNTS.as_slice()).expect(
-        rt, "a board",
-    );
+    let (board, mut seat, mut other) = new_pair(alloc, 4, ACCOUNTS).expect(rt, "a board");
     let mut totals = Totals::new(alloc, board.book()).expect(rt, "totals");
     let mut others = Totals::new(alloc, board.book()).expect(rt, "totals of the other");
     let mut paying = begins(&board, &seat, &totals, 3).expect(rt, "a payment");
