@@ -11,11 +11,9 @@ ghost use Rattle.at_object.specs.Passes.{AreNewPasses, counted_anew};
 use crate::NoMemory;
 use crate::book::book_for;
 use crate::voice::Voice;
-use at_board::Steps;
 use at_object::{Ledger, Pass};
 use std::alloc::Global;
 use std::marker::Model;
-use std::sync::ledger;
 
 /// Two to eight processes that agree on one value. Threads share it by `&Council`, and each proposes with a voice of its own.
 #[derive(Drop)]
@@ -50,12 +48,10 @@ impl Council {
     /// Proposes a value, and answers the value that is chosen: where all processes keep to the plan, it is that of the process
     /// whose request was decided first. One voice can't see what others will do, so this is a premise.
     /// Takes no memory.
-    pub fn propose<L: ledger::Ledger, X: ledger::Ledger>(
+    pub fn propose(
         &self,
         voice: &mut Voice,
         value: u64,
-        steps: &mut Steps<L>,
-        exchanges: &mut Steps<X>,
     ) -> u64
         requires voice { IsVoiceOf voice.old self.now }
         requires unproposed { HasNotProposed voice.old }
@@ -72,17 +68,17 @@ impl Council {
         ensures voice { IsVoiceOf voice.new self.now }
         ensures process { process_of voice.new ≡ process_of voice.old }
         ensures begins { IsPrefix (seen_by voice.old) (seen_by voice.new) }
-        ensures steps { steps.new ≤ steps.old + propose_steps (size_of self.now)
+        ensures steps { seat.new.steps ≤ seat.old.steps + propose_steps (size_of self.now)
             + RECORD_WORDS * counted_anew voice.old.pass voice.new.pass }
         ensures exchanges { exchanges.new ≤ exchanges.old + size_of self.now }
     {
         let size = self.size();
         let process = voice.process();
-        voice.pay_value(&self.ledger, size, value, steps, exchanges);
-        voice.ask_for_share(&self.ledger, size, steps, exchanges);
-        let left = voice.find(&self.ledger, 2 * size, steps, exchanges);
+        voice.pay_value(&self.ledger, size, value);
+        voice.ask_for_share(&self.ledger, size);
+        let left = voice.find(&self.ledger, 2 * size);
         let account = named_account(size, process, left);
-        voice.find(&self.ledger, account, steps, exchanges)
+        voice.find(&self.ledger, account)
     }
 
     /// How many processes there are.

@@ -12,12 +12,10 @@ ghost use Rattle.at_object.specs.Passes.{Stands, counted_anew};
 ghost use Rattle.at_object.specs.Payments.{shared_steps, single_steps};
 ghost use Rattle.at_snapshot.specs.Snapshots.{snapshot_steps};
 
-use at_board::Steps;
 use at_ledger::Reply;
 use at_log::Receipt;
 use at_object::{Ledger, Pass};
 use std::marker::Model;
-use std::sync::ledger;
 
 /// The right of one process of a council to propose a value, once. It has the process's pass, and the memory for the receipts of
 /// its four calls. One thread uses it at a time.
@@ -49,13 +47,11 @@ impl Voice {
     }
 
     /// The first call: pays the value from the process's own account into its value account. It is done in every case.
-    pub(crate) fn pay_value<L: ledger::Ledger, X: ledger::Ledger>(
+    pub(crate) fn pay_value(
         &mut self,
         ledger: &Ledger,
         size: u32,
         value: u64,
-        steps: &mut Steps<L>,
-        exchanges: &mut Steps<X>,
     )
         requires council { IsCouncil ledger.now }
         requires size { size ≡ size_of ledger.now }
@@ -65,29 +61,25 @@ impl Voice {
         ensures made { HasMadeOneMore ledger.now self.old self.new
             (Call.Transfer (process_of self.old) (value_account size (process_of self.old)) value) }
         ensures proposed { HasProposed size (seen_by self.new) (process_of self.old) value }
-        ensures steps { steps.new ≤ steps.old + single_steps size
+        ensures steps { seat.new.steps ≤ seat.old.steps + single_steps size
             + RECORD_WORDS * counted_anew self.old.pass self.new.pass }
-        ensures exchanges { exchanges.new ≡ exchanges.old }
+        ensures exchanges { seat.new.exchanges ≡ seat.old.exchanges }
     {
         let process = self.pass.process();
         let paid = ledger.transfer(
             &mut self.pass,
             process,
             size + process,
-            value,
-            steps,
-            exchanges,
+            value
         );
         self.receipts.push_reserved(paid);
     }
 
     /// The second call: asks for at least half of the shared account.
-    pub(crate) fn ask_for_share<L: ledger::Ledger, X: ledger::Ledger>(
+    pub(crate) fn ask_for_share(
         &mut self,
         ledger: &Ledger,
         size: u32,
-        steps: &mut Steps<L>,
-        exchanges: &mut Steps<X>,
     )
         requires council { IsCouncil ledger.now }
         requires size { size ≡ size_of ledger.now }
@@ -98,7 +90,7 @@ impl Voice {
             (Call.Transfer (shared_account size) (spent_account size)
             (share_of size (process_of self.old))) }
         ensures asked { HasShareDecided size (seen_by self.new) (process_of self.old) }
-        ensures steps { steps.new ≤ steps.old + shared_steps size size
+        ensures steps { seat.new.steps ≤ seat.old.steps + shared_steps size size
             + RECORD_WORDS * counted_anew self.old.pass self.new.pass }
         ensures exchanges { exchanges.new ≤ exchanges.old + size }
     {
@@ -107,20 +99,16 @@ impl Voice {
             &mut self.pass,
             2 * size,
             2 * size + 1,
-            share,
-            steps,
-            exchanges,
+            share
         );
         self.receipts.push_reserved(asked);
     }
 
     /// The third and the fourth call: reads an account.
-    pub(crate) fn find<L: ledger::Ledger, X: ledger::Ledger>(
+    pub(crate) fn find(
         &mut self,
         ledger: &Ledger,
         account: u32,
-        steps: &mut Steps<L>,
-        exchanges: &mut Steps<X>,
     ) -> u64
         requires voice { IsVoiceOf self.old ledger.now }
         requires account { account < length ledger.now.book.accounts }
@@ -128,11 +116,11 @@ impl Voice {
         ensures read { HasRead ledger.now self.old self.new account result }
         ensures stands { Stands self.new.pass self.new.receipts }
         ensures history { IsHistory ledger.now.book (seen_by self.new) }
-        ensures steps { steps.new ≤ steps.old + snapshot_steps (size_of ledger.now)
+        ensures steps { seat.new.steps ≤ seat.old.steps + snapshot_steps (size_of ledger.now)
             + RECORD_WORDS * counted_anew self.old.pass self.new.pass }
-        ensures exchanges { exchanges.new ≡ exchanges.old }
+        ensures exchanges { seat.new.exchanges ≡ seat.old.exchanges }
     {
-        let found = ledger.read(&mut self.pass, account, steps, exchanges);
+        let found = ledger.read(&mut self.pass, account);
         let balance = match found.reply {
             Reply::Balance(balance) => balance,
             // A read is answered a balance.

@@ -7,10 +7,8 @@ ghost use Rattle.at_agree.specs.Voices.{AreNewVoices};
 use crate::NoMemory;
 use crate::council::Council;
 use crate::voice::Voice;
-use at_board::Steps;
 use std::alloc::{AllocError, Global};
 use std::marker::Brand;
-use std::sync::ledger;
 use std::sync::ledger::Blank;
 
 /// A voice with the value that it proposes. The answer is 0 until it has proposed.
@@ -50,7 +48,7 @@ pub(crate) fn votes_of(
 }
 
 /// Proposes, with new counters.
-fn propose<L: ledger::Ledger, X: ledger::Ledger>(
+fn propose(
     council: &Council,
     vote: &mut Vote,
     steps: Blank,
@@ -62,8 +60,7 @@ fn propose<L: ledger::Ledger, X: ledger::Ledger>(
     requires some { (0 < steps.parts) × (0 < exchanges.parts) }
     ensures { IsCast council.now vote.old vote.new }
 {
-    let (steps, exchanges) = (&mut Steps::<L>::new(steps), &mut Steps::<X>::new(exchanges));
-    vote.answer = council.propose(&mut vote.voice, vote.value, steps, exchanges);
+    vote.answer = council.propose(&mut vote.voice, vote.value);
 }
 
 /// Proposes. Nobody reads how many steps it takes.

@@ -3,3 +3,4 @@ pub mod Steps
 pub mod Words
 pub mod Ends
 pub mod Rule
+pub mod Counting

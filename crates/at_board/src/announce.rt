@@ -1,6 +1,7 @@
 //! A step: announcing a request.
 
 ghost use Rattle.std.specs.Prelude.{◌≡◌, ◌+◌, ◌<◌, ℕ, length};
+ghost use Rattle.at_board.specs.Counting.{raised};
 ghost use Rattle.at_board.specs.Knowledge.Seats.{IsKept, IsOf};
 ghost use Rattle.at_ledger.specs.Book.{HasSlot};
 ghost use Rattle.at_history.specs.declared.request.Request.{Request};
@@ -8,10 +9,8 @@ ghost use Rattle.at_board.specs.Steps.Announce.{MayAnnounce, Announces};
 ghost use Rattle.at_board.specs.Knowledge.Parts.{asking_on, own_part};
 
 use crate::board::Board;
-use crate::counter::Steps;
 use crate::plays::Announce;
 use crate::seat::BoardSeat;
-use std::sync::ledger::Ledger;
 
 impl Board {
     /// How many requests the seat's process has announced on an account that it shares. It makes no step.
@@ -25,13 +24,7 @@ impl Board {
 
     /// Announces the next request of the seat's process on an account, in one step: one atomic store of its announced word. The
     /// words of the request are stored before.
-    pub fn announce<L: Ledger, X: Ledger>(
-        &self,
-        seat: &mut BoardSeat,
-        account: u32,
-        steps: &mut Steps<L>,
-        exchanges: &mut Steps<X>,
-    )
+    pub fn announce(&self, seat: &mut BoardSeat, account: u32)
         requires board { IsOf seat.old self.now }
         requires request { (slot : ℕ) × (r : Request)
             × MayAnnounce self.now.book seat.old.knows account slot r }
@@ -40,13 +33,13 @@ impl Board {
             → Announces self.now.book seat.old.knows seat.new.knows account slot r }
         ensures seat { IsKept seat.new.knows }
         ensures board { seat.new.board ≡ seat.old.board }
-        ensures steps { steps.new ≡ steps.old + 1 }
-        ensures exchanges { exchanges.new ≡ exchanges.old }
+        ensures steps { seat.new.steps ≡ raised seat.old.steps 1 }
+        ensures exchanges { seat.new.exchanges ≡ seat.old.exchanges }
     {
-        steps.tick();
         let own = self.own_slot(account, seat.process());
         let count = self.announced(seat, account) + 1;
         let word = self.announced_index(account, own);
+        seat.made.count_step();
         // Right here: this one store makes the request one of the row, and its words stand. Before, others may have published,
         // announced and decided; all that this process asked earlier is settled, and stays so.
         self.table

@@ -1,45 +1,42 @@
-//! Counters of steps.
+//! What a seat counts of its own steps.
 
-ghost use Rattle.std.specs.Prelude.{◌≡◌, ◌+◌, ◌<◌};
+ghost use Rattle.std.specs.Prelude.{◌≡◌};
+ghost use Rattle.at_board.specs.Counting.{raised};
 
-use std::marker::Model;
-use std::sync::ledger::{Blank, Book, Ledger, Share};
-
-/// How many steps were made. It takes no bytes, and only `tick` changes it. A step is one atomic load, store or
-/// compare-exchange of a board's word, or the making or taking in of a note. The counter stands on a count of the library
-/// (`std::sync::ledger`), which has nothing to do with accounts.
-#[derive(Drop)]
-pub struct Steps<L: Ledger> {
-    book: Book<L>,
-    share: Share<L>,
+/// How many steps were made, and how many of them were exchanges. At its largest number each stays. Only this crate makes one
+/// and counts on it, so that no step of a seat is left out.
+#[derive(Clone, Copy, Drop)]
+pub(crate) struct StepCounts {
+    pub(crate) steps: u64,
+    pub(crate) exchanges: u64,
 }
 
-impl<L: Ledger> Model for Steps<L> {
-    ghost use Rattle.std.specs.Prelude.{ℕ, ◌<◌};
-
-    ghost Value = { ℕ };
-
-    ghost view = { λ s. s.book.total };
-
-    ghost invariant = { λ s. 0 < s.share.parts };
-}
-
-impl<L: Ledger> Steps<L> {
-    /// A counter of a new ledger, which counts no step yet.
-    pub fn new(blank: Blank) -> Steps<L>
-        requires name { blank.name ≡ L.name }
-        requires parts { blank.parts ≡ L.parts }
-        requires some { 0 < blank.parts }
-        ensures { result ≡ 0 }
+impl StepCounts {
+    /// None was made yet.
+    pub(crate) fn none() -> StepCounts
+        ensures steps { result.steps ≡ 0 }
+        ensures exchanges { result.exchanges ≡ 0 }
     {
-        let (book, share) = blank.open::<L>();
-        Steps { book, share }
+        StepCounts {
+            steps: 0,
+            exchanges: 0,
+        }
     }
 
-    /// One more step is made.
-    pub fn tick(&mut self)
-        ensures { self.new ≡ self.old + 1 }
+    /// One more step is made, a load or a store.
+    pub(crate) fn count_step(&mut self)
+        ensures steps { self.new.steps ≡ raised self.old.steps 1 }
+        ensures exchanges { self.new.exchanges ≡ self.old.exchanges }
     {
-        self.book.add(&mut self.share, 1);
+        self.steps = self.steps.saturating_add(1);
+    }
+
+    /// One more step is made, an exchange.
+    pub(crate) fn count_exchange(&mut self)
+        ensures steps { self.new.steps ≡ raised self.old.steps 1 }
+        ensures exchanges { self.new.exchanges ≡ raised self.old.exchanges 1 }
+    {
+        self.count_step();
+        self.exchanges = self.exchanges.saturating_add(1);
     }
 }

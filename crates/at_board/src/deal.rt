@@ -6,6 +6,7 @@ ghost use Rattle.at_board.specs.Words.Addresses.{word_count};
 ghost use Rattle.at_board.specs.Knowledge.Parts.{starting_knowledge};
 
 use crate::addresses::word_count;
+use crate::counter::StepCounts;
 use crate::knowledge::Knowledge;
 use crate::plays::Cut;
 use crate::rule::BoardRule;
@@ -38,6 +39,7 @@ pub(crate) fn deal(
             process,
             published: 0,
             announced: no_requests(alloc, book)?,
+            made: StepCounts::none(),
         })?;
         rest = others;
     }
@@ -46,6 +48,7 @@ pub(crate) fn deal(
         process: last,
         published: 0,
         announced: no_requests(alloc, book)?,
+        made: StepCounts::none(),
     })?;
     Ok(seats)
 }

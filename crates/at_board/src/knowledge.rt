@@ -72,6 +72,8 @@ pub struct Asking {
     pub decides: u64,
     /// How many rounds it had seen right after its last announcement.
     pub heard: u32,
+    /// Its loads of each process's length up to its last announcement.
+    pub loads: LinkedList<Loads>,
     /// The announced words that it has loaded since then, by slot.
     pub rows: LinkedList<SeenRow>,
     /// The words of requests that it has loaded since then.

@@ -40,7 +40,6 @@ mod words;
 
 pub use crate::board::Board;
 pub use crate::board_end::BoardEnd;
-pub use crate::counter::Steps;
 pub use crate::knowledge::{Asking, Knowledge, LoadedWord, Loads, Part, SeenDecision, SeenRequest};
 pub use crate::note::BoardNote;
 pub use crate::seat::BoardSeat;

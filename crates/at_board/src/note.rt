@@ -1,19 +1,18 @@
 //! Notes: what one seat has seen, handed to another in two steps.
 
 ghost use Rattle.std.specs.Prelude.{◌≡◌, ◌+◌, ◌<◌, []};
+ghost use Rattle.at_board.specs.Counting.{exchanged, raised};
 ghost use Rattle.at_board.specs.Knowledge.Seats.{IsKept, IsOf};
 ghost use Rattle.at_board.specs.Steps.Learn.{Learns};
 ghost use Rattle.at_board.specs.Steps.Note.{noted};
 
 use crate::board::Board;
-use crate::counter::Steps;
 use crate::knowledge::Knowledge;
 use crate::meet::meet;
 use crate::plays::{Learn, Note};
 use crate::seat::BoardSeat;
 use atomic_table::Seat;
 use std::marker::Model;
-use std::sync::ledger::Ledger;
 
 /// What a seat had seen when the note was made, to be handed to another seat. It takes no memory.
 #[derive(Drop)]
@@ -28,7 +27,7 @@ impl Model for BoardNote {
 
     ghost Value = { SeatTerms };
 
-    ghost view = { λ n. record { board = n.seat.table_id; knows = n.seat.me.0 } };
+    ghost view = { λ n. record { board = n.seat.table_id; knows = n.seat.me.0; steps = 0; exchanges = 0 } };
 
     ghost invariant = { λ n. (n.seat.me.1 ≡ []) × IsNote n.seat.me.0 };
 }
@@ -36,21 +35,13 @@ impl Model for BoardNote {
 impl Board {
     /// A copy of what the seat has seen, for another seat, in one step. It counts as an exchange, since it hands over what no
     /// word says.
-    pub fn note<L: Ledger, X: Ledger>(
-        &self,
-        seat: &mut BoardSeat,
-        steps: &mut Steps<L>,
-        exchanges: &mut Steps<X>,
-    ) -> BoardNote
+    pub fn note(&self, seat: &mut BoardSeat) -> BoardNote
         requires board { IsOf seat.old self.now }
-        ensures same { seat.new ≡ seat.old }
+        ensures same { seat.new ≡ exchanged seat.old 1 }
         ensures board { result.board ≡ seat.old.board }
         ensures noted { result.knows ≡ noted seat.old.knows }
-        ensures steps { steps.new ≡ steps.old + 1 }
-        ensures exchanges { exchanges.new ≡ exchanges.old + 1 }
     {
-        steps.tick();
-        exchanges.tick();
+        seat.made.count_exchange();
         // Right here: what the seat has seen never changes, so a copy of it is right at every later moment. No word changes.
         BoardNote {
             seat: self.table.shared.split_seat::<Note>(&mut seat.seat),
@@ -59,23 +50,16 @@ impl Board {
 
     /// Takes in a note, in one step, which counts as an exchange. The seat has then seen the longer of the two lists, of which
     /// both are prefixes.
-    pub fn learn<L: Ledger, X: Ledger>(
-        &self,
-        seat: &mut BoardSeat,
-        note: BoardNote,
-        steps: &mut Steps<L>,
-        exchanges: &mut Steps<X>,
-    )
+    pub fn learn(&self, seat: &mut BoardSeat, note: BoardNote)
         requires board { IsOf seat.old self.now }
         requires note { IsOf note self.now }
         ensures learned { Learns self.now.book seat.old.knows note.knows seat.new.knows }
         ensures seat { IsKept seat.new.knows }
         ensures board { seat.new.board ≡ seat.old.board }
-        ensures steps { steps.new ≡ steps.old + 1 }
-        ensures exchanges { exchanges.new ≡ exchanges.old + 1 }
+        ensures steps { seat.new.steps ≡ raised seat.old.steps 1 }
+        ensures exchanges { seat.new.exchanges ≡ raised seat.old.exchanges 1 }
     {
-        steps.tick();
-        exchanges.tick();
+        seat.made.count_exchange();
         let shared = &self.table.shared;
         let BoardNote { seat: mut told } = note;
         // Right here: both lists are prefixes of the one list, whoever has published before, so the longer one has both.

@@ -2,6 +2,7 @@
 
 ghost use Rattle.std.specs.Prelude.{◌≡◌, ◌<◌, [], length};
 
+use crate::counter::StepCounts;
 use crate::knowledge::Knowledge;
 use atomic_table::Seat;
 use std::marker::Model;
@@ -15,6 +16,7 @@ pub struct BoardSeat {
     pub(crate) published: u32,
     /// How many requests the process has announced on each account.
     pub(crate) announced: Vec<u32>,
+    pub(crate) made: StepCounts,
 }
 
 impl Model for BoardSeat {
@@ -24,7 +26,12 @@ impl Model for BoardSeat {
 
     ghost Value = { SeatTerms };
 
-    ghost view = { λ s. record { board = s.seat.table_id; knows = s.seat.me.0 } };
+    ghost view = { λ s. record {
+      board = s.seat.table_id;
+      knows = s.seat.me.0;
+      steps = s.made.steps;
+      exchanges = s.made.exchanges;
+    } };
 
     ghost invariant = { λ s. (s.seat.me.1 ≡ []) × IsSeat s.seat.me.0 s.process s.published
         × HasCounts s.seat.me.0 s.announced.items };
@@ -61,6 +68,22 @@ impl BoardSeat {
         self.published
     }
 
+    /// How many steps the seat has made: atomic loads, stores and compare-exchanges of words, and notes made and taken in. At the
+    /// largest number it stays. The call makes no step.
+    pub fn steps(&self) -> u64
+        ensures { result ≡ self.now.steps }
+    {
+        self.made.steps
+    }
+
+    /// How many of its steps were exchanges: compare-exchanges of a word, and notes made and taken in. At the largest number it stays.
+    /// The call makes no step.
+    pub fn exchanges(&self) -> u64
+        ensures { result ≡ self.now.exchanges }
+    {
+        self.made.exchanges
+    }
+
     /// How many requests the process has announced on an account. The call makes no step.
     pub fn announced(&self, account: u32) -> u32
         requires { account < length self.now.knows.book.accounts }
@@ -81,6 +104,7 @@ impl BoardSeat {
             process: _,
             published: _,
             announced: _,
+            made: _,
         } = self;
         seat
     }

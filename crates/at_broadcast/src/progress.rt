@@ -2,6 +2,7 @@
 
 ghost use Rattle.std.specs.Prelude.{◌≡◌, ◌+◌, ◌≤◌, ◌<◌, ◌^◌, ◌↔◌, ℕ, pos, ◌≤ℤ◌, [], ◌∷◌, length, replicate, slice_index, None, Some, IsTrue, IfOk, OnOk, OnErr, IfSome, IfNone, is_some};
 ghost use Rattle.at_base.specs.Counts.{Covers};
+ghost use Rattle.at_board.specs.Counting.{raised};
 ghost use Rattle.at_ledger.specs.Book.{account_of};
 ghost use Rattle.at_broadcast.specs.Messages.{IsMessageOn, message_credit, message_of, sum_of_first, with_message};
 ghost use Rattle.at_broadcast.specs.Validated.{IsValid, balance_at, raised};

@@ -1,6 +1,7 @@
 //! A call of a pass that was taken apart, a step a turn.
 
 ghost use Rattle.std.specs.Prelude.{◌≡◌, ℕ, ◌+◌, ◌++◌, ◌<◌, ◌↔◌, List, [], ◌∷◌, IfSome, IsSome, Some, length};
+ghost use Rattle.at_board.specs.Counting.{raised};
 ghost use Rattle.at_board.specs.Knowledge.Seats.{IsOf};
 ghost use Rattle.at_history.specs.Moves.{AreRuns};
 ghost use Rattle.at_ledger.specs.Call.{IsCallOn};
@@ -17,13 +18,12 @@ ghost use Rattle.at_calling.specs.Reading.{ReadingTerms};
 ghost use Rattle.at_calling.specs.Calling.{CallMade, IsCallWithin, IsWay, MakesCallStep, StaysWithin, call_turns_left, exchanges_made, exchanges_of, pass_before, steps_made, steps_of};
 
 use crate::call_stage::CallStage;
-use at_board::{Board, BoardSeat, Steps};
+use at_board::{Board, BoardSeat};
 use at_ledger::{Call, Reply};
 use at_log::{At, Receipt};
 use at_object::Rest;
 use std::marker::Model;
 use std::snapshot::Snapshot;
-use std::sync::ledger::Ledger;
 
 /// A call in the making, of a pass that was taken apart into its seat and the rest: its refusal, a read, or a payment.
 #[derive(Drop)]
@@ -95,13 +95,11 @@ impl Calling {
 
     /// Makes the next step of the call. The last turn answers its receipt, and leaves the seat and the rest of one pass. A call that
     /// is refused is answered by its only turn, which makes no step.
-    pub fn turn<L: Ledger, X: Ledger>(
+    pub fn turn(
         &mut self,
         board: &Board,
         seat: &mut BoardSeat,
         rest: &mut Rest,
-        steps: &mut Steps<L>,
-        exchanges: &mut Steps<X>,
     ) -> Option<Receipt>
         requires board { IsOf seat.old board.now }
         requires mark { seat.old ≡ self.old.mark }
@@ -136,8 +134,8 @@ impl Calling {
             (pass_of seat.new rest.new) self.old.call (steps_made self.new.stage)
             (exchanges_made self.new.stage)) }
         ensures board { IsOf seat.new board.now }
-        ensures steps { steps.new ≡ steps.old + steps_of self.old.stage }
-        ensures exchanges { exchanges.new ≡ exchanges.old + exchanges_of self.old.stage }
+        ensures steps { seat.new.steps ≡ raised seat.old.steps (steps_of self.old.stage) }
+        ensures exchanges { seat.new.exchanges ≡ raised seat.old.exchanges (exchanges_of self.old.stage) }
         ensures exchanges_made { exchanges_made self.new.stage
             ≡ exchanges_made self.old.stage + exchanges_of self.old.stage }
     {
@@ -146,9 +144,9 @@ impl Calling {
                 let reply = *reply;
                 Some(self.refuse(board, seat, rest, reply))
             }
-            CallStage::Read(_) => self.read_on(board, seat, rest, steps, exchanges),
-            CallStage::PayAlone(_) => self.pay_alone_on(board, seat, rest, steps, exchanges),
-            CallStage::PayShared(_) => self.pay_shared_on(board, seat, rest, steps, exchanges),
+            CallStage::Read(_) => self.read_on(board, seat, rest),
+            CallStage::PayAlone(_) => self.pay_alone_on(board, seat, rest),
+            CallStage::PayShared(_) => self.pay_shared_on(board, seat, rest),
             // Some turn is left, and after a refusal none is.
             CallStage::Refused => unreachable!(),
         }
@@ -171,13 +169,11 @@ impl Calling {
     }
 
     /// Makes the next step of the read. The last one answers its receipt.
-    fn read_on<L: Ledger, X: Ledger>(
+    fn read_on(
         &mut self,
         board: &Board,
         seat: &mut BoardSeat,
         rest: &mut Rest,
-        steps: &mut Steps<L>,
-        exchanges: &mut Steps<X>,
     ) -> Option<Receipt>
         requires board { IsOf seat.old board.now }
         requires mark { seat.old ≡ self.old.mark }
@@ -187,13 +183,13 @@ impl Calling {
         ensures turned { TakesCallTurn board.now.book self.old self.new seat.old seat.new rest.new
             result }
         ensures board { IsOf seat.new board.now }
-        ensures steps { steps.new ≡ steps.old + 1 }
-        ensures exchanges { exchanges.new ≡ exchanges.old }
+        ensures steps { seat.new.steps ≡ raised seat.old.steps 1 }
+        ensures exchanges { seat.new.exchanges ≡ seat.old.exchanges }
     {
         let CallStage::Read(reading) = &mut self.stage else {
             unreachable!()
         };
-        let read = reading.turn(board, seat, &mut rest.totals, steps, exchanges);
+        let read = reading.turn(board, seat, &mut rest.totals);
         seat.known();
         self.mark = Snapshot::of(seat);
         self.rest = Snapshot::of(rest);
@@ -204,13 +200,11 @@ impl Calling {
     }
 
     /// Makes the next step of the payment by the account's one owner. The last one answers its receipt.
-    fn pay_alone_on<L: Ledger, X: Ledger>(
+    fn pay_alone_on(
         &mut self,
         board: &Board,
         seat: &mut BoardSeat,
         rest: &mut Rest,
-        steps: &mut Steps<L>,
-        exchanges: &mut Steps<X>,
     ) -> Option<Receipt>
         requires board { IsOf seat.old board.now }
         requires mark { seat.old ≡ self.old.mark }
@@ -220,13 +214,13 @@ impl Calling {
         ensures turned { TakesCallTurn board.now.book self.old self.new seat.old seat.new rest.new
             result }
         ensures board { IsOf seat.new board.now }
-        ensures steps { steps.new ≡ steps.old + 1 }
-        ensures exchanges { exchanges.new ≡ exchanges.old }
+        ensures steps { seat.new.steps ≡ raised seat.old.steps 1 }
+        ensures exchanges { seat.new.exchanges ≡ seat.old.exchanges }
     {
         let CallStage::PayAlone(paying) = &mut self.stage else {
             unreachable!()
         };
-        let paid = paying.turn(board, seat, &mut rest.totals, steps, exchanges);
+        let paid = paying.turn(board, seat, &mut rest.totals);
         seat.known();
         self.mark = Snapshot::of(seat);
         self.rest = Snapshot::of(rest);
@@ -238,13 +232,11 @@ impl Calling {
     }
 
     /// Makes the next step of the payment by one of the account's owners. The last one answers its receipt.
-    fn pay_shared_on<L: Ledger, X: Ledger>(
+    fn pay_shared_on(
         &mut self,
         board: &Board,
         seat: &mut BoardSeat,
         rest: &mut Rest,
-        steps: &mut Steps<L>,
-        exchanges: &mut Steps<X>,
     ) -> Option<Receipt>
         requires board { IsOf seat.old board.now }
         requires mark { seat.old ≡ self.old.mark }
@@ -254,13 +246,13 @@ impl Calling {
         ensures turned { TakesCallTurn board.now.book self.old self.new seat.old seat.new rest.new
             result }
         ensures board { IsOf seat.new board.now }
-        ensures steps { steps.new ≡ steps.old + 1 }
-        ensures exchanges { exchanges.new ≡ exchanges.old + exchanges_of self.old.stage }
+        ensures steps { seat.new.steps ≡ raised seat.old.steps 1 }
+        ensures exchanges { seat.new.exchanges ≡ raised seat.old.exchanges (exchanges_of self.old.stage) }
     {
         let CallStage::PayShared(paying) = &mut self.stage else {
             unreachable!()
         };
-        let paid = paying.turn(board, seat, &mut rest.totals, steps, exchanges);
+        let paid = paying.turn(board, seat, &mut rest.totals);
         seat.known();
         self.mark = Snapshot::of(seat);
         self.rest = Snapshot::of(rest);

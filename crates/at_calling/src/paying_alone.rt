@@ -1,6 +1,7 @@
 //! A payment from a single account, a step a turn.
 
 ghost use Rattle.std.specs.Prelude.{◌≡◌, ◌+◌, ◌<◌, ◌↔◌, IfSome, IsSome, IsTrue, List, Some, length};
+ghost use Rattle.at_board.specs.Counting.{raised};
 ghost use Rattle.at_board.specs.Knowledge.Seats.{IsOf};
 ghost use Rattle.at_board.specs.Words.Addresses.{record_width};
 ghost use Rattle.at_fold.specs.HasCounted.{CountsAccount, CountsFront, HasCounted, StaysCounted};
@@ -21,14 +22,13 @@ ghost use Rattle.at_calling.specs.Reading.{LeavesTotals};
 
 use crate::pay_stage::PayStage;
 use at_base::Counts;
-use at_board::{Board, BoardSeat, Entry, Steps};
+use at_board::{Board, BoardSeat, Entry};
 use at_fold::Totals;
 use at_ledger::{Call, Reply, Targets};
 use at_log::{At, Receipt, Record};
 use at_machines::{Appending, Looking};
 use std::marker::Model;
 use std::snapshot::Snapshot;
-use std::sync::ledger::Ledger;
 
 /// A payment in the making: a look, and where the balance at its front covers the payment, the append of its record.
 #[derive(Drop)]
@@ -125,13 +125,11 @@ impl PayingAlone {
 
     /// Makes the next step of the payment. Where the balance at the front of the look is below the sum of the amounts, it answers
     /// with the look's last load, and else with the store that publishes its record.
-    pub fn turn<L: Ledger, X: Ledger>(
+    pub fn turn(
         &mut self,
         board: &Board,
         seat: &mut BoardSeat,
         totals: &mut Totals,
-        steps: &mut Steps<L>,
-        exchanges: &mut Steps<X>,
     ) -> Option<Receipt>
         requires board { IsOf seat.old board.now }
         requires mark { seat.old.knows ≡ self.old.mark }
@@ -161,25 +159,23 @@ impl PayingAlone {
             seat.new.knows self.old.was totals.new
             (append_steps (record_width board.now.book) r.reply) (turns_made self.new)) }
         ensures board { IsOf seat.new board.now }
-        ensures steps { steps.new ≡ steps.old + 1 }
-        ensures exchanges { exchanges.new ≡ exchanges.old }
+        ensures steps { seat.new.steps ≡ raised seat.old.steps 1 }
+        ensures exchanges { seat.new.exchanges ≡ seat.old.exchanges }
     {
         match &self.stage {
-            PayStage::Look(_) => self.look_on(board, seat, totals, steps, exchanges),
-            PayStage::Append(_) => self.append_on(board, seat, totals, steps, exchanges),
+            PayStage::Look(_) => self.look_on(board, seat, totals),
+            PayStage::Append(_) => self.append_on(board, seat, totals),
             // Some turn is left, and of a short payment none is.
             PayStage::Short => unreachable!(),
         }
     }
 
     /// Makes the next load of the look. After the last one the payment is short, or the append of its record comes next.
-    fn look_on<L: Ledger, X: Ledger>(
+    fn look_on(
         &mut self,
         board: &Board,
         seat: &mut BoardSeat,
         totals: &mut Totals,
-        steps: &mut Steps<L>,
-        exchanges: &mut Steps<X>,
     ) -> Option<Receipt>
         requires board { IsOf seat.old board.now }
         requires mark { seat.old.knows ≡ self.old.mark }
@@ -188,14 +184,14 @@ impl PayingAlone {
         ensures turned { TakesPayTurn board.now.book self.old self.new seat.old seat.new totals.new
             result }
         ensures board { IsOf seat.new board.now }
-        ensures steps { steps.new ≡ steps.old + 1 }
-        ensures exchanges { exchanges.new ≡ exchanges.old }
+        ensures steps { seat.new.steps ≡ raised seat.old.steps 1 }
+        ensures exchanges { seat.new.exchanges ≡ seat.old.exchanges }
     {
         let PayStage::Look(looking) = &mut self.stage else {
             // The stage is a look, as is asked.
             unreachable!()
         };
-        let looked = looking.turn(board, seat, totals, steps, exchanges);
+        let looked = looking.turn(board, seat, totals);
         self.looked = looking.turns();
         self.mark = Snapshot::of(seat);
         self.totals = Snapshot::of(totals);
@@ -213,13 +209,11 @@ impl PayingAlone {
     }
 
     /// Stores the next word of the payment's record, or publishes it.
-    fn append_on<L: Ledger, X: Ledger>(
+    fn append_on(
         &mut self,
         board: &Board,
         seat: &mut BoardSeat,
         totals: &mut Totals,
-        steps: &mut Steps<L>,
-        exchanges: &mut Steps<X>,
     ) -> Option<Receipt>
         requires board { IsOf seat.old board.now }
         requires mark { seat.old.knows ≡ self.old.mark }
@@ -229,15 +223,15 @@ impl PayingAlone {
         ensures turned { TakesPayTurn board.now.book self.old self.new seat.old seat.new totals.new
             result }
         ensures board { IsOf seat.new board.now }
-        ensures steps { steps.new ≡ steps.old + 1 }
-        ensures exchanges { exchanges.new ≡ exchanges.old }
+        ensures steps { seat.new.steps ≡ raised seat.old.steps 1 }
+        ensures exchanges { seat.new.exchanges ≡ seat.old.exchanges }
     {
         let PayStage::Append(appending) = &mut self.stage else {
             // The stage is an append, as is asked.
             unreachable!()
         };
         seat.known();
-        let is_published = appending.turn(board, seat, steps, exchanges);
+        let is_published = appending.turn(board, seat);
         self.mark = Snapshot::of(seat);
         if !is_published {
             return None;

@@ -1,6 +1,7 @@
 //! A payment from a shared account, a step a turn.
 
 ghost use Rattle.std.specs.Prelude.{◌≡◌, ℕ, ◌+◌, ◌<◌, ◌↔◌, IfSome, IsSome, None, length};
+ghost use Rattle.at_board.specs.Counting.{raised};
 ghost use Rattle.at_board.specs.Knowledge.Parts.{own_part};
 ghost use Rattle.at_board.specs.Knowledge.Seats.{IsOf};
 ghost use Rattle.at_board.specs.Steps.StoreRequestWord.{MayStoreRequest};
@@ -18,14 +19,13 @@ ghost use Rattle.at_calling.specs.Turning.{TurningTerms};
 use crate::share_stage::ShareStage;
 use crate::starting::Starting;
 use crate::turning::Turning;
-use at_board::{Board, BoardSeat, Steps};
+use at_board::{Board, BoardSeat};
 use at_fold::Totals;
 use at_ledger::Call;
 use at_log::Receipt;
 use at_shared::HelpTurn;
 use std::marker::Model;
 use std::snapshot::Snapshot;
-use std::sync::ledger::Ledger;
 
 /// A payment in the making: a start, and then turns of helping until the request is settled. They are at most as many as the account
 /// has owners.
@@ -115,13 +115,11 @@ impl PayingShared {
 
     /// Makes the next step of the payment. Where a turn of helping finds the request settled it answers with the last load of that
     /// turn's look, and where one decides it, with the store that publishes the round.
-    pub fn turn<L: Ledger, X: Ledger>(
+    pub fn turn(
         &mut self,
         board: &Board,
         seat: &mut BoardSeat,
         totals: &mut Totals,
-        steps: &mut Steps<L>,
-        exchanges: &mut Steps<X>,
     ) -> Option<Receipt>
         requires board { IsOf seat.old board.now }
         requires mark { seat.old.knows ≡ self.old.mark }
@@ -151,28 +149,26 @@ impl PayingShared {
             seat.new.knows self.old.was totals.new
             (settling_steps board.now.book self.old.account) self.new.turns) }
         ensures board { IsOf seat.new board.now }
-        ensures steps { steps.new ≡ steps.old + 1 }
-        ensures exchanges { exchanges.new ≡ exchanges.old + share_exchanges_at self.old.stage }
+        ensures steps { seat.new.steps ≡ raised seat.old.steps 1 }
+        ensures exchanges { seat.new.exchanges ≡ raised seat.old.exchanges (share_exchanges_at self.old.stage) }
         // Over all turns the exchanges are those that were decided.
         ensures decides { share_exchanges_made self.new
             ≡ share_exchanges_made self.old + share_exchanges_at self.old.stage }
     {
         match &self.stage {
-            ShareStage::Start(_) => self.start_on(board, seat, totals, steps, exchanges),
-            ShareStage::Help(..) => self.help_on(board, seat, totals, steps, exchanges),
+            ShareStage::Start(_) => self.start_on(board, seat, totals),
+            ShareStage::Help(..) => self.help_on(board, seat, totals),
             // Some turn is left, and of a settled request none is.
             ShareStage::Ended => unreachable!(),
         }
     }
 
     /// Makes the next step of the start. After the last one a turn of helping by the request that waits comes next.
-    fn start_on<L: Ledger, X: Ledger>(
+    fn start_on(
         &mut self,
         board: &Board,
         seat: &mut BoardSeat,
         totals: &mut Totals,
-        steps: &mut Steps<L>,
-        exchanges: &mut Steps<X>,
     ) -> Option<Receipt>
         requires board { IsOf seat.old board.now }
         requires mark { seat.old.knows ≡ self.old.mark }
@@ -182,14 +178,14 @@ impl PayingShared {
         ensures turned { TakesShareTurn board.now.book self.old self.new seat.old seat.new
             totals.new result }
         ensures board { IsOf seat.new board.now }
-        ensures steps { steps.new ≡ steps.old + 1 }
-        ensures exchanges { exchanges.new ≡ exchanges.old }
+        ensures steps { seat.new.steps ≡ raised seat.old.steps 1 }
+        ensures exchanges { seat.new.exchanges ≡ seat.old.exchanges }
     {
         let ShareStage::Start(starting) = &mut self.stage else {
             // The stage is the start, as is asked.
             unreachable!()
         };
-        let started = starting.turn(board, seat, totals, steps, exchanges);
+        let started = starting.turn(board, seat, totals);
         self.turns += 1;
         self.mark = Snapshot::of(seat);
         self.totals = Snapshot::of(totals);
@@ -201,13 +197,11 @@ impl PayingShared {
     }
 
     /// Makes the next step of the turn of helping. After its last one the request is settled, or the next turn of helping begins.
-    fn help_on<L: Ledger, X: Ledger>(
+    fn help_on(
         &mut self,
         board: &Board,
         seat: &mut BoardSeat,
         totals: &mut Totals,
-        steps: &mut Steps<L>,
-        exchanges: &mut Steps<X>,
     ) -> Option<Receipt>
         requires board { IsOf seat.old board.now }
         requires mark { seat.old.knows ≡ self.old.mark }
@@ -218,14 +212,14 @@ impl PayingShared {
         ensures turned { TakesShareTurn board.now.book self.old self.new seat.old seat.new
             totals.new result }
         ensures board { IsOf seat.new board.now }
-        ensures steps { steps.new ≡ steps.old + 1 }
-        ensures exchanges { exchanges.new ≡ exchanges.old + share_exchanges_at self.old.stage }
+        ensures steps { seat.new.steps ≡ raised seat.old.steps 1 }
+        ensures exchanges { seat.new.exchanges ≡ raised seat.old.exchanges (share_exchanges_at self.old.stage) }
     {
         let ShareStage::Help(helping, turning) = &mut self.stage else {
             // The stage is a turn of helping, as is asked.
             unreachable!()
         };
-        let helped = turning.turn(board, seat, totals, helping, steps, exchanges);
+        let helped = turning.turn(board, seat, totals, helping);
         self.turns += 1;
         self.mark = Snapshot::of(seat);
         self.totals = Snapshot::of(totals);

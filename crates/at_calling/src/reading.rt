@@ -1,19 +1,19 @@
 //! A read, a load a turn.
 
 ghost use Rattle.std.specs.Prelude.{◌≡◌, ◌+◌, ◌<◌, ◌↔◌, IfSome, IsSome, length};
+ghost use Rattle.at_board.specs.Counting.{raised};
 ghost use Rattle.at_board.specs.Knowledge.Seats.{IsOf};
 ghost use Rattle.at_fold.specs.HasCounted.{HasCounted, StaysCounted};
 ghost use Rattle.at_snapshot.specs.Collected.{HasLoaded};
 ghost use Rattle.at_machines.specs.Looking.{IsWithin, MakesLookLoad, look_turns_left};
 ghost use Rattle.at_calling.specs.Reading.{IsReadOf, LeavesTotals};
 
-use at_board::{Board, BoardSeat, Steps};
+use at_board::{Board, BoardSeat};
 use at_fold::Totals;
 use at_ledger::{Call, Reply};
 use at_log::{At, Receipt};
 use at_machines::Looking;
 use std::marker::Model;
-use std::sync::ledger::Ledger;
 
 /// A read in the making: a look, and the balance at its front.
 #[derive(Drop)]
@@ -54,13 +54,11 @@ impl Reading {
     }
 
     /// Makes the next load of the look, in one step. With the last one it answers the receipt.
-    pub fn turn<L: Ledger, X: Ledger>(
+    pub fn turn(
         &mut self,
         board: &Board,
         seat: &mut BoardSeat,
         totals: &mut Totals,
-        steps: &mut Steps<L>,
-        exchanges: &mut Steps<X>,
     ) -> Option<Receipt>
         requires board { IsOf seat.old board.now }
         requires mark { seat.old.knows ≡ self.old.looking.mark }
@@ -86,10 +84,10 @@ impl Reading {
         ensures leaves { IfSome result (λ r. LeavesTotals board.now.book self.old.looking.start
             seat.new.knows self.old.looking.was totals.new 0 self.new.looking.turns) }
         ensures board { IsOf seat.new board.now }
-        ensures steps { steps.new ≡ steps.old + 1 }
-        ensures exchanges { exchanges.new ≡ exchanges.old }
+        ensures steps { seat.new.steps ≡ raised seat.old.steps 1 }
+        ensures exchanges { seat.new.exchanges ≡ seat.old.exchanges }
     {
-        let front = self.looking.turn(board, seat, totals, steps, exchanges)?;
+        let front = self.looking.turn(board, seat, totals)?;
         seat.known();
         Some(Receipt {
             call: Call::Read {

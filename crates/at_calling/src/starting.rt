@@ -1,6 +1,7 @@
 //! The start of a payment from a shared account, a step a turn.
 
 ghost use Rattle.std.specs.Prelude.{◌≡◌, ℕ, ◌+◌, ◌^◌, ◌<◌, ◌↔◌, IfSome, IsSome, None, length};
+ghost use Rattle.at_board.specs.Counting.{raised};
 ghost use Rattle.at_board.specs.Knowledge.Parts.{own_part};
 ghost use Rattle.at_board.specs.Knowledge.Seats.{IsOf};
 ghost use Rattle.at_board.specs.Steps.StoreRequestWord.{MayStoreRequest};
@@ -17,14 +18,13 @@ ghost use Rattle.at_calling.specs.Starting.{IsStartOf, IsStartWithin, MakesStart
 
 use crate::start_stage::StartStage;
 use at_base::Counts;
-use at_board::{Board, BoardSeat, Steps};
+use at_board::{Board, BoardSeat};
 use at_fold::Totals;
 use at_ledger::{Call, Targets};
 use at_machines::{Asking, CollectingRows, Looking};
 use at_shared::{Helping, targets_of};
 use std::marker::Model;
 use std::snapshot::Snapshot;
-use std::sync::ledger::Ledger;
 
 /// A start in the making: a look, the stores of the request with the place of its front as the `since`, and the loads of the rows.
 #[derive(Drop)]
@@ -111,13 +111,11 @@ impl Starting {
     }
 
     /// Makes the next step of the start. The last load of the rows answers the request that waits.
-    pub fn turn<L: Ledger, X: Ledger>(
+    pub fn turn(
         &mut self,
         board: &Board,
         seat: &mut BoardSeat,
         totals: &mut Totals,
-        steps: &mut Steps<L>,
-        exchanges: &mut Steps<X>,
     ) -> Option<Helping>
         requires board { IsOf seat.old board.now }
         requires mark { seat.old.knows ≡ self.old.mark }
@@ -142,24 +140,22 @@ impl Starting {
             seat.new.knows self.old.was totals.new (asking_steps_of board.now.book self.old)
             (start_turns_made self.new)) }
         ensures board { IsOf seat.new board.now }
-        ensures steps { steps.new ≡ steps.old + 1 }
-        ensures exchanges { exchanges.new ≡ exchanges.old }
+        ensures steps { seat.new.steps ≡ raised seat.old.steps 1 }
+        ensures exchanges { seat.new.exchanges ≡ seat.old.exchanges }
     {
         match &self.stage {
-            StartStage::Look(_) => self.look_on(board, seat, totals, steps, exchanges),
-            StartStage::Ask(_) => self.ask_on(board, seat, steps, exchanges),
-            StartStage::Collect(_) => self.collect_on(board, seat, steps, exchanges),
+            StartStage::Look(_) => self.look_on(board, seat, totals),
+            StartStage::Ask(_) => self.ask_on(board, seat),
+            StartStage::Collect(_) => self.collect_on(board, seat),
         }
     }
 
     /// Makes the next load of the look. After the last one asking comes next.
-    fn look_on<L: Ledger, X: Ledger>(
+    fn look_on(
         &mut self,
         board: &Board,
         seat: &mut BoardSeat,
         totals: &mut Totals,
-        steps: &mut Steps<L>,
-        exchanges: &mut Steps<X>,
     ) -> Option<Helping>
         requires board { IsOf seat.old board.now }
         requires mark { seat.old.knows ≡ self.old.mark }
@@ -168,14 +164,14 @@ impl Starting {
         ensures turned { TakesStartTurn board.now.book self.old self.new seat.old seat.new
             totals.new result }
         ensures board { IsOf seat.new board.now }
-        ensures steps { steps.new ≡ steps.old + 1 }
-        ensures exchanges { exchanges.new ≡ exchanges.old }
+        ensures steps { seat.new.steps ≡ raised seat.old.steps 1 }
+        ensures exchanges { seat.new.exchanges ≡ seat.old.exchanges }
     {
         let StartStage::Look(looking) = &mut self.stage else {
             // The stage is a look, as is asked.
             unreachable!()
         };
-        let looked = looking.turn(board, seat, totals, steps, exchanges);
+        let looked = looking.turn(board, seat, totals);
         self.looked = looking.turns();
         self.mark = Snapshot::of(seat);
         self.totals = Snapshot::of(totals);
@@ -190,12 +186,10 @@ impl Starting {
     }
 
     /// Stores the next word of the request, or announces it. After that the rows come next.
-    fn ask_on<L: Ledger, X: Ledger>(
+    fn ask_on(
         &mut self,
         board: &Board,
         seat: &mut BoardSeat,
-        steps: &mut Steps<L>,
-        exchanges: &mut Steps<X>,
     ) -> Option<Helping>
         requires board { IsOf seat.old board.now }
         requires mark { seat.old.knows ≡ self.old.mark }
@@ -203,14 +197,14 @@ impl Starting {
         ensures turned { TakesStartTurn board.now.book self.old self.new seat.old seat.new
             self.old.totals result }
         ensures board { IsOf seat.new board.now }
-        ensures steps { steps.new ≡ steps.old + 1 }
-        ensures exchanges { exchanges.new ≡ exchanges.old }
+        ensures steps { seat.new.steps ≡ raised seat.old.steps 1 }
+        ensures exchanges { seat.new.exchanges ≡ seat.old.exchanges }
     {
         let StartStage::Ask(asking) = &mut self.stage else {
             // The stage is asking, as is asked.
             unreachable!()
         };
-        let announced = asking.turn(board, seat, steps, exchanges);
+        let announced = asking.turn(board, seat);
         self.mark = Snapshot::of(seat);
         let number = announced?;
         let slot = board.book().slot_of(self.account, seat.process()).unwrap();
@@ -222,12 +216,10 @@ impl Starting {
     }
 
     /// Makes the next load of the rows. The last one answers the request that waits.
-    fn collect_on<L: Ledger, X: Ledger>(
+    fn collect_on(
         &mut self,
         board: &Board,
         seat: &mut BoardSeat,
-        steps: &mut Steps<L>,
-        exchanges: &mut Steps<X>,
     ) -> Option<Helping>
         requires board { IsOf seat.old board.now }
         requires mark { seat.old.knows ≡ self.old.mark }
@@ -236,14 +228,14 @@ impl Starting {
         ensures turned { TakesStartTurn board.now.book self.old self.new seat.old seat.new
             self.old.totals result }
         ensures board { IsOf seat.new board.now }
-        ensures steps { steps.new ≡ steps.old + 1 }
-        ensures exchanges { exchanges.new ≡ exchanges.old }
+        ensures steps { seat.new.steps ≡ raised seat.old.steps 1 }
+        ensures exchanges { seat.new.exchanges ≡ seat.old.exchanges }
     {
         let StartStage::Collect(collecting) = &mut self.stage else {
             // The stage is the rows, as is asked.
             unreachable!()
         };
-        let collected = collecting.turn(board, seat, steps, exchanges);
+        let collected = collecting.turn(board, seat);
         self.mark = Snapshot::of(seat);
         let asked = collected?;
         Some(Helping::of(self.call.copy(), self.account, collecting.own(), asked))

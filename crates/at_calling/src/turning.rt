@@ -1,6 +1,7 @@
 //! One turn of helping, a step a turn.
 
 ghost use Rattle.std.specs.Prelude.{◌≡◌, ◌+◌, ◌*◌, ◌<◌, ◌≤◌, ◌↔◌, IfSome, IsSome, length};
+ghost use Rattle.at_board.specs.Counting.{raised, stepped};
 ghost use Rattle.at_board.specs.Knowledge.Seats.{IsOf};
 ghost use Rattle.at_machines.specs.Deciding.{DecidingTerms};
 ghost use Rattle.at_machines.specs.Looking.{LookingTerms};
@@ -14,14 +15,13 @@ ghost use Rattle.at_calling.specs.Turning.{IsHelpOf, IsHelpWithin, LeavesSeat, M
 
 use crate::turn_stage::TurnStage;
 use at_base::Decision;
-use at_board::{Board, BoardSeat, Steps};
+use at_board::{Board, BoardSeat};
 use at_fold::Totals;
 use at_machines::{Deciding, Looking};
 use at_shared::{HelpTurn, Helping};
 use std::marker::Model;
 use std::mem::{drop, replace};
 use std::snapshot::Snapshot;
-use std::sync::ledger::Ledger;
 
 /// A turn of helping in the making: a look, and where the request is unsettled at its front, one round.
 #[derive(Drop)]
@@ -104,14 +104,12 @@ impl Turning {
 
     /// Makes the next step of the turn of helping. Where the request is settled at the front of the look, it answers with the
     /// look's last load, and else with the store that publishes the round.
-    pub fn turn<L: Ledger, X: Ledger>(
+    pub fn turn(
         &mut self,
         board: &Board,
         seat: &mut BoardSeat,
         totals: &mut Totals,
         helping: &Helping,
-        steps: &mut Steps<L>,
-        exchanges: &mut Steps<X>,
     ) -> Option<HelpTurn>
         requires board { IsOf seat.old board.now }
         requires mark { seat.old.knows ≡ self.old.mark }
@@ -151,30 +149,28 @@ impl Turning {
             * decides_made self.old.helping.account self.old.start seat.new.knows)
             (help_turns_made self.new)) }
         ensures board { IsOf seat.new board.now }
-        ensures steps { steps.new ≡ steps.old + 1 }
-        ensures exchanges { exchanges.new ≡ exchanges.old + exchanges_at self.old.stage }
+        ensures steps { seat.new.steps ≡ raised seat.old.steps 1 }
+        ensures exchanges { seat.new.exchanges ≡ raised seat.old.exchanges (exchanges_at self.old.stage) }
         // Over all turns the exchanges are those that were decided.
         ensures decides { decides_made self.old.helping.account self.old.start seat.new.knows
             ≡ decides_made self.old.helping.account self.old.start self.old.mark
             + exchanges_at self.old.stage }
     {
         match &self.stage {
-            TurnStage::Look(_) => self.look_on(board, seat, totals, helping, steps, exchanges),
-            TurnStage::Decide(_) => self.decide_on(board, seat, totals, helping, steps, exchanges),
+            TurnStage::Look(_) => self.look_on(board, seat, totals, helping),
+            TurnStage::Decide(_) => self.decide_on(board, seat, totals, helping),
             // Some step is left, and where the request was found settled none is.
             TurnStage::Found => unreachable!(),
         }
     }
 
     /// Makes the next load of the look. After the last one the request is found settled, or a round comes next.
-    fn look_on<L: Ledger, X: Ledger>(
+    fn look_on(
         &mut self,
         board: &Board,
         seat: &mut BoardSeat,
         totals: &mut Totals,
         helping: &Helping,
-        steps: &mut Steps<L>,
-        exchanges: &mut Steps<X>,
     ) -> Option<HelpTurn>
         requires board { IsOf seat.old board.now }
         requires mark { seat.old.knows ≡ self.old.mark }
@@ -184,14 +180,14 @@ impl Turning {
         ensures stepped { TakesHelpStep board.now.book self.old self.new seat.old seat.new
             totals.new result }
         ensures board { IsOf seat.new board.now }
-        ensures steps { steps.new ≡ steps.old + 1 }
-        ensures exchanges { exchanges.new ≡ exchanges.old }
+        ensures steps { seat.new.steps ≡ raised seat.old.steps 1 }
+        ensures exchanges { seat.new.exchanges ≡ seat.old.exchanges }
     {
         let TurnStage::Look(looking) = &mut self.stage else {
             // The stage is a look, as is asked.
             unreachable!()
         };
-        let looked = looking.turn(board, seat, totals, steps, exchanges);
+        let looked = looking.turn(board, seat, totals);
         self.looked = looking.turns();
         self.mark = Snapshot::of(seat);
         self.totals = Snapshot::of(totals);
@@ -208,14 +204,12 @@ impl Turning {
     }
 
     /// Makes the next step of the round.
-    fn decide_on<L: Ledger, X: Ledger>(
+    fn decide_on(
         &mut self,
         board: &Board,
         seat: &mut BoardSeat,
         totals: &mut Totals,
         helping: &Helping,
-        steps: &mut Steps<L>,
-        exchanges: &mut Steps<X>,
     ) -> Option<HelpTurn>
         requires board { IsOf seat.old board.now }
         requires mark { seat.old.knows ≡ self.old.mark }
@@ -226,15 +220,15 @@ impl Turning {
         ensures stepped { TakesHelpStep board.now.book self.old self.new seat.old seat.new
             totals.new result }
         ensures board { IsOf seat.new board.now }
-        ensures steps { steps.new ≡ steps.old + 1 }
-        ensures exchanges { exchanges.new ≡ exchanges.old + exchanges_at self.old.stage }
+        ensures steps { seat.new.steps ≡ raised seat.old.steps 1 }
+        ensures exchanges { seat.new.exchanges ≡ raised seat.old.exchanges (exchanges_at self.old.stage) }
     {
         seat.known();
         let TurnStage::Decide(deciding) = &mut self.stage else {
             // The stage is a round, as is asked.
             unreachable!()
         };
-        let decided = deciding.turn(board, seat, totals, steps, exchanges);
+        let decided = deciding.turn(board, seat, totals);
         self.mark = Snapshot::of(seat);
         self.totals = Snapshot::of(totals);
         let decision = decided?;

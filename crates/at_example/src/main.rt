@@ -6,7 +6,6 @@ ghost use Rattle.std.specs.Prelude.{◌≡◌, ◌^◌, ◌<◌, [], ◌∷◌, 
 ghost use Rattle.at_object.specs.Closings.{IsAccountedFor};
 ghost use Rattle.at_object.specs.Passes.{IsNewPass};
 
-use at_board::Steps;
 use at_journal::journal;
 use at_ledger::{Book, BookBuilder, Call, Line, Reply, State, Targets};
 use at_log::Receipt;
@@ -14,7 +13,6 @@ use at_object::{Closed, Ledger, NoMemory, Pass};
 use std::alloc::{AllocError, Global};
 use std::io;
 use std::marker::Brand;
-use std::sync::ledger;
 use std::sync::ledger::Blank;
 
 /// Process 0 owns account 0, process 1 owns account 1, both share account 2, and account 3 can only be paid into. Ten payments of
@@ -29,12 +27,10 @@ fn book_of_four(alloc: Global) -> anyhow::Result<Book> {
 }
 
 /// Three calls of each process, and what they answered. Threads could make them: the ledger is shared, and each pass is one caller's.
-fn deal<L: ledger::Ledger, X: ledger::Ledger>(
+fn deal(
     ledger: &Ledger,
     zero: &mut Pass,
     one: &mut Pass,
-    steps: &mut Steps<L>,
-    exchanges: &mut Steps<X>,
 ) -> ([Receipt; 3], [Receipt; 3])
     requires four { length ledger.now.book.accounts ≡ 4 }
     requires zero { IsNewPass ledger.now 0 zero.old }
@@ -42,22 +38,22 @@ fn deal<L: ledger::Ledger, X: ledger::Ledger>(
     ensures zero { IsAccountedFor ledger.now 0 zero.new result.0 }
     ensures one { IsAccountedFor ledger.now 1 one.new result.1 }
 {
-    let paid = ledger.transfer(zero, 0, 1, 30, steps, exchanges);
-    let agreed = ledger.transfer(one, 2, 3, 25, steps, exchanges);
-    let short = ledger.transfer(zero, 2, 3, 25, steps, exchanges);
-    let note = ledger.note(zero, steps, exchanges);
-    ledger.learn(one, note, steps, exchanges);
-    let rest = ledger.read(one, 2, steps, exchanges);
+    let paid = ledger.transfer(zero, 0, 1, 30);
+    let agreed = ledger.transfer(one, 2, 3, 25);
+    let short = ledger.transfer(zero, 2, 3, 25);
+    let note = ledger.note(zero);
+    ledger.learn(one, note);
+    let rest = ledger.read(one, 2);
     let mut targets = Targets::one(0, 10);
     targets.push(3, 5);
-    let paid_out = ledger.pay(one, 1, &targets, steps, exchanges);
-    let paid_in = ledger.read(zero, 3, steps, exchanges);
+    let paid_out = ledger.pay(one, 1, &targets);
+    let paid_in = ledger.read(zero, 3);
     ([paid, short, paid_in], [agreed, rest, paid_out])
 }
 
 /// Makes the calls on a new ledger of the book, and closes it with all passes and receipts.
 #[tactic(auto, using(crate::proofs::Accounts::are_accounted_for_two))]
-fn closed_after<L: ledger::Ledger, X: ledger::Ledger>(
+fn closed_after(
     alloc: Global,
     book: &Book,
     steps: Blank,
@@ -70,11 +66,10 @@ fn closed_after<L: ledger::Ledger, X: ledger::Ledger>(
     requires two { book.now.processes ≡ 2 }
     ensures { IfOk result (λ c. All (λ receipts. length receipts < 2 ^ 32) c.closing.receipts) }
 {
-    let (steps, exchanges) = (&mut Steps::<L>::new(steps), &mut Steps::<X>::new(exchanges));
     let (ledger, mut passes) = Ledger::new(alloc, book)?;
     let mut one = passes.pop().unwrap();
     let mut zero = passes.pop().unwrap();
-    let (first, second) = deal(&ledger, &mut zero, &mut one, steps, exchanges);
+    let (first, second) = deal(&ledger, &mut zero, &mut one);
     let receipts = listed(alloc, first, second)?;
     let passes = Vec::from_array(alloc, [zero, one])?;
     match ledger.close(alloc, passes, receipts) {

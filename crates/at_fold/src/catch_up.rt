@@ -2,6 +2,7 @@
 
 ghost use Rattle.std.specs.Prelude.{◌≡◌, ◌+◌, ◌-◌, ◌*◌, ◌<◌, ◌≤◌, slice_index, slice_set, sum};
 ghost use Rattle.at_base.specs.Counts.{Covers};
+ghost use Rattle.at_board.specs.Counting.{stepped};
 ghost use Rattle.at_history.specs.Publications.{count_of};
 ghost use Rattle.at_board.specs.Knowledge.Seats.{IsOf};
 ghost use Rattle.at_board.specs.declared.words.TheConstants.{RECORD_WORDS};
@@ -9,20 +10,17 @@ ghost use Rattle.at_fold.specs.HasCounted.{HasCounted, HasRecords, StaysCounted}
 
 use crate::totals::Totals;
 use at_base::Counts;
-use at_board::{Board, BoardSeat, Steps};
+use at_board::{Board, BoardSeat};
 use at_log::load_entry;
-use std::sync::ledger::Ledger;
 
 impl Totals {
     /// Counts all records that `counts` counts, which the seat has seen. Loads the entries of those alone that weren't counted
     /// before, in a step for each word.
-    pub fn catch_up<L: Ledger, X: Ledger>(
+    pub fn catch_up(
         &mut self,
         board: &Board,
         seat: &mut BoardSeat,
         counts: &Counts,
-        steps: &mut Steps<L>,
-        exchanges: &mut Steps<X>,
     )
         requires board { IsOf seat.old board.now }
         requires counted { HasCounted self.old board.now.book seat.old.knows.seen }
@@ -31,29 +29,25 @@ impl Totals {
         ensures counted { HasCounted self.new board.now.book seat.new.knows.seen }
         ensures stays { StaysCounted self.new board.now.book seat.new.knows.seen }
         ensures upto { self.new.upto ≡ counts.now }
-        ensures same { seat.new ≡ seat.old }
-        ensures steps { steps.new ≡ steps.old + RECORD_WORDS
-            * (sum counts.now - sum self.old.upto) }
-        ensures exchanges { exchanges.new ≡ exchanges.old }
+        ensures same { seat.new ≡ stepped seat.old (RECORD_WORDS
+            * (sum counts.now - sum self.old.upto)) }
     {
         for p in 0..counts.len() {
             let end = counts.get(p);
             // From call to call most processes publish nothing.
             if self.counted(p) < end {
-                self.catch_up_with(board, seat, p, end, steps, exchanges);
+                self.catch_up_with(board, seat, p, end);
             }
         }
     }
 
     /// Counts the records of a process up to this number of them.
-    fn catch_up_with<L: Ledger, X: Ledger>(
+    fn catch_up_with(
         &mut self,
         board: &Board,
         seat: &mut BoardSeat,
         p: u32,
         end: u32,
-        steps: &mut Steps<L>,
-        exchanges: &mut Steps<X>,
     )
         requires board { IsOf seat.old board.now }
         requires counted { HasCounted self.old board.now.book seat.old.knows.seen }
@@ -62,14 +56,12 @@ impl Totals {
         requires seen { end ≤ count_of p seat.old.knows.seen }
         ensures counted { HasCounted self.new board.now.book seat.new.knows.seen }
         ensures upto { self.new.upto ≡ slice_set self.old.upto p end }
-        ensures same { seat.new ≡ seat.old }
-        ensures steps { steps.new ≡ steps.old + RECORD_WORDS * (end - slice_index self.old.upto p) }
-        ensures exchanges { exchanges.new ≡ exchanges.old }
+        ensures same { seat.new ≡ stepped seat.old (RECORD_WORDS * (end - slice_index self.old.upto p)) }
     {
         seat.known();
         let start = self.counted(p);
         for i in start..end {
-            let entry = load_entry(board, seat, p, i, steps, exchanges);
+            let entry = load_entry(board, seat, p, i);
             self.count(p, i + 1, &entry);
         }
     }

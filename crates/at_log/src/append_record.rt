@@ -1,6 +1,7 @@
 //! An append: records are published on the board one after another.
 
 ghost use Rattle.std.specs.Prelude.{◌≡◌, ◌+◌, ◌-◌};
+ghost use Rattle.at_board.specs.Counting.{raised};
 ghost use Rattle.at_board.specs.Knowledge.Seats.{IsOf};
 ghost use Rattle.at_board.specs.Steps.Publish.{Publishes};
 ghost use Rattle.at_board.specs.Knowledge.Parts.{own_part};
@@ -11,8 +12,7 @@ ghost use Rattle.at_log.specs.ClosingTerms.{published_by};
 ghost use Rattle.at_log.specs.LastRecord.{IsLast};
 
 use crate::record::Record;
-use at_board::{Board, BoardSeat, RECORD_WORDS, Steps, record_word};
-use std::sync::ledger::Ledger;
+use at_board::{Board, BoardSeat, RECORD_WORDS, record_word};
 
 /// How many records the log of the seat's process still takes. It makes no step.
 pub fn room(board: &Board, seat: &BoardSeat) -> u32
@@ -26,12 +26,10 @@ pub fn room(board: &Board, seat: &BoardSeat) -> u32
 }
 
 /// Stores the words of a record, those of its entry and one for each process, and publishes it. Takes no memory.
-pub fn append<L: Ledger, X: Ledger>(
+pub fn append(
     board: &Board,
     seat: &mut BoardSeat,
     rec: &Record,
-    steps: &mut Steps<L>,
-    exchanges: &mut Steps<X>,
 )
     requires board { IsOf seat.old board.now }
     requires record { MayAppend board.now.book seat.old.knows rec.now }
@@ -40,15 +38,15 @@ pub fn append<L: Ledger, X: Ledger>(
     ensures last { IsLast seat.old.knows seat.new.knows
         (published_by seat.old.knows.first rec.now) }
     ensures board { seat.new.board ≡ seat.old.board }
-    ensures steps { steps.new ≡ steps.old + (RECORD_WORDS + board.now.book.processes + 1) }
-    ensures exchanges { exchanges.new ≡ exchanges.old }
+    ensures steps { seat.new.steps ≡ raised seat.old.steps (RECORD_WORDS + board.now.book.processes + 1) }
+    ensures exchanges { seat.new.exchanges ≡ seat.old.exchanges }
 {
     board.book().known();
     seat.known();
     let width = RECORD_WORDS + board.book().processes();
     for j in 0..width {
         let word = record_word(&rec.entry, &rec.view, j);
-        board.store_record_word(seat, j, word, steps, exchanges);
+        board.store_record_word(seat, j, word);
     }
-    board.publish(seat, steps, exchanges);
+    board.publish(seat);
 }

@@ -1,35 +1,31 @@
 //! A load of a record's entry.
 
 ghost use Rattle.std.specs.Prelude.{◌≡◌, ◌+◌};
+ghost use Rattle.at_board.specs.Counting.{stepped};
 ghost use Rattle.at_board.specs.Knowledge.Records.{SeesRecord};
 ghost use Rattle.at_board.specs.Knowledge.Seats.{IsOf};
 ghost use Rattle.at_board.specs.declared.words.TheConstants.{RECORD_WORDS};
 ghost use Rattle.at_log.specs.Loading.{IsEntryOf};
 
-use at_board::{Board, BoardSeat, Entry, RECORD_WORDS, Steps, entry_of};
-use std::sync::ledger::Ledger;
+use at_board::{Board, BoardSeat, Entry, RECORD_WORDS, entry_of};
 
 /// The entry of a record that the seat has seen, in a step for each of its words. Takes no memory.
-pub fn load_entry<L: Ledger, X: Ledger>(
+pub fn load_entry(
     board: &Board,
     seat: &mut BoardSeat,
     p: u32,
     i: u32,
-    steps: &mut Steps<L>,
-    exchanges: &mut Steps<X>,
 ) -> Entry
     requires board { IsOf seat.old board.now }
     requires record { SeesRecord seat.old.knows p i }
     ensures entry { IsEntryOf seat.old.knows p i result }
-    ensures same { seat.new ≡ seat.old }
-    ensures steps { steps.new ≡ steps.old + RECORD_WORDS }
-    ensures exchanges { exchanges.new ≡ exchanges.old }
+    ensures same { seat.new ≡ stepped seat.old RECORD_WORDS }
 {
     board.book().known();
     seat.known();
     let mut words = [0u64; RECORD_WORDS as usize];
     for j in 0..RECORD_WORDS {
-        words[j as usize] = board.load_record_word(seat, p, i, j, steps, exchanges);
+        words[j as usize] = board.load_record_word(seat, p, i, j);
     }
     entry_of(words)
 }

@@ -1,6 +1,7 @@
 //! An append, a store a turn.
 
 ghost use Rattle.std.specs.Prelude.{◌≡◌, ◌+◌, ◌<◌, ◌≤◌, ◌↔◌, IsTrue};
+ghost use Rattle.at_board.specs.Counting.{raised};
 ghost use Rattle.at_board.specs.Knowledge.Seats.{IsOf};
 ghost use Rattle.at_board.specs.Steps.Publish.{Publishes};
 ghost use Rattle.at_board.specs.Words.Addresses.{record_width};
@@ -8,11 +9,10 @@ ghost use Rattle.at_log.specs.Appending.{MayAppend};
 ghost use Rattle.at_log.specs.LastRecord.{IsLast};
 ghost use Rattle.at_machines.specs.Appending.{StoresNextWord, appending_after, publication_of, starting_appending};
 
-use at_board::{Board, BoardSeat, Entry, RECORD_WORDS, Steps, record_word};
+use at_board::{Board, BoardSeat, Entry, RECORD_WORDS, record_word};
 use at_log::Record;
 use std::marker::Model;
 use std::snapshot::Snapshot;
-use std::sync::ledger::Ledger;
 
 /// An append in the making: a store of each word of the record, by rising number, and then the store that publishes it.
 #[derive(Drop)]
@@ -69,12 +69,10 @@ impl Appending {
     }
 
     /// Stores the next word of the record, in one step, and publishes it once all are stored. Whether this turn has published it.
-    pub fn turn<L: Ledger, X: Ledger>(
+    pub fn turn(
         &mut self,
         board: &Board,
         seat: &mut BoardSeat,
-        steps: &mut Steps<L>,
-        exchanges: &mut Steps<X>,
     ) -> bool
         requires board { IsOf seat.old board.now }
         requires mark { seat.old.knows ≡ self.old.mark }
@@ -90,19 +88,19 @@ impl Appending {
         ensures last { IsTrue result → IsLast self.old.start seat.new.knows
             (publication_of self.old) }
         ensures board { IsOf seat.new board.now }
-        ensures steps { steps.new ≡ steps.old + 1 }
-        ensures exchanges { exchanges.new ≡ exchanges.old }
+        ensures steps { seat.new.steps ≡ raised seat.old.steps 1 }
+        ensures exchanges { seat.new.exchanges ≡ seat.old.exchanges }
     {
         board.book().known();
         seat.known();
         if self.stored < RECORD_WORDS + board.book().processes() {
             let word = record_word(&self.rec.entry, &self.rec.view, self.stored);
-            board.store_record_word(seat, self.stored, word, steps, exchanges);
+            board.store_record_word(seat, self.stored, word);
             self.stored += 1;
             self.mark = Snapshot::of(seat);
             false
         } else {
-            board.publish(seat, steps, exchanges);
+            board.publish(seat);
             self.stored += 1;
             self.mark = Snapshot::of(seat);
             true

@@ -1,6 +1,7 @@
 //! Asking, a store a turn.
 
 ghost use Rattle.std.specs.Prelude.{◌≡◌, ℕ, ◌+◌, ◌<◌, ◌≤◌, ◌↔◌, length, IfSome, IsSome};
+ghost use Rattle.at_board.specs.Counting.{raised};
 ghost use Rattle.at_board.specs.Knowledge.Parts.{asking_on, own_part};
 ghost use Rattle.at_board.specs.Knowledge.Seats.{IsOf};
 ghost use Rattle.at_board.specs.Steps.Announce.{Announces};
@@ -9,12 +10,11 @@ ghost use Rattle.at_ledger.specs.Book.{HasSlot};
 ghost use Rattle.at_rows.specs.Asks.{HasAsked, HasLoadedNothing, MayAskFor, asked_for, opened};
 ghost use Rattle.at_machines.specs.Asking.{StoresNextRequestWord, asking_after, request_asked, starting_to_ask};
 
-use at_board::{Board, BoardSeat, REQUEST_WORDS, Steps};
+use at_board::{Board, BoardSeat, REQUEST_WORDS};
 use at_ledger::Targets;
 use at_rows::{OpenRequest, request_word};
 use std::marker::Model;
 use std::snapshot::Snapshot;
-use std::sync::ledger::Ledger;
 
 /// Asking in the making: a store of each word of the request, by rising number, and then the store that announces it.
 #[derive(Drop)]
@@ -86,12 +86,10 @@ impl Asking {
 
     /// Stores the next word of the request, in one step, and announces it once all are stored. That turn answers its number among
     /// those of its slot.
-    pub fn turn<L: Ledger, X: Ledger>(
+    pub fn turn(
         &mut self,
         board: &Board,
         seat: &mut BoardSeat,
-        steps: &mut Steps<L>,
-        exchanges: &mut Steps<X>,
     ) -> Option<u32>
         requires board { IsOf seat.old board.now }
         requires mark { seat.old.knows ≡ self.old.mark }
@@ -113,18 +111,18 @@ impl Asking {
         ensures nothing { IfSome result (λ number. HasLoadedNothing seat.new.knows
             self.old.account) }
         ensures board { IsOf seat.new board.now }
-        ensures steps { steps.new ≡ steps.old + 1 }
-        ensures exchanges { exchanges.new ≡ exchanges.old }
+        ensures steps { seat.new.steps ≡ raised seat.old.steps 1 }
+        ensures exchanges { seat.new.exchanges ≡ seat.old.exchanges }
     {
         if self.stored < REQUEST_WORDS {
             let word = request_word(&self.targets, self.since, self.stored);
-            board.store_request_word(seat, self.account, self.stored, word, steps, exchanges);
+            board.store_request_word(seat, self.account, self.stored, word);
             self.stored += 1;
             self.mark = Snapshot::of(seat);
             None
         } else {
             let number = board.announced(seat, self.account);
-            board.announce(seat, self.account, steps, exchanges);
+            board.announce(seat, self.account);
             self.stored += 1;
             self.mark = Snapshot::of(seat);
             Some(number)

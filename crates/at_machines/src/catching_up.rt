@@ -2,6 +2,7 @@
 
 ghost use Rattle.std.specs.Prelude.{◌≡◌, ℕ, ◌+◌, ◌-◌, ◌*◌, ◌<◌, ◌≤◌, ◌↔◌, IfSome, IsSome, IsTrue, None, Some, length, slice_index, sum};
 ghost use Rattle.at_base.specs.Counts.{Covers};
+ghost use Rattle.at_board.specs.Counting.{stepped};
 ghost use Rattle.at_board.specs.Knowledge.Seats.{IsOf};
 ghost use Rattle.at_board.specs.declared.words.TheConstants.{RECORD_WORDS};
 ghost use Rattle.at_fold.specs.CatchingUp.{IsCatchingUp};
@@ -12,11 +13,10 @@ ghost use Rattle.at_machines.specs.Loading.{starting_loading};
 
 use crate::loading_entry::LoadingEntry;
 use at_base::Counts;
-use at_board::{Board, BoardSeat, Steps};
+use at_board::{Board, BoardSeat};
 use at_fold::Totals;
 use std::marker::Model;
 use std::snapshot::Snapshot;
-use std::sync::ledger::Ledger;
 
 /// Totals on their way to counts: a load of each word of each record that the counts count and the totals don't, by process and
 /// then by rising number. A record is counted when its entry is whole.
@@ -97,13 +97,11 @@ impl CatchingUp {
 
     /// Loads the next word of the next record, in one step, and counts the record once its entry is whole. After the last one it
     /// answers the counts.
-    pub fn turn<L: Ledger, X: Ledger>(
+    pub fn turn(
         &mut self,
         board: &Board,
         seat: &mut BoardSeat,
         totals: &mut Totals,
-        steps: &mut Steps<L>,
-        exchanges: &mut Steps<X>,
     ) -> Option<Counts>
         requires board { IsOf seat.old board.now }
         requires mark { seat.old.knows ≡ self.old.knows }
@@ -119,16 +117,14 @@ impl CatchingUp {
         ensures stays { StaysCounted totals.new board.now.book seat.new.knows.seen }
         ensures upto { IfSome result (λ counts. totals.new.upto ≡ counts) }
         ensures whole { IfSome result (λ counts. counts ≡ self.old.counts) }
-        ensures same { seat.new ≡ seat.old }
-        ensures steps { steps.new ≡ steps.old + 1 }
-        ensures exchanges { exchanges.new ≡ exchanges.old }
+        ensures same { seat.new ≡ stepped seat.old 1 }
     {
         seat.known();
         let Some(loading) = &mut self.loading else {
             // Some load is left.
             unreachable!()
         };
-        let entry = loading.turn(board, seat, steps, exchanges)?;
+        let entry = loading.turn(board, seat)?;
         let upto = totals.counted(self.process) + 1;
         totals.count(self.process, upto, &entry);
         *self = CatchingUp::at(seat, totals, self.counts.copy(), self.process);

@@ -1,15 +1,15 @@
 //! A collect, a load a turn.
 
 ghost use Rattle.std.specs.Prelude.{◌≡◌, ◌+◌, ◌<◌, ◌↔◌, IfSome, IsSome};
+ghost use Rattle.at_board.specs.Counting.{raised};
 ghost use Rattle.at_board.specs.Knowledge.Seats.{IsOf};
 ghost use Rattle.at_snapshot.specs.Collected.{IsCollect, collect_of};
 ghost use Rattle.at_machines.specs.Collecting.{LoadsLengthOf, collecting_after, starting_collecting};
 
 use at_base::Counts;
-use at_board::{Board, BoardSeat, Steps};
+use at_board::{Board, BoardSeat};
 use std::marker::Model;
 use std::snapshot::Snapshot;
-use std::sync::ledger::Ledger;
 
 /// A collect in the making: a load of each length, in the order of the processes.
 #[derive(Drop)]
@@ -58,12 +58,10 @@ impl Collecting {
     }
 
     /// Loads the length of the next process, in one step. After the last one it answers the counts.
-    pub fn turn<L: Ledger, X: Ledger>(
+    pub fn turn(
         &mut self,
         board: &Board,
         seat: &mut BoardSeat,
-        steps: &mut Steps<L>,
-        exchanges: &mut Steps<X>,
     ) -> Option<Counts>
         requires board { IsOf seat.old board.now }
         requires mark { seat.old.knows ≡ self.old.mark }
@@ -75,12 +73,12 @@ impl Collecting {
             seat.new.knows) }
         ensures counts { IfSome result (λ counts. counts ≡ collect_of seat.new.knows) }
         ensures board { IsOf seat.new board.now }
-        ensures steps { steps.new ≡ steps.old + 1 }
-        ensures exchanges { exchanges.new ≡ exchanges.old }
+        ensures steps { seat.new.steps ≡ raised seat.old.steps 1 }
+        ensures exchanges { seat.new.exchanges ≡ seat.old.exchanges }
     {
         board.book().known();
         seat.known();
-        let count = board.load_length(seat, self.loaded, steps, exchanges);
+        let count = board.load_length(seat, self.loaded);
         self.counts.set(self.loaded, count);
         self.loaded += 1;
         self.mark = Snapshot::of(seat);

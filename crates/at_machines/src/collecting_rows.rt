@@ -1,6 +1,7 @@
 //! Collecting the rows of an account, a load a turn.
 
 ghost use Rattle.std.specs.Prelude.{◌≡◌, ◌≢◌, ◌+◌, ◌-◌, ◌*◌, ◌≤◌, ◌↔◌, length, IfSome, IsSome};
+ghost use Rattle.at_board.specs.Counting.{raised};
 ghost use Rattle.at_board.specs.Knowledge.Candidates.{HasLoadedRows};
 ghost use Rattle.at_board.specs.Knowledge.Seats.{IsOf};
 ghost use Rattle.at_board.specs.declared.words.TheConstants.{REQUEST_WORDS};
@@ -12,12 +13,11 @@ ghost use Rattle.at_machines.specs.CollectingRows.{MakesNextLoad, rows_after, st
 ghost use Rattle.at_machines.specs.LoadingRow.{NextRowLoad};
 
 use crate::loading_row::LoadingRow;
-use at_board::{Board, BoardSeat, Steps};
+use at_board::{Board, BoardSeat};
 use at_rows::{Asked, OpenRequest};
 use std::marker::Model;
 use std::mem::replace;
 use std::snapshot::Snapshot;
-use std::sync::ledger::Ledger;
 
 /// Collecting the rows of an account in the making: the row of each owner, in the order of the slots.
 #[derive(Drop)]
@@ -72,12 +72,10 @@ impl CollectingRows {
     }
 
     /// Makes the next load, in one step. After the last one it answers the requests that were found.
-    pub fn turn<L: Ledger, X: Ledger>(
+    pub fn turn(
         &mut self,
         board: &Board,
         seat: &mut BoardSeat,
-        steps: &mut Steps<L>,
-        exchanges: &mut Steps<X>,
     ) -> Option<Asked>
         requires board { IsOf seat.old board.now }
         requires mark { seat.old.knows ≡ self.old.mark }
@@ -101,12 +99,12 @@ impl CollectingRows {
         ensures most { self.new.made ≤ slots_of (account_of board.now.book self.old.account)
             + REQUEST_WORDS * (slots_of (account_of board.now.book self.old.account) - 1) }
         ensures board { IsOf seat.new board.now }
-        ensures steps { steps.new ≡ steps.old + 1 }
-        ensures exchanges { exchanges.new ≡ exchanges.old }
+        ensures steps { seat.new.steps ≡ raised seat.old.steps 1 }
+        ensures exchanges { seat.new.exchanges ≡ seat.old.exchanges }
     {
         let slots = board.book().slot_count(self.row.account());
         self.made += 1;
-        let found = self.row.turn(board, seat, steps, exchanges)?;
+        let found = self.row.turn(board, seat)?;
         self.asked.add(found);
         let next = self.row.slot() + 1;
         if next == slots {

@@ -1,6 +1,7 @@
 //! One round of a shared payment, a step a turn.
 
 ghost use Rattle.std.specs.Prelude.{◌≡◌, ◌+◌, ◌<◌, ◌↔◌, false, slice_index, slice_set, IfSome, IsSome};
+ghost use Rattle.at_board.specs.Counting.{raised};
 ghost use Rattle.at_board.specs.Knowledge.Parts.{SeesDecision, own_part};
 ghost use Rattle.at_board.specs.Knowledge.Seats.{IsOf};
 ghost use Rattle.at_fold.specs.HasCounted.{CountsFront, HasCounted};
@@ -17,13 +18,12 @@ use crate::appending::Appending;
 use crate::loading_request::LoadingRequest;
 use crate::round_stage::RoundStage;
 use at_base::{Counts, Decision};
-use at_board::{Board, BoardSeat, Steps};
+use at_board::{Board, BoardSeat};
 use at_fold::Totals;
 use at_rounds::propose;
 use at_shared::{Helping, record_of_round};
 use std::marker::Model;
 use std::snapshot::Snapshot;
-use std::sync::ledger::Ledger;
 
 /// A round in the making: the exchange on its cell, the loads of the request that was decided, and the stores of its record.
 #[derive(Drop)]
@@ -109,13 +109,11 @@ impl Deciding {
     }
 
     /// Makes the next step of the round, in one step. The last one publishes and counts its record, and answers the decision.
-    pub fn turn<L: Ledger, X: Ledger>(
+    pub fn turn(
         &mut self,
         board: &Board,
         seat: &mut BoardSeat,
         totals: &mut Totals,
-        steps: &mut Steps<L>,
-        exchanges: &mut Steps<X>,
     ) -> Option<Decision>
         requires board { IsOf seat.old board.now }
         requires mark { seat.old.knows ≡ self.old.mark }
@@ -133,8 +131,8 @@ impl Deciding {
             seat.new.knows.seen) }
         ensures waits { 0 < self.new.left → totals.new ≡ totals.old }
         ensures board { IsOf seat.new board.now }
-        ensures steps { steps.new ≡ steps.old + 1 }
-        ensures exchanges { exchanges.new ≡ exchanges.old + exchanges_in self.old.next }
+        ensures steps { seat.new.steps ≡ raised seat.old.steps 1 }
+        ensures exchanges { seat.new.exchanges ≡ raised seat.old.exchanges (exchanges_in self.old.next) }
     {
         seat.known();
         let (a, r) = (self.account, self.round);
@@ -142,14 +140,14 @@ impl Deciding {
             RoundStage::Proposing(proposal) => {
                 // Right here: at the front exactly the rounds before this one stand. Others may have decided it before, or do so
                 // at the same time: one proposal wins, and all are answered that decision.
-                let decision = propose(board, seat, a, r, proposal, steps, exchanges);
+                let decision = propose(board, seat, a, r, proposal);
                 self.mark = Snapshot::of(seat);
                 let loading = decided_request(seat, a, r, &decision);
                 self.stage = RoundStage::Loading(decision, loading);
                 None
             }
             RoundStage::Loading(decision, loading) => {
-                let loaded = loading.turn(board, seat, steps, exchanges);
+                let loaded = loading.turn(board, seat);
                 self.mark = Snapshot::of(seat);
                 let targets = loaded?.targets;
                 let decision = *decision;
@@ -158,7 +156,7 @@ impl Deciding {
                 None
             }
             RoundStage::Publishing(decision, appending) => {
-                let published = appending.turn(board, seat, steps, exchanges);
+                let published = appending.turn(board, seat);
                 self.mark = Snapshot::of(seat);
                 if !published {
                     return None;

@@ -1,16 +1,16 @@
 //! A load of a record's entry, a word a turn.
 
 ghost use Rattle.std.specs.Prelude.{◌≡◌, ◌+◌, ◌<◌, ◌↔◌, IfSome, IsSome};
+ghost use Rattle.at_board.specs.Counting.{stepped};
 ghost use Rattle.at_board.specs.Knowledge.Records.{SeesRecord};
 ghost use Rattle.at_board.specs.Knowledge.Seats.{IsOf};
 ghost use Rattle.at_board.specs.declared.words.TheConstants.{RECORD_WORDS};
 ghost use Rattle.at_log.specs.Loading.{IsEntryOf};
 ghost use Rattle.at_machines.specs.Loading.{loading_after, starting_loading};
 
-use at_board::{Board, BoardSeat, Entry, RECORD_WORDS, Steps, entry_of};
+use at_board::{Board, BoardSeat, Entry, RECORD_WORDS, entry_of};
 use std::marker::Model;
 use std::snapshot::Snapshot;
-use std::sync::ledger::Ledger;
 
 /// A load of an entry in the making: a load of each of its words, by rising number.
 #[derive(Drop)]
@@ -63,12 +63,10 @@ impl LoadingEntry {
     }
 
     /// Loads the next word of the entry, in one step. After the last one it answers the entry.
-    pub fn turn<L: Ledger, X: Ledger>(
+    pub fn turn(
         &mut self,
         board: &Board,
         seat: &mut BoardSeat,
-        steps: &mut Steps<L>,
-        exchanges: &mut Steps<X>,
     ) -> Option<Entry>
         requires board { IsOf seat.old board.now }
         requires mark { seat.old.knows ≡ self.old.knows }
@@ -77,14 +75,12 @@ impl LoadingEntry {
         ensures ends { IsSome result ↔ (self.new.loaded ≡ RECORD_WORDS) }
         ensures entry { IfSome result (λ entry. IsEntryOf self.old.knows self.old.process
             self.old.number entry) }
-        ensures same { seat.new ≡ seat.old }
-        ensures steps { steps.new ≡ steps.old + 1 }
-        ensures exchanges { exchanges.new ≡ exchanges.old }
+        ensures same { seat.new ≡ stepped seat.old 1 }
     {
         board.book().known();
         seat.known();
         let (p, i, j) = (self.process, self.number, self.loaded);
-        self.words[j as usize] = board.load_record_word(seat, p, i, j, steps, exchanges);
+        self.words[j as usize] = board.load_record_word(seat, p, i, j);
         self.loaded += 1;
         if self.loaded < RECORD_WORDS {
             return None;

@@ -1,17 +1,17 @@
 //! A load of an announced request, a word a turn.
 
 ghost use Rattle.std.specs.Prelude.{◌≡◌, ◌+◌, ◌<◌, ◌↔◌, IfSome, IsSome};
+ghost use Rattle.at_board.specs.Counting.{raised};
 ghost use Rattle.at_board.specs.Knowledge.Seats.{IsOf};
 ghost use Rattle.at_board.specs.Steps.LoadRequestWord.{KnowsOf};
 ghost use Rattle.at_board.specs.declared.words.TheConstants.{REQUEST_WORDS};
 ghost use Rattle.at_rows.specs.Loads.{LoadsRequest};
 ghost use Rattle.at_machines.specs.LoadingRequest.{LoadsNextRequestWord, request_after, starting_request};
 
-use at_board::{Board, BoardSeat, REQUEST_WORDS, Steps};
+use at_board::{Board, BoardSeat, REQUEST_WORDS};
 use at_rows::{OpenRequest, request_from};
 use std::marker::Model;
 use std::snapshot::Snapshot;
-use std::sync::ledger::Ledger;
 
 /// A load of an announced request in the making: a load of each of its words, by rising number.
 #[derive(Drop)]
@@ -74,12 +74,10 @@ impl LoadingRequest {
     }
 
     /// Loads the next word of the request, in one step. After the last one it answers the request, whole as it was announced.
-    pub fn turn<L: Ledger, X: Ledger>(
+    pub fn turn(
         &mut self,
         board: &Board,
         seat: &mut BoardSeat,
-        steps: &mut Steps<L>,
-        exchanges: &mut Steps<X>,
     ) -> Option<OpenRequest>
         requires board { IsOf seat.old board.now }
         requires mark { seat.old.knows ≡ self.old.mark }
@@ -90,11 +88,11 @@ impl LoadingRequest {
         ensures request { IfSome result (LoadsRequest board.now.book self.old.start seat.new.knows
             self.old.account self.old.slot self.old.number) }
         ensures board { IsOf seat.new board.now }
-        ensures steps { steps.new ≡ steps.old + 1 }
-        ensures exchanges { exchanges.new ≡ exchanges.old }
+        ensures steps { seat.new.steps ≡ raised seat.old.steps 1 }
+        ensures exchanges { seat.new.exchanges ≡ seat.old.exchanges }
     {
         let (a, s, i, j) = (self.account, self.slot, self.number, self.loaded);
-        self.words[j as usize] = board.load_request_word(seat, a, s, i, j, steps, exchanges);
+        self.words[j as usize] = board.load_request_word(seat, a, s, i, j);
         self.loaded += 1;
         self.mark = Snapshot::of(seat);
         if self.loaded < REQUEST_WORDS {

@@ -1,6 +1,7 @@
 //! A load of an owner's row, a word a turn.
 
 ghost use Rattle.std.specs.Prelude.{◌≡◌, ◌≢◌, ◌+◌, ◌<◌, ◌↔◌, length, IfSome, IsSome};
+ghost use Rattle.at_board.specs.Counting.{raised};
 ghost use Rattle.at_board.specs.Knowledge.Parts.{SeesRequest};
 ghost use Rattle.at_board.specs.Knowledge.Seats.{IsOf};
 ghost use Rattle.at_ledger.specs.Account.{slots_of};
@@ -11,11 +12,10 @@ ghost use Rattle.at_machines.specs.LoadingRow.{MakesRowLoad, NextRowLoad, row_af
 
 use crate::loading_request::LoadingRequest;
 use crate::row_stage::RowStage;
-use at_board::{Board, BoardSeat, Steps};
+use at_board::{Board, BoardSeat};
 use at_rows::OpenRequest;
 use std::marker::Model;
 use std::snapshot::Snapshot;
-use std::sync::ledger::Ledger;
 
 /// A load of one owner's row in the making: its announced word, and at once of another owner than the caller the last request
 /// that the word counts.
@@ -95,12 +95,10 @@ impl LoadingRow {
     }
 
     /// Makes the next load of the row, in one step. After the last one it answers what is found there, if anything is.
-    pub(crate) fn turn<L: Ledger, X: Ledger>(
+    pub(crate) fn turn(
         &mut self,
         board: &Board,
         seat: &mut BoardSeat,
-        steps: &mut Steps<L>,
-        exchanges: &mut Steps<X>,
     ) -> Option<Option<OpenRequest>>
         requires board { IsOf seat.old board.now }
         requires mark { seat.old.knows ≡ self.old.mark }
@@ -113,13 +111,13 @@ impl LoadingRow {
         ensures turns { IfSome result (λ found. row_turns self.old.next + 1
             ≡ row_steps self.old.own.slot self.old.slot found) }
         ensures board { IsOf seat.new board.now }
-        ensures steps { steps.new ≡ steps.old + 1 }
-        ensures exchanges { exchanges.new ≡ exchanges.old }
+        ensures steps { seat.new.steps ≡ raised seat.old.steps 1 }
+        ensures exchanges { seat.new.exchanges ≡ seat.old.exchanges }
     {
         match &mut self.stage {
             RowStage::Announced => {
                 let (account, slot) = (self.account, self.slot);
-                let count = board.load_announced(seat, account, slot, steps, exchanges);
+                let count = board.load_announced(seat, account, slot);
                 self.mark = Snapshot::of(seat);
                 if slot == self.own.slot {
                     self.stage = RowStage::Ended;
@@ -133,7 +131,7 @@ impl LoadingRow {
                 None
             }
             RowStage::Last(loading) => {
-                let last = loading.turn(board, seat, steps, exchanges);
+                let last = loading.turn(board, seat);
                 self.mark = Snapshot::of(seat);
                 let found = last?;
                 self.stage = RowStage::Ended;

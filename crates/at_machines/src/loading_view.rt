@@ -1,16 +1,16 @@
 //! A load of a record's view, a word a turn.
 
 ghost use Rattle.std.specs.Prelude.{◌≡◌, ◌+◌, ◌<◌, ◌↔◌, IfSome, IsSome};
+ghost use Rattle.at_board.specs.Counting.{stepped};
 ghost use Rattle.at_board.specs.Knowledge.Records.{SeesRecord};
 ghost use Rattle.at_board.specs.Knowledge.Seats.{IsOf};
 ghost use Rattle.at_log.specs.Loading.{IsViewOf};
 ghost use Rattle.at_machines.specs.Loading.{loading_after, starting_loading};
 
 use at_base::Counts;
-use at_board::{Board, BoardSeat, RECORD_WORDS, Steps};
+use at_board::{Board, BoardSeat, RECORD_WORDS};
 use std::marker::Model;
 use std::snapshot::Snapshot;
-use std::sync::ledger::Ledger;
 
 /// A load of a view in the making: a load of each of its words, by rising number.
 #[derive(Drop)]
@@ -65,12 +65,10 @@ impl LoadingView {
     }
 
     /// Loads the next word of the view, in one step. After the last one it answers the view.
-    pub fn turn<L: Ledger, X: Ledger>(
+    pub fn turn(
         &mut self,
         board: &Board,
         seat: &mut BoardSeat,
-        steps: &mut Steps<L>,
-        exchanges: &mut Steps<X>,
     ) -> Option<Counts>
         requires board { IsOf seat.old board.now }
         requires mark { seat.old.knows ≡ self.old.knows }
@@ -79,14 +77,12 @@ impl LoadingView {
         ensures ends { IsSome result ↔ (self.new.loaded ≡ board.now.book.processes) }
         ensures view { IfSome result (λ view. IsViewOf self.old.knows self.old.process
             self.old.number view) }
-        ensures same { seat.new ≡ seat.old }
-        ensures steps { steps.new ≡ steps.old + 1 }
-        ensures exchanges { exchanges.new ≡ exchanges.old }
+        ensures same { seat.new ≡ stepped seat.old 1 }
     {
         board.book().known();
         seat.known();
         let (p, i, q) = (self.process, self.number, self.loaded);
-        let count = board.load_record_word(seat, p, i, RECORD_WORDS + q, steps, exchanges);
+        let count = board.load_record_word(seat, p, i, RECORD_WORDS + q);
         self.view.set(q, count as u32);
         self.loaded += 1;
         if self.loaded < board.book().processes() {

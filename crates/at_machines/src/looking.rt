@@ -1,6 +1,7 @@
 //! What each call does first, a load a turn.
 
 ghost use Rattle.std.specs.Prelude.{◌≡◌, ◌+◌, ◌<◌, ◌↔◌, IfSome, IsSome, length, sum};
+ghost use Rattle.at_board.specs.Counting.{raised};
 ghost use Rattle.at_board.specs.Knowledge.Seats.{IsOf};
 ghost use Rattle.at_fold.specs.HasCounted.{HasCounted, StaysCounted};
 ghost use Rattle.at_single.specs.Looks.{HasLooked};
@@ -11,11 +12,10 @@ use crate::catching_up::CatchingUp;
 use crate::look_stage::LookStage;
 use crate::snapping::Snapping;
 use at_base::Counts;
-use at_board::{Board, BoardSeat, Steps};
+use at_board::{Board, BoardSeat};
 use at_fold::Totals;
 use std::marker::Model;
 use std::snapshot::Snapshot;
-use std::sync::ledger::Ledger;
 
 /// A look in the making: a snapshot, and then a load of each word of the records that it counts and the totals don't.
 #[derive(Drop)]
@@ -84,13 +84,11 @@ impl Looking {
 
     /// Makes the next load of the look, in one step. With the last one, the totals have counted what the snapshot counts, and it
     /// answers the front.
-    pub fn turn<L: Ledger, X: Ledger>(
+    pub fn turn(
         &mut self,
         board: &Board,
         seat: &mut BoardSeat,
         totals: &mut Totals,
-        steps: &mut Steps<L>,
-        exchanges: &mut Steps<X>,
     ) -> Option<Counts>
         requires board { IsOf seat.old board.now }
         requires mark { seat.old.knows ≡ self.old.mark }
@@ -113,13 +111,13 @@ impl Looking {
         ensures within { IfSome result (λ front. IsWithin board.now.book.processes self.old.was
             (sum front) self.new.turns) }
         ensures board { IsOf seat.new board.now }
-        ensures steps { steps.new ≡ steps.old + 1 }
-        ensures exchanges { exchanges.new ≡ exchanges.old }
+        ensures steps { seat.new.steps ≡ raised seat.old.steps 1 }
+        ensures exchanges { seat.new.exchanges ≡ seat.old.exchanges }
     {
         seat.known();
         match &mut self.stage {
             LookStage::Snap(snapping) => {
-                let snapped = snapping.turn(board, seat, steps, exchanges);
+                let snapped = snapping.turn(board, seat);
                 self.turns += 1;
                 self.mark = Snapshot::of(seat);
                 let front = snapped?;
@@ -129,7 +127,7 @@ impl Looking {
                 if is_ended { Some(front) } else { None }
             }
             LookStage::CatchUp(catching) => {
-                let caught = catching.turn(board, seat, totals, steps, exchanges);
+                let caught = catching.turn(board, seat, totals);
                 self.turns += 1;
                 self.totals = Snapshot::of(totals);
                 caught

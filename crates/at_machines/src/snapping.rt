@@ -1,6 +1,7 @@
 //! A snapshot, a load a turn.
 
 ghost use Rattle.std.specs.Prelude.{◌≡◌, ◌+◌, ◌<◌, ◌↔◌, IfSome, IsSome};
+ghost use Rattle.at_board.specs.Counting.{raised};
 ghost use Rattle.at_board.specs.Knowledge.Seats.{IsOf};
 ghost use Rattle.at_snapshot.specs.Collected.{HasLoaded};
 ghost use Rattle.at_snapshot.specs.Snapshots.{HasCollected, IsSnapshot, snapshot_steps};
@@ -9,11 +10,10 @@ ghost use Rattle.at_machines.specs.Snapping.{MakesLoad, MayFollow, length_of};
 use crate::collecting::Collecting;
 use crate::stage::Stage;
 use at_base::Counts;
-use at_board::{Board, BoardSeat, Steps};
+use at_board::{Board, BoardSeat};
 use at_snapshot::Collects;
 use std::marker::Model;
 use std::snapshot::Snapshot;
-use std::sync::ledger::Ledger;
 
 /// A snapshot in the making: collects, until one equals the one before it or some process has published twice since the first,
 /// and then the load of that process's last view.
@@ -67,12 +67,10 @@ impl Snapping {
     }
 
     /// Makes the next load of the snapshot, in one step. After the last one it answers the counts.
-    pub fn turn<L: Ledger, X: Ledger>(
+    pub fn turn(
         &mut self,
         board: &Board,
         seat: &mut BoardSeat,
-        steps: &mut Steps<L>,
-        exchanges: &mut Steps<X>,
     ) -> Option<Counts>
         requires board { IsOf seat.old board.now }
         requires mark { seat.old.knows ≡ self.old.mark }
@@ -88,17 +86,15 @@ impl Snapping {
         ensures collects { IfSome result (λ counts. HasCollected board.now.book self.old.start
             seat.new.knows (board.now.book.processes + 1)) }
         ensures board { IsOf seat.new board.now }
-        ensures steps { steps.new ≡ steps.old + 1 }
-        ensures exchanges { exchanges.new ≡ exchanges.old }
+        ensures steps { seat.new.steps ≡ raised seat.old.steps 1 }
+        ensures exchanges { seat.new.exchanges ≡ seat.old.exchanges }
     {
         seat.known();
         let counts = self.stage.turn(
             board,
             seat,
             &mut self.collects,
-            &mut self.collected,
-            steps,
-            exchanges,
+            &mut self.collected
         );
         self.mark = Snapshot::of(seat);
         counts

@@ -1,6 +1,7 @@
 //! Where a snapshot in the making stands.
 
 ghost use Rattle.std.specs.Prelude.{◌≡◌, ℕ, ◌+◌, ◌<◌, ◌≤◌, length, slice_index};
+ghost use Rattle.at_board.specs.Counting.{raised};
 ghost use Rattle.at_board.specs.Knowledge.Seats.{IsOf};
 ghost use Rattle.at_board.specs.declared.knowledge.Knowledge.{Knowledge};
 ghost use Rattle.at_history.specs.Publications.{count_of};
@@ -12,9 +13,8 @@ ghost use Rattle.at_machines.specs.Snapping.{left_of};
 use crate::collecting::Collecting;
 use crate::loading_view::LoadingView;
 use at_base::Counts;
-use at_board::{Board, BoardSeat, Steps};
+use at_board::{Board, BoardSeat};
 use at_snapshot::{Collects, Verdict, add_collect, compare};
-use std::sync::ledger::Ledger;
 
 /// What a snapshot's next turn goes on with.
 #[derive(Drop)]
@@ -30,14 +30,12 @@ pub(crate) enum Stage {
 impl Stage {
     /// Makes the next load, in one step, of a snapshot with these collects, of which so many are whole. After the last load it
     /// answers the counts.
-    pub(crate) fn turn<L: Ledger, X: Ledger>(
+    pub(crate) fn turn(
         &mut self,
         board: &Board,
         seat: &mut BoardSeat,
         collects: &mut Option<Collects>,
         collected: &mut u32,
-        steps: &mut Steps<L>,
-        exchanges: &mut Steps<X>,
     ) -> Option<Counts>
         requires board { IsOf seat.old board.now }
         requires so { (start : Knowledge)
@@ -48,17 +46,17 @@ impl Stage {
             → TurnsStage board.now.book start seat.old seat.new collected.old self.old
             collects.new collected.new self.new result }
         ensures board { IsOf seat.new board.now }
-        ensures steps { steps.new ≡ steps.old + 1 }
-        ensures exchanges { exchanges.new ≡ exchanges.old }
+        ensures steps { seat.new.steps ≡ raised seat.old.steps 1 }
+        ensures exchanges { seat.new.exchanges ≡ seat.old.exchanges }
     {
         match self {
             Stage::Collect(collecting) => {
-                let now = collecting.turn(board, seat, steps, exchanges)?;
+                let now = collecting.turn(board, seat)?;
                 *collected += 1;
                 self.judge(board, seat, collects, now)
             }
             Stage::Borrow(loading) => {
-                let view = loading.turn(board, seat, steps, exchanges)?;
+                let view = loading.turn(board, seat)?;
                 *self = Stage::Ended;
                 Some(view)
             }

@@ -1,6 +1,7 @@
 //! Notes: what one pass has seen, handed to another.
 
 ghost use Rattle.std.specs.Prelude.{◌≡◌, ℕ, ◌+◌, List};
+ghost use Rattle.at_board.specs.Counting.{raised};
 ghost use Rattle.at_board.specs.Knowledge.Seats.{IsOf};
 ghost use Rattle.at_history.specs.Moves.{AreRuns};
 ghost use Rattle.at_history.specs.Publications.{IsPrefix, longer};
@@ -9,9 +10,8 @@ ghost use Rattle.at_object.specs.Passes.{IsPassOf, Stands, asked_by, sent_by};
 
 use crate::ledger::Ledger;
 use crate::pass::Pass;
-use at_board::{BoardNote, Steps};
+use at_board::BoardNote;
 use std::marker::Model;
-use std::sync::ledger;
 
 /// What a pass had seen when the note was made, to be handed to another pass. It takes no memory.
 #[derive(Drop)]
@@ -30,32 +30,28 @@ impl Model for Note {
 impl Ledger {
     /// A note of what the pass has seen, for another pass. It counts as an exchange, since it hands over what no word says. Takes no
     /// memory.
-    pub fn note<L: ledger::Ledger, X: ledger::Ledger>(
+    pub fn note(
         &self,
         pass: &mut Pass,
-        steps: &mut Steps<L>,
-        exchanges: &mut Steps<X>,
     ) -> Note
         requires pass { IsPassOf pass.old self.now }
         ensures note { IsOf result self.now }
         ensures seen { result.knows.seen ≡ pass.old.knows.seen }
         ensures same { pass.new ≡ pass.old }
-        ensures steps { steps.new ≡ steps.old + 1 }
-        ensures exchanges { exchanges.new ≡ exchanges.old + 1 }
+        ensures steps { pass.new.steps ≡ raised pass.old.steps 1 }
+        ensures exchanges { pass.new.exchanges ≡ raised pass.old.exchanges 1 }
     {
         Note {
-            note: self.board.note(&mut pass.seat, steps, exchanges),
+            note: self.board.note(&mut pass.seat),
         }
     }
 
     /// Takes in a note, so that the pass's later calls come after all that the note has seen. It counts as an exchange. Takes no
     /// memory.
-    pub fn learn<L: ledger::Ledger, X: ledger::Ledger>(
+    pub fn learn(
         &self,
         pass: &mut Pass,
         note: Note,
-        steps: &mut Steps<L>,
-        exchanges: &mut Steps<X>,
     )
         requires pass { IsPassOf pass.old self.now }
         requires note { IsOf note self.now }
@@ -71,11 +67,11 @@ impl Ledger {
         ensures sent { sent_by pass.new ≡ sent_by pass.old }
         ensures asked { (a : ℕ) → asked_by pass.new a ≡ asked_by pass.old a }
         ensures counted { pass.new.counted ≡ pass.old.counted }
-        ensures steps { steps.new ≡ steps.old + 1 }
-        ensures exchanges { exchanges.new ≡ exchanges.old + 1 }
+        ensures steps { pass.new.steps ≡ raised pass.old.steps 1 }
+        ensures exchanges { pass.new.exchanges ≡ raised pass.old.exchanges 1 }
     {
         pass.seat.known();
         self.board
-            .learn(&mut pass.seat, note.note, steps, exchanges);
+            .learn(&mut pass.seat, note.note);
     }
 }

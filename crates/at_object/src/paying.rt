@@ -1,6 +1,7 @@
 //! What a transfer and a pay-out do alike.
 
 ghost use Rattle.std.specs.Prelude.{◌≡◌, ◌≢◌, ℕ, ◌+◌, ◌*◌, ◌++◌, ◌<◌, ◌≤◌, List, [], ◌∷◌, length, slice_index, sum, true, false, Some, None, if◌then◌else◌, None};
+ghost use Rattle.at_board.specs.Counting.{raised};
 ghost use Rattle.at_board.specs.Knowledge.Fresh.{IsFresh};
 ghost use Rattle.at_board.specs.Knowledge.Parts.{own_part};
 ghost use Rattle.at_board.specs.Knowledge.Seats.{IsOf};
@@ -26,23 +27,20 @@ ghost use Rattle.at_single.specs.Standing as single;
 
 use crate::ledger::Ledger;
 use crate::pass::Pass;
-use at_board::{Board, BoardSeat, Steps};
+use at_board::{Board, BoardSeat};
 use at_fold::Totals;
 use at_ledger::{Call, Reply};
 use at_log::{At, Receipt};
 use at_shared::{pay_shared, transfer_shared};
 use at_single::{pay_own, transfer_own};
-use std::sync::ledger;
 
 impl Ledger {
     /// Makes a payment, by whichever call.
-    pub(crate) fn pay_by_call<L: ledger::Ledger, X: ledger::Ledger>(
+    pub(crate) fn pay_by_call(
         &self,
         pass: &mut Pass,
         source: u32,
         call: &Call,
-        steps: &mut Steps<L>,
-        exchanges: &mut Steps<X>,
     ) -> Receipt
         requires pass { IsPassOf pass.old self.now }
         requires call { IsPayoutFrom self.now.book source call.now }
@@ -52,14 +50,14 @@ impl Ledger {
         ensures runs { AreRuns self.now.book pass.new.knows.seen }
         ensures pass { IsPassOf pass.new self.now }
         ensures calls { pass.new.calls ≡ one_more_call pass.old.calls }
-        ensures refused_steps { IsRefused result → steps.new ≡ steps.old }
-        ensures refused_exchanges { IsRefused result → exchanges.new ≡ exchanges.old }
-        ensures steps { steps.new ≤ steps.old + payment_steps self.now.book source
+        ensures refused_steps { IsRefused result → seat.new.steps ≡ seat.old.steps }
+        ensures refused_exchanges { IsRefused result → seat.new.exchanges ≡ seat.old.exchanges }
+        ensures steps { seat.new.steps ≤ seat.old.steps + payment_steps self.now.book source
             + RECORD_WORDS * counted_anew pass.old pass.new }
-        ensures exchanges { exchanges.new
-            ≡ exchanges.old + decides_made source pass.old.knows pass.new.knows }
+        ensures exchanges { seat.new.exchanges
+            ≡ raised seat.old.exchanges (decides_made source pass.old.knows pass.new.knows) }
         ensures exchanges_single { is_shared (account_of self.now.book source) ≡ false
-            → exchanges.new ≡ exchanges.old }
+            → seat.new.exchanges ≡ seat.old.exchanges }
         ensures decides { decides_made source pass.old.knows pass.new.knows
             ≤ slots_of (account_of self.now.book source) }
         ensures decides_elsewhere { (a : ℕ) → a ≢ source
@@ -69,9 +67,9 @@ impl Ledger {
         match self.refusal(pass, source) {
             Some(reply) => refuse(pass, call, reply),
             None if self.book().owner_count(source) == 1 => {
-                self.pay_from_single(pass, source, call, steps, exchanges)
+                self.pay_from_single(pass, source, call)
             }
-            None => self.pay_from_shared(pass, source, call, steps, exchanges),
+            None => self.pay_from_shared(pass, source, call),
         }
     }
 
@@ -94,13 +92,11 @@ impl Ledger {
     }
 
     /// A payment from an account of one owner.
-    fn pay_from_single<L: ledger::Ledger, X: ledger::Ledger>(
+    fn pay_from_single(
         &self,
         pass: &mut Pass,
         source: u32,
         call: &Call,
-        steps: &mut Steps<L>,
-        exchanges: &mut Steps<X>,
     ) -> Receipt
         requires pass { IsPassOf pass.old self.now }
         requires call { IsPayoutFrom self.now.book source call.now }
@@ -113,9 +109,9 @@ impl Ledger {
         ensures runs { AreRuns self.now.book pass.new.knows.seen }
         ensures pass { IsPassOf pass.new self.now }
         ensures calls { pass.new.calls ≡ one_more_call pass.old.calls }
-        ensures steps { steps.new ≤ steps.old + single_steps self.now.book.processes
+        ensures steps { seat.new.steps ≤ seat.old.steps + single_steps self.now.book.processes
             + RECORD_WORDS * counted_anew pass.old pass.new }
-        ensures exchanges { exchanges.new ≡ exchanges.old }
+        ensures exchanges { seat.new.exchanges ≡ seat.old.exchanges }
         ensures decides { (a : ℕ) → decides_on pass.new.knows a ≡ decides_on pass.old.knows a }
     {
         pass.seat.known();
@@ -124,9 +120,7 @@ impl Ledger {
             &mut pass.seat,
             &mut pass.totals,
             source,
-            call,
-            steps,
-            exchanges,
+            call
         );
         pass.seat.known();
         pass.sent = sent_after(pass.sent, &receipt.reply);
@@ -135,13 +129,11 @@ impl Ledger {
     }
 
     /// A payment from a shared account.
-    fn pay_from_shared<L: ledger::Ledger, X: ledger::Ledger>(
+    fn pay_from_shared(
         &self,
         pass: &mut Pass,
         source: u32,
         call: &Call,
-        steps: &mut Steps<L>,
-        exchanges: &mut Steps<X>,
     ) -> Receipt
         requires pass { IsPassOf pass.old self.now }
         requires call { IsPayoutFrom self.now.book source call.now }
@@ -155,11 +147,11 @@ impl Ledger {
         ensures runs { AreRuns self.now.book pass.new.knows.seen }
         ensures pass { IsPassOf pass.new self.now }
         ensures calls { pass.new.calls ≡ one_more_call pass.old.calls }
-        ensures steps { steps.new ≤ steps.old + shared_steps self.now.book.processes
+        ensures steps { seat.new.steps ≤ seat.old.steps + shared_steps self.now.book.processes
             (slots_of (account_of self.now.book source))
             + RECORD_WORDS * counted_anew pass.old pass.new }
-        ensures exchanges { exchanges.new
-            ≡ exchanges.old + decides_made source pass.old.knows pass.new.knows }
+        ensures exchanges { seat.new.exchanges
+            ≡ raised seat.old.exchanges (decides_made source pass.old.knows pass.new.knows) }
         ensures decides { decides_made source pass.old.knows pass.new.knows
             ≤ slots_of (account_of self.now.book source) }
         ensures decides_elsewhere { (a : ℕ) → a ≢ source
@@ -171,9 +163,7 @@ impl Ledger {
             &mut pass.seat,
             &mut pass.totals,
             source,
-            call,
-            steps,
-            exchanges,
+            call
         );
         pass.seat.known();
         pass.calls = pass.calls.saturating_add(1);
@@ -208,14 +198,12 @@ fn sent_after(sent: u32, reply: &Reply) -> u32
 }
 
 /// A payment by the seat of the account's one owner.
-fn pay_alone<L: ledger::Ledger, X: ledger::Ledger>(
+fn pay_alone(
     board: &Board,
     seat: &mut BoardSeat,
     totals: &mut Totals,
     source: u32,
     call: &Call,
-    steps: &mut Steps<L>,
-    exchanges: &mut Steps<X>,
 ) -> Receipt
     requires seat { IsOf seat.old board.now }
     requires totals { HasCounted totals.old board.now.book seat.old.knows.seen }
@@ -231,31 +219,29 @@ fn pay_alone<L: ledger::Ledger, X: ledger::Ledger>(
     ensures more { sum totals.old.upto + (own_part seat.new.knows).published
         ≤ sum totals.new.upto + (own_part seat.old.knows).published }
     ensures board { IsOf seat.new board.now }
-    ensures steps { steps.new ≤ steps.old + single_steps board.now.book.processes
+    ensures steps { seat.new.steps ≤ seat.old.steps + single_steps board.now.book.processes
         + RECORD_WORDS * single.newly_counted seat.old.knows seat.new.knows totals.old totals.new }
-    ensures exchanges { exchanges.new ≡ exchanges.old }
+    ensures exchanges { seat.new.exchanges ≡ seat.old.exchanges }
 {
     match call {
         Call::Transfer { from, to, amount } => transfer_own(
-            board, seat, totals, *from, *to, *amount, steps, exchanges,
+            board, seat, totals, *from, *to, *amount
         ),
         // A payment was asked for.
         Call::Read { account: _ } => unreachable!(),
         Call::Pay { from, targets } => pay_own(
-            board, seat, totals, *from, targets, steps, exchanges,
+            board, seat, totals, *from, targets
         ),
     }
 }
 
 /// A payment by the seat of one of the account's owners.
-fn pay_in_round<L: ledger::Ledger, X: ledger::Ledger>(
+fn pay_in_round(
     board: &Board,
     seat: &mut BoardSeat,
     totals: &mut Totals,
     source: u32,
     call: &Call,
-    steps: &mut Steps<L>,
-    exchanges: &mut Steps<X>,
 ) -> Receipt
     requires seat { IsOf seat.old board.now }
     requires totals { HasCounted totals.old board.now.book seat.old.knows.seen }
@@ -270,11 +256,11 @@ fn pay_in_round<L: ledger::Ledger, X: ledger::Ledger>(
     ensures own_counted { slice_index totals.new.upto seat.new.knows.first
         ≡ (own_part seat.new.knows).published }
     ensures board { IsOf seat.new board.now }
-    ensures steps { steps.new ≤ steps.old + shared_steps board.now.book.processes
+    ensures steps { seat.new.steps ≤ seat.old.steps + shared_steps board.now.book.processes
         (slots_of (account_of board.now.book source))
         + RECORD_WORDS * single.newly_counted seat.old.knows seat.new.knows totals.old totals.new }
-    ensures exchanges { exchanges.new
-        ≡ exchanges.old + decides_made source seat.old.knows seat.new.knows }
+    ensures exchanges { seat.new.exchanges
+        ≡ raised seat.old.exchanges (decides_made source seat.old.knows seat.new.knows) }
     ensures decides { decides_made source seat.old.knows seat.new.knows
         ≤ slots_of (account_of board.now.book source) }
     ensures decides_elsewhere { (a : ℕ) → a ≢ source
@@ -282,12 +268,12 @@ fn pay_in_round<L: ledger::Ledger, X: ledger::Ledger>(
 {
     match call {
         Call::Transfer { from, to, amount } => transfer_shared(
-            board, seat, totals, *from, *to, *amount, steps, exchanges,
+            board, seat, totals, *from, *to, *amount
         ),
         // A payment was asked for.
         Call::Read { account: _ } => unreachable!(),
         Call::Pay { from, targets } => pay_shared(
-            board, seat, totals, *from, targets, steps, exchanges,
+            board, seat, totals, *from, targets
         ),
     }
 }

@@ -1,6 +1,7 @@
 //! Payments.
 
 ghost use Rattle.std.specs.Prelude.{◌≡◌, ◌≢◌, ℕ, ◌+◌, ◌*◌, ◌++◌, ◌<◌, ◌≤◌, List, [], ◌∷◌, length, false, true};
+ghost use Rattle.at_board.specs.Counting.{raised};
 ghost use Rattle.at_board.specs.declared.words.TheConstants.{RECORD_WORDS};
 ghost use Rattle.at_history.specs.Moves.{AreRuns};
 ghost use Rattle.at_history.specs.Publications.{IsPrefix};
@@ -19,21 +20,17 @@ ghost use Rattle.at_shared.specs.Settling.{StandsAfter};
 
 use crate::ledger::Ledger;
 use crate::pass::Pass;
-use at_board::Steps;
 use at_ledger::{Call, Targets};
 use at_log::Receipt;
-use std::sync::ledger;
 
 impl Ledger {
     /// Moves the amount from one account to another, as the pay-out with this one target does. Takes no memory.
-    pub fn transfer<L: ledger::Ledger, X: ledger::Ledger>(
+    pub fn transfer(
         &self,
         pass: &mut Pass,
         from: u32,
         to: u32,
         amount: u64,
-        steps: &mut Steps<L>,
-        exchanges: &mut Steps<X>,
     ) -> Receipt
         requires pass { IsPassOf pass.old self.now }
         requires from { from < length self.now.book.accounts }
@@ -63,35 +60,33 @@ impl Ledger {
         ensures refused { IsRefused result
             → pass.new ≡ record pass.old { calls = one_more_call pass.old.calls } }
         ensures refused_at { IsRefused result → result.at ≡ At.Previous }
-        ensures refused_steps { IsRefused result → steps.new ≡ steps.old }
-        ensures refused_exchanges { IsRefused result → exchanges.new ≡ exchanges.old }
+        ensures refused_steps { IsRefused result → pass.new.steps ≡ pass.old.steps }
+        ensures refused_exchanges { IsRefused result → pass.new.exchanges ≡ pass.old.exchanges }
         ensures asked_elsewhere { (a : ℕ) → a ≢ from → asked_by pass.new a ≡ asked_by pass.old a }
         ensures counted { others_counted pass.old ≤ others_counted pass.new }
-        ensures steps { steps.new ≤ steps.old + payment_steps self.now.book from
+        ensures steps { pass.new.steps ≤ pass.old.steps + payment_steps self.now.book from
             + RECORD_WORDS * counted_anew pass.old pass.new }
-        ensures exchanges { exchanges.new
-            ≡ exchanges.old + decides_made from pass.old.knows pass.new.knows }
+        ensures exchanges { pass.new.exchanges
+            ≡ raised pass.old.exchanges (decides_made from pass.old.knows pass.new.knows) }
         ensures exchanges_single { is_shared (account_of self.now.book from) ≡ false
-            → exchanges.new ≡ exchanges.old }
+            → pass.new.exchanges ≡ pass.old.exchanges }
         ensures decides { decides_made from pass.old.knows pass.new.knows
             ≤ slots_of (account_of self.now.book from) }
         ensures decides_elsewhere { (a : ℕ) → a ≢ from
             → decides_on pass.new.knows a ≡ decides_on pass.old.knows a }
     {
         let call = Call::Transfer { from, to, amount };
-        self.pay_by_call(pass, from, &call, steps, exchanges)
+        self.pay_by_call(pass, from, &call)
     }
 
     /// Moves each amount from one account to its target, or none of them. The answer is not-owner where the process doesn't own the
     /// account, full where it has used up its room there, short where the balance doesn't cover the sum, and else done. A short
     /// payment from a shared account uses room too. Takes no memory.
-    pub fn pay<L: ledger::Ledger, X: ledger::Ledger>(
+    pub fn pay(
         &self,
         pass: &mut Pass,
         from: u32,
         targets: &Targets,
-        steps: &mut Steps<L>,
-        exchanges: &mut Steps<X>,
     ) -> Receipt
         requires pass { IsPassOf pass.old self.now }
         requires from { from < length self.now.book.accounts }
@@ -121,16 +116,16 @@ impl Ledger {
         ensures refused { IsRefused result
             → pass.new ≡ record pass.old { calls = one_more_call pass.old.calls } }
         ensures refused_at { IsRefused result → result.at ≡ At.Previous }
-        ensures refused_steps { IsRefused result → steps.new ≡ steps.old }
-        ensures refused_exchanges { IsRefused result → exchanges.new ≡ exchanges.old }
+        ensures refused_steps { IsRefused result → pass.new.steps ≡ pass.old.steps }
+        ensures refused_exchanges { IsRefused result → pass.new.exchanges ≡ pass.old.exchanges }
         ensures asked_elsewhere { (a : ℕ) → a ≢ from → asked_by pass.new a ≡ asked_by pass.old a }
         ensures counted { others_counted pass.old ≤ others_counted pass.new }
-        ensures steps { steps.new ≤ steps.old + payment_steps self.now.book from
+        ensures steps { pass.new.steps ≤ pass.old.steps + payment_steps self.now.book from
             + RECORD_WORDS * counted_anew pass.old pass.new }
-        ensures exchanges { exchanges.new
-            ≡ exchanges.old + decides_made from pass.old.knows pass.new.knows }
+        ensures exchanges { pass.new.exchanges
+            ≡ raised pass.old.exchanges (decides_made from pass.old.knows pass.new.knows) }
         ensures exchanges_single { is_shared (account_of self.now.book from) ≡ false
-            → exchanges.new ≡ exchanges.old }
+            → pass.new.exchanges ≡ pass.old.exchanges }
         ensures decides { decides_made from pass.old.knows pass.new.knows
             ≤ slots_of (account_of self.now.book from) }
         ensures decides_elsewhere { (a : ℕ) → a ≢ from
@@ -140,6 +135,6 @@ impl Ledger {
             from,
             targets: targets.copy(),
         };
-        self.pay_by_call(pass, from, &call, steps, exchanges)
+        self.pay_by_call(pass, from, &call)
     }
 }

@@ -19,19 +19,15 @@ ghost use Rattle.at_snapshot.specs.Snapshots.{IsSnapshot, snapshot_steps};
 
 use crate::ledger::Ledger;
 use crate::pass::Pass;
-use at_board::Steps;
 use at_log::Receipt;
 use at_single::read_account;
-use std::sync::ledger;
 
 impl Ledger {
     /// The balance of an account, at the front of a snapshot that the call takes. Takes no memory.
-    pub fn read<L: ledger::Ledger, X: ledger::Ledger>(
+    pub fn read(
         &self,
         pass: &mut Pass,
         account: u32,
-        steps: &mut Steps<L>,
-        exchanges: &mut Steps<X>,
     ) -> Receipt
         requires pass { IsPassOf pass.old self.now }
         requires account { account < length self.now.book.accounts }
@@ -55,18 +51,16 @@ impl Ledger {
         ensures asked { (a : ℕ) → asked_by pass.new a ≡ asked_by pass.old a }
         ensures sent { sent_by pass.new ≡ sent_by pass.old }
         ensures counted { others_counted pass.old ≤ others_counted pass.new }
-        ensures steps { steps.new ≤ steps.old + snapshot_steps self.now.book.processes
+        ensures steps { pass.new.steps ≤ pass.old.steps + snapshot_steps self.now.book.processes
             + RECORD_WORDS * counted_anew pass.old pass.new }
-        ensures exchanges { exchanges.new ≡ exchanges.old }
+        ensures exchanges { pass.new.exchanges ≡ pass.old.exchanges }
     {
         pass.seat.known();
         let receipt = read_account(
             &self.board,
             &mut pass.seat,
             &mut pass.totals,
-            account,
-            steps,
-            exchanges,
+            account
         );
         pass.seat.known();
         pass.calls = pass.calls.saturating_add(1);

@@ -5,11 +5,9 @@ ghost use Rattle.at_agree.specs.Council.{IsSize};
 ghost use Rattle.at_agree.specs.Voices.{MayProposeValue};
 
 use at_agree::{Council, Voice, agree};
-use at_board::Steps;
 use std::alloc::Global;
 use std::marker::Brand;
 use std::sync::atomic::{AtomicU64, Ordering};
-use std::sync::ledger;
 use std::sync::ledger::Blank;
 use std::thread::{Threads, join_mut, yield_now};
 
@@ -49,43 +47,39 @@ fn last_voice(council: &Council, voices: &mut Vec<Voice>) -> Option<Voice>
 }
 
 /// What the last of the voices that are left answers when it proposes a value.
-fn last_answer<L: ledger::Ledger, X: ledger::Ledger>(
+fn last_answer(
     council: &Council,
     voices: &mut Vec<Voice>,
     value: u64,
-    steps: &mut Steps<L>,
-    exchanges: &mut Steps<X>,
 ) -> Option<u64>
     requires voices { All (MayProposeValue council.now) voices.old.items }
     requires value { value < 2 ^ 32 }
     ensures { All (MayProposeValue council.now) voices.new.items }
 {
     match last_voice(council, voices) {
-        Some(mut voice) => Some(council.propose(&mut voice, value, steps, exchanges)),
+        Some(mut voice) => Some(council.propose(&mut voice, value)),
         None => None,
     }
 }
 
 /// Whether process 0 and then process 1 answer 9, where they propose 7 and 8.
-fn others_answer_nine<L: ledger::Ledger, X: ledger::Ledger>(
+fn others_answer_nine(
     council: &Council,
     voices: &mut Vec<Voice>,
-    steps: &mut Steps<L>,
-    exchanges: &mut Steps<X>,
 ) -> bool
     requires { All (MayProposeValue council.now) voices.old.items }
 {
     match last_voice(council, voices) {
         Some(mut one) => {
-            last_answer(council, voices, 7, steps, exchanges) == Some(9)
-                && council.propose(&mut one, 8, steps, exchanges) == 9
+            last_answer(council, voices, 7) == Some(9)
+                && council.propose(&mut one, 8) == 9
         }
         None => false,
     }
 }
 
 /// Whether processes 2, 0 and 1, which propose 9, 7 and 8 one after another, all answer 9.
-fn all_answer_nine<L: ledger::Ledger, X: ledger::Ledger>(
+fn all_answer_nine(
     council: &Council,
     voices: &mut Vec<Voice>,
     steps: Blank,
@@ -96,9 +90,8 @@ fn all_answer_nine<L: ledger::Ledger, X: ledger::Ledger>(
     requires some { (0 < steps.parts) × (0 < exchanges.parts) }
     requires voices { All (MayProposeValue council.now) voices.old.items }
 {
-    let (steps, exchanges) = (&mut Steps::<L>::new(steps), &mut Steps::<X>::new(exchanges));
-    last_answer(council, voices, 9, steps, exchanges) == Some(9)
-        && others_answer_nine(council, voices, steps, exchanges)
+    last_answer(council, voices, 9) == Some(9)
+        && others_answer_nine(council, voices)
 }
 
 /// Whether eight processes agree on one of their values.
@@ -120,7 +113,7 @@ fn agree_always<R: Threads + Sync>(rt: &R, alloc: Global) -> bool {
 }
 
 /// Proposes once the other process is there too, with new counters.
-fn propose_at<L: ledger::Ledger, X: ledger::Ledger>(
+fn propose_at(
     council: &Council,
     gate: &AtomicU64,
     voice: &mut Voice,
@@ -134,9 +127,8 @@ fn propose_at<L: ledger::Ledger, X: ledger::Ledger>(
     requires voice { MayProposeValue council.now voice.old }
     requires value { value < 2 ^ 32 }
 {
-    let (steps, exchanges) = (&mut Steps::<L>::new(steps), &mut Steps::<X>::new(exchanges));
     meet(gate);
-    council.propose(voice, value, steps, exchanges)
+    council.propose(voice, value)
 }
 
 /// Waits until both processes are there, or a while where not.

@@ -5,11 +5,9 @@ ghost use Rattle.at_ledger.specs.Call.{AreTargetsOn, IsCallOn};
 ghost use Rattle.at_log.specs.declared.receipt.Receipt.{Receipt};
 ghost use Rattle.at_object.specs.Passes.{IsPassOf, Stands, one_more_call};
 
-use at_board::Steps;
 use at_ledger::{Book, Call, Targets};
 use at_log::Receipt;
 use at_object::{Ledger, Pass};
-use std::sync::ledger;
 
 /// Whether all targets are accounts of the book.
 fn are_on(book: &Book, targets: &Targets) -> bool
@@ -39,12 +37,10 @@ pub(crate) fn is_on(book: &Book, call: &Call) -> bool
 }
 
 /// Makes a call on a pass.
-pub(crate) fn call_by<L: ledger::Ledger, X: ledger::Ledger>(
+pub(crate) fn call_by(
     ledger: &Ledger,
     pass: &mut Pass,
     call: &Call,
-    steps: &mut Steps<L>,
-    exchanges: &mut Steps<X>,
 ) -> Receipt
     requires pass { IsPassOf pass.old ledger.now }
     requires call { IsCallOn (length ledger.now.book.accounts) call.now }
@@ -55,9 +51,9 @@ pub(crate) fn call_by<L: ledger::Ledger, X: ledger::Ledger>(
 {
     match call {
         Call::Transfer { from, to, amount } => ledger.transfer(
-            pass, *from, *to, *amount, steps, exchanges,
+            pass, *from, *to, *amount
         ),
-        Call::Read { account } => ledger.read(pass, *account, steps, exchanges),
-        Call::Pay { from, targets } => ledger.pay(pass, *from, targets, steps, exchanges),
+        Call::Read { account } => ledger.read(pass, *account),
+        Call::Pay { from, targets } => ledger.pay(pass, *from, targets),
     }
 }

@@ -5,12 +5,10 @@ ghost use Rattle.at_object.specs.Closings.{AreAccountedFor};
 ghost use Rattle.at_object_trials.specs.Players.{AreFew, PlaysOn};
 
 use crate::players::{Game, MOST_CALLS, Player};
-use at_board::Steps;
 use at_log::Receipt;
 use at_object::{CloseRefused, Closed, Ledger, Pass};
 use std::alloc::Global;
 use std::marker::Brand;
-use std::sync::ledger;
 use std::sync::ledger::Blank;
 
 /// Closes a ledger with its players, and answers how many calls more were made. Where the ledger can't be closed for want of memory,
@@ -50,7 +48,7 @@ fn close_again(alloc: Global, refused: CloseRefused) -> Option<Closed>
 }
 
 /// Process 0 reads account 0.
-fn read_again<L: ledger::Ledger, X: ledger::Ledger>(
+fn read_again(
     ledger: &Ledger,
     passes: &mut [Pass],
     receipts: &mut [Vec<Receipt>],
@@ -67,13 +65,12 @@ fn read_again<L: ledger::Ledger, X: ledger::Ledger>(
     ensures few { IfSome result (λ _. AreFew (map (λ v. v.items) receipts.new)) }
 {
     ledger.book().known();
-    let (steps, exchanges) = (&mut Steps::<L>::new(steps), &mut Steps::<X>::new(exchanges));
     let list = &mut receipts[0];
     if MOST_CALLS <= list.len() {
         return None;
     }
     list.reserve(1).ok()?;
-    list.push_reserved(ledger.read(&mut passes[0], 0, steps, exchanges));
+    list.push_reserved(ledger.read(&mut passes[0], 0));
     Some(())
 }
 

@@ -7,14 +7,12 @@ use crate::closings::close_all;
 use crate::journals::{is_run, journal_of};
 use crate::players::{Game, Player, new_game};
 use crate::scenes::{Account, book_of, targets_of};
-use at_board::Steps;
 use at_ledger::{Book, Call, Line, Reply};
 use at_object::{Closed, Ledger};
 use at_players::crowd::wait_for_all;
 use std::alloc::Global;
 use std::marker::Brand;
 use std::sync::atomic::AtomicU64;
-use std::sync::ledger;
 use std::sync::ledger::Blank;
 use std::thread::{Threads, for_each_mut};
 
@@ -62,7 +60,7 @@ fn call_of(number: u32) -> Option<Call> {
 }
 
 /// Makes all calls beside the other threads, or those before one for whose receipt there is no memory.
-fn play<L: ledger::Ledger, X: ledger::Ledger>(
+fn play(
     ledger: &Ledger,
     player: &mut Player,
     steps: Blank,
@@ -74,12 +72,11 @@ fn play<L: ledger::Ledger, X: ledger::Ledger>(
     requires player { PlaysOn ledger.now player.old }
     ensures { PlaysOn ledger.now player.new }
 {
-    let (steps, exchanges) = (&mut Steps::<L>::new(steps), &mut Steps::<X>::new(exchanges));
     for number in 0..CALLS {
         let Some(call) = call_of(number) else {
             return;
         };
-        if player.make(ledger, &call, steps, exchanges).is_none() {
+        if player.make(ledger, &call).is_none() {
             return;
         }
     }

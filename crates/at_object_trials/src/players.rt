@@ -1,18 +1,17 @@
 //! Processes that make calls on a ledger and keep the receipts.
 
 ghost use Rattle.std.specs.Prelude.{◌≡◌, ◌+◌, [], All, IfOk, IfSome};
+ghost use Rattle.at_board.specs.Counting.{raised};
 ghost use Rattle.at_board.specs.Knowledge.Seats.{IsOf};
 ghost use Rattle.at_object.specs.Passes.{AreNewPasses, Stands};
 ghost use Rattle.at_object_trials.specs.Players.{IsPlayer, PlaysOn};
 
 use crate::calls::{call_by, is_on};
-use at_board::Steps;
 use at_ledger::{Book, Call};
 use at_log::Receipt;
 use at_object::{Ledger, NoMemory, Note, Pass};
 use std::alloc::Global;
 use std::marker::Model;
-use std::sync::ledger;
 
 /// How many calls a player makes at most.
 pub(crate) const MOST_CALLS: usize = 1 << 20;
@@ -73,12 +72,10 @@ impl Player {
     }
 
     /// Makes a call and keeps its receipt, if it names accounts that are there, and there is memory for the receipt.
-    pub(crate) fn make<L: ledger::Ledger, X: ledger::Ledger>(
+    pub(crate) fn make(
         &mut self,
         ledger: &Ledger,
         call: &Call,
-        steps: &mut Steps<L>,
-        exchanges: &mut Steps<X>,
     ) -> Option<()>
         requires { PlaysOn ledger.now self.old }
         ensures { PlaysOn ledger.now self.new }
@@ -87,42 +84,38 @@ impl Player {
             return None;
         }
         self.receipts.reserve(1).ok()?;
-        let receipt = call_by(ledger, &mut self.pass, call, steps, exchanges);
+        let receipt = call_by(ledger, &mut self.pass, call);
         self.receipts.push_reserved(receipt);
         Some(())
     }
 
     /// A note of what the pass has seen.
-    pub(crate) fn note<L: ledger::Ledger, X: ledger::Ledger>(
+    pub(crate) fn note(
         &mut self,
         ledger: &Ledger,
-        steps: &mut Steps<L>,
-        exchanges: &mut Steps<X>,
     ) -> Note
         requires { PlaysOn ledger.now self.old }
         ensures note { IsOf result ledger.now }
         ensures same { self.new ≡ self.old }
-        ensures steps { steps.new ≡ steps.old + 1 }
-        ensures exchanges { exchanges.new ≡ exchanges.old + 1 }
+        ensures steps { seat.new.steps ≡ raised seat.old.steps 1 }
+        ensures exchanges { seat.new.exchanges ≡ raised seat.old.exchanges 1 }
     {
-        ledger.note(&mut self.pass, steps, exchanges)
+        ledger.note(&mut self.pass)
     }
 
     /// Takes in a note.
-    pub(crate) fn learn<L: ledger::Ledger, X: ledger::Ledger>(
+    pub(crate) fn learn(
         &mut self,
         ledger: &Ledger,
         note: Note,
-        steps: &mut Steps<L>,
-        exchanges: &mut Steps<X>,
     )
         requires player { PlaysOn ledger.now self.old }
         requires note { IsOf note ledger.now }
         ensures player { PlaysOn ledger.now self.new }
-        ensures steps { steps.new ≡ steps.old + 1 }
-        ensures exchanges { exchanges.new ≡ exchanges.old + 1 }
+        ensures steps { seat.new.steps ≡ raised seat.old.steps 1 }
+        ensures exchanges { seat.new.exchanges ≡ raised seat.old.exchanges 1 }
     {
-        ledger.learn(&mut self.pass, note, steps, exchanges);
+        ledger.learn(&mut self.pass, note);
     }
 }
 

@@ -7,13 +7,11 @@ use crate::closings::close_all;
 use crate::journals::{are_lines, is_run, journal_of};
 use crate::players::{Game, Player, new_game};
 use at_base::Counts;
-use at_board::Steps;
 use at_ledger::{Book, BookBuilder, Call, Line, Reply, TARGETS_MAX, Targets};
 use at_log::At;
 use at_object::{Closed, Ledger};
 use std::alloc::Global;
 use std::marker::Brand;
-use std::sync::ledger;
 use std::sync::ledger::Blank;
 
 /// A call: a transfer from an account to another, a pay-out from an account to targets, or a read.
@@ -145,12 +143,10 @@ fn has_told(player: &Player, reply: Reply, place: &Place) -> bool {
 }
 
 /// Does what a row says, and answers whether the reply and the place are right.
-fn plays_row<L: ledger::Ledger, X: ledger::Ledger>(
+fn plays_row(
     ledger: &Ledger,
     players: &mut [Player],
     row: &Row,
-    steps: &mut Steps<L>,
-    exchanges: &mut Steps<X>,
 ) -> Option<bool>
     requires { All (PlaysOn ledger.now) players.old }
     ensures { All (PlaysOn ledger.now) players.new }
@@ -161,7 +157,7 @@ fn plays_row<L: ledger::Ledger, X: ledger::Ledger>(
             if players.len() <= process {
                 return None;
             }
-            players[process].make(ledger, &call_of(deed)?, steps, exchanges)?;
+            players[process].make(ledger, &call_of(deed)?)?;
             Some(has_told(&players[process], *reply, place))
         }
         Row::Tells(process, other) => {
@@ -169,26 +165,24 @@ fn plays_row<L: ledger::Ledger, X: ledger::Ledger>(
             if players.len() <= process || players.len() <= other {
                 return None;
             }
-            let note = players[process].note(ledger, steps, exchanges);
-            players[other].learn(ledger, note, steps, exchanges);
+            let note = players[process].note(ledger);
+            players[other].learn(ledger, note);
             Some(true)
         }
     }
 }
 
 /// Does what the rows say, and answers whether all replies and places are right.
-fn plays_rows<L: ledger::Ledger, X: ledger::Ledger>(
+fn plays_rows(
     ledger: &Ledger,
     players: &mut [Player],
     rows: &[Row],
-    steps: &mut Steps<L>,
-    exchanges: &mut Steps<X>,
 ) -> Option<bool>
     requires { All (PlaysOn ledger.now) players.old }
     ensures { All (PlaysOn ledger.now) players.new }
 {
     for row in rows {
-        let played = plays_row(ledger, players, row, steps, exchanges);
+        let played = plays_row(ledger, players, row);
         if played != Some(true) {
             return played;
         }
@@ -197,7 +191,7 @@ fn plays_rows<L: ledger::Ledger, X: ledger::Ledger>(
 }
 
 /// Does what the rows say with new counters, and answers whether all replies and places are right.
-fn plays_all<L: ledger::Ledger, X: ledger::Ledger>(
+fn plays_all(
     ledger: &Ledger,
     players: &mut [Player],
     rows: &[Row],
@@ -210,8 +204,7 @@ fn plays_all<L: ledger::Ledger, X: ledger::Ledger>(
     requires players { All (PlaysOn ledger.now) players.old }
     ensures { All (PlaysOn ledger.now) players.new }
 {
-    let (steps, exchanges) = (&mut Steps::<L>::new(steps), &mut Steps::<X>::new(exchanges));
-    plays_rows(ledger, players, rows, steps, exchanges)
+    plays_rows(ledger, players, rows)
 }
 
 /// Whether each player has these counts.
@@ -269,8 +262,8 @@ fn plays_with(ledger: &Ledger, players: &mut [Player], scene: &Scene) -> Option<
     requires { All (PlaysOn ledger.now) players.old }
     ensures { All (PlaysOn ledger.now) players.new }
 {
-    let (steps, exchanges) = (Blank::new(1), Blank::new(1));
-    match plays_all::<Brand, Brand>(ledger, players, scene.rows, steps, exchanges) {
+    let () = (Blank::new(1), Blank::new(1));
+    match plays_all::<Brand, Brand>(ledger, players, scene.rows) {
         Some(right) => Some(right && are_counted(ledger, players, scene.counted)),
         None => None,
     }

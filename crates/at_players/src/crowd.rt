@@ -9,7 +9,7 @@ use crate::boards::{book_of, last_seat, slot_on};
 use crate::rounds::settle;
 use crate::words::TO_ACCOUNT_0;
 use at_base::Counts;
-use at_board::{Board, BoardEnd, BoardSeat, Steps};
+use at_board::{Board, BoardEnd, BoardSeat};
 use at_ledger::Book;
 use std::alloc::{AllocError, Global};
 use std::marker::Brand;
@@ -57,27 +57,23 @@ pub fn counts_of(a: u32, b: u32, c: u32, d: u32) -> Counts
 }
 
 /// Loads a length between two records.
-pub fn look<L: Ledger, X: Ledger>(
+pub fn look(
     board: &Board,
     seat: &mut BoardSeat,
     p: u32,
-    steps: &mut Steps<L>,
-    exchanges: &mut Steps<X>,
 ) -> u32
     requires idle { IsIdle board.now seat.old }
     requires process { p < board.now.book.processes }
     ensures idle { IsIdle board.now seat.new }
     ensures told { LoadsLength board.now.book seat.old.knows seat.new.knows p result }
 {
-    board.load_length(seat, p, steps, exchanges)
+    board.load_length(seat, p)
 }
 
 /// The counts of four processes at one prefix, where no other process published between two loads of its length.
-pub fn front<L: Ledger, X: Ledger>(
+pub fn front(
     board: &Board,
     seat: &mut BoardSeat,
-    steps: &mut Steps<L>,
-    exchanges: &mut Steps<X>,
 ) -> Option<Counts>
     requires idle { IsIdle board.now seat.old }
     requires four { board.now.book.processes ≡ 4 }
@@ -86,13 +82,13 @@ pub fn front<L: Ledger, X: Ledger>(
     ensures front { IfSome result (λ view. IsOwnFront board.now.book seat.new.knows view) }
 {
     seat.known();
-    let a = look(board, seat, 0, steps, exchanges);
-    let b = look(board, seat, 1, steps, exchanges);
-    let c = look(board, seat, 2, steps, exchanges);
-    let d = look(board, seat, 3, steps, exchanges);
-    let a_again = look(board, seat, 0, steps, exchanges);
-    let b_again = look(board, seat, 1, steps, exchanges);
-    let c_again = look(board, seat, 2, steps, exchanges);
+    let a = look(board, seat, 0);
+    let b = look(board, seat, 1);
+    let c = look(board, seat, 2);
+    let d = look(board, seat, 3);
+    let a_again = look(board, seat, 0);
+    let b_again = look(board, seat, 1);
+    let c_again = look(board, seat, 2);
     if a != a_again || b != b_again || c != c_again {
         return None;
     }
@@ -100,12 +96,10 @@ pub fn front<L: Ledger, X: Ledger>(
 }
 
 /// Moves 0 from the process's own account to account 0, by a record with this view.
-pub fn move_nothing<L: Ledger, X: Ledger>(
+pub fn move_nothing(
     board: &Board,
     seat: &mut BoardSeat,
     view: &Counts,
-    steps: &mut Steps<L>,
-    exchanges: &mut Steps<X>,
 )
     requires idle { IsIdle board.now seat.old }
     requires four { board.now.book.processes ≡ 4 }
@@ -117,13 +111,13 @@ pub fn move_nothing<L: Ledger, X: Ledger>(
 {
     board.book().known();
     let head = 2 * (u64::from(seat.process()) + 1);
-    board.store_record_word(seat, 0, head, steps, exchanges);
-    board.store_record_word(seat, 1, TO_ACCOUNT_0, steps, exchanges);
-    board.store_record_word(seat, 7, u64::from(view.get(0)), steps, exchanges);
-    board.store_record_word(seat, 8, u64::from(view.get(1)), steps, exchanges);
-    board.store_record_word(seat, 9, u64::from(view.get(2)), steps, exchanges);
-    board.store_record_word(seat, 10, u64::from(view.get(3)), steps, exchanges);
-    board.publish(seat, steps, exchanges);
+    board.store_record_word(seat, 0, head);
+    board.store_record_word(seat, 1, TO_ACCOUNT_0);
+    board.store_record_word(seat, 7, u64::from(view.get(0)));
+    board.store_record_word(seat, 8, u64::from(view.get(1)));
+    board.store_record_word(seat, 9, u64::from(view.get(2)));
+    board.store_record_word(seat, 10, u64::from(view.get(3)));
+    board.publish(seat);
 }
 
 /// Waits until all four threads are there, or a while where not.
@@ -147,7 +141,7 @@ pub struct Told {
 }
 
 /// Settles the first round, and then publishes records, beside the other threads.
-pub fn play<L: Ledger, X: Ledger>(
+pub fn play(
     board: &Board,
     alloc: Global,
     seat: &mut BoardSeat,
@@ -162,21 +156,20 @@ pub fn play<L: Ledger, X: Ledger>(
     ensures idle { IsIdle board.now seat.new }
     ensures process { seat.new.knows.first ≡ seat.old.knows.first }
 {
-    let (steps, exchanges) = (&mut Steps::<L>::new(steps), &mut Steps::<X>::new(exchanges));
     let process = seat.process();
-    let (word, has_round) = settle(board, seat, process, steps, exchanges);
+    let (word, has_round) = settle(board, seat, process);
     let mut views = Vec::new(alloc);
     if has_round {
         views.push(counts_of(0, 0, 0, 0))?;
     }
     for _look in 0..LOOKS {
-        let Some(view) = front(board, seat, steps, exchanges) else {
+        let Some(view) = front(board, seat) else {
             continue;
         };
         if RECORDS <= seat.published() || board.book().own_room() <= seat.published() {
             break;
         }
-        move_nothing(board, seat, &view, steps, exchanges);
+        move_nothing(board, seat, &view);
         views.push(view)?;
     }
     Ok(Told {

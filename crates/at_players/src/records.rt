@@ -7,9 +7,8 @@ ghost use Rattle.at_history.specs.Sound.{IsSoundOwn};
 ghost use Rattle.at_players.specs.SmallBoard.{IsIdle};
 
 use crate::words::TO_ACCOUNT_1;
-use at_board::{Board, BoardSeat, Steps};
+use at_board::{Board, BoardSeat};
 use at_ledger::Book;
-use std::sync::ledger::Ledger;
 
 /// Whether a process may pay 30 from account 0 to account 1 when nothing is published.
 #[tactic(auto, unfolding(at_history::specs::Rounds::firsts))]
@@ -29,11 +28,9 @@ pub fn may_pay(book: &Book, process: u32) -> bool
 }
 
 /// Pays 30 from account 0 to account 1, by the first record of the seat's process.
-pub fn pay<L: Ledger, X: Ledger>(
+pub fn pay(
     board: &Board,
     seat: &mut BoardSeat,
-    steps: &mut Steps<L>,
-    exchanges: &mut Steps<X>,
 )
     requires board { seat.old.board ≡ board.now.id }
     requires new { seat.old.knows ≡ starting_seat board.now.book seat.old.knows.first }
@@ -44,18 +41,16 @@ pub fn pay<L: Ledger, X: Ledger>(
 {
     board.book().known();
     seat.known();
-    board.store_record_word(seat, 1, TO_ACCOUNT_1, steps, exchanges);
-    board.store_record_word(seat, 3, 30, steps, exchanges);
-    board.publish(seat, steps, exchanges);
+    board.store_record_word(seat, 1, TO_ACCOUNT_1);
+    board.store_record_word(seat, 3, 30);
+    board.publish(seat);
 }
 
 /// The words of the accounts and of the amount of the first record of a process, which its seat tells another.
-pub fn told_words<L: Ledger, X: Ledger>(
+pub fn told_words(
     board: &Board,
     seat: &mut BoardSeat,
     other: &mut BoardSeat,
-    steps: &mut Steps<L>,
-    exchanges: &mut Steps<X>,
 ) -> (u64, u64)
     requires seat { IsIdle board.now seat.old }
     requires other { IsIdle board.now other.old }
@@ -63,9 +58,9 @@ pub fn told_words<L: Ledger, X: Ledger>(
     ensures seat { seat.new ≡ seat.old }
     ensures other { IsIdle board.now other.new × (other.new.knows.first ≡ other.old.knows.first) }
 {
-    let note = board.note(seat, steps, exchanges);
-    board.learn(other, note, steps, exchanges);
-    let accounts = board.load_record_word(other, seat.process(), 0, 1, steps, exchanges);
-    let amount = board.load_record_word(other, seat.process(), 0, 3, steps, exchanges);
+    let note = board.note(seat);
+    board.learn(other, note);
+    let accounts = board.load_record_word(other, seat.process(), 0, 1);
+    let amount = board.load_record_word(other, seat.process(), 0, 3);
     (accounts, amount)
 }

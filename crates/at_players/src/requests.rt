@@ -12,20 +12,17 @@ ghost use Rattle.at_rows.specs.Asks.{HasAsked, HasLoadedNothing, MayAskFor, aske
 ghost use Rattle.at_rows.specs.Oldest.{IsNotDone};
 
 use at_base::Counts;
-use at_board::{Board, BoardSeat, Steps};
+use at_board::{Board, BoardSeat};
 use at_ledger::Targets;
 use at_rows::{OpenRequest, collect_rows, oldest};
-use std::sync::ledger::Ledger;
 
 /// Asks for this on account 0, where the seat's process has the slot.
-pub fn ask_for<L: Ledger, X: Ledger>(
+pub fn ask_for(
     board: &Board,
     seat: &mut BoardSeat,
     slot: u32,
     targets: Targets,
     since: u32,
-    steps: &mut Steps<L>,
-    exchanges: &mut Steps<X>,
 ) -> OpenRequest
     requires idle { IsIdle board.now seat.old }
     requires request { MayAskFor board.now.book seat.old.knows 0 slot (asked_for targets since) }
@@ -36,7 +33,7 @@ pub fn ask_for<L: Ledger, X: Ledger>(
         targets since }
     ensures nothing { HasLoadedNothing seat.new.knows 0 }
 {
-    let number = at_rows::ask(board, seat, 0, &targets, since, steps, exchanges);
+    let number = at_rows::ask(board, seat, 0, &targets, since);
     OpenRequest {
         slot,
         number,
@@ -46,12 +43,10 @@ pub fn ask_for<L: Ledger, X: Ledger>(
 }
 
 /// Asks for a payment of 7 to account 1, as the first request of the seat's process, which has this slot.
-pub fn ask<L: Ledger, X: Ledger>(
+pub fn ask(
     board: &Board,
     seat: &mut BoardSeat,
     slot: u32,
-    steps: &mut Steps<L>,
-    exchanges: &mut Steps<X>,
 ) -> OpenRequest
     requires board { seat.old.board ≡ board.now.id }
     requires new { seat.old.knows ≡ starting_seat board.now.book seat.old.knows.first }
@@ -64,18 +59,16 @@ pub fn ask<L: Ledger, X: Ledger>(
     ensures nothing { HasLoadedNothing seat.new.knows 0 }
 {
     board.book().known();
-    ask_for(board, seat, slot, Targets::one(1, 7), 0, steps, exchanges)
+    ask_for(board, seat, slot, Targets::one(1, 7), 0)
 }
 
 /// The oldest of the seat's own request and the last ones of the other owners of account 0, of those that aren't among the first
 /// so many of their slots.
-pub fn find_oldest<L: Ledger, X: Ledger>(
+pub fn find_oldest(
     board: &Board,
     seat: &mut BoardSeat,
     own: &OpenRequest,
     done: &Counts,
-    steps: &mut Steps<L>,
-    exchanges: &mut Steps<X>,
 ) -> OpenRequest
     requires idle { IsIdle board.now seat.old }
     requires own { HasAsked board.now.book seat.old.knows 0 own.now }
@@ -87,26 +80,24 @@ pub fn find_oldest<L: Ledger, X: Ledger>(
     ensures found { HasFoundOldest board.now.book seat.new.knows own.now done.now result }
 {
     board.book().known();
-    let asked = collect_rows(board, seat, 0, own, steps, exchanges);
+    let asked = collect_rows(board, seat, 0, own);
     oldest(&asked, done)
 }
 
 /// The amount of the first request of a slot of account 0, where it is announced.
-pub fn first_amount<L: Ledger, X: Ledger>(
+pub fn first_amount(
     board: &Board,
     seat: &mut BoardSeat,
     slot: u32,
-    steps: &mut Steps<L>,
-    exchanges: &mut Steps<X>,
 ) -> Option<u64>
     requires board { IsOf seat.old board.now }
     requires account { 0 < length board.now.book.accounts }
     requires slot { slot < slots_of (account_of board.now.book 0) }
     ensures board { IsOf seat.new board.now }
 {
-    let count = board.load_announced(seat, 0, slot, steps, exchanges);
+    let count = board.load_announced(seat, 0, slot);
     if count == 0 {
         return None;
     }
-    Some(board.load_request_word(seat, 0, slot, 0, 1, steps, exchanges))
+    Some(board.load_request_word(seat, 0, slot, 0, 1))
 }

@@ -15,9 +15,8 @@ ghost use Rattle.at_rows.specs.OpenRequests.{request_of};
 use crate::requests::{ask, find_oldest};
 use crate::words::TO_ACCOUNT_1;
 use at_base::{Counts, Decision, pack_decision};
-use at_board::{Board, BoardSeat, Steps};
+use at_board::{Board, BoardSeat};
 use at_rows::OpenRequest;
-use std::sync::ledger::Ledger;
 
 /// The word of the decision that the first request of a slot succeeds, before anything is published.
 pub fn first_word(slot: u32) -> u64
@@ -46,12 +45,10 @@ fn is_payment(request: &OpenRequest) -> bool
 }
 
 /// The slot whose first request the seat may propose for the first round of account 0, if that is for a payment of 7 to account 1.
-pub fn find_first<L: Ledger, X: Ledger>(
+pub fn find_first(
     board: &Board,
     seat: &mut BoardSeat,
     own: &OpenRequest,
-    steps: &mut Steps<L>,
-    exchanges: &mut Steps<X>,
 ) -> Option<u32>
     requires idle { IsIdle board.now seat.old }
     requires own { HasAsked board.now.book seat.old.knows 0 own.now }
@@ -63,7 +60,7 @@ pub fn find_first<L: Ledger, X: Ledger>(
     ensures proposal { IfSome result (λ slot. MayPropose board.now.book seat.new.knows 0 0
         (first_decision slot) payment) }
 {
-    let request = find_oldest(board, seat, own, &Counts::zeros(8), steps, exchanges);
+    let request = find_oldest(board, seat, own, &Counts::zeros(8));
     if is_payment(&request) {
         Some(request.slot)
     } else {
@@ -72,12 +69,10 @@ pub fn find_first<L: Ledger, X: Ledger>(
 }
 
 /// Proposes that the first round of account 0 decide the first request of a slot, which succeeds.
-pub fn decide_first<L: Ledger, X: Ledger>(
+pub fn decide_first(
     board: &Board,
     seat: &mut BoardSeat,
     slot: u32,
-    steps: &mut Steps<L>,
-    exchanges: &mut Steps<X>,
 ) -> u64
     requires idle { IsIdle board.now seat.old }
     requires new { (own_part seat.old.knows).published ≡ 0 }
@@ -90,16 +85,14 @@ pub fn decide_first<L: Ledger, X: Ledger>(
     ensures lost { result ≢ word_of (first_decision slot) → IsIdle board.now seat.new }
 {
     let proposal = first_word(slot);
-    board.decide(seat, 0, 0, proposal, steps, exchanges)
+    board.decide(seat, 0, 0, proposal)
 }
 
 /// Publishes the first round of account 0, in which the payment that a slot asked for was decided.
-pub fn publish_round<L: Ledger, X: Ledger>(
+pub fn publish_round(
     board: &Board,
     seat: &mut BoardSeat,
     slot: u32,
-    steps: &mut Steps<L>,
-    exchanges: &mut Steps<X>,
 )
     requires board { IsOf seat.old board.now }
     requires owner { (own : ℕ) × HasSlot board.now.book seat.old.knows.first 0 own }
@@ -110,21 +103,19 @@ pub fn publish_round<L: Ledger, X: Ledger>(
 {
     let decision = first_word(slot);
     seat.known();
-    board.store_record_word(seat, 0, 1, steps, exchanges);
-    board.store_record_word(seat, 1, TO_ACCOUNT_1, steps, exchanges);
-    board.store_record_word(seat, 2, decision, steps, exchanges);
-    board.store_record_word(seat, 3, 7, steps, exchanges);
-    board.publish(seat, steps, exchanges);
+    board.store_record_word(seat, 0, 1);
+    board.store_record_word(seat, 1, TO_ACCOUNT_1);
+    board.store_record_word(seat, 2, decision);
+    board.store_record_word(seat, 3, 7);
+    board.publish(seat);
 }
 
 /// Asks for a payment on account 0, proposes the oldest request there for the first round, and publishes the round where it is so
 /// decided. Answers the word of the round and whether it has published it, or 0 where the oldest isn't such a payment.
-pub fn settle<L: Ledger, X: Ledger>(
+pub fn settle(
     board: &Board,
     seat: &mut BoardSeat,
     slot: u32,
-    steps: &mut Steps<L>,
-    exchanges: &mut Steps<X>,
 ) -> (u64, bool)
     requires board { seat.old.board ≡ board.now.id }
     requires new { seat.old.knows ≡ starting_seat board.now.book seat.old.knows.first }
@@ -134,14 +125,14 @@ pub fn settle<L: Ledger, X: Ledger>(
     ensures idle { IsIdle board.now seat.new }
     ensures process { seat.new.knows.first ≡ seat.old.knows.first }
 {
-    let own = ask(board, seat, slot, steps, exchanges);
-    let Some(oldest) = find_first(board, seat, &own, steps, exchanges) else {
+    let own = ask(board, seat, slot);
+    let Some(oldest) = find_first(board, seat, &own) else {
         return (0, false);
     };
-    let word = decide_first(board, seat, oldest, steps, exchanges);
+    let word = decide_first(board, seat, oldest);
     if word != first_word(oldest) {
         return (word, false);
     }
-    publish_round(board, seat, oldest, steps, exchanges);
+    publish_round(board, seat, oldest);
     (word, true)
 }

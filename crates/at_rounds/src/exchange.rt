@@ -1,6 +1,7 @@
 //! Proposals to the cell of a round.
 
 ghost use Rattle.std.specs.Prelude.{◌≡◌, ◌+◌};
+ghost use Rattle.at_board.specs.Counting.{raised};
 ghost use Rattle.at_board.specs.Knowledge.Parts.{SeesDecision};
 ghost use Rattle.at_board.specs.Knowledge.Seats.{IsOf};
 ghost use Rattle.at_board.specs.Steps.Decide.{MayPropose};
@@ -8,19 +9,16 @@ ghost use Rattle.at_history.specs.declared.request.Request.{Request};
 ghost use Rattle.at_rounds.specs.Answers.{DecidesAs};
 
 use at_base::{Decision, pack_decision, unpack_decision};
-use at_board::{Board, BoardSeat, Steps};
-use std::sync::ledger::Ledger;
+use at_board::{Board, BoardSeat};
 
 /// Proposes a decision for a round of an account, in one step, which is an exchange. The answer is the decision of that round: the
 /// proposal where it was undecided. It never changes. Takes no memory.
-pub fn propose<L: Ledger, X: Ledger>(
+pub fn propose(
     board: &Board,
     seat: &mut BoardSeat,
     account: u32,
     round: u32,
     proposal: &Decision,
-    steps: &mut Steps<L>,
-    exchanges: &mut Steps<X>,
 ) -> Decision
     requires board { IsOf seat.old board.now }
     requires proposal { (r : Request)
@@ -29,12 +27,12 @@ pub fn propose<L: Ledger, X: Ledger>(
         proposal.now result }
     ensures seen { SeesDecision seat.new.knows account round result }
     ensures board { IsOf seat.new board.now }
-    ensures steps { steps.new ≡ steps.old + 1 }
-    ensures exchanges { exchanges.new ≡ exchanges.old + 1 }
+    ensures steps { seat.new.steps ≡ raised seat.old.steps 1 }
+    ensures exchanges { seat.new.exchanges ≡ raised seat.old.exchanges 1 }
 {
     let word = pack_decision(proposal);
     // Right here: the exchange stores only where the round is undecided. Where another seat has decided it before, whatever that
     // was, its word stands and is the answer.
-    let decided = board.decide(seat, account, round, word, steps, exchanges);
+    let decided = board.decide(seat, account, round, word);
     unpack_decision(decided).unwrap()
 }

@@ -1,6 +1,7 @@
 //! Asking: a request is stored and announced.
 
 ghost use Rattle.std.specs.Prelude.{◌≡◌, ℕ, ◌+◌, ◌^◌, ◌<◌, length, slice_index};
+ghost use Rattle.at_board.specs.Counting.{raised};
 ghost use Rattle.at_board.specs.Knowledge.Parts.{asking_on, own_part};
 ghost use Rattle.at_board.specs.Knowledge.Seats.{IsOf};
 ghost use Rattle.at_board.specs.Steps.Announce.{Announces};
@@ -10,20 +11,17 @@ ghost use Rattle.at_ledger.specs.Book.{HasSlot};
 ghost use Rattle.at_ledger.specs.Call.{AreTargetsOn, target_at};
 ghost use Rattle.at_rows.specs.Asks.{HasAsked, HasLoadedNothing, MayAskFor, asked_for, opened};
 
-use at_board::{Board, BoardSeat, REQUEST_WORDS, Steps, pack_targets};
+use at_board::{Board, BoardSeat, REQUEST_WORDS, pack_targets};
 use at_ledger::Targets;
-use std::sync::ledger::Ledger;
 
 /// Stores the words of a request and announces it, in a step for each word and one more. The answer is its number among those
 /// of its slot. Takes no memory.
-pub fn ask<L: Ledger, X: Ledger>(
+pub fn ask(
     board: &Board,
     seat: &mut BoardSeat,
     account: u32,
     targets: &Targets,
     since: u32,
-    steps: &mut Steps<L>,
-    exchanges: &mut Steps<X>,
 ) -> u32
     requires board { IsOf seat.old board.now }
     requires request { (slot : ℕ) × MayAskFor board.now.book seat.old.knows account slot
@@ -38,8 +36,8 @@ pub fn ask<L: Ledger, X: Ledger>(
         (opened slot result targets.now since) }
     ensures nothing { HasLoadedNothing seat.new.knows account }
     ensures board { IsOf seat.new board.now }
-    ensures steps { steps.new ≡ steps.old + (REQUEST_WORDS + 1) }
-    ensures exchanges { exchanges.new ≡ exchanges.old }
+    ensures steps { seat.new.steps ≡ raised seat.old.steps (REQUEST_WORDS + 1) }
+    ensures exchanges { seat.new.exchanges ≡ seat.old.exchanges }
 {
     board.book().known();
     seat.known();
@@ -47,11 +45,11 @@ pub fn ask<L: Ledger, X: Ledger>(
     for j in 0..REQUEST_WORDS {
         let word = request_word(targets, since, j);
         // Right here: no other seat reads the words of a request that isn't announced, whatever others do meanwhile.
-        board.store_request_word(seat, account, j, word, steps, exchanges);
+        board.store_request_word(seat, account, j, word);
     }
     // Right here: all words stand. Others may have published and decided since the front of `since`; what was settled there
     // stays so.
-    board.announce(seat, account, steps, exchanges);
+    board.announce(seat, account);
     number
 }
 

@@ -1,6 +1,7 @@
 //! A load of an announced request.
 
 ghost use Rattle.std.specs.Prelude.{◌≡◌, ◌+◌, ◌^◌, ◌<◌, slice_index};
+ghost use Rattle.at_board.specs.Counting.{raised};
 ghost use Rattle.at_board.specs.Knowledge.Seats.{IsOf};
 ghost use Rattle.at_board.specs.Steps.LoadRequestWord.{KnowsOf};
 ghost use Rattle.at_board.specs.Words.Packed.{request_words};
@@ -11,27 +12,24 @@ ghost use Rattle.at_rows.specs.Asks.{opened};
 ghost use Rattle.at_rows.specs.Loads.{LoadsRequest};
 
 use crate::open_request::OpenRequest;
-use at_board::{Board, BoardSeat, REQUEST_WORDS, Steps, targets_from};
-use std::sync::ledger::Ledger;
+use at_board::{Board, BoardSeat, REQUEST_WORDS, targets_from};
 
 /// A request that the seat has seen, or that a decision names which it has seen, whole as it was announced, in a step for each
 /// of its words. Takes no memory.
-pub fn load_request<L: Ledger, X: Ledger>(
+pub fn load_request(
     board: &Board,
     seat: &mut BoardSeat,
     account: u32,
     slot: u32,
     number: u32,
-    steps: &mut Steps<L>,
-    exchanges: &mut Steps<X>,
 ) -> OpenRequest
     requires board { IsOf seat.old board.now }
     requires request { KnowsOf seat.old.knows account slot number }
     ensures loaded { LoadsRequest board.now.book seat.old.knows seat.new.knows
         account slot number result }
     ensures board { IsOf seat.new board.now }
-    ensures steps { steps.new ≡ steps.old + REQUEST_WORDS }
-    ensures exchanges { exchanges.new ≡ exchanges.old }
+    ensures steps { seat.new.steps ≡ raised seat.old.steps REQUEST_WORDS }
+    ensures exchanges { seat.new.exchanges ≡ seat.old.exchanges }
 {
     board.book().known();
     seat.known();
@@ -39,7 +37,7 @@ pub fn load_request<L: Ledger, X: Ledger>(
     for j in 0..REQUEST_WORDS {
         // Right here: an announced request never changes, so the words are those of one request, however far apart the loads.
         words[j as usize] = board.load_request_word(
-            seat, account, slot, number, j, steps, exchanges,
+            seat, account, slot, number, j
         );
     }
     request_from(slot, number, words)

@@ -2,6 +2,7 @@
 
 ghost use Rattle.std.specs.Prelude.{◌≡◌, ◌≢◌, ◌↔◌, ℕ, ◌+◌, ◌*◌, ◌<◌, ◌≤◌, true, List, length, slice_index, sum, None, Some, if◌then◌else◌};
 ghost use Rattle.at_base.specs.declared.decision.Decision.{Decision};
+ghost use Rattle.at_board.specs.Counting.{raised};
 ghost use Rattle.at_board.specs.Knowledge.Parts.{asking_on, own_part};
 ghost use Rattle.at_board.specs.Knowledge.Seats.{IsOf};
 ghost use Rattle.at_board.specs.Steps.StoreRequestWord.{MayStoreRequest};
@@ -27,14 +28,13 @@ ghost use Rattle.at_single.specs.Standing.{newly_counted};
 ghost use Rattle.at_snapshot.specs.Snapshots.{snapshot_steps};
 
 use at_base::Decision;
-use at_board::{Board, BoardSeat, Steps};
+use at_board::{Board, BoardSeat};
 use at_fold::Totals;
 use at_ledger::{Call, Reply, Targets};
 use at_log::{At, Receipt};
 use at_rows::{Asked, OpenRequest, ask, collect_rows};
 use at_single::look;
 use std::marker::Model;
-use std::sync::ledger::Ledger;
 
 /// What a turn of helping answers.
 #[derive(Drop)]
@@ -110,14 +110,12 @@ impl Helping {
 
     /// Asks for a pay-out from a shared account: takes a snapshot, announces the request with the place of that as its `since`,
     /// and collects the last requests of the other owners.
-    pub fn start<L: Ledger, X: Ledger>(
+    pub fn start(
         board: &Board,
         seat: &mut BoardSeat,
         totals: &mut Totals,
         account: u32,
         call: &Call,
-        steps: &mut Steps<L>,
-        exchanges: &mut Steps<X>,
     ) -> Helping
         requires seat { IsOf seat.old board.now }
         requires totals { HasCounted totals.old board.now.book seat.old.knows.seen }
@@ -142,20 +140,20 @@ impl Helping {
         ensures own_counted { slice_index totals.new.upto seat.new.knows.first
             ≡ (own_part seat.new.knows).published }
         ensures board { IsOf seat.new board.now }
-        ensures steps { steps.new ≤ steps.old + snapshot_steps board.now.book.processes
+        ensures steps { seat.new.steps ≤ seat.old.steps + snapshot_steps board.now.book.processes
             + asking_steps (slots_of (account_of board.now.book account))
             + RECORD_WORDS * newly_counted seat.old.knows seat.new.knows totals.old totals.new }
-        ensures exchanges { exchanges.new ≡ exchanges.old }
+        ensures exchanges { seat.new.exchanges ≡ seat.old.exchanges }
     {
         seat.known();
         board.book().known();
-        let front = look(board, seat, totals, steps, exchanges);
+        let front = look(board, seat, totals);
         let targets = targets_of(call);
         // There are one to four targets, as their type keeps.
         let _count = targets.len();
         let slot = board.book().slot_of(account, seat.process()).unwrap();
         let since = front.sum();
-        let number = ask(board, seat, account, &targets, since, steps, exchanges);
+        let number = ask(board, seat, account, &targets, since);
         let own = OpenRequest {
             slot,
             number,
@@ -164,19 +162,17 @@ impl Helping {
         };
         // Others may ask at once after each load here. Whoever isn't found asked after this request was announced, and waits less
         // long.
-        let asked = collect_rows(board, seat, account, &own, steps, exchanges);
+        let asked = collect_rows(board, seat, account, &own);
         Helping::of(call.copy(), account, own, asked)
     }
 
     /// Takes a snapshot. Where the request is settled there, the call is answered. Else the oldest unsettled request is proposed to
     /// the next round, and what was decided there is published; it is settled exactly where that is the own request.
-    pub fn turn<L: Ledger, X: Ledger>(
+    pub fn turn(
         &mut self,
         board: &Board,
         seat: &mut BoardSeat,
         totals: &mut Totals,
-        steps: &mut Steps<L>,
-        exchanges: &mut Steps<X>,
     ) -> HelpTurn
         requires seat { IsOf seat.old board.now }
         requires totals { HasCounted totals.old board.now.book seat.old.knows.seen }
@@ -221,20 +217,20 @@ impl Helping {
         ensures own_counted { slice_index totals.new.upto seat.new.knows.first
             ≡ (own_part seat.new.knows).published }
         ensures board { IsOf seat.new board.now }
-        ensures steps { steps.new ≤ steps.old + snapshot_steps board.now.book.processes
+        ensures steps { seat.new.steps ≤ seat.old.steps + snapshot_steps board.now.book.processes
             + round_steps board.now.book.processes
             * decides_made self.old.account seat.old.knows seat.new.knows
             + RECORD_WORDS * newly_counted seat.old.knows seat.new.knows totals.old totals.new }
-        ensures exchanges { exchanges.new
-            ≡ exchanges.old + decides_made self.old.account seat.old.knows seat.new.knows }
+        ensures exchanges { seat.new.exchanges
+            ≡ raised seat.old.exchanges (decides_made self.old.account seat.old.knows seat.new.knows) }
     {
         seat.known();
-        let front = look(board, seat, totals, steps, exchanges);
+        let front = look(board, seat, totals);
         seat.known();
         if let Some((round, decision)) = self.settled(totals) {
             return HelpTurn::Settled(self.receipt(round, &decision));
         }
-        let turn = self.decide_next(board, seat, totals, &front, steps, exchanges);
+        let turn = self.decide_next(board, seat, totals, &front);
         seat.known();
         turn
     }

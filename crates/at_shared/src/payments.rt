@@ -1,6 +1,7 @@
 //! Pay-outs from shared accounts.
 
 ghost use Rattle.std.specs.Prelude.{◌≡◌, ◌≢◌, ℕ, ◌+◌, ◌*◌, ◌<◌, ◌≤◌, List, [], ◌∷◌, length, slice_index, sum, None};
+ghost use Rattle.at_board.specs.Counting.{raised};
 ghost use Rattle.at_board.specs.Knowledge.Parts.{asking_on, own_part};
 ghost use Rattle.at_board.specs.Knowledge.Seats.{IsOf};
 ghost use Rattle.at_board.specs.Steps.StoreRequestWord.{MayStoreRequest};
@@ -21,23 +22,20 @@ ghost use Rattle.at_single.specs.Standing.{newly_counted};
 ghost use Rattle.at_snapshot.specs.Snapshots.{snapshot_steps};
 
 use crate::helping::{HelpTurn, Helping};
-use at_board::{Board, BoardSeat, Steps};
+use at_board::{Board, BoardSeat};
 use at_fold::Totals;
 use at_ledger::{Call, Targets};
 use at_log::Receipt;
-use std::sync::ledger::Ledger;
 
 /// Moves the amount from an account that the seat's process shares, if the account covers it when the request's turn comes. Short
 /// uses one request of room too. The call may publish rounds in which others' requests are decided. Takes no memory.
-pub fn transfer_shared<L: Ledger, X: Ledger>(
+pub fn transfer_shared(
     board: &Board,
     seat: &mut BoardSeat,
     totals: &mut Totals,
     account: u32,
     to: u32,
     amount: u64,
-    steps: &mut Steps<L>,
-    exchanges: &mut Steps<X>,
 ) -> Receipt
     requires seat { IsOf seat.old board.now }
     requires totals { HasCounted totals.old board.now.book seat.old.knows.seen }
@@ -68,32 +66,30 @@ pub fn transfer_shared<L: Ledger, X: Ledger>(
     ensures board { IsOf seat.new board.now }
     ensures decides { decides_made account seat.old.knows seat.new.knows
         ≤ slots_of (account_of board.now.book account) }
-    ensures steps { steps.new ≤ steps.old + snapshot_steps board.now.book.processes
+    ensures steps { seat.new.steps ≤ seat.old.steps + snapshot_steps board.now.book.processes
         + asking_steps (slots_of (account_of board.now.book account))
         + slots_of (account_of board.now.book account)
         * (snapshot_steps board.now.book.processes + round_steps board.now.book.processes)
         + RECORD_WORDS * newly_counted seat.old.knows seat.new.knows totals.old totals.new }
-    ensures exchanges { exchanges.new
-        ≡ exchanges.old + decides_made account seat.old.knows seat.new.knows }
+    ensures exchanges { seat.new.exchanges
+        ≡ raised seat.old.exchanges (decides_made account seat.old.knows seat.new.knows) }
 {
     let call = Call::Transfer {
         from: account,
         to,
         amount,
     };
-    settle(board, seat, totals, account, &call, steps, exchanges)
+    settle(board, seat, totals, account, &call)
 }
 
 /// Moves each amount to its target from an account that the seat's process shares, all of them if the account covers their sum when
 /// the request's turn comes, and else none. Else as `transfer_shared`. Takes no memory.
-pub fn pay_shared<L: Ledger, X: Ledger>(
+pub fn pay_shared(
     board: &Board,
     seat: &mut BoardSeat,
     totals: &mut Totals,
     from: u32,
     targets: &Targets,
-    steps: &mut Steps<L>,
-    exchanges: &mut Steps<X>,
 ) -> Receipt
     requires seat { IsOf seat.old board.now }
     requires totals { HasCounted totals.old board.now.book seat.old.knows.seen }
@@ -124,30 +120,28 @@ pub fn pay_shared<L: Ledger, X: Ledger>(
     ensures board { IsOf seat.new board.now }
     ensures decides { decides_made from seat.old.knows seat.new.knows
         ≤ slots_of (account_of board.now.book from) }
-    ensures steps { steps.new ≤ steps.old + snapshot_steps board.now.book.processes
+    ensures steps { seat.new.steps ≤ seat.old.steps + snapshot_steps board.now.book.processes
         + asking_steps (slots_of (account_of board.now.book from))
         + slots_of (account_of board.now.book from)
         * (snapshot_steps board.now.book.processes + round_steps board.now.book.processes)
         + RECORD_WORDS * newly_counted seat.old.knows seat.new.knows totals.old totals.new }
-    ensures exchanges { exchanges.new
-        ≡ exchanges.old + decides_made from seat.old.knows seat.new.knows }
+    ensures exchanges { seat.new.exchanges
+        ≡ raised seat.old.exchanges (decides_made from seat.old.knows seat.new.knows) }
 {
     let call = Call::Pay {
         from,
         targets: targets.copy(),
     };
-    settle(board, seat, totals, from, &call, steps, exchanges)
+    settle(board, seat, totals, from, &call)
 }
 
 /// Asks, and turns until the request is settled.
-fn settle<L: Ledger, X: Ledger>(
+fn settle(
     board: &Board,
     seat: &mut BoardSeat,
     totals: &mut Totals,
     account: u32,
     call: &Call,
-    steps: &mut Steps<L>,
-    exchanges: &mut Steps<X>,
 ) -> Receipt
     requires seat { IsOf seat.old board.now }
     requires totals { HasCounted totals.old board.now.book seat.old.knows.seen }
@@ -178,20 +172,20 @@ fn settle<L: Ledger, X: Ledger>(
     ensures board { IsOf seat.new board.now }
     ensures decides { decides_made account seat.old.knows seat.new.knows
         ≤ slots_of (account_of board.now.book account) }
-    ensures steps { steps.new ≤ steps.old + snapshot_steps board.now.book.processes
+    ensures steps { seat.new.steps ≤ seat.old.steps + snapshot_steps board.now.book.processes
         + asking_steps (slots_of (account_of board.now.book account))
         + slots_of (account_of board.now.book account)
         * (snapshot_steps board.now.book.processes + round_steps board.now.book.processes)
         + RECORD_WORDS * newly_counted seat.old.knows seat.new.knows totals.old totals.new }
-    ensures exchanges { exchanges.new
-        ≡ exchanges.old + decides_made account seat.old.knows seat.new.knows }
+    ensures exchanges { seat.new.exchanges
+        ≡ raised seat.old.exchanges (decides_made account seat.old.knows seat.new.knows) }
 {
     seat.known();
-    let mut helping = Helping::start(board, seat, totals, account, call, steps, exchanges);
+    let mut helping = Helping::start(board, seat, totals, account, call);
     seat.known();
     loop {
         // Each turn that answers more has published one round that was decided before the request, and they are few.
-        if let HelpTurn::Settled(receipt) = helping.turn(board, seat, totals, steps, exchanges) {
+        if let HelpTurn::Settled(receipt) = helping.turn(board, seat, totals) {
             return receipt;
         }
     }

@@ -2,6 +2,7 @@
 
 ghost use Rattle.std.specs.Prelude.{◌≡◌, ◌↔◌, ◌+◌, ◌<◌, ◌≤◌, true, false, List, length, slice_index, slice_set};
 ghost use Rattle.at_base.specs.declared.decision.Decision.{Decision};
+ghost use Rattle.at_board.specs.Counting.{raised};
 ghost use Rattle.at_board.specs.Knowledge.Parts.{SeesDecision, own_part};
 ghost use Rattle.at_board.specs.Knowledge.Seats.{IsOf};
 ghost use Rattle.at_board.specs.Steps.Decide.{MayPropose};
@@ -25,24 +26,21 @@ ghost use Rattle.at_shared.specs.Unsettled.{AreDone, IsNextUnsettled};
 
 use crate::helping::{HelpTurn, Helping};
 use at_base::{Counts, Decision};
-use at_board::{Board, BoardSeat, Entry, Steps};
+use at_board::{Board, BoardSeat, Entry};
 use at_fold::Totals;
 use at_ledger::Targets;
 use at_log::{Record, append};
 use at_rounds::propose;
 use at_rows::{OpenRequest, load_request, oldest};
-use std::sync::ledger::Ledger;
 
 impl Helping {
     /// Has the next round at the front decided, publishes it with that front as the view, and answers by it.
-    pub(crate) fn decide_next<L: Ledger, X: Ledger>(
+    pub(crate) fn decide_next(
         &self,
         board: &Board,
         seat: &mut BoardSeat,
         totals: &mut Totals,
         front: &Counts,
-        steps: &mut Steps<L>,
-        exchanges: &mut Steps<X>,
     ) -> HelpTurn
         requires seat { IsOf seat.old board.now }
         requires totals { HasCounted totals.old board.now.book seat.old.knows.seen }
@@ -62,8 +60,8 @@ impl Helping {
             (own_part seat.new.knows).published }
         ensures counted { HasCounted totals.new board.now.book seat.new.knows.seen }
         ensures board { IsOf seat.new board.now }
-        ensures steps { steps.new ≡ steps.old + round_steps board.now.book.processes }
-        ensures exchanges { exchanges.new ≡ exchanges.old + 1 }
+        ensures steps { seat.new.steps ≡ raised seat.old.steps (round_steps board.now.book.processes) }
+        ensures exchanges { seat.new.exchanges ≡ raised seat.old.exchanges 1 }
     {
         let round = totals.rounds(self.account);
         let proposal = self.proposal(board, seat, totals, front);
@@ -74,12 +72,10 @@ impl Helping {
             seat,
             self.account,
             round,
-            &proposal,
-            steps,
-            exchanges,
+            &proposal
         );
         self.publish(
-            board, seat, totals, round, &decided, front, steps, exchanges,
+            board, seat, totals, round, &decided, front
         );
         self.answer(round, &decided)
     }
@@ -152,7 +148,7 @@ impl Helping {
     }
 
     /// Publishes the round of a decision, with the front as its view.
-    fn publish<L: Ledger, X: Ledger>(
+    fn publish(
         &self,
         board: &Board,
         seat: &mut BoardSeat,
@@ -160,8 +156,6 @@ impl Helping {
         round: u32,
         decision: &Decision,
         front: &Counts,
-        steps: &mut Steps<L>,
-        exchanges: &mut Steps<X>,
     )
         requires seat { IsOf seat.old board.now }
         requires totals { HasCounted totals.old board.now.book seat.old.knows.seen }
@@ -178,9 +172,9 @@ impl Helping {
             (own_part seat.new.knows).published }
         ensures counted { HasCounted totals.new board.now.book seat.new.knows.seen }
         ensures board { IsOf seat.new board.now }
-        ensures steps { steps.new ≡ steps.old + REQUEST_WORDS
-            + (RECORD_WORDS + board.now.book.processes + 1) }
-        ensures exchanges { exchanges.new ≡ exchanges.old }
+        ensures steps { seat.new.steps ≡ raised seat.old.steps (REQUEST_WORDS
+            + (RECORD_WORDS + board.now.book.processes + 1)) }
+        ensures exchanges { seat.new.exchanges ≡ seat.old.exchanges }
     {
         seat.known();
         let request = load_request(
@@ -188,14 +182,12 @@ impl Helping {
             seat,
             self.account,
             decision.slot,
-            decision.number,
-            steps,
-            exchanges,
+            decision.number
         );
         let record = record_of_round(self.account, round, *decision, request.targets, front);
         // The front stays one whatever others publish before this record. A round that another owner has published already counts
         // once.
-        append(board, seat, &record, steps, exchanges);
+        append(board, seat, &record);
         totals.count_own(seat, &record.entry);
     }
 }

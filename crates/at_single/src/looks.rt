@@ -8,30 +8,27 @@ ghost use Rattle.at_single.specs.Looks.{HasLooked};
 ghost use Rattle.at_snapshot.specs.Snapshots.{snapshot_steps};
 
 use at_base::Counts;
-use at_board::{Board, BoardSeat, Steps};
+use at_board::{Board, BoardSeat};
 use at_fold::Totals;
 use at_snapshot::snapshot;
-use std::sync::ledger::Ledger;
 
 /// Takes a snapshot, and has the totals count what it counts: what every payment does first, on shared accounts too. Takes no
 /// memory.
-pub fn look<L: Ledger, X: Ledger>(
+pub fn look(
     board: &Board,
     seat: &mut BoardSeat,
     totals: &mut Totals,
-    steps: &mut Steps<L>,
-    exchanges: &mut Steps<X>,
 ) -> Counts
     requires seat { IsOf seat.old board.now }
     requires totals { HasCounted totals.old board.now.book seat.old.knows.seen }
     ensures looked { HasLooked board.now.book seat.old.knows seat.new.knows totals.old totals.new
         result }
     ensures board { IsOf seat.new board.now }
-    ensures steps { steps.new ≤ steps.old + snapshot_steps board.now.book.processes
+    ensures steps { seat.new.steps ≤ seat.old.steps + snapshot_steps board.now.book.processes
         + RECORD_WORDS * (sum result - sum totals.old.upto) }
-    ensures exchanges { exchanges.new ≡ exchanges.old }
+    ensures exchanges { seat.new.exchanges ≡ seat.old.exchanges }
 {
-    let front = snapshot(board, seat, steps, exchanges);
-    totals.catch_up(board, seat, &front, steps, exchanges);
+    let front = snapshot(board, seat);
+    totals.catch_up(board, seat, &front);
     front
 }

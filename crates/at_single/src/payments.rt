@@ -16,23 +16,20 @@ ghost use Rattle.at_single.specs.Standing.{IsOnlyOwner, StandsAfterFront, Stands
 ghost use Rattle.at_snapshot.specs.Snapshots.{IsSnapshot, snapshot_steps};
 
 use crate::looks::look;
-use at_board::{Board, BoardSeat, Entry, Steps};
+use at_board::{Board, BoardSeat, Entry};
 use at_fold::Totals;
 use at_ledger::{Call, Reply, Targets};
 use at_log::{At, Receipt, Record, append};
-use std::sync::ledger::Ledger;
 
 /// Moves the amount from an account that the seat's process owns alone, if the balance at the front of a snapshot covers it.
 /// Takes no memory.
-pub fn transfer_own<L: Ledger, X: Ledger>(
+pub fn transfer_own(
     board: &Board,
     seat: &mut BoardSeat,
     totals: &mut Totals,
     from: u32,
     to: u32,
     amount: u64,
-    steps: &mut Steps<L>,
-    exchanges: &mut Steps<X>,
 ) -> Receipt
     requires seat { IsOf seat.old board.now }
     requires totals { HasCounted totals.old board.now.book seat.old.knows.seen }
@@ -61,16 +58,16 @@ pub fn transfer_own<L: Ledger, X: Ledger>(
     ensures own_counted { slice_index totals.new.upto seat.new.knows.first
         ≡ (own_part seat.new.knows).published }
     ensures board { IsOf seat.new board.now }
-    ensures steps { steps.new ≤ steps.old + snapshot_steps board.now.book.processes
+    ensures steps { seat.new.steps ≤ seat.old.steps + snapshot_steps board.now.book.processes
         + (RECORD_WORDS + board.now.book.processes + 1)
         + RECORD_WORDS * newly_counted seat.old.knows seat.new.knows totals.old totals.new }
     ensures steps_short { result.reply ≡ Reply.Short →
-        steps.new ≤ steps.old + snapshot_steps board.now.book.processes
+        seat.new.steps ≤ seat.old.steps + snapshot_steps board.now.book.processes
         + RECORD_WORDS * newly_counted seat.old.knows seat.new.knows totals.old totals.new }
-    ensures exchanges { exchanges.new ≡ exchanges.old }
+    ensures exchanges { seat.new.exchanges ≡ seat.old.exchanges }
 {
     let targets = Targets::one(to, amount);
-    let (reply, at) = pay(board, seat, totals, from, &targets, steps, exchanges);
+    let (reply, at) = pay(board, seat, totals, from, &targets);
     Receipt {
         call: Call::Transfer { from, to, amount },
         reply,
@@ -80,14 +77,12 @@ pub fn transfer_own<L: Ledger, X: Ledger>(
 
 /// Moves each amount to its target from an account that the seat's process owns alone, all of them if the balance at the front of
 /// a snapshot covers their sum, and else none. Takes no memory.
-pub fn pay_own<L: Ledger, X: Ledger>(
+pub fn pay_own(
     board: &Board,
     seat: &mut BoardSeat,
     totals: &mut Totals,
     from: u32,
     targets: &Targets,
-    steps: &mut Steps<L>,
-    exchanges: &mut Steps<X>,
 ) -> Receipt
     requires seat { IsOf seat.old board.now }
     requires totals { HasCounted totals.old board.now.book seat.old.knows.seen }
@@ -115,15 +110,15 @@ pub fn pay_own<L: Ledger, X: Ledger>(
     ensures own_counted { slice_index totals.new.upto seat.new.knows.first
         ≡ (own_part seat.new.knows).published }
     ensures board { IsOf seat.new board.now }
-    ensures steps { steps.new ≤ steps.old + snapshot_steps board.now.book.processes
+    ensures steps { seat.new.steps ≤ seat.old.steps + snapshot_steps board.now.book.processes
         + (RECORD_WORDS + board.now.book.processes + 1)
         + RECORD_WORDS * newly_counted seat.old.knows seat.new.knows totals.old totals.new }
     ensures steps_short { result.reply ≡ Reply.Short →
-        steps.new ≤ steps.old + snapshot_steps board.now.book.processes
+        seat.new.steps ≤ seat.old.steps + snapshot_steps board.now.book.processes
         + RECORD_WORDS * newly_counted seat.old.knows seat.new.knows totals.old totals.new }
-    ensures exchanges { exchanges.new ≡ exchanges.old }
+    ensures exchanges { seat.new.exchanges ≡ seat.old.exchanges }
 {
-    let (reply, at) = pay(board, seat, totals, from, targets, steps, exchanges);
+    let (reply, at) = pay(board, seat, totals, from, targets);
     Receipt {
         call: Call::Pay {
             from,
@@ -135,14 +130,12 @@ pub fn pay_own<L: Ledger, X: Ledger>(
 }
 
 /// What both payments do, whatever the call was: its reply, and where it stands.
-fn pay<L: Ledger, X: Ledger>(
+fn pay(
     board: &Board,
     seat: &mut BoardSeat,
     totals: &mut Totals,
     from: u32,
     targets: &Targets,
-    steps: &mut Steps<L>,
-    exchanges: &mut Steps<X>,
 ) -> (Reply, At)
     requires seat { IsOf seat.old board.now }
     requires totals { HasCounted totals.old board.now.book seat.old.knows.seen }
@@ -172,18 +165,18 @@ fn pay<L: Ledger, X: Ledger>(
     ensures own_counted { slice_index totals.new.upto seat.new.knows.first
         ≡ (own_part seat.new.knows).published }
     ensures board { IsOf seat.new board.now }
-    ensures steps { steps.new ≤ steps.old + snapshot_steps board.now.book.processes
+    ensures steps { seat.new.steps ≤ seat.old.steps + snapshot_steps board.now.book.processes
         + (RECORD_WORDS + board.now.book.processes + 1)
         + RECORD_WORDS * newly_counted seat.old.knows seat.new.knows totals.old totals.new }
     ensures steps_short { result.0 ≡ Reply.Short →
-        steps.new ≤ steps.old + snapshot_steps board.now.book.processes
+        seat.new.steps ≤ seat.old.steps + snapshot_steps board.now.book.processes
         + RECORD_WORDS * newly_counted seat.old.knows seat.new.knows totals.old totals.new }
-    ensures exchanges { exchanges.new ≡ exchanges.old }
+    ensures exchanges { seat.new.exchanges ≡ seat.old.exchanges }
 {
     seat.known();
     // There are one to four targets, as their type keeps.
     let _count = targets.len();
-    let view = look(board, seat, totals, steps, exchanges);
+    let view = look(board, seat, totals);
     if u128::from(totals.balance(from)) < targets.sum() {
         return (Reply::Short, At::Front(view));
     }
@@ -194,7 +187,7 @@ fn pay<L: Ledger, X: Ledger>(
     };
     let record = Record { entry, view };
     // The front stays one, and what it covers stays covered, whatever others publish before this record.
-    append(board, seat, &record, steps, exchanges);
+    append(board, seat, &record);
     totals.count_own(seat, &record.entry);
     (Reply::Done, At::Own(number))
 }

@@ -13,20 +13,17 @@ ghost use Rattle.at_single.specs.Standing.{StandsAfterFront, StandsAtFront, fron
 ghost use Rattle.at_snapshot.specs.Snapshots.{IsSnapshot, snapshot_steps};
 
 use crate::looks::look;
-use at_board::{Board, BoardSeat, Steps};
+use at_board::{Board, BoardSeat};
 use at_fold::Totals;
 use at_ledger::{Call, Reply};
 use at_log::{At, Receipt};
-use std::sync::ledger::Ledger;
 
 /// The balance of an account at the front of a snapshot. Nothing is published, and no memory is taken.
-pub fn read_account<L: Ledger, X: Ledger>(
+pub fn read_account(
     board: &Board,
     seat: &mut BoardSeat,
     totals: &mut Totals,
     account: u32,
-    steps: &mut Steps<L>,
-    exchanges: &mut Steps<X>,
 ) -> Receipt
     requires seat { IsOf seat.old board.now }
     requires totals { HasCounted totals.old board.now.book seat.old.knows.seen }
@@ -46,12 +43,12 @@ pub fn read_account<L: Ledger, X: Ledger>(
     ensures own_counted { slice_index totals.new.upto seat.new.knows.first
         ≡ (own_part seat.new.knows).published }
     ensures board { IsOf seat.new board.now }
-    ensures steps { steps.new ≤ steps.old + snapshot_steps board.now.book.processes
+    ensures steps { seat.new.steps ≤ seat.old.steps + snapshot_steps board.now.book.processes
         + RECORD_WORDS * newly_counted seat.old.knows seat.new.knows totals.old totals.new }
-    ensures exchanges { exchanges.new ≡ exchanges.old }
+    ensures exchanges { seat.new.exchanges ≡ seat.old.exchanges }
 {
     seat.known();
-    let front = look(board, seat, totals, steps, exchanges);
+    let front = look(board, seat, totals);
     let balance = totals.balance(account);
     Receipt {
         call: Call::Read { account },

@@ -1,6 +1,7 @@
 //! Collects, and how a whole one compares with those before it.
 
 ghost use Rattle.std.specs.Prelude.{◌≡◌, ℕ, ◌+◌, ◌<◌, ◌≤◌, ◌↔◌, length, slice_index, IsTrue, MatchOption, Option, Some};
+ghost use Rattle.at_board.specs.Counting.{raised, stepped};
 ghost use Rattle.at_history.specs.Publications.{count_of};
 ghost use Rattle.at_board.specs.Knowledge.Seats.{IsOf};
 ghost use Rattle.at_snapshot.specs.declared.collects.Collects.{Collects};
@@ -11,9 +12,8 @@ ghost use Rattle.at_snapshot.specs.Verdicts.{AreAsLong, IsVerdictOn, answer_of};
 
 use crate::scan::Turn;
 use at_base::Counts;
-use at_board::{Board, BoardSeat, Steps};
+use at_board::{Board, BoardSeat};
 use at_log::load_view;
-use std::sync::ledger::Ledger;
 
 /// The first collect of a snapshot and the last one so far.
 #[derive(Drop)]
@@ -34,25 +34,23 @@ pub enum Verdict {
 }
 
 /// Loads each length once, in the order of the processes.
-pub(crate) fn collect<L: Ledger, X: Ledger>(
+pub(crate) fn collect(
     board: &Board,
     seat: &mut BoardSeat,
-    steps: &mut Steps<L>,
-    exchanges: &mut Steps<X>,
 ) -> Counts
     requires { IsOf seat.old board.now }
     ensures collect { IsCollect board.now.book seat.old.knows seat.new.knows }
     ensures counts { result ≡ collect_of seat.new.knows }
     ensures board { IsOf seat.new board.now }
-    ensures steps { steps.new ≡ steps.old + board.now.book.processes }
-    ensures exchanges { exchanges.new ≡ exchanges.old }
+    ensures steps { seat.new.steps ≡ raised seat.old.steps board.now.book.processes }
+    ensures exchanges { seat.new.exchanges ≡ seat.old.exchanges }
 {
     seat.known();
     board.book().known();
     let n = board.book().processes();
     let mut counts = Counts::zeros(n);
     for p in 0..n {
-        counts.set(p, board.load_length(seat, p, steps, exchanges));
+        counts.set(p, board.load_length(seat, p));
     }
     counts
 }
@@ -119,13 +117,11 @@ pub fn add_collect(collects: &mut Option<Collects>, now: Counts)
 
 impl Verdict {
     /// What a scan's turn answers by it. A view that is lent is loaded.
-    pub(crate) fn answer<L: Ledger, X: Ledger>(
+    pub(crate) fn answer(
         self,
         board: &Board,
         seat: &mut BoardSeat,
         now: &Counts,
-        steps: &mut Steps<L>,
-        exchanges: &mut Steps<X>,
     ) -> Turn
         requires board { IsOf seat.old board.now }
         requires verdict { (collects : Option Collects)
@@ -133,14 +129,12 @@ impl Verdict {
         requires seen { (p : ℕ) → p < length now.now
             → slice_index now.now p ≤ count_of p seat.old.knows.seen }
         ensures answer { result ≡ answer_of self seat.old.knows now.now }
-        ensures same { seat.new ≡ seat.old }
-        ensures steps { steps.new ≡ steps.old + view_steps board.now.book.processes result }
-        ensures exchanges { exchanges.new ≡ exchanges.old }
+        ensures same { seat.new ≡ stepped seat.old (view_steps board.now.book.processes result) }
     {
         match self {
             Verdict::Repeated => Turn::Clean(now.copy()),
             Verdict::Lent(p) => {
-                Turn::Borrowed(load_view(board, seat, p, now.get(p) - 1, steps, exchanges))
+                Turn::Borrowed(load_view(board, seat, p, now.get(p) - 1))
             }
             Verdict::Undecided => Turn::Again,
         }

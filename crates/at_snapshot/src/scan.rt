@@ -1,6 +1,7 @@
 //! Scans, made turn by turn.
 
 ghost use Rattle.std.specs.Prelude.{◌≡◌, ◌+◌};
+ghost use Rattle.at_board.specs.Counting.{raised};
 ghost use Rattle.at_ledger.specs.Book.{BookTerms};
 ghost use Rattle.at_board.specs.Knowledge.Seats.{IsOf};
 ghost use Rattle.at_snapshot.specs.Collected.{IsCollect, collect_of};
@@ -10,10 +11,9 @@ ghost use Rattle.at_snapshot.specs.Turns.{IsAnswer, view_steps};
 
 use crate::collects::{Collects, add_collect, collect, compare};
 use at_base::Counts;
-use at_board::{Board, BoardSeat, Steps};
+use at_board::{Board, BoardSeat};
 use std::marker::Model;
 use std::snapshot::Snapshot;
-use std::sync::ledger::Ledger;
 
 /// What a turn of a scan answers.
 #[derive(Drop)]
@@ -65,12 +65,10 @@ impl Scan {
     }
 
     /// Makes one collect and compares it with those before: `n` steps of `n` processes, and `n` more where it borrows.
-    pub fn turn<L: Ledger, X: Ledger>(
+    pub fn turn(
         &mut self,
         board: &Board,
         seat: &mut BoardSeat,
-        steps: &mut Steps<L>,
-        exchanges: &mut Steps<X>,
     ) -> Turn
         requires board { IsOf seat.old board.now }
         requires scan { IsScanOf board.now.book self.old seat.old.knows }
@@ -82,15 +80,15 @@ impl Scan {
         ensures snapshot { OnCounts result (IsSnapshot board.now.book self.old.start
             seat.new.knows) }
         ensures board { IsOf seat.new board.now }
-        ensures steps { steps.new ≡ steps.old + board.now.book.processes
-            + view_steps board.now.book.processes result }
-        ensures exchanges { exchanges.new ≡ exchanges.old }
+        ensures steps { seat.new.steps ≡ raised seat.old.steps (board.now.book.processes
+            + view_steps board.now.book.processes result) }
+        ensures exchanges { seat.new.exchanges ≡ seat.old.exchanges }
     {
         seat.known();
-        let now = collect(board, seat, steps, exchanges);
+        let now = collect(board, seat);
         self.mark = Snapshot::of(seat);
         let verdict = compare(&self.collects, &now, seat.process());
-        let answer = verdict.answer(board, seat, &now, steps, exchanges);
+        let answer = verdict.answer(board, seat, &now);
         add_collect(&mut self.collects, now);
         answer
     }

@@ -7,16 +7,13 @@ ghost use Rattle.at_snapshot.specs.Snapshots.{HasCollected, IsSnapshot, snapshot
 
 use crate::scan::{Scan, Turn};
 use at_base::Counts;
-use at_board::{Board, BoardSeat, Steps};
-use std::sync::ledger::Ledger;
+use at_board::{Board, BoardSeat};
 
 /// The counts of one prefix of the board's list, which begins with all that the seat had seen. It takes at most `n + 1` collects
 /// of `n` processes, and no memory.
-pub fn snapshot<L: Ledger, X: Ledger>(
+pub fn snapshot(
     board: &Board,
     seat: &mut BoardSeat,
-    steps: &mut Steps<L>,
-    exchanges: &mut Steps<X>,
 ) -> Counts
     requires { IsOf seat.old board.now }
     ensures snapshot { IsSnapshot board.now.book seat.old.knows seat.new.knows result }
@@ -24,13 +21,13 @@ pub fn snapshot<L: Ledger, X: Ledger>(
     ensures collects { HasCollected board.now.book seat.old.knows seat.new.knows
         (board.now.book.processes + 1) }
     ensures board { IsOf seat.new board.now }
-    ensures steps { steps.new ≤ steps.old + snapshot_steps board.now.book.processes }
-    ensures exchanges { exchanges.new ≡ exchanges.old }
+    ensures steps { seat.new.steps ≤ seat.old.steps + snapshot_steps board.now.book.processes }
+    ensures exchanges { seat.new.exchanges ≡ seat.old.exchanges }
 {
     seat.known();
     let mut scan = Scan::start(seat);
     loop {
-        match scan.turn(board, seat, steps, exchanges) {
+        match scan.turn(board, seat) {
             Turn::Clean(counts) | Turn::Borrowed(counts) => return counts,
             Turn::Again => {}
         }

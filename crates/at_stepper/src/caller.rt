@@ -2,6 +2,7 @@
 
 ghost use Rattle.std.specs.Prelude.{◌≡◌, ℕ, ◌+◌, ◌^◌, ◌<◌, ◌==◌, ◌++◌, [], ◌∷◌, All, Option, Some, None, length, slice_index_or, take};
 ghost use Rattle.std.specs.Vec.{vec_capacity};
+ghost use Rattle.at_board.specs.Counting.{raised};
 ghost use Rattle.at_board.specs.Knowledge.Seats.{IsOf};
 ghost use Rattle.at_ledger.specs.Call.{IsCallOn};
 ghost use Rattle.at_ledger.specs.declared.call.Call.{Call};
@@ -12,13 +13,12 @@ ghost use Rattle.at_calling.specs.Calling.{MakesCallStep, exchanges_of};
 ghost use Rattle.at_stepper.specs.KeptCallers.{IsCallBegun, calls_answered};
 
 use crate::turned::Turned;
-use at_board::{Board, BoardSeat, Steps};
+use at_board::{Board, BoardSeat};
 use at_calling::Calling;
 use at_ledger::Call;
 use at_log::{At, Receipt};
 use at_object::{Pass, Rest};
 use std::marker::Model;
-use std::sync::ledger::Ledger;
 
 /// What a caller begins with: the pass of its process, and the memory for the receipts of its calls.
 #[derive(Drop)]
@@ -92,11 +92,9 @@ impl Caller {
     }
 
     /// Makes the next step of the call in the making. Where this ends the call, its receipt is kept and answered.
-    pub(crate) fn turn<L: Ledger, X: Ledger>(
+    pub(crate) fn turn(
         &mut self,
         board: &Board,
-        steps: &mut Steps<L>,
-        exchanges: &mut Steps<X>,
     ) -> Turned
         requires board { IsOf self.old.seat board.now }
         requires left { 0 < calls_left_of self.old }
@@ -110,14 +108,14 @@ impl Caller {
         ensures process { self.new.pass.knows.first ≡ self.old.pass.knows.first }
         ensures pass { IsPassOf self.old.pass board.now → IsPassOf self.new.pass board.now }
         ensures board { IsOf self.new.seat board.now }
-        ensures steps { steps.new ≡ steps.old + steps_in result }
-        ensures exchanges { exchanges.new ≡ exchanges.old + exchanges_of self.old.stage }
+        ensures steps { seat.new.steps ≡ raised seat.old.steps (steps_in result) }
+        ensures exchanges { seat.new.exchanges ≡ raised seat.old.exchanges (exchanges_of self.old.stage) }
     {
         let Some(calling) = &mut self.making.calling else {
             // A call is left, and so it is in the making.
             unreachable!()
         };
-        let made = calling.turn(board, &mut self.seat, &mut self.rest, steps, exchanges);
+        let made = calling.turn(board, &mut self.seat, &mut self.rest);
         self.seat.known();
         let Some(receipt) = made else {
             return Turned::Step;

@@ -9,7 +9,6 @@ ghost use Rattle.at_stepper.specs.Schedules.{AreTurnsOf};
 ghost use Rattle.at_stepper.specs.Stepping.{IsOver, all_turns_left, calls_handed_in, calls_left, files_of};
 
 use crate::stepper::Stepper;
-use at_board::Steps;
 use at_ledger::{Book, Call, Line};
 use at_object::NoMemory;
 use std::alloc::{AllocError, Global};
@@ -65,7 +64,7 @@ pub fn replay(
 }
 
 /// Makes all turns of a new run, with new counters.
-fn turns_of<L: Ledger, X: Ledger>(
+fn turns_of(
     alloc: Global,
     stepper: &mut Stepper,
     processes: u32,
@@ -84,20 +83,17 @@ fn turns_of<L: Ledger, X: Ledger>(
     ensures over { OnOk result (IsOver stepper.new) }
     ensures same { IsSameRun stepper.old stepper.new }
 {
-    let (steps, exchanges) = (&mut Steps::<L>::new(steps), &mut Steps::<X>::new(exchanges));
     let mut turns = Vec::new(alloc);
-    make_turns(stepper, processes, schedule, &mut turns, steps, exchanges)?;
+    make_turns(stepper, processes, schedule, &mut turns)?;
     Ok(turns)
 }
 
 /// Makes all turns of a new run: those of the schedule, and then those of all processes in turn until all are idle.
-fn make_turns<L: Ledger, X: Ledger>(
+fn make_turns(
     stepper: &mut Stepper,
     processes: u32,
     schedule: &[u32],
     turns: &mut Vec<TurnMade>,
-    steps: &mut Steps<L>,
-    exchanges: &mut Steps<X>,
 ) -> Result<(), NoMemory>
     requires unturned { IsUnturned stepper.old }
     requires count { length stepper.old.callers ≡ processes }
@@ -109,19 +105,17 @@ fn make_turns<L: Ledger, X: Ledger>(
     ensures same { IsSameRun stepper.old stepper.new }
 {
     for process in schedule {
-        turn_unless_idle(stepper, *process, turns, steps, exchanges)?;
+        turn_unless_idle(stepper, *process, turns)?;
     }
-    run_out(stepper, processes, turns, steps, exchanges)?;
+    run_out(stepper, processes, turns)?;
     Ok(())
 }
 
 /// Makes turns of processes 0, 1 and so on in turn, again and again, until all are idle.
-fn run_out<L: Ledger, X: Ledger>(
+fn run_out(
     stepper: &mut Stepper,
     processes: u32,
     turns: &mut Vec<TurnMade>,
-    steps: &mut Steps<L>,
-    exchanges: &mut Steps<X>,
 ) -> Result<(), NoMemory>
     requires count { length stepper.old.callers ≡ processes }
     ensures turned { OnOk result (TurnInRounds processes turns.old.items stepper.old
@@ -130,7 +124,7 @@ fn run_out<L: Ledger, X: Ledger>(
     ensures same { IsSameRun stepper.old stepper.new }
 {
     while !is_over(stepper, processes) {
-        make_round(stepper, processes, turns, steps, exchanges)?;
+        make_round(stepper, processes, turns)?;
     }
     Ok(())
 }
@@ -150,12 +144,10 @@ fn is_over(stepper: &Stepper, processes: u32) -> bool
 }
 
 /// Makes a turn of each process that isn't idle by then.
-fn make_round<L: Ledger, X: Ledger>(
+fn make_round(
     stepper: &mut Stepper,
     processes: u32,
     turns: &mut Vec<TurnMade>,
-    steps: &mut Steps<L>,
-    exchanges: &mut Steps<X>,
 ) -> Result<(), NoMemory>
     requires count { length stepper.old.callers ≡ processes }
     ensures turned { OnOk result (TurnBy (range_with_len 0 processes) turns.old.items stepper.old
@@ -165,18 +157,16 @@ fn make_round<L: Ledger, X: Ledger>(
     ensures same { IsSameRun stepper.old stepper.new }
 {
     for process in 0..processes {
-        turn_unless_idle(stepper, process, turns, steps, exchanges)?;
+        turn_unless_idle(stepper, process, turns)?;
     }
     Ok(())
 }
 
 /// Makes the process's next turn, unless it is idle.
-fn turn_unless_idle<L: Ledger, X: Ledger>(
+fn turn_unless_idle(
     stepper: &mut Stepper,
     process: u32,
     turns: &mut Vec<TurnMade>,
-    steps: &mut Steps<L>,
-    exchanges: &mut Steps<X>,
 ) -> Result<(), NoMemory>
     requires { process < length stepper.old.callers }
     ensures turned { OnOk result (TurnBy (process ∷ []) turns.old.items stepper.old
@@ -190,7 +180,7 @@ fn turn_unless_idle<L: Ledger, X: Ledger>(
     if stepper.idle(process) {
         return Ok(());
     }
-    let answered = stepper.turn(process, steps, exchanges).is_answer();
+    let answered = stepper.turn(process).is_answer();
     turns.push(TurnMade { process, answered })?;
     Ok(())
 }

@@ -1,6 +1,7 @@
 //! Runs of the calls of all processes by turns.
 
 ghost use Rattle.std.specs.Prelude.{◌≡◌, ◌≢◌, ℕ, ◌+◌, ◌<◌, ◌==◌, All, IfErr, IfOk, length, slice_index, slice_index_or};
+ghost use Rattle.at_board.specs.Counting.{raised};
 ghost use Rattle.at_stepper.specs.Callers.{CallerTerms, IsFile, LeavesCaller, answers_in, steps_in};
 ghost use Rattle.at_calling.specs.Calling.{MakesCallStep, exchanges_of};
 ghost use Rattle.at_stepper.specs.Stepping.{IsNewStepper, all_turns_left, calls_handed_in, calls_left, files_of};
@@ -9,11 +10,9 @@ use crate::beginning::{Memory, callers_for, memory_for};
 use crate::progress::Progress;
 use crate::run::Run;
 use crate::turned::Turned;
-use at_board::Steps;
 use at_ledger::{Book, Call};
 use std::alloc::Global;
 use std::marker::Model;
-use std::sync::ledger::Ledger;
 
 /// A run of all calls of some files on one ledger, in which each turn makes the next step of a process that the caller picks. When all
 /// calls are answered, `finish` answers the journal.
@@ -76,11 +75,9 @@ impl Stepper {
     /// Makes the process's next turn: one step of the board, or none where its call is answered not-owner or full. The last turn of a call
     /// answers its receipt, and the call after it begins with the process's next turn. The work is that of one step, and of a copy of the
     /// receipt where there is one. It takes no memory.
-    pub fn turn<L: Ledger, X: Ledger>(
+    pub fn turn(
         &mut self,
         process: u32,
-        steps: &mut Steps<L>,
-        exchanges: &mut Steps<X>,
     ) -> Turned
         requires left { 0 < slice_index (calls_left self.old) process }
         ensures turned { (d : CallerTerms) → LeavesCaller self.old.ledger.book
@@ -102,12 +99,12 @@ impl Stepper {
             → slice_index (calls_left self.new) q ≡ slice_index (calls_left self.old) q }
         // Whatever is scheduled, the turns come to an end.
         ensures turns_left { all_turns_left self.new < all_turns_left self.old }
-        ensures steps { steps.new ≡ steps.old + steps_in result }
-        ensures exchanges { (d : CallerTerms) → exchanges.new ≡ exchanges.old
+        ensures steps { seat.new.steps ≡ raised seat.old.steps (steps_in result) }
+        ensures exchanges { (d : CallerTerms) → seat.new.exchanges ≡ seat.old.exchanges
             + exchanges_of (slice_index_or self.old.callers process d).stage }
     {
         match &mut self.progress {
-            Progress::Running(run) => run.turn(process, steps, exchanges),
+            Progress::Running(run) => run.turn(process),
             // All calls of such a run are answered.
             Progress::Ended(_) | Progress::Closed(_) => unreachable!(),
         }

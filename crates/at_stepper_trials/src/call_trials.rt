@@ -5,7 +5,7 @@ ghost use Rattle.at_board.specs.Knowledge.Seats.{IsOf};
 ghost use Rattle.at_fold.specs.HasCounted.{HasCounted};
 
 use crate::callers::{pays, reads};
-use at_board::{Board, BoardSeat, Steps};
+use at_board::{Board, BoardSeat};
 use at_fold::Totals;
 use at_ledger::Reply;
 use at_log::{At, Receipt};
@@ -24,19 +24,17 @@ fn is_done_first(receipt: &Receipt) -> bool {
 }
 
 /// Whether a payment of so much ends in so many turns, done with the first record or short at a front.
-fn is_paid<L: Ledger, X: Ledger>(
+fn is_paid(
     board: &Board,
     seat: &mut BoardSeat,
     totals: &mut Totals,
     payment: (u64, bool, u32),
-    steps: &mut Steps<L>,
-    exchanges: &mut Steps<X>,
 ) -> bool
     requires board { IsOf seat.old board.now }
     requires totals { HasCounted totals.old board.now.book seat.old.knows.seen }
 {
     let (amount, covered, turns) = payment;
-    match pays(board, seat, totals, amount, steps, exchanges) {
+    match pays(board, seat, totals, amount) {
         Some((receipt, taken)) if covered => taken == turns && is_done_first(&receipt),
         Some((receipt, taken)) => {
             taken == turns && receipt.reply == Reply::Short && matches!(&receipt.at, At::Front(_))
@@ -46,25 +44,23 @@ fn is_paid<L: Ledger, X: Ledger>(
 }
 
 /// Whether a read of account 0 tells this balance in so many turns.
-fn is_read<L: Ledger, X: Ledger>(
+fn is_read(
     board: &Board,
     seat: &mut BoardSeat,
     totals: &mut Totals,
     balance: u64,
     turns: u32,
-    steps: &mut Steps<L>,
-    exchanges: &mut Steps<X>,
 ) -> bool
     requires board { IsOf seat.old board.now }
     requires totals { HasCounted totals.old board.now.book seat.old.knows.seen }
 {
     board.book().known();
-    let (receipt, taken) = reads(board, seat, totals, 0, steps, exchanges);
+    let (receipt, taken) = reads(board, seat, totals, 0);
     taken == turns && receipt.reply == Reply::Balance(balance)
 }
 
 /// Process 0 pays, and process 1 reads account 0 then.
-fn pays_and_reads<L: Ledger, X: Ledger, R: Abort>(
+fn pays_and_reads<R: Abort>(
     rt: &R,
     alloc: Global,
     one: Blank,
@@ -76,20 +72,17 @@ fn pays_and_reads<L: Ledger, X: Ledger, R: Abort>(
     requires parts { (one.parts ≡ L.parts) × (another.parts ≡ X.parts) }
     requires some { (0 < one.parts) × (0 < another.parts) }
 {
-    let (steps, exchanges) = (&mut Steps::<L>::new(one), &mut Steps::<X>::new(another));
     let (board, mut seat, mut other) = new_pair(alloc, 4, ACCOUNTS).expect(rt, "a board");
     let mut totals = Totals::new(alloc, board.book()).expect(rt, "totals");
     let mut others = Totals::new(alloc, board.book()).expect(rt, "totals of the other");
     let (balance, turns) = read;
-    let paid = is_paid(&board, &mut seat, &mut totals, payment, steps, exchanges);
+    let paid = is_paid(&board, &mut seat, &mut totals, payment);
     let told = is_read(
         &board,
         &mut other,
         &mut others,
         balance,
-        turns,
-        steps,
-        exchanges,
+        turns
     );
     assert!(rt; paid && told);
 }

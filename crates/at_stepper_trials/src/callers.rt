@@ -6,21 +6,18 @@ ghost use Rattle.at_fold.specs.HasCounted.{HasCounted};
 ghost use Rattle.at_stepper_trials.specs.Machines.{IsPaying};
 
 use crate::movers::has_own_account;
-use at_board::{Board, BoardSeat, Steps};
+use at_board::{Board, BoardSeat};
 use at_calling::{PayingAlone, Reading};
 use at_fold::Totals;
 use at_ledger::{Call, Targets};
 use at_log::Receipt;
-use std::sync::ledger::Ledger;
 
 /// The receipt of a payment to account 0 from the process's own account, where there is room, and how many turns it took.
-pub(crate) fn pays<L: Ledger, X: Ledger>(
+pub(crate) fn pays(
     board: &Board,
     seat: &mut BoardSeat,
     totals: &mut Totals,
     amount: u64,
-    steps: &mut Steps<L>,
-    exchanges: &mut Steps<X>,
 ) -> Option<(Receipt, u32)>
     requires board { IsOf seat.old board.now }
     requires totals { HasCounted totals.old board.now.book seat.old.knows.seen }
@@ -39,23 +36,21 @@ pub(crate) fn pays<L: Ledger, X: Ledger>(
     };
     let targets = Targets::one(0, amount);
     let paying = PayingAlone::start(board, seat, totals, call, from, targets);
-    Some(ends_paying(paying, board, seat, totals, steps, exchanges))
+    Some(ends_paying(paying, board, seat, totals))
 }
 
 /// The receipt of a payment that isn't ended, and in how many more turns it ends.
-fn ends_paying<L: Ledger, X: Ledger>(
+fn ends_paying(
     mut paying: PayingAlone,
     board: &Board,
     seat: &mut BoardSeat,
     totals: &mut Totals,
-    steps: &mut Steps<L>,
-    exchanges: &mut Steps<X>,
 ) -> (Receipt, u32)
     requires { IsPaying board.now seat.old totals.old paying }
 {
     let mut turns: u32 = 1;
     loop {
-        match paying.turn(board, seat, totals, steps, exchanges) {
+        match paying.turn(board, seat, totals) {
             Some(receipt) => return (receipt, turns),
             None => turns = turns.saturating_add(1),
         }
@@ -63,13 +58,11 @@ fn ends_paying<L: Ledger, X: Ledger>(
 }
 
 /// The receipt of a read, and how many turns it took.
-pub(crate) fn reads<L: Ledger, X: Ledger>(
+pub(crate) fn reads(
     board: &Board,
     seat: &mut BoardSeat,
     totals: &mut Totals,
     account: u32,
-    steps: &mut Steps<L>,
-    exchanges: &mut Steps<X>,
 ) -> (Receipt, u32)
     requires board { IsOf seat.old board.now }
     requires totals { HasCounted totals.old board.now.book seat.old.knows.seen }
@@ -78,7 +71,7 @@ pub(crate) fn reads<L: Ledger, X: Ledger>(
     let mut reading = Reading::start(board, seat, totals, account);
     let mut turns: u32 = 1;
     loop {
-        match reading.turn(board, seat, totals, steps, exchanges) {
+        match reading.turn(board, seat, totals) {
             Some(receipt) => return (receipt, turns),
             None => turns = turns.saturating_add(1),
         }

@@ -6,17 +6,14 @@ ghost use Rattle.at_board.specs.Knowledge.Seats.{IsOf};
 ghost use Rattle.at_stepper_trials.specs.Machines.{HasSeenSoMany};
 
 use at_base::Counts;
-use at_board::{Board, BoardSeat, Steps};
+use at_board::{Board, BoardSeat};
 use at_log::{Entry, Record};
 use at_machines::{Collecting, LoadingEntry, LoadingView};
-use std::sync::ledger::Ledger;
 
 /// The counts of a collect, and how many turns it took.
-fn collects<L: Ledger, X: Ledger>(
+fn collects(
     board: &Board,
     seat: &mut BoardSeat,
-    steps: &mut Steps<L>,
-    exchanges: &mut Steps<X>,
 ) -> (Counts, u32)
     requires { IsOf seat.old board.now }
     ensures board { IsOf seat.new board.now }
@@ -26,7 +23,7 @@ fn collects<L: Ledger, X: Ledger>(
     let mut collecting = Collecting::start(board, seat);
     let mut turns: u32 = 1;
     loop {
-        match collecting.turn(board, seat, steps, exchanges) {
+        match collecting.turn(board, seat) {
             Some(counts) => return (counts, turns),
             None => turns = turns.saturating_add(1),
         }
@@ -34,12 +31,10 @@ fn collects<L: Ledger, X: Ledger>(
 }
 
 /// The entry of the first record of a process, and how many turns its load took.
-fn loads_entry<L: Ledger, X: Ledger>(
+fn loads_entry(
     board: &Board,
     seat: &mut BoardSeat,
     p: u32,
-    steps: &mut Steps<L>,
-    exchanges: &mut Steps<X>,
 ) -> (Entry, u32)
     requires board { IsOf seat.old board.now }
     requires record { SeesRecord seat.old.knows p 0 }
@@ -48,7 +43,7 @@ fn loads_entry<L: Ledger, X: Ledger>(
     let mut loading = LoadingEntry::start(seat, p, 0);
     let mut turns: u32 = 1;
     loop {
-        match loading.turn(board, seat, steps, exchanges) {
+        match loading.turn(board, seat) {
             Some(entry) => return (entry, turns),
             None => turns = turns.saturating_add(1),
         }
@@ -56,12 +51,10 @@ fn loads_entry<L: Ledger, X: Ledger>(
 }
 
 /// The view of that record, and how many turns its load took.
-fn loads_view<L: Ledger, X: Ledger>(
+fn loads_view(
     board: &Board,
     seat: &mut BoardSeat,
     p: u32,
-    steps: &mut Steps<L>,
-    exchanges: &mut Steps<X>,
 ) -> (Counts, u32)
     requires board { IsOf seat.old board.now }
     requires record { SeesRecord seat.old.knows p 0 }
@@ -70,7 +63,7 @@ fn loads_view<L: Ledger, X: Ledger>(
     let mut loading = LoadingView::start(board, seat, p, 0);
     let mut turns: u32 = 1;
     loop {
-        match loading.turn(board, seat, steps, exchanges) {
+        match loading.turn(board, seat) {
             Some(view) => return (view, turns),
             None => turns = turns.saturating_add(1),
         }
@@ -79,19 +72,17 @@ fn loads_view<L: Ledger, X: Ledger>(
 
 /// The first record of process 0, where a collect counts it, and how many turns the collect and the loads of its entry and its view
 /// took.
-pub(crate) fn loads_first<L: Ledger, X: Ledger>(
+pub(crate) fn loads_first(
     board: &Board,
     seat: &mut BoardSeat,
-    steps: &mut Steps<L>,
-    exchanges: &mut Steps<X>,
 ) -> Option<(Record, (u32, u32, u32))>
     requires { IsOf seat.old board.now }
 {
-    let (counts, lengths) = collects(board, seat, steps, exchanges);
+    let (counts, lengths) = collects(board, seat);
     if counts.get(0) == 0 {
         return None;
     }
-    let (entry, words) = loads_entry(board, seat, 0, steps, exchanges);
-    let (view, loads) = loads_view(board, seat, 0, steps, exchanges);
+    let (entry, words) = loads_entry(board, seat, 0);
+    let (view, loads) = loads_view(board, seat, 0);
     Some((Record { entry, view }, (lengths, words, loads)))
 }

@@ -7,7 +7,7 @@ ghost use Rattle.at_players.specs.SmallBoard.{AreNewPair};
 use crate::loads::loads_first;
 use crate::movers::{ends, goes_on, moves};
 use at_base::Counts;
-use at_board::{Board, BoardSeat, Steps};
+use at_board::{Board, BoardSeat};
 use at_log::{Entry, Record};
 use at_machines::Snapping;
 use at_players::boards::new_pair;
@@ -39,17 +39,15 @@ fn moves_nothing(record: &Record) -> bool {
 
 /// Whether process 0 moves nothing in 4 loads and 10 stores, and process 1 loads the record then, in 2 loads of lengths, 7 of words
 /// and 2 of counts.
-fn is_told<L: Ledger, X: Ledger>(
+fn is_told(
     board: &Board,
     seat: &mut BoardSeat,
     other: &mut BoardSeat,
-    steps: &mut Steps<L>,
-    exchanges: &mut Steps<X>,
 ) -> bool
     requires { AreNewPair board.now seat.old other.old }
 {
-    let moved = moves(board, seat, steps, exchanges);
-    match loads_first(board, other, steps, exchanges) {
+    let moved = moves(board, seat);
+    match loads_first(board, other) {
         Some((record, turns)) => {
             moved == Some((4, 10)) && turns == (2, 7, 2) && moves_nothing(&record)
         }
@@ -58,17 +56,15 @@ fn is_told<L: Ledger, X: Ledger>(
 }
 
 /// Moves nothing so many times.
-fn moves_often<L: Ledger, X: Ledger>(
+fn moves_often(
     board: &Board,
     seat: &mut BoardSeat,
     records: u32,
-    steps: &mut Steps<L>,
-    exchanges: &mut Steps<X>,
 ) -> bool
     requires { IsOf seat.old board.now }
 {
     for _record in 0..records {
-        if moves(board, seat, steps, exchanges).is_none() {
+        if moves(board, seat).is_none() {
             return false;
         }
     }
@@ -77,26 +73,24 @@ fn moves_often<L: Ledger, X: Ledger>(
 
 /// The counts of a snapshot of process 0 whose first collect is whole before process 1 moves so many times, and in how many more
 /// turns it ends.
-fn snaps_beside<L: Ledger, X: Ledger>(
+fn snaps_beside(
     board: &Board,
     seat: &mut BoardSeat,
     other: &mut BoardSeat,
     records: u32,
-    steps: &mut Steps<L>,
-    exchanges: &mut Steps<X>,
 ) -> Option<(Counts, u32)>
     requires { AreNewPair board.now seat.old other.old }
 {
     let mut snapping = Snapping::start(board, seat);
-    if !goes_on(&mut snapping, board, seat, steps, exchanges)
-        || !goes_on(&mut snapping, board, seat, steps, exchanges)
+    if !goes_on(&mut snapping, board, seat)
+        || !goes_on(&mut snapping, board, seat)
     {
         return None;
     }
-    if !moves_often(board, other, records, steps, exchanges) {
+    if !moves_often(board, other, records) {
         return None;
     }
-    Some(ends(snapping, board, seat, steps, exchanges))
+    Some(ends(snapping, board, seat))
 }
 
 /// Whether a snapshot of two processes ended with these counts in so many more turns.
@@ -108,18 +102,17 @@ fn has_ended(snapped: &Option<(Counts, u32)>, counts: (u32, u32), turns: u32) ->
 }
 
 /// One process moves, and the other loads the record.
-fn tells<L: Ledger, X: Ledger, R: Abort>(rt: &R, alloc: Global, one: Blank, another: Blank)
+fn tells<R: Abort>(rt: &R, alloc: Global, one: Blank, another: Blank)
     requires names { (one.name ≡ L.name) × (another.name ≡ X.name) }
     requires parts { (one.parts ≡ L.parts) × (another.parts ≡ X.parts) }
     requires some { (0 < one.parts) × (0 < another.parts) }
 {
-    let (steps, exchanges) = (&mut Steps::<L>::new(one), &mut Steps::<X>::new(another));
     let (board, mut seat, mut other) = new_pair(alloc, 4, ACCOUNTS).expect(rt, "a board");
-    assert!(rt; is_told(&board, &mut seat, &mut other, steps, exchanges));
+    assert!(rt; is_told(&board, &mut seat, &mut other));
 }
 
 /// A snapshot whose first collect is whole before the other process moves so many times.
-fn meets<L: Ledger, X: Ledger, R: Abort>(
+fn meets<R: Abort>(
     rt: &R,
     alloc: Global,
     one: Blank,
@@ -132,9 +125,8 @@ fn meets<L: Ledger, X: Ledger, R: Abort>(
     requires parts { (one.parts ≡ L.parts) × (another.parts ≡ X.parts) }
     requires some { (0 < one.parts) × (0 < another.parts) }
 {
-    let (steps, exchanges) = (&mut Steps::<L>::new(one), &mut Steps::<X>::new(another));
     let (board, mut seat, mut other) = new_pair(alloc, 4, ACCOUNTS).expect(rt, "a board");
-    let snapped = snaps_beside(&board, &mut seat, &mut other, records, steps, exchanges);
+    let snapped = snaps_beside(&board, &mut seat, &mut other, records);
     assert!(rt; has_ended(&snapped, counts, turns));
 }
 

@@ -9,11 +9,10 @@ ghost use Rattle.at_snapshot.specs.Snapshots.{IsSnapshot};
 ghost use Rattle.at_stepper_trials.specs.Machines.{IsStillSnapping};
 
 use at_base::Counts;
-use at_board::{Board, BoardSeat, Steps};
+use at_board::{Board, BoardSeat};
 use at_ledger::{Book, Targets};
 use at_log::{Entry, Record};
 use at_machines::{Appending, Snapping};
-use std::sync::ledger::Ledger;
 
 /// Whether a process owns the account after that of its number alone.
 pub(crate) fn has_own_account(book: &Book, process: u32) -> bool
@@ -28,26 +27,22 @@ pub(crate) fn has_own_account(book: &Book, process: u32) -> bool
 }
 
 /// Whether one more turn doesn't end a snapshot.
-pub(crate) fn goes_on<L: Ledger, X: Ledger>(
+pub(crate) fn goes_on(
     snapping: &mut Snapping,
     board: &Board,
     seat: &mut BoardSeat,
-    steps: &mut Steps<L>,
-    exchanges: &mut Steps<X>,
 ) -> bool
     requires { IsStillSnapping board.now seat.old snapping.old }
     ensures { IsTrue result → IsStillSnapping board.now seat.new snapping.new }
 {
-    snapping.turn(board, seat, steps, exchanges).is_none()
+    snapping.turn(board, seat).is_none()
 }
 
 /// The counts of a snapshot, and in how many more turns it ends.
-pub(crate) fn ends<L: Ledger, X: Ledger>(
+pub(crate) fn ends(
     mut snapping: Snapping,
     board: &Board,
     seat: &mut BoardSeat,
-    steps: &mut Steps<L>,
-    exchanges: &mut Steps<X>,
 ) -> (Counts, u32)
     requires { IsStillSnapping board.now seat.old snapping }
     ensures snapshot { IsSnapshot board.now.book snapping.start seat.new.knows result.0 }
@@ -56,7 +51,7 @@ pub(crate) fn ends<L: Ledger, X: Ledger>(
 {
     let mut turns: u32 = 1;
     loop {
-        match snapping.turn(board, seat, steps, exchanges) {
+        match snapping.turn(board, seat) {
             Some(counts) => return (counts, turns),
             None => turns = turns.saturating_add(1),
         }
@@ -64,12 +59,10 @@ pub(crate) fn ends<L: Ledger, X: Ledger>(
 }
 
 /// Publishes a record. How many turns that took.
-fn appends<L: Ledger, X: Ledger>(
+fn appends(
     mut appending: Appending,
     board: &Board,
     seat: &mut BoardSeat,
-    steps: &mut Steps<L>,
-    exchanges: &mut Steps<X>,
 ) -> u32
     requires board { IsOf seat.old board.now }
     requires mark { seat.old.knows ≡ appending.mark }
@@ -77,18 +70,16 @@ fn appends<L: Ledger, X: Ledger>(
     ensures { IsOf seat.new board.now }
 {
     let mut turns: u32 = 1;
-    while !appending.turn(board, seat, steps, exchanges) {
+    while !appending.turn(board, seat) {
         turns = turns.saturating_add(1);
     }
     turns
 }
 
 /// Moves nothing with the view of a snapshot, where there is room. How many turns the snapshot and the append took.
-pub(crate) fn moves<L: Ledger, X: Ledger>(
+pub(crate) fn moves(
     board: &Board,
     seat: &mut BoardSeat,
-    steps: &mut Steps<L>,
-    exchanges: &mut Steps<X>,
 ) -> Option<(u32, u32)>
     requires { IsOf seat.old board.now }
     ensures { IsOf seat.new board.now }
@@ -99,7 +90,7 @@ pub(crate) fn moves<L: Ledger, X: Ledger>(
     if !has_own_account(board.book(), process) || board.book().own_room() <= seat.published() {
         return None;
     }
-    let (view, loads) = ends(Snapping::start(board, seat), board, seat, steps, exchanges);
+    let (view, loads) = ends(Snapping::start(board, seat), board, seat);
     let record = Record {
         entry: Entry::Own {
             from: process + 1,
@@ -110,9 +101,7 @@ pub(crate) fn moves<L: Ledger, X: Ledger>(
     let stores = appends(
         Appending::start(seat, record),
         board,
-        seat,
-        steps,
-        exchanges,
+        seat
     );
     Some((loads, stores))
 }

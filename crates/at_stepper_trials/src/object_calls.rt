@@ -8,26 +8,22 @@ ghost use Rattle.at_stepper_trials.specs.ObjectCalls.{HaveMadeCalls};
 
 use crate::journals::is_on;
 use crate::small_files::{small_book, small_files};
-use at_board::Steps;
 use at_journal::journal;
 use at_ledger::{Book, Call, Line};
 use at_log::Receipt;
 use at_object::{Ledger, Pass};
 use std::alloc::Global;
 use std::marker::Brand;
-use std::sync::ledger;
 use std::sync::ledger::Blank;
 
 /// How many calls are made by a pass at most.
 const MOST_CALLS: usize = 64;
 
 /// Makes a call on a pass.
-fn call_by<L: ledger::Ledger, X: ledger::Ledger>(
+fn call_by(
     ledger: &Ledger,
     pass: &mut Pass,
     call: &Call,
-    steps: &mut Steps<L>,
-    exchanges: &mut Steps<X>,
 ) -> Receipt
     requires pass { IsPassOf pass.old ledger.now }
     requires call { IsCallOn (length ledger.now.book.accounts) call.now }
@@ -39,22 +35,20 @@ fn call_by<L: ledger::Ledger, X: ledger::Ledger>(
 {
     match call {
         Call::Transfer { from, to, amount } => ledger.transfer(
-            pass, *from, *to, *amount, steps, exchanges,
+            pass, *from, *to, *amount
         ),
-        Call::Read { account } => ledger.read(pass, *account, steps, exchanges),
-        Call::Pay { from, targets } => ledger.pay(pass, *from, targets, steps, exchanges),
+        Call::Read { account } => ledger.read(pass, *account),
+        Call::Pay { from, targets } => ledger.pay(pass, *from, targets),
     }
 }
 
 /// Makes the next call of a process's file, and keeps its receipt.
-fn make_next<L: ledger::Ledger, X: ledger::Ledger>(
+fn make_next(
     ledger: &Ledger,
     passes: &mut [Pass],
     receipts: &mut [Vec<Receipt>],
     process: usize,
     file: &[Call],
-    steps: &mut Steps<L>,
-    exchanges: &mut Steps<X>,
 ) -> Option<()>
     requires process { process < ledger.now.book.processes }
     requires made { HaveMadeCalls ledger.now passes.old receipts.old }
@@ -66,12 +60,12 @@ fn make_next<L: ledger::Ledger, X: ledger::Ledger>(
         return None;
     }
     list.reserve(1).ok()?;
-    list.push_reserved(call_by(ledger, &mut passes[process], call, steps, exchanges));
+    list.push_reserved(call_by(ledger, &mut passes[process], call));
     Some(())
 }
 
 /// Makes calls, the next of a process for each entry of an order.
-fn make_all<L: ledger::Ledger, X: ledger::Ledger>(
+fn make_all(
     ledger: &Ledger,
     passes: &mut [Pass],
     receipts: &mut [Vec<Receipt>],
@@ -86,7 +80,6 @@ fn make_all<L: ledger::Ledger, X: ledger::Ledger>(
     requires made { HaveMadeCalls ledger.now passes.old receipts.old }
     ensures { IfSome result (λ _. HaveMadeCalls ledger.now passes.new receipts.new) }
 {
-    let (steps, exchanges) = (&mut Steps::<L>::new(steps), &mut Steps::<X>::new(exchanges));
     for process in order {
         if ledger.book().processes() <= *process {
             return None;
@@ -98,9 +91,7 @@ fn make_all<L: ledger::Ledger, X: ledger::Ledger>(
             passes,
             receipts,
             process,
-            file.as_slice(),
-            steps,
-            exchanges,
+            file.as_slice()
         )?;
     }
     Some(())

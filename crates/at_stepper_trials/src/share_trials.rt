@@ -6,7 +6,7 @@ ghost use Rattle.at_board.specs.Knowledge.Seats.{IsOf};
 ghost use Rattle.at_fold.specs.HasCounted.{HasCounted};
 
 use crate::sharers::{begins, ends_sharing, goes_on_sharing};
-use at_board::{Board, BoardSeat, Steps};
+use at_board::{Board, BoardSeat};
 use at_fold::Totals;
 use at_ledger::Reply;
 use at_log::{At, Receipt};
@@ -39,13 +39,11 @@ fn is_in_round(receipt: &Receipt, reply: Reply, number: u32) -> bool {
 }
 
 /// Whether a payment is answered so.
-fn is_shared<L: Ledger, X: Ledger>(
+fn is_shared(
     board: &Board,
     seat: &mut BoardSeat,
     totals: &mut Totals,
     payment: &Payment,
-    steps: &mut Steps<L>,
-    exchanges: &mut Steps<X>,
 ) -> bool
     requires board { IsOf seat.old board.now }
     requires totals { HasCounted totals.old board.now.book seat.old.knows.seen }
@@ -53,7 +51,7 @@ fn is_shared<L: Ledger, X: Ledger>(
 {
     match begins(board, seat, totals, payment.amount) {
         Some(paying) => {
-            let (receipt, turns) = ends_sharing(paying, board, seat, totals, steps, exchanges);
+            let (receipt, turns) = ends_sharing(paying, board, seat, totals);
             turns == payment.turns && is_in_round(&receipt, payment.reply, payment.round)
         }
         None => false,
@@ -61,7 +59,7 @@ fn is_shared<L: Ledger, X: Ledger>(
 }
 
 /// Process 0 pays, and the other owner does nothing.
-fn shares_alone<L: Ledger, X: Ledger, R: Abort>(
+fn shares_alone<R: Abort>(
     rt: &R,
     alloc: Global,
     one: Blank,
@@ -72,10 +70,9 @@ fn shares_alone<L: Ledger, X: Ledger, R: Abort>(
     requires parts { (one.parts ≡ L.parts) × (another.parts ≡ X.parts) }
     requires some { (0 < one.parts) × (0 < another.parts) }
 {
-    let (steps, exchanges) = (&mut Steps::<L>::new(one), &mut Steps::<X>::new(another));
     let (board, mut seat, _other) = new_pair(alloc, 4, ACCOUNTS).expect(rt, "a board");
     let mut totals = Totals::new(alloc, board.book()).expect(rt, "totals");
-    let paid = is_shared(&board, &mut seat, &mut totals, payment, steps, exchanges);
+    let paid = is_shared(&board, &mut seat, &mut totals, payment);
     assert!(rt; paid);
 }
 
@@ -115,7 +112,7 @@ fn a_shared_payment_is_short(rt: HostRuntime) {
 }
 
 /// Process 0 asks, and process 1 pays meanwhile; and then process 0 goes on.
-fn shares_with_another<L: Ledger, X: Ledger, R: Abort>(
+fn shares_with_another<R: Abort>(
     rt: &R,
     alloc: Global,
     one: Blank,
@@ -126,7 +123,6 @@ fn shares_with_another<L: Ledger, X: Ledger, R: Abort>(
     requires parts { (one.parts ≡ L.parts) × (another.parts ≡ X.parts) }
     requires some { (0 < one.parts) × (0 < another.parts) }
 {
-    let (steps, exchanges) = (&mut Steps::<L>::new(one), &mut Steps::<X>::new(another));
     let (board, mut seat, mut other) = new_pair(alloc, 4, ACCOUNTS).expect(rt, "a board");
     let mut totals = Totals::new(alloc, board.book()).expect(rt, "totals");
     let mut others = Totals::new(alloc, board.book()).expect(rt, "totals of the other");
@@ -136,13 +132,11 @@ fn shares_with_another<L: Ledger, X: Ledger, R: Abort>(
         &board,
         &mut seat,
         &mut totals,
-        13,
-        steps,
-        exchanges,
+        13
     );
     assert!(rt; waits);
-    let paid = is_shared(&board, &mut other, &mut others, payment, steps, exchanges);
-    let (receipt, turns) = ends_sharing(paying, &board, &mut seat, &mut totals, steps, exchanges);
+    let paid = is_shared(&board, &mut other, &mut others, payment);
+    let (receipt, turns) = ends_sharing(paying, &board, &mut seat, &mut totals);
     assert!(rt; paid && turns == 18 && is_in_round(&receipt, Reply::Done, 0));
 }
 

@@ -8,13 +8,12 @@ ghost use Rattle.at_fold.specs.HasCounted.{HasCounted};
 ghost use Rattle.at_shared.specs.Helpings.{HasAllSettled};
 ghost use Rattle.at_stepper_trials.specs.Machines.{IsSharing};
 
-use at_board::{Board, BoardSeat, Steps};
+use at_board::{Board, BoardSeat};
 use at_calling::PayingShared;
 use at_fold::Totals;
 use at_ledger::Call;
 use at_log::Receipt;
 use at_players::boards::slot_on;
-use std::sync::ledger::Ledger;
 
 /// Whether the seat's process shares account 0 and has asked for nothing there.
 fn may_ask_first(board: &Board, seat: &BoardSeat) -> bool
@@ -55,20 +54,18 @@ pub(crate) fn begins(
 }
 
 /// Whether so many turns don't end a payment.
-pub(crate) fn goes_on_sharing<L: Ledger, X: Ledger>(
+pub(crate) fn goes_on_sharing(
     paying: &mut PayingShared,
     board: &Board,
     seat: &mut BoardSeat,
     totals: &mut Totals,
     turns: u32,
-    steps: &mut Steps<L>,
-    exchanges: &mut Steps<X>,
 ) -> bool
     requires { IsSharing board.now seat.old totals.old paying.old }
     ensures { IsTrue result → IsSharing board.now seat.new totals.new paying.new }
 {
     for _turn in 0..turns {
-        if paying.turn(board, seat, totals, steps, exchanges).is_some() {
+        if paying.turn(board, seat, totals).is_some() {
             return false;
         }
     }
@@ -76,19 +73,17 @@ pub(crate) fn goes_on_sharing<L: Ledger, X: Ledger>(
 }
 
 /// The receipt of a payment that isn't ended, and in how many more turns it ends.
-pub(crate) fn ends_sharing<L: Ledger, X: Ledger>(
+pub(crate) fn ends_sharing(
     mut paying: PayingShared,
     board: &Board,
     seat: &mut BoardSeat,
     totals: &mut Totals,
-    steps: &mut Steps<L>,
-    exchanges: &mut Steps<X>,
 ) -> (Receipt, u32)
     requires { IsSharing board.now seat.old totals.old paying }
 {
     let mut turns: u32 = 1;
     loop {
-        match paying.turn(board, seat, totals, steps, exchanges) {
+        match paying.turn(board, seat, totals) {
             Some(receipt) => return (receipt, turns),
             None => turns = turns.saturating_add(1),
         }

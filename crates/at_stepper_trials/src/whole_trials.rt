@@ -6,7 +6,6 @@ ghost use Rattle.at_stepper.specs.Stepping.{IsOver};
 use crate::journals::are_same;
 use crate::object_calls::journal_by_calls;
 use crate::small_files::{Outcome, outcome_of, small_book, small_files};
-use at_board::Steps;
 use at_ledger::Line;
 use at_stepper::Stepper;
 use std::alloc::Global;
@@ -21,24 +20,22 @@ const ORDERS: [(Outcome, [u32; 3]); 3] = [
 ];
 
 /// Makes all turns of the next call of a process, if it has one.
-fn turn_call<L: Ledger, X: Ledger>(
+fn turn_call(
     stepper: &mut Stepper,
     process: u32,
-    steps: &mut Steps<L>,
-    exchanges: &mut Steps<X>,
 )
     requires { process < length stepper.old.callers }
     ensures { length stepper.new.callers ≡ length stepper.old.callers }
 {
     while !stepper.idle(process) {
-        if stepper.turn(process, steps, exchanges).is_answer() {
+        if stepper.turn(process).is_answer() {
             return;
         }
     }
 }
 
 /// Makes calls, the next of a process for each entry of an order. Whether that are all.
-fn turn_all<L: Ledger, X: Ledger>(
+fn turn_all(
     stepper: &mut Stepper,
     order: &[u32],
     steps: Blank,
@@ -50,9 +47,8 @@ fn turn_all<L: Ledger, X: Ledger>(
     requires two { length stepper.old.callers ≡ 2 }
     ensures { IsTrue result → IsOver stepper.new }
 {
-    let (steps, exchanges) = (&mut Steps::<L>::new(steps), &mut Steps::<X>::new(exchanges));
     for process in order {
-        turn_call(stepper, *process % 2, steps, exchanges);
+        turn_call(stepper, *process % 2);
     }
     stepper.idle(0) && stepper.idle(1)
 }

@@ -9,7 +9,7 @@ ghost use Rattle.at_trials.specs.SmallCrowd.{HoldsNoCell, IsCaller, IsSharer};
 
 use crate::fold_trials::new_totals;
 use at_base::{Decision, Head, unpack_decision, unpack_head};
-use at_board::{Board, BoardEnd, BoardSeat, Steps};
+use at_board::{Board, BoardEnd, BoardSeat};
 use at_fold::Totals;
 use at_ledger::{Book, Draft, DraftAccount, Reply};
 use at_log::{At, Receipt};
@@ -65,12 +65,10 @@ pub(crate) fn begins_sharing(board: &Board, seat: &BoardSeat) -> bool
 }
 
 /// Pays 1 from account 0 to account 1, if the seat's process has room for a request there.
-fn pay_shared<L: Ledger, X: Ledger>(
+fn pay_shared(
     board: &Board,
     seat: &mut BoardSeat,
     totals: &mut Totals,
-    steps: &mut Steps<L>,
-    exchanges: &mut Steps<X>,
 ) -> Option<Receipt>
     requires sharer { IsSharer board.now seat.old totals.old }
     ensures sharer { IfSome result (λ _. IsSharer board.now seat.new totals.new) }
@@ -81,7 +79,7 @@ fn pay_shared<L: Ledger, X: Ledger>(
     if board.book().request_room() <= number || board.book().accounts() < 2 {
         return None;
     }
-    let receipt = transfer_shared(board, seat, totals, 0, 1, 1, steps, exchanges);
+    let receipt = transfer_shared(board, seat, totals, 0, 1, 1);
     if board.announced(seat, 0) == number + 1 {
         Some(receipt)
     } else {
@@ -101,12 +99,10 @@ fn owns_alone(book: &Book, process: u32) -> bool
 }
 
 /// Pays 1 from account 2 to account 0, if the seat's process owns it alone and has room for a record.
-fn pay_own<L: Ledger, X: Ledger>(
+fn pay_own(
     board: &Board,
     seat: &mut BoardSeat,
     totals: &mut Totals,
-    steps: &mut Steps<L>,
-    exchanges: &mut Steps<X>,
 ) -> Option<Receipt>
     requires caller { IsCaller board.now seat.old totals.old }
     ensures caller { IfSome result (λ _. IsCaller board.now seat.new totals.new) }
@@ -117,7 +113,7 @@ fn pay_own<L: Ledger, X: Ledger>(
     if board.book().own_room() <= seat.published() {
         return None;
     }
-    let receipt = transfer_own(board, seat, totals, 2, 0, 1, steps, exchanges);
+    let receipt = transfer_own(board, seat, totals, 2, 0, 1);
     match receipt.reply {
         Reply::Done => Some(receipt),
         Reply::Short => Some(receipt),
@@ -126,13 +122,11 @@ fn pay_own<L: Ledger, X: Ledger>(
 }
 
 /// Reads an account, if there is one of this number.
-fn read<L: Ledger, X: Ledger>(
+fn read(
     board: &Board,
     seat: &mut BoardSeat,
     totals: &mut Totals,
     account: u32,
-    steps: &mut Steps<L>,
-    exchanges: &mut Steps<X>,
 ) -> Option<Receipt>
     requires caller { IsCaller board.now seat.old totals.old }
     ensures caller { IfSome result (λ _. IsCaller board.now seat.new totals.new) }
@@ -141,11 +135,11 @@ fn read<L: Ledger, X: Ledger>(
         return None;
     }
     seat.known();
-    Some(read_account(board, seat, totals, account, steps, exchanges))
+    Some(read_account(board, seat, totals, account))
 }
 
 /// Pays from the shared account beside the other threads.
-pub(crate) fn pay_shared_often<L: Ledger, X: Ledger>(
+pub(crate) fn pay_shared_often(
     board: &Board,
     alloc: Global,
     seat: &mut BoardSeat,
@@ -158,21 +152,20 @@ pub(crate) fn pay_shared_often<L: Ledger, X: Ledger>(
     requires idle { IsIdle board.now seat.old }
     ensures rest { IfSome result (λ _. HoldsNoCell board.now seat.new) }
 {
-    let (steps, exchanges) = (&mut Steps::<L>::new(steps), &mut Steps::<X>::new(exchanges));
     let mut totals = new_totals(alloc, board)?;
     if !begins_sharing(board, seat) {
         return None;
     }
     let mut receipts = Vec::new(alloc);
     for _call in 0..CALLS {
-        let receipt = pay_shared(board, seat, &mut totals, steps, exchanges)?;
+        let receipt = pay_shared(board, seat, &mut totals)?;
         receipts.push(receipt).ok()?;
     }
     Some(receipts)
 }
 
 /// Pays from the single account beside the other threads.
-pub(crate) fn pay_own_often<L: Ledger, X: Ledger>(
+pub(crate) fn pay_own_often(
     board: &Board,
     alloc: Global,
     seat: &mut BoardSeat,
@@ -185,18 +178,17 @@ pub(crate) fn pay_own_often<L: Ledger, X: Ledger>(
     requires idle { IsIdle board.now seat.old }
     ensures rest { IfSome result (λ _. HoldsNoCell board.now seat.new) }
 {
-    let (steps, exchanges) = (&mut Steps::<L>::new(steps), &mut Steps::<X>::new(exchanges));
     let mut totals = new_totals(alloc, board)?;
     let mut receipts = Vec::new(alloc);
     for _call in 0..CALLS {
-        let receipt = pay_own(board, seat, &mut totals, steps, exchanges)?;
+        let receipt = pay_own(board, seat, &mut totals)?;
         receipts.push(receipt).ok()?;
     }
     Some(receipts)
 }
 
 /// Reads one account after another beside the other threads.
-pub(crate) fn read_often<L: Ledger, X: Ledger>(
+pub(crate) fn read_often(
     board: &Board,
     alloc: Global,
     seat: &mut BoardSeat,
@@ -209,11 +201,10 @@ pub(crate) fn read_often<L: Ledger, X: Ledger>(
     requires idle { IsIdle board.now seat.old }
     ensures rest { IfSome result (λ _. HoldsNoCell board.now seat.new) }
 {
-    let (steps, exchanges) = (&mut Steps::<L>::new(steps), &mut Steps::<X>::new(exchanges));
     let mut totals = new_totals(alloc, board)?;
     let mut receipts = Vec::new(alloc);
     for call in 0..CALLS {
-        let receipt = read(board, seat, &mut totals, call % 3, steps, exchanges)?;
+        let receipt = read(board, seat, &mut totals, call % 3)?;
         receipts.push(receipt).ok()?;
     }
     Some(receipts)

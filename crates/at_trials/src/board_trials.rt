@@ -5,7 +5,7 @@ ghost use Rattle.at_ledger.specs.Book.{HasSlot, account_of};
 ghost use Rattle.at_players.specs.SmallBoard.{AreNewPair, IsIdle, new_seat};
 
 use at_base::{Decision, pack_decision};
-use at_board::{Board, BoardEnd, BoardSeat, Steps, pack_targets, unpack_targets};
+use at_board::{Board, BoardEnd, BoardSeat, pack_targets, unpack_targets};
 use at_ledger::Targets;
 use at_players::boards::{close_one, close_two, has_record, new_pair, new_single, slot_on};
 use at_players::records::{may_pay, pay, told_words};
@@ -38,12 +38,10 @@ fn words_of_players(rt: HostRuntime) {
 }
 
 /// Whether the second process sees the first request of the other, which asks for 7.
-fn asks_and_sees<L: Ledger, X: Ledger>(
+fn asks_and_sees(
     board: &Board,
     second: &mut BoardSeat,
     seat: &mut BoardSeat,
-    steps: &mut Steps<L>,
-    exchanges: &mut Steps<X>,
 ) -> bool
     requires { AreNewPair board.now second.old seat.old }
 {
@@ -56,24 +54,23 @@ fn asks_and_sees<L: Ledger, X: Ledger>(
     if board.book().accounts() < 2 || board.announced(seat, 0) != 0 {
         return false;
     }
-    let _own = ask(board, seat, slot, steps, exchanges);
+    let _own = ask(board, seat, slot);
     board.announced(seat, 0) == 1
-        && board.load_length(second, 0, steps, exchanges) == 0
-        && first_amount(board, second, slot, steps, exchanges) == Some(7)
+        && board.load_length(second, 0) == 0
+        && first_amount(board, second, slot) == Some(7)
 }
 
 /// One process asks, and the other sees what.
-fn requests<L: Ledger, X: Ledger, R: Abort>(rt: &R, alloc: Global, one: Blank, another: Blank)
+fn requests<R: Abort>(rt: &R, alloc: Global, one: Blank, another: Blank)
     requires names { (one.name ≡ L.name) × (another.name ≡ X.name) }
     requires parts { (one.parts ≡ L.parts) × (another.parts ≡ X.parts) }
     requires some { (0 < one.parts) × (0 < another.parts) }
 {
-    let (steps, exchanges) = (&mut Steps::<L>::new(one), &mut Steps::<X>::new(another));
     let accounts = [(100, [0, 1].as_slice()), (0, [].as_slice())];
     let (board, mut second, mut seat) = new_pair(alloc, 65, accounts.as_slice()).expect(
         rt, "a board",
     );
-    assert!(rt; asks_and_sees(&board, &mut second, &mut seat, steps, exchanges));
+    assert!(rt; asks_and_sees(&board, &mut second, &mut seat));
 }
 
 #[test]
@@ -82,11 +79,9 @@ fn a_request_is_seen(rt: HostRuntime) {
 }
 
 /// Whether process 1 settles the first round of the account that it shares with process 0.
-fn settles_first<L: Ledger, X: Ledger>(
+fn settles_first(
     board: &Board,
     seat: &mut BoardSeat,
-    steps: &mut Steps<L>,
-    exchanges: &mut Steps<X>,
 ) -> bool
     requires { seat.old ≡ new_seat board.now 1 }
     ensures { IsTrue result → IsIdle board.now seat.new × (seat.new.knows.first ≡ 1) }
@@ -97,7 +92,7 @@ fn settles_first<L: Ledger, X: Ledger>(
     if board.book().accounts() < 2 || board.book().opening(0) < 7 {
         return false;
     }
-    settle(board, seat, slot, steps, exchanges) == (first_of_slot(1), true)
+    settle(board, seat, slot) == (first_of_slot(1), true)
 }
 
 /// The word of the decision that the first request of a slot succeeds, before anything is published.
@@ -114,19 +109,17 @@ fn first_of_slot(slot: u32) -> u64
 }
 
 /// The board's end, where process 1 has settled the first round.
-fn end_of_first<L: Ledger, X: Ledger>(
+fn end_of_first(
     board: Board,
     alloc: Global,
     first: BoardSeat,
     second: BoardSeat,
-    steps: &mut Steps<L>,
-    exchanges: &mut Steps<X>,
 ) -> Option<BoardEnd>
     requires { AreNewPair board first second }
     ensures { IfSome result (λ end. end.book.processes ≡ 2) }
 {
     let mut second = second;
-    if settles_first(&board, &mut second, steps, exchanges) {
+    if settles_first(&board, &mut second) {
         close_two(board, alloc, first, second)
     } else {
         None
@@ -142,15 +135,14 @@ fn has_first_round(end: &BoardEnd) -> bool
 }
 
 /// One process settles a round of the account that it shares with another. The closed board has the words of its record.
-fn settles<L: Ledger, X: Ledger, R: Abort>(rt: &R, alloc: Global, one: Blank, another: Blank)
+fn settles<R: Abort>(rt: &R, alloc: Global, one: Blank, another: Blank)
     requires names { (one.name ≡ L.name) × (another.name ≡ X.name) }
     requires parts { (one.parts ≡ L.parts) × (another.parts ≡ X.parts) }
     requires some { (0 < one.parts) × (0 < another.parts) }
 {
-    let (steps, exchanges) = (&mut Steps::<L>::new(one), &mut Steps::<X>::new(another));
     let accounts = [(100, [0, 1].as_slice()), (0, [].as_slice())];
     let (board, first, second) = new_pair(alloc, 65, accounts.as_slice()).expect(rt, "a board");
-    let end = end_of_first(board, alloc, first, second, steps, exchanges).expect(rt, "an end");
+    let end = end_of_first(board, alloc, first, second).expect(rt, "an end");
     assert!(rt; has_first_round(&end));
 }
 
@@ -175,12 +167,10 @@ fn slots_of_both(board: &Board) -> Option<(u32, u32)>
 }
 
 /// Whether process 0 decides the first round, then process 1, which finds it decided so, publishes it, and process 0 does so last.
-fn publish_one_round<L: Ledger, X: Ledger>(
+fn publish_one_round(
     board: &Board,
     zero: &mut BoardSeat,
     one: &mut BoardSeat,
-    steps: &mut Steps<L>,
-    exchanges: &mut Steps<X>,
 ) -> bool
     requires { AreNewPair board.now zero.old one.old }
     ensures zero { IsTrue result → IsIdle board.now zero.new × (zero.new.knows.first ≡ 0) }
@@ -189,32 +179,30 @@ fn publish_one_round<L: Ledger, X: Ledger>(
     let Some((slot, other)) = slots_of_both(board) else {
         return false;
     };
-    let own = ask(board, zero, slot, steps, exchanges);
-    let Some(oldest) = find_first(board, zero, &own, steps, exchanges) else {
+    let own = ask(board, zero, slot);
+    let Some(oldest) = find_first(board, zero, &own) else {
         return false;
     };
-    if decide_first(board, zero, oldest, steps, exchanges) != first_word(oldest) {
+    if decide_first(board, zero, oldest) != first_word(oldest) {
         return false;
     }
-    let helped = settle(board, one, other, steps, exchanges);
-    publish_round(board, zero, oldest, steps, exchanges);
+    let helped = settle(board, one, other);
+    publish_round(board, zero, oldest);
     helped == (first_of_slot(0), true)
 }
 
 /// The board's end, where both processes have published the first round.
-fn end_of_both<L: Ledger, X: Ledger>(
+fn end_of_both(
     board: Board,
     alloc: Global,
     zero: BoardSeat,
     one: BoardSeat,
-    steps: &mut Steps<L>,
-    exchanges: &mut Steps<X>,
 ) -> Option<BoardEnd>
     requires { AreNewPair board zero one }
     ensures { IfSome result (λ end. end.book.processes ≡ 2) }
 {
     let (mut zero, mut one) = (zero, one);
-    if publish_one_round(&board, &mut zero, &mut one, steps, exchanges) {
+    if publish_one_round(&board, &mut zero, &mut one) {
         close_two(board, alloc, zero, one)
     } else {
         None
@@ -233,15 +221,14 @@ fn has_round_twice(end: &BoardEnd) -> bool
 }
 
 /// Two processes publish one round, the one that decided it last.
-fn publish_twice<L: Ledger, X: Ledger, R: Abort>(rt: &R, alloc: Global, one: Blank, another: Blank)
+fn publish_twice<R: Abort>(rt: &R, alloc: Global, one: Blank, another: Blank)
     requires names { (one.name ≡ L.name) × (another.name ≡ X.name) }
     requires parts { (one.parts ≡ L.parts) × (another.parts ≡ X.parts) }
     requires some { (0 < one.parts) × (0 < another.parts) }
 {
-    let (steps, exchanges) = (&mut Steps::<L>::new(one), &mut Steps::<X>::new(another));
     let accounts = [(100, [0, 1].as_slice()), (0, [].as_slice())];
     let (board, first, second) = new_pair(alloc, 65, accounts.as_slice()).expect(rt, "a board");
-    let end = end_of_both(board, alloc, first, second, steps, exchanges).expect(rt, "an end");
+    let end = end_of_both(board, alloc, first, second).expect(rt, "an end");
     assert!(rt; has_round_twice(&end));
 }
 
@@ -251,12 +238,10 @@ fn a_round_is_published_by_both(rt: HostRuntime) {
 }
 
 /// Whether one process pays, and the other reads what, through notes alone.
-fn pays_and_tells<L: Ledger, X: Ledger>(
+fn pays_and_tells(
     board: &Board,
     seat: &mut BoardSeat,
     other: &mut BoardSeat,
-    steps: &mut Steps<L>,
-    exchanges: &mut Steps<X>,
 ) -> bool
     requires { AreNewPair board.now seat.old other.old }
     ensures seat { IsTrue result → IsIdle board.now seat.new × (seat.new.knows.first ≡ 0) }
@@ -265,25 +250,23 @@ fn pays_and_tells<L: Ledger, X: Ledger>(
     if !may_pay(board.book(), seat.process()) {
         return false;
     }
-    pay(board, seat, steps, exchanges);
-    let told = told_words(board, seat, other, steps, exchanges);
+    pay(board, seat);
+    let told = told_words(board, seat, other);
     seat.published() == 1 && told == (TO_ACCOUNT_1, 30)
 }
 
 /// The board's end, where process 0 has paid and told process 1 of it.
-fn end_of_told<L: Ledger, X: Ledger>(
+fn end_of_told(
     board: Board,
     alloc: Global,
     seat: BoardSeat,
     other: BoardSeat,
-    steps: &mut Steps<L>,
-    exchanges: &mut Steps<X>,
 ) -> Option<BoardEnd>
     requires { AreNewPair board seat other }
     ensures { IfSome result (λ end. end.book.processes ≡ 2) }
 {
     let (mut seat, mut other) = (seat, other);
-    if pays_and_tells(&board, &mut seat, &mut other, steps, exchanges) {
+    if pays_and_tells(&board, &mut seat, &mut other) {
         close_two(board, alloc, seat, other)
     } else {
         None
@@ -299,15 +282,14 @@ fn has_payment(end: &BoardEnd) -> bool
 }
 
 /// One process pays, and the other reads what. The closed board has the words of the record.
-fn tells<L: Ledger, X: Ledger, R: Abort>(rt: &R, alloc: Global, one: Blank, another: Blank)
+fn tells<R: Abort>(rt: &R, alloc: Global, one: Blank, another: Blank)
     requires names { (one.name ≡ L.name) × (another.name ≡ X.name) }
     requires parts { (one.parts ≡ L.parts) × (another.parts ≡ X.parts) }
     requires some { (0 < one.parts) × (0 < another.parts) }
 {
-    let (steps, exchanges) = (&mut Steps::<L>::new(one), &mut Steps::<X>::new(another));
     let accounts = [(100, [0].as_slice()), (100, [1].as_slice())];
     let (board, seat, other) = new_pair(alloc, 65, accounts.as_slice()).expect(rt, "a board");
-    let end = end_of_told(board, alloc, seat, other, steps, exchanges).expect(rt, "an end");
+    let end = end_of_told(board, alloc, seat, other).expect(rt, "an end");
     assert!(rt; has_payment(&end));
 }
 
@@ -317,12 +299,10 @@ fn a_record_is_told(rt: HostRuntime) {
 }
 
 /// The end of the board of one process, where that has paid.
-fn end_of_single<L: Ledger, X: Ledger>(
+fn end_of_single(
     board: Board,
     alloc: Global,
     seat: BoardSeat,
-    steps: &mut Steps<L>,
-    exchanges: &mut Steps<X>,
 ) -> Option<BoardEnd>
     requires alone { board.book.processes ≡ 1 }
     requires seat { seat ≡ new_seat board 0 }
@@ -330,7 +310,7 @@ fn end_of_single<L: Ledger, X: Ledger>(
 {
     let mut seat = seat;
     if may_pay(board.book(), seat.process()) {
-        pay(&board, &mut seat, steps, exchanges);
+        pay(&board, &mut seat);
         close_one(board, alloc, seat)
     } else {
         None
@@ -346,15 +326,14 @@ fn has_single_payment(end: &BoardEnd) -> bool
 }
 
 /// The only process pays an account without an owner. The closed board has the words of the record.
-fn pays_alone<L: Ledger, X: Ledger, R: Abort>(rt: &R, alloc: Global, one: Blank, another: Blank)
+fn pays_alone<R: Abort>(rt: &R, alloc: Global, one: Blank, another: Blank)
     requires names { (one.name ≡ L.name) × (another.name ≡ X.name) }
     requires parts { (one.parts ≡ L.parts) × (another.parts ≡ X.parts) }
     requires some { (0 < one.parts) × (0 < another.parts) }
 {
-    let (steps, exchanges) = (&mut Steps::<L>::new(one), &mut Steps::<X>::new(another));
     let accounts = [(100, [0].as_slice()), (0, [].as_slice())];
     let (board, seat) = new_single(alloc, 65, accounts.as_slice()).expect(rt, "a board");
-    let end = end_of_single(board, alloc, seat, steps, exchanges).expect(rt, "an end");
+    let end = end_of_single(board, alloc, seat).expect(rt, "an end");
     assert!(rt; has_single_payment(&end));
 }
 

@@ -1,6 +1,7 @@
 //! Records are appended on a small board, and totals of their process, or of one that has learned of them, count them.
 
 ghost use Rattle.std.specs.Prelude.{◌≡◌, ◌+◌, ◌<◌, [], IfSome, IsTrue, length, replicate, slice_set, ◌∷◌};
+ghost use Rattle.at_board.specs.Counting.{raised, stepped};
 ghost use Rattle.at_board.specs.Ends.Opening.{starting_seat};
 ghost use Rattle.at_board.specs.Knowledge.Seats.{IsOf};
 ghost use Rattle.at_fold.specs.HasCounted.{HasCounted};
@@ -10,7 +11,7 @@ ghost use Rattle.at_trials.specs.SmallFold.{CountsAll, HasOnlyFirst, HasOnlyReco
 
 use crate::payers::{may_pay, pay};
 use at_base::{Counts, Decision};
-use at_board::{Board, BoardSeat, Steps, pack_targets};
+use at_board::{Board, BoardSeat, pack_targets};
 use at_fold::Totals;
 use at_ledger::Targets;
 use at_log::Entry;
@@ -33,12 +34,10 @@ pub(crate) fn new_totals(alloc: Global, board: &Board) -> Option<Totals>
 }
 
 /// The only process pays, in nine steps.
-fn pays_alone<L: Ledger, X: Ledger>(
+fn pays_alone(
     board: &Board,
     seat: &mut BoardSeat,
     targets: Targets,
-    steps: &mut Steps<L>,
-    exchanges: &mut Steps<X>,
 )
     requires board { seat.old.board ≡ board.now.id }
     requires new { seat.old.knows ≡ starting_seat board.now.book seat.old.knows.first }
@@ -47,53 +46,47 @@ fn pays_alone<L: Ledger, X: Ledger>(
     requires alone { board.now.book.processes ≡ 1 }
     ensures board { IsOf seat.new board.now }
     ensures one { HasOnlyFirst board.now.book seat.new.knows.seen }
-    ensures steps { steps.new ≡ steps.old + 9 }
-    ensures exchanges { exchanges.new ≡ exchanges.old }
+    ensures steps { seat.new.steps ≡ raised seat.old.steps 9 }
+    ensures exchanges { seat.new.exchanges ≡ seat.old.exchanges }
 {
-    let _entry = pay(board, seat, targets, steps, exchanges);
+    let _entry = pay(board, seat, targets);
 }
 
 /// The words of the first record of the only process.
-fn first_words<L: Ledger, X: Ledger>(
+fn first_words(
     board: &Board,
     seat: &mut BoardSeat,
-    steps: &mut Steps<L>,
-    exchanges: &mut Steps<X>,
 ) -> [u64; 8]
     requires board { IsOf seat.old board.now }
     requires alone { board.now.book.processes ≡ 1 }
     requires one { HasOnlyFirst board.now.book seat.old.knows.seen }
-    ensures same { seat.new ≡ seat.old }
+    ensures same { seat.new ≡ SAME }
 {
     let mut words = [0u64; 8];
     for j in 0..8u32 {
-        words[j as usize] = board.load_record_word(seat, 0, 0, j, steps, exchanges);
+        words[j as usize] = board.load_record_word(seat, 0, 0, j);
     }
     words
 }
 
 /// New totals catch up with the only record, in seven steps.
-fn catches_up<L: Ledger, X: Ledger>(
+fn catches_up(
     board: &Board,
     seat: &mut BoardSeat,
     totals: &mut Totals,
-    steps: &mut Steps<L>,
-    exchanges: &mut Steps<X>,
 )
     requires board { IsOf seat.old board.now }
     requires one { HasOnlyFirst board.now.book seat.old.knows.seen }
     requires counted { HasCounted totals.old board.now.book seat.old.knows.seen }
     requires new { totals.old.upto ≡ replicate board.now.book.processes 0 }
     ensures all { CountsAll totals.new board.now.book seat.new.knows.seen }
-    ensures same { seat.new ≡ seat.old }
-    ensures steps { steps.new ≡ steps.old + 7 }
-    ensures exchanges { exchanges.new ≡ exchanges.old }
+    ensures same { seat.new ≡ stepped seat.old 7 }
 {
     board.book().known();
     seat.known();
     let mut counts = Counts::zeros(board.book().processes());
     counts.set(0, 1);
-    totals.catch_up(board, seat, &counts, steps, exchanges);
+    totals.catch_up(board, seat, &counts);
 }
 
 /// The balance of an account after all that was seen.
@@ -105,13 +98,11 @@ fn balance(totals: &Totals, board: &Board, seat: &BoardSeat, account: u32) -> u6
 }
 
 /// Process 0 pays and tells process 1 of it, by a note alone. False where process 1 published something.
-fn pays_and_tells<L: Ledger, X: Ledger>(
+fn pays_and_tells(
     board: &Board,
     seat: &mut BoardSeat,
     other: &mut BoardSeat,
     targets: Targets,
-    steps: &mut Steps<L>,
-    exchanges: &mut Steps<X>,
 ) -> bool
     requires board { (seat.old.board ≡ board.now.id) × (other.old.board ≡ board.now.id) }
     requires new { seat.old.knows ≡ starting_seat board.now.book seat.old.knows.first }
@@ -122,10 +113,10 @@ fn pays_and_tells<L: Ledger, X: Ledger>(
     ensures board { IsOf other.new board.now }
     ensures told { IsTrue result → HasOnlyFirst board.now.book other.new.knows.seen }
 {
-    let _entry = pay(board, seat, targets, steps, exchanges);
-    let found = board.load_length(seat, 1, steps, exchanges);
-    let note = board.note(seat, steps, exchanges);
-    board.learn(other, note, steps, exchanges);
+    let _entry = pay(board, seat, targets);
+    let found = board.load_length(seat, 1);
+    let note = board.note(seat);
+    board.learn(other, note);
     found == 0
 }
 
@@ -172,12 +163,10 @@ fn sixty_and_forty() -> Targets
 }
 
 /// Whether the only process pays 60 and 40, its record has these words, and totals that catch up tell the balances.
-fn counts_a_pay_out<L: Ledger, X: Ledger>(
+fn counts_a_pay_out(
     board: &Board,
     seat: &mut BoardSeat,
     totals: &mut Totals,
-    steps: &mut Steps<L>,
-    exchanges: &mut Steps<X>,
 ) -> bool
     requires alone { board.now.book.processes ≡ 1 }
     requires seat { seat.old ≡ new_seat board.now 0 }
@@ -188,9 +177,9 @@ fn counts_a_pay_out<L: Ledger, X: Ledger>(
     if !may_pay(board.book(), seat.process(), 3, &targets) {
         return false;
     }
-    pays_alone(board, seat, targets, steps, exchanges);
-    let words = first_words(board, seat, steps, exchanges);
-    catches_up(board, seat, totals, steps, exchanges);
+    pays_alone(board, seat, targets);
+    let words = first_words(board, seat);
+    catches_up(board, seat, totals);
     words == [0, word, 0, 60, 40, 0, 0, 0]
         && balance(totals, board, seat, 0) == 0
         && balance(totals, board, seat, 1) == 60
@@ -198,12 +187,11 @@ fn counts_a_pay_out<L: Ledger, X: Ledger>(
 }
 
 /// The only process of a board pays two targets, and new totals catch up.
-fn pays_out<L: Ledger, X: Ledger, R: Abort>(rt: &R, alloc: Global, one: Blank, another: Blank)
+fn pays_out<R: Abort>(rt: &R, alloc: Global, one: Blank, another: Blank)
     requires names { (one.name ≡ L.name) × (another.name ≡ X.name) }
     requires parts { (one.parts ≡ L.parts) × (another.parts ≡ X.parts) }
     requires some { (0 < one.parts) × (0 < another.parts) }
 {
-    let (steps, exchanges) = (&mut Steps::<L>::new(one), &mut Steps::<X>::new(another));
     let accounts = [
         (100, [0].as_slice()),
         (0, [].as_slice()),
@@ -211,7 +199,7 @@ fn pays_out<L: Ledger, X: Ledger, R: Abort>(rt: &R, alloc: Global, one: Blank, a
     ];
     let (board, mut seat) = new_single(alloc, 4, accounts.as_slice()).expect(rt, "a board");
     let mut totals = new_totals(alloc, &board).expect(rt, "totals");
-    assert!(rt; counts_a_pay_out(&board, &mut seat, &mut totals, steps, exchanges));
+    assert!(rt; counts_a_pay_out(&board, &mut seat, &mut totals));
 }
 
 #[test]
@@ -226,13 +214,11 @@ fn counts_one(totals: &Totals) -> bool {
 }
 
 /// Whether process 0 pays 40 and tells process 1, whose totals then tell the balances.
-fn counts_what_was_told<L: Ledger, X: Ledger>(
+fn counts_what_was_told(
     board: &Board,
     seat: &mut BoardSeat,
     other: &mut BoardSeat,
     totals: &mut Totals,
-    steps: &mut Steps<L>,
-    exchanges: &mut Steps<X>,
 ) -> bool
     requires pair { AreNewPair board.now seat.old other.old }
     requires new { IsNewTotals totals.old board.now.book }
@@ -241,28 +227,27 @@ fn counts_what_was_told<L: Ledger, X: Ledger>(
     if !may_pay(board.book(), seat.process(), 2, &targets) {
         return false;
     }
-    if !pays_and_tells(board, seat, other, targets, steps, exchanges) {
+    if !pays_and_tells(board, seat, other, targets) {
         return false;
     }
-    catches_up(board, other, totals, steps, exchanges);
+    catches_up(board, other, totals);
     counts_one(totals)
         && balance(totals, board, other, 0) == 60
         && balance(totals, board, other, 1) == 40
 }
 
 /// One process pays, and new totals of the other catch up.
-fn tells<L: Ledger, X: Ledger, R: Abort>(rt: &R, alloc: Global, one: Blank, another: Blank)
+fn tells<R: Abort>(rt: &R, alloc: Global, one: Blank, another: Blank)
     requires names { (one.name ≡ L.name) × (another.name ≡ X.name) }
     requires parts { (one.parts ≡ L.parts) × (another.parts ≡ X.parts) }
     requires some { (0 < one.parts) × (0 < another.parts) }
 {
-    let (steps, exchanges) = (&mut Steps::<L>::new(one), &mut Steps::<X>::new(another));
     let accounts = [(100, [0].as_slice()), (0, [1].as_slice())];
     let (board, mut seat, mut other) = new_pair(alloc, 4, accounts.as_slice()).expect(
         rt, "a board",
     );
     let mut totals = new_totals(alloc, &board).expect(rt, "totals");
-    assert!(rt; counts_what_was_told(&board, &mut seat, &mut other, &mut totals, steps, exchanges));
+    assert!(rt; counts_what_was_told(&board, &mut seat, &mut other, &mut totals));
 }
 
 #[test]
@@ -271,12 +256,10 @@ fn a_told_record_is_counted(rt: HostRuntime) {
 }
 
 /// Whether process 0 counts its own record as it publishes it, and has no round of account 1, which it shares.
-fn counts_own<L: Ledger, X: Ledger>(
+fn counts_own(
     board: &Board,
     seat: &mut BoardSeat,
     totals: &mut Totals,
-    steps: &mut Steps<L>,
-    exchanges: &mut Steps<X>,
 ) -> bool
     requires seat { seat.old ≡ new_seat board.now 0 }
     requires new { IsNewTotals totals.old board.now.book }
@@ -285,22 +268,21 @@ fn counts_own<L: Ledger, X: Ledger>(
     if !may_pay(board.book(), seat.process(), 2, &targets) {
         return false;
     }
-    let entry = pay(board, seat, targets, steps, exchanges);
+    let entry = pay(board, seat, targets);
     counts_first(totals, seat, &entry);
     counts_one(totals) && said_of_shared(totals, board, seat, 1) == Some((0, (0, None), (0, None)))
 }
 
 /// A process counts its own record.
-fn counts<L: Ledger, X: Ledger, R: Abort>(rt: &R, alloc: Global, one: Blank, another: Blank)
+fn counts<R: Abort>(rt: &R, alloc: Global, one: Blank, another: Blank)
     requires names { (one.name ≡ L.name) × (another.name ≡ X.name) }
     requires parts { (one.parts ≡ L.parts) × (another.parts ≡ X.parts) }
     requires some { (0 < one.parts) × (0 < another.parts) }
 {
-    let (steps, exchanges) = (&mut Steps::<L>::new(one), &mut Steps::<X>::new(another));
     let accounts = [(100, [0].as_slice()), (0, [0, 1].as_slice())];
     let (board, mut seat, _) = new_pair(alloc, 4, accounts.as_slice()).expect(rt, "a board");
     let mut totals = new_totals(alloc, &board).expect(rt, "totals");
-    assert!(rt; counts_own(&board, &mut seat, &mut totals, steps, exchanges));
+    assert!(rt; counts_own(&board, &mut seat, &mut totals));
 }
 
 #[test]
@@ -317,11 +299,9 @@ const FIRST: Decision = Decision {
 };
 
 /// Whether process 0 asks to pay 7 to account 1, decides it in the first round of account 0 and publishes that as the only record.
-fn begins<L: Ledger, X: Ledger>(
+fn begins(
     board: &Board,
     seat: &mut BoardSeat,
-    steps: &mut Steps<L>,
-    exchanges: &mut Steps<X>,
 ) -> bool
     requires two { board.now.book.processes ≡ 2 }
     requires seat { seat.old ≡ new_seat board.now 0 }
@@ -335,28 +315,26 @@ fn begins<L: Ledger, X: Ledger>(
     if board.book().accounts() < 2 || board.book().opening(0) < 7 {
         return false;
     }
-    let (_word, has_round) = settle(board, seat, slot, steps, exchanges);
+    let (_word, has_round) = settle(board, seat, slot);
     let published = seat.published();
-    let others = look(board, seat, 1, steps, exchanges);
+    let others = look(board, seat, 1);
     has_round && published == 1 && others == 0
 }
 
 /// Whether totals that catch up with the record of a round tell what it has decided, and the balances after it.
-fn counts_a_round<L: Ledger, X: Ledger>(
+fn counts_a_round(
     board: &Board,
     seat: &mut BoardSeat,
     totals: &mut Totals,
-    steps: &mut Steps<L>,
-    exchanges: &mut Steps<X>,
 ) -> bool
     requires two { board.now.book.processes ≡ 2 }
     requires seat { seat.old ≡ new_seat board.now 0 }
     requires new { IsNewTotals totals.old board.now.book }
 {
-    if !begins(board, seat, steps, exchanges) {
+    if !begins(board, seat) {
         return false;
     }
-    catches_up(board, seat, totals, steps, exchanges);
+    catches_up(board, seat, totals);
     let said = said_of_shared(totals, board, seat, 0);
     counts_one(totals)
         && said == Some((1, (1, Some((0, FIRST))), (0, None)))
@@ -365,16 +343,15 @@ fn counts_a_round<L: Ledger, X: Ledger>(
 }
 
 /// A round is decided and published on the account that two processes share, and new totals catch up.
-fn decides<L: Ledger, X: Ledger, R: Abort>(rt: &R, alloc: Global, one: Blank, another: Blank)
+fn decides<R: Abort>(rt: &R, alloc: Global, one: Blank, another: Blank)
     requires names { (one.name ≡ L.name) × (another.name ≡ X.name) }
     requires parts { (one.parts ≡ L.parts) × (another.parts ≡ X.parts) }
     requires some { (0 < one.parts) × (0 < another.parts) }
 {
-    let (steps, exchanges) = (&mut Steps::<L>::new(one), &mut Steps::<X>::new(another));
     let accounts = [(100, [0, 1].as_slice()), (0, [].as_slice())];
     let (board, mut seat, _) = new_pair(alloc, 4, accounts.as_slice()).expect(rt, "a board");
     let mut totals = new_totals(alloc, &board).expect(rt, "totals");
-    assert!(rt; counts_a_round(&board, &mut seat, &mut totals, steps, exchanges));
+    assert!(rt; counts_a_round(&board, &mut seat, &mut totals));
 }
 
 #[test]

@@ -1,6 +1,7 @@
 //! A record is appended on a small board, and another process loads it through a note.
 
 ghost use Rattle.std.specs.Prelude.{◌≡◌, ◌+◌, ◌<◌, [], IsTrue};
+ghost use Rattle.at_board.specs.Counting.{raised};
 ghost use Rattle.at_board.specs.Ends.Opening.{starting_seat};
 ghost use Rattle.at_board.specs.Knowledge.Seats.{IsOf};
 ghost use Rattle.at_history.specs.Publications.{count_of};
@@ -9,7 +10,7 @@ ghost use Rattle.at_players.specs.SmallBoard.{AreNewPair, new_seat};
 
 use crate::payers::{may_pay, pay};
 use at_base::Counts;
-use at_board::{Board, BoardSeat, Steps};
+use at_board::{Board, BoardSeat};
 use at_ledger::{Call, Reply, Targets};
 use at_log::{At, Closing, Entry, Receipt, Record, load_entry, load_view, room};
 use at_players::boards::{new_pair, new_single};
@@ -19,53 +20,47 @@ use std::process::Abort;
 use std::sync::ledger::{Blank, Ledger};
 
 /// The only process pays, in nine steps.
-fn pays_alone<L: Ledger, X: Ledger>(
+fn pays_alone(
     board: &Board,
     seat: &mut BoardSeat,
     targets: Targets,
-    steps: &mut Steps<L>,
-    exchanges: &mut Steps<X>,
 )
     requires board { seat.old.board ≡ board.now.id }
     requires new { seat.old.knows ≡ starting_seat board.now.book seat.old.knows.first }
     requires pays { IsSoundOwn board.now.book seat.old.knows.first [] 0 targets }
     requires alone { board.now.book.processes ≡ 1 }
     ensures board { IsOf seat.new board.now }
-    ensures steps { steps.new ≡ steps.old + 9 }
-    ensures exchanges { exchanges.new ≡ exchanges.old }
+    ensures steps { seat.new.steps ≡ raised seat.old.steps 9 }
+    ensures exchanges { seat.new.exchanges ≡ seat.old.exchanges }
 {
-    let _entry = pay(board, seat, targets, steps, exchanges);
+    let _entry = pay(board, seat, targets);
 }
 
 /// The first record of a process, which its seat tells the other: in two steps with an exchange each, and nine without.
-fn told_record<L: Ledger, X: Ledger>(
+fn told_record(
     board: &Board,
     seat: &mut BoardSeat,
     other: &mut BoardSeat,
-    steps: &mut Steps<L>,
-    exchanges: &mut Steps<X>,
 ) -> Record
     requires seat { IsOf seat.old board.now }
     requires other { IsOf other.old board.now }
     requires published { 0 < count_of seat.old.knows.first seat.old.knows.seen }
     requires two { board.now.book.processes ≡ 2 }
-    ensures steps { steps.new ≡ steps.old + 11 }
-    ensures exchanges { exchanges.new ≡ exchanges.old + 2 }
+    ensures steps { seat.new.steps ≡ raised seat.old.steps 11 }
+    ensures exchanges { seat.new.exchanges ≡ raised seat.old.exchanges 2 }
 {
-    let note = board.note(seat, steps, exchanges);
-    board.learn(other, note, steps, exchanges);
+    let note = board.note(seat);
+    board.learn(other, note);
     let process = seat.process();
-    let entry = load_entry(board, other, process, 0, steps, exchanges);
-    let view = load_view(board, other, process, 0, steps, exchanges);
+    let entry = load_entry(board, other, process, 0);
+    let view = load_view(board, other, process, 0);
     Record { entry, view }
 }
 
 /// Whether the only process pays 60 and 40, and has room for three more records then.
-fn appends<L: Ledger, X: Ledger>(
+fn appends(
     board: &Board,
     seat: &mut BoardSeat,
-    steps: &mut Steps<L>,
-    exchanges: &mut Steps<X>,
 ) -> bool
     requires alone { board.now.book.processes ≡ 1 }
     requires seat { seat.old ≡ new_seat board.now 0 }
@@ -75,24 +70,23 @@ fn appends<L: Ledger, X: Ledger>(
     if room(board, seat) != 4 || !may_pay(board.book(), seat.process(), 3, &targets) {
         return false;
     }
-    pays_alone(board, seat, targets, steps, exchanges);
+    pays_alone(board, seat, targets);
     seat.published() == 1 && room(board, seat) == 3
 }
 
 /// The only process of a board pays two targets.
-fn appends_alone<L: Ledger, X: Ledger, R: Abort>(rt: &R, alloc: Global, one: Blank, another: Blank)
+fn appends_alone<R: Abort>(rt: &R, alloc: Global, one: Blank, another: Blank)
     requires names { (one.name ≡ L.name) × (another.name ≡ X.name) }
     requires parts { (one.parts ≡ L.parts) × (another.parts ≡ X.parts) }
     requires some { (0 < one.parts) × (0 < another.parts) }
 {
-    let (steps, exchanges) = (&mut Steps::<L>::new(one), &mut Steps::<X>::new(another));
     let accounts = [
         (100, [0].as_slice()),
         (0, [].as_slice()),
         (0, [].as_slice()),
     ];
     let (board, mut seat) = new_single(alloc, 4, accounts.as_slice()).expect(rt, "a board");
-    assert!(rt; appends(&board, &mut seat, steps, exchanges));
+    assert!(rt; appends(&board, &mut seat));
 }
 
 #[test]
@@ -101,12 +95,10 @@ fn a_record_is_appended(rt: HostRuntime) {
 }
 
 /// The record by which process 0 pays 1 to account 1, as process 1 loads it after a note.
-fn pays_and_tells<L: Ledger, X: Ledger>(
+fn pays_and_tells(
     board: &Board,
     seat: &mut BoardSeat,
     other: &mut BoardSeat,
-    steps: &mut Steps<L>,
-    exchanges: &mut Steps<X>,
 ) -> Option<Record>
     requires { AreNewPair board.now seat.old other.old }
 {
@@ -114,8 +106,8 @@ fn pays_and_tells<L: Ledger, X: Ledger>(
     if !may_pay(board.book(), seat.process(), 2, &targets) {
         return None;
     }
-    let _entry = pay(board, seat, targets, steps, exchanges);
-    Some(told_record(board, seat, other, steps, exchanges))
+    let _entry = pay(board, seat, targets);
+    Some(told_record(board, seat, other))
 }
 
 /// Whether a record pays 1 from account 0 to account 1, and its view counts nothing.
@@ -140,17 +132,16 @@ fn is_payment(told: &Option<Record>) -> bool {
 }
 
 /// One process pays 1 to account 1, and the other loads the record, through a note alone.
-fn tells<L: Ledger, X: Ledger, R: Abort>(rt: &R, alloc: Global, one: Blank, another: Blank)
+fn tells<R: Abort>(rt: &R, alloc: Global, one: Blank, another: Blank)
     requires names { (one.name ≡ L.name) × (another.name ≡ X.name) }
     requires parts { (one.parts ≡ L.parts) × (another.parts ≡ X.parts) }
     requires some { (0 < one.parts) × (0 < another.parts) }
 {
-    let (steps, exchanges) = (&mut Steps::<L>::new(one), &mut Steps::<X>::new(another));
     let accounts = [(100, [0].as_slice()), (100, [1].as_slice())];
     let (board, mut seat, mut other) = new_pair(alloc, 4, accounts.as_slice()).expect(
         rt, "a board",
     );
-    let told = pays_and_tells(&board, &mut seat, &mut other, steps, exchanges);
+    let told = pays_and_tells(&board, &mut seat, &mut other);
     assert!(rt; is_payment(&told));
 }
 

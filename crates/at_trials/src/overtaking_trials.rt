@@ -8,7 +8,7 @@ ghost use Rattle.at_trials.specs.SmallShared.{IsWaiting, MayCall};
 use crate::fold_trials::new_totals;
 use crate::shared_trials::{InRound, asks, in_round, turns, turns_more};
 use at_base::{Decision, pack_decision};
-use at_board::{Board, BoardSeat, Steps};
+use at_board::{Board, BoardSeat};
 use at_fold::Totals;
 use at_ledger::Reply;
 use at_players::boards::{book_of, last_seat};
@@ -68,11 +68,9 @@ fn callers_of(alloc: Global, board: &Board, seats: &mut Vec<BoardSeat>) -> Optio
 }
 
 /// The process, once it has asked for a payment of 10 from account 0 to account 1, if it may.
-fn asks_first<L: Ledger, X: Ledger>(
+fn asks_first(
     board: &Board,
     caller: Caller,
-    steps: &mut Steps<L>,
-    exchanges: &mut Steps<X>,
 ) -> Option<Waiter>
     requires { MayCall board.now caller.seat caller.totals }
     ensures { IfSome result (λ w. IsWaiting board.now w.seat w.totals w.helping) }
@@ -81,7 +79,7 @@ fn asks_first<L: Ledger, X: Ledger>(
         mut seat,
         mut totals,
     } = caller;
-    let helping = asks(board, &mut seat, &mut totals, steps, exchanges)?;
+    let helping = asks(board, &mut seat, &mut totals)?;
     Some(Waiter {
         seat,
         totals,
@@ -90,12 +88,10 @@ fn asks_first<L: Ledger, X: Ledger>(
 }
 
 /// The last eight of these processes, the last of them first, each of which asks after the one before it.
-fn all_ask<L: Ledger, X: Ledger>(
+fn all_ask(
     alloc: Global,
     board: &Board,
     callers: &mut Vec<Caller>,
-    steps: &mut Steps<L>,
-    exchanges: &mut Steps<X>,
 ) -> Option<Vec<Waiter>>
     requires { All (λ c. MayCall board.now c.seat c.totals) callers.old.items }
     ensures { IfSome result (λ ws. All (λ w. IsWaiting board.now w.seat w.totals w.helping)
@@ -104,7 +100,7 @@ fn all_ask<L: Ledger, X: Ledger>(
     let mut waiters = Vec::new(alloc);
     for _owner in 0..OWNERS {
         let caller = callers.pop()?;
-        let waiter = asks_first(board, caller, steps, exchanges)?;
+        let waiter = asks_first(board, caller)?;
         let Ok(()) = waiters.push(waiter) else {
             return None;
         };
@@ -113,11 +109,9 @@ fn all_ask<L: Ledger, X: Ledger>(
 }
 
 /// Whether the next seven turns of a process decide others' requests.
-fn is_overtaken_by_seven<L: Ledger, X: Ledger>(
+fn is_overtaken_by_seven(
     board: &Board,
     waiter: &mut Waiter,
-    steps: &mut Steps<L>,
-    exchanges: &mut Steps<X>,
 ) -> bool
     requires { IsWaiting board.now waiter.old.seat waiter.old.totals waiter.old.helping }
     ensures { IsTrue result → IsWaiting board.now waiter.new.seat waiter.new.totals
@@ -128,9 +122,7 @@ fn is_overtaken_by_seven<L: Ledger, X: Ledger>(
             &mut waiter.helping,
             board,
             &mut waiter.seat,
-            &mut waiter.totals,
-            steps,
-            exchanges,
+            &mut waiter.totals
         ) {
             return false;
         }
@@ -164,27 +156,23 @@ fn has_eight_rounds(board: &Board, seat: &BoardSeat, totals: &Totals) -> bool
 
 /// Whether the last owner settles the requests of the others first, one round each in the order in which they have asked, and then
 /// its own.
-fn serves_all<L: Ledger, X: Ledger>(
+fn serves_all(
     board: &Board,
     waiter: &mut Waiter,
-    steps: &mut Steps<L>,
-    exchanges: &mut Steps<X>,
 ) -> bool
     requires { IsWaiting board.now waiter.old.seat waiter.old.totals waiter.old.helping }
 {
     if waiter.seat.process() != OWNERS - 1 {
         return false;
     }
-    if !is_overtaken_by_seven(board, waiter, steps, exchanges) {
+    if !is_overtaken_by_seven(board, waiter) {
         return false;
     }
     let late = turns(
         &mut waiter.helping,
         board,
         &mut waiter.seat,
-        &mut waiter.totals,
-        steps,
-        exchanges,
+        &mut waiter.totals
     );
     late == Some((Reply::Done, OWNERS - 1, OWNERS - 1))
         && has_eight_rounds(board, &waiter.seat, &waiter.totals)
@@ -192,20 +180,18 @@ fn serves_all<L: Ledger, X: Ledger>(
 
 /// What a turn answers where it finds the request settled, with its round and place. It makes no exchange then: the process has
 /// published no record in it.
-fn finds_settled<L: Ledger, X: Ledger>(
+fn finds_settled(
     helping: &mut Helping,
     board: &Board,
     seat: &mut BoardSeat,
     totals: &mut Totals,
-    steps: &mut Steps<L>,
-    exchanges: &mut Steps<X>,
 ) -> InRound
     requires { IsWaiting board.now seat.old totals.old helping.old }
-    ensures { IfSome result (λ _. exchanges.new ≡ exchanges.old) }
+    ensures { IfSome result (λ _. seat.new.exchanges ≡ seat.old.exchanges) }
 {
     seat.known();
     let published = seat.published();
-    let HelpTurn::Settled(receipt) = helping.turn(board, seat, totals, steps, exchanges) else {
+    let HelpTurn::Settled(receipt) = helping.turn(board, seat, totals) else {
         return None;
     };
     if seat.published() == published {
@@ -217,14 +203,12 @@ fn finds_settled<L: Ledger, X: Ledger>(
 
 /// Whether the next turns of the first seven owners, from the last of them to the first, find their requests settled, that of each
 /// in the round of its number.
-fn others_find<L: Ledger, X: Ledger>(
+fn others_find(
     board: &Board,
     waiters: &mut Vec<Waiter>,
-    steps: &mut Steps<L>,
-    exchanges: &mut Steps<X>,
 ) -> bool
     requires { All (λ w. IsWaiting board.now w.seat w.totals w.helping) waiters.old.items }
-    ensures { IsTrue result → exchanges.new ≡ exchanges.old }
+    ensures { IsTrue result → seat.new.exchanges ≡ seat.old.exchanges }
 {
     for i in 1..OWNERS {
         let Some(mut waiter) = waiters.pop() else {
@@ -235,9 +219,7 @@ fn others_find<L: Ledger, X: Ledger>(
             &mut waiter.helping,
             board,
             &mut waiter.seat,
-            &mut waiter.totals,
-            steps,
-            exchanges,
+            &mut waiter.totals
         ) else {
             return false;
         };
@@ -250,10 +232,8 @@ fn others_find<L: Ledger, X: Ledger>(
 
 /// Whether eight owners of account 0 ask in their order on a new board, the last one serves all of them in that order, and the others
 /// then find that.
-fn eight_are_served<L: Ledger, X: Ledger>(
+fn eight_are_served(
     alloc: Global,
-    steps: &mut Steps<L>,
-    exchanges: &mut Steps<X>,
 ) -> Option<bool> {
     let accounts = [
         (100, [0, 1, 2, 3, 4, 5, 6, 7].as_slice()),
@@ -264,16 +244,16 @@ fn eight_are_served<L: Ledger, X: Ledger>(
         return None;
     };
     let mut callers = callers_of(alloc, &board, &mut seats)?;
-    let mut waiters = all_ask(alloc, &board, &mut callers, steps, exchanges)?;
+    let mut waiters = all_ask(alloc, &board, &mut callers)?;
     let mut last = waiters.pop()?;
     Some(
-        serves_all(&board, &mut last, steps, exchanges)
-            && others_find(&board, &mut waiters, steps, exchanges),
+        serves_all(&board, &mut last)
+            && others_find(&board, &mut waiters),
     )
 }
 
 /// Eight owners of one account are served.
-fn overtakes_seven<L: Ledger, X: Ledger, R: Abort>(
+fn overtakes_seven<R: Abort>(
     rt: &R,
     alloc: Global,
     one: Blank,
@@ -283,8 +263,7 @@ fn overtakes_seven<L: Ledger, X: Ledger, R: Abort>(
     requires parts { (one.parts ≡ L.parts) × (another.parts ≡ X.parts) }
     requires some { (0 < one.parts) × (0 < another.parts) }
 {
-    let (steps, exchanges) = (&mut Steps::<L>::new(one), &mut Steps::<X>::new(another));
-    assert!(rt; eight_are_served(alloc, steps, exchanges) == Some(true));
+    assert!(rt; eight_are_served(alloc) == Some(true));
 }
 
 #[test]

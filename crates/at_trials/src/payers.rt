@@ -1,6 +1,7 @@
 //! Processes that pay from account 0 by their first record, appended to their log.
 
 ghost use Rattle.std.specs.Prelude.{◌≡◌, ◌+◌, ◌<◌, ◌≤◌, [], IsTrue, length};
+ghost use Rattle.at_board.specs.Counting.{raised};
 ghost use Rattle.at_board.specs.Ends.Opening.{starting_seat};
 ghost use Rattle.at_board.specs.Knowledge.Seats.{IsOf};
 ghost use Rattle.at_history.specs.Publications.{count_of};
@@ -9,10 +10,9 @@ ghost use Rattle.at_ledger.specs.Call.{AreTargetsOn};
 ghost use Rattle.at_trials.specs.SmallFold.{HasOnlyRecord};
 
 use at_base::Counts;
-use at_board::{Board, BoardSeat, Steps};
+use at_board::{Board, BoardSeat};
 use at_ledger::{Book, Targets};
 use at_log::{Entry, Record, append};
-use std::sync::ledger::Ledger;
 
 /// Whether a process may pay these targets, which are among the first accounts, from account 0 when nothing is published.
 #[tactic(auto, unfolding(at_history::specs::Rounds::firsts))]
@@ -35,12 +35,10 @@ pub(crate) fn may_pay(book: &Book, process: u32, first: u32, targets: &Targets) 
 }
 
 /// Pays these targets from account 0, by the first record of the seat's process. The answer is what the record says.
-pub(crate) fn pay<L: Ledger, X: Ledger>(
+pub(crate) fn pay(
     board: &Board,
     seat: &mut BoardSeat,
     targets: Targets,
-    steps: &mut Steps<L>,
-    exchanges: &mut Steps<X>,
 ) -> Entry
     requires board { seat.old.board ≡ board.now.id }
     requires new { seat.old.knows ≡ starting_seat board.now.book seat.old.knows.first }
@@ -49,8 +47,8 @@ pub(crate) fn pay<L: Ledger, X: Ledger>(
     ensures process { seat.new.knows.first ≡ seat.old.knows.first }
     ensures paid { HasOnlyRecord seat.new.knows result }
     ensures published { 0 < count_of seat.new.knows.first seat.new.knows.seen }
-    ensures steps { steps.new ≡ steps.old + (board.now.book.processes + 8) }
-    ensures exchanges { exchanges.new ≡ exchanges.old }
+    ensures steps { seat.new.steps ≡ raised seat.old.steps (board.now.book.processes + 8) }
+    ensures exchanges { seat.new.exchanges ≡ seat.old.exchanges }
 {
     board.book().known();
     seat.known();
@@ -58,7 +56,7 @@ pub(crate) fn pay<L: Ledger, X: Ledger>(
         entry: Entry::Own { from: 0, targets },
         view: Counts::zeros(board.book().processes()),
     };
-    append(board, seat, &record, steps, exchanges);
+    append(board, seat, &record);
     let Record { entry, view: _ } = record;
     entry
 }

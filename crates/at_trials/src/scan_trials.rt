@@ -7,7 +7,7 @@ ghost use Rattle.at_players.specs.SmallBoard.{new_seat};
 ghost use Rattle.at_trials.specs.SmallScan.{HasPaid, MayPayTwice, one_from_1};
 
 use at_base::Counts;
-use at_board::{Board, BoardSeat, Steps};
+use at_board::{Board, BoardSeat};
 use at_ledger::{Book, Targets};
 use at_log::{Entry, Record, append};
 use at_players::boards::new_three;
@@ -84,11 +84,9 @@ fn paid(view: Counts) -> Record
 }
 
 /// Pays by the first record of the seat's process.
-fn pay<L: Ledger, X: Ledger>(
+fn pay(
     board: &Board,
     seat: &mut BoardSeat,
-    steps: &mut Steps<L>,
-    exchanges: &mut Steps<X>,
 )
     requires board { seat.old.board ≡ board.now.id }
     requires new { seat.old.knows ≡ starting_seat board.now.book seat.old.knows.first }
@@ -100,15 +98,13 @@ fn pay<L: Ledger, X: Ledger>(
     board.book().known();
     seat.known();
     let record = paid(Counts::zeros(board.book().processes()));
-    append(board, seat, &record, steps, exchanges);
+    append(board, seat, &record);
 }
 
 /// Pays once more with the view of a snapshot, where that counts the first payment alone.
-fn pay_again<L: Ledger, X: Ledger>(
+fn pay_again(
     board: &Board,
     seat: &mut BoardSeat,
-    steps: &mut Steps<L>,
-    exchanges: &mut Steps<X>,
 ) -> bool
     requires board { IsOf seat.old board.now }
     requires process { seat.old.knows.first ≡ 1 }
@@ -116,11 +112,11 @@ fn pay_again<L: Ledger, X: Ledger>(
     requires pays { MayPayTwice board.now.book 1 }
 {
     seat.known();
-    let view = snapshot(board, seat, steps, exchanges);
+    let view = snapshot(board, seat);
     if !counts_the_first(&view) {
         return false;
     }
-    append(board, seat, &paid(view), steps, exchanges);
+    append(board, seat, &paid(view));
     true
 }
 
@@ -128,30 +124,26 @@ fn pay_again<L: Ledger, X: Ledger>(
 const ACCOUNTS: [(u64, &[u64]); 3] = [(10, &[0]), (10, &[1]), (10, &[2])];
 
 /// Whether the second collect equals the first, where nobody publishes, and a snapshot counts nothing.
-fn scans_alone<L: Ledger, X: Ledger>(
+fn scans_alone(
     board: &Board,
     seat: &mut BoardSeat,
-    steps: &mut Steps<L>,
-    exchanges: &mut Steps<X>,
 ) -> bool
     requires { seat.old ≡ new_seat board.now 2 }
 {
     let mut scan = Scan::start(seat);
-    let first = scan.turn(board, seat, steps, exchanges);
-    let second = scan.turn(board, seat, steps, exchanges);
-    let counts = snapshot(board, seat, steps, exchanges);
+    let first = scan.turn(board, seat);
+    let second = scan.turn(board, seat);
+    let counts = snapshot(board, seat);
     is_again(&first) && clean(&second) == Some((0, 0, 0)) && three(&counts) == Some((0, 0, 0))
 }
 
 /// What a scan answers in its third turn, where another process publishes once after the first collect, and maybe again after the
 /// second. None where it is not turned away twice before.
-fn scans_beside<L: Ledger, X: Ledger>(
+fn scans_beside(
     board: &Board,
     seat: &mut BoardSeat,
     other: &mut BoardSeat,
     again: bool,
-    steps: &mut Steps<L>,
-    exchanges: &mut Steps<X>,
 ) -> Option<Turn>
     requires seat { seat.old ≡ new_seat board.now 0 }
     requires other { other.old ≡ new_seat board.now 1 }
@@ -160,13 +152,13 @@ fn scans_beside<L: Ledger, X: Ledger>(
         return None;
     }
     let mut scan = Scan::start(seat);
-    let first = scan.turn(board, seat, steps, exchanges);
-    pay(board, other, steps, exchanges);
-    let second = scan.turn(board, seat, steps, exchanges);
-    if again && !pay_again(board, other, steps, exchanges) {
+    let first = scan.turn(board, seat);
+    pay(board, other);
+    let second = scan.turn(board, seat);
+    if again && !pay_again(board, other) {
         return None;
     }
-    let third = scan.turn(board, seat, steps, exchanges);
+    let third = scan.turn(board, seat);
     if is_again(&first) && is_again(&second) {
         Some(third)
     } else {
@@ -175,18 +167,17 @@ fn scans_beside<L: Ledger, X: Ledger>(
 }
 
 /// Nobody publishes.
-fn scans<L: Ledger, X: Ledger, R: Abort>(rt: &R, alloc: Global, one: Blank, another: Blank)
+fn scans<R: Abort>(rt: &R, alloc: Global, one: Blank, another: Blank)
     requires names { (one.name ≡ L.name) × (another.name ≡ X.name) }
     requires parts { (one.parts ≡ L.parts) × (another.parts ≡ X.parts) }
     requires some { (0 < one.parts) × (0 < another.parts) }
 {
-    let (steps, exchanges) = (&mut Steps::<L>::new(one), &mut Steps::<X>::new(another));
     let (board, (_, _, mut seat)) = new_three(alloc, 4, ACCOUNTS.as_slice()).expect(rt, "a board");
-    assert!(rt; scans_alone(&board, &mut seat, steps, exchanges));
+    assert!(rt; scans_alone(&board, &mut seat));
 }
 
 /// Another process publishes, once or twice. Whether the scan answers these counts, its own or borrowed.
-fn meets<L: Ledger, X: Ledger, R: Abort>(
+fn meets<R: Abort>(
     rt: &R,
     alloc: Global,
     one: Blank,
@@ -197,11 +188,10 @@ fn meets<L: Ledger, X: Ledger, R: Abort>(
     requires parts { (one.parts ≡ L.parts) × (another.parts ≡ X.parts) }
     requires some { (0 < one.parts) × (0 < another.parts) }
 {
-    let (steps, exchanges) = (&mut Steps::<L>::new(one), &mut Steps::<X>::new(another));
     let (board, (mut seat, mut other, _)) = new_three(alloc, 4, ACCOUNTS.as_slice()).expect(
         rt, "a board",
     );
-    let third = scans_beside(&board, &mut seat, &mut other, again, steps, exchanges);
+    let third = scans_beside(&board, &mut seat, &mut other, again);
     assert!(rt; counts_one(&third, again));
 }
 

@@ -14,7 +14,7 @@ ghost use Rattle.at_trials.specs.SmallShared.{MayCall};
 
 use crate::fold_trials::{OwnerSaid, new_totals, said_of_shared};
 use at_base::{Decision, Head, pack_decision, pack_head};
-use at_board::{Board, BoardEnd, BoardSeat, Steps, pack_targets};
+use at_board::{Board, BoardEnd, BoardSeat, pack_targets};
 use at_fold::Totals;
 use at_ledger::{Call, Reply, Targets};
 use at_log::{At, Receipt};
@@ -72,13 +72,11 @@ fn may_ask(board: &Board, seat: &BoardSeat, totals: &Totals) -> bool
 }
 
 /// What a payment from account 0 to account 1 answers, if the seat's process may ask for it.
-fn pays<L: Ledger, X: Ledger>(
+fn pays(
     board: &Board,
     seat: &mut BoardSeat,
     totals: &mut Totals,
     amount: u64,
-    steps: &mut Steps<L>,
-    exchanges: &mut Steps<X>,
 ) -> InRound
     requires ready { MayCall board.now seat.old totals.old }
     ensures ready { MayCall board.now seat.new totals.new }
@@ -87,18 +85,16 @@ fn pays<L: Ledger, X: Ledger>(
     if !may_ask(board, seat, totals) {
         return None;
     }
-    let receipt = transfer_shared(board, seat, totals, 0, 1, amount, steps, exchanges);
+    let receipt = transfer_shared(board, seat, totals, 0, 1, amount);
     in_round(&receipt)
 }
 
 /// What the same payment answers as a list of one target.
-fn pays_listed<L: Ledger, X: Ledger>(
+fn pays_listed(
     board: &Board,
     seat: &mut BoardSeat,
     totals: &mut Totals,
     amount: u64,
-    steps: &mut Steps<L>,
-    exchanges: &mut Steps<X>,
 ) -> InRound
     requires ready { MayCall board.now seat.old totals.old }
     ensures ready { MayCall board.now seat.new totals.new }
@@ -108,25 +104,23 @@ fn pays_listed<L: Ledger, X: Ledger>(
         return None;
     }
     let targets = Targets::one(1, amount);
-    let receipt = pay_shared(board, seat, totals, 0, &targets, steps, exchanges);
+    let receipt = pay_shared(board, seat, totals, 0, &targets);
     in_round(&receipt)
 }
 
 /// Whether payments of 60 and 30 are done in the first rounds, and one more of 30 is short in the next.
-fn pays_until_short<L: Ledger, X: Ledger>(
+fn pays_until_short(
     board: &Board,
     seat: &mut BoardSeat,
     totals: &mut Totals,
-    steps: &mut Steps<L>,
-    exchanges: &mut Steps<X>,
 ) -> bool
     requires ready { MayCall board.now seat.old totals.old }
     ensures ready { MayCall board.now seat.new totals.new }
     ensures process { seat.new.knows.first ≡ seat.old.knows.first }
 {
-    let first = pays(board, seat, totals, 60, steps, exchanges);
-    let second = pays_listed(board, seat, totals, 30, steps, exchanges);
-    let third = pays(board, seat, totals, 30, steps, exchanges);
+    let first = pays(board, seat, totals, 60);
+    let second = pays_listed(board, seat, totals, 30);
+    let third = pays(board, seat, totals, 30);
     first == Some((Reply::Done, 0, 0))
         && second == Some((Reply::Done, 1, 1))
         && third == Some((Reply::Short, 2, 2))
@@ -141,13 +135,11 @@ const FIRST: Decision = Decision {
 };
 
 /// What the process reads of an account of the board.
-fn reads<L: Ledger, X: Ledger>(
+fn reads(
     board: &Board,
     seat: &mut BoardSeat,
     totals: &mut Totals,
     account: u32,
-    steps: &mut Steps<L>,
-    exchanges: &mut Steps<X>,
 ) -> Option<Reply>
     requires ready { MayCall board.now seat.old totals.old }
     ensures ready { MayCall board.now seat.new totals.new }
@@ -157,25 +149,23 @@ fn reads<L: Ledger, X: Ledger>(
         return None;
     }
     seat.known();
-    let receipt = read_account(board, seat, totals, account, steps, exchanges);
+    let receipt = read_account(board, seat, totals, account);
     Some(receipt.reply)
 }
 
 /// Whether the process reads 10 and 90, and its totals say that three requests of the first owner are decided in three rounds, how
 /// the first was, and that none of the other owner is.
-fn reads_the_rest<L: Ledger, X: Ledger>(
+fn reads_the_rest(
     board: &Board,
     seat: &mut BoardSeat,
     totals: &mut Totals,
-    steps: &mut Steps<L>,
-    exchanges: &mut Steps<X>,
 ) -> bool
     requires ready { MayCall board.now seat.old totals.old }
     ensures ready { MayCall board.now seat.new totals.new }
     ensures process { seat.new.knows.first ≡ seat.old.knows.first }
 {
-    let from = reads(board, seat, totals, 0, steps, exchanges);
-    let to = reads(board, seat, totals, 1, steps, exchanges);
+    let from = reads(board, seat, totals, 0);
+    let to = reads(board, seat, totals, 1);
     let said = said_of_shared(totals, board, seat, 0);
     from == Some(Reply::Balance(10))
         && to == Some(Reply::Balance(90))
@@ -183,14 +173,12 @@ fn reads_the_rest<L: Ledger, X: Ledger>(
 }
 
 /// Whether process 0 pays until it is short, and both processes then read the same.
-fn pays_and_reads<L: Ledger, X: Ledger>(
+fn pays_and_reads(
     board: &Board,
     zero: &mut BoardSeat,
     one: &mut BoardSeat,
     totals: &mut Totals,
     others: &mut Totals,
-    steps: &mut Steps<L>,
-    exchanges: &mut Steps<X>,
 ) -> bool
     requires pair { AreNewPair board.now zero.old one.old }
     requires totals { IsNewTotals totals.old board.now.book }
@@ -198,9 +186,9 @@ fn pays_and_reads<L: Ledger, X: Ledger>(
     ensures zero { IsFreeSeat board.now 0 zero.new }
     ensures one { IsFreeSeat board.now 1 one.new }
 {
-    let paid = pays_until_short(board, zero, totals, steps, exchanges);
-    let here = reads_the_rest(board, zero, totals, steps, exchanges);
-    let there = reads_the_rest(board, one, others, steps, exchanges);
+    let paid = pays_until_short(board, zero, totals);
+    let here = reads_the_rest(board, zero, totals);
+    let there = reads_the_rest(board, one, others);
     paid && here && there
 }
 
@@ -218,13 +206,11 @@ fn close_pair(board: Board, alloc: Global, zero: BoardSeat, one: BoardSeat) -> O
 }
 
 /// The board's end, where process 0 has paid from account 0 until it was short.
-fn end_of_paid<L: Ledger, X: Ledger>(
+fn end_of_paid(
     board: Board,
     alloc: Global,
     zero: BoardSeat,
     one: BoardSeat,
-    steps: &mut Steps<L>,
-    exchanges: &mut Steps<X>,
 ) -> Option<BoardEnd>
     requires { AreNewPair board zero one }
     ensures { IfSome result (λ end. end.book.processes ≡ 2) }
@@ -241,9 +227,7 @@ fn end_of_paid<L: Ledger, X: Ledger>(
         &mut zero,
         &mut one,
         &mut totals,
-        &mut others,
-        steps,
-        exchanges,
+        &mut others
     ) {
         close_pair(board, alloc, zero, one)
     } else {
@@ -294,15 +278,14 @@ fn has_three_rounds(end: &BoardEnd) -> bool
 }
 
 /// One of two owners of account 0 pays from it, until that is short.
-fn pays_in_rounds<L: Ledger, X: Ledger, R: Abort>(rt: &R, alloc: Global, one: Blank, another: Blank)
+fn pays_in_rounds<R: Abort>(rt: &R, alloc: Global, one: Blank, another: Blank)
     requires names { (one.name ≡ L.name) × (another.name ≡ X.name) }
     requires parts { (one.parts ≡ L.parts) × (another.parts ≡ X.parts) }
     requires some { (0 < one.parts) × (0 < another.parts) }
 {
-    let (steps, exchanges) = (&mut Steps::<L>::new(one), &mut Steps::<X>::new(another));
     let accounts = [(100, [0, 1].as_slice()), (0, [].as_slice())];
     let (board, first, second) = new_pair(alloc, 4, accounts.as_slice()).expect(rt, "a board");
-    let end = end_of_paid(board, alloc, first, second, steps, exchanges).expect(rt, "an end");
+    let end = end_of_paid(board, alloc, first, second).expect(rt, "an end");
     assert!(rt; has_three_rounds(&end));
 }
 
@@ -312,12 +295,10 @@ fn later_rounds_are_published(rt: HostRuntime) {
 }
 
 /// A request of a payment of 10 from account 0 to account 1, if the seat's process may ask for it.
-pub(crate) fn asks<L: Ledger, X: Ledger>(
+pub(crate) fn asks(
     board: &Board,
     seat: &mut BoardSeat,
     totals: &mut Totals,
-    steps: &mut Steps<L>,
-    exchanges: &mut Steps<X>,
 ) -> Option<Helping>
     requires ready { MayCall board.now seat.old totals.old }
     ensures helping { IfSome result (λ h. IsHelping board.now.book seat.new.knows h) }
@@ -332,17 +313,15 @@ pub(crate) fn asks<L: Ledger, X: Ledger>(
         to: 1,
         amount: 10,
     };
-    Some(Helping::start(board, seat, totals, 0, &call, steps, exchanges))
+    Some(Helping::start(board, seat, totals, 0, &call))
 }
 
 /// What a turn answers where it settles the request, and its round and place.
-pub(crate) fn turns<L: Ledger, X: Ledger>(
+pub(crate) fn turns(
     helping: &mut Helping,
     board: &Board,
     seat: &mut BoardSeat,
     totals: &mut Totals,
-    steps: &mut Steps<L>,
-    exchanges: &mut Steps<X>,
 ) -> InRound
     requires seat { IsOf seat.old board.now }
     requires totals { HasCounted totals.old board.now.book seat.old.knows.seen }
@@ -350,20 +329,18 @@ pub(crate) fn turns<L: Ledger, X: Ledger>(
     ensures counted { HasCounted totals.new board.now.book seat.new.knows.seen }
     ensures board { IsOf seat.new board.now }
 {
-    match helping.turn(board, seat, totals, steps, exchanges) {
+    match helping.turn(board, seat, totals) {
         HelpTurn::Settled(receipt) => in_round(&receipt),
         HelpTurn::More => None,
     }
 }
 
 /// Whether a turn answers that another request was decided.
-pub(crate) fn turns_more<L: Ledger, X: Ledger>(
+pub(crate) fn turns_more(
     helping: &mut Helping,
     board: &Board,
     seat: &mut BoardSeat,
     totals: &mut Totals,
-    steps: &mut Steps<L>,
-    exchanges: &mut Steps<X>,
 ) -> bool
     requires seat { IsOf seat.old board.now }
     requires totals { HasCounted totals.old board.now.book seat.old.knows.seen }
@@ -372,53 +349,49 @@ pub(crate) fn turns_more<L: Ledger, X: Ledger>(
     ensures counted { HasCounted totals.new board.now.book seat.new.knows.seen }
     ensures board { IsOf seat.new board.now }
 {
-    match helping.turn(board, seat, totals, steps, exchanges) {
+    match helping.turn(board, seat, totals) {
         HelpTurn::Settled(_) => false,
         HelpTurn::More => true,
     }
 }
 
 /// What the second turn answers, if the one before it decides another's request.
-fn turns_after_one<L: Ledger, X: Ledger>(
+fn turns_after_one(
     helping: &mut Helping,
     board: &Board,
     seat: &mut BoardSeat,
     totals: &mut Totals,
-    steps: &mut Steps<L>,
-    exchanges: &mut Steps<X>,
 ) -> InRound
     requires seat { IsOf seat.old board.now }
     requires totals { HasCounted totals.old board.now.book seat.old.knows.seen }
     requires helping { IsHelping board.now.book seat.old.knows helping.old }
     ensures counted { HasCounted totals.new board.now.book seat.new.knows.seen }
 {
-    if !turns_more(helping, board, seat, totals, steps, exchanges) {
+    if !turns_more(helping, board, seat, totals) {
         return None;
     }
-    turns(helping, board, seat, totals, steps, exchanges)
+    turns(helping, board, seat, totals)
 }
 
 /// What the third turn answers, if the two before it decide others' requests.
-fn turns_after_two<L: Ledger, X: Ledger>(
+fn turns_after_two(
     helping: &mut Helping,
     board: &Board,
     seat: &mut BoardSeat,
     totals: &mut Totals,
-    steps: &mut Steps<L>,
-    exchanges: &mut Steps<X>,
 ) -> InRound
     requires seat { IsOf seat.old board.now }
     requires totals { HasCounted totals.old board.now.book seat.old.knows.seen }
     requires helping { IsHelping board.now.book seat.old.knows helping.old }
 {
-    if !turns_more(helping, board, seat, totals, steps, exchanges) {
+    if !turns_more(helping, board, seat, totals) {
         return None;
     }
-    turns_after_one(helping, board, seat, totals, steps, exchanges)
+    turns_after_one(helping, board, seat, totals)
 }
 
 /// Whether the third of three owners that have asked settles first the requests of the others, one round each, and then its own.
-fn is_overtaken<L: Ledger, X: Ledger>(
+fn is_overtaken(
     board: &Board,
     zero: &mut BoardSeat,
     one: &mut BoardSeat,
@@ -426,24 +399,22 @@ fn is_overtaken<L: Ledger, X: Ledger>(
     first: &mut Totals,
     second: &mut Totals,
     third: &mut Totals,
-    steps: &mut Steps<L>,
-    exchanges: &mut Steps<X>,
 ) -> bool
     requires zero { MayCall board.now zero.old first.old }
     requires one { MayCall board.now one.old second.old }
     requires two { MayCall board.now two.old third.old }
 {
-    let Some(mut earliest) = asks(board, zero, first, steps, exchanges) else {
+    let Some(mut earliest) = asks(board, zero, first) else {
         return false;
     };
-    let Some(_) = asks(board, one, second, steps, exchanges) else {
+    let Some(_) = asks(board, one, second) else {
         return false;
     };
-    let Some(mut last) = asks(board, two, third, steps, exchanges) else {
+    let Some(mut last) = asks(board, two, third) else {
         return false;
     };
-    let late = turns_after_two(&mut last, board, two, third, steps, exchanges);
-    let early = turns(&mut earliest, board, zero, first, steps, exchanges);
+    let late = turns_after_two(&mut last, board, two, third);
+    let early = turns(&mut earliest, board, zero, first);
     late == Some((Reply::Done, 2, 2)) && early == Some((Reply::Done, 0, 0))
 }
 
@@ -460,12 +431,11 @@ fn three_totals(alloc: Global, board: &Board) -> Option<(Totals, Totals, Totals)
 }
 
 /// Three owners of account 0 ask in their order, and the third turns.
-fn overtakes<L: Ledger, X: Ledger, R: Abort>(rt: &R, alloc: Global, one: Blank, another: Blank)
+fn overtakes<R: Abort>(rt: &R, alloc: Global, one: Blank, another: Blank)
     requires names { (one.name ≡ L.name) × (another.name ≡ X.name) }
     requires parts { (one.parts ≡ L.parts) × (another.parts ≡ X.parts) }
     requires some { (0 < one.parts) × (0 < another.parts) }
 {
-    let (steps, exchanges) = (&mut Steps::<L>::new(one), &mut Steps::<X>::new(another));
     let accounts = [(30, [0, 1, 2].as_slice()), (0, [].as_slice())];
     let (board, seats) = new_three(alloc, 4, accounts.as_slice()).expect(rt, "a board");
     let (mut zero, mut one, mut two) = seats;
@@ -478,9 +448,7 @@ fn overtakes<L: Ledger, X: Ledger, R: Abort>(rt: &R, alloc: Global, one: Blank, 
             &mut two,
             &mut first,
             &mut second,
-            &mut third,
-            steps,
-            exchanges
+            &mut third
         )
     );
 }
@@ -492,27 +460,25 @@ fn a_request_is_overtaken_once_by_each(rt: HostRuntime) {
 
 /// Whether the second of two owners that have asked settles first the request of the other, and then its own, and its totals
 /// tell so of both.
-fn is_overtaken_once<L: Ledger, X: Ledger>(
+fn is_overtaken_once(
     board: &Board,
     zero: &mut BoardSeat,
     one: &mut BoardSeat,
     first: &mut Totals,
     second: &mut Totals,
-    steps: &mut Steps<L>,
-    exchanges: &mut Steps<X>,
 ) -> bool
     requires zero { MayCall board.now zero.old first.old }
     requires one { MayCall board.now one.old second.old }
 {
-    let Some(mut earliest) = asks(board, zero, first, steps, exchanges) else {
+    let Some(mut earliest) = asks(board, zero, first) else {
         return false;
     };
-    let Some(mut last) = asks(board, one, second, steps, exchanges) else {
+    let Some(mut last) = asks(board, one, second) else {
         return false;
     };
-    let late = turns_after_one(&mut last, board, one, second, steps, exchanges);
+    let late = turns_after_one(&mut last, board, one, second);
     let said = said_of_shared(second, board, one, 0);
-    let early = turns(&mut earliest, board, zero, first, steps, exchanges);
+    let early = turns(&mut earliest, board, zero, first);
     late == Some((Reply::Done, 1, 1))
         && early == Some((Reply::Done, 0, 0))
         && said == Some((2, decided_at(0), decided_at(1)))
@@ -530,12 +496,11 @@ fn decided_at(slot: u32) -> OwnerSaid {
 }
 
 /// Two owners of account 0 ask in their order, and the second turns.
-fn overtakes_once<L: Ledger, X: Ledger, R: Abort>(rt: &R, alloc: Global, one: Blank, another: Blank)
+fn overtakes_once<R: Abort>(rt: &R, alloc: Global, one: Blank, another: Blank)
     requires names { (one.name ≡ L.name) × (another.name ≡ X.name) }
     requires parts { (one.parts ≡ L.parts) × (another.parts ≡ X.parts) }
     requires some { (0 < one.parts) × (0 < another.parts) }
 {
-    let (steps, exchanges) = (&mut Steps::<L>::new(one), &mut Steps::<X>::new(another));
     let accounts = [(30, [0, 1].as_slice()), (0, [].as_slice())];
     let (board, mut zero, mut one) = new_pair(alloc, 4, accounts.as_slice()).expect(rt, "a board");
     let mut first = new_totals(alloc, &board).expect(rt, "totals");
@@ -546,9 +511,7 @@ fn overtakes_once<L: Ledger, X: Ledger, R: Abort>(rt: &R, alloc: Global, one: Bl
             &mut zero,
             &mut one,
             &mut first,
-            &mut second,
-            steps,
-            exchanges
+            &mut second
         )
     );
 }

@@ -6,7 +6,7 @@ ghost use Rattle.at_single.specs.Standing.{IsOnlyOwner};
 ghost use Rattle.at_trials.specs.SmallFold.{IsNewTotals};
 
 use crate::fold_trials::new_totals;
-use at_board::{Board, BoardSeat, Steps};
+use at_board::{Board, BoardSeat};
 use at_fold::Totals;
 use at_ledger::{Book, Reply};
 use at_log::{At, Receipt};
@@ -44,14 +44,12 @@ fn is_first_done(receipt: &Receipt) -> bool {
 }
 
 /// Whether process 0 pays 40 to account 1 and reads 60, and process 1, once it was told, reads 40, both at one front.
-fn pays_and_reads<L: Ledger, X: Ledger>(
+fn pays_and_reads(
     board: &Board,
     seat: &mut BoardSeat,
     other: &mut BoardSeat,
     totals: &mut Totals,
     others: &mut Totals,
-    steps: &mut Steps<L>,
-    exchanges: &mut Steps<X>,
 ) -> bool
     requires pair { AreNewPair board.now seat.old other.old }
     requires totals { IsNewTotals totals.old board.now.book }
@@ -60,23 +58,22 @@ fn pays_and_reads<L: Ledger, X: Ledger>(
     if !owns_alone(board.book()) {
         return false;
     }
-    let paid = transfer_own(board, seat, totals, 0, 1, 40, steps, exchanges);
-    let here = read_account(board, seat, totals, 0, steps, exchanges);
-    let note = board.note(seat, steps, exchanges);
-    board.learn(other, note, steps, exchanges);
-    let there = read_account(board, other, others, 1, steps, exchanges);
+    let paid = transfer_own(board, seat, totals, 0, 1, 40);
+    let here = read_account(board, seat, totals, 0);
+    let note = board.note(seat);
+    board.learn(other, note);
+    let there = read_account(board, other, others, 1);
     is_first_done(&paid)
         && read_at(&here) == Some((60, 1, 0))
         && read_at(&there) == Some((40, 1, 0))
 }
 
 /// Two processes of a new board.
-fn pays<L: Ledger, X: Ledger, R: Abort>(rt: &R, alloc: Global, one: Blank, another: Blank)
+fn pays<R: Abort>(rt: &R, alloc: Global, one: Blank, another: Blank)
     requires names { (one.name ≡ L.name) × (another.name ≡ X.name) }
     requires parts { (one.parts ≡ L.parts) × (another.parts ≡ X.parts) }
     requires some { (0 < one.parts) × (0 < another.parts) }
 {
-    let (steps, exchanges) = (&mut Steps::<L>::new(one), &mut Steps::<X>::new(another));
     let accounts = [(100, [0].as_slice()), (0, [1].as_slice())];
     let (board, mut seat, mut other) = new_pair(alloc, 4, accounts.as_slice()).expect(
         rt, "a board",
@@ -89,9 +86,7 @@ fn pays<L: Ledger, X: Ledger, R: Abort>(rt: &R, alloc: Global, one: Blank, anoth
             &mut seat,
             &mut other,
             &mut totals,
-            &mut others,
-            steps,
-            exchanges
+            &mut others
         )
     );
 }

@@ -9,7 +9,7 @@ use crate::account_trials::{
     seats_of,
 };
 use crate::fold_trials::new_totals;
-use at_board::{Board, BoardSeat, Steps};
+use at_board::{Board, BoardSeat};
 use at_fold::Totals;
 use at_ledger::Call;
 use at_log::At;
@@ -23,12 +23,10 @@ use std::thread::{Threads, join_mut};
 
 /// Asks for 1 from account 0 and collects the other owners' requests, if the seat's process has a slot and room there, and stops: the
 /// request waits, and its owner never turns.
-fn ask_and_stop<L: Ledger, X: Ledger>(
+fn ask_and_stop(
     board: &Board,
     seat: &mut BoardSeat,
     totals: &mut Totals,
-    steps: &mut Steps<L>,
-    exchanges: &mut Steps<X>,
 ) -> Option<()>
     requires sharer { IsSharer board.now seat.old totals.old }
 {
@@ -43,12 +41,12 @@ fn ask_and_stop<L: Ledger, X: Ledger>(
         to: 1,
         amount: 1,
     };
-    let _waiting = Helping::start(board, seat, totals, 0, &call, steps, exchanges);
+    let _waiting = Helping::start(board, seat, totals, 0, &call);
     Some(())
 }
 
 /// Begins a payment from account 0 with counters of its own, and stops in the middle.
-fn stop<L: Ledger, X: Ledger>(
+fn stop(
     board: &Board,
     alloc: Global,
     seat: &mut BoardSeat,
@@ -60,12 +58,11 @@ fn stop<L: Ledger, X: Ledger>(
     requires some { (0 < steps.parts) × (0 < exchanges.parts) }
     requires idle { IsIdle board.now seat.old }
 {
-    let (steps, exchanges) = (&mut Steps::<L>::new(steps), &mut Steps::<X>::new(exchanges));
     let mut totals = new_totals(alloc, board)?;
     if !begins_sharing(board, seat) {
         return None;
     }
-    ask_and_stop(board, seat, &mut totals, steps, exchanges)
+    ask_and_stop(board, seat, &mut totals)
 }
 
 /// Begins a payment, and stops in the middle.

@@ -8,7 +8,7 @@ ghost use Rattle.at_trials.specs.SmallScan.{HasSeen, IsPublisher};
 
 use crate::crowd_trials::rises;
 use at_base::Counts;
-use at_board::{Board, BoardSeat, Steps};
+use at_board::{Board, BoardSeat};
 use at_ledger::{Book, Targets};
 use at_log::{Entry, Record, append, load_view};
 use at_players::boards::{book_of, last_seat};
@@ -60,11 +60,9 @@ fn last_publisher(board: &Board, seats: &mut Vec<BoardSeat>, process: u32) -> Op
 }
 
 /// Moves 0 from the process's own account to account 0 with the view of a snapshot, and answers the view.
-fn move_nothing<L: Ledger, X: Ledger>(
+fn move_nothing(
     board: &Board,
     seat: &mut BoardSeat,
-    steps: &mut Steps<L>,
-    exchanges: &mut Steps<X>,
 ) -> Counts
     requires publisher { IsPublisher board.now seat.old }
     requires room { (own_part seat.old.knows).published < board.now.book.own_room }
@@ -76,14 +74,14 @@ fn move_nothing<L: Ledger, X: Ledger>(
             from: process + 1,
             targets: Targets::one(0, 0),
         },
-        view: snapshot(board, seat, steps, exchanges),
+        view: snapshot(board, seat),
     };
-    append(board, seat, &record, steps, exchanges);
+    append(board, seat, &record);
     record.view
 }
 
 /// Publishes records beside the other threads, and answers their views.
-fn publish_all<L: Ledger, X: Ledger>(
+fn publish_all(
     board: &Board,
     alloc: Global,
     seat: &mut BoardSeat,
@@ -95,34 +93,31 @@ fn publish_all<L: Ledger, X: Ledger>(
     requires some { (0 < steps.parts) × (0 < exchanges.parts) }
     requires publisher { IsPublisher board.now seat.old }
 {
-    let (steps, exchanges) = (&mut Steps::<L>::new(steps), &mut Steps::<X>::new(exchanges));
     let mut views = Vec::new(alloc);
     for _record in 0..RECORDS {
         if board.book().own_room() <= seat.published() {
             break;
         }
-        views.push(move_nothing(board, seat, steps, exchanges))?;
+        views.push(move_nothing(board, seat))?;
     }
     Ok(views)
 }
 
 /// Whether these counts count each last record together with all that its view counts.
-fn counts_last_views<L: Ledger, X: Ledger>(
+fn counts_last_views(
     board: &Board,
     seat: &mut BoardSeat,
     counts: &Counts,
-    steps: &mut Steps<L>,
-    exchanges: &mut Steps<X>,
 ) -> bool
     requires board { IsOf seat.old board.now }
     requires seen { HasSeen seat.old counts.now }
-    ensures same { seat.new ≡ seat.old }
+    ensures same { seat.new ≡ SAME }
 {
     for p in 0..counts.len() {
         let Some(last) = counts.get(p).checked_sub(1) else {
             continue;
         };
-        let view = load_view(board, seat, p, last, steps, exchanges);
+        let view = load_view(board, seat, p, last);
         if view.len() != counts.len() || view.get(p) != last || !counts.covers(&view) {
             return false;
         }
@@ -131,7 +126,7 @@ fn counts_last_views<L: Ledger, X: Ledger>(
 }
 
 /// Scans beside the other threads, and answers the counts, or none where a last record disagrees with them.
-fn scan_all<L: Ledger, X: Ledger>(
+fn scan_all(
     board: &Board,
     alloc: Global,
     seat: &mut BoardSeat,
@@ -143,11 +138,10 @@ fn scan_all<L: Ledger, X: Ledger>(
     requires some { (0 < steps.parts) × (0 < exchanges.parts) }
     requires board { IsOf seat.old board.now }
 {
-    let (steps, exchanges) = (&mut Steps::<L>::new(steps), &mut Steps::<X>::new(exchanges));
     let mut answers = Vec::new(alloc);
     for _scan in 0..SCANS {
-        let counts = snapshot(board, seat, steps, exchanges);
-        if !counts_last_views(board, seat, &counts, steps, exchanges) {
+        let counts = snapshot(board, seat);
+        if !counts_last_views(board, seat, &counts) {
             return Ok(None);
         }
         answers.push(counts)?;

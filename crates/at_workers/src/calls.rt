@@ -6,19 +6,15 @@ ghost use Rattle.at_ledger.specs.Call.{IsCallOn};
 ghost use Rattle.at_log.specs.declared.receipt.Receipt.{Receipt};
 ghost use Rattle.at_object.specs.Passes.{IsPassOf, Stands, one_more_call};
 
-use at_board::Steps;
 use at_ledger::Call;
 use at_log::Receipt;
 use at_object::{Ledger, Pass};
-use std::sync::ledger;
 
 /// Makes a transfer by `transfer`, a read by `read`, and a pay-out by `pay`.
-pub(crate) fn make<L: ledger::Ledger, X: ledger::Ledger>(
+pub(crate) fn make(
     ledger: &Ledger,
     pass: &mut Pass,
     call: &Call,
-    steps: &mut Steps<L>,
-    exchanges: &mut Steps<X>,
 ) -> Receipt
     requires pass { IsPassOf pass.old ledger.now }
     requires accounts { IsCallOn (length ledger.now.book.accounts) call.now }
@@ -32,9 +28,9 @@ pub(crate) fn make<L: ledger::Ledger, X: ledger::Ledger>(
 {
     match call {
         Call::Transfer { from, to, amount } => {
-            ledger.transfer(pass, *from, *to, *amount, steps, exchanges)
+            ledger.transfer(pass, *from, *to, *amount)
         }
-        Call::Read { account } => ledger.read(pass, *account, steps, exchanges),
-        Call::Pay { from, targets } => ledger.pay(pass, *from, targets, steps, exchanges),
+        Call::Read { account } => ledger.read(pass, *account),
+        Call::Pay { from, targets } => ledger.pay(pass, *from, targets),
     }
 }

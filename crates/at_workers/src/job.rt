@@ -9,13 +9,11 @@ ghost use Rattle.at_workers.specs.Jobs.{calls_of};
 
 use crate::calls::make;
 use crate::gate::Gate;
-use at_board::Steps;
 use at_ledger::Call;
 use at_log::Receipt;
 use at_object::{Ledger, Pass};
 use std::alloc::Global;
 use std::marker::Model;
-use std::sync::ledger;
 
 /// A pass, the calls to make with it, and the receipts of those that were made. It has the memory for the receipts of all calls.
 #[derive(Drop)]
@@ -102,12 +100,10 @@ impl Job {
     }
 
     /// Makes the next call, which the gate is told of.
-    pub(crate) fn make_next<L: ledger::Ledger, X: ledger::Ledger, G: Gate>(
+    pub(crate) fn make_next<G: Gate>(
         &mut self,
         ledger: &Ledger,
         gate: &G,
-        steps: &mut Steps<L>,
-        exchanges: &mut Steps<X>,
     )
         requires of_ledger { IsPassOf self.old.pass ledger.now }
         requires more { length self.old.receipts < length self.old.calls }
@@ -126,7 +122,7 @@ impl Job {
         let line = index as u32 + 1;
         let call = self.calls[index].copy();
         gate.pass(process, line);
-        let receipt = make(ledger, &mut self.pass, &call, steps, exchanges);
+        let receipt = make(ledger, &mut self.pass, &call);
         gate.answered(process, line, &receipt.reply);
         self.receipts.push_reserved(receipt);
     }

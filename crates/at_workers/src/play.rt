@@ -5,14 +5,12 @@ ghost use Rattle.at_workers.specs.Jobs.{IsReady, Ran};
 
 use crate::gate::Gate;
 use crate::job::Job;
-use at_board::Steps;
 use at_object::Ledger;
 use std::marker::Brand;
-use std::sync::ledger;
 use std::sync::ledger::Blank;
 
 /// Makes all calls of a job, in order, with new counters.
-fn play<L: ledger::Ledger, X: ledger::Ledger, G: Gate>(
+fn play<G: Gate>(
     ledger: &Ledger,
     gate: &G,
     job: &mut Job,
@@ -25,9 +23,8 @@ fn play<L: ledger::Ledger, X: ledger::Ledger, G: Gate>(
     requires some { (0 < steps.parts) × (0 < exchanges.parts) }
     ensures { Ran ledger.now job.old job.new }
 {
-    let (steps, exchanges) = (&mut Steps::<L>::new(steps), &mut Steps::<X>::new(exchanges));
     for _index in 0..job.len() {
-        job.make_next(ledger, gate, steps, exchanges);
+        job.make_next(ledger, gate);
     }
 }
 

@@ -251,7 +251,7 @@ IsSeat-starting b p book within = record {
 
 -- the seat of a process on a new board
 abbrev pub new_seat : BookTerms → TableId → ℕ → SeatTerms
-new_seat b id p = record { board = id; knows = starting_seat b p }
+new_seat b id p = record { board = id; knows = starting_seat b p; steps = 0; exchanges = 0 }
 
 -- one more seat
 pub new_seats-more : (b : BookTerms) (id : TableId) (xs ys : List SeatTerms) (x : SeatTerms) (n : ℕ) → ys ≡ xs ++ x ∷ [] → x ≡ new_seat b id n

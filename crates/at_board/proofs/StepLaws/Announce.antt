@@ -136,7 +136,7 @@ HasAsking-announced : (b : BookTerms) (words after : List ℕ) (s : BoardState) 
     → Shown b words s → u.seen ≡ s.published → u.requests ≡ v.requests ++ seen_as a slot (length w.announced) r ∷ []
     → ((i j : ℕ) → IsAddress b (request_word a slot i j) → word_at b after (request_word a slot i j) ≡ word_at b words (request_word a slot i j))
     → HasAsking b words s v a slot w
-    → HasAsking b after (with_asked s (announced s a slot r)) u a slot (with_request w r (rounds a s.published))
+    → HasAsking b after (with_asked s (announced s a slot r)) u a slot (with_request w r (rounds a s.published) (own_part v).loads)
 HasAsking-announced b words after s v u a slot w r shown all requests kept has =
     let row = w.announced in
     let n = length row in
@@ -195,7 +195,7 @@ Announces-Ruled b words knowledge id v a slot r ruled begun found part may =
     let after = announced_words b words a slot (length w.announced + 1) in
     let kept = kept-announced b words a slot (length w.announced + 1) here in
     let x : SeenRequest = seen_as a slot (length w.announced) r in
-    let new : Asking = with_request w r (rounds a s.published) in
+    let new : Asking = with_request w r (rounds a s.published) q.loads in
     let u : Knowledge = with_asking (record v { seen = s.published; requests = v.requests ++ x ∷ [] }) a new in
     let more : SeesMore v u = λ y sees. Contains-append_left v.requests (x ∷ []) y sees in
     let same_requests : (c other i : ℕ) → SameRequest b words after c other i = λ c other i j is. kept (request_word c other i j) is (λ e. cc) in
@@ -322,7 +322,7 @@ pub HasCounts-announce : (b : BookTerms) (v w : Knowledge) (a slot : ℕ) (r : R
 HasCounts-announce b v w a slot r n counts part sized counted told has =
     let asking = asking_on (own_part v) a in
     subst (λ t. HasCounts t (set counts a n)) (sym told.same)
-    (HasCounts-counted v w.seen (v.requests ++ seen_as a slot (next_number v a) r ∷ []) a n (with_request asking r (rounds a w.seen)) counts part sized
+    (HasCounts-counted v w.seen (v.requests ++ seen_as a slot (next_number v a) r ∷ []) a n (with_request asking r (rounds a w.seen) (own_part v).loads) counts part sized
     (counted ∙ sym (length_push asking.announced r)) has)
 
 -- the same at an equal book and knowledge

@@ -17,7 +17,7 @@ other_parts v = record v { first = v.first + 1; parts = drop 1 v.parts }
 abbrev pub starting_seat : BookTerms → ℕ → Knowledge
 starting_seat b p = record (starting_knowledge b) { first = p; parts = starting_part b ∷ [] }
 
--- one seat of the board for each process, in order, that has seen nothing
+-- one seat of the board for each process, in order, that has seen nothing and made no step
 pub record AreNew (b : BookTerms) (id : TableId) (seats : List SeatTerms) : Type 0 where
   pub count : length seats ≡ b.processes
-  pub each : (p : ℕ) (d : SeatTerms) → p < b.processes → slice_index_or seats p d ≡ record { board = id; knows = starting_seat b p }
+  pub each : (p : ℕ) (d : SeatTerms) → p < b.processes → slice_index_or seats p d ≡ record { board = id; knows = starting_seat b p; steps = 0; exchanges = 0 }

@@ -39,7 +39,7 @@ seen_as a slot number r = record { account = a; slot = slot; number = number; re
 
 -- nothing stored, announced or loaded
 abbrev pub no_asking : Asking
-no_asking = record { announced = []; stored = []; decides = 0; heard = 0; rows = []; loaded = [] }
+no_asking = record { announced = []; stored = []; decides = 0; heard = 0; loads = []; rows = []; loaded = [] }
 
 -- what the part has on an account, and of a process's length
 abbrev pub asking_on : Part → ℕ → Asking

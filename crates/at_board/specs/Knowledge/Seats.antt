@@ -25,10 +25,12 @@ pub record BoardTerms : Type 0 where
   pub id : TableId
   pub book : BookTerms
 
--- a seat by the identity of its board and what it knows
+-- a seat by the identity of its board, what it knows, and how many steps it has made, how many of them exchanges
 pub record SeatTerms : Type 0 where
   pub board : TableId
   pub knows : Knowledge
+  pub steps : ℕ
+  pub exchanges : ℕ
 
 -- the seat has seen each request that its process has announced, by its number
 abbrev pub SeesOwnRequests : Knowledge → Type 0

@@ -1,5 +1,5 @@
 -- Announcing the seat's next request on an account.
-use Rattle.std.specs.Prelude.{◌≡◌, ℕ, ◌++◌, [], ◌∷◌, length, replicate, ◌+◌, ◌≤◌, true, take}
+use Rattle.std.specs.Prelude.{◌≡◌, ℕ, ◌++◌, List, [], ◌∷◌, length, replicate, ◌+◌, ◌≤◌, true, take}
 use Rattle.at_ledger.specs.Book.{BookTerms}
 use Rattle.at_history.specs.Histories.{IsHistory}
 use Rattle.at_history.specs.Publications.{IsPrefix, count_of}
@@ -13,12 +13,14 @@ use Rattle.at_board.specs.Steps.StoreRequestWord.{MayStoreRequest}
 use Rattle.at_board.specs.Words.Packed.{request_words}
 use Rattle.at_board.specs.declared.knowledge.Asking.{Asking}
 use Rattle.at_board.specs.declared.knowledge.Knowledge.{Knowledge}
+use Rattle.at_board.specs.declared.knowledge.Loads.{Loads}
 use Rattle.at_board.specs.declared.words.TheConstants.{REQUEST_WORDS}
 
--- one more request is announced and so many rounds were heard; nothing of the next is stored, and nothing was loaded since then
-abbrev pub with_request : Asking → Request → ℕ → Asking
-with_request w r heard =
-    record w { announced = w.announced ++ r ∷ []; stored = replicate REQUEST_WORDS 0; heard = heard; rows = []; loaded = [] }
+-- one more request is announced, so many rounds were heard, and these are the loads of lengths up to here; nothing of the next
+-- request is stored, and nothing was loaded since then
+abbrev pub with_request : Asking → Request → ℕ → List Loads → Asking
+with_request w r heard loads =
+    record w { announced = w.announced ++ r ∷ []; stored = replicate REQUEST_WORDS 0; heard = heard; loads = loads; rows = []; loaded = [] }
 
 -- an announcing step: some sound state has published just what the seat has then seen, and its row of the seat's process has the
 -- request at the end. What was heard are the rounds of the account in what the seat has then seen
@@ -31,7 +33,7 @@ pub record Announces (b : BookTerms) (before after : Knowledge) (a slot : ℕ) (
   pub agrees : AgreesWithSeen after
   pub same : let w : Asking = asking_on (own_part before) a in
       after ≡ with_asking (record before { seen = after.seen; requests = before.requests ++ seen_as a slot (length w.announced) r ∷ [] }) a
-      (with_request w r (rounds a after.seen))
+      (with_request w r (rounds a after.seen) (own_part before).loads)
 
 -- the seat may announce this request: its words are stored, and it keeps the laws of requests at the front of its `since`
 pub record MayAnnounce (b : BookTerms) (v : Knowledge) (a slot : ℕ) (r : Request) : Type 0 where

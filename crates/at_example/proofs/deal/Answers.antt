@@ -6,13 +6,13 @@ use Rattle.at_object.specs.Passes.{PassTerms, Stands}
 use Rattle.at_example.proofs.deal.Goals as goal
 
 pub pay-paid_out-requires-clause-targets : goal.pay-paid_out-requires-clause-targets
-pay-paid_out-requires-clause-targets g c =
+pay-paid_out-requires-clause-targets c =
     let P : TargetPair → Type 0 = λ t. t.0 < length c.args.ledger.now.book.accounts in
     subst (AreTargetsOn (length c.args.ledger.now.book.accounts)) (sym (c.push.ensures ∙ ap (λ ts. ts ++ (3, 5) ∷ []) c.one-targets.ensures))
     (All-cons P (0, 10) ((3, 5) ∷ []) (omega (arith, c.requires.four)) (All-cons P (3, 5) [] (omega (arith, c.requires.four)) (All-nil P)))
 
 pub returns-clause-zero : goal.returns-clause-zero
-returns-clause-zero g c =
+returns-clause-zero c =
     let paid : Receipt = c.transfer-paid.result in
     let short : Receipt = c.transfer-short.result in
     let same = c.note-note.ensures.same in
@@ -34,7 +34,7 @@ returns-clause-zero g c =
     }
 
 pub returns-clause-one : goal.returns-clause-one
-returns-clause-one g c =
+returns-clause-one c =
     let agreed : Receipt = c.transfer-agreed.result in
     let rest : Receipt = c.read-rest.result in
     record {

@@ -53,9 +53,9 @@ loop-process-preserved c =
     let cut = c.split_seat-others.ensures in
     let view : c.split_seat-others.new.seat.me.0 ≡ starting_seat b p =
     ap (λ m. m.0) cut.2 ∙ (ap (λ m. first_part m.0) c.loop-process.invariant.3 ∙ first_part-rest_view b p within) in
-    let new : SeatTerms = record { board = c.args.shared.now.table_id; knows = starting_seat b p } in
-    let pushed : SeatTerms = record { board = c.split_seat-others.new.seat.table_id; knows = c.split_seat-others.new.seat.me.0 } in
-    let is : pushed ≡ new = λ t. record { board = (cut.0 ∙ c.loop-process.invariant.2) t; knows = view t } in
+    let new : SeatTerms = record { board = c.args.shared.now.table_id; knows = starting_seat b p; steps = 0; exchanges = 0 } in
+    let pushed : SeatTerms = record { board = c.split_seat-others.new.seat.table_id; knows = c.split_seat-others.new.seat.me.0; steps = c.none.result.steps; exchanges = c.none.result.exchanges } in
+    let is : pushed ≡ new = λ t. record { board = (cut.0 ∙ c.loop-process.invariant.2) t; knows = view t; steps = c.none.ensures.steps t; exchanges = c.none.ensures.exchanges t } in
     let more = new_seats-more b c.args.shared.now.table_id c.loop-process.seats.items c.push.new.self.items pushed p c.in_ok-push.ensures.items is
     c.loop-process.invariant.0 c.loop-process.invariant.1 in (
       more.0,

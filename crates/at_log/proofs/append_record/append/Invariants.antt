@@ -1,4 +1,5 @@
 use Rattle.std.proofs.Common.{◌≡◌, ◌+◌}
+use Rattle.at_board.specs.Counting.{raised}
 use Rattle.at_board.specs.Words.Packed.{record_words}
 use Rattle.at_log.specs.Appending.{IsStoring}
 use Rattle.at_log.specs.ClosingTerms.{published_by}
@@ -6,9 +7,9 @@ use Rattle.at_log.proofs.append_record.append.Given as goal
 
 -- so many words are stored, a step for each
 abbrev pub invariant-loop-j : goal.invariant-loop-j
-invariant-loop-j g l = record {
+invariant-loop-j l = record {
   board : l.seat.board ≡ l.fn.seat.board;
   storing : IsStoring l.fn.seat.knows l.seat.knows (record_words (published_by l.fn.seat.knows.first l.rec)) l.j;
-  steps : l.steps ≡ l.fn.steps + l.j;
-  exchanges : l.exchanges ≡ l.fn.exchanges;
+  steps : l.seat.steps ≡ raised l.fn.seat.steps l.j;
+  exchanges : l.seat.exchanges ≡ l.fn.seat.exchanges;
 }

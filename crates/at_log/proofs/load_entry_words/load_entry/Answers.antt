@@ -12,7 +12,7 @@ use Rattle.at_board.specs.declared.words.TheConstants.{RECORD_WORDS}
 use Rattle.at_log.proofs.load_entry_words.load_entry.Goals as goal
 
 pub loop-j-preserved : goal.loop-j-preserved
-loop-j-preserved g c =
+loop-j-preserved c =
     let v : Knowledge = c.args.seat.now.knows in
     let p = c.args.p in
     let i = c.args.i in
@@ -31,7 +31,7 @@ loop-j-preserved g c =
     }
 
 pub returns-clause-entry : goal.returns-clause-entry
-returns-clause-entry g c =
+returns-clause-entry c =
     let v : Knowledge = c.args.seat.now.knows in
     let x : Publication = publication_at (publications_of c.args.p v.seen) c.args.i in
     let all : c.loop-j.j ≡ RECORD_WORDS = omega (arith, c.loop-j-test.false, c.loop-j.auto.j-end) in

@@ -1,14 +1,13 @@
 use Rattle.std.proofs.Common.{◌≡◌, ℕ, ◌+◌, ◌<◌, get_or, length}
+use Rattle.at_board.specs.Counting.{stepped}
 use Rattle.at_board.specs.Knowledge.Records.{IsRecordWord}
 use Rattle.at_board.specs.declared.words.TheConstants.{RECORD_WORDS}
 use Rattle.at_log.proofs.load_entry_words.load_entry.Given as goal
 
 -- so many words are loaded, a step for each
 abbrev pub invariant-loop-j : goal.invariant-loop-j
-invariant-loop-j g l = record {
-  same : l.seat ≡ l.fn.seat;
+invariant-loop-j l = record {
+  same : l.seat ≡ stepped l.fn.seat l.j;
   sized : length l.words ≡ RECORD_WORDS;
   loaded : (k : ℕ) → k < l.j → IsRecordWord l.fn.seat.knows l.p l.i k (get_or l.words k 0);
-  steps : l.steps ≡ l.fn.steps + l.j;
-  exchanges : l.exchanges ≡ l.fn.exchanges;
 }

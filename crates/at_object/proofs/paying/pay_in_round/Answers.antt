@@ -7,7 +7,7 @@ use Rattle.at_object.specs.Paid.{PaysInRound}
 use Rattle.at_object.proofs.paying.pay_in_round.Goals as goal
 
 pub returns-in-Transfer-clause-pays : goal.returns-in-Transfer-clause-pays
-returns-in-Transfer-clause-pays g c =
+returns-in-Transfer-clause-pays c =
     let told = c.transfer_shared.ensures in
     let from = c.in-Transfer.from in
     let call : Call = Transfer from c.in-Transfer.to c.in-Transfer.amount in
@@ -29,7 +29,7 @@ returns-in-Transfer-clause-pays g c =
     (sym c.in-Transfer.is) paid)
 
 pub returns-in-Pay-clause-pays : goal.returns-in-Pay-clause-pays
-returns-in-Pay-clause-pays g c =
+returns-in-Pay-clause-pays c =
     let told = c.pay_shared.ensures in
     let from = c.in-Pay.from in
     let call : Call = Pay from c.in-Pay.targets in

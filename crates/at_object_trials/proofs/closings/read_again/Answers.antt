@@ -9,7 +9,7 @@ use Rattle.at_object_trials.proofs.Accounts.{AreAccountedFor-one_more}
 use Rattle.at_object_trials.proofs.closings.read_again.Goals as goal
 
 pub returns-clause-accounted : goal.returns-clause-accounted
-returns-clause-accounted g c =
+returns-clause-accounted c =
     let ledger = c.args.ledger.now in
     let all = c.requires.accounted in
     let some : 0 < ledger.book.processes = omega (arith, c.known.ensures.checked.begun.some_process, ap (λ (b : BookTerms). b.processes) c.book.ensures) in
@@ -29,7 +29,7 @@ returns-clause-accounted g c =
     (omega (arith, c.if-len-ge-MOST_CALLS.false, c.len.ensures, ap (λ (v : Vec Receipt Global). length v.items) c.index-receipts-0.is)) c.read.ensures.pass c.read.ensures.process c.read.ensures.stands c.read.ensures.calls))
 
 pub returns-clause-few : goal.returns-clause-few
-returns-clause-few g c =
+returns-clause-few c =
     let P : List Receipt → Type 0 = λ rs. length rs < 2 ^ 32 in
     let items : Vec Receipt Global → List Receipt = λ v. v.items in
     let old : Vec Receipt Global = get_or c.args.receipts.now 0 c.index-receipts-0.result in

@@ -3,4 +3,4 @@ use Rattle.at_object_trials.specs.Players.{PlaysOn}
 use Rattle.at_object_trials.proofs.scenes.plays_rows.Given as goal
 
 abbrev pub invariant-loop-row : goal.invariant-loop-row
-invariant-loop-row g l = All (PlaysOn l.ledger) l.players
+invariant-loop-row l = All (PlaysOn l.ledger) l.players

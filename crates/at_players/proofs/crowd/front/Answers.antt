@@ -69,7 +69,7 @@ is_own_front b v v1 v2 v3 v4 v5 v6 v7 i j k l four known one3 one4 one5 one6 t1 
     }
 
 pub returns-clause-front : goal.returns-clause-front
-returns-clause-front g c =
+returns-clause-front c =
     let b : BookTerms = c.args.board.now.book in
     let i = c.look-a.result in
     let j = c.look-b.result in

@@ -18,16 +18,16 @@ length-view : (b : BookTerms) (v : Knowledge) (view : List ℕ) → b.processes 
 length-view b v view four front = length-IsFront b.processes view v.seen front.front ∙ four
 
 pub get-requires : goal.get-requires
-get-requires g c = omega (arith, length-view c.args.board.now.book c.args.seat.now.knows c.args.view.now c.requires.four c.requires.view)
+get-requires c = omega (arith, length-view c.args.board.now.book c.args.seat.now.knows c.args.view.now c.requires.four c.requires.view)
 
 pub get-requires-2 : goal.get-requires-2
-get-requires-2 g c = omega (arith, length-view c.args.board.now.book c.args.seat.now.knows c.args.view.now c.requires.four c.requires.view)
+get-requires-2 c = omega (arith, length-view c.args.board.now.book c.args.seat.now.knows c.args.view.now c.requires.four c.requires.view)
 
 pub get-requires-3 : goal.get-requires-3
-get-requires-3 g c = omega (arith, length-view c.args.board.now.book c.args.seat.now.knows c.args.view.now c.requires.four c.requires.view)
+get-requires-3 c = omega (arith, length-view c.args.board.now.book c.args.seat.now.knows c.args.view.now c.requires.four c.requires.view)
 
 pub get-requires-4 : goal.get-requires-4
-get-requires-4 g c = omega (arith, length-view c.args.board.now.book c.args.seat.now.knows c.args.view.now c.requires.four c.requires.view)
+get-requires-4 c = omega (arith, length-view c.args.board.now.book c.args.seat.now.knows c.args.view.now c.requires.four c.requires.view)
 
 -- the words are those of the record with the view
 may_move_nothing : (b : BookTerms) (v w : Knowledge) (view : List ℕ) (h i j k l : ℕ) → b.processes ≡ 4 → v.first < b.processes → IsHistory b v.seen
@@ -40,43 +40,43 @@ may_move_nothing b v w view h i j k l four known history blank room owns front h
     (may_publish_moving b v w h i j k l four known history blank room owns (subst (IsOwnFront b v) (sym all) front) head stored)
 
 -- the part of the seat with the record's words
-abbrev part_with : (g : given.Over) → After-store_record_word-6 g → Part
-part_with g c = with_six (own_part c.args.seat.now.knows) (2 * (c.from.result + 1)) c.from-2.result c.from-3.result c.from-4.result c.from-5.result
+abbrev part_with : After-store_record_word-6 → Part
+part_with c = with_six (own_part c.args.seat.now.knows) (2 * (c.from.result + 1)) c.from-2.result c.from-3.result c.from-4.result c.from-5.result
 
-stored : (g : given.Over) (c : After-store_record_word-6 g) → Stores c.args.seat.now.knows c.store_record_word-6.new.seat.knows (part_with g c)
-stored g c =
+stored : (c : After-store_record_word-6) → Stores c.args.seat.now.knows c.store_record_word-6.new.seat.knows (part_with c)
+stored c =
     Stores-six c.args.seat.now.knows c.store_record_word.new.seat.knows c.store_record_word-2.new.seat.knows c.store_record_word-3.new.seat.knows
     c.store_record_word-4.new.seat.knows c.store_record_word-5.new.seat.knows c.store_record_word-6.new.seat.knows (2 * (c.from.result + 1))
     c.from-2.result c.from-3.result c.from-4.result c.from-5.result c.requires.idle.one_part c.store_record_word.ensures.stored
     c.store_record_word-2.ensures.stored c.store_record_word-3.ensures.stored c.store_record_word-4.ensures.stored c.store_record_word-5.ensures.stored
     c.store_record_word-6.ensures.stored
 
-may : (g : given.Over) (c : After-store_record_word-6 g)
+may : (c : After-store_record_word-6)
     → MayPublish c.args.board.now.book c.store_record_word-6.new.seat.knows (moving c.args.seat.now.knows.first c.args.view.now)
-may g c =
+may c =
     let b : BookTerms = c.args.board.now.book in
     let v : Knowledge = c.args.seat.now.knows in
     may_move_nothing b v c.store_record_word-6.new.seat.knows c.args.view.now (2 * (c.from.result + 1)) c.from-2.result c.from-3.result c.from-4.result c.from-5.result
     c.requires.four (omega (arith, c.process.ensures.seat.known, ap (λ (t : BookTerms). t.processes) c.requires.idle.of_board.book))
     (subst (λ t. IsHistory t v.seen) c.requires.idle.of_board.book c.process.ensures.seat.history) c.requires.idle.blank c.requires.room c.requires.owner
     c.requires.view (omega (arith, c.from.ensures, c.process.ensures.process)) (c.from-2.ensures ∙ c.get.ensures) (c.from-3.ensures ∙ c.get-2.ensures)
-    (c.from-4.ensures ∙ c.get-3.ensures) (c.from-5.ensures ∙ c.get-4.ensures) (stored g c)
+    (c.from-4.ensures ∙ c.get-3.ensures) (c.from-5.ensures ∙ c.get-4.ensures) (stored c)
 
 pub publish-requires-clause-record : goal.publish-requires-clause-record
-publish-requires-clause-record g c =
-    (moving c.args.seat.now.knows.first c.args.view.now, may g (goal.at.publish-requires-clause-record g c).After-store_record_word-6)
+publish-requires-clause-record c =
+    (moving c.args.seat.now.knows.first c.args.view.now, may (goal.at.publish-requires-clause-record c).After-store_record_word-6)
 
 pub returns-clause-idle : goal.returns-clause-idle
-returns-clause-idle g c =
-    let before : After-store_record_word-6 g = (goal.at.returns-clause-idle g c).After-store_record_word-6 in
+returns-clause-idle c =
+    let before : After-store_record_word-6 = (goal.at.returns-clause-idle c).After-store_record_word-6 in
     let x = moving c.args.seat.now.knows.first c.args.view.now in
-    IsIdle-published c.args.board.now c.args.seat.now c.store_record_word-6.new.seat c.publish.new.seat (part_with g before) x
-    c.requires.idle.of_board c.requires.idle.one_part (stored g before) (ap (held_after x) c.requires.idle.free) (c.publish.ensures.published x (may g before))
+    IsIdle-published c.args.board.now c.args.seat.now c.store_record_word-6.new.seat c.publish.new.seat (part_with before) x
+    c.requires.idle.of_board c.requires.idle.one_part (stored before) (ap (held_after x) c.requires.idle.free) (c.publish.ensures.published x (may before))
     (c.publish.ensures.board ∙ (c.store_record_word-6.ensures.board ∙ (c.store_record_word-5.ensures.board ∙ (c.store_record_word-4.ensures.board
     ∙ (c.store_record_word-3.ensures.board ∙ (c.store_record_word-2.ensures.board ∙ c.store_record_word.ensures.board))))))
 
 pub returns-clause-process : goal.returns-clause-process
-returns-clause-process g c =
-    let before : After-store_record_word-6 g = (goal.at.returns-clause-process g c).After-store_record_word-6 in
+returns-clause-process c =
+    let before : After-store_record_word-6 = (goal.at.returns-clause-process c).After-store_record_word-6 in
     let x = moving c.args.seat.now.knows.first c.args.view.now in
-    ap (λ (t : Knowledge). t.first) (c.publish.ensures.published x (may g before)).same ∙ ap (λ (t : Knowledge). t.first) (stored g before).same
+    ap (λ (t : Knowledge). t.first) (c.publish.ensures.published x (may before)).same ∙ ap (λ (t : Knowledge). t.first) (stored before).same

@@ -3,4 +3,4 @@ use Rattle.at_players.specs.SmallBoard.{IsIdle}
 use Rattle.at_players.proofs.crowd.play.Given as goal
 
 abbrev pub invariant-loop-look : goal.invariant-loop-look
-invariant-loop-look g l = IsIdle l.board l.seat × (l.seat.knows.first ≡ l.fn.seat.knows.first)
+invariant-loop-look l = IsIdle l.board l.seat × (l.seat.knows.first ≡ l.fn.seat.knows.first)

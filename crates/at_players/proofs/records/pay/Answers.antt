@@ -56,40 +56,40 @@ may_publish b v w book new known pays told =
       );
     }
 
-stored : (g : given.Over) (c : After-store_record_word-2 g) → Stores c.args.seat.now.knows c.store_record_word-2.new.seat.knows (with_two (own_part c.args.seat.now.knows))
-stored g c =
+stored : (c : After-store_record_word-2) → Stores c.args.seat.now.knows c.store_record_word-2.new.seat.knows (with_two (own_part c.args.seat.now.knows))
+stored c =
     let v : Knowledge = c.args.seat.now.knows in
     let one : Knowledge = c.store_record_word.new.seat.knows in
     let part = c.known-2.ensures.seat.one_part in
     Stores-more v one c.store_record_word-2.new.seat.knows (with_word (own_part v) 1 1099511627777) 3 30 part
     (Stores-more v v one (own_part v) 1 1099511627777 part (Stores-none v) c.store_record_word.ensures.stored) c.store_record_word-2.ensures.stored
 
-may : (g : given.Over) (c : After-store_record_word-2 g) → MayPublish c.args.board.now.book c.store_record_word-2.new.seat.knows (payment c.args.board.now.book.processes c.args.seat.now.knows.first)
-may g c =
+may : (c : After-store_record_word-2) → MayPublish c.args.board.now.book c.store_record_word-2.new.seat.knows (payment c.args.board.now.book.processes c.args.seat.now.knows.first)
+may c =
     may_publish c.args.board.now.book c.args.seat.now.knows c.store_record_word-2.new.seat.knows (subst IsBook c.book.ensures c.known.ensures.checked)
-    c.requires.new (omega (arith, c.known-2.ensures.seat.known, ap (λ (t : Knowledge). t.book.processes) c.requires.new)) c.requires.pays (stored g c)
+    c.requires.new (omega (arith, c.known-2.ensures.seat.known, ap (λ (t : Knowledge). t.book.processes) c.requires.new)) c.requires.pays (stored c)
 
 pub publish-requires-clause-record : goal.publish-requires-clause-record
-publish-requires-clause-record g c = (payment c.args.board.now.book.processes c.args.seat.now.knows.first, may g (goal.at.publish-requires-clause-record g c).After-store_record_word-2)
+publish-requires-clause-record c = (payment c.args.board.now.book.processes c.args.seat.now.knows.first, may (goal.at.publish-requires-clause-record c).After-store_record_word-2)
 
 pub returns-clause-idle : goal.returns-clause-idle
-returns-clause-idle g c =
-    let before : After-store_record_word-2 g = (goal.at.returns-clause-idle g c).After-store_record_word-2 in
+returns-clause-idle c =
+    let before : After-store_record_word-2 = (goal.at.returns-clause-idle c).After-store_record_word-2 in
     let v : Knowledge = c.args.seat.now.knows in
     let x = payment c.args.board.now.book.processes v.first in
     IsIdle-published c.args.board.now c.args.seat.now c.store_record_word-2.new.seat c.publish.new.seat (with_two (own_part v)) x
-    (record { id = c.requires.board; book = ap (λ (t : Knowledge). t.book) c.requires.new }) c.known-2.ensures.seat.one_part (stored g before)
-    (ap (λ (t : Knowledge). held_after x (own_part t).held) c.requires.new) (c.publish.ensures.published x (may g before))
+    (record { id = c.requires.board; book = ap (λ (t : Knowledge). t.book) c.requires.new }) c.known-2.ensures.seat.one_part (stored before)
+    (ap (λ (t : Knowledge). held_after x (own_part t).held) c.requires.new) (c.publish.ensures.published x (may before))
     (c.publish.ensures.board ∙ (c.store_record_word-2.ensures.board ∙ c.store_record_word.ensures.board))
 
 pub returns-clause-process : goal.returns-clause-process
-returns-clause-process g c =
-    let before : After-store_record_word-2 g = (goal.at.returns-clause-process g c).After-store_record_word-2 in
-    ap (λ (t : Knowledge). t.first) (c.publish.ensures.published (payment c.args.board.now.book.processes c.args.seat.now.knows.first) (may g before)).same ∙ ap (λ (t : Knowledge). t.first) (stored g before).same
+returns-clause-process c =
+    let before : After-store_record_word-2 = (goal.at.returns-clause-process c).After-store_record_word-2 in
+    ap (λ (t : Knowledge). t.first) (c.publish.ensures.published (payment c.args.board.now.book.processes c.args.seat.now.knows.first) (may before)).same ∙ ap (λ (t : Knowledge). t.first) (stored before).same
 
 pub returns-clause-published : goal.returns-clause-published
-returns-clause-published g c =
-    let before : After-store_record_word-2 g = (goal.at.returns-clause-published g c).After-store_record_word-2 in
+returns-clause-published c =
+    let before : After-store_record_word-2 = (goal.at.returns-clause-published c).After-store_record_word-2 in
     let w : Knowledge = c.publish.new.seat.knows in
-    let told = c.publish.ensures.published (payment c.args.board.now.book.processes c.args.seat.now.knows.first) (may g before) in
+    let told = c.publish.ensures.published (payment c.args.board.now.book.processes c.args.seat.now.knows.first) (may before) in
     omega (arith, told.own, ap (λ p. count_of p w.seen) (ap (λ (t : Knowledge). t.first) told.same))

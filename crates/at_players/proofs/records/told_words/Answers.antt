@@ -17,12 +17,12 @@ may_load b v before note after p j is some process word told =
     record { seen = omega (arith, noted, IsPrefix-count_of p note.seen after.seen told.told); word = omega arith }
 
 pub load_record_word-accounts-requires-clause-record : goal.load_record_word-accounts-requires-clause-record
-load_record_word-accounts-requires-clause-record g c =
+load_record_word-accounts-requires-clause-record c =
     may_load c.args.board.now.book c.args.seat.now.knows c.args.other.now.knows c.note-note.result.knows c.learn.new.seat.knows c.process.result 1 c.note-note.ensures.noted
     c.requires.published (c.process.ensures.process ∙ ap (λ s. s.knows.first) c.note-note.ensures.same) (omega arith) c.learn.ensures.learned
 
 pub load_record_word-amount-requires-clause-record : goal.load_record_word-amount-requires-clause-record
-load_record_word-amount-requires-clause-record g c =
+load_record_word-amount-requires-clause-record c =
     let there = may_load c.args.board.now.book c.args.seat.now.knows c.args.other.now.knows c.note-note.result.knows c.learn.new.seat.knows c.process-2.result 3 c.note-note.ensures.noted
     c.requires.published (c.process-2.ensures.process ∙ ap (λ s. s.knows.first) c.note-note.ensures.same) (omega arith) c.learn.ensures.learned in
     subst (λ (t : Knowledge). MayLoadWord c.args.board.now.book t c.process-2.result 0 3) (sym (ap (λ s. s.knows) c.load_record_word-accounts.ensures.same)) there

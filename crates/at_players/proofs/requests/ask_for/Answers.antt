@@ -11,7 +11,7 @@ use Rattle.at_players.proofs.AskedLaws.{HasGained-with_asking, IsIdle-with_askin
 use Rattle.at_players.proofs.requests.ask_for.Goals as goal
 
 pub returns-clause-idle : goal.returns-clause-idle
-returns-clause-idle g c =
+returns-clause-idle c =
     let v : Knowledge = c.args.seat.now.knows in
     let u : Knowledge = c.ask-number.new.seat.knows in
     let slot = c.args.slot in
@@ -21,7 +21,7 @@ returns-clause-idle g c =
     (with_request w r (rounds 0 u.seen)) c.requires.idle c.ask-number.ensures.board (c.ask-number.ensures.announced slot c.requires.request.asks.slot_in).same
 
 pub returns-clause-gained : goal.returns-clause-gained
-returns-clause-gained g c =
+returns-clause-gained c =
     let v : Knowledge = c.args.seat.now.knows in
     let u : Knowledge = c.ask-number.new.seat.knows in
     let slot = c.args.slot in

@@ -10,7 +10,7 @@ use Rattle.at_rows.specs.declared.open_request.OpenRequest.{OpenRequest}
 use Rattle.at_players.proofs.requests.find_oldest.Goals as goal
 
 pub oldest-requires-clause-slots : goal.oldest-requires-clause-slots
-oldest-requires-clause-slots g c = λ k d inside.
+oldest-requires-clause-slots c = λ k d inside.
     let b : BookTerms = c.args.board.now.book in
     let x : OpenRequest = slice_index_or c.collect_rows-asked.result k d in
     omega (
@@ -21,7 +21,7 @@ oldest-requires-clause-slots g c = λ k d inside.
     )
 
 pub returns-clause-found : goal.returns-clause-found
-returns-clause-found g c =
+returns-clause-found c =
     let b : BookTerms = c.args.board.now.book in
     let v : Knowledge = c.args.seat.now.knows in
     let u : Knowledge = c.collect_rows-asked.new.seat.knows in
@@ -39,7 +39,7 @@ returns-clause-found g c =
     }
 
 pub returns-clause-idle : goal.returns-clause-idle
-returns-clause-idle g c =
+returns-clause-idle c =
     let v : Knowledge = c.args.seat.now.knows in
     let u : Knowledge = c.collect_rows-asked.new.seat.knows in
     let told = c.collect_rows-asked.ensures.rows in
@@ -47,7 +47,7 @@ returns-clause-idle g c =
     (with_loads (asking_on (own_part v) 0) told.rows told.words) c.requires.idle c.collect_rows-asked.ensures.board told.loads.same
 
 pub returns-clause-gained : goal.returns-clause-gained
-returns-clause-gained g c =
+returns-clause-gained c =
     let v : Knowledge = c.args.seat.now.knows in
     let u : Knowledge = c.collect_rows-asked.new.seat.knows in
     let told = c.collect_rows-asked.ensures.rows in

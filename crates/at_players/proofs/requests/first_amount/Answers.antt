@@ -4,7 +4,7 @@ use Rattle.at_history.specs.BoardState.{request_at}
 use Rattle.at_players.proofs.requests.first_amount.Goals as goal
 
 pub load_request_word-requires-clause-request : goal.load_request_word-requires-clause-request
-load_request_word-requires-clause-request g c =
+load_request_word-requires-clause-request c =
     let told = c.load_announced-count.ensures.told in
     record {
       known = inl (

@@ -69,21 +69,21 @@ is_of board s t slot n idle id told = record {
 }
 
 pub returns-clause-board : goal.returns-clause-board
-returns-clause-board g c =
+returns-clause-board c =
     is_of c.args.board.now c.args.seat.now c.decide.new.seat c.args.slot c.decide.result c.requires.idle c.decide.ensures.board
     (c.decide.ensures.decided (first_decision c.args.slot) payment c.requires.proposal c.first_word-proposal.ensures)
 
 pub returns-clause-process : goal.returns-clause-process
-returns-clause-process g c =
+returns-clause-process c =
     ap (λ (t : Knowledge). t.first) (c.decide.ensures.decided (first_decision c.args.slot) payment c.requires.proposal c.first_word-proposal.ensures).same
 
 pub returns-clause-won : goal.returns-clause-won
-returns-clause-won g c = λ word.
+returns-clause-won c = λ word.
     has_won c.args.board.now c.args.seat.now c.decide.new.seat.knows c.args.slot c.decide.result c.requires.idle c.requires.new c.requires.slot c.requires.proposal.named
     (c.decide.ensures.decided (first_decision c.args.slot) payment c.requires.proposal c.first_word-proposal.ensures) word
 
 pub returns-clause-lost : goal.returns-clause-lost
-returns-clause-lost g c = λ other.
+returns-clause-lost c = λ other.
     let told = c.decide.ensures.decided (first_decision c.args.slot) payment c.requires.proposal c.first_word-proposal.ensures in
     has_lost c.args.board.now c.args.seat.now c.decide.new.seat c.args.slot c.decide.result c.requires.idle
     (is_of c.args.board.now c.args.seat.now c.decide.new.seat c.args.slot c.decide.result c.requires.idle c.decide.ensures.board told) told other

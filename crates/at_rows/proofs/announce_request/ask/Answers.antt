@@ -13,39 +13,39 @@ use Rattle.at_rows.proofs.announce_request.ask.Goals.{After-announce, After-anno
 use Rattle.at_rows.proofs.announce_request.ask.Goals as goal
 
 -- the seat has something on the account
-has : (g : given.Over) (c : After-known-2 g) → HasAccount c.args.seat.now.knows c.args.account
-has g c =
+has : (c : After-known-2) → HasAccount c.args.seat.now.knows c.args.account
+has c =
     let seat = c.known-2.ensures.seat in
     let inside = c.requires.request.1.asks.slot_in.account_in in
     let same = ap (λ (t : BookTerms). length t.accounts) c.requires.board.book in
     record { part = omega (arith, seat.one_part); inside = omega (arith, seat.accounts, inside, same) }
 
 -- the request may be announced once its words are stored
-may : (g : given.Over) (c : After-loop-j g)
+may : (c : After-loop-j)
     → MayAnnounce c.args.board.now.book c.loop-j.seat.knows c.args.account c.requires.request.0 (asked_for c.args.targets.now c.args.since)
-may g c =
+may c =
     MayAnnounce-IsStoringRequest c.args.board.now.book c.args.seat.now.knows c.loop-j.seat.knows c.args.account c.requires.request.0 (asked_for c.args.targets.now c.args.since) c.loop-j.j
-    (has g (goal.at.After-loop-j g c).After-known-2) c.requires.request.1 c.loop-j.invariant.storing (omega (arith, c.loop-j-test.false, c.loop-j.auto.j-end))
+    (has (goal.at.After-loop-j c).After-known-2) c.requires.request.1 c.loop-j.invariant.storing (omega (arith, c.loop-j-test.false, c.loop-j.auto.j-end))
 
 -- it is announced
-told : (g : given.Over) (c : After-announce g) (slot : ℕ) → HasSlot c.args.board.now.book c.args.seat.now.knows.first c.args.account slot
+told : (c : After-announce) (slot : ℕ) → HasSlot c.args.board.now.book c.args.seat.now.knows.first c.args.account slot
     → Announces c.args.board.now.book c.args.seat.now.knows c.announce.new.seat.knows c.args.account slot (asked_for c.args.targets.now c.args.since)
-told g c slot slot_in =
-    let before : After-loop-j g = (goal.at.After-announce g c).After-loop-j in
+told c slot slot_in =
+    let before : After-loop-j = (goal.at.After-announce c).After-loop-j in
     let b : BookTerms = c.args.board.now.book in
     let r : Request = asked_for c.args.targets.now c.args.since in
     let asks = MayAskFor-slot b c.args.seat.now.knows c.args.account c.requires.request.0 slot r c.requires.request.1 slot_in in
-    let all = MayAnnounce-IsStoringRequest b c.args.seat.now.knows c.loop-j.seat.knows c.args.account slot r c.loop-j.j (has g (goal.at.After-loop-j g before).After-known-2) asks
+    let all = MayAnnounce-IsStoringRequest b c.args.seat.now.knows c.loop-j.seat.knows c.args.account slot r c.loop-j.j (has (goal.at.After-loop-j before).After-known-2) asks
     c.loop-j.invariant.storing (omega (arith, c.loop-j-test.false, c.loop-j.auto.j-end)) in
     Announces-IsStoringRequest b c.args.seat.now.knows c.loop-j.seat.knows c.announce.new.seat.knows c.args.account slot r (request_words r) c.loop-j.j
-    (has g (goal.at.After-loop-j g before).After-known-2) c.loop-j.invariant.storing (c.announce.ensures.announced slot r all)
+    (has (goal.at.After-loop-j before).After-known-2) c.loop-j.invariant.storing (c.announce.ensures.announced slot r all)
 
-mine : (g : given.Over) (c : After-announce g)
+mine : (c : After-announce)
     → Announces c.args.board.now.book c.args.seat.now.knows c.announce.new.seat.knows c.args.account c.requires.request.0 (asked_for c.args.targets.now c.args.since)
-mine g c = told g c c.requires.request.0 c.requires.request.1.asks.slot_in
+mine c = told c c.requires.request.0 c.requires.request.1.asks.slot_in
 
 pub loop-j-init : goal.loop-j-init
-loop-j-init g c =
+loop-j-init c =
     let v : Knowledge = c.args.seat.now.knows in
     let slot_in : HasSlot v.book v.first c.args.account c.requires.request.0 =
     subst (λ (t : BookTerms). HasSlot t v.first c.args.account c.requires.request.0) (sym c.requires.board.book) c.requires.request.1.asks.slot_in in
@@ -58,50 +58,50 @@ loop-j-init g c =
     }
 
 pub request_word-word-requires-clause-targets : goal.request_word-word-requires-clause-targets
-request_word-word-requires-clause-targets g c =
+request_word-word-requires-clause-targets c =
     AreTargetsOn-AreTargets c.args.board.now.book c.args.targets.now (subst IsBook c.book.ensures c.known.ensures.checked) c.requires.request.1.targets
 
 pub store_request_word-requires-clause-asks : goal.store_request_word-requires-clause-asks
-store_request_word-requires-clause-asks g c = (
+store_request_word-requires-clause-asks c = (
   c.requires.request.0,
   MayStoreRequest-IsStoringRequest c.args.board.now.book c.args.seat.now.knows c.loop-j.seat.knows c.args.account c.requires.request.0
       (request_words (asked_for c.args.targets.now c.args.since)) c.loop-j.j
-      (has g (goal.at.store_request_word-requires-clause-asks g c).After-known-2) c.loop-j.invariant.storing c.requires.request.1.asks,
+      (has (goal.at.store_request_word-requires-clause-asks c).After-known-2) c.loop-j.invariant.storing c.requires.request.1.asks,
 )
 
 pub loop-j-preserved : goal.loop-j-preserved
-loop-j-preserved g c = record {
+loop-j-preserved c = record {
   board = c.store_request_word.ensures.board ∙ c.loop-j.invariant.board;
   storing = IsStoringRequest-more c.args.seat.now.knows c.loop-j.seat.knows c.store_request_word.new.seat.knows c.args.account
       (request_words (asked_for c.args.targets.now c.args.since)) c.loop-j.j c.request_word-word.result
-      (has g (goal.at.loop-j-preserved g c).After-known-2) c.loop-j-test.true c.loop-j.invariant.storing c.request_word-word.ensures c.store_request_word.ensures.stored;
+      (has (goal.at.loop-j-preserved c).After-known-2) c.loop-j-test.true c.loop-j.invariant.storing c.request_word-word.ensures c.store_request_word.ensures.stored;
   steps = omega (arith, c.store_request_word.ensures.steps, c.loop-j.invariant.steps);
   exchanges = c.store_request_word.ensures.exchanges ∙ c.loop-j.invariant.exchanges;
 }
 
 pub announce-requires-clause-request : goal.announce-requires-clause-request
-announce-requires-clause-request g c =
-    (c.requires.request.0, asked_for c.args.targets.now c.args.since, may g (goal.at.announce-requires-clause-request g c).After-loop-j)
+announce-requires-clause-request c =
+    (c.requires.request.0, asked_for c.args.targets.now c.args.since, may (goal.at.announce-requires-clause-request c).After-loop-j)
 
 pub returns-clause-announced : goal.returns-clause-announced
-returns-clause-announced g c = told g (goal.at.returns-clause-announced g c).After-announce
+returns-clause-announced c = told (goal.at.returns-clause-announced c).After-announce
 
 pub returns-clause-own : goal.returns-clause-own
-returns-clause-own g c slot slot_in =
-    let after : After-announce g = (goal.at.returns-clause-own g c).After-announce in
-    let before : After-loop-j g = (goal.at.After-announce g after).After-loop-j in
+returns-clause-own c slot slot_in =
+    let after : After-announce = (goal.at.returns-clause-own c).After-announce in
+    let before : After-loop-j = (goal.at.After-announce after).After-loop-j in
     HasAsked-Announces c.args.board.now.book c.args.seat.now.knows c.announce.new.seat.knows c.args.account slot c.announced-number.result c.args.targets.now c.args.since
-    (has g (goal.at.After-loop-j g before).After-known-2) slot_in c.announced-number.ensures (told g after slot slot_in)
+    (has (goal.at.After-loop-j before).After-known-2) slot_in c.announced-number.ensures (told after slot slot_in)
 
 pub returns-clause-nothing : goal.returns-clause-nothing
-returns-clause-nothing g c =
-    let after : After-announce g = (goal.at.returns-clause-nothing g c).After-announce in
-    let before : After-loop-j g = (goal.at.After-announce g after).After-loop-j in
+returns-clause-nothing c =
+    let after : After-announce = (goal.at.returns-clause-nothing c).After-announce in
+    let before : After-loop-j = (goal.at.After-announce after).After-loop-j in
     HasLoadedNothing-Announces c.args.board.now.book c.args.seat.now.knows c.announce.new.seat.knows c.args.account c.requires.request.0
-    (asked_for c.args.targets.now c.args.since) (has g (goal.at.After-loop-j g before).After-known-2) (mine g after)
+    (asked_for c.args.targets.now c.args.since) (has (goal.at.After-loop-j before).After-known-2) (mine after)
 
 pub returns-clause-board : goal.returns-clause-board
-returns-clause-board g c =
-    let after : After-announce g = (goal.at.returns-clause-board g c).After-announce in
+returns-clause-board c =
+    let after : After-announce = (goal.at.returns-clause-board c).After-announce in
     IsOf-Announces c.args.board.now c.args.seat.now c.announce.new.seat c.args.account c.requires.request.0 (asked_for c.args.targets.now c.args.since)
-    (c.announce.ensures.board ∙ c.loop-j.invariant.board) c.requires.board (mine g after)
+    (c.announce.ensures.board ∙ c.loop-j.invariant.board) c.requires.board (mine after)

@@ -14,15 +14,15 @@ use Rattle.at_rows.proofs.load_rows.collect_rows.Goals.{After-known-2, After-loo
 use Rattle.at_rows.proofs.load_rows.collect_rows.Goals as goal
 
 -- the seat has something on the account
-has : (g : given.Over) (c : After-known-2 g) → HasAccount c.args.seat.now.knows c.args.account
-has g c =
+has : (c : After-known-2) → HasAccount c.args.seat.now.knows c.args.account
+has c =
     let seat = c.known-2.ensures.seat in
     let same = ap (λ (t : BookTerms). length t.accounts) c.requires.board.book in
     record { part = omega (arith, seat.one_part); inside = omega (arith, seat.accounts, c.requires.own.slot_in.account_in, same) }
 
 -- all slots were visited
-visited : (g : given.Over) (c : After-loop-slot g) → c.loop-slot.slot ≡ slots_of (account_of c.args.board.now.book c.args.account)
-visited g c =
+visited : (c : After-loop-slot) → c.loop-slot.slot ≡ slots_of (account_of c.args.board.now.book c.args.account)
+visited c =
     omega (
       arith,
       c.loop-slot-test.false,
@@ -32,57 +32,57 @@ visited g c =
     )
 
 pub loop-slot-init : goal.loop-slot-init
-loop-slot-init g c =
+loop-slot-init c =
     let v : Knowledge = c.args.seat.now.knows in
     record {
       board = refl;
-      collecting = subst (λ (l : List OpenRequest). IsCollectingRows v v c.args.account c.args.own.now l 0 c.args.steps.now c.args.steps.now) (sym c.empty-asked.ensures)
-          (IsCollectingRows-start v c.args.account c.args.own.now c.args.steps.now (SeesRequest-HasAsked c.args.board.now.book v c.args.account c.args.own.now
+      collecting = subst (λ (l : List OpenRequest). IsCollectingRows v v c.args.account c.args.own.now l 0 c.args.seat.now.steps c.args.seat.now.steps) (sym c.empty-asked.ensures)
+          (IsCollectingRows-start v c.args.account c.args.own.now c.args.seat.now.steps (SeesRequest-HasAsked c.args.board.now.book v c.args.account c.args.own.now
           c.requires.board.book v.first (own_part v).published c.known-2.ensures.seat c.requires.own));
       exchanges = refl;
     }
 
 pub loop-slot-preserved : goal.loop-slot-preserved
-loop-slot-preserved g c =
+loop-slot-preserved c =
     let v : Knowledge = c.args.seat.now.knows in
     let w : Knowledge = c.load_row-found.new.seat.knows in
     let a = c.args.account in
     let own : OpenRequest = c.args.own.now in
-    let more = IsCollectingRows-row v c.loop-slot.seat.knows w a own c.loop-slot.asked c.loop-slot.slot c.args.steps.now c.loop-slot.steps c.load_row-found.result
-    (has g (goal.at.loop-slot-preserved g c).After-known-2) c.loop-slot.invariant.collecting c.load_row-found.ensures.row in
+    let more = IsCollectingRows-row v c.loop-slot.seat.knows w a own c.loop-slot.asked c.loop-slot.slot c.args.seat.now.steps c.loop-slot.seat.steps c.load_row-found.result
+    (has (goal.at.loop-slot-preserved c).After-known-2) c.loop-slot.invariant.collecting c.load_row-found.ensures.row in
     record {
       board = c.load_row-found.ensures.board.id ∙ sym c.requires.board.id;
-      collecting = subst (λ (l : List OpenRequest). IsCollectingRows v w a own l (c.loop-slot.slot + 1) c.args.steps.now c.load_row-found.new.steps)
+      collecting = subst (λ (l : List OpenRequest). IsCollectingRows v w a own l (c.loop-slot.slot + 1) c.args.seat.now.steps c.load_row-found.new.seat.steps)
           {x = c.loop-slot.asked ++ option_to_list c.load_row-found.result} (sym c.add.ensures)
-          (subst (λ n. IsCollectingRows v w a own (c.loop-slot.asked ++ option_to_list c.load_row-found.result) (c.loop-slot.slot + 1) c.args.steps.now n)
-          {x = c.loop-slot.steps + row_steps own.slot c.loop-slot.slot c.load_row-found.result} (sym c.load_row-found.ensures.steps) more);
+          (subst (λ n. IsCollectingRows v w a own (c.loop-slot.asked ++ option_to_list c.load_row-found.result) (c.loop-slot.slot + 1) c.args.seat.now.steps n)
+          {x = c.loop-slot.seat.steps + row_steps own.slot c.loop-slot.slot c.load_row-found.result} (sym c.load_row-found.ensures.steps) more);
       exchanges = c.load_row-found.ensures.exchanges ∙ c.loop-slot.invariant.exchanges;
     }
 
 pub returns-clause-collected : goal.returns-clause-collected
-returns-clause-collected g c =
+returns-clause-collected c =
     HasLoadedRows-IsCollectingRows c.args.board.now.book c.args.seat.now.knows c.loop-slot.seat.knows c.args.account c.args.own.now c.loop-slot.asked c.loop-slot.slot
-    c.args.steps.now c.loop-slot.steps (has g (goal.at.returns-clause-collected g c).After-known-2) c.requires.own c.loop-slot.invariant.collecting (visited g c)
+    c.args.seat.now.steps c.loop-slot.seat.steps (has (goal.at.returns-clause-collected c).After-known-2) c.requires.own c.loop-slot.invariant.collecting (visited c)
 
 pub returns-clause-rows : goal.returns-clause-rows
-returns-clause-rows g c =
+returns-clause-rows c =
     CollectsRows-IsCollectingRows c.args.board.now.book c.args.seat.now.knows c.loop-slot.seat.knows c.args.account c.args.own.now c.loop-slot.asked c.loop-slot.slot
-    c.args.steps.now c.loop-slot.steps c.requires.own c.loop-slot.invariant.collecting (visited g c)
+    c.args.seat.now.steps c.loop-slot.seat.steps c.requires.own c.loop-slot.invariant.collecting (visited c)
 
 pub returns-clause-candidates : goal.returns-clause-candidates
-returns-clause-candidates g c =
+returns-clause-candidates c =
     AreCandidates-IsCollectingRows c.args.board.now.book c.args.seat.now.knows c.loop-slot.seat.knows c.args.account c.args.own.now c.loop-slot.asked c.loop-slot.slot
-    c.args.steps.now c.loop-slot.steps (has g (goal.at.returns-clause-candidates g c).After-known-2) c.requires.own c.loop-slot.invariant.collecting (visited g c)
+    c.args.seat.now.steps c.loop-slot.seat.steps (has (goal.at.returns-clause-candidates c).After-known-2) c.requires.own c.loop-slot.invariant.collecting (visited c)
 
 pub returns-clause-own : goal.returns-clause-own
-returns-clause-own g c =
+returns-clause-own c =
     HasAsked-IsCollectingRows c.args.board.now.book c.args.seat.now.knows c.loop-slot.seat.knows c.args.account c.args.own.now c.loop-slot.asked c.loop-slot.slot
-    c.args.steps.now c.loop-slot.steps (has g (goal.at.returns-clause-own g c).After-known-2) c.requires.own c.loop-slot.invariant.collecting
+    c.args.seat.now.steps c.loop-slot.seat.steps (has (goal.at.returns-clause-own c).After-known-2) c.requires.own c.loop-slot.invariant.collecting
 
 pub load_row-found-requires-clause-own : goal.load_row-found-requires-clause-own
-load_row-found-requires-clause-own g c = c.loop-slot.invariant.collecting.own_seen
+load_row-found-requires-clause-own c = c.loop-slot.invariant.collecting.own_seen
 
 pub add-requires-clause-above : goal.add-requires-clause-above
-add-requires-clause-above g c =
+add-requires-clause-above c =
     AreBelow-LoadsRow c.loop-slot.seat.knows c.load_row-found.new.seat.knows c.args.account c.loop-slot.slot c.args.own.now c.loop-slot.asked
     c.load_row-found.result c.loop-slot.invariant.collecting.below c.load_row-found.ensures.row

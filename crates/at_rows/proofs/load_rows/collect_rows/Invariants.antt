@@ -4,8 +4,8 @@ use Rattle.at_rows.proofs.load_rows.collect_rows.Given as goal
 
 -- the rows of so many slots are loaded
 abbrev pub invariant-loop-slot : goal.invariant-loop-slot
-invariant-loop-slot g l = record {
+invariant-loop-slot l = record {
   board : l.seat.board ≡ l.fn.seat.board;
-  collecting : IsCollectingRows l.fn.seat.knows l.seat.knows l.account l.own l.asked l.slot l.fn.steps l.steps;
-  exchanges : l.exchanges ≡ l.fn.exchanges;
+  collecting : IsCollectingRows l.fn.seat.knows l.seat.knows l.account l.own l.asked l.slot l.fn.seat.steps l.seat.steps;
+  exchanges : l.seat.exchanges ≡ l.fn.seat.exchanges;
 }

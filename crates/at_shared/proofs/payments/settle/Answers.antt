@@ -26,12 +26,12 @@ use Rattle.at_shared.proofs.payments.settle.Goals.{After-turn}
 use Rattle.at_shared.proofs.payments.settle.Goals as goal
 
 -- the helping is that of the account
-account_is : (g : given.Over) (c : After-turn g) → c.loop-receipt.helping.account ≡ c.args.account
-account_is g c = ap (λ (h : HelpingTerms). h.account) c.loop-receipt.invariant.same ∙ c.start-helping.ensures.account
+account_is : (c : After-turn) → c.loop-receipt.helping.account ≡ c.args.account
+account_is c = ap (λ (h : HelpingTerms). h.account) c.loop-receipt.invariant.same ∙ c.start-helping.ensures.account
 
 -- at the start
 pub loop-receipt-init : goal.loop-receipt-init
-loop-receipt-init g c =
+loop-receipt-init c =
     let b : BookTerms = c.args.board.now.book in
     let v : Knowledge = c.args.seat.now.knows in
     let u : Knowledge = c.start-helping.new.seat.knows in
@@ -59,8 +59,8 @@ loop-receipt-init g c =
     }
 
 -- the seat has something on the account
-has_account : (g : given.Over) (c : After-turn g) → HasAccount c.args.seat.now.knows c.args.account
-has_account g c =
+has_account : (c : After-turn) → HasAccount c.args.seat.now.knows c.args.account
+has_account c =
     let told = c.start-helping.ensures in
     let within : c.args.account < length c.args.seat.now.knows.book.accounts = omega (
       arith,
@@ -71,57 +71,57 @@ has_account g c =
     HasAccount-IsSeat c.args.seat.now.knows c.args.seat.now.knows.first (own_part c.args.seat.now.knows).published c.args.account c.known.ensures.seat within
 
 -- what the start adds
-abbrev looked_of : (g : given.Over) → After-turn g → Knowledge
-looked_of g c = c.start-helping.ensures.started.looked
+abbrev looked_of : After-turn → Knowledge
+looked_of c = c.start-helping.ensures.started.looked
 
-adds_look : (g : given.Over) (c : After-turn g) → Adds c.args.board.now.book c.args.seat.now.knows (looked_of g c) c.args.account []
-adds_look g c =
+adds_look : (c : After-turn) → Adds c.args.board.now.book c.args.seat.now.knows (looked_of c) c.args.account []
+adds_look c =
     let started = c.start-helping.ensures.started in
-    Adds-HasLoaded c.args.board.now.book c.args.seat.now.knows started.looked c.args.account started.front (has_account g c).part started.loads started.snapshot
+    Adds-HasLoaded c.args.board.now.book c.args.seat.now.knows started.looked c.args.account started.front (has_account c).part started.loads started.snapshot
 
-adds_start : (g : given.Over) (c : After-turn g)
-    → Adds c.args.board.now.book (looked_of g c) c.start-helping.new.seat.knows c.args.account (request_of c.start-helping.result.own ∷ [])
-adds_start g c =
+adds_start : (c : After-turn)
+    → Adds c.args.board.now.book (looked_of c) c.start-helping.new.seat.knows c.args.account (request_of c.start-helping.result.own ∷ [])
+adds_start c =
     let b : BookTerms = c.args.board.now.book in
     let v : Knowledge = c.args.seat.now.knows in
     let u : Knowledge = c.start-helping.new.seat.knows in
     let told = c.start-helping.ensures in
     subst (λ t. Adds b told.started.looked u t (request_of c.start-helping.result.own ∷ [])) told.account
-    (Adds-HasStarted b v u c.start-helping.result told.started (subst (HasAccount v) (sym told.account) (has_account g c)) c.known-2.ensures.seat.own)
+    (Adds-HasStarted b v u c.start-helping.result told.started (subst (HasAccount v) (sym told.account) (has_account c)) c.known-2.ensures.seat.own)
 
 -- what the turns so far add
-has_account_loop : (g : given.Over) (c : After-turn g) → HasAccount c.loop-receipt.seat.knows c.args.account
-has_account_loop g c =
+has_account_loop : (c : After-turn) → HasAccount c.loop-receipt.seat.knows c.args.account
+has_account_loop c =
     let b : BookTerms = c.args.board.now.book in
     let a = c.args.account in
-    let w : Knowledge = looked_of g c in
+    let w : Knowledge = looked_of c in
     let u : Knowledge = c.start-helping.new.seat.knows in
     HasAccount-Adds b u c.loop-receipt.seat.knows a a [] c.loop-receipt.invariant.kept
-    (HasAccount-Adds b w u a a (request_of c.start-helping.result.own ∷ []) (adds_start g c)
-    (HasAccount-Adds b c.args.seat.now.knows w a a [] (adds_look g c) (has_account g c)))
+    (HasAccount-Adds b w u a a (request_of c.start-helping.result.own ∷ []) (adds_start c)
+    (HasAccount-Adds b c.args.seat.now.knows w a a [] (adds_look c) (has_account c)))
 
-adds_turns : (g : given.Over) (c : After-turn g)
+adds_turns : (c : After-turn)
     → Adds c.args.board.now.book c.start-helping.new.seat.knows c.turn.new.seat.knows c.args.account []
-adds_turns g c =
+adds_turns c =
     let b : BookTerms = c.args.board.now.book in
     let a = c.args.account in
     let u : Knowledge = c.start-helping.new.seat.knows in
     let y : Knowledge = c.loop-receipt.seat.knows in
     let z : Knowledge = c.turn.new.seat.knows in
-    let account = account_is g c in
-    let has = subst (HasAccount y) (sym account) (has_account_loop g c) in
+    let account = account_is c in
+    let has = subst (HasAccount y) (sym account) (has_account_loop c) in
     Adds-trans b u y z a [] [] c.loop-receipt.invariant.kept
     (subst (λ t. Adds b y z t []) account (Adds-HelpAnswers b y z c.loop-receipt.helping c.turn.result has c.turn.ensures.answers))
 
 -- what all adds since the call has looked
-adds_since : (g : given.Over) (c : After-turn g)
-    → Adds c.args.board.now.book (looked_of g c) c.turn.new.seat.knows c.args.account (request_of c.start-helping.result.own ∷ [])
-adds_since g c =
-    Adds-trans c.args.board.now.book (looked_of g c) c.start-helping.new.seat.knows c.turn.new.seat.knows c.args.account
-    (request_of c.start-helping.result.own ∷ []) [] (adds_start g c) (adds_turns g c)
+adds_since : (c : After-turn)
+    → Adds c.args.board.now.book (looked_of c) c.turn.new.seat.knows c.args.account (request_of c.start-helping.result.own ∷ [])
+adds_since c =
+    Adds-trans c.args.board.now.book (looked_of c) c.start-helping.new.seat.knows c.turn.new.seat.knows c.args.account
+    (request_of c.start-helping.result.own ∷ []) [] (adds_start c) (adds_turns c)
 
 pub loop-receipt-preserved : goal.loop-receipt-preserved
-loop-receipt-preserved g c =
+loop-receipt-preserved c =
     let b : BookTerms = c.args.board.now.book in
     let v : Knowledge = c.args.seat.now.knows in
     let y : Knowledge = c.loop-receipt.seat.knows in
@@ -130,7 +130,7 @@ loop-receipt-preserved g c =
     let told = c.turn.ensures in
     let so_far = c.loop-receipt.invariant in
     let is = c.in_default.is in
-    let account = account_is g (goal.at.loop-receipt-preserved g c).After-turn in
+    let account = account_is (goal.at.loop-receipt-preserved c).After-turn in
     let on_y = ap (decides_on y) account in
     let on_z = ap (decides_on z) account in
     let heard_y = ap (heard_on y) account in
@@ -150,7 +150,7 @@ loop-receipt-preserved g c =
       heard = omega (arith, so_far.decides, so_far.heard, more, told.heard, told.rounds_more is, on_y, on_z, heard_y, heard_z, rounds_y, rounds_z);
       turned = subst (λ n. HasTurned b c.start-helping.result c.start-helping.new.seat.knows n z) (sym made)
           (again (decides_made a v y) y z so_far.turned answers);
-      kept = adds_turns g (goal.at.loop-receipt-preserved g c).After-turn;
+      kept = adds_turns (goal.at.loop-receipt-preserved c).After-turn;
       begins = IsPrefix-trans v.seen y.seen z.seen so_far.begins told.begins;
       process = told.process ∙ so_far.process;
       decides = omega (arith, so_far.decides, more, on_y, on_z);
@@ -158,22 +158,22 @@ loop-receipt-preserved g c =
       published = omega (arith, so_far.published, told.published);
       more = omega (arith, so_far.more, told.more);
       counted = told.counted;
-      steps = steps_after c.args.steps.now (snapshot_steps b.processes) (asking_steps (slots_of (account_of b a))) (round_steps b.processes) (decides_made a v y)
+      steps = steps_after c.args.seat.now.steps (snapshot_steps b.processes) (asking_steps (slots_of (account_of b a))) (round_steps b.processes) (decides_made a v y)
           (decides_made a v z) (decides_made c.loop-receipt.helping.account y z) (newly_counted v y c.args.totals.now c.loop-receipt.totals)
-          (newly_counted y z c.loop-receipt.totals c.turn.new.totals) (newly_counted v z c.args.totals.now c.turn.new.totals) c.loop-receipt.steps c.turn.new.steps
+          (newly_counted y z c.loop-receipt.totals c.turn.new.totals) (newly_counted v z c.args.totals.now c.turn.new.totals) c.loop-receipt.seat.steps c.turn.new.seat.steps
           (omega (arith, more)) (omega (arith, so_far.decides, more, on_y, on_z)) so_far.steps told.steps
           (omega (arith, so_far.more, told.more, so_far.published, told.published));
       exchanges = omega (arith, so_far.exchanges, told.exchanges, so_far.decides, more, on_y, on_z);
     }
 
 pub loop-receipt-smaller : goal.loop-receipt-smaller
-loop-receipt-smaller g c =
+loop-receipt-smaller c =
     let b : BookTerms = c.args.board.now.book in
     let y : Knowledge = c.loop-receipt.seat.knows in
     let z : Knowledge = c.turn.new.seat.knows in
     let told = c.turn.ensures in
     let is = c.in_default.is in
-    let account = account_is g (goal.at.loop-receipt-smaller g c).After-turn in
+    let account = account_is (goal.at.loop-receipt-smaller c).After-turn in
     omega (
       arith,
       told.overtaken is,
@@ -187,13 +187,13 @@ loop-receipt-smaller g c =
     )
 
 pub returns-in-Settled-clause-placed : goal.returns-in-Settled-clause-placed
-returns-in-Settled-clause-placed g c = λ earlier asks.
-    let account = account_is g (goal.at.returns-in-Settled-clause-placed g c).After-turn in
+returns-in-Settled-clause-placed c = λ earlier asks.
+    let account = account_is (goal.at.returns-in-Settled-clause-placed c).After-turn in
     let number = ap (λ (h : HelpingTerms). h.own.number) c.loop-receipt.invariant.same ∙ c.start-helping.ensures.number in
     c.in-Settled.ensures.placed earlier (ap (λ t. asks_in t earlier) account ∙ (asks ∙ sym number))
 
 pub returns-in-Settled-clause-steps : goal.returns-in-Settled-clause-steps
-returns-in-Settled-clause-steps g c =
+returns-in-Settled-clause-steps c =
     let b : BookTerms = c.args.board.now.book in
     let v : Knowledge = c.args.seat.now.knows in
     let y : Knowledge = c.loop-receipt.seat.knows in
@@ -201,16 +201,16 @@ returns-in-Settled-clause-steps g c =
     let a = c.args.account in
     let told = c.turn.ensures in
     let so_far = c.loop-receipt.invariant in
-    steps_after c.args.steps.now (snapshot_steps b.processes) (asking_steps (slots_of (account_of b a))) (round_steps b.processes) (decides_made a v y)
+    steps_after c.args.seat.now.steps (snapshot_steps b.processes) (asking_steps (slots_of (account_of b a))) (round_steps b.processes) (decides_made a v y)
     (slots_of (account_of b a)) (decides_made c.loop-receipt.helping.account y z) (newly_counted v y c.args.totals.now c.loop-receipt.totals)
-    (newly_counted y z c.loop-receipt.totals c.turn.new.totals) (newly_counted v z c.args.totals.now c.turn.new.totals) c.loop-receipt.steps c.turn.new.steps
+    (newly_counted y z c.loop-receipt.totals c.turn.new.totals) (newly_counted v z c.args.totals.now c.turn.new.totals) c.loop-receipt.seat.steps c.turn.new.seat.steps
     (omega (arith, told.decides_at_most)) so_far.few so_far.steps told.steps (omega (arith, so_far.more, told.more, so_far.published, told.published))
 
 pub returns-in-Settled-clause-after_snapshot : goal.returns-in-Settled-clause-after_snapshot
-returns-in-Settled-clause-after_snapshot g c =
+returns-in-Settled-clause-after_snapshot c =
     let started = c.start-helping.ensures.started in
     let since = ap (λ (h : HelpingTerms). h.own.since) c.loop-receipt.invariant.same in
-    let since_look = adds_since g (goal.at.returns-in-Settled-clause-after_snapshot g c).After-turn in
+    let since_look = adds_since (goal.at.returns-in-Settled-clause-after_snapshot c).After-turn in
     record {
       front = started.front;
       looked = started.looked;
@@ -222,13 +222,13 @@ returns-in-Settled-clause-after_snapshot g c =
     }
 
 pub returns-in-Settled-clause-decides_elsewhere : goal.returns-in-Settled-clause-decides_elsewhere
-returns-in-Settled-clause-decides_elsewhere g c = λ t other.
-    let account = account_is g (goal.at.returns-in-Settled-clause-decides_elsewhere g c).After-turn in
+returns-in-Settled-clause-decides_elsewhere c = λ t other.
+    let account = account_is (goal.at.returns-in-Settled-clause-decides_elsewhere c).After-turn in
     c.turn.ensures.decides_elsewhere t (λ same. other (same ∙ account)) ∙ c.loop-receipt.invariant.elsewhere t other
 
 pub returns-in-Settled-clause-asked : goal.returns-in-Settled-clause-asked
-returns-in-Settled-clause-asked g c =
-    let before : After-turn g = (goal.at.returns-in-Settled-clause-asked g c).After-turn in
+returns-in-Settled-clause-asked c =
+    let before : After-turn = (goal.at.returns-in-Settled-clause-asked c).After-turn in
     let b : BookTerms = c.args.board.now.book in
     let v : Knowledge = c.args.seat.now.knows in
     let u : Knowledge = c.start-helping.new.seat.knows in
@@ -238,11 +238,11 @@ returns-in-Settled-clause-asked g c =
     let told = c.start-helping.ensures in
     let own = c.start-helping.result.own in
     let adds : Adds b v z a (request_of own ∷ []) =
-    Adds-trans b v (looked_of g before) z a [] (request_of own ∷ []) (adds_look g before) (adds_since g before) in
+    Adds-trans b v (looked_of before) z a [] (request_of own ∷ []) (adds_look before) (adds_since before) in
     let helping : HelpingTerms = c.loop-receipt.helping in
     let same = c.loop-receipt.invariant.same in
-    let account = account_is g before in
-    let has = subst (HasAccount y) (sym account) (has_account_loop g before) in
+    let account = account_is before in
+    let has = subst (HasAccount y) (sym account) (has_account_loop before) in
     let settled_here = settled-HelpAnswers b y z helping has c.in-Settled.ensures.answers in
     let settled_own : is_settled a own.slot own.number z.seen ≡ true =
     subst (λ t. is_settled t own.slot own.number z.seen ≡ true) account
@@ -252,10 +252,10 @@ returns-in-Settled-clause-asked g c =
     settled_own
 
 pub returns-in-Settled-clause-more : goal.returns-in-Settled-clause-more
-returns-in-Settled-clause-more g c = omega (arith, c.loop-receipt.invariant.more, c.turn.ensures.more)
+returns-in-Settled-clause-more c = omega (arith, c.loop-receipt.invariant.more, c.turn.ensures.more)
 
 pub returns-in-Settled-clause-turns : goal.returns-in-Settled-clause-turns
-returns-in-Settled-clause-turns g c =
+returns-in-Settled-clause-turns c =
     let b : BookTerms = c.args.board.now.book in
     let v : Knowledge = c.args.seat.now.knows in
     let y : Knowledge = c.loop-receipt.seat.knows in
@@ -276,38 +276,38 @@ returns-in-Settled-clause-turns g c =
     }
 
 pub returns-in-Settled-clause-in_round : goal.returns-in-Settled-clause-in_round
-returns-in-Settled-clause-in_round g c = c.in-Settled.ensures.in_round
+returns-in-Settled-clause-in_round c = c.in-Settled.ensures.in_round
 
 pub returns-in-Settled-clause-free : goal.returns-in-Settled-clause-free
-returns-in-Settled-clause-free g c = c.turn.ensures.free
+returns-in-Settled-clause-free c = c.turn.ensures.free
 
 pub returns-in-Settled-clause-begins : goal.returns-in-Settled-clause-begins
-returns-in-Settled-clause-begins g c =
+returns-in-Settled-clause-begins c =
     IsPrefix-trans c.args.seat.now.knows.seen c.loop-receipt.seat.knows.seen c.turn.new.seat.knows.seen c.loop-receipt.invariant.begins c.turn.ensures.begins
 
 pub returns-in-Settled-clause-process : goal.returns-in-Settled-clause-process
-returns-in-Settled-clause-process g c = c.turn.ensures.process ∙ c.loop-receipt.invariant.process
+returns-in-Settled-clause-process c = c.turn.ensures.process ∙ c.loop-receipt.invariant.process
 
 pub returns-in-Settled-clause-counted : goal.returns-in-Settled-clause-counted
-returns-in-Settled-clause-counted g c = c.turn.ensures.counted
+returns-in-Settled-clause-counted c = c.turn.ensures.counted
 
 pub returns-in-Settled-clause-own_counted : goal.returns-in-Settled-clause-own_counted
-returns-in-Settled-clause-own_counted g c = c.turn.ensures.own_counted
+returns-in-Settled-clause-own_counted c = c.turn.ensures.own_counted
 
 pub returns-in-Settled-clause-board : goal.returns-in-Settled-clause-board
-returns-in-Settled-clause-board g c = c.turn.ensures.board
+returns-in-Settled-clause-board c = c.turn.ensures.board
 
 pub returns-in-Settled-clause-call : goal.returns-in-Settled-clause-call
-returns-in-Settled-clause-call g c = c.in-Settled.ensures.call ∙ (ap (λ (h : HelpingTerms). h.call) c.loop-receipt.invariant.same ∙ c.start-helping.ensures.call)
+returns-in-Settled-clause-call c = c.in-Settled.ensures.call ∙ (ap (λ (h : HelpingTerms). h.call) c.loop-receipt.invariant.same ∙ c.start-helping.ensures.call)
 
 pub returns-in-Settled-clause-after_start : goal.returns-in-Settled-clause-after_start
-returns-in-Settled-clause-after_start g c = λ previous.
+returns-in-Settled-clause-after_start c = λ previous.
     let since = ap (λ (h : HelpingTerms). h.own.since) c.loop-receipt.invariant.same in
     omega (arith, c.in-Settled.ensures.after_start previous, since, c.start-helping.ensures.since)
 
 pub returns-in-Settled-clause-decides : goal.returns-in-Settled-clause-decides
-returns-in-Settled-clause-decides g c =
-    let account = account_is g (goal.at.returns-in-Settled-clause-decides g c).After-turn in
+returns-in-Settled-clause-decides c =
+    let account = account_is (goal.at.returns-in-Settled-clause-decides c).After-turn in
     let on_y = ap (decides_on c.loop-receipt.seat.knows) account in
     let on_z = ap (decides_on c.turn.new.seat.knows) account in
     let told = c.turn.ensures in
@@ -315,8 +315,8 @@ returns-in-Settled-clause-decides g c =
     omega (arith, so_far.few, so_far.decides, told.decides_at_most, told.decides_few, on_y, on_z)
 
 pub returns-in-Settled-clause-exchanges : goal.returns-in-Settled-clause-exchanges
-returns-in-Settled-clause-exchanges g c =
-    let account = account_is g (goal.at.returns-in-Settled-clause-exchanges g c).After-turn in
+returns-in-Settled-clause-exchanges c =
+    let account = account_is (goal.at.returns-in-Settled-clause-exchanges c).After-turn in
     let on_y = ap (decides_on c.loop-receipt.seat.knows) account in
     let on_z = ap (decides_on c.turn.new.seat.knows) account in
     let told = c.turn.ensures in

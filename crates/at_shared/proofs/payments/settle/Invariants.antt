@@ -1,4 +1,5 @@
 use Rattle.std.proofs.Common.{◌≡◌, ◌≢◌, ℕ, ◌+◌, ◌-◌, ◌*◌, ◌≤◌, [], sum}
+use Rattle.at_board.specs.Counting.{raised}
 use Rattle.at_ledger.specs.Account.{slots_of}
 use Rattle.at_ledger.specs.Book.{account_of}
 use Rattle.at_history.specs.Publications.{IsPrefix}
@@ -17,7 +18,7 @@ use Rattle.at_shared.proofs.payments.settle.Given as goal
 
 -- each turn so far has made one exchange and published a round, of which fewer are left than the account has owners
 abbrev pub invariant-loop-receipt : goal.invariant-loop-receipt
-invariant-loop-receipt g l = record {
+invariant-loop-receipt l = record {
   same : l.helping ≡ l.initial.helping;
   board : IsOf l.seat l.board;
   helping : IsHelping l.board.book l.seat.knows l.helping;
@@ -32,13 +33,13 @@ invariant-loop-receipt g l = record {
   published : (own_part l.fn.seat.knows).published ≤ (own_part l.seat.knows).published;
   more : sum l.fn.totals.upto + (own_part l.seat.knows).published ≤ sum l.totals.upto + (own_part l.fn.seat.knows).published;
   counted : HasCounted l.totals l.board.book l.seat.knows.seen;
-  steps : l.steps ≤ l.fn.steps + snapshot_steps l.board.book.processes + asking_steps (slots_of (account_of l.board.book l.account))
+  steps : l.seat.steps ≤ l.fn.seat.steps + snapshot_steps l.board.book.processes + asking_steps (slots_of (account_of l.board.book l.account))
       + decides_made l.account l.fn.seat.knows l.seat.knows * (snapshot_steps l.board.book.processes + round_steps l.board.book.processes)
       + RECORD_WORDS * newly_counted l.fn.seat.knows l.seat.knows l.fn.totals l.totals;
-  exchanges : l.exchanges ≡ l.fn.exchanges + decides_made l.account l.fn.seat.knows l.seat.knows;
+  exchanges : l.seat.exchanges ≡ raised l.fn.seat.exchanges (decides_made l.account l.fn.seat.knows l.seat.knows);
 }
 
 -- the rounds that may still be decided before the request
 abbrev pub decreases-loop-receipt : goal.decreases-loop-receipt
-decreases-loop-receipt g l =
+decreases-loop-receipt l =
     heard_on l.seat.knows l.account + slots_of (account_of l.board.book l.account) - rounds l.account l.seat.knows.seen

@@ -11,21 +11,21 @@ use Rattle.at_snapshot.specs.Snapshots.{IsSnapshot}
 use Rattle.at_single.proofs.looks.look.Goals as goal
 
 pub catch_up-requires-clause-counted : goal.catch_up-requires-clause-counted
-catch_up-requires-clause-counted g c =
+catch_up-requires-clause-counted c =
     StaysCounted-HasCounted c.args.totals.now c.args.board.now.book c.args.seat.now.knows.seen c.requires.totals c.snapshot-front.new.seat.knows.seen
     c.snapshot-front.ensures.loads.more
 
 pub catch_up-requires-clause-more : goal.catch_up-requires-clause-more
-catch_up-requires-clause-more g c =
+catch_up-requires-clause-more c =
     Covers-IsSnapshot c.args.board.now.book c.args.seat.now.knows c.snapshot-front.new.seat.knows c.args.totals.now c.snapshot-front.result
     c.snapshot-front.ensures.snapshot c.requires.totals
 
 pub catch_up-requires-clause-seen : goal.catch_up-requires-clause-seen
-catch_up-requires-clause-seen g c =
+catch_up-requires-clause-seen c =
     HasRecords-IsFront c.args.board.now.book c.snapshot-front.new.seat.knows.seen c.snapshot-front.result c.snapshot-front.ensures.snapshot.front
 
 pub returns-clause-looked : goal.returns-clause-looked
-returns-clause-looked g c =
+returns-clause-looked c =
     let b : BookTerms = c.args.board.now.book in
     let v : Knowledge = c.args.seat.now.knows in
     let t : TotalSums = c.args.totals.now in

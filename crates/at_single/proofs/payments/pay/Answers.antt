@@ -26,7 +26,7 @@ use Rattle.at_single.proofs.payments.pay.Goals.{After-balance, After-append}
 use Rattle.at_single.proofs.payments.pay.Goals as goal
 
 pub balance-requires : goal.balance-requires
-balance-requires g c =
+balance-requires c =
     let b : BookTerms = c.args.board.now.book in
     let v : Knowledge = c.args.seat.now.knows in
     let w : Knowledge = c.look-view.new.seat.knows in
@@ -41,38 +41,38 @@ balance-requires g c =
     )
 
 -- what was read is the balance of the front
-balance : (g : given.Over) (c : After-balance g)
+balance : (c : After-balance)
     → c.balance.result ≡ balance_after c.args.board.now.book (prefix_of c.look-view.result c.look-view.new.seat.knows.seen) c.args.from
-balance g c =
+balance c =
     balance-HasLooked c.args.board.now.book c.args.seat.now.knows c.look-view.new.seat.knows c.args.totals.now c.look-view.new.totals c.look-view.result
     c.args.from c.balance.result c.look-view.ensures.looked c.requires.from c.balance.ensures
 
 pub returns-then-from-sum-clause-reply : goal.returns-then-from-sum-clause-reply
-returns-then-from-sum-clause-reply g c =
-    let here = balance g (goal.at.returns-then-from-sum-clause-reply g c).After-balance in
+returns-then-from-sum-clause-reply c =
+    let here = balance (goal.at.returns-then-from-sum-clause-reply c).After-balance in
     payment_reply-short c.args.board.now.book (prefix_of c.look-view.result c.look-view.new.seat.knows.seen) c.args.from c.args.targets.now
     (omega (arith, here, c.from.ensures, c.sum.ensures.sum, c.if-from-sum.true))
 
 pub returns-then-from-sum-clause-placed : goal.returns-then-from-sum-clause-placed
-returns-then-from-sum-clause-placed g c = λ call payout earlier owns.
-    let here = balance g (goal.at.returns-then-from-sum-clause-placed g c).After-balance in
+returns-then-from-sum-clause-placed c = λ call payout earlier owns.
+    let here = balance (goal.at.returns-then-from-sum-clause-placed c).After-balance in
     let v : Knowledge = c.args.seat.now.knows in
     IsPlaced-short c.args.board.now.book v.first c.look-view.new.seat.knows.seen earlier call c.args.from c.args.targets.now c.look-view.result payout
     c.requires.owner (omega (arith, owns, c.requires.room)) c.look-view.ensures.looked.snapshot.front
     (omega (arith, here, c.from.ensures, c.sum.ensures.sum, c.if-from-sum.true))
 
 pub returns-then-from-sum-clause-counted : goal.returns-then-from-sum-clause-counted
-returns-then-from-sum-clause-counted g c =
+returns-then-from-sum-clause-counted c =
     HasCounted-HasLooked c.args.board.now.book c.args.seat.now.knows c.look-view.new.seat.knows c.args.totals.now c.look-view.new.totals c.look-view.result
     c.look-view.ensures.looked
 
 pub append-requires-clause-record : goal.append-requires-clause-record
-append-requires-clause-record g c =
+append-requires-clause-record c =
     let b : BookTerms = c.args.board.now.book in
     let v : Knowledge = c.args.seat.now.knows in
     let w : Knowledge = c.look-view.new.seat.knows in
     let looked = c.look-view.ensures.looked in
-    let here = balance g (goal.at.append-requires-clause-record g c).After-balance in
+    let here = balance (goal.at.append-requires-clause-record c).After-balance in
     let known : v.first < b.processes = omega (arith, c.known.ensures.seat.known, ap (λ (t : BookTerms). t.processes) c.requires.seat.book) in
     subst (λ targets. MayAppend b w (record { entry = Entry.Own c.args.from targets; view = c.look-view.result })) (sym c.copy.ensures)
     (MayAppend-IsSnapshot b v w c.look-view.result c.args.from c.args.targets.now looked.snapshot looked.loads known c.known.ensures.seat.own c.requires.owner
@@ -81,9 +81,9 @@ append-requires-clause-record g c =
     (omega (arith, here, c.from.ensures, c.sum.ensures.sum, c.if-from-sum.false)))
 
 -- the record was published after the snapshot
-paid : (g : given.Over) (c : After-append g)
+paid : (c : After-append)
     → IsPaid c.args.board.now.book c.args.seat.now.knows c.look-view.new.seat.knows c.append.new.seat.knows c.look-view.result c.args.from c.args.targets.now
-paid g c =
+paid c =
     let b : BookTerms = c.args.board.now.book in
     let w : Knowledge = c.look-view.new.seat.knows in
     let x : Knowledge = c.append.new.seat.knows in
@@ -98,75 +98,75 @@ paid g c =
     }
 
 -- by the number that the receipt has
-number : (g : given.Over) (c : After-append g) → c.published-number.result ≡ (own_part c.args.seat.now.knows).published
-number g c =
+number : (c : After-append) → c.published-number.result ≡ (own_part c.args.seat.now.knows).published
+number c =
     c.published-number.ensures
     ∙ number-IsPaid c.args.board.now.book c.args.seat.now.knows c.look-view.new.seat.knows c.append.new.seat.knows c.look-view.result c.args.from c.args.targets.now
-    (paid g c)
+    (paid c)
 
-behind : (g : given.Over) (c : After-append g) → front_behind c.append.new.seat.knows (Own c.published-number.result) ≡ c.look-view.result
-behind g c =
-    ap (λ k. front_behind c.append.new.seat.knows (Own k)) (number g c)
+behind : (c : After-append) → front_behind c.append.new.seat.knows (Own c.published-number.result) ≡ c.look-view.result
+behind c =
+    ap (λ k. front_behind c.append.new.seat.knows (Own k)) (number c)
     ∙ front_behind-IsPaid c.args.board.now.book c.args.seat.now.knows c.look-view.new.seat.knows c.append.new.seat.knows c.look-view.result c.args.from c.args.targets.now
-    (paid g c)
+    (paid c)
 
 pub count_own-requires-clause-counted : goal.count_own-requires-clause-counted
-count_own-requires-clause-counted g c =
+count_own-requires-clause-counted c =
     let v : Knowledge = c.args.seat.now.knows in
     let w : Knowledge = c.look-view.new.seat.knows in
     let x : Knowledge = c.append.new.seat.knows in
-    let so = paid g (goal.at.count_own-requires-clause-counted g c).After-append in
+    let so = paid (goal.at.count_own-requires-clause-counted c).After-append in
     let book = ap (λ (t : Knowledge). t.book) so.published.same ∙ (ap (λ (t : Knowledge). t.book) so.loads.same ∙ c.requires.seat.book) in
     subst (λ b. HasCounted c.look-view.new.totals b x.seen) (sym book)
     (c.look-view.ensures.looked.counted x.seen (more-IsPaid c.args.board.now.book v w x c.look-view.result c.args.from c.args.targets.now so))
 
 pub returns-clause-reply : goal.returns-clause-reply
-returns-clause-reply g c =
+returns-clause-reply c =
     let b : BookTerms = c.args.board.now.book in
     let v : Knowledge = c.args.seat.now.knows in
     let w : Knowledge = c.look-view.new.seat.knows in
     let x : Knowledge = c.append.new.seat.knows in
-    let before : After-append g = (goal.at.returns-clause-reply g c).After-append in
-    let here = balance g (goal.at.returns-clause-reply g c).After-balance in
-    let prefix = ap (λ f. prefix_of f x.seen) (behind g before) ∙ prefix_of-IsPaid b v w x c.look-view.result c.args.from c.args.targets.now (paid g before) in
+    let before : After-append = (goal.at.returns-clause-reply c).After-append in
+    let here = balance (goal.at.returns-clause-reply c).After-balance in
+    let prefix = ap (λ f. prefix_of f x.seen) (behind before) ∙ prefix_of-IsPaid b v w x c.look-view.result c.args.from c.args.targets.now (paid before) in
     payment_reply-done b (prefix_of c.look-view.result w.seen) c.args.from c.args.targets.now
     (omega (arith, here, c.from.ensures, c.sum.ensures.sum, c.if-from-sum.false))
     ∙ ap (λ xs. payment_reply b xs c.args.from c.args.targets.now) (sym prefix)
 
 pub returns-clause-placed : goal.returns-clause-placed
-returns-clause-placed g c = λ call payout earlier owns.
+returns-clause-placed c = λ call payout earlier owns.
     let b : BookTerms = c.args.board.now.book in
     let v : Knowledge = c.args.seat.now.knows in
     let w : Knowledge = c.look-view.new.seat.knows in
     let x : Knowledge = c.append.new.seat.knows in
-    let before : After-append g = (goal.at.returns-clause-placed g c).After-append in
-    let so = paid g before in
+    let before : After-append = (goal.at.returns-clause-placed c).After-append in
+    let so = paid before in
     let from = c.args.from in
     let targets = c.args.targets.now in
     let view = c.look-view.result in
-    subst (λ k. IsPlaced b v.first x.seen earlier (record { call = call; reply = Done; at = Own k })) (sym (number g before))
+    subst (λ k. IsPlaced b v.first x.seen earlier (record { call = call; reply = Done; at = Own k })) (sym (number before))
     (IsPlaced-done b v.first x.seen earlier call from targets (own_part v).published payout c.requires.owner (omega (arith, owns, c.requires.room))
     (within-IsPaid b v w x view from targets so)
     (ap (λ (y : Publication). y.entry) (record-IsPaid b v w x view from targets so))
     (owns_of-IsPrefix-take v.first (own_part v).published v.seen x.seen (begins-IsPaid b v w x view from targets so) so.own ∙ sym owns))
 
 pub returns-clause-after_front : goal.returns-clause-after_front
-returns-clause-after_front g c = λ call previous.
+returns-clause-after_front c = λ call previous.
     let v : Knowledge = c.args.seat.now.knows in
     let x : Knowledge = c.append.new.seat.knows in
-    let before : After-append g = (goal.at.returns-clause-after_front g c).After-append in
+    let before : After-append = (goal.at.returns-clause-after_front c).After-append in
     omega (
       arith,
-      ap place (behind g before),
-      ap (λ k. own_position x.first k x.seen) (number g before),
-      place-IsPaid c.args.board.now.book v c.look-view.new.seat.knows x c.look-view.result c.args.from c.args.targets.now (paid g before),
+      ap place (behind before),
+      ap (λ k. own_position x.first k x.seen) (number before),
+      place-IsPaid c.args.board.now.book v c.look-view.new.seat.knows x c.look-view.result c.args.from c.args.targets.now (paid before),
     )
 
 pub returns-clause-snapshot : goal.returns-clause-snapshot
-returns-clause-snapshot g c =
+returns-clause-snapshot c =
     let b : BookTerms = c.args.board.now.book in
     let v : Knowledge = c.args.seat.now.knows in
     let x : Knowledge = c.append.new.seat.knows in
-    let before : After-append g = (goal.at.returns-clause-snapshot g c).After-append in
-    subst (IsSnapshot b v x) (sym (behind g before))
-    (IsSnapshot-IsPaid b v c.look-view.new.seat.knows x c.look-view.result c.args.from c.args.targets.now (paid g before))
+    let before : After-append = (goal.at.returns-clause-snapshot c).After-append in
+    subst (IsSnapshot b v x) (sym (behind before))
+    (IsSnapshot-IsPaid b v c.look-view.new.seat.knows x c.look-view.result c.args.from c.args.targets.now (paid before))

@@ -12,7 +12,7 @@ use Rattle.at_single.proofs.reads.read_account.Goals.{After-balance-balance}
 use Rattle.at_single.proofs.reads.read_account.Goals as goal
 
 pub balance-balance-requires : goal.balance-balance-requires
-balance-balance-requires g c =
+balance-balance-requires c =
     let b : BookTerms = c.args.board.now.book in
     let v : Knowledge = c.args.seat.now.knows in
     let w : Knowledge = c.look-front.new.seat.knows in
@@ -27,26 +27,26 @@ balance-balance-requires g c =
     )
 
 -- what was read is the balance of the front
-balance : (g : given.Over) (c : After-balance-balance g)
+balance : (c : After-balance-balance)
     → c.balance-balance.result ≡ balance_after c.args.board.now.book (prefix_of c.look-front.result c.look-front.new.seat.knows.seen) c.args.account
-balance g c =
+balance c =
     balance-HasLooked c.args.board.now.book c.args.seat.now.knows c.look-front.new.seat.knows c.args.totals.now c.look-front.new.totals c.look-front.result
     c.args.account c.balance-balance.result c.look-front.ensures.looked c.requires.account c.balance-balance.ensures
 
 pub returns-clause-reply : goal.returns-clause-reply
-returns-clause-reply g c = ap Balance (balance g (goal.at.returns-clause-reply g c).After-balance-balance)
+returns-clause-reply c = ap Balance (balance (goal.at.returns-clause-reply c).After-balance-balance)
 
 pub returns-clause-placed : goal.returns-clause-placed
-returns-clause-placed g c = λ earlier.
+returns-clause-placed c = λ earlier.
     read c.args.account c.balance-balance.result refl refl
     (record {
       view = c.look-front.result;
       front = c.look-front.ensures.looked.snapshot.front;
       at = refl;
-      balance = sym (balance g (goal.at.returns-clause-placed g c).After-balance-balance);
+      balance = sym (balance (goal.at.returns-clause-placed c).After-balance-balance);
     })
 
 pub returns-clause-counted : goal.returns-clause-counted
-returns-clause-counted g c =
+returns-clause-counted c =
     HasCounted-HasLooked c.args.board.now.book c.args.seat.now.knows c.look-front.new.seat.knows c.args.totals.now c.look-front.new.totals c.look-front.result
     c.look-front.ensures.looked

@@ -6,7 +6,7 @@ use Rattle.at_snapshot.specs.Collected.{IsCollecting}
 use Rattle.at_snapshot.proofs.collects.collect.Goals as goal
 
 pub loop-p-preserved : goal.loop-p-preserved
-loop-p-preserved g c =
+loop-p-preserved c =
     let b : BookTerms = c.args.board.now.book in
     let v : Knowledge = c.args.seat.now.knows in
     let w : Knowledge = c.load_length.new.seat.knows in
@@ -24,7 +24,7 @@ loop-p-preserved g c =
     )
 
 pub returns-clause-counts : goal.returns-clause-counts
-returns-clause-counts g c =
+returns-clause-counts c =
     let b : BookTerms = c.args.board.now.book in
     let book : IsBook b = subst IsBook c.book.ensures c.known-2.ensures.checked in
     let at : c.loop-p.p ≡ b.processes = omega (arith, c.processes-n.ensures, ap (λ (t : BookTerms). t.processes) c.book-2.ensures) in
@@ -32,7 +32,7 @@ returns-clause-counts g c =
     (subst (IsCollecting b c.args.seat.now.knows c.loop-p.seat.knows c.loop-p.counts) at c.loop-p.invariant.0)
 
 pub returns-clause-collect : goal.returns-clause-collect
-returns-clause-collect g c =
+returns-clause-collect c =
     let b : BookTerms = c.args.board.now.book in
     let v : Knowledge = c.args.seat.now.knows in
     let book : IsBook b = subst IsBook c.book.ensures c.known-2.ensures.checked in

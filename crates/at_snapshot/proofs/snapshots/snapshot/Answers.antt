@@ -10,29 +10,29 @@ use Rattle.at_snapshot.proofs.snapshots.snapshot.Given.{Over}
 use Rattle.at_snapshot.proofs.snapshots.snapshot.Goals as goal
 
 pub loop-counts-init : goal.loop-counts-init
-loop-counts-init g c =
+loop-counts-init c =
     let b : BookTerms = c.args.board.now.book in
     let v : Knowledge = c.args.seat.now.knows in
     let so = subst (λ (s : ScanTerms). IsScanOf b s v) c.start-scan.ensures.start (c.start-scan.ensures.scan b) in (
-      (0, subst (λ (s : ScanTerms). IsSnapping b v s v c.args.steps.now c.args.steps.now 0) (sym c.start-scan.ensures.start) (IsSnapping-start b v c.args.steps.now c.known.ensures.seat.own so)),
+      (0, subst (λ (s : ScanTerms). IsSnapping b v s v c.args.seat.now.steps c.args.seat.now.steps 0) (sym c.start-scan.ensures.start) (IsSnapping-start b v c.args.seat.now.steps c.known.ensures.seat.own so)),
       c.requires,
       refl,
     )
 
 pub loop-counts-preserved : goal.loop-counts-preserved
-loop-counts-preserved g c =
+loop-counts-preserved c =
     let b : BookTerms = c.args.board.now.book in
     let begun : Knowledge = c.args.seat.now.knows in
     let w : Knowledge = c.turn.new.seat.knows in
     let scan : ScanTerms = c.loop-counts.scan in
-    let before = c.args.steps.now in
+    let before = c.args.seat.now.steps in
     let turns = c.loop-counts.invariant.0.0 in
-    let more = IsSnapping-Again b begun scan c.loop-counts.seat.knows w before c.loop-counts.steps turns (omega (arith, c.known.ensures.seat.one_part))
+    let more = IsSnapping-Again b begun scan c.loop-counts.seat.knows w before c.loop-counts.seat.steps turns (omega (arith, c.known.ensures.seat.one_part))
     c.loop-counts.invariant.0.1 c.turn.ensures.collect c.in-Again.ensures.answer in
-    let steps : c.turn.new.steps ≡ c.loop-counts.steps + b.processes = omega (arith, c.in-Again.ensures.steps) in (
+    let steps : c.turn.new.seat.steps ≡ c.loop-counts.seat.steps + b.processes = omega (arith, c.in-Again.ensures.steps) in (
       (
         turns + 1,
-        subst (λ (s : ScanTerms). IsSnapping b begun s w before c.turn.new.steps (turns + 1)) (sym c.turn.ensures.after)
+        subst (λ (s : ScanTerms). IsSnapping b begun s w before c.turn.new.seat.steps (turns + 1)) (sym c.turn.ensures.after)
             (subst (λ k. IsSnapping b begun (scan_after scan w) w before k (turns + 1)) (sym steps) more),
       ),
       c.turn.ensures.board,
@@ -40,7 +40,7 @@ loop-counts-preserved g c =
     )
 
 pub loop-counts-smaller : goal.loop-counts-smaller
-loop-counts-smaller g c =
+loop-counts-smaller c =
     let b : BookTerms = c.args.board.now.book in
     let scan : ScanTerms = c.loop-counts.scan in
     subst (λ (s : ScanTerms). turns_left b.processes s.collects < turns_left b.processes scan.collects) (sym c.turn.ensures.after)
@@ -48,21 +48,21 @@ loop-counts-smaller g c =
     c.in-Again.ensures.answer)
 
 -- what holds after the last turn
-snapped : (g : Over) (c : goal.After-drop-scan-inside-in-Clean g)
-    → IsSnapped c.args.board.now.book c.args.seat.now.knows c.turn.new.seat.knows c.args.steps.now
-    (c.loop-counts.steps + c.args.board.now.book.processes + view_steps c.args.board.now.book.processes c.turn.result)
-snapped g c =
+snapped : (c : goal.After-drop-scan-inside-in-Clean)
+    → IsSnapped c.args.board.now.book c.args.seat.now.knows c.turn.new.seat.knows c.args.seat.now.steps
+    (c.loop-counts.seat.steps + c.args.board.now.book.processes + view_steps c.args.board.now.book.processes c.turn.result)
+snapped c =
     let b : BookTerms = c.args.board.now.book in
     let begun : Knowledge = c.args.seat.now.knows in
     let known : begun.first < b.processes = omega (arith, c.known.ensures.seat.known, ap (λ (t : BookTerms). t.processes) c.requires.book) in
-    IsSnapped-IsSnapping b begun c.loop-counts.scan c.loop-counts.seat.knows c.turn.new.seat.knows c.args.steps.now c.loop-counts.steps
+    IsSnapped-IsSnapping b begun c.loop-counts.scan c.loop-counts.seat.knows c.turn.new.seat.knows c.args.seat.now.steps c.loop-counts.seat.steps
     c.loop-counts.invariant.0.0 c.turn.result (omega (arith, c.known.ensures.seat.one_part)) known c.loop-counts.invariant.0.1 c.turn.ensures.collect
 
 pub returns-in-Clean-clause-loads : goal.returns-in-Clean-clause-loads
-returns-in-Clean-clause-loads g c = (snapped g c).loads
+returns-in-Clean-clause-loads c = (snapped c).loads
 
 pub returns-in-Clean-clause-collects : goal.returns-in-Clean-clause-collects
-returns-in-Clean-clause-collects g c = (snapped g c).collects
+returns-in-Clean-clause-collects c = (snapped c).collects
 
 pub returns-in-Clean-clause-steps : goal.returns-in-Clean-clause-steps
-returns-in-Clean-clause-steps g c = subst (λ k. k ≤ c.args.steps.now + snapshot_steps c.args.board.now.book.processes) (sym c.turn.ensures.steps) (snapped g c).few
+returns-in-Clean-clause-steps c = subst (λ k. k ≤ c.args.seat.now.steps + snapshot_steps c.args.board.now.book.processes) (sym c.turn.ensures.steps) (snapped c).few

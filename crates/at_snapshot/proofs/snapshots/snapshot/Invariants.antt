@@ -5,10 +5,10 @@ use Rattle.at_snapshot.proofs.snapshots.snapshot.Given as goal
 
 -- so many turns answered Again
 abbrev pub invariant-loop-counts : goal.invariant-loop-counts
-invariant-loop-counts g l =
-    ((turns : ℕ) × IsSnapping l.board.book l.fn.seat.knows l.scan l.seat.knows l.initial.steps l.steps turns)
+invariant-loop-counts l =
+    ((turns : ℕ) × IsSnapping l.board.book l.fn.seat.knows l.scan l.seat.knows l.initial.seat.steps l.seat.steps turns)
     × IsOf l.seat l.board
-    × (l.exchanges ≡ l.initial.exchanges)
+    × (l.seat.exchanges ≡ l.initial.seat.exchanges)
 
 abbrev pub decreases-loop-counts : goal.decreases-loop-counts
-decreases-loop-counts g l = turns_left l.board.book.processes l.scan.collects
+decreases-loop-counts l = turns_left l.board.book.processes l.scan.collects

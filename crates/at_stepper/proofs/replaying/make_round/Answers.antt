@@ -5,7 +5,7 @@ use Rattle.at_stepper.specs.Replays.{TurnBy}
 use Rattle.at_stepper.proofs.replaying.make_round.Goals as goal
 
 pub loop-process-preserved : goal.loop-process-preserved
-loop-process-preserved g c =
+loop-process-preserved c =
     let p = c.loop-process.process in
     let was = c.args.turns.now.items in
     let middle = c.loop-process.turns.items in
@@ -23,7 +23,7 @@ loop-process-preserved g c =
     }
 
 pub returns-clause-left : goal.returns-clause-left
-returns-clause-left g c =
+returns-clause-left c =
     let all : c.loop-process.process ≡ c.args.processes = omega (arith, c.loop-process-test.false, c.loop-process.auto.process-end) in
     let before = c.args.stepper.now in
     let after = c.loop-process.stepper in

@@ -7,7 +7,7 @@ use Rattle.at_stepper.specs.declared.replaying.TurnMade.{TurnMade}
 use Rattle.at_stepper.proofs.replaying.make_turns.Goals as goal
 
 pub loop-process-init : goal.loop-process-init
-loop-process-init g c =
+loop-process-init c =
     let before = c.args.stepper.now in
     record {
       turned = subst (λ (turns : List TurnMade). HasTurnedBy (files_of before) [] turns before) (sym c.requires.none)
@@ -16,7 +16,7 @@ loop-process-init g c =
     }
 
 pub loop-process-preserved : goal.loop-process-preserved
-loop-process-preserved g c =
+loop-process-preserved c =
     let schedule = c.args.schedule.now in
     let number = c.loop-process.process-index in
     let before = c.args.stepper.now in

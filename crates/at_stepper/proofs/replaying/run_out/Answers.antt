@@ -2,13 +2,13 @@ use Rattle.at_stepper.proofs.ReplayLaws.{IsSameRun-refl, IsSameRun-trans, TurnIn
 use Rattle.at_stepper.proofs.replaying.run_out.Goals as goal
 
 pub loop-stepper-init : goal.loop-stepper-init
-loop-stepper-init g c = record {
+loop-stepper-init c = record {
   turned = TurnInRounds-none c.args.processes c.args.turns.now.items c.args.stepper.now;
   same = IsSameRun-refl c.args.stepper.now;
 }
 
 pub loop-stepper-preserved : goal.loop-stepper-preserved
-loop-stepper-preserved g c =
+loop-stepper-preserved c =
     let before = c.args.stepper.now in
     let between = c.loop-stepper.stepper in
     let after = c.make_round.new.stepper in

@@ -7,11 +7,11 @@ use Rattle.at_stepper.specs.declared.replaying.TurnMade.{TurnMade}
 use Rattle.at_stepper.proofs.replaying.turn_unless_idle.Goals as goal
 
 pub returns-then-idle-clause-turned : goal.returns-then-idle-clause-turned
-returns-then-idle-clause-turned g c =
+returns-then-idle-clause-turned c =
     TurnBy-idle c.args.turns.now.items c.args.stepper.now c.args.process (eqb-true _ 0 (sym c.idle.ensures ∙ c.if-idle.true))
 
 pub returns-clause-turned : goal.returns-clause-turned
-returns-clause-turned g c =
+returns-clause-turned c =
     let p = c.args.process in
     let before = c.args.stepper.now in
     let after = c.turn.new.self in

@@ -4,7 +4,7 @@ use Rattle.at_stepper_trials.specs.Machines.{IsPaying}
 use Rattle.at_stepper_trials.proofs.callers.ends_paying.Given as goal
 
 abbrev pub invariant-loop-receipt : goal.invariant-loop-receipt
-invariant-loop-receipt g l = IsPaying l.board l.seat l.totals l.paying
+invariant-loop-receipt l = IsPaying l.board l.seat l.totals l.paying
 
 abbrev pub decreases-loop-receipt : goal.decreases-loop-receipt
-decreases-loop-receipt g l = pay_turns_left (record_width l.board.book) l.paying.stage
+decreases-loop-receipt l = pay_turns_left (record_width l.board.book) l.paying.stage

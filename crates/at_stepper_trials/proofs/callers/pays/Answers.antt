@@ -5,7 +5,7 @@ use Rattle.at_board.specs.declared.knowledge.Knowledge.{Knowledge}
 use Rattle.at_stepper_trials.proofs.callers.pays.Goals as goal
 
 pub start-paying-requires-clause-room : goal.start-paying-requires-clause-room
-start-paying-requires-clause-room g c =
+start-paying-requires-clause-room c =
     let v : Knowledge = c.args.seat.now.knows in
     omega (
       arith,

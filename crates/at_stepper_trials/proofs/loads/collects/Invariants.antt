@@ -4,11 +4,11 @@ use Rattle.at_stepper_trials.proofs.loads.collects.Given as goal
 
 -- the collect of this seat isn't ended
 abbrev pub invariant-loop-counts : goal.invariant-loop-counts
-invariant-loop-counts g l = record {
+invariant-loop-counts l = record {
   of_board : IsOf l.seat l.board;
   mark : l.seat.knows ≡ l.collecting.mark;
   left : l.collecting.loaded < l.board.book.processes;
 }
 
 abbrev pub decreases-loop-counts : goal.decreases-loop-counts
-decreases-loop-counts g l = l.board.book.processes - l.collecting.loaded
+decreases-loop-counts l = l.board.book.processes - l.collecting.loaded

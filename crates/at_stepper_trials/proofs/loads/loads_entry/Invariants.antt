@@ -4,11 +4,11 @@ use Rattle.at_stepper_trials.proofs.loads.loads_entry.Given as goal
 
 -- the load by this seat isn't ended
 abbrev pub invariant-loop-entry : goal.invariant-loop-entry
-invariant-loop-entry g l = record {
+invariant-loop-entry l = record {
   same : l.seat ≡ l.fn.seat;
   mark : l.seat.knows ≡ l.loading.knows;
   left : l.loading.loaded < RECORD_WORDS;
 }
 
 abbrev pub decreases-loop-entry : goal.decreases-loop-entry
-decreases-loop-entry g l = RECORD_WORDS - l.loading.loaded
+decreases-loop-entry l = RECORD_WORDS - l.loading.loaded

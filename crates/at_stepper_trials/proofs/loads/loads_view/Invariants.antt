@@ -3,11 +3,11 @@ use Rattle.at_stepper_trials.proofs.loads.loads_view.Given as goal
 
 -- the load by this seat isn't ended
 abbrev pub invariant-loop-view : goal.invariant-loop-view
-invariant-loop-view g l = record {
+invariant-loop-view l = record {
   same : l.seat ≡ l.fn.seat;
   mark : l.seat.knows ≡ l.loading.knows;
   left : l.loading.loaded < l.board.book.processes;
 }
 
 abbrev pub decreases-loop-view : goal.decreases-loop-view
-decreases-loop-view g l = l.board.book.processes - l.loading.loaded
+decreases-loop-view l = l.board.book.processes - l.loading.loaded

@@ -3,7 +3,7 @@ use Rattle.at_stepper_trials.specs.Machines.{IsStillSnapping}
 use Rattle.at_stepper_trials.proofs.movers.ends.Given as goal
 
 abbrev pub invariant-loop-counts : goal.invariant-loop-counts
-invariant-loop-counts g l = IsStillSnapping l.board l.seat l.snapping × (l.snapping.start ≡ l.initial.snapping.start)
+invariant-loop-counts l = IsStillSnapping l.board l.seat l.snapping × (l.snapping.start ≡ l.initial.snapping.start)
 
 abbrev pub decreases-loop-counts : goal.decreases-loop-counts
-decreases-loop-counts g l = l.snapping.left
+decreases-loop-counts l = l.snapping.left

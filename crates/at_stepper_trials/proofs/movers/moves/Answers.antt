@@ -11,7 +11,7 @@ use Rattle.at_stepper_trials.proofs.Moving.{MayAppend-snapshot}
 use Rattle.at_stepper_trials.proofs.movers.moves.Goals as goal
 
 pub start-requires-2 : goal.start-requires-2
-start-requires-2 g c =
+start-requires-2 c =
     let b : BookTerms = c.args.board.now.book in
     let v : Knowledge = c.args.seat.now.knows in
     let w : Knowledge = c.ends-view.new.seat.knows in

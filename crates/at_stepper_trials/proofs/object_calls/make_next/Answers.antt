@@ -4,7 +4,7 @@ use Rattle.at_stepper_trials.proofs.ObjectCalls.{HaveMadeCalls-more}
 use Rattle.at_stepper_trials.proofs.object_calls.make_next.Goals as goal
 
 pub returns : goal.returns
-returns g c =
+returns c =
     let old : Vec Receipt Global = get_or c.args.receipts.now c.args.process c.index-receipts-process.result in
     let more : c.push_reserved.new.self.items ≡ old.items ++ c.call_by.result ∷ [] =
     c.push_reserved.ensures.items ∙ ap (λ rs. rs ++ c.call_by.result ∷ []) c.reserve.ensures.items in

@@ -3,7 +3,7 @@ use Rattle.at_stepper_trials.specs.Machines.{IsSharing}
 use Rattle.at_stepper_trials.proofs.sharers.ends_sharing.Given as goal
 
 abbrev pub invariant-loop-receipt : goal.invariant-loop-receipt
-invariant-loop-receipt g l = IsSharing l.board l.seat l.totals l.paying
+invariant-loop-receipt l = IsSharing l.board l.seat l.totals l.paying
 
 abbrev pub decreases-loop-receipt : goal.decreases-loop-receipt
-decreases-loop-receipt g l = share_turns_left l.board.book l.paying
+decreases-loop-receipt l = share_turns_left l.board.book l.paying

@@ -2,4 +2,4 @@ use Rattle.std.proofs.Common.{◌≡◌, length}
 use Rattle.at_stepper_trials.proofs.whole_trials.turn_all.Given as goal
 
 abbrev pub invariant-loop-process : goal.invariant-loop-process
-invariant-loop-process g l = length l.stepper.callers ≡ 2
+invariant-loop-process l = length l.stepper.callers ≡ 2

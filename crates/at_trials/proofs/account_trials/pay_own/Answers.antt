@@ -5,7 +5,7 @@ use Rattle.at_ledger.specs.Book.{BookTerms}
 use Rattle.at_trials.proofs.account_trials.pay_own.Goals as goal
 
 pub transfer_own-receipt-requires-clause-room : goal.transfer_own-receipt-requires-clause-room
-transfer_own-receipt-requires-clause-room g c =
+transfer_own-receipt-requires-clause-room c =
     let v : Knowledge = c.args.seat.now.knows in
     omega (
       arith,

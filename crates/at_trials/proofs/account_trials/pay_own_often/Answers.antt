@@ -3,7 +3,7 @@ use Rattle.at_trials.specs.SmallCrowd.{IsCaller}
 use Rattle.at_trials.proofs.account_trials.pay_own_often.Goals as goal
 
 pub loop-call-init : goal.loop-call-init
-loop-call-init g c =
+loop-call-init c =
     let board : BoardTerms = c.args.board.now in
     let seat : SeatTerms = c.args.seat.now in
     let caller : IsCaller board seat c.in_ok-totals.totals = record {

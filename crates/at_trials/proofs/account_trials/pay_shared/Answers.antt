@@ -7,7 +7,7 @@ use Rattle.at_trials.proofs.SettledLaws.{HasAllSettled-next, source_of_payout}
 use Rattle.at_trials.proofs.account_trials.pay_shared.Goals as goal
 
 pub returns-then-announced-number : goal.returns-then-announced-number
-returns-then-announced-number g c =
+returns-then-announced-number c =
     let b : BookTerms = c.args.board.now.book in
     let v : Knowledge = c.args.seat.now.knows in
     let w : Knowledge = c.transfer_shared-receipt.new.seat.knows in

@@ -7,7 +7,7 @@ use Rattle.at_trials.proofs.FirstRecord.{HasOnlyFirst-both}
 use Rattle.at_trials.proofs.fold_trials.begins.Goals as goal
 
 pub returns-then-published-eq1-clause-one : goal.returns-then-published-eq1-clause-one
-returns-then-published-eq1-clause-one g c = λ yes.
+returns-then-published-eq1-clause-one c = λ yes.
     let looked : Knowledge = c.look-others.new.seat.knows in
     let told = c.look-others.ensures.told in
     let process = c.settle-word.ensures.process ∙ ap (λ (s : SeatTerms). s.knows.first) c.requires.seat in

@@ -24,11 +24,11 @@ all_seen : (b : BookTerms) (seen : List Publication) (upto : List ℕ) → IsBoo
 all_seen b seen upto book one is = is ∙ sym (counts-HasOnlyFirst b seen (omega (arith, book.begun.some_process)) one)
 
 pub catch_up-requires-clause-more : goal.catch_up-requires-clause-more
-catch_up-requires-clause-more g c = λ q within.
+catch_up-requires-clause-more c = λ q within.
     omega (arith, ap (λ (l : List ℕ). get_or l q 0) c.requires.new, get_or-zeros c.args.board.now.book.processes q)
 
 pub catch_up-requires-clause-seen : goal.catch_up-requires-clause-seen
-catch_up-requires-clause-seen g c =
+catch_up-requires-clause-seen c =
     let b : BookTerms = c.args.board.now.book in
     let known = c.processes.ensures ∙ ap (λ (t : BookTerms). t.processes) c.book-2.ensures in
     HasRecords-counts b c.args.seat.now.knows.seen c.set.new.self
@@ -36,7 +36,7 @@ catch_up-requires-clause-seen g c =
     (handed_in b c.zeros-counts.result c.set.new.self c.processes.result c.set.ensures c.zeros-counts.ensures known))
 
 pub returns-clause-all : goal.returns-clause-all
-returns-clause-all g c =
+returns-clause-all c =
     let b : BookTerms = c.args.board.now.book in
     let old : SeatTerms = c.args.seat.now in
     let t : TotalSums = c.catch_up.new.self in
@@ -50,7 +50,7 @@ returns-clause-all g c =
     subst (λ (s : SeatTerms). CountsAll t b s.knows.seen) (sym same) (CountsAll-counts t b old.knows.seen history counted (c.catch_up.ensures.upto ∙ upto))
 
 pub returns-clause-steps : goal.returns-clause-steps
-returns-clause-steps g c =
+returns-clause-steps c =
     let b : BookTerms = c.args.board.now.book in
     let known = c.processes.ensures ∙ ap (λ (t : BookTerms). t.processes) c.book-2.ensures in
     let upto = handed_in b c.zeros-counts.result c.set.new.self c.processes.result c.set.ensures c.zeros-counts.ensures known in

@@ -4,7 +4,7 @@ use Rattle.at_board.specs.Knowledge.Seats.{SeatTerms}
 use Rattle.at_trials.proofs.fold_trials.first_words.Goals as goal
 
 pub load_record_word-requires-clause-record : goal.load_record_word-requires-clause-record
-load_record_word-requires-clause-record g c =
+load_record_word-requires-clause-record c =
     let s : SeatTerms = c.loop-j.seat in
     let some : 0 < count_of 0 s.knows.seen = omega (arith, c.requires.one.first, ap (λ (t : SeatTerms). count_of 0 t.knows.seen) c.loop-j.invariant) in
     record { seen = some; word = omega (arith, c.requires.alone, c.loop-j-test.true) }

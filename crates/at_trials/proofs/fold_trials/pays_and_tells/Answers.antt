@@ -8,7 +8,7 @@ use Rattle.at_trials.specs.SmallFold.{HasOnlyFirst}
 use Rattle.at_trials.proofs.fold_trials.pays_and_tells.Goals as goal
 
 pub returns-clause-told : goal.returns-clause-told
-returns-clause-told g c = λ zero_found.
+returns-clause-told c = λ zero_found.
     let b : BookTerms = c.args.board.now.book in
     let paid : Knowledge = c.pay-entry.new.seat.knows in
     let looked : Knowledge = c.load_length-found.new.seat.knows in

@@ -17,13 +17,13 @@ sees_first b v before note after p is some process told =
     omega (arith, noted, IsPrefix-count_of p note.seen after.seen told.told)
 
 pub load_entry-entry-requires-clause-record : goal.load_entry-entry-requires-clause-record
-load_entry-entry-requires-clause-record g c =
+load_entry-entry-requires-clause-record c =
     sees_first c.args.board.now.book c.args.seat.now.knows c.args.other.now.knows c.note-note.result.knows c.learn.new.seat.knows
     c.process-process.result c.note-note.ensures.noted c.requires.published
     (c.process-process.ensures.process ∙ ap (λ s. s.knows.first) c.note-note.ensures.same) c.learn.ensures.learned
 
 pub load_view-view-requires-clause-record : goal.load_view-view-requires-clause-record
-load_view-view-requires-clause-record g c =
+load_view-view-requires-clause-record c =
     let there = sees_first c.args.board.now.book c.args.seat.now.knows c.args.other.now.knows c.note-note.result.knows c.learn.new.seat.knows
     c.process-process.result c.note-note.ensures.noted c.requires.published
     (c.process-process.ensures.process ∙ ap (λ s. s.knows.first) c.note-note.ensures.same) c.learn.ensures.learned in

@@ -5,12 +5,12 @@ use Rattle.at_trials.specs.declared.overtaking_trials.Waiter.{Waiter}
 use Rattle.at_trials.proofs.overtaking_trials.others_find.Goals as goal
 
 pub finds_settled-requires : goal.finds_settled-requires
-finds_settled-requires g c =
+finds_settled-requires c =
     (All-pop (λ (t : Waiter). IsWaiting c.args.board.now t.seat t.totals t.helping) c.loop-i.waiters.items c.pop.new.self.items (Some c.in-Some.waiter)
     c.in-Some.ensures.items c.loop-i.invariant.waiting).1
 
 pub loop-i-preserved : goal.loop-i-preserved
-loop-i-preserved g c = record {
+loop-i-preserved c = record {
   waiting =
       (All-pop (λ (t : Waiter). IsWaiting c.args.board.now t.seat t.totals t.helping) c.loop-i.waiters.items c.pop.new.self.items (Some c.in-Some.waiter)
       c.in-Some.ensures.items c.loop-i.invariant.waiting).0;

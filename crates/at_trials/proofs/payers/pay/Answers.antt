@@ -5,7 +5,7 @@ use Rattle.at_trials.proofs.FirstRecord.{HasOnlyRecord-first, MayAppend-first}
 use Rattle.at_trials.proofs.payers.pay.Goals as goal
 
 pub append-requires-clause-record : goal.append-requires-clause-record
-append-requires-clause-record g c =
+append-requires-clause-record c =
     let b : BookTerms = c.args.board.now.book in
     let v : Knowledge = c.args.seat.now.knows in
     let book : IsBook b = subst IsBook c.book.ensures c.known.ensures.checked in
@@ -15,14 +15,14 @@ append-requires-clause-record g c =
     (c.zeros.ensures ∙ ap (λ n. replicate n 0) (c.processes.ensures ∙ ap (λ (t : BookTerms). t.processes) c.book-2.ensures)) c.requires.pays
 
 pub returns-clause-paid : goal.returns-clause-paid
-returns-clause-paid g c =
+returns-clause-paid c =
     let v : Knowledge = c.args.seat.now.knows in
     let both = HasOnlyRecord-first c.args.board.now.book v c.append.new.seat.knows v.first _ c.requires.new
     (omega (arith, c.known-2.ensures.seat.one_part)) c.append.ensures.published in
     both.1
 
 pub returns-clause-process : goal.returns-clause-process
-returns-clause-process g c =
+returns-clause-process c =
     let v : Knowledge = c.args.seat.now.knows in
     let both = HasOnlyRecord-first c.args.board.now.book v c.append.new.seat.knows v.first _ c.requires.new
     (omega (arith, c.known-2.ensures.seat.one_part)) c.append.ensures.published in

@@ -64,7 +64,7 @@ has_paid b v w view new part told =
     }
 
 pub append-requires-clause-record : goal.append-requires-clause-record
-append-requires-clause-record g c =
+append-requires-clause-record c =
     let b : BookTerms = c.args.board.now.book in
     let v : Knowledge = c.args.seat.now.knows in
     let ours : v.book ≡ b = ap (λ (t : Knowledge). t.book) c.requires.new in
@@ -73,7 +73,7 @@ append-requires-clause-record g c =
     (c.zeros.ensures ∙ ap (λ n. replicate n 0) (c.processes.ensures ∙ ap (λ (t : BookTerms). t.processes) c.book-2.ensures)) c.requires.pays)
 
 pub returns-clause-paid : goal.returns-clause-paid
-returns-clause-paid g c =
+returns-clause-paid c =
     let b : BookTerms = c.args.board.now.book in
     let v : Knowledge = c.args.seat.now.knows in
     let w : Knowledge = c.append.new.seat.knows in

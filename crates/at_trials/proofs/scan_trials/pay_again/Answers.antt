@@ -57,7 +57,7 @@ may_append b v w view part paid pays one known told snapshot is =
     }
 
 pub append-requires-clause-record : goal.append-requires-clause-record
-append-requires-clause-record g c =
+append-requires-clause-record c =
     let b : BookTerms = c.args.board.now.book in
     let v : Knowledge = c.args.seat.now.knows in
     let known : 1 < b.processes =

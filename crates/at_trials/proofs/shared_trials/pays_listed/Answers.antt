@@ -4,6 +4,6 @@ use Rattle.at_trials.proofs.OneTarget.{AreTargetsOn-one}
 use Rattle.at_trials.proofs.shared_trials.pays_listed.Goals as goal
 
 pub pay_shared-receipt-requires-clause-targets : goal.pay_shared-receipt-requires-clause-targets
-pay_shared-receipt-requires-clause-targets g c =
+pay_shared-receipt-requires-clause-targets c =
     subst (AreTargetsOn (length c.args.board.now.book.accounts)) (sym c.one-targets.ensures)
     (AreTargetsOn-one (length c.args.board.now.book.accounts) 1 c.args.amount (search rules))

@@ -4,7 +4,7 @@ use Rattle.at_snapshot.proofs.Laws.Loads.{own_part-HasLoaded}
 use Rattle.at_trials.proofs.shared_trials.reads.Goals as goal
 
 pub returns-clause-ready : goal.returns-clause-ready
-returns-clause-ready g c =
+returns-clause-ready c =
     record {
       of_board = c.read_account-receipt.ensures.board;
       counted = c.read_account-receipt.ensures.counted;

@@ -4,10 +4,10 @@ use Rattle.at_board.specs.Knowledge.Seats.{SeatTerms}
 use Rattle.at_trials.proofs.single_trials.pays_and_reads.Goals as goal
 
 pub transfer_own-paid-requires-clause-totals : goal.transfer_own-paid-requires-clause-totals
-transfer_own-paid-requires-clause-totals g c = c.requires.totals.counted c.args.seat.now.knows.seen
+transfer_own-paid-requires-clause-totals c = c.requires.totals.counted c.args.seat.now.knows.seen
 
 pub transfer_own-paid-requires-clause-room : goal.transfer_own-paid-requires-clause-room
-transfer_own-paid-requires-clause-room g c =
+transfer_own-paid-requires-clause-room c =
     omega (
       arith,
       ap (λ (s : SeatTerms). owns_of s.knows.first s.knows.seen) c.requires.pair.zero,
@@ -15,4 +15,4 @@ transfer_own-paid-requires-clause-room g c =
     )
 
 pub read_account-there-requires-clause-totals : goal.read_account-there-requires-clause-totals
-read_account-there-requires-clause-totals g c = c.requires.others.counted c.learn.new.seat.knows.seen
+read_account-there-requires-clause-totals c = c.requires.others.counted c.learn.new.seat.knows.seen

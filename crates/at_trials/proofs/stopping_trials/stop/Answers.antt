@@ -3,7 +3,7 @@ use Rattle.at_trials.specs.SmallCrowd.{IsCaller}
 use Rattle.at_trials.proofs.stopping_trials.stop.Goals as goal
 
 pub ask_and_stop-requires : goal.ask_and_stop-requires
-ask_and_stop-requires g c =
+ask_and_stop-requires c =
     let board : BoardTerms = c.args.board.now in
     let seat : SeatTerms = c.args.seat.now in
     let caller : IsCaller board seat c.in_ok-totals.totals = record {

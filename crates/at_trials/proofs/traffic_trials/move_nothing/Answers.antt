@@ -51,7 +51,7 @@ may_append b v w from view source known one owner room told snapshot =
     }
 
 pub append-requires-clause-record : goal.append-requires-clause-record
-append-requires-clause-record g c =
+append-requires-clause-record c =
     let b : BookTerms = c.args.board.now.book in
     let v : Knowledge = c.args.seat.now.knows in
     let w : Knowledge = c.snapshot.new.seat.knows in

@@ -15,5 +15,5 @@ HasSeen-IsFront b seat counts front = λ p within.
     omega (arith, get_or-IsFront n counts xs p front (omega (arith, within, length-IsFront n counts xs front)), count_of-take-le p (place counts) xs)
 
 pub counts_last_views-requires-clause-seen : goal.counts_last_views-requires-clause-seen
-counts_last_views-requires-clause-seen g c =
+counts_last_views-requires-clause-seen c =
     HasSeen-IsFront c.args.board.now.book c.snapshot-counts.new.seat c.snapshot-counts.result c.snapshot-counts.ensures.snapshot.front

@@ -12,18 +12,18 @@ use Rattle.at_agree.proofs.VoiceCalls.{in_book}
 use Rattle.at_agree.proofs.council.Council.propose.Goals as goal
 
 pub find-left-requires-clause-account : goal.find-left-requires-clause-account
-find-left-requires-clause-account g c =
+find-left-requires-clause-account c =
     let size_is : c.size-size.result ≡ size_of c.self.inside.ledger = c.size-size.ensures.size ∙ ap size_of (sym c.self.view_is) in
     in_book c.self.inside.ledger c.size-size.result (2 * c.size-size.result) c.self.invariant size_is (omega arith)
 
 pub find-requires-clause-account : goal.find-requires-clause-account
-find-requires-clause-account g c =
+find-requires-clause-account c =
     let size_is : c.size-size.result ≡ size_of c.self.inside.ledger = c.size-size.ensures.size ∙ ap size_of (sym c.self.view_is) in
     in_book c.self.inside.ledger c.size-size.result c.named_account-account.result c.self.invariant size_is
     (omega (arith, c.named_account-account.ensures.within))
 
 pub returns-clause-proposed : goal.returns-clause-proposed
-returns-clause-proposed g c =
+returns-clause-proposed c =
     let v1 : VoiceTerms = c.pay_value.new.self in
     let v2 : VoiceTerms = c.ask_for_share.new.self in
     let v3 : VoiceTerms = c.find-left.new.self in
@@ -36,7 +36,7 @@ returns-clause-proposed g c =
     (HasProposed-IsPrefix c.size-size.result p c.args.value (seen_by v1) (seen_by v4) begins c.pay_value.ensures.proposed)
 
 pub returns-clause-asked : goal.returns-clause-asked
-returns-clause-asked g c =
+returns-clause-asked c =
     let v2 : VoiceTerms = c.ask_for_share.new.self in
     let v3 : VoiceTerms = c.find-left.new.self in
     let v4 : VoiceTerms = c.find.new.self in
@@ -48,7 +48,7 @@ returns-clause-asked g c =
     (HasShareDecided-IsPrefix c.size-size.result (process_of c.args.voice.now) (seen_by v2) (seen_by v4) later asked)
 
 pub returns-clause-voted : goal.returns-clause-voted
-returns-clause-voted g c =
+returns-clause-voted c =
     let council : BoardTerms = c.self.inside.ledger in
     let v0 : VoiceTerms = c.args.voice.now in
     let v1 : VoiceTerms = c.pay_value.new.self in
@@ -69,7 +69,7 @@ returns-clause-voted g c =
     c.find-left.ensures.read last)
 
 pub returns-clause-agreed : goal.returns-clause-agreed
-returns-clause-agreed g c =
+returns-clause-agreed c =
     let council : BoardTerms = c.args.self.now in
     let v4 : VoiceTerms = c.find.new.self in
     let p = process_of c.args.voice.now in
@@ -79,4 +79,4 @@ returns-clause-agreed g c =
     let history : IsHistory council.book (seen_by v4) = subst (λ (t : BoardTerms). IsHistory t.book (seen_by v4)) c.self.view_is c.find.ensures.history in
     λ planned.
     HasProposed-answered council v4 (size_of council) p c.args.value c.find.result c.size-size.ensures.council refl known c.requires.value
-    of_council process_is c.find.ensures.stands (returns-clause-voted g c) history planned
+    of_council process_is c.find.ensures.stands (returns-clause-voted c) history planned

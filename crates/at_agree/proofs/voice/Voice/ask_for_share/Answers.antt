@@ -11,15 +11,15 @@ use Rattle.at_agree.proofs.VoiceCalls.{HasShareDecided-asked, IsVoice-made, in_b
 use Rattle.at_agree.proofs.voice.Voice.ask_for_share.Goals as goal
 
 pub transfer-asked-requires-clause-from : goal.transfer-asked-requires-clause-from
-transfer-asked-requires-clause-from g c =
+transfer-asked-requires-clause-from c =
     in_book c.args.ledger.now c.args.size (2 * c.args.size) c.requires.council c.requires.size (omega arith)
 
 pub transfer-asked-requires-clause-to : goal.transfer-asked-requires-clause-to
-transfer-asked-requires-clause-to g c =
+transfer-asked-requires-clause-to c =
     in_book c.args.ledger.now c.args.size (2 * c.args.size + 1) c.requires.council c.requires.size (omega arith)
 
 pub invariant_of-self : goal.invariant_of-self
-invariant_of-self g c =
+invariant_of-self c =
     let was : IsPassOf c.self.inside.pass c.args.ledger.now = search rules in
     let more : length c.self.inside.receipts.items < 4 = search rules in
     IsVoice-made c.args.ledger.now c.self.inside.pass c.transfer-asked.new.pass c.self.inside.receipts.items
@@ -28,7 +28,7 @@ invariant_of-self g c =
     c.transfer-asked.ensures.calls c.transfer-asked.ensures.process c.push_reserved.ensures.items c.push_reserved.ensures.capacity
 
 pub returns-clause-asked : goal.returns-clause-asked
-returns-clause-asked g c =
+returns-clause-asked c =
     let council = c.args.ledger.now in
     let before : PassTerms = c.self.inside.pass in
     let after : PassTerms = c.transfer-asked.new.pass in
@@ -45,7 +45,7 @@ returns-clause-asked g c =
     subst (HasShareDecided c.args.size after.knows.seen) (c.process.ensures ∙ ap (λ (v : VoiceTerms). process_of v) c.self.view_is) asked
 
 pub returns-clause-steps : goal.returns-clause-steps
-returns-clause-steps g c =
+returns-clause-steps c =
     let new = ap (λ (v : VoiceTerms). counted_anew v.pass c.transfer-asked.new.pass) c.self.view_is in
     omega (
       arith,
@@ -55,7 +55,7 @@ returns-clause-steps g c =
     )
 
 pub returns-clause-exchanges : goal.returns-clause-exchanges
-returns-clause-exchanges g c =
+returns-clause-exchanges c =
     omega (
       arith,
       c.transfer-asked.ensures.exchanges,

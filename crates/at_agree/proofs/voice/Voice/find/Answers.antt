@@ -4,7 +4,7 @@ use Rattle.at_agree.specs.Voices.{HasMadeOneMore, HasRead, VoiceTerms}
 use Rattle.at_agree.proofs.voice.Voice.find.Goals as goal
 
 pub returns-clause-read : goal.returns-clause-read
-returns-clause-read g c =
+returns-clause-read c =
     let council = c.args.ledger.now in
     let before : VoiceTerms = record { pass = c.self.inside.pass; receipts = c.self.inside.receipts.items } in
     let after : VoiceTerms = record { pass = c.read-found.new.pass; receipts = c.push_reserved.new.self.items } in

@@ -8,7 +8,7 @@ use Rattle.at_agree.proofs.VoiceCalls.{HasProposed-paid, IsVoice-made, in_book, 
 use Rattle.at_agree.proofs.voice.Voice.pay_value.Goals as goal
 
 pub transfer-paid-requires-clause-to : goal.transfer-paid-requires-clause-to
-transfer-paid-requires-clause-to g c =
+transfer-paid-requires-clause-to c =
     let voice : VoiceTerms = record { pass = c.self.inside.pass; receipts = c.self.inside.receipts.items } in
     let was : IsPassOf c.self.inside.pass c.args.ledger.now = search rules in
     let known = known_in c.args.ledger.now voice (vec_capacity c.self.inside.receipts) c.args.size c.process-process.result
@@ -16,7 +16,7 @@ transfer-paid-requires-clause-to g c =
     in_book c.args.ledger.now c.args.size (c.args.size + c.process-process.result) c.requires.council c.requires.size (omega (arith, known))
 
 pub invariant_of-self : goal.invariant_of-self
-invariant_of-self g c =
+invariant_of-self c =
     let was : IsPassOf c.self.inside.pass c.args.ledger.now = search rules in
     let none : c.self.inside.receipts.items ≡ [] = search rules in
     let more : length c.self.inside.receipts.items < 4 = omega (arith, ap (λ (rs : List Receipt). length rs) none) in
@@ -26,7 +26,7 @@ invariant_of-self g c =
     c.transfer-paid.ensures.calls c.transfer-paid.ensures.process c.push_reserved.ensures.items c.push_reserved.ensures.capacity
 
 pub returns-clause-proposed : goal.returns-clause-proposed
-returns-clause-proposed g c =
+returns-clause-proposed c =
     let council = c.args.ledger.now in
     let before : PassTerms = c.self.inside.pass in
     let after : PassTerms = c.transfer-paid.new.pass in
@@ -45,7 +45,7 @@ returns-clause-proposed g c =
     (c.process-process.ensures ∙ ap (λ (v : VoiceTerms). process_of v) c.self.view_is) proposed
 
 pub returns-clause-steps : goal.returns-clause-steps
-returns-clause-steps g c =
+returns-clause-steps c =
     let voice : VoiceTerms = record { pass = c.self.inside.pass; receipts = c.self.inside.receipts.items } in
     let was : IsPassOf c.self.inside.pass c.args.ledger.now = search rules in
     let known = known_in c.args.ledger.now voice (vec_capacity c.self.inside.receipts) c.args.size c.process-process.result
@@ -59,7 +59,7 @@ returns-clause-steps g c =
     )
 
 pub returns-clause-exchanges : goal.returns-clause-exchanges
-returns-clause-exchanges g c =
+returns-clause-exchanges c =
     let voice : VoiceTerms = record { pass = c.self.inside.pass; receipts = c.self.inside.receipts.items } in
     let was : IsPassOf c.self.inside.pass c.args.ledger.now = search rules in
     let known = known_in c.args.ledger.now voice (vec_capacity c.self.inside.receipts) c.args.size c.process-process.result

@@ -16,31 +16,31 @@ use Rattle.at_board.proofs.board.Board.decide.Goals.{After-compare_exchange-foun
 use Rattle.at_board.proofs.board.Board.decide.Goals as goal
 
 -- the seat is the one that callers see
-mine : (g : given.Over) (c : After-known g) → c.seat.inside.seat.me.0 ≡ c.args.seat.now.knows
-mine g c = ap (λ s. s.knows) c.seat.view_is
+mine : (c : After-known) → c.seat.inside.seat.me.0 ≡ c.args.seat.now.knows
+mine c = ap (λ s. s.knows) c.seat.view_is
 
-book : (g : given.Over) (c : After-known g) → c.seat.inside.seat.me.0.book ≡ c.args.self.now.book
-book g c = ap (λ (t : Knowledge). t.book) (mine g c) ∙ c.requires.board.book
+book : (c : After-known) → c.seat.inside.seat.me.0.book ≡ c.args.self.now.book
+book c = ap (λ (t : Knowledge). t.book) (mine c) ∙ c.requires.board.book
 
 pub cell_index-index-requires : goal.cell_index-index-requires
-cell_index-index-requires g c =
+cell_index-index-requires c =
     IsAddress-MayPropose c.args.self.now.book c.args.seat.now.knows c.args.account c.args.round c.requires.proposal.0 c.requires.proposal.1
     c.requires.board.book c.known.ensures.seat.history c.known.ensures.seat.in_range c.requires.proposal.2
 
 -- the step decides the round, or finds what decided it
-told : (g : given.Over) (c : After-compare_exchange-found g) (d : Decision) (r : Request)
+told : (c : After-compare_exchange-found) (d : Decision) (r : Request)
     → MayPropose c.args.self.now.book c.args.seat.now.knows c.args.account c.args.round d r → c.args.proposal ≡ word_of d
     → Decides c.args.self.now.book c.args.seat.now.knows c.compare_exchange-found.new.seat.me.0 c.args.account c.args.round d
     (word_after c.compare_exchange-found.result c.args.proposal)
-told g c d r may word =
-    let before : After-known g = (goal.at.After-compare_exchange-found g c).After-known in
+told c d r may word =
+    let before : After-known = (goal.at.After-compare_exchange-found c).After-known in
     Decides-played c.args.self.now.book c.self.inside.table.shared.table_id.slots c.seat.inside.seat.me c.compare_exchange-found.new.seat.me c.args.seat.now.knows
-    c.args.account c.args.round d r c.cell_index-index.result c.args.proposal c.compare_exchange-found.result (book g before) (mine g before)
+    c.args.account c.args.round d r c.cell_index-index.result c.args.proposal c.compare_exchange-found.result (book before) (mine before)
     c.cell_index-index.ensures.index word may c.compare_exchange-found.ensures.2
 
 pub compare_exchange-found-requires : goal.compare_exchange-found-requires
-compare_exchange-found-requires g c =
-    let before : After-known g = (goal.at.compare_exchange-found-requires g c).After-known in
+compare_exchange-found-requires c =
+    let before : After-known = (goal.at.compare_exchange-found-requires c).After-known in
     let b : BookTerms = c.args.self.now.book in
     let v : Knowledge = c.seat.inside.seat.me.0 in
     let ours : c.self.inside.book ≡ b = ap (λ t. t.book) c.self.view_is in
@@ -51,26 +51,26 @@ compare_exchange-found-requires g c =
         c.self.invariant.1,
         ap word_count ours,
         c.cell_index-index.ensures.index,
-        index_of-below b (cell_of c.args.account c.args.round) (cell_index-index-requires g before),
+        index_of-below b (cell_of c.args.account c.args.round) (cell_index-index-requires before),
       ),
       decides_at c.self.inside.table.shared.key.value b c.self.inside.table.shared.table_id.slots c.seat.inside.seat.id c.seat.inside.seat.me c.args.seat.now.knows
-          c.args.account c.args.round c.requires.proposal.0 c.requires.proposal.1 c.cell_index-index.result c.args.proposal (c.self.invariant.0 ∙ ours) (mine g before)
+          c.args.account c.args.round c.requires.proposal.0 c.requires.proposal.1 c.cell_index-index.result c.args.proposal (c.self.invariant.0 ∙ ours) (mine before)
           c.cell_index-index.ensures.index c.requires.proposal.3 (subst IsBegun ours c.self.invariant.2.begun)
-          (IsSeatOf-IsSeat b v c.seat.inside.process c.seat.inside.published (book g before) kept) c.seat.invariant.0 kept.history
+          (IsSeatOf-IsSeat b v c.seat.inside.process c.seat.inside.published (book before) kept) c.seat.invariant.0 kept.history
           kept.in_range c.requires.proposal.2,
     )
 
 pub invariant_of-seat : goal.invariant_of-seat
-invariant_of-seat g c =
-    let after : After-compare_exchange-found g = (goal.at.invariant_of-seat g c).After-compare_exchange-found in
-    let before : After-known g = (goal.at.After-compare_exchange-found g after).After-known in
+invariant_of-seat c =
+    let after : After-compare_exchange-found = (goal.at.invariant_of-seat c).After-compare_exchange-found in
+    let before : After-known = (goal.at.After-compare_exchange-found after).After-known in
     let b : BookTerms = c.args.self.now.book in
     let v : Knowledge = c.seat.inside.seat.me.0 in
     let w : Knowledge = c.compare_exchange-found.new.seat.me.0 in
     let d : Decision = c.requires.proposal.0 in
     let n = word_after c.compare_exchange-found.result c.args.proposal in
-    let decided : Decides b v w c.args.account c.args.round d n = subst (λ (t : Knowledge). Decides b t w c.args.account c.args.round d n) (sym (mine g before))
-    (told g after d c.requires.proposal.1 c.requires.proposal.2 c.requires.proposal.3) in (
+    let decided : Decides b v w c.args.account c.args.round d n = subst (λ (t : Knowledge). Decides b t w c.args.account c.args.round d n) (sym (mine before))
+    (told after d c.requires.proposal.1 c.requires.proposal.2 c.requires.proposal.3) in (
       c.compare_exchange-found.ensures.2.0 ∙ c.seat.invariant.0,
       IsSeat-step v _ w _ c.seat.inside.process c.seat.inside.published c.seat.inside.published c.seat.invariant.1 refl refl decided.same
           c.seat.invariant.1.published_is c.compare_exchange-found.ensures.2.1,
@@ -78,9 +78,9 @@ invariant_of-seat g c =
     )
 
 pub returns-clause-decided : goal.returns-clause-decided
-returns-clause-decided g c = λ d r may word.
+returns-clause-decided c = λ d r may word.
     subst (λ n. Decides c.args.self.now.book c.args.seat.now.knows c.compare_exchange-found.new.seat.me.0 c.args.account c.args.round d n) (sym c.decided_word.ensures)
-    (told g (goal.at.returns-clause-decided g c).After-compare_exchange-found d r may word)
+    (told (goal.at.returns-clause-decided c).After-compare_exchange-found d r may word)
 
 pub returns-clause-seat : goal.returns-clause-seat
-returns-clause-seat g c = c.compare_exchange-found.ensures.2.1
+returns-clause-seat c = c.compare_exchange-found.ensures.2.1

@@ -9,19 +9,18 @@ use Rattle.at_board.specs.Rule.{Ruled}
 use Rattle.at_board.specs.Knowledge.Seats.{HasCounts}
 use Rattle.at_board.specs.Knowledge.Seats.{IsSeat}
 use Rattle.at_board.proofs.KnowledgeLaws.Kept.{IsKept-IsSeat}
-use Rattle.at_board.proofs.board.Board.learn.Given as given
 use Rattle.at_board.proofs.board.Board.learn.Goals.{After-join_seat}
 use Rattle.at_board.proofs.board.Board.learn.Goals as goal
 
 pub meet-requires : goal.meet-requires
-meet-requires g c =
+meet-requires c =
     let ours = sym (ap (λ t. t.id) c.self.view_is) in record {
       one = ap (λ s. s.board) c.seat.view_is ∙ (c.requires.board.id ∙ ours);
       other = ap (λ s. s.board) c.note.view_is ∙ (c.requires.note.id ∙ ours);
     }
 
 pub join_seat-requires : goal.join_seat-requires
-join_seat-requires g c =
+join_seat-requires c =
     let ours = sym (ap (λ t. t.id) c.self.view_is) in
     let one = c.meet.ensures.one in
     let other = c.meet.ensures.other in (
@@ -35,11 +34,11 @@ join_seat-requires g c =
     )
 
 -- what the seat has then learned, and what its type keeps
-learned_is : (g : given.Over) (c : After-join_seat g) → learned c.seat.inside.seat.me.0 c.note.inside.seat.me.0 ≡ c.join_seat.new.seat.me.0
-learned_is g c = sym (ap (λ m. m.0) c.join_seat.ensures.2 ∙ (λ t. learned (c.meet.ensures.one t).me.0 (c.meet.ensures.other t).me.0))
+learned_is : (c : After-join_seat) → learned c.seat.inside.seat.me.0 c.note.inside.seat.me.0 ≡ c.join_seat.new.seat.me.0
+learned_is c = sym (ap (λ m. m.0) c.join_seat.ensures.2 ∙ (λ t. learned (c.meet.ensures.one t).me.0 (c.meet.ensures.other t).me.0))
 
-seat : (g : given.Over) (c : After-join_seat g) → IsSeat c.join_seat.new.seat.me.0 c.seat.inside.process c.seat.inside.published
-seat g c =
+seat : (c : After-join_seat) → IsSeat c.join_seat.new.seat.me.0 c.seat.inside.process c.seat.inside.published
+seat c =
     let b : BookTerms = c.args.self.now.book in
     let v : Knowledge = c.seat.inside.seat.me.0 in
     let w : Knowledge = c.note.inside.seat.me.0 in
@@ -48,26 +47,26 @@ seat g c =
     let ours : c.self.inside.table.shared.key.value ≡ b = c.self.invariant.0 ∙ ap (λ t. t.book) c.self.view_is in
     let met : AreSeen (λ s. Ruled b s.words s.views) c.seat.inside.seat.id v c.note.inside.seat.id w =
     subst (λ (t : BookTerms). AreSeen (λ s. Ruled t s.words s.views) c.seat.inside.seat.id v c.note.inside.seat.id w) ours c.meet.ensures.seen in
-    subst (λ t. IsSeat t c.seat.inside.process c.seat.inside.published) (learned_is g c)
+    subst (λ t. IsSeat t c.seat.inside.process c.seat.inside.published) (learned_is c)
     (IsSeat-learned b c.seat.inside.seat.id c.note.inside.seat.id v w c.seat.inside.process c.seat.inside.published book note_book c.seat.invariant.1 c.note.invariant.1 met)
 
 pub invariant_of-seat : goal.invariant_of-seat
-invariant_of-seat g c =
-    let after : After-join_seat g = (goal.at.invariant_of-seat g c).After-join_seat in
+invariant_of-seat c =
+    let after : After-join_seat = (goal.at.invariant_of-seat c).After-join_seat in
     let v : Knowledge = c.seat.inside.seat.me.0 in
     let w : Knowledge = c.note.inside.seat.me.0 in (
       ap (λ m. m.1) c.join_seat.ensures.2 ∙ (ap (λ s. s.me.1) c.meet.ensures.one ∙ c.seat.invariant.0),
-      seat g after,
-      subst (λ t. HasCounts t c.seat.inside.announced.items) (learned_is g after) (HasCounts-learned v w c.seat.inside.announced.items c.seat.invariant.2),
+      seat after,
+      subst (λ t. HasCounts t c.seat.inside.announced.items) (learned_is after) (HasCounts-learned v w c.seat.inside.announced.items c.seat.invariant.2),
     )
 
 pub returns-clause-seat : goal.returns-clause-seat
-returns-clause-seat g c =
-    let after : After-join_seat g = (goal.at.returns-clause-seat g c).After-join_seat in
-    IsKept-IsSeat c.join_seat.new.seat.me.0 c.seat.inside.process c.seat.inside.published (seat g after)
+returns-clause-seat c =
+    let after : After-join_seat = (goal.at.returns-clause-seat c).After-join_seat in
+    IsKept-IsSeat c.join_seat.new.seat.me.0 c.seat.inside.process c.seat.inside.published (seat after)
 
 pub returns-clause-learned : goal.returns-clause-learned
-returns-clause-learned g c =
+returns-clause-learned c =
     let b : BookTerms = c.args.self.now.book in
     let v : Knowledge = c.seat.inside.seat.me.0 in
     let w : Knowledge = c.note.inside.seat.me.0 in

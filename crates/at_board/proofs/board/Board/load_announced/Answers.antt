@@ -9,7 +9,7 @@ use Rattle.at_board.specs.Steps.LoadAnnounced.{LoadsAnnounced}
 use Rattle.at_board.proofs.board.Board.load_announced.Goals as goal
 
 pub load-count-requires : goal.load-count-requires
-load-count-requires g c =
+load-count-requires c =
     let b : BookTerms = c.args.self.now.book in
     let v : Knowledge = c.seat.inside.seat.me.0 in
     let x = announced_of c.args.account c.args.slot in
@@ -24,7 +24,7 @@ load-count-requires g c =
     )
 
 pub invariant_of-seat : goal.invariant_of-seat
-invariant_of-seat g c =
+invariant_of-seat c =
     let b : BookTerms = c.args.self.now.book in
     let v : Knowledge = c.seat.inside.seat.me.0 in
     let w : Knowledge = c.load-count.new.seat.me.0 in
@@ -41,4 +41,4 @@ invariant_of-seat g c =
     )
 
 pub returns-clause-seat : goal.returns-clause-seat
-returns-clause-seat g c = c.load-count.ensures.2.1
+returns-clause-seat c = c.load-count.ensures.2.1

@@ -13,36 +13,36 @@ use Rattle.at_board.proofs.board.Board.load_request_word.Goals.{After-load, Afte
 use Rattle.at_board.proofs.board.Board.load_request_word.Goals as goal
 
 -- the seat is the one that callers see
-mine : (g : given.Over) (c : After-known g) → c.seat.inside.seat.me.0 ≡ c.args.seat.now.knows
-mine g c = ap (λ s. s.knows) c.seat.view_is
+mine : (c : After-known) → c.seat.inside.seat.me.0 ≡ c.args.seat.now.knows
+mine c = ap (λ s. s.knows) c.seat.view_is
 
-book : (g : given.Over) (c : After-known g) → c.seat.inside.seat.me.0.book ≡ c.args.self.now.book
-book g c = ap (λ (t : Knowledge). t.book) (mine g c) ∙ c.requires.board.book
+book : (c : After-known) → c.seat.inside.seat.me.0.book ≡ c.args.self.now.book
+book c = ap (λ (t : Knowledge). t.book) (mine c) ∙ c.requires.board.book
 
-may : (g : given.Over) (c : After-known g) → MayLoadRequest c.seat.inside.seat.me.0 c.args.account c.args.slot c.args.number c.args.j
-may g c = subst (λ (t : Knowledge). MayLoadRequest t c.args.account c.args.slot c.args.number c.args.j) (sym (mine g c)) c.requires.request
+may : (c : After-known) → MayLoadRequest c.seat.inside.seat.me.0 c.args.account c.args.slot c.args.number c.args.j
+may c = subst (λ (t : Knowledge). MayLoadRequest t c.args.account c.args.slot c.args.number c.args.j) (sym (mine c)) c.requires.request
 
 pub request_index-index-requires : goal.request_index-index-requires
-request_index-index-requires g c =
+request_index-index-requires c =
     subst (λ (t : BookTerms). IsAddress t (request_word c.args.account c.args.slot c.args.number c.args.j)) c.requires.board.book
     (place-MayLoadRequest c.args.seat.now.knows c.args.account c.args.slot c.args.number c.args.j c.known.ensures.seat.in_range c.requires.request)
 
 -- the step loads the word
-told : (g : given.Over) (c : After-load g) → LoadsRequestWord c.args.self.now.book c.seat.inside.seat.me.0 c.load.new.seat.me.0 c.args.account c.args.slot
+told : (c : After-load) → LoadsRequestWord c.args.self.now.book c.seat.inside.seat.me.0 c.load.new.seat.me.0 c.args.account c.args.slot
     c.args.number c.args.j c.load.result
-told g c =
-    let before : After-known g = (goal.at.After-load g c).After-known in
+told c =
+    let before : After-known = (goal.at.After-load c).After-known in
     LoadsRequestWord-played c.args.self.now.book c.self.inside.table.shared.table_id.slots c.seat.inside.seat.me c.load.new.seat.me c.args.account c.args.slot
-    c.args.number c.args.j c.load.result c.request_index-index.result (book g before) c.request_index-index.ensures.index (request_index-index-requires g before)
-    (may g before) c.load.ensures.2
+    c.args.number c.args.j c.load.result c.request_index-index.result (book before) c.request_index-index.ensures.index (request_index-index-requires before)
+    (may before) c.load.ensures.2
 
 pub load-requires : goal.load-requires
-load-requires g c =
-    let before : After-known g = (goal.at.load-requires g c).After-known in
+load-requires c =
+    let before : After-known = (goal.at.load-requires c).After-known in
     let b : BookTerms = c.args.self.now.book in
     let v : Knowledge = c.seat.inside.seat.me.0 in
     let ours : c.self.inside.book ≡ b = ap (λ t. t.book) c.self.view_is in
-    let is : IsAddress b (request_word c.args.account c.args.slot c.args.number c.args.j) = request_index-index-requires g before in (
+    let is : IsAddress b (request_word c.args.account c.args.slot c.args.number c.args.j) = request_index-index-requires before in (
       ap (λ s. s.board) c.seat.view_is ∙ (c.requires.board.id ∙ sym (ap (λ t. t.id) c.self.view_is)),
       omega (
         arith,
@@ -53,28 +53,28 @@ load-requires g c =
       ),
       loads_request_word_at c.self.inside.table.shared.key.value b c.self.inside.table.shared.table_id.slots c.seat.inside.seat.id c.seat.inside.seat.me
           c.args.account c.args.slot c.args.number c.args.j c.request_index-index.result (c.self.invariant.0 ∙ ours) c.request_index-index.ensures.index
-          (subst IsBegun ours c.self.invariant.2.begun) (IsSeatOf-IsSeat b v c.seat.inside.process c.seat.inside.published (book g before) c.seat.invariant.1) is (may g before),
+          (subst IsBegun ours c.self.invariant.2.begun) (IsSeatOf-IsSeat b v c.seat.inside.process c.seat.inside.published (book before) c.seat.invariant.1) is (may before),
     )
 
 pub invariant_of-seat : goal.invariant_of-seat
-invariant_of-seat g c =
-    let before : After-known g = (goal.at.After-load g c).After-known in
+invariant_of-seat c =
+    let before : After-known = (goal.at.After-load c).After-known in
     let b : BookTerms = c.args.self.now.book in
     let v : Knowledge = c.seat.inside.seat.me.0 in
     let w : Knowledge = c.load.new.seat.me.0 in (
       c.load.ensures.2.0 ∙ c.seat.invariant.0,
-      IsSeat-step v _ w _ c.seat.inside.process c.seat.inside.published c.seat.inside.published c.seat.invariant.1 refl refl (told g c).same
+      IsSeat-step v _ w _ c.seat.inside.process c.seat.inside.published c.seat.inside.published c.seat.invariant.1 refl refl (told c).same
           c.seat.invariant.1.published_is c.load.ensures.2.1,
       HasCounts-request b v w c.args.account c.args.slot c.args.number c.args.j c.load.result c.seat.inside.announced.items (omega (arith, c.seat.invariant.1.one_part))
-          c.seat.invariant.1.accounts (told g c) c.seat.invariant.2,
+          c.seat.invariant.1.accounts (told c) c.seat.invariant.2,
     )
 
 pub returns-clause-told : goal.returns-clause-told
-returns-clause-told g c =
-    let after : After-load g = (goal.at.returns-clause-told g c).After-load in
-    let before : After-known g = (goal.at.After-load g after).After-known in
+returns-clause-told c =
+    let after : After-load = (goal.at.returns-clause-told c).After-load in
+    let before : After-known = (goal.at.After-load after).After-known in
     subst (λ (t : Knowledge). LoadsRequestWord c.args.self.now.book t c.load.new.seat.me.0 c.args.account c.args.slot c.args.number c.args.j c.load.result)
-    (mine g before) (told g after)
+    (mine before) (told after)
 
 pub returns-clause-seat : goal.returns-clause-seat
-returns-clause-seat g c = c.load.ensures.2.1
+returns-clause-seat c = c.load.ensures.2.1

@@ -4,14 +4,14 @@ use Rattle.at_board.specs.Steps.Note.{IsNote}
 use Rattle.at_board.proofs.board.Board.note.Goals as goal
 
 pub split_seat-requires : goal.split_seat-requires
-split_seat-requires g c = (
+split_seat-requires c = (
   ap (λ s. s.board) c.seat.view_is ∙ (c.requires.board.id ∙ sym (ap (λ t. t.id) c.self.view_is)),
   omega (arith, c.self.invariant.1, word_count-some c.self.inside.book c.self.invariant.2),
   notes c.self.inside.table.shared.key.value c.seat.inside.seat.id c.seat.inside.seat.me.0,
 )
 
 pub invariant_of-result : goal.invariant_of-result
-invariant_of-result g c = (
+invariant_of-result c = (
   ap (λ m. m.1) c.split_seat.ensures.4,
   subst IsNote (sym (ap (λ m. m.0) c.split_seat.ensures.4))
       (IsNote-noted c.seat.inside.seat.me.0 c.seat.inside.process c.seat.inside.published c.seat.invariant.1),

@@ -13,75 +13,74 @@ use Rattle.at_board.specs.Steps.Publish.{MayPublish}
 use Rattle.at_board.specs.Words.Addresses.{length_of}
 use Rattle.at_board.specs.Steps.Publish.{Publishes}
 use Rattle.at_board.specs.Knowledge.Parts.{own_part}
-use Rattle.at_board.proofs.board.Board.publish.Given as given
 use Rattle.at_board.proofs.board.Board.publish.Goals.{After-from, After-store}
 use Rattle.at_board.proofs.board.Board.publish.Goals as goal
 
 -- the seat and the board are those that callers see
-mine : (g : given.Over) (c : After-from g) → c.seat.inside.seat.me.0 ≡ c.args.seat.now.knows
-mine g c = ap (λ s. s.knows) c.seat.view_is
+mine : (c : After-from) → c.seat.inside.seat.me.0 ≡ c.args.seat.now.knows
+mine c = ap (λ s. s.knows) c.seat.view_is
 
-ours : (g : given.Over) (c : After-from g) → c.self.inside.book ≡ c.args.self.now.book
-ours g c = ap (λ t. t.book) c.self.view_is
+ours : (c : After-from) → c.self.inside.book ≡ c.args.self.now.book
+ours c = ap (λ t. t.book) c.self.view_is
 
-book : (g : given.Over) (c : After-from g) → c.seat.inside.seat.me.0.book ≡ c.self.inside.book
-book g c = ap (λ (t : Knowledge). t.book) (mine g c) ∙ (c.requires.board.book ∙ sym (ours g c))
+book : (c : After-from) → c.seat.inside.seat.me.0.book ≡ c.self.inside.book
+book c = ap (λ (t : Knowledge). t.book) (mine c) ∙ (c.requires.board.book ∙ sym (ours c))
 
-may : (g : given.Over) (c : After-from g) (x : Publication) → MayPublish c.args.self.now.book c.args.seat.now.knows x
+may : (c : After-from) (x : Publication) → MayPublish c.args.self.now.book c.args.seat.now.knows x
     → MayPublish c.self.inside.book c.seat.inside.seat.me.0 x
-may g c x = MayPublish-same c.args.self.now.book c.self.inside.book c.args.seat.now.knows c.seat.inside.seat.me.0 x (ours g c) (mine g c)
+may c x = MayPublish-same c.args.self.now.book c.self.inside.book c.args.seat.now.knows c.seat.inside.seat.me.0 x (ours c) (mine c)
 
-seat : (g : given.Over) (c : After-from g) → IsSeatOf c.self.inside.book c.seat.inside.seat.me.0
-seat g c = IsSeatOf-IsSeat c.self.inside.book c.seat.inside.seat.me.0 c.seat.inside.process c.seat.inside.published (book g c) c.seat.invariant.1
+seat : (c : After-from) → IsSeatOf c.self.inside.book c.seat.inside.seat.me.0
+seat c = IsSeatOf-IsSeat c.self.inside.book c.seat.inside.seat.me.0 c.seat.inside.process c.seat.inside.published (book c) c.seat.invariant.1
 
 -- the log has room for the record
-room : (g : given.Over) (c : After-from g) → let v : Knowledge = c.seat.inside.seat.me.0 in (own_part v).published < log_room_of c.self.inside.book v.first
-room g c =
+room : (c : After-from) → let v : Knowledge = c.seat.inside.seat.me.0 in (own_part v).published < log_room_of c.self.inside.book v.first
+room c =
     let x : Publication = c.requires.record.0 in
-    let asked = may g c x c.requires.record.1 in
-    published-MayEnter c.self.inside.book c.seat.inside.seat.me.0 x c.seat.inside.process c.seat.inside.published (book g c) c.seat.invariant.1
+    let asked = may c x c.requires.record.1 in
+    published-MayEnter c.self.inside.book c.seat.inside.seat.me.0 x c.seat.inside.process c.seat.inside.published (book c) c.seat.invariant.1
     asked.process asked.view asked.entry
 
 -- the step publishes the record
-told : (g : given.Over) (c : After-store g) (x : Publication) → MayPublish c.self.inside.book c.seat.inside.seat.me.0 x
+told : (c : After-store) (x : Publication) → MayPublish c.self.inside.book c.seat.inside.seat.me.0 x
     → Publishes c.self.inside.book c.seat.inside.seat.me.0 c.store.new.seat.me.0 x
-told g c x asked =
+told c x asked =
     Publishes-played c.self.inside.book c.self.inside.table.shared.table_id.slots c.seat.inside.process c.seat.inside.seat.me c.store.new.seat.me x
-    (c.from.result + 1) (book g (goal.at.After-store g c).After-from) asked c.store.ensures.2
+    (c.from.result + 1) (book (goal.at.After-store c).After-from) asked c.store.ensures.2
 
 pub store-requires : goal.store-requires
-store-requires g c =
-    let before : After-from g = (goal.at.store-requires g c).After-from in
+store-requires c =
+    let before : After-from = (goal.at.store-requires c).After-from in
     let b : BookTerms = c.self.inside.book in
     let v : Knowledge = c.seat.inside.seat.me.0 in
     let kept = c.seat.invariant.1 in
-    let own = seat g before in (
+    let own = seat before in (
       ap (λ s. s.board) c.seat.view_is ∙ (c.requires.board.id ∙ sym (ap (λ t. t.id) c.self.view_is)),
       omega (arith, c.self.invariant.1, kept.process_is, index_of-length_of b v.first, index_of-below b (length_of v.first) own.known),
       publishes_at c.self.inside.table.shared.key.value b c.self.inside.table.shared.table_id.slots c.seat.inside.seat.id c.seat.inside.seat.me c.requires.record.0
           c.seat.inside.process (c.from.result + 1) c.self.invariant.0 (sym kept.process_is) (omega (arith, c.from.ensures, kept.published_is))
-          c.self.invariant.2.begun own c.seat.invariant.0 (room g before) (may g before c.requires.record.0 c.requires.record.1),
+          c.self.invariant.2.begun own c.seat.invariant.0 (room before) (may before c.requires.record.0 c.requires.record.1),
     )
 
 pub overflow_add-seat : goal.overflow_add-seat
-overflow_add-seat g c =
-    let before : After-from g = (goal.at.overflow_add-seat g c).After-from in
+overflow_add-seat c =
+    let before : After-from = (goal.at.overflow_add-seat c).After-from in
     omega (
       arith,
       c.seat.invariant.1.published_is,
-      room g before,
-      log_room_of-le c.self.inside.book c.seat.inside.seat.me.0.first c.self.invariant.2.begun (seat g before).known,
+      room before,
+      log_room_of-le c.self.inside.book c.seat.inside.seat.me.0.first c.self.invariant.2.begun (seat before).known,
     )
 
 pub invariant_of-seat : goal.invariant_of-seat
-invariant_of-seat g c =
-    let after : After-store g = (goal.at.invariant_of-seat g c).After-store in
-    let before : After-from g = (goal.at.After-store g after).After-from in
+invariant_of-seat c =
+    let after : After-store = (goal.at.invariant_of-seat c).After-store in
+    let before : After-from = (goal.at.After-store after).After-from in
     let b : BookTerms = c.self.inside.book in
     let v : Knowledge = c.seat.inside.seat.me.0 in
     let w : Knowledge = c.store.new.seat.me.0 in
     let x : Publication = c.requires.record.0 in
-    let published = told g after x (may g before x c.requires.record.1) in (
+    let published = told after x (may before x c.requires.record.1) in (
       c.store.ensures.2.0 ∙ c.seat.invariant.0,
       IsSeat-step v _ w _ c.seat.inside.process c.seat.inside.published (c.seat.inside.published + 1) c.seat.invariant.1 refl refl published.same
           (ap (λ n. n + 1) c.seat.invariant.1.published_is) c.store.ensures.2.1,
@@ -89,11 +88,11 @@ invariant_of-seat g c =
     )
 
 pub returns-clause-published : goal.returns-clause-published
-returns-clause-published g c = λ x asked.
-    let after : After-store g = (goal.at.returns-clause-published g c).After-store in
-    let before : After-from g = (goal.at.After-store g after).After-from in
-    Publishes-same c.args.self.now.book c.self.inside.book c.args.seat.now.knows c.seat.inside.seat.me.0 c.store.new.seat.me.0 x (ours g before) (mine g before)
-    (told g after x (may g before x asked))
+returns-clause-published c = λ x asked.
+    let after : After-store = (goal.at.returns-clause-published c).After-store in
+    let before : After-from = (goal.at.After-store after).After-from in
+    Publishes-same c.args.self.now.book c.self.inside.book c.args.seat.now.knows c.seat.inside.seat.me.0 c.store.new.seat.me.0 x (ours before) (mine before)
+    (told after x (may before x asked))
 
 pub returns-clause-seat : goal.returns-clause-seat
-returns-clause-seat g c = c.store.ensures.2.1
+returns-clause-seat c = c.store.ensures.2.1

@@ -13,74 +13,74 @@ use Rattle.at_board.proofs.board.Board.store_request_word.Goals.{After-announced
 use Rattle.at_board.proofs.board.Board.store_request_word.Goals as goal
 
 -- the seat is the one that callers see
-mine : (g : given.Over) (c : After-announced-next g) → c.seat.inside.seat.me.0 ≡ c.args.seat.now.knows
-mine g c = ap (λ s. s.knows) c.seat.view_is
+mine : (c : After-announced-next) → c.seat.inside.seat.me.0 ≡ c.args.seat.now.knows
+mine c = ap (λ s. s.knows) c.seat.view_is
 
-book : (g : given.Over) (c : After-announced-next g) → c.seat.inside.seat.me.0.book ≡ c.args.self.now.book
-book g c = ap (λ (t : Knowledge). t.book) (mine g c) ∙ c.requires.board.book
+book : (c : After-announced-next) → c.seat.inside.seat.me.0.book ≡ c.args.self.now.book
+book c = ap (λ (t : Knowledge). t.book) (mine c) ∙ c.requires.board.book
 
-may : (g : given.Over) (c : After-announced-next g) → MayStoreRequest c.args.self.now.book c.seat.inside.seat.me.0 c.args.account c.own_slot-slot.result
-may g c =
+may : (c : After-announced-next) → MayStoreRequest c.args.self.now.book c.seat.inside.seat.me.0 c.args.account c.own_slot-slot.result
+may c =
     let b : BookTerms = c.args.self.now.book in
     let a = c.args.account in
     let slot = c.own_slot-slot.result in
-    subst (λ (t : Knowledge). MayStoreRequest b t a slot) (sym (mine g c))
+    subst (λ (t : Knowledge). MayStoreRequest b t a slot) (sym (mine c))
     (MayStoreRequest-slot b c.args.seat.now.knows a c.requires.asks.0 slot c.requires.asks.1
     (subst (λ p. HasSlot b p a slot) c.process.ensures.process c.own_slot-slot.ensures.slot))
 
 -- the word's address, by the number that the seat knows
-at : (g : given.Over) (c : After-announced-next g) → index_of c.args.self.now.book (request_word c.args.account c.own_slot-slot.result c.announced-next.result c.args.j)
+at : (c : After-announced-next) → index_of c.args.self.now.book (request_word c.args.account c.own_slot-slot.result c.announced-next.result c.args.j)
     ≡ index_of c.args.self.now.book (request_word c.args.account c.own_slot-slot.result (next_number c.seat.inside.seat.me.0 c.args.account) c.args.j)
-at g c =
+at c =
     ap (λ n. index_of c.args.self.now.book (request_word c.args.account c.own_slot-slot.result n c.args.j))
-    (c.announced-next.ensures ∙ ap (λ u. next_number u c.args.account) (sym (mine g c)))
+    (c.announced-next.ensures ∙ ap (λ u. next_number u c.args.account) (sym (mine c)))
 
 -- the step stores the word
-told : (g : given.Over) (c : After-store g) → StoresRequestWord c.seat.inside.seat.me.0 c.store.new.seat.me.0 c.args.account c.args.j c.args.w
-told g c =
-    let before : After-announced-next g = (goal.at.After-store g c).After-announced-next in
+told : (c : After-store) → StoresRequestWord c.seat.inside.seat.me.0 c.store.new.seat.me.0 c.args.account c.args.j c.args.w
+told c =
+    let before : After-announced-next = (goal.at.After-store c).After-announced-next in
     StoresRequestWord-played c.args.self.now.book c.self.inside.table.shared.table_id.slots c.seat.inside.seat.me c.store.new.seat.me c.args.account
-    c.own_slot-slot.result c.args.j c.args.w c.request_index-index.result (book g before) (c.request_index-index.ensures.index ∙ at g before) (may g before)
+    c.own_slot-slot.result c.args.j c.args.w c.request_index-index.result (book before) (c.request_index-index.ensures.index ∙ at before) (may before)
     c.requires.word c.store.ensures.2
 
 pub store-requires : goal.store-requires
-store-requires g c =
-    let before : After-announced-next g = (goal.at.store-requires g c).After-announced-next in
+store-requires c =
+    let before : After-announced-next = (goal.at.store-requires c).After-announced-next in
     let b : BookTerms = c.args.self.now.book in
     let v : Knowledge = c.seat.inside.seat.me.0 in
     let a = c.args.account in
     let slot = c.own_slot-slot.result in
     let ours : c.self.inside.book ≡ b = ap (λ t. t.book) c.self.view_is in
-    let place = c.request_index-index.ensures.index ∙ at g before in (
+    let place = c.request_index-index.ensures.index ∙ at before in (
       ap (λ s. s.board) c.seat.view_is ∙ (c.requires.board.id ∙ sym (ap (λ t. t.id) c.self.view_is)),
       omega (
         arith,
         c.self.invariant.1,
         ap word_count ours,
         place,
-        index_of-below b (request_word a slot (next_number v a) c.args.j) (place-MayStoreRequest b v a slot c.args.j (may g before) c.requires.word),
+        index_of-below b (request_word a slot (next_number v a) c.args.j) (place-MayStoreRequest b v a slot c.args.j (may before) c.requires.word),
       ),
       stores_request_word_at c.self.inside.table.shared.key.value b c.self.inside.table.shared.table_id.slots c.seat.inside.seat.id c.seat.inside.seat.me
           a slot c.args.j c.args.w c.request_index-index.result (c.self.invariant.0 ∙ ours) place
-          (IsSeatOf-IsSeat b v c.seat.inside.process c.seat.inside.published (book g before) c.seat.invariant.1) (may g before) c.requires.word,
+          (IsSeatOf-IsSeat b v c.seat.inside.process c.seat.inside.published (book before) c.seat.invariant.1) (may before) c.requires.word,
     )
 
 pub invariant_of-seat : goal.invariant_of-seat
-invariant_of-seat g c =
+invariant_of-seat c =
     let v : Knowledge = c.seat.inside.seat.me.0 in
     let w : Knowledge = c.store.new.seat.me.0 in
     let a = c.args.account in (
       c.store.ensures.2.0 ∙ c.seat.invariant.0,
-      IsSeat-step v _ w _ c.seat.inside.process c.seat.inside.published c.seat.inside.published c.seat.invariant.1 refl refl (told g c)
+      IsSeat-step v _ w _ c.seat.inside.process c.seat.inside.published c.seat.inside.published c.seat.invariant.1 refl refl (told c)
           c.seat.invariant.1.published_is c.store.ensures.2.1,
-      HasCounts-request_stored v w a c.args.j c.args.w c.seat.inside.announced.items (omega (arith, c.seat.invariant.1.one_part)) c.seat.invariant.1.accounts (told g c) c.seat.invariant.2,
+      HasCounts-request_stored v w a c.args.j c.args.w c.seat.inside.announced.items (omega (arith, c.seat.invariant.1.one_part)) c.seat.invariant.1.accounts (told c) c.seat.invariant.2,
     )
 
 pub returns-clause-stored : goal.returns-clause-stored
-returns-clause-stored g c =
-    let after : After-store g = (goal.at.returns-clause-stored g c).After-store in
-    let before : After-announced-next g = (goal.at.After-store g after).After-announced-next in
-    subst (λ (t : Knowledge). StoresRequestWord t c.store.new.seat.me.0 c.args.account c.args.j c.args.w) (mine g before) (told g after)
+returns-clause-stored c =
+    let after : After-store = (goal.at.returns-clause-stored c).After-store in
+    let before : After-announced-next = (goal.at.After-store after).After-announced-next in
+    subst (λ (t : Knowledge). StoresRequestWord t c.store.new.seat.me.0 c.args.account c.args.j c.args.w) (mine before) (told after)
 
 pub returns-clause-seat : goal.returns-clause-seat
-returns-clause-seat g c = c.store.ensures.2.1
+returns-clause-seat c = c.store.ensures.2.1

@@ -18,20 +18,20 @@ use Rattle.at_calling.proofs.calling.Calling.pay_alone_on.Goals.{After-known, Af
 use Rattle.at_calling.proofs.calling.Calling.pay_alone_on.Goals as goal
 
 -- the call before the turn
-so : (g : given.Over) (c : After-self g) → IsCallingSo c.args.self.now
-so g c = subst IsCallingSo c.self.view_is c.self.invariant
+so : (c : After-self) → IsCallingSo c.args.self.now
+so c = subst IsCallingSo c.self.view_is c.self.invariant
 
-stage_is : (g : given.Over) (c : After-known g) → c.args.self.now.stage ≡ PayAlone c.in-PayAlone.paying
-stage_is g c = sym (ap (λ (t : CallingTerms). t.stage) c.self.view_is) ∙ c.in-PayAlone.is
+stage_is : (c : After-known) → c.args.self.now.stage ≡ PayAlone c.in-PayAlone.paying
+stage_is c = sym (ap (λ (t : CallingTerms). t.stage) c.self.view_is) ∙ c.in-PayAlone.is
 
-left : (g : given.Over) (c : After-known g) → 0 < call_turns_left c.args.board.now.book (PayAlone c.in-PayAlone.paying)
-left g c = subst (λ (k : CallStage). 0 < call_turns_left c.args.board.now.book k) (stage_is g c) c.requires.left
+left : (c : After-known) → 0 < call_turns_left c.args.board.now.book (PayAlone c.in-PayAlone.paying)
+left c = subst (λ (k : CallStage). 0 < call_turns_left c.args.board.now.book k) (stage_is c) c.requires.left
 
-runs : (g : given.Over) (c : After-known g) → AreRuns c.args.board.now.book c.turn-paid.new.seat.knows.seen
-runs g c = subst (λ (b : BookTerms). AreRuns b c.turn-paid.new.seat.knows.seen) c.turn-paid.ensures.board.book c.known.ensures.seat.history.runs
+runs : (c : After-known) → AreRuns c.args.board.now.book c.turn-paid.new.seat.knows.seen
+runs c = subst (λ (b : BookTerms). AreRuns b c.turn-paid.new.seat.knows.seen) c.turn-paid.ensures.board.book c.known.ensures.seat.history.runs
 
 -- what the turn leaves
-turned : (g : given.Over) (c : After-known g) (mark : SeatTerms) → mark ≡ c.turn-paid.new.seat → (now : Rest) → now.totals ≡ c.turn-paid.new.totals → (rest : Rest)
+turned : (c : After-known) (mark : SeatTerms) → mark ≡ c.turn-paid.new.seat → (now : Rest) → now.totals ≡ c.turn-paid.new.totals → (rest : Rest)
     → rest ≡ now → (answer : Option Receipt)
     → (IsSome answer ↔ (call_turns_left c.args.board.now.book (PayAlone c.turn-paid.new.self) ≡ 0))
     → IfSome answer (Leaves c.args.board.now.book c.args.self.now c.turn-paid.new.seat now (turns_made c.turn-paid.new.self) 0)
@@ -45,8 +45,8 @@ turned : (g : given.Over) (c : After-known g) (mark : SeatTerms) → mark ≡ c.
       rest = c.self.inside.rest.value;
     })
     (PayAlone c.turn-paid.new.self) mark rest) c.args.seat.now c.turn-paid.new.seat now answer
-turned g c mark mark_is now totals_are rest rest_is answer ends leaves calls =
-    let first = (goal.at.After-known g c).After-self in
+turned c mark mark_is now totals_are rest rest_is answer ends leaves calls =
+    let first = (goal.at.After-known c).After-self in
     let b : BookTerms = c.args.board.now.book in
     let t : CallingTerms = c.args.self.now in
     let p : PayingAloneTerms = c.in-PayAlone.paying in
@@ -54,14 +54,14 @@ turned g c mark mark_is now totals_are rest rest_is answer ends leaves calls =
     let after : SeatTerms = c.turn-paid.new.seat in
     let told = c.turn-paid.ensures in
     subst (λ (s : CallingTerms). TakesCallTurn b t (calling_next s next mark rest) c.args.seat.now after now answer) (sym c.self.view_is)
-    (TakesCallTurn-stages b t c.args.seat.now after mark mark_is now rest rest_is (PayAlone p) next (stage_is g c) answer told.turns
+    (TakesCallTurn-stages b t c.args.seat.now after mark mark_is now rest rest_is (PayAlone p) next (stage_is c) answer told.turns
     (subst (λ (s : TotalSums). MakesCallStep b (PayAlone p) c.args.seat.now after s) (sym totals_are) told.step) told.left
-    (few-alone c.args.board.now t (so g first) c.args.seat.now c.requires.mark c.requires.board after told.board p (stage_is g c) (left g c)
-    (length after.knows.seen) (turns_made c.turn-paid.new.self) told.so_far) ends (runs g c) refl leaves calls)
+    (few-alone c.args.board.now t (so first) c.args.seat.now c.requires.mark c.requires.board after told.board p (stage_is c) (left c)
+    (length after.knows.seen) (turns_made c.turn-paid.new.self) told.so_far) ends (runs c) refl leaves calls)
 
 pub returns-in_err-receipt-clause-turned : goal.returns-in_err-receipt-clause-turned
-returns-in_err-receipt-clause-turned g c =
-    let known = (goal.at.returns-in_err-receipt-clause-turned g c).After-known in
+returns-in_err-receipt-clause-turned c =
+    let known = (goal.at.returns-in_err-receipt-clause-turned c).After-known in
     let now : Rest = record c.args.rest.now { totals = c.turn-paid.new.totals } in
     subst (TakesCallTurn c.args.board.now.book c.args.self.now (calling_next (record {
       call = c.self.inside.call;
@@ -72,52 +72,52 @@ returns-in_err-receipt-clause-turned g c =
       rest = c.self.inside.rest.value;
     })
     (PayAlone c.turn-paid.new.self) c.of.result.value c.of-2.result.value) c.args.seat.now c.turn-paid.new.seat now) (sym c.from_residual.ensures)
-    (turned g known c.of.result.value c.of.ensures now refl c.of-2.result.value c.of-2.ensures None (
+    (turned known c.of.result.value c.of.ensures now refl c.of-2.result.value c.of-2.ensures None (
       λ some. let wrong : false ≡ true = some in absurd (cc wrong),
       λ none. let wrong : false ≡ true = c.in_err-receipt.ensures.ends.1 none in absurd (cc wrong),
     ) tt tt)
 
 pub sent_after-rest-requires : goal.sent_after-rest-requires
-sent_after-rest-requires g c =
-    let known = (goal.at.sent_after-rest-requires g c).After-known in
-    let first = (goal.at.After-known g known).After-self in
+sent_after-rest-requires c =
+    let known = (goal.at.sent_after-rest-requires c).After-known in
+    let first = (goal.at.After-known known).After-self in
     let t : CallingTerms = c.args.self.now in
     let p : PayingAloneTerms = c.in-PayAlone.paying in
     omega (
       arith,
-      small-alone c.args.board.now t (so g first) c.args.seat.now c.requires.mark c.requires.board c.turn-paid.new.seat c.turn-paid.ensures.board p
-          (stage_is g known) (left g known),
-      (still-alone c.args.board.now t (so g first) c.args.seat.now c.requires.mark c.requires.board c.turn-paid.new.seat c.turn-paid.ensures.board p
-          (stage_is g known) (left g known)).sent_is,
+      small-alone c.args.board.now t (so first) c.args.seat.now c.requires.mark c.requires.board c.turn-paid.new.seat c.turn-paid.ensures.board p
+          (stage_is known) (left known),
+      (still-alone c.args.board.now t (so first) c.args.seat.now c.requires.mark c.requires.board c.turn-paid.new.seat c.turn-paid.ensures.board p
+          (stage_is known) (left known)).sent_is,
       ap (λ (q : Rest). q.sent) c.requires.rest,
     )
 
-abbrev rest_after : (g : given.Over) → After-one_more_call-rest g → Rest
-rest_after g c = record { totals = c.turn-paid.new.totals; sent = c.sent_after-rest.result; calls = c.one_more_call-rest.result }
+abbrev rest_after : After-one_more_call-rest → Rest
+rest_after c = record { totals = c.turn-paid.new.totals; sent = c.sent_after-rest.result; calls = c.one_more_call-rest.result }
 
-leaves : (g : given.Over) (c : After-one_more_call-rest g)
-    → Leaves c.args.board.now.book c.args.self.now c.turn-paid.new.seat (rest_after g c) (turns_made c.turn-paid.new.self) 0 c.in_ok-receipt.receipt
-leaves g c =
-    let known = (goal.at.After-one_more_call-rest g c).After-known in
-    let first = (goal.at.After-known g known).After-self in
+leaves : (c : After-one_more_call-rest)
+    → Leaves c.args.board.now.book c.args.self.now c.turn-paid.new.seat (rest_after c) (turns_made c.turn-paid.new.self) 0 c.in_ok-receipt.receipt
+leaves c =
+    let known = (goal.at.After-one_more_call-rest c).After-known in
+    let first = (goal.at.After-known known).After-self in
     let told = c.in_ok-receipt.ensures in
-    Leaves-alone c.args.board.now c.args.self.now (so g first) c.args.seat.now c.requires.mark c.requires.board c.turn-paid.new.seat c.turn-paid.ensures.board
-    c.in-PayAlone.paying (stage_is g known) (left g known) (rest_after g c) (turns_made c.turn-paid.new.self)
+    Leaves-alone c.args.board.now c.args.self.now (so first) c.args.seat.now c.requires.mark c.requires.board c.turn-paid.new.seat c.turn-paid.ensures.board
+    c.in-PayAlone.paying (stage_is known) (left known) (rest_after c) (turns_made c.turn-paid.new.self)
     c.in_ok-receipt.receipt c.known.ensures.seat told.answer told.leaves told.counted
     (c.sent_after-rest.ensures ∙ ap (λ (q : Rest). sent_after q.sent c.in_ok-receipt.receipt.reply) c.requires.rest)
 
-calls_after : (g : given.Over) (c : After-one_more_call-rest g) → (rest_after g c).calls ≡ one_more_call c.args.self.now.was.calls
-calls_after g c =
-    let known = (goal.at.After-one_more_call-rest g c).After-known in
-    let first = (goal.at.After-known g known).After-self in
+calls_after : (c : After-one_more_call-rest) → (rest_after c).calls ≡ one_more_call c.args.self.now.was.calls
+calls_after c =
+    let known = (goal.at.After-one_more_call-rest c).After-known in
+    let first = (goal.at.After-known known).After-self in
     c.one_more_call-rest.ensures
     ∙ (ap (λ (q : Rest). one_more_call q.calls) c.requires.rest
-    ∙ ap one_more_call (still-alone c.args.board.now c.args.self.now (so g first) c.args.seat.now c.requires.mark c.requires.board c.turn-paid.new.seat c.turn-paid.ensures.board
-    c.in-PayAlone.paying (stage_is g known) (left g known)).calls_are)
+    ∙ ap one_more_call (still-alone c.args.board.now c.args.self.now (so first) c.args.seat.now c.requires.mark c.requires.board c.turn-paid.new.seat c.turn-paid.ensures.board
+    c.in-PayAlone.paying (stage_is known) (left known)).calls_are)
 
 pub returns-clause-turned : goal.returns-clause-turned
-returns-clause-turned g c =
-    let ended = (goal.at.returns-clause-turned g c).After-one_more_call-rest in
-    let known = (goal.at.After-one_more_call-rest g ended).After-known in
-    turned g known c.of.result.value c.of.ensures (rest_after g ended) refl c.of-3.result.value c.of-3.ensures (Some c.in_ok-receipt.receipt)
-    (λ some. c.in_ok-receipt.ensures.ends.0 refl, λ none. refl) (leaves g ended) (calls_after g ended)
+returns-clause-turned c =
+    let ended = (goal.at.returns-clause-turned c).After-one_more_call-rest in
+    let known = (goal.at.After-one_more_call-rest ended).After-known in
+    turned known c.of.result.value c.of.ensures (rest_after ended) refl c.of-3.result.value c.of-3.ensures (Some c.in_ok-receipt.receipt)
+    (λ some. c.in_ok-receipt.ensures.ends.0 refl, λ none. refl) (leaves ended) (calls_after ended)

@@ -17,20 +17,20 @@ use Rattle.at_calling.proofs.calling.Calling.read_on.Goals.{After-known, After-o
 use Rattle.at_calling.proofs.calling.Calling.read_on.Goals as goal
 
 -- the call before the turn
-so : (g : given.Over) (c : After-self g) → IsCallingSo c.args.self.now
-so g c = subst IsCallingSo c.self.view_is c.self.invariant
+so : (c : After-self) → IsCallingSo c.args.self.now
+so c = subst IsCallingSo c.self.view_is c.self.invariant
 
-stage_is : (g : given.Over) (c : After-known g) → c.args.self.now.stage ≡ Read c.in-Read.reading
-stage_is g c = sym (ap (λ (t : CallingTerms). t.stage) c.self.view_is) ∙ c.in-Read.is
+stage_is : (c : After-known) → c.args.self.now.stage ≡ Read c.in-Read.reading
+stage_is c = sym (ap (λ (t : CallingTerms). t.stage) c.self.view_is) ∙ c.in-Read.is
 
-left : (g : given.Over) (c : After-known g) → 0 < call_turns_left c.args.board.now.book (Read c.in-Read.reading)
-left g c = subst (λ (k : CallStage). 0 < call_turns_left c.args.board.now.book k) (stage_is g c) c.requires.left
+left : (c : After-known) → 0 < call_turns_left c.args.board.now.book (Read c.in-Read.reading)
+left c = subst (λ (k : CallStage). 0 < call_turns_left c.args.board.now.book k) (stage_is c) c.requires.left
 
-runs : (g : given.Over) (c : After-known g) → AreRuns c.args.board.now.book c.turn-read.new.seat.knows.seen
-runs g c = subst (λ (b : BookTerms). AreRuns b c.turn-read.new.seat.knows.seen) c.turn-read.ensures.board.book c.known.ensures.seat.history.runs
+runs : (c : After-known) → AreRuns c.args.board.now.book c.turn-read.new.seat.knows.seen
+runs c = subst (λ (b : BookTerms). AreRuns b c.turn-read.new.seat.knows.seen) c.turn-read.ensures.board.book c.known.ensures.seat.history.runs
 
 -- what the turn leaves
-turned : (g : given.Over) (c : After-known g) (mark : SeatTerms) → mark ≡ c.turn-read.new.seat → (now : Rest) → now.totals ≡ c.turn-read.new.totals → (rest : Rest)
+turned : (c : After-known) (mark : SeatTerms) → mark ≡ c.turn-read.new.seat → (now : Rest) → now.totals ≡ c.turn-read.new.totals → (rest : Rest)
     → rest ≡ now → (answer : Option Receipt)
     → (IsSome answer ↔ (call_turns_left c.args.board.now.book (Read c.turn-read.new.self) ≡ 0))
     → IfSome answer (Leaves c.args.board.now.book c.args.self.now c.turn-read.new.seat now c.turn-read.new.self.looking.turns 0)
@@ -44,8 +44,8 @@ turned : (g : given.Over) (c : After-known g) (mark : SeatTerms) → mark ≡ c.
       rest = c.self.inside.rest.value;
     })
     (Read c.turn-read.new.self) mark rest) c.args.seat.now c.turn-read.new.seat now answer
-turned g c mark mark_is now totals_are rest rest_is answer ends leaves calls =
-    let first = (goal.at.After-known g c).After-self in
+turned c mark mark_is now totals_are rest rest_is answer ends leaves calls =
+    let first = (goal.at.After-known c).After-self in
     let b : BookTerms = c.args.board.now.book in
     let t : CallingTerms = c.args.self.now in
     let p : ReadingTerms = c.in-Read.reading in
@@ -53,14 +53,14 @@ turned g c mark mark_is now totals_are rest rest_is answer ends leaves calls =
     let after : SeatTerms = c.turn-read.new.seat in
     let told = c.turn-read.ensures in
     subst (λ (s : CallingTerms). TakesCallTurn b t (calling_next s next mark rest) c.args.seat.now after now answer) (sym c.self.view_is)
-    (TakesCallTurn-stages b t c.args.seat.now after mark mark_is now rest rest_is (Read p) next (stage_is g c) answer told.turns
+    (TakesCallTurn-stages b t c.args.seat.now after mark mark_is now rest rest_is (Read p) next (stage_is c) answer told.turns
     (subst (λ (s : TotalSums). MakesCallStep b (Read p) c.args.seat.now after s) (sym totals_are) told.load) told.left
-    (few-read c.args.board.now t (so g first) c.args.seat.now c.requires.mark c.requires.board after told.board p (stage_is g c) (left g c)
-    (length after.knows.seen) c.turn-read.new.self.looking.turns told.so_far) ends (runs g c) refl leaves calls)
+    (few-read c.args.board.now t (so first) c.args.seat.now c.requires.mark c.requires.board after told.board p (stage_is c) (left c)
+    (length after.knows.seen) c.turn-read.new.self.looking.turns told.so_far) ends (runs c) refl leaves calls)
 
 pub returns-in_err-receipt-clause-turned : goal.returns-in_err-receipt-clause-turned
-returns-in_err-receipt-clause-turned g c =
-    let known = (goal.at.returns-in_err-receipt-clause-turned g c).After-known in
+returns-in_err-receipt-clause-turned c =
+    let known = (goal.at.returns-in_err-receipt-clause-turned c).After-known in
     let now : Rest = record c.args.rest.now { totals = c.turn-read.new.totals } in
     subst (TakesCallTurn c.args.board.now.book c.args.self.now (calling_next (record {
       call = c.self.inside.call;
@@ -71,36 +71,36 @@ returns-in_err-receipt-clause-turned g c =
       rest = c.self.inside.rest.value;
     })
     (Read c.turn-read.new.self) c.of.result.value c.of-2.result.value) c.args.seat.now c.turn-read.new.seat now) (sym c.from_residual.ensures)
-    (turned g known c.of.result.value c.of.ensures now refl c.of-2.result.value c.of-2.ensures None (
+    (turned known c.of.result.value c.of.ensures now refl c.of-2.result.value c.of-2.ensures None (
       λ some. let wrong : false ≡ true = some in absurd (cc wrong),
       λ none. let wrong : false ≡ true = c.in_err-receipt.ensures.ends.1 none in absurd (cc wrong),
     ) tt tt)
 
-abbrev rest_after : (g : given.Over) → After-one_more_call-rest g → Rest
-rest_after g c = record { totals = c.turn-read.new.totals; sent = c.args.rest.now.sent; calls = c.one_more_call-rest.result }
+abbrev rest_after : After-one_more_call-rest → Rest
+rest_after c = record { totals = c.turn-read.new.totals; sent = c.args.rest.now.sent; calls = c.one_more_call-rest.result }
 
-leaves : (g : given.Over) (c : After-one_more_call-rest g)
-    → Leaves c.args.board.now.book c.args.self.now c.turn-read.new.seat (rest_after g c) c.turn-read.new.self.looking.turns 0 c.in_ok-receipt.receipt
-leaves g c =
-    let known = (goal.at.After-one_more_call-rest g c).After-known in
-    let first = (goal.at.After-known g known).After-self in
+leaves : (c : After-one_more_call-rest)
+    → Leaves c.args.board.now.book c.args.self.now c.turn-read.new.seat (rest_after c) c.turn-read.new.self.looking.turns 0 c.in_ok-receipt.receipt
+leaves c =
+    let known = (goal.at.After-one_more_call-rest c).After-known in
+    let first = (goal.at.After-known known).After-self in
     let told = c.in_ok-receipt.ensures in
-    Leaves-read c.args.board.now c.args.self.now (so g first) c.args.seat.now c.requires.mark c.requires.board c.turn-read.new.seat c.turn-read.ensures.board
-    c.in-Read.reading (stage_is g known) (left g known) (rest_after g c) c.turn-read.new.self.looking.turns c.in_ok-receipt.receipt
+    Leaves-read c.args.board.now c.args.self.now (so first) c.args.seat.now c.requires.mark c.requires.board c.turn-read.new.seat c.turn-read.ensures.board
+    c.in-Read.reading (stage_is known) (left known) (rest_after c) c.turn-read.new.self.looking.turns c.in_ok-receipt.receipt
     c.known.ensures.seat told.answer told.leaves c.turn-read.ensures.counted (ap (λ (q : Rest). q.sent) c.requires.rest)
 
-calls_after : (g : given.Over) (c : After-one_more_call-rest g) → (rest_after g c).calls ≡ one_more_call c.args.self.now.was.calls
-calls_after g c =
-    let known = (goal.at.After-one_more_call-rest g c).After-known in
-    let first = (goal.at.After-known g known).After-self in
+calls_after : (c : After-one_more_call-rest) → (rest_after c).calls ≡ one_more_call c.args.self.now.was.calls
+calls_after c =
+    let known = (goal.at.After-one_more_call-rest c).After-known in
+    let first = (goal.at.After-known known).After-self in
     c.one_more_call-rest.ensures
     ∙ (ap (λ (q : Rest). one_more_call q.calls) c.requires.rest
-    ∙ ap one_more_call (still-read c.args.board.now c.args.self.now (so g first) c.args.seat.now c.requires.mark c.requires.board c.turn-read.new.seat c.turn-read.ensures.board
-    c.in-Read.reading (stage_is g known) (left g known)).calls_are)
+    ∙ ap one_more_call (still-read c.args.board.now c.args.self.now (so first) c.args.seat.now c.requires.mark c.requires.board c.turn-read.new.seat c.turn-read.ensures.board
+    c.in-Read.reading (stage_is known) (left known)).calls_are)
 
 pub returns-clause-turned : goal.returns-clause-turned
-returns-clause-turned g c =
-    let ended = (goal.at.returns-clause-turned g c).After-one_more_call-rest in
-    let known = (goal.at.After-one_more_call-rest g ended).After-known in
-    turned g known c.of.result.value c.of.ensures (rest_after g ended) refl c.of-3.result.value c.of-3.ensures (Some c.in_ok-receipt.receipt)
-    (λ some. c.in_ok-receipt.ensures.ends.0 refl, λ none. refl) (leaves g ended) (calls_after g ended)
+returns-clause-turned c =
+    let ended = (goal.at.returns-clause-turned c).After-one_more_call-rest in
+    let known = (goal.at.After-one_more_call-rest ended).After-known in
+    turned known c.of.result.value c.of.ensures (rest_after ended) refl c.of-3.result.value c.of-3.ensures (Some c.in_ok-receipt.receipt)
+    (λ some. c.in_ok-receipt.ensures.ends.0 refl, λ none. refl) (leaves ended) (calls_after ended)

@@ -35,14 +35,14 @@ use Rattle.at_calling.proofs.paying_alone.PayingAlone.append_on.Goals.{After-sel
 use Rattle.at_calling.proofs.paying_alone.PayingAlone.append_on.Goals as goal
 
 -- the book is the board's
-book : (g : given.Over) (c : After-self g) → (the_view c.self.inside).start.book ≡ c.args.board.now.book
-book g c =
+book : (c : After-self) → (the_view c.self.inside).start.book ≡ c.args.board.now.book
+book c =
     sym c.self.invariant.book
     ∙ (ap (λ (t : PayingAloneTerms). t.mark.book) c.self.view_is ∙ (ap (λ (v : Knowledge). v.book) (sym c.requires.mark) ∙ c.requires.board.book))
 
 -- some store is left
-few : (g : given.Over) (c : After-turn-is_published g) → c.in-Append.appending.stored ≤ record_width c.args.board.now.book
-few g c =
+few : (c : After-turn-is_published) → c.in-Append.appending.stored ≤ record_width c.args.board.now.book
+few c =
     omega (
       arith,
       c.requires.left,
@@ -50,20 +50,20 @@ few g c =
       ap (pay_turns_left (record_width c.args.board.now.book)) c.in-Append.is,
     )
 
-appends : (g : given.Over) (c : After-turn-is_published g) → IsAppendingThen (the_view c.self.inside) c.in-Append.appending
-appends g c =
+appends : (c : After-turn-is_published) → IsAppendingThen (the_view c.self.inside) c.in-Append.appending
+appends c =
     subst (IsPayStageSo (the_view c.self.inside)) c.in-Append.is c.self.invariant.stage_so
-    (omega (arith, few g c, ap record_width (book g (goal.at.After-turn-is_published g c).After-self)))
+    (omega (arith, few c, ap record_width (book (goal.at.After-turn-is_published c).After-self)))
 
 -- the seat knew what the last turn left
-known : (g : given.Over) (c : After-turn-is_published g) → c.args.seat.now.knows ≡ (the_view c.self.inside).mark
-known g c = c.requires.mark ∙ sym (ap (λ (t : PayingAloneTerms). t.mark) c.self.view_is)
+known : (c : After-turn-is_published) → c.args.seat.now.knows ≡ (the_view c.self.inside).mark
+known c = c.requires.mark ∙ sym (ap (λ (t : PayingAloneTerms). t.mark) c.self.view_is)
 
-parts : (g : given.Over) (c : After-turn-is_published g) → 0 < length (the_view c.self.inside).mark.parts
-parts g c = subst (λ (v : Knowledge). 0 < length v.parts) (known g c) (omega (arith, c.known.ensures.seat.one_part))
+parts : (c : After-turn-is_published) → 0 < length (the_view c.self.inside).mark.parts
+parts c = subst (λ (v : Knowledge). 0 < length v.parts) (known c) (omega (arith, c.known.ensures.seat.one_part))
 
 -- what the turn leaves
-turned : (g : given.Over) (c : After-turn-is_published g) (now : TotalSums) (mark : SeatTerms) → mark ≡ c.turn-is_published.new.seat → (totals : TotalSums)
+turned : (c : After-turn-is_published) (now : TotalSums) (mark : SeatTerms) → mark ≡ c.turn-is_published.new.seat → (totals : TotalSums)
     → totals ≡ now → (answer : Option Receipt)
     → MakesPayStep c.args.board.now.book (Append c.in-Append.appending) c.args.seat.now c.turn-is_published.new.seat now
     → length (the_view c.self.inside).mark.seen ≤ length c.turn-is_published.new.seat.knows.seen
@@ -77,43 +77,43 @@ turned : (g : given.Over) (c : After-turn-is_published g) (now : TotalSums) (mar
     → TakesPayTurn c.args.board.now.book c.args.self.now
     (paying_next (the_view c.self.inside) (Append c.turn-is_published.new.self) c.self.inside.looked mark.knows totals) c.args.seat.now
     c.turn-is_published.new.seat now answer
-turned g c now mark mark_is totals totals_are answer step more ends asks pays counted leaves =
+turned c now mark mark_is totals totals_are answer step more ends asks pays counted leaves =
     let b : BookTerms = c.args.board.now.book in
     let t : PayingAloneTerms = the_view c.self.inside in
     let next : AppendingTerms = c.turn-is_published.new.self in
     let after : SeatTerms = c.turn-is_published.new.seat in
     subst (λ (s : PayingAloneTerms). TakesPayTurn b s (paying_next t (Append next) t.looked mark.knows totals) c.args.seat.now after now answer) c.self.view_is
-    (TakesPayTurn-append b t c.self.invariant (book g (goal.at.After-turn-is_published g c).After-self) c.args.seat.now after now mark.knows
-    (ap (λ (m : SeatTerms). m.knows) mark_is) totals totals_are c.in-Append.appending next c.in-Append.is c.turn-is_published.ensures.after (few g c) step
+    (TakesPayTurn-append b t c.self.invariant (book (goal.at.After-turn-is_published c).After-self) c.args.seat.now after now mark.knows
+    (ap (λ (m : SeatTerms). m.knows) mark_is) totals totals_are c.in-Append.appending next c.in-Append.is c.turn-is_published.ensures.after (few c) step
     answer more ends asks pays counted leaves)
 
 pub returns-then-not-is_published-clause-turned : goal.returns-then-not-is_published-clause-turned
-returns-then-not-is_published-clause-turned g c =
-    let at = (goal.at.returns-then-not-is_published-clause-turned g c).After-turn-is_published in
+returns-then-not-is_published-clause-turned c =
+    let at = (goal.at.returns-then-not-is_published-clause-turned c).After-turn-is_published in
     let b : BookTerms = c.args.board.now.book in
     let t : PayingAloneTerms = the_view c.self.inside in
     let a : AppendingTerms = c.in-Append.appending in
     let w : Knowledge = c.turn-is_published.new.seat.knows in
     let told = c.turn-is_published.ensures in
     let other : a.stored ≢ record_width b = λ all. let wrong : true ≡ false = sym (told.ends.1 all) ∙ c.if-not-is_published.true in absurd (cc wrong) in
-    let word : StoresNextWord a w = told.word (omega (arith, few g at, other)) in
+    let word : StoresNextWord a w = told.word (omega (arith, few at, other)) in
     let stored : StoresWord t.mark w a.stored (slice_index (record_words (publication_of a)) a.stored) =
-    subst (λ (v : Knowledge). StoresWord v w a.stored (slice_index (record_words (publication_of a)) a.stored)) (appends g at).mark_is word in
-    turned g at c.args.totals.now c.of.result.value c.of.ensures t.totals (ap (λ (s : PayingAloneTerms). s.totals) c.self.view_is ∙ sym c.requires.totals) None
+    subst (λ (v : Knowledge). StoresWord v w a.stored (slice_index (record_words (publication_of a)) a.stored)) (appends at).mark_is word in
+    turned at c.args.totals.now c.of.result.value c.of.ensures t.totals (ap (λ (s : PayingAloneTerms). s.totals) c.self.view_is ∙ sym c.requires.totals) None
     (λ inside. word, λ all. absurd (other all))
     (omega (arith, ap (λ (v : Knowledge). length v.seen) stored))
     (λ some. let wrong : false ≡ true = some in absurd (cc wrong), λ all. absurd (other all))
-    (HasSameAsking-StoresWord t.mark w a.stored (slice_index (record_words (publication_of a)) a.stored) (parts g at) stored) tt tt tt
+    (HasSameAsking-StoresWord t.mark w a.stored (slice_index (record_words (publication_of a)) a.stored) (parts at) stored) tt tt tt
 
 -- its record is published
-paid : (g : given.Over) (c : After-turn-is_published g) → IsTrue c.turn-is_published.result
+paid : (c : After-turn-is_published) → IsTrue c.turn-is_published.result
     → IsPaid (the_view c.self.inside).start.book (the_view c.self.inside).start c.in-Append.appending.start c.turn-is_published.new.seat.knows
     c.in-Append.appending.rec.view c.self.inside.from c.self.inside.targets
-paid g c done =
+paid c done =
     let t : PayingAloneTerms = the_view c.self.inside in
     let a : AppendingTerms = c.in-Append.appending in
     let x : Knowledge = c.turn-is_published.new.seat.knows in
-    let so = appends g c in
+    let so = appends c in
     let kept = c.self.invariant.kept in
     let record_of : Entry → Publication = λ e. record { process = a.start.first; view = a.rec.view; entry = e } in
     record {
@@ -122,28 +122,28 @@ paid g c done =
       loads = so.looked_at.loads;
       snapshot = so.looked_at.snapshot;
       published = subst (λ (b : BookTerms). Publishes b a.start x (record_of (Entry.Own t.from t.targets)))
-          (sym (book g (goal.at.After-turn-is_published g c).After-self))
+          (sym (book (goal.at.After-turn-is_published c).After-self))
           (subst (λ (e : Entry). Publishes c.args.board.now.book a.start x (record_of e)) so.entry (c.turn-is_published.ensures.published done));
       last = subst (λ (e : Entry). IsLast a.start x (record_of e)) so.entry (c.turn-is_published.ensures.last done);
     }
 
 pub count_own-requires-clause-counted : goal.count_own-requires-clause-counted
-count_own-requires-clause-counted g c =
-    let at = (goal.at.count_own-requires-clause-counted g c).After-turn-is_published in
-    let same = book g (goal.at.After-turn-is_published g at).After-self in
+count_own-requires-clause-counted c =
+    let at = (goal.at.count_own-requires-clause-counted c).After-turn-is_published in
+    let same = book (goal.at.After-turn-is_published at).After-self in
     let t : PayingAloneTerms = the_view c.self.inside in
     let a : AppendingTerms = c.in-Append.appending in
     let x : Knowledge = c.turn-is_published.new.seat.knows in
     let so = c.self.invariant in
-    let here = HasCounted-IsPaid t.start.book t.start a.start t.was t.totals a.rec.view t.from t.targets t.call (appends g at).looked_at so.payout so.owner so.room x
-    (paid g at c.if-not-is_published.false) in
+    let here = HasCounted-IsPaid t.start.book t.start a.start t.was t.totals a.rec.view t.from t.targets t.call (appends at).looked_at so.payout so.owner so.room x
+    (paid at c.if-not-is_published.false) in
     subst (λ (b : BookTerms). HasCounted c.args.totals.now b x.seen) (same ∙ sym c.turn-is_published.ensures.board.book)
     (subst (λ (s : TotalSums). HasCounted s t.start.book x.seen) (ap (λ (s : PayingAloneTerms). s.totals) c.self.view_is ∙ sym c.requires.totals) here)
 
 pub returns-clause-turned : goal.returns-clause-turned
-returns-clause-turned g c =
-    let at = (goal.at.returns-clause-turned g c).After-turn-is_published in
-    let same = book g (goal.at.After-turn-is_published g at).After-self in
+returns-clause-turned c =
+    let at = (goal.at.returns-clause-turned c).After-turn-is_published in
+    let same = book (goal.at.After-turn-is_published at).After-self in
     let b : BookTerms = c.args.board.now.book in
     let t : PayingAloneTerms = the_view c.self.inside in
     let a : AppendingTerms = c.in-Append.appending in
@@ -154,8 +154,8 @@ returns-clause-turned g c =
     let so = c.self.invariant in
     let done = c.if-not-is_published.false in
     let all : a.stored ≡ record_width b = told.ends.0 done in
-    let has_paid = paid g at done in
-    let looked_at = (appends g at).looked_at in
+    let has_paid = paid at done in
+    let looked_at = (appends at).looked_at in
     let number : (own_part t.start).published ≡ c.published.result - 1 =
     omega (
       arith,
@@ -166,7 +166,7 @@ returns-clause-turned g c =
     let pays : PaysAlone b t.start x t.from t.targets t.call r =
     subst (λ (k : BookTerms). PaysAlone k t.start x t.from t.targets t.call r) same
     (subst (λ (k : ℕ). PaysAlone t.start.book t.start x t.from t.targets t.call (record { call = t.call; reply = Done; at = Own k })) number
-    (PaysAlone-done t.start.book t.start a.start t.was t.totals front t.from t.targets t.call looked_at so.payout so.owner so.room x has_paid (appends g at).enough)) in
+    (PaysAlone-done t.start.book t.start a.start t.was t.totals front t.from t.targets t.call looked_at so.payout so.owner so.room x has_paid (appends at).enough)) in
     let next : now.upto ≡ set t.totals.upto x.first (own_part x).published =
     c.count_own.ensures.upto
     ∙ ap (λ (s : TotalSums). set s.upto x.first (own_part x).published) (c.requires.totals ∙ sym (ap (λ (s : PayingAloneTerms). s.totals) c.self.view_is)) in
@@ -177,16 +177,16 @@ returns-clause-turned g c =
     (subst (λ (k : BookTerms). IsOnlyOwner k t.start.first t.from) same so.owner)
     (subst (λ (k : BookTerms). owns_of t.start.first t.start.seen < k.own_room) same so.room) x
     (subst (λ (k : BookTerms). IsPaid k t.start a.start x front t.from t.targets) same has_paid) now next (record_width b) t.looked
-    c.turn-is_published.new.self.stored (subst (λ (k : BookTerms). IsWithin k.processes t.was (sum front) t.looked) same (appends g at).few) stored
+    c.turn-is_published.new.self.stored (subst (λ (k : BookTerms). IsWithin k.processes t.was (sum front) t.looked) same (appends at).few) stored
     (omega (arith, so.kept.known, ap (λ (k : BookTerms). k.processes) same)) in
     let publishes : Publishes b t.mark x (publication_of a) =
-    subst (λ (v : Knowledge). Publishes b v x (publication_of a)) (appends g at).mark_is (told.publishes done) in
+    subst (λ (v : Knowledge). Publishes b v x (publication_of a)) (appends at).mark_is (told.publishes done) in
     subst (λ (k : Receipt). TakesPayTurn b c.args.self.now
     (paying_next t (Append c.turn-is_published.new.self) t.looked c.of.result.value.knows c.of-2.result.value) c.args.seat.now
     c.turn-is_published.new.seat now (Some k)) (sym c.receipt_of.ensures)
-    (turned g at now c.of.result.value c.of.ensures c.of-2.result.value c.of-2.ensures (Some r)
+    (turned at now c.of.result.value c.of.ensures c.of-2.result.value c.of-2.ensures (Some r)
     (λ inside. absurd (omega (arith, inside, all)), λ full. told.published done)
     (length-Publishes-le b t.mark x (publication_of a) publishes)
     (λ some. all, λ full. refl)
-    (HasSameAsking-Publishes b t.mark x (publication_of a) (parts g at) publishes) pays
+    (HasSameAsking-Publishes b t.mark x (publication_of a) (parts at) publishes) pays
     (subst (λ (k : BookTerms). StaysCounted now k x.seen) told.board.book c.count_own.ensures.stays) leaves)

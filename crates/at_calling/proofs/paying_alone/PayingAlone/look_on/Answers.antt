@@ -35,17 +35,17 @@ use Rattle.at_calling.proofs.paying_alone.PayingAlone.look_on.Goals.{After-is_sh
 use Rattle.at_calling.proofs.paying_alone.PayingAlone.look_on.Goals as goal
 
 -- the book is the board's
-book : (g : given.Over) (c : After-self g) → (the_view c.self.inside).start.book ≡ c.args.board.now.book
-book g c =
+book : (c : After-self) → (the_view c.self.inside).start.book ≡ c.args.board.now.book
+book c =
     sym c.self.invariant.book
     ∙ (ap (λ (t : PayingAloneTerms). t.mark.book) c.self.view_is ∙ (ap (λ (v : Knowledge). v.book) (sym c.requires.mark) ∙ c.requires.board.book))
 
 -- the look goes on
-looks : (g : given.Over) (c : After-turn-looked g) → IsLookingFirst (the_view c.self.inside) c.in-Look.looking
-looks g c = subst (IsPayStageSo (the_view c.self.inside)) c.in-Look.is c.self.invariant.stage_so
+looks : (c : After-turn-looked) → IsLookingFirst (the_view c.self.inside) c.in-Look.looking
+looks c = subst (IsPayStageSo (the_view c.self.inside)) c.in-Look.is c.self.invariant.stage_so
 
 -- what the turn leaves, with whichever stage next
-turned : (g : given.Over) (c : After-turn-looked g) (turns : ℕ) → turns ≡ c.turn-looked.new.self.turns → (mark : SeatTerms) → mark ≡ c.turn-looked.new.seat
+turned : (c : After-turn-looked) (turns : ℕ) → turns ≡ c.turn-looked.new.self.turns → (mark : SeatTerms) → mark ≡ c.turn-looked.new.seat
     → (totals : TotalSums) → totals ≡ c.turn-looked.new.totals → (stage : PayStage) (answer : Option Receipt) → turns_in turns stage ≡ turns
     → pay_turns_left (record_width c.args.board.now.book) stage < pay_turns_left (record_width c.args.board.now.book) (Look c.in-Look.looking)
     → (IsSome answer ↔ (pay_turns_left (record_width c.args.board.now.book) stage ≡ 0))
@@ -56,97 +56,97 @@ turned : (g : given.Over) (c : After-turn-looked g) (turns : ℕ) → turns ≡ 
     c.turn-looked.new.totals (append_steps (record_width c.args.board.now.book) r.reply) turns)
     → TakesPayTurn c.args.board.now.book c.args.self.now (paying_next (the_view c.self.inside) stage turns mark.knows totals) c.args.seat.now
     c.turn-looked.new.seat c.turn-looked.new.totals answer
-turned g c turns turns_are mark mark_is totals totals_are stage answer same left ends pays counted leaves =
+turned c turns turns_are mark mark_is totals totals_are stage answer same left ends pays counted leaves =
     let b : BookTerms = c.args.board.now.book in
     let t : PayingAloneTerms = the_view c.self.inside in
     let after : SeatTerms = c.turn-looked.new.seat in
     let now : TotalSums = c.turn-looked.new.totals in
     let told = c.turn-looked.ensures in
     subst (λ (s : PayingAloneTerms). TakesPayTurn b s (paying_next t stage turns mark.knows totals) c.args.seat.now after now answer) c.self.view_is
-    (TakesPayTurn-look b t c.self.invariant (book g (goal.at.After-turn-looked g c).After-self) c.args.seat.now after now mark.knows
+    (TakesPayTurn-look b t c.self.invariant (book (goal.at.After-turn-looked c).After-self) c.args.seat.now after now mark.knows
     (ap (λ (m : SeatTerms). m.knows) mark_is) totals totals_are c.in-Look.looking c.in-Look.is turns (turns_are ∙ told.turns) told.load told.loads
     (subst (IsWithin b.processes c.in-Look.looking.was (length after.knows.seen)) (sym turns_are) told.so_far) stage answer same left ends pays counted leaves)
 
 pub returns-in_err-front-clause-turned : goal.returns-in_err-front-clause-turned
-returns-in_err-front-clause-turned g c =
-    let at = (goal.at.returns-in_err-front-clause-turned g c).After-turn-looked in
+returns-in_err-front-clause-turned c =
+    let at = (goal.at.returns-in_err-front-clause-turned c).After-turn-looked in
     let next : PayStage = Look c.turn-looked.new.self in
     subst (TakesPayTurn c.args.board.now.book c.args.self.now
     (paying_next (the_view c.self.inside) next c.turns-self-inside.result c.of.result.value.knows c.of-2.result.value) c.args.seat.now
     c.turn-looked.new.seat c.turn-looked.new.totals)
     (sym c.from_residual.ensures)
-    (turned g at c.turns-self-inside.result c.turns-self-inside.ensures c.of.result.value c.of.ensures c.of-2.result.value c.of-2.ensures next None
+    (turned at c.turns-self-inside.result c.turns-self-inside.ensures c.of.result.value c.of.ensures c.of-2.result.value c.of-2.ensures next None
     (sym c.turns-self-inside.ensures)
     (omega (arith, c.turn-looked.ensures.left))
     (λ some. let wrong : false ≡ true = some in absurd (cc wrong), λ none. absurd (omega (arith, none)))
     tt tt tt)
 
 -- the look has ended
-looked : (g : given.Over) (c : After-known g)
+looked : (c : After-known)
     → HasLooked (the_view c.self.inside).start.book (the_view c.self.inside).start c.turn-looked.new.seat.knows (the_view c.self.inside).was
     c.turn-looked.new.totals c.in_ok-front.front
-looked g c =
-    let at = (goal.at.After-known g c).After-turn-looked in
+looked c =
+    let at = (goal.at.After-known c).After-turn-looked in
     let t : PayingAloneTerms = the_view c.self.inside in
     let w : Knowledge = c.turn-looked.new.seat.knows in
     let now : TotalSums = c.turn-looked.new.totals in
     let front : List ℕ = c.in_ok-front.front in
-    subst (λ (b : BookTerms). HasLooked b t.start w t.was now front) (sym (book g (goal.at.After-turn-looked g at).After-self))
-    (subst (λ (v : Knowledge). HasLooked c.args.board.now.book v w t.was now front) (looks g at).start_is
-    (subst (λ (s : TotalSums). HasLooked c.args.board.now.book c.in-Look.looking.start w s now front) (looks g at).was_is c.in_ok-front.ensures.looked))
+    subst (λ (b : BookTerms). HasLooked b t.start w t.was now front) (sym (book (goal.at.After-turn-looked at).After-self))
+    (subst (λ (v : Knowledge). HasLooked c.args.board.now.book v w t.was now front) (looks at).start_is
+    (subst (λ (s : TotalSums). HasLooked c.args.board.now.book c.in-Look.looking.start w s now front) (looks at).was_is c.in_ok-front.ensures.looked))
 
-counts_account : (g : given.Over) (c : After-known g)
+counts_account : (c : After-known)
     → CountsAccount c.turn-looked.new.totals (the_view c.self.inside).start.book c.turn-looked.new.seat.knows.seen c.self.inside.from
-counts_account g c =
+counts_account c =
     let t : PayingAloneTerms = the_view c.self.inside in
-    CountsAccount-HasLooked t.start.book t.start c.turn-looked.new.seat.knows t.was c.turn-looked.new.totals c.in_ok-front.front t.from (looked g c)
+    CountsAccount-HasLooked t.start.book t.start c.turn-looked.new.seat.knows t.was c.turn-looked.new.totals c.in_ok-front.front t.from (looked c)
     c.self.invariant.account_in
 
-counts_front : (g : given.Over) (c : After-known g)
+counts_front : (c : After-known)
     → CountsFront c.turn-looked.new.totals (the_view c.self.inside).start.book c.turn-looked.new.seat.knows.seen
-counts_front g c =
+counts_front c =
     let t : PayingAloneTerms = the_view c.self.inside in
-    CountsFront-HasLooked t.start.book t.start c.turn-looked.new.seat.knows t.was c.turn-looked.new.totals c.in_ok-front.front (looked g c)
+    CountsFront-HasLooked t.start.book t.start c.turn-looked.new.seat.knows t.was c.turn-looked.new.totals c.in_ok-front.front (looked c)
 
 pub is_short-requires : goal.is_short-requires
-is_short-requires g c =
-    let at = (goal.at.is_short-requires g c).After-known in
-    ((the_view c.self.inside).start.book, c.turn-looked.new.seat.knows.seen, counts_account g at, counts_front g at)
+is_short-requires c =
+    let at = (goal.at.is_short-requires c).After-known in
+    ((the_view c.self.inside).start.book, c.turn-looked.new.seat.knows.seen, counts_account at, counts_front at)
 
 -- it is short exactly where the balance of the front is
-is_short : (g : given.Over) (c : After-is_short g)
+is_short : (c : After-is_short)
     → IsTrue c.is_short.result ↔ (balance_after (the_view c.self.inside).start.book (prefix_of c.in_ok-front.front c.turn-looked.new.seat.knows.seen)
     c.self.inside.from < amount_of c.self.inside.targets)
-is_short g c =
-    let at = (goal.at.After-is_short g c).After-known in
+is_short c =
+    let at = (goal.at.After-is_short c).After-known in
     let t : PayingAloneTerms = the_view c.self.inside in
     let seen = c.turn-looked.new.seat.knows.seen in
     subst (λ (front : List ℕ). IsTrue c.is_short.result ↔ (balance_after t.start.book (prefix_of front seen) t.from < amount_of t.targets))
-    (looked g at).upto (c.is_short.ensures t.start.book seen (counts_account g at) (counts_front g at))
+    (looked at).upto (c.is_short.ensures t.start.book seen (counts_account at) (counts_front at))
 
 pub returns-then-is_short-clause-turned : goal.returns-then-is_short-clause-turned
-returns-then-is_short-clause-turned g c =
-    let short_is = (goal.at.returns-then-is_short-clause-turned g c).After-is_short in
-    let known = (goal.at.After-is_short g short_is).After-known in
-    let at = (goal.at.After-known g known).After-turn-looked in
+returns-then-is_short-clause-turned c =
+    let short_is = (goal.at.returns-then-is_short-clause-turned c).After-is_short in
+    let known = (goal.at.After-is_short short_is).After-known in
+    let at = (goal.at.After-known known).After-turn-looked in
     let b : BookTerms = c.args.board.now.book in
     let t : PayingAloneTerms = the_view c.self.inside in
     let w : Knowledge = c.turn-looked.new.seat.knows in
     let now : TotalSums = c.turn-looked.new.totals in
     let front : List ℕ = c.in_ok-front.front in
     let so = c.self.invariant in
-    let same = book g (goal.at.After-turn-looked g at).After-self in
+    let same = book (goal.at.After-turn-looked at).After-self in
     let r : Receipt = record { call = t.call; reply = Short; at = Front front } in
-    let here = PaysAlone-short t.start.book t.start w t.was now front t.from t.targets t.call (looked g known) so.payout so.owner so.room
-    ((is_short g short_is).0 c.if-is_short.true) in
-    let looked_on : HasLooked b t.start w t.was now front = subst (λ (k : BookTerms). HasLooked k t.start w t.was now front) same (looked g known) in
+    let here = PaysAlone-short t.start.book t.start w t.was now front t.from t.targets t.call (looked known) so.payout so.owner so.room
+    ((is_short short_is).0 c.if-is_short.true) in
+    let looked_on : HasLooked b t.start w t.was now front = subst (λ (k : BookTerms). HasLooked k t.start w t.was now front) same (looked known) in
     let few : IsWithin b.processes t.was (sum front) c.turn-looked.new.self.turns =
-    subst (λ (s : TotalSums). IsWithin b.processes s (sum front) c.turn-looked.new.self.turns) (looks g at).was_is c.in_ok-front.ensures.within in
+    subst (λ (s : TotalSums). IsWithin b.processes s (sum front) c.turn-looked.new.self.turns) (looks at).was_is c.in_ok-front.ensures.within in
     subst (λ (k : PayStage). TakesPayTurn b c.args.self.now (paying_next t k c.turns-self-inside.result c.of.result.value.knows c.of-2.result.value) c.args.seat.now
     c.turn-looked.new.seat now (Some c.short.result)) (sym c.become_next.ensures)
     (subst (λ (x : Receipt). TakesPayTurn b c.args.self.now (paying_next t PayStage.Short c.turns-self-inside.result c.of.result.value.knows c.of-2.result.value)
     c.args.seat.now c.turn-looked.new.seat now (Some x)) (sym c.short.ensures)
-    (turned g at c.turns-self-inside.result c.turns-self-inside.ensures c.of.result.value c.of.ensures c.of-2.result.value c.of-2.ensures PayStage.Short (Some r) refl
+    (turned at c.turns-self-inside.result c.turns-self-inside.ensures c.of.result.value c.of.ensures c.of-2.result.value c.of-2.ensures PayStage.Short (Some r) refl
     (omega arith) (λ some. refl, λ none. refl)
     (subst (λ (k : BookTerms). PaysAlone k t.start w t.from t.targets t.call r) same here)
     looked_on.counted
@@ -154,71 +154,71 @@ returns-then-is_short-clause-turned g c =
     (omega (arith, few, c.turns-self-inside.ensures)))))
 
 -- and else it is covered
-enough : (g : given.Over) (c : After-is_short g) → c.is_short.result ≡ false
+enough : (c : After-is_short) → c.is_short.result ≡ false
     → amount_of c.self.inside.targets ≤ balance_after (the_view c.self.inside).start.book (prefix_of c.in_ok-front.front c.turn-looked.new.seat.knows.seen)
     c.self.inside.from
-enough g c covered =
+enough c covered =
     let t : PayingAloneTerms = the_view c.self.inside in
     let balance : ℕ = balance_after t.start.book (prefix_of c.in_ok-front.front c.turn-looked.new.seat.knows.seen) t.from in
     elim (cases_lt balance (amount_of t.targets)) as (λ _. amount_of t.targets ≤ balance) [
-      | inl less ↦ let wrong : true ≡ false = sym ((is_short g c).1 less) ∙ covered in absurd (cc wrong)
+      | inl less ↦ let wrong : true ≡ false = sym ((is_short c).1 less) ∙ covered in absurd (cc wrong)
       | inr all ↦ all
     ]
 
 pub start-requires : goal.start-requires
-start-requires g c =
-    let short_is = (goal.at.start-requires g c).After-is_short in
-    let known = (goal.at.After-is_short g short_is).After-known in
-    let at = (goal.at.After-known g known).After-turn-looked in
+start-requires c =
+    let short_is = (goal.at.start-requires c).After-is_short in
+    let known = (goal.at.After-is_short short_is).After-known in
+    let at = (goal.at.After-known known).After-turn-looked in
     let t : PayingAloneTerms = the_view c.self.inside in
     let w : Knowledge = c.turn-looked.new.seat.knows in
     let front : List ℕ = c.in_ok-front.front in
     let so = c.self.invariant in
-    let done = looked g known in
+    let done = looked known in
     let here = MayAppend-IsSnapshot t.start.book t.start w front t.from t.targets done.snapshot done.loads so.kept.known so.kept.own so.owner so.account_in
-    so.targets_in so.room (enough g short_is c.if-is_short.false) in
-    subst (λ (b : BookTerms). MayAppend b w c.record_of-rec.result) (book g (goal.at.After-turn-looked g at).After-self ∙ sym c.turn-looked.ensures.board.book)
+    so.targets_in so.room (enough short_is c.if-is_short.false) in
+    subst (λ (b : BookTerms). MayAppend b w c.record_of-rec.result) (book (goal.at.After-turn-looked at).After-self ∙ sym c.turn-looked.ensures.board.book)
     (subst (MayAppend t.start.book w) (sym c.record_of-rec.ensures) here)
 
 -- its append comes next
-appends : (g : given.Over) (c : After-start g) → c.start.result ≡ starting_appending c.turn-looked.new.seat.knows
+appends : (c : After-start) → c.start.result ≡ starting_appending c.turn-looked.new.seat.knows
     (record { entry = Entry.Own c.self.inside.from c.self.inside.targets; view = c.in_ok-front.front })
-appends g c = c.start.ensures ∙ ap (starting_appending c.turn-looked.new.seat.knows) c.record_of-rec.ensures
+appends c = c.start.ensures ∙ ap (starting_appending c.turn-looked.new.seat.knows) c.record_of-rec.ensures
 
 pub invariant_of-self-2 : goal.invariant_of-self-2
-invariant_of-self-2 g c =
-    let start = (goal.at.invariant_of-self-2 g c).After-start in
-    let short_is = (goal.at.After-start g start).After-is_short in
-    let known = (goal.at.After-is_short g short_is).After-known in
-    let at = (goal.at.After-known g known).After-turn-looked in
+invariant_of-self-2 c =
+    let start = (goal.at.invariant_of-self-2 c).After-start in
+    let short_is = (goal.at.After-start start).After-is_short in
+    let known = (goal.at.After-is_short short_is).After-known in
+    let at = (goal.at.After-known known).After-turn-looked in
     let t : PayingAloneTerms = the_view c.self.inside in
     let w : Knowledge = c.turn-looked.new.seat.knows in
     let now : TotalSums = c.turn-looked.new.totals in
     let front : List ℕ = c.in_ok-front.front in
     let turns : ℕ = c.turn-looked.new.self.turns in
-    let same = book g (goal.at.After-turn-looked g at).After-self in
+    let same = book (goal.at.After-turn-looked at).After-self in
     let within : IsWithin t.start.book.processes t.was (sum front) turns =
     subst (λ (b : BookTerms). IsWithin b.processes t.was (sum front) turns) (sym same)
-    (subst (λ (s : TotalSums). IsWithin c.args.board.now.book.processes s (sum front) turns) (looks g at).was_is c.in_ok-front.ensures.within) in
+    (subst (λ (s : TotalSums). IsWithin c.args.board.now.book.processes s (sum front) turns) (looks at).was_is c.in_ok-front.ensures.within) in
     let here : IsPayingAloneSo (paying_next t (next_append t w front) turns w now) =
-    IsPayingAloneSo-append t w now front turns c.self.invariant (c.turn-looked.ensures.board.book ∙ sym same) (looked g known)
-    (enough g short_is c.if-is_short.false) within in
+    IsPayingAloneSo-append t w now front turns c.self.invariant (c.turn-looked.ensures.board.book ∙ sym same) (looked known)
+    (enough short_is c.if-is_short.false) within in
     subst (λ (k : PayStage). IsPayingAloneSo (paying_next t k c.turns-self-inside.result c.of.result.value.knows c.of-2.result.value))
-    (sym (c.become_next-2.ensures ∙ ap (λ (a : AppendingTerms). Append a) (appends g start)))
+    (sym (c.become_next-2.ensures ∙ ap (λ (a : AppendingTerms). Append a) (appends start)))
     (subst (λ (n : ℕ). IsPayingAloneSo (paying_next t (next_append t w front) n c.of.result.value.knows c.of-2.result.value)) (sym c.turns-self-inside.ensures)
     (subst (λ (m : SeatTerms). IsPayingAloneSo (paying_next t (next_append t w front) turns m.knows c.of-2.result.value)) (sym c.of.ensures)
     (subst (λ (s : TotalSums). IsPayingAloneSo (paying_next t (next_append t w front) turns w s)) (sym c.of-2.ensures) here)))
 
 pub returns-clause-turned : goal.returns-clause-turned
-returns-clause-turned g c =
-    let start = (goal.at.returns-clause-turned g c).After-start in
-    let short_is = (goal.at.After-start g start).After-is_short in
-    let known = (goal.at.After-is_short g short_is).After-known in
-    let at = (goal.at.After-known g known).After-turn-looked in
+returns-clause-turned c =
+    let start = (goal.at.returns-clause-turned c).After-start in
+    let short_is = (goal.at.After-start start).After-is_short in
+    let known = (goal.at.After-is_short short_is).After-known in
+    let at = (goal.at.After-known known).After-turn-looked in
     let t : PayingAloneTerms = the_view c.self.inside in
     let next : PayStage = next_append t c.turn-looked.new.seat.knows c.in_ok-front.front in
     subst (λ (k : PayStage). TakesPayTurn c.args.board.now.book c.args.self.now
     (paying_next t k c.turns-self-inside.result c.of.result.value.knows c.of-2.result.value) c.args.seat.now c.turn-looked.new.seat c.turn-looked.new.totals None)
-    (sym (c.become_next-2.ensures ∙ ap (λ (a : AppendingTerms). Append a) (appends g start)))
-    (turned g at c.turns-self-inside.result c.turns-self-inside.ensures c.of.result.value c.of.ensures c.of-2.result.value c.of-2.ensures next None (omega arith)
-    (omega (arith, (looks g at).left)) (λ some. let wrong : false ≡ true = some in absurd (cc wrong), λ none. absurd (omega (arith, none))) tt tt tt)
+    (sym (c.become_next-2.ensures ∙ ap (λ (a : AppendingTerms). Append a) (appends start)))
+    (turned at c.turns-self-inside.result c.turns-self-inside.ensures c.of.result.value c.of.ensures c.of-2.result.value c.of-2.ensures next None (omega arith)
+    (omega (arith, (looks at).left)) (λ some. let wrong : false ≡ true = some in absurd (cc wrong), λ none. absurd (omega (arith, none))) tt tt tt)

@@ -28,24 +28,24 @@ use Rattle.at_calling.proofs.paying_shared.PayingShared.help_on.Goals.{After-kno
 use Rattle.at_calling.proofs.paying_shared.PayingShared.help_on.Goals as goal
 
 -- the board's book is that of the start
-book : (g : given.Over) (c : After-self g) → c.args.board.now.book ≡ c.self.inside.start.value.knows.book
-book g c =
+book : (c : After-self) → c.args.board.now.book ≡ c.self.inside.start.value.knows.book
+book c =
     sym c.requires.board.book
     ∙ (ap (λ (v : Knowledge). v.book) (c.requires.mark ∙ sym (ap (λ (t : PayingSharedTerms). t.mark) c.self.view_is)) ∙ c.self.invariant.book)
 
 -- the turn of helping goes on
-helps : (g : given.Over) (c : After-turn-helped g) → IsHelpingThen (the_view c.self.inside) c.in-Help.helping c.in-Help.turning
-helps g c = subst (IsShareStageSo (the_view c.self.inside)) c.in-Help.is c.self.invariant.stage_so
+helps : (c : After-turn-helped) → IsHelpingThen (the_view c.self.inside) c.in-Help.helping c.in-Help.turning
+helps c = subst (IsShareStageSo (the_view c.self.inside)) c.in-Help.is c.self.invariant.stage_so
 
 pub overflow_add-self : goal.overflow_add-self
-overflow_add-self g c =
-    let at = (goal.at.overflow_add-self g c).After-turn-helped in
+overflow_add-self c =
+    let at = (goal.at.overflow_add-self c).After-turn-helped in
     let b : BookTerms = c.args.board.now.book in
     let i = c.self.inside in
     let v : Knowledge = i.start.value.knows in
     let most : ℕ = share_turns_most b i.account places_max in
     let few : most ≡ share_turns_most v.book i.account places_max =
-    ap (λ (k : BookTerms). share_turns_most k i.account places_max) (book g (goal.at.After-turn-helped g at).After-self) in
+    ap (λ (k : BookTerms). share_turns_most k i.account places_max) (book (goal.at.After-turn-helped at).After-self) in
     omega (
       arith,
       c.requires.left,
@@ -56,14 +56,14 @@ overflow_add-self g c =
     )
 
 -- one turn more
-turns_now : (g : given.Over) (c : After-turn-helped g) → (helps g c).before + help_turns_made c.turn-helped.new.self ≡ c.self.inside.turns + 1
-turns_now g c = omega (arith, (helps g c).turns_are, c.turn-helped.ensures.turns)
+turns_now : (c : After-turn-helped) → (helps c).before + help_turns_made c.turn-helped.new.self ≡ c.self.inside.turns + 1
+turns_now c = omega (arith, (helps c).turns_are, c.turn-helped.ensures.turns)
 
 -- which are few
-within : (g : given.Over) (c : After-turn-helped g) → c.self.inside.turns + 1
+within : (c : After-turn-helped) → c.self.inside.turns + 1
     ≤ share_turns_most c.args.board.now.book c.self.inside.account (length c.turn-helped.new.seat.knows.seen - sum c.self.inside.was.value.upto)
-within g c =
-    let same = book g (goal.at.After-turn-helped g c).After-self in
+within c =
+    let same = book (goal.at.After-turn-helped c).After-self in
     let b : BookTerms = c.args.board.now.book in
     let i = c.self.inside in
     let t : PayingSharedTerms = the_view i in
@@ -72,7 +72,7 @@ within g c =
     let u : TurningTerms = c.in-Help.turning in
     let w : Knowledge = c.turn-helped.new.seat.knows in
     let turns : ℕ = help_turns_made c.turn-helped.new.self in
-    let so = helps g c in
+    let so = helps c in
     let told = c.turn-helped.ensures in
     let so_far : IsHelpWithin v.book.processes (decides_made h.account u.start w) u.was (length w.seen) turns =
     subst (λ (k : BookTerms). IsHelpWithin k.processes (decides_made h.account u.start w) u.was (length w.seen) turns) same
@@ -81,24 +81,24 @@ within g c =
     omega (
       arith,
       few-so_far v.book v u.start w t.account t.call h so.helped t.was u.was so.before turns so.counted once told.seen so_far,
-      turns_now g c,
+      turns_now c,
       ap (λ (k : BookTerms). share_turns_most k i.account (length w.seen - sum i.was.value.upto)) same,
     )
 
-within_all : (g : given.Over) (c : After-known g)
+within_all : (c : After-known)
     → c.self.inside.turns + 1 ≤ share_turns_most c.args.board.now.book c.self.inside.account places_max
-within_all g c = omega (arith, within g (goal.at.After-known g c).After-turn-helped, c.known.ensures.seat.history.few)
+within_all c = omega (arith, within (goal.at.After-known c).After-turn-helped, c.known.ensures.seat.history.few)
 
 -- the exchanges so far are those that were decided
-made : (g : given.Over) (c : After-turn-helped g)
+made : (c : After-turn-helped)
     → decides_made c.self.inside.account c.self.inside.start.value.knows c.turn-helped.new.seat.knows
     ≡ share_exchanges_made (the_view c.self.inside) + share_exchanges_at c.self.inside.stage
-made g c =
+made c =
     let i = c.self.inside in
     let v : Knowledge = i.start.value.knows in
     let u : TurningTerms = c.in-Help.turning in
     let w : Knowledge = c.turn-helped.new.seat.knows in
-    let so = helps g c in
+    let so = helps c in
     let told = c.turn-helped.ensures in
     let account : u.helping.account ≡ i.account = ap (λ (x : HelpingTerms). x.account) so.helping_is ∙ so.helped.start.account_is in
     omega (
@@ -116,29 +116,29 @@ made g c =
     )
 
 -- what a turn of helping answers and leaves, on the book of the start
-help_of : (g : given.Over) (c : After-turn-helped g) (answer : HelpTurn)
+help_of : (c : After-turn-helped) (answer : HelpTurn)
     → IsHelpOf c.args.board.now.book c.in-Help.turning.start c.turn-helped.new.seat.knows c.in-Help.turning.helping answer
     → IsHelpOf c.self.inside.start.value.knows.book c.in-Help.turning.start c.turn-helped.new.seat.knows c.in-Help.helping answer
-help_of g c answer told =
+help_of c answer told =
     let u : TurningTerms = c.in-Help.turning in
     let w : Knowledge = c.turn-helped.new.seat.knows in
-    subst (λ (k : BookTerms). IsHelpOf k u.start w c.in-Help.helping answer) (book g (goal.at.After-turn-helped g c).After-self)
-    (subst (λ (x : HelpingTerms). IsHelpOf c.args.board.now.book u.start w x answer) (helps g c).helping_is told)
+    subst (λ (k : BookTerms). IsHelpOf k u.start w c.in-Help.helping answer) (book (goal.at.After-turn-helped c).After-self)
+    (subst (λ (x : HelpingTerms). IsHelpOf c.args.board.now.book u.start w x answer) (helps c).helping_is told)
 
-seat_of : (g : given.Over) (c : After-turn-helped g)
+seat_of : (c : After-turn-helped)
     → LeavesSeat c.in-Help.turning.start c.turn-helped.new.seat.knows c.in-Help.turning.helping.account
     → LeavesSeat c.in-Help.turning.start c.turn-helped.new.seat.knows c.in-Help.helping.account
-seat_of g c told =
-    subst (λ (x : HelpingTerms). LeavesSeat c.in-Help.turning.start c.turn-helped.new.seat.knows x.account) (helps g c).helping_is told
+seat_of c told =
+    subst (λ (x : HelpingTerms). LeavesSeat c.in-Help.turning.start c.turn-helped.new.seat.knows x.account) (helps c).helping_is told
 
-totals_of : (g : given.Over) (c : After-turn-helped g)
+totals_of : (c : After-turn-helped)
     → LeavesTotals c.args.board.now.book c.in-Help.turning.start c.turn-helped.new.seat.knows c.in-Help.turning.was c.turn-helped.new.totals
     (round_steps c.args.board.now.book.processes
     * decides_made c.in-Help.turning.helping.account c.in-Help.turning.start c.turn-helped.new.seat.knows) (help_turns_made c.turn-helped.new.self)
     → LeavesTotals c.self.inside.start.value.knows.book c.in-Help.turning.start c.turn-helped.new.seat.knows c.in-Help.turning.was c.turn-helped.new.totals
     (round_steps c.self.inside.start.value.knows.book.processes
     * decides_made c.in-Help.helping.account c.in-Help.turning.start c.turn-helped.new.seat.knows) (help_turns_made c.turn-helped.new.self)
-totals_of g c told =
+totals_of c told =
     let b : BookTerms = c.args.board.now.book in
     let h : HelpingTerms = c.in-Help.helping in
     let u : TurningTerms = c.in-Help.turning in
@@ -146,14 +146,14 @@ totals_of g c told =
     let now : TotalSums = c.turn-helped.new.totals in
     let turns : ℕ = help_turns_made c.turn-helped.new.self in
     subst (λ (k : BookTerms). LeavesTotals k u.start w u.was now (round_steps k.processes * decides_made h.account u.start w) turns)
-    (book g (goal.at.After-turn-helped g c).After-self)
+    (book (goal.at.After-turn-helped c).After-self)
     (subst (λ (x : HelpingTerms). LeavesTotals b u.start w u.was now (round_steps b.processes * decides_made x.account u.start w) turns)
-    (helps g c).helping_is told)
+    (helps c).helping_is told)
 
 pub invariant_of-self-2 : goal.invariant_of-self-2
-invariant_of-self-2 g c =
-    let at = (goal.at.invariant_of-self-2 g c).After-turn-helped in
-    let same = book g (goal.at.After-turn-helped g at).After-self in
+invariant_of-self-2 c =
+    let at = (goal.at.invariant_of-self-2 c).After-turn-helped in
+    let same = book (goal.at.After-turn-helped at).After-self in
     let b : BookTerms = c.args.board.now.book in
     let i = c.self.inside in
     let t : PayingSharedTerms = the_view i in
@@ -164,21 +164,21 @@ invariant_of-self-2 g c =
     let now : TotalSums = c.turn-helped.new.totals in
     let turns : ℕ = help_turns_made c.turn-helped.new.self in
     let next : TurningTerms = c.start.result in
-    let so = helps g at in
+    let so = helps at in
     let told = c.in_ok-receipt.ensures in
     let begun = c.start.ensures in
     let more = c.in_default-2.is in
-    let seat = seat_of g at told.seat in
+    let seat = seat_of at told.seat in
     let help : IsHelpOf v.book u.start w h More =
-    subst (IsHelpOf v.book u.start w h) more (help_of g at c.in_ok-receipt.field-0 told.answer) in
+    subst (IsHelpOf v.book u.start w h) more (help_of at c.in_ok-receipt.field-0 told.answer) in
     let waits : WaitsOn v.book u.start w h =
     subst (λ (k : BookTerms). WaitsOn k u.start w h) same (subst (λ (x : HelpingTerms). WaitsOn b u.start w x) so.helping_is (told.waits more)) in
     let book_now : w.book ≡ v.book = c.turn-helped.ensures.board.book ∙ same in
     let history : IsHistory v.book w.seen = subst (λ (k : BookTerms). IsHistory k w.seen) book_now c.known.ensures.seat.history in
     let counted : HasCounted now v.book w.seen = subst (λ (k : BookTerms). HasCounted now k w.seen) same told.counted in
     let counted_so : HasCountedSo v.book v w t.was now t.account (i.turns + 1) =
-    subst (HasCountedSo v.book v w t.was now t.account) (turns_now g at)
-    (HasCountedSo-more v.book v u.start w t.account t.call h so.helped seat waits t.was u.was now so.before turns so.counted (totals_of g at told.leaves) counted history) in
+    subst (HasCountedSo v.book v w t.was now t.account) (turns_now at)
+    (HasCountedSo-more v.book v u.start w t.account t.call h so.helped seat waits t.was u.was now so.before turns so.counted (totals_of at told.leaves) counted history) in
     let stage : ShareStage = Help h next in
     let here : IsPayingSharedSo (record t { stage = stage; turns = i.turns + 1; mark = w; totals = now }) = record {
       kept = c.self.invariant.kept;
@@ -196,23 +196,23 @@ invariant_of-self-2 g c =
     (subst (λ (x : TotalSums). IsPayingSharedSo (record t { stage = stage; turns = i.turns + 1; mark = w; totals = x })) (sym c.of-2.ensures) here))
 
 -- some turn was left
-some : (g : given.Over) (c : After-turn-helped g) → 0 < share_turns_left c.args.board.now.book (the_view c.self.inside)
-some g c = subst (λ (x : PayingSharedTerms). 0 < share_turns_left c.args.board.now.book x) (sym c.self.view_is) c.requires.left
+some : (c : After-turn-helped) → 0 < share_turns_left c.args.board.now.book (the_view c.self.inside)
+some c = subst (λ (x : PayingSharedTerms). 0 < share_turns_left c.args.board.now.book x) (sym c.self.view_is) c.requires.left
 
 -- the step that was made
-step : (g : given.Over) (c : After-turn-helped g)
+step : (c : After-turn-helped)
     → MakesShareStep c.args.board.now.book c.self.inside.stage c.args.seat.now c.turn-helped.new.seat c.turn-helped.new.totals
-step g c =
+step c =
     subst (λ (k : ShareStage). MakesShareStep c.args.board.now.book k c.args.seat.now c.turn-helped.new.seat c.turn-helped.new.totals) (sym c.in-Help.is)
     (c.turn-helped.new.self.stage, c.turn-helped.ensures.step)
 
 -- what the turn leaves where helping goes on
-goes_on : (g : given.Over) (c : After-known g) (mark : SeatTerms) → mark ≡ c.turn-helped.new.seat → (totals : TotalSums) → totals ≡ c.turn-helped.new.totals
+goes_on : (c : After-known) (mark : SeatTerms) → mark ≡ c.turn-helped.new.seat → (totals : TotalSums) → totals ≡ c.turn-helped.new.totals
     → (u : TurningTerms)
     → TakesShareTurn c.args.board.now.book c.args.self.now (share_next (the_view c.self.inside) (Help c.in-Help.helping u) mark.knows totals)
     c.args.seat.now c.turn-helped.new.seat c.turn-helped.new.totals None
-goes_on g c mark mark_is totals totals_are u =
-    let at = (goal.at.After-known g c).After-turn-helped in
+goes_on c mark mark_is totals totals_are u =
+    let at = (goal.at.After-known c).After-turn-helped in
     let b : BookTerms = c.args.board.now.book in
     let t : PayingSharedTerms = the_view c.self.inside in
     let before : SeatTerms = c.args.seat.now in
@@ -220,26 +220,26 @@ goes_on g c mark mark_is totals totals_are u =
     let now : TotalSums = c.turn-helped.new.totals in
     let stage : ShareStage = Help c.in-Help.helping u in
     subst (λ (x : PayingSharedTerms). TakesShareTurn b x (share_next t stage mark.knows totals) before after now None) c.self.view_is
-    (TakesShareTurn-on b t before after now mark.knows (ap (λ (m : SeatTerms). m.knows) mark_is) totals totals_are (some g at) (step g at) (within g at)
-    stage (λ n. refl) (within_all g c) (ap (λ (m : SeatTerms). decides_made t.account t.start m.knows) mark_is ∙ made g at))
+    (TakesShareTurn-on b t before after now mark.knows (ap (λ (m : SeatTerms). m.knows) mark_is) totals totals_are (some at) (step at) (within at)
+    stage (λ n. refl) (within_all c) (ap (λ (m : SeatTerms). decides_made t.account t.start m.knows) mark_is ∙ made at))
 
 pub returns-in_err-receipt-clause-turned : goal.returns-in_err-receipt-clause-turned
-returns-in_err-receipt-clause-turned g c =
+returns-in_err-receipt-clause-turned c =
     subst (TakesShareTurn c.args.board.now.book c.args.self.now
     (share_next (the_view c.self.inside) (Help c.in-Help.helping c.turn-helped.new.self) c.of.result.value.knows c.of-2.result.value) c.args.seat.now
     c.turn-helped.new.seat c.turn-helped.new.totals) (sym c.from_residual.ensures)
-    (goes_on g (goal.at.returns-in_err-receipt-clause-turned g c).After-known c.of.result.value c.of.ensures c.of-2.result.value c.of-2.ensures
+    (goes_on (goal.at.returns-in_err-receipt-clause-turned c).After-known c.of.result.value c.of.ensures c.of-2.result.value c.of-2.ensures
     c.turn-helped.new.self)
 
 pub returns-clause-turned : goal.returns-clause-turned
-returns-clause-turned g c =
-    goes_on g (goal.at.returns-clause-turned g c).After-known c.of.result.value c.of.ensures c.of-2.result.value c.of-2.ensures
+returns-clause-turned c =
+    goes_on (goal.at.returns-clause-turned c).After-known c.of.result.value c.of.ensures c.of-2.result.value c.of-2.ensures
     c.become_next-2.new.self
 
 pub returns-in-Settled-clause-turned : goal.returns-in-Settled-clause-turned
-returns-in-Settled-clause-turned g c =
-    let at = (goal.at.returns-in-Settled-clause-turned g c).After-turn-helped in
-    let same = book g (goal.at.After-turn-helped g at).After-self in
+returns-in-Settled-clause-turned c =
+    let at = (goal.at.returns-in-Settled-clause-turned c).After-turn-helped in
+    let same = book (goal.at.After-turn-helped at).After-self in
     let b : BookTerms = c.args.board.now.book in
     let t : PayingSharedTerms = the_view c.self.inside in
     let v : Knowledge = t.start in
@@ -252,24 +252,24 @@ returns-in-Settled-clause-turned g c =
     let mark : Knowledge = c.of.result.value.knows in
     let totals : TotalSums = c.of-2.result.value in
     let r : Receipt = c.in-Settled.receipt in
-    let so = helps g at in
+    let so = helps at in
     let told = c.in_ok-receipt.ensures in
-    let seat = seat_of g at told.seat in
+    let seat = seat_of at told.seat in
     let help : IsHelpOf v.book u.start w h (Settled r) =
-    subst (IsHelpOf v.book u.start w h) c.in-Settled.is (help_of g at c.in_ok-receipt.field-0 told.answer) in
+    subst (IsHelpOf v.book u.start w h) c.in-Settled.is (help_of at c.in_ok-receipt.field-0 told.answer) in
     let pays : PaysInRound v.book v w t.account t.call r =
     PaysInRound-settled v.book v u.start w t.account t.call h so.helped seat r help c.self.invariant.kept refl c.self.invariant.settled in
     let settles : SettlesInTurns v.book v w t.account r = SettlesInTurns-settled v.book v u.start w t.account t.call h so.helped seat r help in
     let few : DecidesFew v.book v w t.account = DecidesFew-settled v.book v u.start w t.account t.call h so.helped seat in
     let leaves : LeavesTotals v.book v w t.was now (settling_steps v.book t.account) (t.turns + 1) =
-    subst (LeavesTotals v.book v w t.was now (settling_steps v.book t.account)) (turns_now g at)
+    subst (LeavesTotals v.book v w t.was now (settling_steps v.book t.account)) (turns_now at)
     (LeavesTotals-settled v.book v u.start w t.account t.call h so.helped seat t.was u.was now so.before (help_turns_made c.turn-helped.new.self) so.counted
-    (totals_of g at told.leaves)) in
+    (totals_of at told.leaves)) in
     subst (λ (k : ShareStage). TakesShareTurn b c.args.self.now (share_next t k mark totals) before after now (Some r)) (sym c.become_next.ensures)
     (subst (λ (x : PayingSharedTerms). TakesShareTurn b x (share_next t Ended mark totals) before after now (Some r)) c.self.view_is
-    (TakesShareTurn-settled b t before after now mark (ap (λ (m : SeatTerms). m.knows) c.of.ensures) totals c.of-2.ensures (some g at) (step g at) (within g at) r
+    (TakesShareTurn-settled b t before after now mark (ap (λ (m : SeatTerms). m.knows) c.of.ensures) totals c.of-2.ensures (some at) (step at) (within at) r
     (subst (λ (k : BookTerms). PaysInRound k v w t.account t.call r) (sym same) pays)
     (subst (λ (k : BookTerms). SettlesInTurns k v w t.account r) (sym same) settles)
     (subst (λ (k : BookTerms). DecidesFew k v w t.account) (sym same) few) told.counted
     (subst (λ (k : BookTerms). LeavesTotals k v w t.was now (settling_steps k t.account) (t.turns + 1)) (sym same) leaves)
-    (ap (λ (m : SeatTerms). decides_made t.account t.start m.knows) c.of.ensures ∙ made g at)))
+    (ap (λ (m : SeatTerms). decides_made t.account t.start m.knows) c.of.ensures ∙ made at)))

@@ -28,40 +28,40 @@ use Rattle.at_calling.proofs.paying_shared.PayingShared.start_on.Goals.{After-kn
 use Rattle.at_calling.proofs.paying_shared.PayingShared.start_on.Goals as goal
 
 -- the board's book is that of the start
-book : (g : given.Over) (c : After-self g) → c.args.board.now.book ≡ c.self.inside.start.value.knows.book
-book g c =
+book : (c : After-self) → c.args.board.now.book ≡ c.self.inside.start.value.knows.book
+book c =
     sym c.requires.board.book
     ∙ (ap (λ (v : Knowledge). v.book) (c.requires.mark ∙ sym (ap (λ (t : PayingSharedTerms). t.mark) c.self.view_is)) ∙ c.self.invariant.book)
 
 -- the start goes on
-starts : (g : given.Over) (c : After-turn-started g) → IsStartingFirst (the_view c.self.inside) c.in-Start.starting
-starts g c = subst (IsShareStageSo (the_view c.self.inside)) c.in-Start.is c.self.invariant.stage_so
+starts : (c : After-turn-started) → IsStartingFirst (the_view c.self.inside) c.in-Start.starting
+starts c = subst (IsShareStageSo (the_view c.self.inside)) c.in-Start.is c.self.invariant.stage_so
 
 -- the request that waits now is the call's
-waits : (g : given.Over) (c : After-start-turning g)
+waits : (c : After-start-turning)
     → IsStartOf c.self.inside.start.value.knows.book c.self.inside.start.value.knows c.turn-started.new.seat.knows c.self.inside.account c.self.inside.call
     c.in_ok-helping.helping
-waits g c =
-    let at = (goal.at.After-start-turning g c).After-turn-started in
+waits c =
+    let at = (goal.at.After-start-turning c).After-turn-started in
     let b : BookTerms = c.args.board.now.book in
     let t : PayingSharedTerms = the_view c.self.inside in
     let s : StartingTerms = c.in-Start.starting in
     let w : Knowledge = c.turn-started.new.seat.knows in
     let h : HelpingTerms = c.in_ok-helping.helping in
-    let so = starts g at in
-    subst (λ (k : BookTerms). IsStartOf k t.start w t.account t.call h) (book g (goal.at.After-turn-started g at).After-self)
+    let so = starts at in
+    subst (λ (k : BookTerms). IsStartOf k t.start w t.account t.call h) (book (goal.at.After-turn-started at).After-self)
     (subst (λ (p : Knowledge). IsStartOf b p w t.account t.call h) so.start_is
     (subst (λ n. IsStartOf b s.start w n t.call h) so.account_is
     (subst (λ (x : Call). IsStartOf b s.start w s.account x h) so.call_is c.in_ok-helping.ensures.answer)))
 
 pub start-turning-requires-clause-counted : goal.start-turning-requires-clause-counted
-start-turning-requires-clause-counted g c =
+start-turning-requires-clause-counted c =
     c.turn-started.ensures.counted c.turn-started.new.seat.knows.seen (IsPrefix-refl c.turn-started.new.seat.knows.seen)
 
 pub invariant_of-self-2 : goal.invariant_of-self-2
-invariant_of-self-2 g c =
-    let at = (goal.at.invariant_of-self-2 g c).After-turn-started in
-    let same = book g (goal.at.After-turn-started g at).After-self in
+invariant_of-self-2 c =
+    let at = (goal.at.invariant_of-self-2 c).After-turn-started in
+    let same = book (goal.at.After-turn-started at).After-self in
     let b : BookTerms = c.args.board.now.book in
     let i = c.self.inside in
     let t : PayingSharedTerms = the_view i in
@@ -72,11 +72,11 @@ invariant_of-self-2 g c =
     let turns : ℕ = start_turns_made c.turn-started.new.self in
     let h : HelpingTerms = c.in_ok-helping.helping in
     let u : TurningTerms = c.start-turning.result in
-    let so = starts g at in
+    let so = starts at in
     let told = c.in_ok-helping.ensures in
     let begun = c.start-turning.ensures in
     let steps : BookTerms → ℕ → ℕ = λ k a. asking_steps (slots_of (account_of k a)) in
-    let start : IsStartOf v.book v w t.account t.call h = waits g (goal.at.invariant_of-self-2 g c).After-start-turning in
+    let start : IsStartOf v.book v w t.account t.call h = waits (goal.at.invariant_of-self-2 c).After-start-turning in
     let leaves : LeavesTotals v.book v w t.was now (steps v.book t.account) turns =
     subst (λ (k : BookTerms). LeavesTotals k v w t.was now (steps k t.account) turns) same
     (subst (λ (p : Knowledge). LeavesTotals b p w t.was now (steps b t.account) turns) so.start_is
@@ -107,14 +107,14 @@ invariant_of-self-2 g c =
     (subst (λ (x : TotalSums). IsPayingSharedSo (record t { stage = stage; turns = i.turns + 1; mark = w; totals = x })) (sym c.of-2.ensures) here))
 
 -- one turn more, and few so far
-within : (g : given.Over) (c : After-turn-started g) → c.self.inside.turns + 1
+within : (c : After-turn-started) → c.self.inside.turns + 1
     ≤ share_turns_most c.args.board.now.book c.self.inside.account (length c.turn-started.new.seat.knows.seen - sum c.self.inside.was.value.upto)
-within g c =
+within c =
     let b : BookTerms = c.args.board.now.book in
     let i = c.self.inside in
     let s : StartingTerms = c.turn-started.new.self in
     let records : ℕ = length c.turn-started.new.seat.knows.seen in
-    let so = starts g c in
+    let so = starts c in
     let told = c.turn-started.ensures in
     let so_far : start_turns_made s
     ≤ snapshot_steps b.processes + asking_steps (slots_of (account_of b i.account)) + RECORD_WORDS * (records - sum i.was.value.upto) =
@@ -125,19 +125,19 @@ within g c =
     omega (arith, so_far, so.turns_are, told.turns)
 
 -- what the turn leaves, with whichever stage next
-turned : (g : given.Over) (c : After-known g) (mark : SeatTerms) → mark ≡ c.turn-started.new.seat → (totals : TotalSums) → totals ≡ c.turn-started.new.totals
+turned : (c : After-known) (mark : SeatTerms) → mark ≡ c.turn-started.new.seat → (totals : TotalSums) → totals ≡ c.turn-started.new.totals
     → (stage : ShareStage) → ((n : ℕ) → unless_settled n stage ≡ n)
     → unless_starting (decides_made c.self.inside.account c.self.inside.start.value.knows mark.knows) stage ≡ 0
     → TakesShareTurn c.args.board.now.book c.args.self.now (share_next (the_view c.self.inside) stage mark.knows totals) c.args.seat.now
     c.turn-started.new.seat c.turn-started.new.totals None
-turned g c mark mark_is totals totals_are stage goes decides =
-    let at = (goal.at.After-known g c).After-turn-started in
+turned c mark mark_is totals totals_are stage goes decides =
+    let at = (goal.at.After-known c).After-turn-started in
     let b : BookTerms = c.args.board.now.book in
     let t : PayingSharedTerms = the_view c.self.inside in
     let before : SeatTerms = c.args.seat.now in
     let after : SeatTerms = c.turn-started.new.seat in
     let now : TotalSums = c.turn-started.new.totals in
-    let few = within g at in
+    let few = within at in
     subst (λ (x : PayingSharedTerms). TakesShareTurn b x (share_next t stage mark.knows totals) before after now None) c.self.view_is
     (TakesShareTurn-on b t before after now mark.knows (ap (λ (m : SeatTerms). m.knows) mark_is) totals totals_are
     (subst (λ (x : PayingSharedTerms). 0 < share_turns_left b x) (sym c.self.view_is) c.requires.left)
@@ -146,22 +146,22 @@ turned g c mark mark_is totals totals_are stage goes decides =
     (omega (arith, decides, ap (unless_starting (decides_made t.account t.start t.mark)) c.in-Start.is, ap share_exchanges_at c.in-Start.is)))
 
 pub returns-in_err-helping-clause-turned : goal.returns-in_err-helping-clause-turned
-returns-in_err-helping-clause-turned g c =
-    let known = (goal.at.returns-in_err-helping-clause-turned g c).After-known in
+returns-in_err-helping-clause-turned c =
+    let known = (goal.at.returns-in_err-helping-clause-turned c).After-known in
     let next : ShareStage = Start c.turn-started.new.self in
     subst (TakesShareTurn c.args.board.now.book c.args.self.now (share_next (the_view c.self.inside) next c.of.result.value.knows c.of-2.result.value)
     c.args.seat.now c.turn-started.new.seat c.turn-started.new.totals) (sym c.from_residual.ensures)
-    (turned g known c.of.result.value c.of.ensures c.of-2.result.value c.of-2.ensures next (λ n. refl) refl)
+    (turned known c.of.result.value c.of.ensures c.of-2.result.value c.of-2.ensures next (λ n. refl) refl)
 
 pub returns-clause-turned : goal.returns-clause-turned
-returns-clause-turned g c =
-    let start = (goal.at.returns-clause-turned g c).After-start-turning in
-    let known = (goal.at.After-start-turning g start).After-known in
+returns-clause-turned c =
+    let start = (goal.at.returns-clause-turned c).After-start-turning in
+    let known = (goal.at.After-start-turning start).After-known in
     let t : PayingSharedTerms = the_view c.self.inside in
     let w : Knowledge = c.turn-started.new.seat.knows in
     let h : HelpingTerms = c.in_ok-helping.helping in
     subst (λ (k : ShareStage). TakesShareTurn c.args.board.now.book c.args.self.now (share_next t k c.of.result.value.knows c.of-2.result.value)
     c.args.seat.now c.turn-started.new.seat c.turn-started.new.totals None) (sym c.become_next.ensures)
-    (turned g known c.of.result.value c.of.ensures c.of-2.result.value c.of-2.ensures (Help h c.start-turning.result) (λ n. refl)
+    (turned known c.of.result.value c.of.ensures c.of-2.result.value c.of-2.ensures (Help h c.start-turning.result) (λ n. refl)
     (ap (λ (m : SeatTerms). decides_made t.account t.start m.knows) c.of.ensures
-    ∙ decides_made-IsStartOf t.start.book t.start w t.account t.call h (waits g start)))
+    ∙ decides_made-IsStartOf t.start.book t.start w t.account t.call h (waits start)))

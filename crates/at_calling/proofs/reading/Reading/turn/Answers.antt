@@ -14,14 +14,14 @@ use Rattle.at_calling.proofs.reading.Reading.turn.Goals.{After-known}
 use Rattle.at_calling.proofs.reading.Reading.turn.Goals as goal
 
 -- the account is one of the board's book
-account_in : (g : given.Over) (c : After-known g) → c.self.inside.account < length c.args.board.now.book.accounts
-account_in g c =
+account_in : (c : After-known) → c.self.inside.account < length c.args.board.now.book.accounts
+account_in c =
     let book : c.self.inside.looking.start.book ≡ c.args.board.now.book =
     sym (ap (λ (v : Knowledge). v.book) c.in_ok-front.ensures.looked.loads.same) ∙ c.turn.ensures.board.book in
     subst (λ (b : BookTerms). c.self.inside.account < length b.accounts) book c.self.invariant
 
 pub balance-requires : goal.balance-requires
-balance-requires g c =
+balance-requires c =
     let b : BookTerms = c.args.board.now.book in
     let v : Knowledge = c.self.inside.looking.start in
     let w : Knowledge = c.turn.new.seat.knows in
@@ -30,12 +30,12 @@ balance-requires g c =
     let looked = c.in_ok-front.ensures.looked in (
       b,
       w.seen,
-      CountsAccount-HasLooked b v w was c.turn.new.totals front c.self.inside.account looked (account_in g (goal.at.balance-requires g c).After-known),
+      CountsAccount-HasLooked b v w was c.turn.new.totals front c.self.inside.account looked (account_in (goal.at.balance-requires c).After-known),
       CountsFront-HasLooked b v w was c.turn.new.totals front looked,
     )
 
 pub returns-clause-answer : goal.returns-clause-answer
-returns-clause-answer g c =
+returns-clause-answer c =
     let b : BookTerms = c.args.board.now.book in
     let v : Knowledge = c.self.inside.looking.start in
     let w : Knowledge = c.turn.new.seat.knows in
@@ -44,6 +44,6 @@ returns-clause-answer g c =
     let front : List ℕ = c.in_ok-front.front in
     let looked = c.in_ok-front.ensures.looked in
     let r : Receipt = record { call = Read c.self.inside.account; reply = Balance c.balance.result; at = Front front } in
-    let balance = balance-HasLooked b v w was now front c.self.inside.account c.balance.result looked (account_in g (goal.at.returns-clause-answer g c).After-known) c.balance.ensures in
+    let balance = balance-HasLooked b v w was now front c.self.inside.account c.balance.result looked (account_in (goal.at.returns-clause-answer c).After-known) c.balance.ensures in
     subst (λ (t : ReadingTerms). IsReadOf b t.looking.start w t.account r) c.self.view_is
     (IsReadOf-HasLooked b v w was now front looked c.self.inside.account c.balance.result balance)

@@ -23,124 +23,124 @@ use Rattle.at_calling.proofs.starting.Starting.ask_on.Goals.{After-become_next, 
 use Rattle.at_calling.proofs.starting.Starting.ask_on.Goals as goal
 
 -- what the seat knew is what the last turn left
-known_before : (g : given.Over) (c : After-self g) → c.args.seat.now.knows ≡ c.self.inside.mark.value.knows
-known_before g c = c.requires.mark ∙ sym (ap (λ (t : StartingTerms). t.mark) c.self.view_is)
+known_before : (c : After-self) → c.args.seat.now.knows ≡ c.self.inside.mark.value.knows
+known_before c = c.requires.mark ∙ sym (ap (λ (t : StartingTerms). t.mark) c.self.view_is)
 
 -- its seat is the board's
-book : (g : given.Over) (c : After-self g) → c.args.board.now.book ≡ c.self.inside.start.value.knows.book
-book g c = sym c.requires.board.book ∙ (ap (λ (v : Knowledge). v.book) (known_before g c) ∙ c.self.invariant.book)
+book : (c : After-self) → c.args.board.now.book ≡ c.self.inside.start.value.knows.book
+book c = sym c.requires.board.book ∙ (ap (λ (v : Knowledge). v.book) (known_before c) ∙ c.self.invariant.book)
 
 -- the request is stored
-asks : (g : given.Over) (c : After-turn-announced g) → IsAskingThen (the_view c.self.inside) c.in-Ask.asking
-asks g c = subst (IsStartStageSo (the_view c.self.inside)) c.in-Ask.is c.self.invariant.stage_so
+asks : (c : After-turn-announced) → IsAskingThen (the_view c.self.inside) c.in-Ask.asking
+asks c = subst (IsStartStageSo (the_view c.self.inside)) c.in-Ask.is c.self.invariant.stage_so
 
 -- the slot is the seat's on the board
-slot_there : (g : given.Over) (c : After-turn-announced g)
+slot_there : (c : After-turn-announced)
     → HasSlot c.args.board.now.book c.in-Ask.asking.start.first c.in-Ask.asking.account (slot_of_start (the_view c.self.inside) c.self.invariant)
-slot_there g c =
+slot_there c =
     let t : StartingTerms = the_view c.self.inside in
     let a : AskingTerms = c.in-Ask.asking in
-    subst (λ (b : BookTerms). HasSlot b a.start.first a.account (slot_of_start t c.self.invariant)) (sym (book g (goal.at.After-turn-announced g c).After-self))
-    (HasSlot-IsAskingThen t c.self.invariant a (asks g c) c.turn-announced.new.seat.knows)
+    subst (λ (b : BookTerms). HasSlot b a.start.first a.account (slot_of_start t c.self.invariant)) (sym (book (goal.at.After-turn-announced c).After-self))
+    (HasSlot-IsAskingThen t c.self.invariant a (asks c) c.turn-announced.new.seat.knows)
 
 -- the request is announced
-announced : (g : given.Over) (c : After-slot_of g)
+announced : (c : After-slot_of)
     → Announces c.self.inside.start.value.knows.book c.in-Ask.asking.start c.turn-announced.new.seat.knows c.in-Ask.asking.account
     (slot_of_start (the_view c.self.inside) c.self.invariant) (request_asked c.in-Ask.asking)
-announced g c =
-    let at = (goal.at.After-slot_of g c).After-turn-announced in
+announced c =
+    let at = (goal.at.After-slot_of c).After-turn-announced in
     let a : AskingTerms = c.in-Ask.asking in
     let slot = slot_of_start (the_view c.self.inside) c.self.invariant in
     subst (λ (b : BookTerms). Announces b a.start c.turn-announced.new.seat.knows a.account slot (request_asked a))
-    (book g (goal.at.After-turn-announced g at).After-self) (c.in_ok-number.ensures.announced slot (slot_there g at))
+    (book (goal.at.After-turn-announced at).After-self) (c.in_ok-number.ensures.announced slot (slot_there at))
 
 -- its slot is found
-found : (g : given.Over) (c : After-slot_of g) → c.slot_of.result ≡ Some (slot_of_start (the_view c.self.inside) c.self.invariant)
-found g c =
-    let at = (goal.at.After-slot_of g c).After-turn-announced in
+found : (c : After-slot_of) → c.slot_of.result ≡ Some (slot_of_start (the_view c.self.inside) c.self.invariant)
+found c =
+    let at = (goal.at.After-slot_of c).After-turn-announced in
     let t : StartingTerms = the_view c.self.inside in
     let a : AskingTerms = c.in-Ask.asking in
     let w : Knowledge = c.turn-announced.new.seat.knows in
-    let same : c.book.result.now ≡ t.start.book = c.book.ensures ∙ book g (goal.at.After-turn-announced g at).After-self in
+    let same : c.book.result.now ≡ t.start.book = c.book.ensures ∙ book (goal.at.After-turn-announced at).After-self in
     c.slot_of.ensures.slot
     ∙ (ap (λ (b : BookTerms). slot_in (account_of b t.account) c.process.result) same
     ∙ (ap (slot_in (account_of t.start.book t.account)) c.process.ensures.process
-    ∙ (ap (λ n. slot_in (account_of t.start.book n) w.first) (sym (asks g at).to_ask.account_is)
-    ∙ slot_in-Announces t c.self.invariant a (asks g at) w (announced g c))))
+    ∙ (ap (λ n. slot_in (account_of t.start.book n) w.first) (sym (asks at).to_ask.account_is)
+    ∙ slot_in-Announces t c.self.invariant a (asks at) w (announced c))))
 
 pub unwrap-slot-requires : goal.unwrap-slot-requires
-unwrap-slot-requires g c = subst IsSome (sym (found g (goal.at.unwrap-slot-requires g c).After-slot_of)) refl
+unwrap-slot-requires c = subst IsSome (sym (found (goal.at.unwrap-slot-requires c).After-slot_of)) refl
 
 -- and the request that waits is this one
-own_is : (g : given.Over) (c : After-opened g)
+own_is : (c : After-opened)
     → c.opened.result ≡ opened (slot_of_start (the_view c.self.inside) c.self.invariant) c.in_ok-number.number c.in-Ask.asking.targets c.in-Ask.asking.since
-own_is g c =
-    let at = (goal.at.After-opened g c).After-slot_of in
+own_is c =
+    let at = (goal.at.After-opened c).After-slot_of in
     let a : AskingTerms = c.in-Ask.asking in
     let number : ℕ = c.in_ok-number.number in
     let slot = slot_of_start (the_view c.self.inside) c.self.invariant in
-    let same : c.unwrap-slot.result ≡ slot = same_some c.unwrap-slot.result slot (sym c.unwrap-slot.ensures ∙ found g at) in
+    let same : c.unwrap-slot.result ≡ slot = same_some c.unwrap-slot.result slot (sym c.unwrap-slot.ensures ∙ found at) in
     c.opened.ensures
     ∙ (ap (λ (x : AskingTerms). opened c.unwrap-slot.result number x.targets x.since) c.turn-announced.ensures.after
     ∙ ap (λ n. opened n number a.targets a.since) same)
 
 pub start-collecting-requires : goal.start-collecting-requires
-start-collecting-requires g c =
-    let here = (goal.at.start-collecting-requires g c).After-opened in
-    let at = (goal.at.start-collecting-requires g c).After-turn-announced in
+start-collecting-requires c =
+    let here = (goal.at.start-collecting-requires c).After-opened in
+    let at = (goal.at.start-collecting-requires c).After-turn-announced in
     let a : AskingTerms = c.in-Ask.asking in
     let b : BookTerms = c.args.board.now.book in
     let w : Knowledge = c.turn-announced.new.seat.knows in
     let slot = slot_of_start (the_view c.self.inside) c.self.invariant in
     let own : HasAsked b w a.account (opened slot c.in_ok-number.number a.targets a.since) =
-    c.in_ok-number.ensures.own slot (slot_there g at) in
+    c.in_ok-number.ensures.own slot (slot_there at) in
     subst (λ (k : BookTerms). HasAsked k w c.self.inside.account c.opened.result) (sym c.turn-announced.ensures.board.book)
-    (subst (λ n. HasAsked b w n c.opened.result) (asks g at).to_ask.account_is (subst (HasAsked b w a.account) (sym (own_is g here)) own))
+    (subst (λ n. HasAsked b w n c.opened.result) (asks at).to_ask.account_is (subst (HasAsked b w a.account) (sym (own_is here)) own))
 
 -- the rows come next
-rows_next : (g : given.Over) (c : After-become_next g)
+rows_next : (c : After-become_next)
     → c.become_next.new.self
     ≡ Collect (starting_rows c.turn-announced.new.seat.knows c.in-Ask.asking.account
     (opened (slot_of_start (the_view c.self.inside) c.self.invariant) c.in_ok-number.number c.in-Ask.asking.targets c.in-Ask.asking.since))
-rows_next g c =
-    let here = (goal.at.After-become_next g c).After-opened in
-    let at = (goal.at.After-become_next g c).After-turn-announced in
+rows_next c =
+    let here = (goal.at.After-become_next c).After-opened in
+    let at = (goal.at.After-become_next c).After-turn-announced in
     let a : AskingTerms = c.in-Ask.asking in
     let w : Knowledge = c.turn-announced.new.seat.knows in
     let own : OpenRequest = opened (slot_of_start (the_view c.self.inside) c.self.invariant) c.in_ok-number.number a.targets a.since in
     c.become_next.ensures
     ∙ (ap (λ (r : CollectingRowsTerms). Collect r) c.start-collecting.ensures
-    ∙ (ap (λ (x : OpenRequest). Collect (starting_rows w c.self.inside.account x)) (own_is g here)
-    ∙ ap (λ n. Collect (starting_rows w n own)) (sym (asks g at).to_ask.account_is)))
+    ∙ (ap (λ (x : OpenRequest). Collect (starting_rows w c.self.inside.account x)) (own_is here)
+    ∙ ap (λ n. Collect (starting_rows w n own)) (sym (asks at).to_ask.account_is)))
 
 pub invariant_of-self-2 : goal.invariant_of-self-2
-invariant_of-self-2 g c =
-    let next = (goal.at.invariant_of-self-2 g c).After-become_next in
-    let slot_found = (goal.at.invariant_of-self-2 g c).After-slot_of in
-    let at = (goal.at.invariant_of-self-2 g c).After-turn-announced in
+invariant_of-self-2 c =
+    let next = (goal.at.invariant_of-self-2 c).After-become_next in
+    let slot_found = (goal.at.invariant_of-self-2 c).After-slot_of in
+    let at = (goal.at.invariant_of-self-2 c).After-turn-announced in
     let t : StartingTerms = the_view c.self.inside in
     let a : AskingTerms = c.in-Ask.asking in
     let w : Knowledge = c.turn-announced.new.seat.knows in
     let told = c.in_ok-number.ensures in
     let number : ℕ = c.in_ok-number.number in
     let stage : StartStage = Collect (starting_rows w a.account (opened (slot_of_start t c.self.invariant) number a.targets a.since)) in
-    let same : w.book ≡ t.start.book = c.turn-announced.ensures.board.book ∙ book g (goal.at.After-turn-announced g at).After-self in
+    let same : w.book ≡ t.start.book = c.turn-announced.ensures.board.book ∙ book (goal.at.After-turn-announced at).After-self in
     let here : IsStartingSo (start_after t stage w) =
-    IsStartingSo-collect t c.self.invariant a (asks g at) w (announced g slot_found) number same told.number told.nothing in
-    subst (λ (s : StartStage). IsStartingSo (start_after t s c.of.result.value.knows)) (sym (rows_next g next))
+    IsStartingSo-collect t c.self.invariant a (asks at) w (announced slot_found) number same told.number told.nothing in
+    subst (λ (s : StartStage). IsStartingSo (start_after t s c.of.result.value.knows)) (sym (rows_next next))
     (subst (λ (s : SeatTerms). IsStartingSo (start_after t stage s.knows)) (sym c.of.ensures) here)
 
 -- the account has a slot on the board
-some_slot : (g : given.Over) (c : After-turn-announced g) → 1 ≤ slots_of (account_of c.args.board.now.book c.self.inside.account)
-some_slot g c =
+some_slot : (c : After-turn-announced) → 1 ≤ slots_of (account_of c.args.board.now.book c.self.inside.account)
+some_slot c =
     omega (
       arith,
       (HasSlot-IsStartingSo (the_view c.self.inside) c.self.invariant).within,
-      ap (λ (b : BookTerms). slots_of (account_of b c.self.inside.account)) (book g (goal.at.After-turn-announced g c).After-self),
+      ap (λ (b : BookTerms). slots_of (account_of b c.self.inside.account)) (book (goal.at.After-turn-announced c).After-self),
     )
 
 -- what the turn leaves, with whichever stage next
-turned : (g : given.Over) (c : After-turn-announced g) (mark : SeatTerms) → mark ≡ c.turn-announced.new.seat
+turned : (c : After-turn-announced) (mark : SeatTerms) → mark ≡ c.turn-announced.new.seat
     → IsPrefix c.in-Ask.asking.start.seen c.turn-announced.new.seat.knows.seen → (stage : StartStage)
     → start_turns_in c.self.inside.looked stage ≡ c.self.inside.looked + c.in-Ask.asking.stored + 1
     → MakesStartStep c.args.board.now.book (Ask c.in-Ask.asking) c.args.seat.now c.turn-announced.new.seat c.self.inside.totals.value
@@ -149,35 +149,35 @@ turned : (g : given.Over) (c : After-turn-announced g) (mark : SeatTerms) → ma
     < start_turns_after (asking_steps_of c.args.board.now.book (the_view c.self.inside)) (Ask c.in-Ask.asking)
     → TakesStartTurn c.args.board.now.book c.args.self.now (start_after (the_view c.self.inside) stage mark.knows) c.args.seat.now
     c.turn-announced.new.seat c.args.self.now.totals None
-turned g c mark mark_is more stage same step some left =
+turned c mark mark_is more stage same step some left =
     let b : BookTerms = c.args.board.now.book in
     let t : StartingTerms = the_view c.self.inside in
     let after : SeatTerms = c.turn-announced.new.seat in
     subst (λ (s : StartingTerms). TakesStartTurn b s (start_after t stage mark.knows) c.args.seat.now after s.totals None) c.self.view_is
-    (TakesStartTurn-ask b t c.self.invariant (sym (book g (goal.at.After-turn-announced g c).After-self)) c.args.seat.now after mark.knows
+    (TakesStartTurn-ask b t c.self.invariant (sym (book (goal.at.After-turn-announced c).After-self)) c.args.seat.now after mark.knows
     (ap (λ (m : SeatTerms). m.knows) mark_is) c.in-Ask.asking c.in-Ask.is more stage same step some left)
 
 pub returns-in_err-number-clause-turned : goal.returns-in_err-number-clause-turned
-returns-in_err-number-clause-turned g c =
-    let at = (goal.at.returns-in_err-number-clause-turned g c).After-turn-announced in
+returns-in_err-number-clause-turned c =
+    let at = (goal.at.returns-in_err-number-clause-turned c).After-turn-announced in
     let t : StartingTerms = the_view c.self.inside in
     let a : AskingTerms = c.in-Ask.asking in
     let told = c.turn-announced.ensures in
     let other : a.stored ≢ REQUEST_WORDS = λ all. let wrong : false ≡ true = c.in_err-number.ensures.ends.1 all in absurd (cc wrong) in
-    let left : a.stored < REQUEST_WORDS = omega (arith, (asks g at).left, other) in
+    let left : a.stored < REQUEST_WORDS = omega (arith, (asks at).left, other) in
     let next : StartStage = Ask c.turn-announced.new.self in
     let stored : c.turn-announced.new.self.stored ≡ a.stored + 1 = ap (λ (x : AskingTerms). x.stored) told.after in
     subst (TakesStartTurn c.args.board.now.book c.args.self.now (start_after t next c.of.result.value.knows) c.args.seat.now
     c.turn-announced.new.seat c.args.self.now.totals) (sym c.from_residual.ensures)
-    (turned g at c.of.result.value c.of.ensures (IsPrefix-word t c.self.invariant a (asks g at) c.turn-announced.new.seat.knows (told.word left)) next
-    (omega (arith, stored)) (λ inside. told.word inside, λ all. absurd (other all)) (omega (arith, stored, left, some_slot g at))
-    (omega (arith, stored, left, some_slot g at)))
+    (turned at c.of.result.value c.of.ensures (IsPrefix-word t c.self.invariant a (asks at) c.turn-announced.new.seat.knows (told.word left)) next
+    (omega (arith, stored)) (λ inside. told.word inside, λ all. absurd (other all)) (omega (arith, stored, left, some_slot at))
+    (omega (arith, stored, left, some_slot at)))
 
 pub returns-clause-turned : goal.returns-clause-turned
-returns-clause-turned g c =
-    let next = (goal.at.returns-clause-turned g c).After-become_next in
-    let slot_found = (goal.at.returns-clause-turned g c).After-slot_of in
-    let at = (goal.at.returns-clause-turned g c).After-turn-announced in
+returns-clause-turned c =
+    let next = (goal.at.returns-clause-turned c).After-become_next in
+    let slot_found = (goal.at.returns-clause-turned c).After-slot_of in
+    let at = (goal.at.returns-clause-turned c).After-turn-announced in
     let t : StartingTerms = the_view c.self.inside in
     let a : AskingTerms = c.in-Ask.asking in
     let told = c.in_ok-number.ensures in
@@ -185,6 +185,6 @@ returns-clause-turned g c =
     let stage : StartStage = Collect (starting_rows c.turn-announced.new.seat.knows a.account
     (opened (slot_of_start t c.self.invariant) c.in_ok-number.number a.targets a.since)) in
     subst (λ (k : StartStage). TakesStartTurn c.args.board.now.book c.args.self.now (start_after t k c.of.result.value.knows) c.args.seat.now
-    c.turn-announced.new.seat c.args.self.now.totals None) (sym (rows_next g next))
-    (turned g at c.of.result.value c.of.ensures (announced g slot_found).more stage (omega (arith, all))
-    (λ inside. absurd (omega (arith, inside, all)), λ full. told.announced) (omega (arith, some_slot g at)) (omega (arith, all, some_slot g at)))
+    c.turn-announced.new.seat c.args.self.now.totals None) (sym (rows_next next))
+    (turned at c.of.result.value c.of.ensures (announced slot_found).more stage (omega (arith, all))
+    (λ inside. absurd (omega (arith, inside, all)), λ full. told.announced) (omega (arith, some_slot at)) (omega (arith, all, some_slot at)))

@@ -25,59 +25,59 @@ use Rattle.at_calling.proofs.starting.Starting.collect_on.Goals.{After-self, Aft
 use Rattle.at_calling.proofs.starting.Starting.collect_on.Goals as goal
 
 -- what the seat knew is what the last turn left
-known_before : (g : given.Over) (c : After-self g) → c.args.seat.now.knows ≡ c.self.inside.mark.value.knows
-known_before g c = c.requires.mark ∙ sym (ap (λ (t : StartingTerms). t.mark) c.self.view_is)
+known_before : (c : After-self) → c.args.seat.now.knows ≡ c.self.inside.mark.value.knows
+known_before c = c.requires.mark ∙ sym (ap (λ (t : StartingTerms). t.mark) c.self.view_is)
 
 -- its seat is the board's
-book : (g : given.Over) (c : After-self g) → c.args.board.now.book ≡ c.self.inside.start.value.knows.book
-book g c = sym c.requires.board.book ∙ (ap (λ (v : Knowledge). v.book) (known_before g c) ∙ c.self.invariant.book)
+book : (c : After-self) → c.args.board.now.book ≡ c.self.inside.start.value.knows.book
+book c = sym c.requires.board.book ∙ (ap (λ (v : Knowledge). v.book) (known_before c) ∙ c.self.invariant.book)
 
 -- the rows are loaded
-collects : (g : given.Over) (c : After-turn-collected g) → IsCollectingThen (the_view c.self.inside) c.in-Collect.collecting
-collects g c = subst (IsStartStageSo (the_view c.self.inside)) c.in-Collect.is c.self.invariant.stage_so
+collects : (c : After-turn-collected) → IsCollectingThen (the_view c.self.inside) c.in-Collect.collecting
+collects c = subst (IsStartStageSo (the_view c.self.inside)) c.in-Collect.is c.self.invariant.stage_so
 
-more_rows : (g : given.Over) (c : After-turn-collected g) → IsPrefix c.in-Collect.collecting.mark.seen c.turn-collected.new.seat.knows.seen
-more_rows g c =
+more_rows : (c : After-turn-collected) → IsPrefix c.in-Collect.collecting.mark.seen c.turn-collected.new.seat.knows.seen
+more_rows c =
     let r : CollectingRowsTerms = c.in-Collect.collecting in
     subst (λ (x : CollectingRowsTerms). IsPrefix r.mark.seen x.mark.seen) c.turn-collected.ensures.after
     (IsPrefix-MakesNextLoad c.args.board.now.book r c.turn-collected.new.self c.turn-collected.ensures.load)
 
-rows_so : (g : given.Over) (c : After-turn-collected g)
+rows_so : (c : After-turn-collected)
     → IsStartingSo (start_after (the_view c.self.inside) (Collect c.turn-collected.new.self) c.turn-collected.new.seat.knows)
-rows_so g c =
-    let first = (goal.at.After-turn-collected g c).After-self in
+rows_so c =
+    let first = (goal.at.After-turn-collected c).After-self in
     let t : StartingTerms = the_view c.self.inside in
     let r : CollectingRowsTerms = c.in-Collect.collecting in
     let w : Knowledge = c.turn-collected.new.seat.knows in
     let new : CollectingRowsTerms = c.turn-collected.new.self in
     let after = c.turn-collected.ensures.after in
-    let same : w.book ≡ t.start.book = c.turn-collected.ensures.board.book ∙ book g first in
+    let same : w.book ≡ t.start.book = c.turn-collected.ensures.board.book ∙ book first in
     let most : BookTerms → ℕ = λ b. slots_of (account_of b r.account) + REQUEST_WORDS * (slots_of (account_of b r.account) - 1) in
     let few : r.made + 1 ≤ most t.start.book =
-    subst (λ (b : BookTerms). r.made + 1 ≤ most b) (book g first)
+    subst (λ (b : BookTerms). r.made + 1 ≤ most b) (book first)
     (subst (λ (x : CollectingRowsTerms). x.made ≤ most c.args.board.now.book) after c.turn-collected.ensures.most) in
     subst (λ (x : CollectingRowsTerms). IsStartingSo (start_after t (Collect x) w)) (sym after)
-    (IsStartingSo-rows t c.self.invariant r (collects g c) w new.slot new.next same (more_rows g c) few)
+    (IsStartingSo-rows t c.self.invariant r (collects c) w new.slot new.next same (more_rows c) few)
 
 pub invariant_of-self : goal.invariant_of-self
-invariant_of-self g c =
-    let at = (goal.at.invariant_of-self g c).After-turn-collected in
-    subst (λ (s : SeatTerms). IsStartingSo (start_after (the_view c.self.inside) (Collect c.turn-collected.new.self) s.knows)) (sym c.of.ensures) (rows_so g at)
+invariant_of-self c =
+    let at = (goal.at.invariant_of-self c).After-turn-collected in
+    subst (λ (s : SeatTerms). IsStartingSo (start_after (the_view c.self.inside) (Collect c.turn-collected.new.self) s.knows)) (sym c.of.ensures) (rows_so at)
 
 pub invariant_of-self-2 : goal.invariant_of-self-2
-invariant_of-self-2 g c =
-    let at = (goal.at.invariant_of-self-2 g c).After-turn-collected in
-    subst (λ (s : SeatTerms). IsStartingSo (start_after (the_view c.self.inside) (Collect c.turn-collected.new.self) s.knows)) (sym c.of.ensures) (rows_so g at)
+invariant_of-self-2 c =
+    let at = (goal.at.invariant_of-self-2 c).After-turn-collected in
+    subst (λ (s : SeatTerms). IsStartingSo (start_after (the_view c.self.inside) (Collect c.turn-collected.new.self) s.knows)) (sym c.of.ensures) (rows_so at)
 
 -- the turns so far are those of the look, of asking and of the rows
-few_rows : (g : given.Over) (c : After-turn-collected g)
+few_rows : (c : After-turn-collected)
     → c.self.inside.looked + (REQUEST_WORDS + 1) + c.turn-collected.new.self.made
     ≤ c.self.inside.looked + asking_steps_of c.self.inside.start.value.knows.book (the_view c.self.inside)
-few_rows g c = omega (arith, (rows_so g c).stage_so.left)
+few_rows c = omega (arith, (rows_so c).stage_so.left)
 
 -- some load is left
-goes : (g : given.Over) (c : After-turn-collected g) → c.in-Collect.collecting.next ≢ nothing
-goes g c ended =
+goes : (c : After-turn-collected) → c.in-Collect.collecting.next ≢ nothing
+goes c ended =
     let b : BookTerms = c.args.board.now.book in
     let t : StartingTerms = the_view c.self.inside in
     let r : CollectingRowsTerms = c.in-Collect.collecting in
@@ -90,7 +90,7 @@ goes g c ended =
     ))
 
 -- what the turn leaves
-turned : (g : given.Over) (c : After-turn-collected g) (mark : SeatTerms) → mark ≡ c.turn-collected.new.seat → (answer : Option HelpingTerms)
+turned : (c : After-turn-collected) (mark : SeatTerms) → mark ≡ c.turn-collected.new.seat → (answer : Option HelpingTerms)
     → (IsSome answer ↔ (c.turn-collected.new.self.next ≡ nothing))
     → IfSome answer (IsStartOf c.args.board.now.book c.self.inside.start.value.knows c.turn-collected.new.seat.knows c.self.inside.account c.self.inside.call)
     → IfSome answer (λ h. LeavesTotals c.args.board.now.book c.self.inside.start.value.knows c.turn-collected.new.seat.knows c.self.inside.was.value
@@ -98,7 +98,7 @@ turned : (g : given.Over) (c : After-turn-collected g) (mark : SeatTerms) → ma
     (start_turns_in c.self.inside.looked (Collect c.turn-collected.new.self)))
     → TakesStartTurn c.args.board.now.book c.args.self.now (start_after (the_view c.self.inside) (Collect c.turn-collected.new.self) mark.knows)
     c.args.seat.now c.turn-collected.new.seat c.args.self.now.totals answer
-turned g c mark mark_is answer ends starts leaves =
+turned c mark mark_is answer ends starts leaves =
     let b : BookTerms = c.args.board.now.book in
     let t : StartingTerms = the_view c.self.inside in
     let r : CollectingRowsTerms = c.in-Collect.collecting in
@@ -106,22 +106,22 @@ turned g c mark mark_is answer ends starts leaves =
     let after : SeatTerms = c.turn-collected.new.seat in
     let told = c.turn-collected.ensures in
     subst (λ (s : StartingTerms). TakesStartTurn b s (start_after t (Collect next) mark.knows) c.args.seat.now after s.totals answer) c.self.view_is
-    (TakesStartTurn-collect b t c.self.invariant (sym (book g (goal.at.After-turn-collected g c).After-self)) c.args.seat.now after mark.knows
-    (ap (λ (m : SeatTerms). m.knows) mark_is) r next c.in-Collect.is (goes g c) (ap (λ (x : CollectingRowsTerms). x.made) told.after) (more_rows g c)
-    (rows_so g c).stage_so.left answer (next.slot, next.next, subst (MakesNextLoad b r) told.after told.load) ends starts leaves)
+    (TakesStartTurn-collect b t c.self.invariant (sym (book (goal.at.After-turn-collected c).After-self)) c.args.seat.now after mark.knows
+    (ap (λ (m : SeatTerms). m.knows) mark_is) r next c.in-Collect.is (goes c) (ap (λ (x : CollectingRowsTerms). x.made) told.after) (more_rows c)
+    (rows_so c).stage_so.left answer (next.slot, next.next, subst (MakesNextLoad b r) told.after told.load) ends starts leaves)
 
 pub returns-in_err-asked-clause-turned : goal.returns-in_err-asked-clause-turned
-returns-in_err-asked-clause-turned g c =
-    let at = (goal.at.returns-in_err-asked-clause-turned g c).After-turn-collected in
+returns-in_err-asked-clause-turned c =
+    let at = (goal.at.returns-in_err-asked-clause-turned c).After-turn-collected in
     subst (TakesStartTurn c.args.board.now.book c.args.self.now
     (start_after (the_view c.self.inside) (Collect c.turn-collected.new.self) c.of.result.value.knows) c.args.seat.now c.turn-collected.new.seat
     c.args.self.now.totals) (sym c.from_residual.ensures)
-    (turned g at c.of.result.value c.of.ensures None c.in_err-asked.ensures.ends tt tt)
+    (turned at c.of.result.value c.of.ensures None c.in_err-asked.ensures.ends tt tt)
 
 pub returns-clause-turned : goal.returns-clause-turned
-returns-clause-turned g c =
-    let at = (goal.at.returns-clause-turned g c).After-turn-collected in
-    let same = book g (goal.at.After-turn-collected g at).After-self in
+returns-clause-turned c =
+    let at = (goal.at.returns-clause-turned c).After-turn-collected in
+    let same = book (goal.at.After-turn-collected at).After-self in
     let t : StartingTerms = the_view c.self.inside in
     let r : CollectingRowsTerms = c.in-Collect.collecting in
     let w : Knowledge = c.turn-collected.new.seat.knows in
@@ -137,11 +137,11 @@ returns-clause-turned g c =
     ∙ ap (λ (x : OpenRequest). helping_of t.call t.account x asked) own) in
     let starts : IsStartOf t.start.book t.start w t.account t.call c.of-2.result =
     subst (IsStartOf t.start.book t.start w t.account t.call) (sym helping)
-    (IsStartOf-CollectsRows t c.self.invariant r (collects g at) w asked rows told.candidates collected last) in
+    (IsStartOf-CollectsRows t c.self.invariant r (collects at) w asked rows told.candidates collected last) in
     let turns : ℕ = start_turns_in t.looked (Collect c.turn-collected.new.self) in
     let leaves : LeavesTotals t.start.book t.start w t.was t.totals (asking_steps_of t.start.book t) turns =
-    LeavesTotals-CollectsRows t c.self.invariant r (collects g at) w asked rows told.candidates collected last turns (asking_steps_of t.start.book t)
-    (few_rows g at) in
-    turned g at c.of.result.value c.of.ensures (Some c.of-2.result) told.ends
+    LeavesTotals-CollectsRows t c.self.invariant r (collects at) w asked rows told.candidates collected last turns (asking_steps_of t.start.book t)
+    (few_rows at) in
+    turned at c.of.result.value c.of.ensures (Some c.of-2.result) told.ends
     (subst (λ (k : BookTerms). IsStartOf k t.start w t.account t.call c.of-2.result) (sym same) starts)
     (subst (λ (k : BookTerms). LeavesTotals k t.start w t.was t.totals (asking_steps_of k t) turns) (sym same) leaves)

@@ -24,53 +24,53 @@ use Rattle.at_calling.proofs.starting.Starting.look_on.Goals.{After-self, After-
 use Rattle.at_calling.proofs.starting.Starting.look_on.Goals as goal
 
 -- what the seat knew is what the last turn left
-known_before : (g : given.Over) (c : After-self g) → c.args.seat.now.knows ≡ c.self.inside.mark.value.knows
-known_before g c = c.requires.mark ∙ sym (ap (λ (t : StartingTerms). t.mark) c.self.view_is)
+known_before : (c : After-self) → c.args.seat.now.knows ≡ c.self.inside.mark.value.knows
+known_before c = c.requires.mark ∙ sym (ap (λ (t : StartingTerms). t.mark) c.self.view_is)
 
 -- its seat is the board's
-book : (g : given.Over) (c : After-self g) → c.args.board.now.book ≡ c.self.inside.start.value.knows.book
-book g c = sym c.requires.board.book ∙ (ap (λ (v : Knowledge). v.book) (known_before g c) ∙ c.self.invariant.book)
+book : (c : After-self) → c.args.board.now.book ≡ c.self.inside.start.value.knows.book
+book c = sym c.requires.board.book ∙ (ap (λ (v : Knowledge). v.book) (known_before c) ∙ c.self.invariant.book)
 
 -- the look has ended
-looked : (g : given.Over) (c : After-targets_of-targets g)
+looked : (c : After-targets_of-targets)
     → HasLooked c.self.inside.start.value.knows.book c.self.inside.start.value.knows c.turn-looked.new.seat.knows c.self.inside.was.value c.turn-looked.new.totals
     c.in_ok-front.front
-looked g c =
-    let at = (goal.at.After-targets_of-targets g c).After-self in
+looked c =
+    let at = (goal.at.After-targets_of-targets c).After-self in
     let t : StartingTerms = the_view c.self.inside in
     let w : Knowledge = c.turn-looked.new.seat.knows in
     let now : TotalSums = c.turn-looked.new.totals in
     let front : List ℕ = c.in_ok-front.front in
     let so : IsLookingToAsk t c.in-Look.looking = subst (IsStartStageSo t) c.in-Look.is c.self.invariant.stage_so in
-    subst (λ (b : BookTerms). HasLooked b t.start w t.was now front) (book g at)
+    subst (λ (b : BookTerms). HasLooked b t.start w t.was now front) (book at)
     (subst (λ (v : Knowledge). HasLooked c.args.board.now.book v w t.was now front) so.start_is
     (subst (λ (s : TotalSums). HasLooked c.args.board.now.book c.in-Look.looking.start w s now front) so.was_is c.in_ok-front.ensures.looked))
 
 pub asking_at-asking-requires-clause-place : goal.asking_at-asking-requires-clause-place
-asking_at-asking-requires-clause-place g c =
-    let at = (goal.at.asking_at-asking-requires-clause-place g c).After-targets_of-targets in
+asking_at-asking-requires-clause-place c =
+    let at = (goal.at.asking_at-asking-requires-clause-place c).After-targets_of-targets in
     omega (
       arith,
-      place-HasLooked-few (the_view c.self.inside) c.self.invariant c.turn-looked.new.seat.knows c.turn-looked.new.totals c.in_ok-front.front (looked g at),
+      place-HasLooked-few (the_view c.self.inside) c.self.invariant c.turn-looked.new.seat.knows c.turn-looked.new.totals c.in_ok-front.front (looked at),
     )
 
 -- the targets are those of the call
-targets : (g : given.Over) (c : After-targets_of-targets g) → payout_of c.self.inside.call ≡ Some (c.self.inside.account, c.targets_of-targets.result)
-targets g c =
+targets : (c : After-targets_of-targets) → payout_of c.self.inside.call ≡ Some (c.self.inside.account, c.targets_of-targets.result)
+targets c =
     let payout = c.self.invariant.payout in
     payout.payout
     ∙ ap (λ (ts : List TargetPair). Some (c.self.inside.account, ts)) (sym (c.targets_of-targets.ensures c.self.inside.account payout.targets payout.payout))
 
 pub asking_at-asking-requires-clause-may : goal.asking_at-asking-requires-clause-may
-asking_at-asking-requires-clause-may g c =
-    let at = (goal.at.asking_at-asking-requires-clause-may g c).After-targets_of-targets in
+asking_at-asking-requires-clause-may c =
+    let at = (goal.at.asking_at-asking-requires-clause-may c).After-targets_of-targets in
     let t : StartingTerms = the_view c.self.inside in
     let so : IsStartingSo t = c.self.invariant in
     let w : Knowledge = c.turn-looked.new.seat.knows in
     let front : List ℕ = c.in_ok-front.front in
     let ts : List TargetPair = c.targets_of-targets.result in
     let slot = slot_of_start t so in
-    let has_looked = looked g at in
+    let has_looked = looked at in
     let same : ts ≡ so.payout.targets = c.targets_of-targets.ensures t.account so.payout.targets so.payout.payout in
     let are : AreTargets t.start.book ts = record {
       some = c.len-count.ensures.some;
@@ -84,9 +84,9 @@ asking_at-asking-requires-clause-may g c =
     )
 
 pub invariant_of-self-2 : goal.invariant_of-self-2
-invariant_of-self-2 g c =
-    let at = (goal.at.invariant_of-self-2 g c).After-targets_of-targets in
-    let first = (goal.at.After-targets_of-targets g at).After-self in
+invariant_of-self-2 c =
+    let at = (goal.at.invariant_of-self-2 c).After-targets_of-targets in
+    let first = (goal.at.After-targets_of-targets at).After-self in
     let t : StartingTerms = the_view c.self.inside in
     let w : Knowledge = c.turn-looked.new.seat.knows in
     let now : TotalSums = c.turn-looked.new.totals in
@@ -98,28 +98,28 @@ invariant_of-self-2 g c =
     let stage_is : c.become_next.new.self ≡ stage =
     c.become_next.ensures ∙ ap (λ (a : AskingTerms). Ask a) c.asking_at-asking.ensures in
     let few : IsWithin t.start.book.processes t.was (sum front) turns =
-    subst (λ (b : BookTerms). IsWithin b.processes t.was (sum front) turns) (book g first)
+    subst (λ (b : BookTerms). IsWithin b.processes t.was (sum front) turns) (book first)
     (subst (λ (s : TotalSums). IsWithin c.args.board.now.book.processes s (sum front) turns) so.was_is c.in_ok-front.ensures.within) in
     let here : IsStartingSo (start_after_look t stage w now turns) =
-    IsStartingSo-ask t c.self.invariant w now front (looked g at) ts turns (targets g at) few in
+    IsStartingSo-ask t c.self.invariant w now front (looked at) ts turns (targets at) few in
     subst (λ (s : StartStage). IsStartingSo (start_after_look t s c.of.result.value.knows c.of-2.result.value c.turns-self-inside.result)) (sym stage_is)
     (subst (λ n. IsStartingSo (start_after_look t stage c.of.result.value.knows c.of-2.result.value n)) (sym c.turns-self-inside.ensures)
     (subst (λ (s : SeatTerms). IsStartingSo (start_after_look t stage s.knows c.of-2.result.value turns)) (sym c.of.ensures)
     (subst (λ (n : TotalSums). IsStartingSo (start_after_look t stage w n turns)) (sym c.of-2.ensures) here)))
 
 -- the look goes on
-looks : (g : given.Over) (c : After-turn-looked g) → IsLookingToAsk (the_view c.self.inside) c.in-Look.looking
-looks g c = subst (IsStartStageSo (the_view c.self.inside)) c.in-Look.is c.self.invariant.stage_so
+looks : (c : After-turn-looked) → IsLookingToAsk (the_view c.self.inside) c.in-Look.looking
+looks c = subst (IsStartStageSo (the_view c.self.inside)) c.in-Look.is c.self.invariant.stage_so
 
 -- what the turn leaves, with whichever stage next
-turned : (g : given.Over) (c : After-turn-looked g) (turns : ℕ) → turns ≡ c.turn-looked.new.self.turns → (mark : SeatTerms) → mark ≡ c.turn-looked.new.seat
+turned : (c : After-turn-looked) (turns : ℕ) → turns ≡ c.turn-looked.new.self.turns → (mark : SeatTerms) → mark ≡ c.turn-looked.new.seat
     → (totals : TotalSums) → totals ≡ c.turn-looked.new.totals → (stage : StartStage) → start_turns_in turns stage ≡ turns
     → 0 < start_turns_after (asking_steps_of c.args.board.now.book (the_view c.self.inside)) stage
     → start_turns_after (asking_steps_of c.args.board.now.book (the_view c.self.inside)) stage
     < start_turns_after (asking_steps_of c.args.board.now.book (the_view c.self.inside)) (Look c.in-Look.looking)
     → TakesStartTurn c.args.board.now.book c.args.self.now (start_after_look (the_view c.self.inside) stage mark.knows totals turns) c.args.seat.now
     c.turn-looked.new.seat c.turn-looked.new.totals None
-turned g c turns turns_are mark mark_is totals totals_are stage same some left =
+turned c turns turns_are mark mark_is totals totals_are stage same some left =
     let b : BookTerms = c.args.board.now.book in
     let t : StartingTerms = the_view c.self.inside in
     let after : SeatTerms = c.turn-looked.new.seat in
@@ -127,27 +127,27 @@ turned g c turns turns_are mark mark_is totals totals_are stage same some left =
     let l : LookingTerms = c.in-Look.looking in
     let told = c.turn-looked.ensures in
     subst (λ (s : StartingTerms). TakesStartTurn b s (start_after_look t stage mark.knows totals turns) c.args.seat.now after now None) c.self.view_is
-    (TakesStartTurn-look b t c.self.invariant (sym (book g (goal.at.After-turn-looked g c).After-self)) c.args.seat.now after mark.knows
+    (TakesStartTurn-look b t c.self.invariant (sym (book (goal.at.After-turn-looked c).After-self)) c.args.seat.now after mark.knows
     (ap (λ (m : SeatTerms). m.knows) mark_is) now totals totals_are l c.in-Look.is turns (turns_are ∙ told.turns) told.load told.counted
     (subst (IsWithin b.processes l.was (length after.knows.seen)) (sym turns_are) told.so_far) stage same some left)
 
 pub returns-in_err-front-clause-turned : goal.returns-in_err-front-clause-turned
-returns-in_err-front-clause-turned g c =
-    let at = (goal.at.returns-in_err-front-clause-turned g c).After-turn-looked in
+returns-in_err-front-clause-turned c =
+    let at = (goal.at.returns-in_err-front-clause-turned c).After-turn-looked in
     let next : StartStage = Look c.turn-looked.new.self in
     subst (TakesStartTurn c.args.board.now.book c.args.self.now
     (start_after_look (the_view c.self.inside) next c.of.result.value.knows c.of-2.result.value c.turns-self-inside.result) c.args.seat.now
     c.turn-looked.new.seat c.turn-looked.new.totals) (sym c.from_residual.ensures)
-    (turned g at c.turns-self-inside.result c.turns-self-inside.ensures c.of.result.value c.of.ensures c.of-2.result.value c.of-2.ensures next
+    (turned at c.turns-self-inside.result c.turns-self-inside.ensures c.of.result.value c.of.ensures c.of-2.result.value c.of-2.ensures next
     (sym c.turns-self-inside.ensures) (omega arith) (omega (arith, c.turn-looked.ensures.left)))
 
 pub returns-clause-turned : goal.returns-clause-turned
-returns-clause-turned g c =
-    let at = (goal.at.returns-clause-turned g c).After-turn-looked in
+returns-clause-turned c =
+    let at = (goal.at.returns-clause-turned c).After-turn-looked in
     let a : AskingTerms = c.asking_at-asking.result in
     let none : a.stored ≡ 0 = ap (λ (x : AskingTerms). x.stored) c.asking_at-asking.ensures in
     subst (λ (k : StartStage). TakesStartTurn c.args.board.now.book c.args.self.now
     (start_after_look (the_view c.self.inside) k c.of.result.value.knows c.of-2.result.value c.turns-self-inside.result) c.args.seat.now
     c.turn-looked.new.seat c.turn-looked.new.totals None) (sym c.become_next.ensures)
-    (turned g at c.turns-self-inside.result c.turns-self-inside.ensures c.of.result.value c.of.ensures c.of-2.result.value c.of-2.ensures (Ask a)
-    (omega (arith, none)) (omega (arith, none)) (omega (arith, none, (looks g at).left)))
+    (turned at c.turns-self-inside.result c.turns-self-inside.ensures c.of.result.value c.of.ensures c.of-2.result.value c.of-2.ensures (Ask a)
+    (omega (arith, none)) (omega (arith, none)) (omega (arith, none, (looks at).left)))

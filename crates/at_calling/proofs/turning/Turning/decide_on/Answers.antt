@@ -31,52 +31,52 @@ use Rattle.at_calling.proofs.turning.Turning.decide_on.Goals.{After-self, After-
 use Rattle.at_calling.proofs.turning.Turning.decide_on.Goals as goal
 
 -- the board's book is that of the start
-book : (g : given.Over) (c : After-self g) → c.self.inside.start.value.knows.book ≡ c.args.board.now.book
-book g c =
+book : (c : After-self) → c.self.inside.start.value.knows.book ≡ c.args.board.now.book
+book c =
     sym c.self.invariant.book
     ∙ (ap (λ (t : TurningTerms). t.mark.book) c.self.view_is ∙ (ap (λ (v : Knowledge). v.book) (sym c.requires.mark) ∙ c.requires.board.book))
 
 -- the request is the one that the turn of helping was started with
-helping : (g : given.Over) (c : After-self g) → c.self.inside.helping.value ≡ c.args.helping.now
-helping g c = ap (λ (t : TurningTerms). t.helping) c.self.view_is ∙ sym c.requires.helping
+helping : (c : After-self) → c.self.inside.helping.value ≡ c.args.helping.now
+helping c = ap (λ (t : TurningTerms). t.helping) c.self.view_is ∙ sym c.requires.helping
 
 -- and it waited then
-waits : (g : given.Over) (c : After-self g) → IsHelping c.args.board.now.book c.self.inside.start.value.knows c.args.helping.now
-waits g c =
+waits : (c : After-self) → IsHelping c.args.board.now.book c.self.inside.start.value.knows c.args.helping.now
+waits c =
     let v : Knowledge = c.self.inside.start.value.knows in
-    subst (λ (b : BookTerms). IsHelping b v c.args.helping.now) (book g c) (subst (IsHelping v.book v) (helping g c) c.self.invariant.helping)
+    subst (λ (b : BookTerms). IsHelping b v c.args.helping.now) (book c) (subst (IsHelping v.book v) (helping c) c.self.invariant.helping)
 
 -- the seat had something on the account
-has_account : (g : given.Over) (c : After-self g) → HasAccount c.self.inside.start.value.knows c.args.helping.now.account
-has_account g c =
+has_account : (c : After-self) → HasAccount c.self.inside.start.value.knows c.args.helping.now.account
+has_account c =
     let v : Knowledge = c.self.inside.start.value.knows in
     HasAccount-IsSeat v v.first (own_part v).published c.args.helping.now.account c.self.invariant.kept
-    (subst (λ (b : BookTerms). c.args.helping.now.account < length b.accounts) (sym (book g c)) (waits g c).asked.slot_in.account_in)
+    (subst (λ (b : BookTerms). c.args.helping.now.account < length b.accounts) (sym (book c)) (waits c).asked.slot_in.account_in)
 
 -- some turn of the round was left
-some : (g : given.Over) (c : After-turn-decided g) → 0 < c.in-Decide.deciding.left
-some g c =
+some : (c : After-turn-decided) → 0 < c.in-Decide.deciding.left
+some c =
     subst (λ s. 0 < help_turns_left c.args.board.now.book.processes s) (sym (ap (λ (t : TurningTerms). t.stage) c.self.view_is) ∙ c.in-Decide.is) c.requires.left
 
 -- the round goes on
-decides : (g : given.Over) (c : After-turn-decided g) → IsDecidingThen (the_view c.self.inside) c.in-Decide.deciding
-decides g c = subst (IsTurnStageSo (the_view c.self.inside)) c.in-Decide.is c.self.invariant.stage_so (some g c)
+decides : (c : After-turn-decided) → IsDecidingThen (the_view c.self.inside) c.in-Decide.deciding
+decides c = subst (IsTurnStageSo (the_view c.self.inside)) c.in-Decide.is c.self.invariant.stage_so (some c)
 
 -- the seat has something on the account still
-has_account_now : (g : given.Over) (c : After-turn-decided g) → HasAccount c.self.inside.mark.value.knows c.self.inside.helping.value.account
-has_account_now g c =
-    let start = (goal.at.After-turn-decided g c).After-self in
+has_account_now : (c : After-turn-decided) → HasAccount c.self.inside.mark.value.knows c.self.inside.helping.value.account
+has_account_now c =
+    let start = (goal.at.After-turn-decided c).After-self in
     let v : Knowledge = c.args.seat.now.knows in
-    let account_in = subst (λ (b : BookTerms). c.args.helping.now.account < length b.accounts) (sym c.requires.board.book) (waits g start).asked.slot_in.account_in in
+    let account_in = subst (λ (b : BookTerms). c.args.helping.now.account < length b.accounts) (sym c.requires.board.book) (waits start).asked.slot_in.account_in in
     let here : HasAccount v c.args.helping.now.account =
     HasAccount-IsSeat v v.first (own_part v).published c.args.helping.now.account c.known.ensures.seat account_in in
     subst (λ (u : Knowledge). HasAccount u c.self.inside.helping.value.account) (c.requires.mark ∙ sym (ap (λ (t : TurningTerms). t.mark) c.self.view_is))
-    (subst (λ (h : HelpingTerms). HasAccount v h.account) (sym (helping g start)) here)
+    (subst (λ (h : HelpingTerms). HasAccount v h.account) (sym (helping start)) here)
 
 pub invariant_of-self : goal.invariant_of-self
-invariant_of-self g c =
-    let at = (goal.at.invariant_of-self g c).After-turn-decided in
-    let start = (goal.at.After-turn-decided g at).After-self in
+invariant_of-self c =
+    let at = (goal.at.invariant_of-self c).After-turn-decided in
+    let start = (goal.at.After-turn-decided at).After-self in
     let b : BookTerms = c.args.board.now.book in
     let t : TurningTerms = the_view c.self.inside in
     let w : Knowledge = c.turn-decided.new.seat.knows in
@@ -86,26 +86,26 @@ invariant_of-self g c =
     let before : c.args.totals.now ≡ t.totals = c.requires.totals ∙ sym (ap (λ (s : TurningTerms). s.totals) c.self.view_is) in
     let here : IsTurningSo (record t { stage = Decide e; mark = w; totals = c.turn-decided.new.totals }) = record {
       kept = kept.kept;
-      book = told.board.book ∙ sym (book g start);
+      book = told.board.book ∙ sym (book start);
       helping = kept.helping;
       stage_so = λ left.
-          IsDecidingThen-step b t c.in-Decide.deciding e w (book g start) (decides g at) (has_account_now g at) (some g at) told.after told.left told.step
+          IsDecidingThen-step b t c.in-Decide.deciding e w (book start) (decides at) (has_account_now at) (some at) told.after told.left told.step
           c.turn-decided.new.totals (told.waits left ∙ before);
     } in
     subst (λ (s : SeatTerms). IsTurningSo (record t { stage = Decide e; mark = s.knows; totals = c.of-2.result.value })) (sym c.of.ensures)
     (subst (λ (s : TotalSums). IsTurningSo (record t { stage = Decide e; mark = w; totals = s })) (sym c.of-2.ensures) here)
 
 -- the look behind the round
-looked_then : (g : given.Over) (c : After-turn-decided g)
+looked_then : (c : After-turn-decided)
     → HasLooked c.args.board.now.book c.self.inside.start.value.knows c.in-Decide.deciding.start c.self.inside.was.value c.self.inside.totals.value
     c.in-Decide.deciding.front
-looked_then g c =
+looked_then c =
     let d : DecidingTerms = c.in-Decide.deciding in
     let i = c.self.inside in
-    subst (λ (b : BookTerms). HasLooked b i.start.value.knows d.start i.was.value i.totals.value d.front) (book g (goal.at.After-turn-decided g c).After-self) (decides g c).looked_at
+    subst (λ (b : BookTerms). HasLooked b i.start.value.knows d.start i.was.value i.totals.value d.front) (book (goal.at.After-turn-decided c).After-self) (decides c).looked_at
 
 -- what the step leaves
-stepped : (g : given.Over) (c : After-turn-decided g) (mark : SeatTerms) → mark ≡ c.turn-decided.new.seat → (totals : TotalSums)
+stepped : (c : After-turn-decided) (mark : SeatTerms) → mark ≡ c.turn-decided.new.seat → (totals : TotalSums)
     → totals ≡ c.turn-decided.new.totals → (answer : Option HelpTurn) → (IsSome answer ↔ (c.turn-decided.new.self.left ≡ 0))
     → IfSome answer (IsHelpOf c.args.board.now.book c.self.inside.start.value.knows c.turn-decided.new.seat.knows c.self.inside.helping.value)
     → IfSome answer (λ h. h ≡ More
@@ -119,7 +119,7 @@ stepped : (g : given.Over) (c : After-turn-decided g) (mark : SeatTerms) → mar
     → TakesHelpStep c.args.board.now.book c.args.self.now
     (record (the_view c.self.inside) { stage = Decide c.turn-decided.new.self; mark = mark.knows; totals = totals }) c.args.seat.now
     c.turn-decided.new.seat c.turn-decided.new.totals answer
-stepped g c mark mark_is totals totals_are answer ends help waits seat counted leaves =
+stepped c mark mark_is totals totals_are answer ends help waits seat counted leaves =
     let b : BookTerms = c.args.board.now.book in
     let t : TurningTerms = the_view c.self.inside in
     let e : DecidingTerms = c.turn-decided.new.self in
@@ -128,17 +128,17 @@ stepped g c mark mark_is totals totals_are answer ends help waits seat counted l
     let told = c.turn-decided.ensures in
     subst (λ (s : TurningTerms). TakesHelpStep b s (record t { stage = Decide e; mark = mark.knows; totals = totals }) c.args.seat.now after now answer)
     c.self.view_is
-    (TakesHelpStep-decide b t c.self.invariant (book g (goal.at.After-turn-decided g c).After-self) c.args.seat.now after now mark.knows
-    (ap (λ (m : SeatTerms). m.knows) mark_is) totals totals_are c.in-Decide.deciding e c.in-Decide.is (some g c) (has_account_now g c)
+    (TakesHelpStep-decide b t c.self.invariant (book (goal.at.After-turn-decided c).After-self) c.args.seat.now after now mark.knows
+    (ap (λ (m : SeatTerms). m.knows) mark_is) totals totals_are c.in-Decide.deciding e c.in-Decide.is (some c) (has_account_now c)
     (c.requires.mark ∙ sym (ap (λ (s : TurningTerms). s.mark) c.self.view_is)) told.after told.left told.step answer ends help waits seat counted leaves)
 
 pub returns-in_err-decision-clause-stepped : goal.returns-in_err-decision-clause-stepped
-returns-in_err-decision-clause-stepped g c =
-    let at = (goal.at.returns-in_err-decision-clause-stepped g c).After-turn-decided in
+returns-in_err-decision-clause-stepped c =
+    let at = (goal.at.returns-in_err-decision-clause-stepped c).After-turn-decided in
     subst (TakesHelpStep c.args.board.now.book c.args.self.now
     (record (the_view c.self.inside) { stage = Decide c.turn-decided.new.self; mark = c.of.result.value.knows; totals = c.of-2.result.value })
     c.args.seat.now c.turn-decided.new.seat c.turn-decided.new.totals) (sym c.from_residual.ensures)
-    (stepped g at c.of.result.value c.of.ensures c.of-2.result.value c.of-2.ensures None (
+    (stepped at c.of.result.value c.of.ensures c.of-2.result.value c.of-2.ensures None (
       λ some. let wrong : false ≡ true = some in absurd (cc wrong),
       λ none. let wrong : false ≡ true = c.in_err-decision.ensures.ends.1 none in absurd (cc wrong),
     ) tt tt tt tt tt)
@@ -157,9 +157,9 @@ module _ (b : BookTerms) (v w x : Knowledge) (was now : TotalSums) (front : List
   waits_on round More other more = WaitsOn-other b v w was now front h has looked_at waiting x d next kept same other
 
 pub returns-clause-stepped : goal.returns-clause-stepped
-returns-clause-stepped g c =
-    let at = (goal.at.returns-clause-stepped g c).After-turn-decided in
-    let start = (goal.at.After-turn-decided g at).After-self in
+returns-clause-stepped c =
+    let at = (goal.at.returns-clause-stepped c).After-turn-decided in
+    let start = (goal.at.After-turn-decided at).After-self in
     let b : BookTerms = c.args.board.now.book in
     let t : TurningTerms = the_view c.self.inside in
     let d : DecidingTerms = c.in-Decide.deciding in
@@ -170,26 +170,26 @@ returns-clause-stepped g c =
     let last = c.in_ok-decision.ensures in
     let decision = c.in_ok-decision.decision in
     let answer = c.answer.result in
-    let has = subst (λ (h : HelpingTerms). HasAccount t.start h.account) (sym (helping g start)) (has_account g start) in
-    let waiting = subst (IsHelping b t.start) (sym (helping g start)) (waits g start) in
+    let has = subst (λ (h : HelpingTerms). HasAccount t.start h.account) (sym (helping start)) (has_account start) in
+    let waiting = subst (IsHelping b t.start) (sym (helping start)) (waits start) in
     let next : DecidesNext b d.start w t.helping d.front decision =
-    subst (λ (h : HelpingTerms). DecidesNext b d.start w h d.front decision) (decides g at).helping_is last.decided in
+    subst (λ (h : HelpingTerms). DecidesNext b d.start w h d.front decision) (decides at).helping_is last.decided in
     let after : AnswersRound t.helping c.round.result decision answer =
-    subst (λ (h : HelpingTerms). AnswersRound h c.round.result decision answer) (sym (helping g start)) c.answer.ensures in
+    subst (λ (h : HelpingTerms). AnswersRound h c.round.result decision answer) (sym (helping start)) c.answer.ensures in
     let round : c.round.result ≡ rounds t.helping.account (prefix_of d.front d.start.seen) =
     c.round.ensures ∙ (ap (λ (k : DecidingTerms). round_in k) told.after
-    ∙ ap (λ (h : HelpingTerms). rounds h.account (prefix_of d.front d.start.seen)) (decides g at).helping_is) in
+    ∙ ap (λ (h : HelpingTerms). rounds h.account (prefix_of d.front d.start.seen)) (decides at).helping_is) in
     let turns : ℕ = t.looked + (round_steps e.start.book.processes - e.left) in
-    let known : t.start.first < b.processes = subst (λ (k : BookTerms). t.start.first < k.processes) (book g start) c.self.invariant.kept.known in
+    let known : t.start.first < b.processes = subst (λ (k : BookTerms). t.start.first < k.processes) (book start) c.self.invariant.kept.known in
     let few : IsWithin b.processes t.was (sum d.front) t.looked =
-    subst (λ (k : BookTerms). IsWithin k.processes t.was (sum d.front) t.looked) (book g start) (decides g at).few in
-    stepped g at c.of.result.value c.of.ensures c.of-2.result.value c.of-2.ensures (Some answer)
+    subst (λ (k : BookTerms). IsWithin k.processes t.was (sum d.front) t.looked) (book start) (decides at).few in
+    stepped at c.of.result.value c.of.ensures c.of-2.result.value c.of-2.ensures (Some answer)
     (λ some. last.ends.0 refl, λ none. refl)
-    (helps b t.start d.start w t.was t.totals d.front t.helping has (looked_then g at) waiting decision next c.known-2.ensures.seat told.board.book
+    (helps b t.start d.start w t.was t.totals d.front t.helping has (looked_then at) waiting decision next c.known-2.ensures.seat told.board.book
     c.round.result answer round after)
-    (waits_on b t.start d.start w t.was t.totals d.front t.helping has (looked_then g at) waiting decision next c.known-2.ensures.seat told.board.book
+    (waits_on b t.start d.start w t.was t.totals d.front t.helping has (looked_then at) waiting decision next c.known-2.ensures.seat told.board.book
     c.round.result answer after)
-    (LeavesSeat-decided b t.start d.start t.was t.totals d.front t.helping has (looked_then g at) waiting w decision next)
+    (LeavesSeat-decided b t.start d.start t.was t.totals d.front t.helping has (looked_then at) waiting w decision next)
     last.counted
-    (LeavesTotals-decided b t.start d.start t.was t.totals d.front t.helping has (looked_then g at) waiting w decision next now t.looked turns known last.upto few
-    (help_turns_in-le b t d e w (book g start) (decides g at) (has_account_now g at) (some g at) told.after told.left told.step))
+    (LeavesTotals-decided b t.start d.start t.was t.totals d.front t.helping has (looked_then at) waiting w decision next now t.looked turns known last.upto few
+    (help_turns_in-le b t d e w (book start) (decides at) (has_account_now at) (some at) told.after told.left told.step))

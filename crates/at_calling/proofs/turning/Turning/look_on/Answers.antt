@@ -38,89 +38,89 @@ use Rattle.at_calling.proofs.turning.Turning.look_on.Goals.{After-known, After-s
 use Rattle.at_calling.proofs.turning.Turning.look_on.Goals as goal
 
 -- the board's book is that of the start
-book : (g : given.Over) (c : After-self g) → c.self.inside.start.value.knows.book ≡ c.args.board.now.book
-book g c =
+book : (c : After-self) → c.self.inside.start.value.knows.book ≡ c.args.board.now.book
+book c =
     sym c.self.invariant.book
     ∙ (ap (λ (t : TurningTerms). t.mark.book) c.self.view_is ∙ (ap (λ (v : Knowledge). v.book) (sym c.requires.mark) ∙ c.requires.board.book))
 
 -- the request is the one that the turn of helping was started with
-helping : (g : given.Over) (c : After-self g) → c.self.inside.helping.value ≡ c.args.helping.now
-helping g c = ap (λ (t : TurningTerms). t.helping) c.self.view_is ∙ sym c.requires.helping
+helping : (c : After-self) → c.self.inside.helping.value ≡ c.args.helping.now
+helping c = ap (λ (t : TurningTerms). t.helping) c.self.view_is ∙ sym c.requires.helping
 
 -- and it waited then
-waits : (g : given.Over) (c : After-self g) → IsHelping c.args.board.now.book c.self.inside.start.value.knows c.args.helping.now
-waits g c =
+waits : (c : After-self) → IsHelping c.args.board.now.book c.self.inside.start.value.knows c.args.helping.now
+waits c =
     let v : Knowledge = c.self.inside.start.value.knows in
-    subst (λ (b : BookTerms). IsHelping b v c.args.helping.now) (book g c) (subst (IsHelping v.book v) (helping g c) c.self.invariant.helping)
+    subst (λ (b : BookTerms). IsHelping b v c.args.helping.now) (book c) (subst (IsHelping v.book v) (helping c) c.self.invariant.helping)
 
 -- the seat had something on the account
-has_account : (g : given.Over) (c : After-self g) → HasAccount c.self.inside.start.value.knows c.args.helping.now.account
-has_account g c =
+has_account : (c : After-self) → HasAccount c.self.inside.start.value.knows c.args.helping.now.account
+has_account c =
     let v : Knowledge = c.self.inside.start.value.knows in
     HasAccount-IsSeat v v.first (own_part v).published c.args.helping.now.account c.self.invariant.kept
-    (subst (λ (b : BookTerms). c.args.helping.now.account < length b.accounts) (sym (book g c)) (waits g c).asked.slot_in.account_in)
+    (subst (λ (b : BookTerms). c.args.helping.now.account < length b.accounts) (sym (book c)) (waits c).asked.slot_in.account_in)
 
 -- the look goes on
-looks : (g : given.Over) (c : After-turn-looked g) → IsLookingStill (the_view c.self.inside) c.in-Look.looking
-looks g c = subst (IsTurnStageSo (the_view c.self.inside)) c.in-Look.is c.self.invariant.stage_so
+looks : (c : After-turn-looked) → IsLookingStill (the_view c.self.inside) c.in-Look.looking
+looks c = subst (IsTurnStageSo (the_view c.self.inside)) c.in-Look.is c.self.invariant.stage_so
 
 -- the look has ended
-looked : (g : given.Over) (c : After-known g)
+looked : (c : After-known)
     → HasLooked c.args.board.now.book c.self.inside.start.value.knows c.turn-looked.new.seat.knows c.self.inside.was.value c.turn-looked.new.totals
     c.in_ok-front.front
-looked g c =
-    let at = (goal.at.After-known g c).After-turn-looked in
+looked c =
+    let at = (goal.at.After-known c).After-turn-looked in
     let b : BookTerms = c.args.board.now.book in
     let w : Knowledge = c.turn-looked.new.seat.knows in
     let now : TotalSums = c.turn-looked.new.totals in
     let front : List ℕ = c.in_ok-front.front in
-    subst (λ (v : Knowledge). HasLooked b v w c.self.inside.was.value now front) (looks g at).start_is
-    (subst (λ (s : TotalSums). HasLooked b c.in-Look.looking.start w s now front) (looks g at).was_is c.in_ok-front.ensures.looked)
+    subst (λ (v : Knowledge). HasLooked b v w c.self.inside.was.value now front) (looks at).start_is
+    (subst (λ (s : TotalSums). HasLooked b c.in-Look.looking.start w s now front) (looks at).was_is c.in_ok-front.ensures.looked)
 
 -- the totals have counted the slot, up to the front
-counts_slot : (g : given.Over) (c : After-known g)
+counts_slot : (c : After-known)
     → CountsSlot c.turn-looked.new.totals c.args.board.now.book c.turn-looked.new.seat.knows.seen c.args.helping.now.account c.args.helping.now.own.slot
-counts_slot g c =
-    let asked = (waits g (goal.at.After-known g c).After-self).asked in
+counts_slot c =
+    let asked = (waits (goal.at.After-known c).After-self).asked in
     record {
       account = CountsAccount-HasLooked c.args.board.now.book c.self.inside.start.value.knows c.turn-looked.new.seat.knows c.self.inside.was.value
-          c.turn-looked.new.totals c.in_ok-front.front c.args.helping.now.account (looked g c) asked.slot_in.account_in;
+          c.turn-looked.new.totals c.in_ok-front.front c.args.helping.now.account (looked c) asked.slot_in.account_in;
       slot_in = asked.slot_in.within;
     }
 
-counts_front : (g : given.Over) (c : After-known g)
+counts_front : (c : After-known)
     → CountsFront c.turn-looked.new.totals c.args.board.now.book c.turn-looked.new.seat.knows.seen
-counts_front g c =
+counts_front c =
     CountsFront-HasLooked c.args.board.now.book c.self.inside.start.value.knows c.turn-looked.new.seat.knows c.self.inside.was.value c.turn-looked.new.totals
-    c.in_ok-front.front (looked g c)
+    c.in_ok-front.front (looked c)
 
-has_counted : (g : given.Over) (c : After-known g)
+has_counted : (c : After-known)
     → HasCounted c.turn-looked.new.totals c.args.board.now.book c.turn-looked.new.seat.knows.seen
-has_counted g c =
+has_counted c =
     HasCounted-HasLooked c.args.board.now.book c.self.inside.start.value.knows c.turn-looked.new.seat.knows c.self.inside.was.value c.turn-looked.new.totals
-    c.in_ok-front.front (looked g c)
+    c.in_ok-front.front (looked c)
 
 pub settled-requires : goal.settled-requires
-settled-requires g c = (
+settled-requires c = (
   c.args.board.now.book,
   c.turn-looked.new.seat.knows.seen,
-  counts_slot g (goal.at.settled-requires g c).After-known,
-  (waits g (goal.at.settled-requires g c).After-self).room,
+  counts_slot (goal.at.settled-requires c).After-known,
+  (waits (goal.at.settled-requires c).After-self).room,
 )
 
 -- what was found was decided at the front
-found : (g : given.Over) (c : After-receipt g) → IsDecidedIn (prefix_of c.in_ok-front.front c.turn-looked.new.seat.knows.seen)
+found : (c : After-receipt) → IsDecidedIn (prefix_of c.in_ok-front.front c.turn-looked.new.seat.knows.seen)
     c.args.helping.now.account c.args.helping.now.own.slot c.args.helping.now.own.number c.in-Some.round c.in-Some.decision
-found g c =
-    let at = (goal.at.After-receipt g c).After-known in
+found c =
+    let at = (goal.at.After-receipt c).After-known in
     let h : HelpingTerms = c.args.helping.now in
     let b : BookTerms = c.args.board.now.book in
     let seen = c.turn-looked.new.seat.knows.seen in
-    subst (λ f. IsDecidedIn (prefix_of f seen) h.account h.own.slot h.own.number c.in-Some.round c.in-Some.decision) (looked g at).upto
-    (c.in-Some.ensures.front b seen (counts_slot g at) (waits g (goal.at.After-receipt g c).After-self).room (counts_front g at))
+    subst (λ f. IsDecidedIn (prefix_of f seen) h.account h.own.slot h.own.number c.in-Some.round c.in-Some.decision) (looked at).upto
+    (c.in-Some.ensures.front b seen (counts_slot at) (waits (goal.at.After-receipt c).After-self).room (counts_front at))
 
 -- what the step leaves, with whichever stage next
-stepped : (g : given.Over) (c : After-turn-looked g) (turns : ℕ) → turns ≡ c.turn-looked.new.self.turns → (mark : SeatTerms) → mark ≡ c.turn-looked.new.seat
+stepped : (c : After-turn-looked) (turns : ℕ) → turns ≡ c.turn-looked.new.self.turns → (mark : SeatTerms) → mark ≡ c.turn-looked.new.seat
     → (totals : TotalSums) → totals ≡ c.turn-looked.new.totals → (stage : TurnStage) (answer : Option HelpTurn) → help_turns_in turns stage ≡ turns
     → help_turns_left c.args.board.now.book.processes stage < help_turns_left c.args.board.now.book.processes (Look c.in-Look.looking)
     → (IsSome answer ↔ (help_turns_left c.args.board.now.book.processes stage ≡ 0))
@@ -135,7 +135,7 @@ stepped : (g : given.Over) (c : After-turn-looked g) (turns : ℕ) → turns ≡
     → TakesHelpStep c.args.board.now.book c.args.self.now
     (record (the_view c.self.inside) { stage = stage; looked = turns; mark = mark.knows; totals = totals }) c.args.seat.now c.turn-looked.new.seat
     c.turn-looked.new.totals answer
-stepped g c turns turns_are mark mark_is totals totals_are stage answer same left ends help waits seat counted leaves =
+stepped c turns turns_are mark mark_is totals totals_are stage answer same left ends help waits seat counted leaves =
     let b : BookTerms = c.args.board.now.book in
     let t : TurningTerms = the_view c.self.inside in
     let after : SeatTerms = c.turn-looked.new.seat in
@@ -143,46 +143,46 @@ stepped g c turns turns_are mark mark_is totals totals_are stage answer same lef
     let told = c.turn-looked.ensures in
     subst (λ (s : TurningTerms). TakesHelpStep b s (record t { stage = stage; looked = turns; mark = mark.knows; totals = totals }) c.args.seat.now after now answer)
     c.self.view_is
-    (TakesHelpStep-look b t c.self.invariant (book g (goal.at.After-turn-looked g c).After-self) c.args.seat.now after now mark.knows
+    (TakesHelpStep-look b t c.self.invariant (book (goal.at.After-turn-looked c).After-self) c.args.seat.now after now mark.knows
     (ap (λ (m : SeatTerms). m.knows) mark_is) totals totals_are c.in-Look.looking c.in-Look.is turns (turns_are ∙ told.turns) told.load told.loads
     (subst (IsWithin b.processes c.in-Look.looking.was (length after.knows.seen)) (sym turns_are) told.so_far) stage answer same left ends help waits seat
     counted leaves)
 
 pub returns-in_err-front-clause-stepped : goal.returns-in_err-front-clause-stepped
-returns-in_err-front-clause-stepped g c =
-    let at = (goal.at.returns-in_err-front-clause-stepped g c).After-turn-looked in
+returns-in_err-front-clause-stepped c =
+    let at = (goal.at.returns-in_err-front-clause-stepped c).After-turn-looked in
     let next : TurnStage = Look c.turn-looked.new.self in
     subst (TakesHelpStep c.args.board.now.book c.args.self.now
     (record (the_view c.self.inside) { stage = next; looked = c.turns-self-inside.result; mark = c.of.result.value.knows; totals = c.of-2.result.value }) c.args.seat.now
     c.turn-looked.new.seat c.turn-looked.new.totals) (sym c.from_residual.ensures)
-    (stepped g at c.turns-self-inside.result c.turns-self-inside.ensures c.of.result.value c.of.ensures c.of-2.result.value c.of-2.ensures next None (sym c.turns-self-inside.ensures)
+    (stepped at c.turns-self-inside.result c.turns-self-inside.ensures c.of.result.value c.of.ensures c.of-2.result.value c.of-2.ensures next None (sym c.turns-self-inside.ensures)
     (omega (arith, c.turn-looked.ensures.left)) (λ some. let wrong : false ≡ true = some in absurd (cc wrong), λ none. absurd (omega (arith, none))) tt tt tt tt tt)
 
 -- nothing was decided meanwhile
-leaves_found : (g : given.Over) (c : After-known g) → LeavesTotals c.args.board.now.book c.self.inside.start.value.knows c.turn-looked.new.seat.knows
+leaves_found : (c : After-known) → LeavesTotals c.args.board.now.book c.self.inside.start.value.knows c.turn-looked.new.seat.knows
     c.self.inside.was.value c.turn-looked.new.totals (round_steps c.args.board.now.book.processes
     * decides_made c.self.inside.helping.value.account c.self.inside.start.value.knows c.turn-looked.new.seat.knows) c.turns-self-inside.result
-leaves_found g c =
-    let at = (goal.at.After-known g c).After-turn-looked in
+leaves_found c =
+    let at = (goal.at.After-known c).After-turn-looked in
     let b : BookTerms = c.args.board.now.book in
     let t : TurningTerms = the_view c.self.inside in
     let w : Knowledge = c.turn-looked.new.seat.knows in
     let front : List ℕ = c.in_ok-front.front in
     let few : IsWithin b.processes t.was (sum front) c.turn-looked.new.self.turns =
-    subst (λ (s : TotalSums). IsWithin b.processes s (sum front) c.turn-looked.new.self.turns) (looks g at).was_is c.in_ok-front.ensures.within in
-    let same : HasSameAsking t.start w = HasSameAsking-HasLoaded b t.start w (omega (arith, c.self.invariant.kept.one_part)) (looked g c).loads in
+    subst (λ (s : TotalSums). IsWithin b.processes s (sum front) c.turn-looked.new.self.turns) (looks at).was_is c.in_ok-front.ensures.within in
+    let same : HasSameAsking t.start w = HasSameAsking-HasLoaded b t.start w (omega (arith, c.self.invariant.kept.one_part)) (looked c).loads in
     let none : decides_made t.helping.account t.start w ≡ 0 = omega (arith, ap (λ (k : Asking). k.decides) (same t.helping.account)) in
     let zero : 0 ≡ round_steps b.processes * decides_made t.helping.account t.start w = omega (arith, ap (λ k. round_steps b.processes * k) none) in
     subst (λ k. LeavesTotals b t.start w t.was c.turn-looked.new.totals k c.turns-self-inside.result) zero
-    (LeavesTotals-HasLooked b t.start w t.was c.turn-looked.new.totals front (looked g c) c.turns-self-inside.result
+    (LeavesTotals-HasLooked b t.start w t.was c.turn-looked.new.totals front (looked c) c.turns-self-inside.result
     (omega (arith, c.self.invariant.kept.one_part)) (omega (arith, few, c.turns-self-inside.ensures)))
 
 pub returns-in-Some-clause-stepped : goal.returns-in-Some-clause-stepped
-returns-in-Some-clause-stepped g c =
-    let by = (goal.at.returns-in-Some-clause-stepped g c).After-receipt in
-    let known = (goal.at.After-receipt g by).After-known in
-    let at = (goal.at.After-known g known).After-turn-looked in
-    let start = (goal.at.After-turn-looked g at).After-self in
+returns-in-Some-clause-stepped c =
+    let by = (goal.at.returns-in-Some-clause-stepped c).After-receipt in
+    let known = (goal.at.After-receipt by).After-known in
+    let at = (goal.at.After-known known).After-turn-looked in
+    let start = (goal.at.After-turn-looked at).After-self in
     let b : BookTerms = c.args.board.now.book in
     let t : TurningTerms = the_view c.self.inside in
     let w : Knowledge = c.turn-looked.new.seat.knows in
@@ -191,43 +191,43 @@ returns-in-Some-clause-stepped g c =
     let h : HelpingTerms = c.args.helping.now in
     let r : Receipt = c.receipt.result in
     let help : IsHelpOf b t.start w h (Settled r) =
-    IsHelpOf-found b t.start w t.was now front h (has_account g start) (looked g known) (waits g start) c.in-Some.round c.in-Some.decision r
-    c.known.ensures.seat.agrees (found g by) c.receipt.ensures.call c.receipt.ensures.reply c.receipt.ensures.at in
+    IsHelpOf-found b t.start w t.was now front h (has_account start) (looked known) (waits start) c.in-Some.round c.in-Some.decision r
+    c.known.ensures.seat.agrees (found by) c.receipt.ensures.call c.receipt.ensures.reply c.receipt.ensures.at in
     subst (λ (k : TurnStage). TakesHelpStep b c.args.self.now
     (record t { stage = k; looked = c.turns-self-inside.result; mark = c.of.result.value.knows; totals = c.of-2.result.value }) c.args.seat.now c.turn-looked.new.seat
     now (Some (Settled r))) (sym c.become_next.ensures)
-    (stepped g at c.turns-self-inside.result c.turns-self-inside.ensures c.of.result.value c.of.ensures c.of-2.result.value c.of-2.ensures Found (Some (Settled r)) refl
+    (stepped at c.turns-self-inside.result c.turns-self-inside.ensures c.of.result.value c.of.ensures c.of-2.result.value c.of-2.ensures Found (Some (Settled r)) refl
     (omega arith) (λ some. refl, λ none. refl)
-    (subst (λ (k : HelpingTerms). IsHelpOf b t.start w k (Settled r)) (sym (helping g start)) help)
+    (subst (λ (k : HelpingTerms). IsHelpOf b t.start w k (Settled r)) (sym (helping start)) help)
     (λ more. absurd (cc more))
-    (subst (λ (k : HelpingTerms). LeavesSeat t.start w k.account) (sym (helping g start))
-    (LeavesSeat-HasLoaded b t.start w h.account (omega (arith, c.self.invariant.kept.one_part)) (looked g known).loads (waits g start).free))
-    (has_counted g known) (leaves_found g known))
+    (subst (λ (k : HelpingTerms). LeavesSeat t.start w k.account) (sym (helping start))
+    (LeavesSeat-HasLoaded b t.start w h.account (omega (arith, c.self.invariant.kept.one_part)) (looked known).loads (waits start).free))
+    (has_counted known) (leaves_found known))
 
 pub start-deciding-requires-clause-totals : goal.start-deciding-requires-clause-totals
-start-deciding-requires-clause-totals g c = has_counted g (goal.at.start-deciding-requires-clause-totals g c).After-known
+start-deciding-requires-clause-totals c = has_counted (goal.at.start-deciding-requires-clause-totals c).After-known
 
 pub start-deciding-requires-clause-helping : goal.start-deciding-requires-clause-helping
-start-deciding-requires-clause-helping g c =
-    let start = (goal.at.start-deciding-requires-clause-helping g c).After-self in
-    let done = looked g (goal.at.start-deciding-requires-clause-helping g c).After-known in
+start-deciding-requires-clause-helping c =
+    let start = (goal.at.start-deciding-requires-clause-helping c).After-self in
+    let done = looked (goal.at.start-deciding-requires-clause-helping c).After-known in
     IsHelpingAt-turn c.args.board.now.book c.self.inside.start.value.knows c.turn-looked.new.seat.knows c.args.helping.now c.in_ok-front.front
-    (has_account g start) done.snapshot done.loads (waits g start)
+    (has_account start) done.snapshot done.loads (waits start)
 
 pub start-deciding-requires-clause-unsettled : goal.start-deciding-requires-clause-unsettled
-start-deciding-requires-clause-unsettled g c =
-    let at = (goal.at.start-deciding-requires-clause-unsettled g c).After-known in
+start-deciding-requires-clause-unsettled c =
+    let at = (goal.at.start-deciding-requires-clause-unsettled c).After-known in
     let h : HelpingTerms = c.args.helping.now in
     let seen = c.turn-looked.new.seat.knows.seen in
-    subst (λ f. is_settled h.account h.own.slot h.own.number (prefix_of f seen) ≡ false) (looked g at).upto
-    (c.in_default-settled.ensures.front c.args.board.now.book seen (counts_slot g at)
-    (waits g (goal.at.start-deciding-requires-clause-unsettled g c).After-self).room (counts_front g at))
+    subst (λ f. is_settled h.account h.own.slot h.own.number (prefix_of f seen) ≡ false) (looked at).upto
+    (c.in_default-settled.ensures.front c.args.board.now.book seen (counts_slot at)
+    (waits (goal.at.start-deciding-requires-clause-unsettled c).After-self).room (counts_front at))
 
 pub returns-clause-stepped : goal.returns-clause-stepped
-returns-clause-stepped g c =
-    let started = (goal.at.returns-clause-stepped g c).After-start-deciding in
-    let known = (goal.at.After-start-deciding g started).After-known in
-    let at = (goal.at.After-known g known).After-turn-looked in
+returns-clause-stepped c =
+    let started = (goal.at.returns-clause-stepped c).After-start-deciding in
+    let known = (goal.at.After-start-deciding started).After-known in
+    let at = (goal.at.After-known known).After-turn-looked in
     let b : BookTerms = c.args.board.now.book in
     let next : TurnStage = Decide c.start-deciding.result in
     let begun = ap (λ (d : DecidingTerms). d.left) c.start-deciding.ensures in
@@ -236,6 +236,6 @@ returns-clause-stepped g c =
     subst (λ (k : TurnStage). TakesHelpStep b c.args.self.now
     (record (the_view c.self.inside) { stage = k; looked = c.turns-self-inside.result; mark = c.of.result.value.knows; totals = c.of-2.result.value })
     c.args.seat.now c.turn-looked.new.seat c.turn-looked.new.totals None) (sym c.become_next-2.ensures)
-    (stepped g at c.turns-self-inside.result c.turns-self-inside.ensures c.of.result.value c.of.ensures c.of-2.result.value c.of-2.ensures next None
-    (omega (arith, begun, most)) (omega (arith, begun, same, (looks g at).left))
+    (stepped at c.turns-self-inside.result c.turns-self-inside.ensures c.of.result.value c.of.ensures c.of-2.result.value c.of-2.ensures next None
+    (omega (arith, begun, most)) (omega (arith, begun, same, (looks at).left))
     (λ some. let wrong : false ≡ true = some in absurd (cc wrong), λ none. absurd (omega (arith, none, begun))) tt tt tt tt tt)

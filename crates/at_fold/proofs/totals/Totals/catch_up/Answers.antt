@@ -15,7 +15,7 @@ use Rattle.at_fold.proofs.totals.Totals.catch_up.Goals as goal
 use Rattle.at_fold.proofs.totals.Totals.catch_up.Goals.{then-counted-end, else-counted-end}
 
 pub loop-p-init : goal.loop-p-init
-loop-p-init g c = record {
+loop-p-init c = record {
   catching = IsCatchingUp-start c.args.board.now.book c.args.seat.now.knows.seen c.args.counts.now c.args.self.now c.requires.counted c.requires.more c.requires.seen;
   same = refl;
   more = omega arith;
@@ -24,24 +24,24 @@ loop-p-init g c = record {
 }
 
 -- the records of one process are counted, whether some were new or none
-record IsCaught (g : Over) (c : goal.Joined-counted-end g) : Type 0 where
+record IsCaught (c : goal.Joined-counted-end) : Type 0 where
   counted : HasCounted c.if-counted-end.self c.args.board.now.book c.if-counted-end.seat.knows.seen
   upto : c.if-counted-end.self.upto ≡ set c.loop-p.self.upto c.loop-p.p c.get-end.result
   same : c.if-counted-end.seat ≡ c.loop-p.seat
-  steps : c.if-counted-end.steps ≡ c.loop-p.steps + RECORD_WORDS * (c.get-end.result - get_or c.loop-p.self.upto c.loop-p.p 0)
-  exchanges : c.if-counted-end.exchanges ≡ c.loop-p.exchanges
+  steps : c.if-counted-end.steps ≡ c.loop-p.seat.steps + RECORD_WORDS * (c.get-end.result - get_or c.loop-p.self.upto c.loop-p.p 0)
+  exchanges : c.if-counted-end.exchanges ≡ c.loop-p.seat.exchanges
 
 -- the process is one of the book's
-known_process : (g : Over) (c : goal.Joined-counted-end g) → c.loop-p.p < c.args.board.now.book.processes
-known_process g c = omega (arith, c.loop-p-test.true, c.len-p-end.ensures.length, c.requires.seen.sized)
+known_process : (c : goal.Joined-counted-end) → c.loop-p.p < c.args.board.now.book.processes
+known_process c = omega (arith, c.loop-p-test.true, c.len-p-end.ensures.length, c.requires.seen.sized)
 
 -- the count was no less before than it is to be
-start-le : (g : Over) (c : goal.Joined-counted-end g) → get_or c.loop-p.self.upto c.loop-p.p 0 ≤ c.get-end.result
-start-le g c =
-    omega (arith, c.loop-p.invariant.catching.more c.loop-p.p (omega (arith, known_process g c, c.requires.seen.sized)), c.get-end.ensures)
+start-le : (c : goal.Joined-counted-end) → get_or c.loop-p.self.upto c.loop-p.p 0 ≤ c.get-end.result
+start-le c =
+    omega (arith, c.loop-p.invariant.catching.more c.loop-p.p (omega (arith, known_process c, c.requires.seen.sized)), c.get-end.ensures)
 
-is_caught : (g : Over) (c : goal.Joined-counted-end g) → IsCaught g c
-is_caught g c =
+is_caught : (c : goal.Joined-counted-end) → IsCaught c
+is_caught c =
     let t : TotalSums = c.loop-p.self in
     let p : ℕ = c.loop-p.p in
     let n : ℕ = c.get-end.result in
@@ -55,7 +55,7 @@ is_caught g c =
         exchanges = w.exchanges-is ∙ w.catch_up_with.ensures.exchanges;
       }
       | else-counted-end w ↦
-          let start : n ≡ get_or t.upto p 0 = omega (arith, start-le g c, w.if-counted-end.false, c.counted.ensures) in record {
+          let start : n ≡ get_or t.upto p 0 = omega (arith, start-le c, w.if-counted-end.false, c.counted.ensures) in record {
             counted = subst (λ (s : TotalSums). HasCounted s c.args.board.now.book c.if-counted-end.seat.knows.seen) (sym w.self-is)
                 (subst (λ (s : SeatTerms). HasCounted t c.args.board.now.book s.knows.seen) (sym w.seat-is) c.loop-p.invariant.catching.counted);
             upto = ap (λ (s : TotalSums). s.upto) w.self-is ∙ (sym (set-get_or t.upto p 0) ∙ ap (set t.upto p) (sym start));
@@ -66,7 +66,7 @@ is_caught g c =
     ]
 
 pub loop-p-preserved : goal.loop-p-preserved
-loop-p-preserved g c =
+loop-p-preserved c =
     let b : BookTerms = c.args.board.now.book in
     let t : TotalSums = c.loop-p.self in
     let t' : TotalSums = c.if-counted-end.self in
@@ -76,10 +76,10 @@ loop-p-preserved g c =
     let start : List ℕ = c.args.self.now.upto in
     let seen = c.if-counted-end.seat.knows.seen in
     let was = c.loop-p.invariant in
-    let now : IsCaught g c = is_caught g c in
-    let known : p < b.processes = known_process g c in
+    let now : IsCaught c = is_caught c in
+    let known : p < b.processes = known_process c in
     let inside : p < length t.upto = omega (arith, known, was.catching.counted.processes) in
-    let more : get_or t.upto p 0 ≤ n = start-le g c in
+    let more : get_or t.upto p 0 ≤ n = start-le c in
     let caught = sum-caught t.upto p n inside more in
     let total = ap (λ (l : List ℕ). sum l) now.upto in
     let catching : IsCatchingUp b seen counts start t p = subst (λ (s : SeatTerms). IsCatchingUp b s.knows.seen counts start t p) (sym now.same) was.catching in
@@ -94,7 +94,7 @@ loop-p-preserved g c =
     }
 
 pub catch_up_with-requires-clause-seen : goal.catch_up_with-requires-clause-seen
-catch_up_with-requires-clause-seen g c =
+catch_up_with-requires-clause-seen c =
     let b : BookTerms = c.args.board.now.book in
     let known : c.loop-p.p < b.processes = omega (arith, c.loop-p-test.true, c.len-p-end.ensures.length, c.requires.seen.sized) in
     omega (
@@ -104,13 +104,13 @@ catch_up_with-requires-clause-seen g c =
     )
 
 pub returns-clause-stays : goal.returns-clause-stays
-returns-clause-stays g c =
+returns-clause-stays c =
     StaysCounted-HasCounted c.loop-p.self c.args.board.now.book c.loop-p.seat.knows.seen c.loop-p.invariant.catching.counted
 
 pub returns-clause-upto : goal.returns-clause-upto
-returns-clause-upto g c =
+returns-clause-upto c =
     upto-IsCatchingUp c.args.board.now.book c.loop-p.seat.knows.seen c.args.counts.now c.args.self.now.upto c.loop-p.self c.loop-p.p
     (omega (arith, c.loop-p-test.false, c.len-p-end.ensures.length, c.requires.seen.sized)) c.loop-p.invariant.catching
 
 pub returns-clause-steps : goal.returns-clause-steps
-returns-clause-steps g c = omega (arith, c.loop-p.invariant.steps, ap (λ (l : List ℕ). sum l) (returns-clause-upto g c))
+returns-clause-steps c = omega (arith, c.loop-p.invariant.steps, ap (λ (l : List ℕ). sum l) (returns-clause-upto c))

@@ -9,7 +9,7 @@ use Rattle.at_fold.proofs.Laws.LoadedRecords.{MayCount-loaded}
 use Rattle.at_fold.proofs.totals.Totals.catch_up_with.Goals as goal
 
 pub loop-i-preserved : goal.loop-i-preserved
-loop-i-preserved g c =
+loop-i-preserved c =
     let b : BookTerms = c.args.board.now.book in
     let old : SeatTerms = c.args.seat.now in
     let now : SeatTerms = c.loop-i.seat in

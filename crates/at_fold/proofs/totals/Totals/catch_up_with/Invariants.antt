@@ -1,13 +1,12 @@
 use Rattle.std.proofs.Common.{◌≡◌, ◌+◌, ◌-◌, ◌*◌, set}
+use Rattle.at_board.specs.Counting.{stepped}
 use Rattle.at_board.specs.declared.words.TheConstants.{RECORD_WORDS}
 use Rattle.at_fold.specs.HasCounted.{HasCounted}
 use Rattle.at_fold.proofs.totals.Totals.catch_up_with.Given as goal
 
 abbrev pub invariant-loop-i : goal.invariant-loop-i
-invariant-loop-i g l = record {
+invariant-loop-i l = record {
   counted : HasCounted l.self l.board.book l.seat.knows.seen;
   upto : l.self.upto ≡ set l.initial.self.upto l.p l.i;
-  same : l.seat ≡ l.initial.seat;
-  steps : l.steps ≡ l.initial.steps + RECORD_WORDS * (l.i - l.start);
-  exchanges : l.exchanges ≡ l.initial.exchanges;
+  same : l.seat ≡ stepped l.initial.seat (RECORD_WORDS * (l.i - l.start));
 }

@@ -16,17 +16,17 @@ use Rattle.at_machines.proofs.asking.Asking.turn.Goals.{After-announce, After-an
 use Rattle.at_machines.proofs.asking.Asking.turn.Goals as goal
 
 -- asking before the turn
-before : (g : given.Over) (c : After-self g) → IsAskingSo c.args.self.now
-before g c = subst IsAskingSo c.self.view_is c.self.invariant
+before : (c : After-self) → IsAskingSo c.args.self.now
+before c = subst IsAskingSo c.self.view_is c.self.invariant
 
 -- its seat is the board's
-book : (g : given.Over) (c : After-self g) → c.args.self.now.mark.book ≡ c.args.board.now.book
-book g c = ap (λ (v : Knowledge). v.book) (sym c.requires.mark) ∙ c.requires.board.book
+book : (c : After-self) → c.args.self.now.mark.book ≡ c.args.board.now.book
+book c = ap (λ (v : Knowledge). v.book) (sym c.requires.mark) ∙ c.requires.board.book
 
 -- how the fields stand after the turn
 pub invariant_of-self : goal.invariant_of-self
-invariant_of-self g c =
-    let at = (goal.at.invariant_of-self g c).After-self in
+invariant_of-self c =
+    let at = (goal.at.invariant_of-self c).After-self in
     let a : AskingTerms = c.args.self.now in
     let w : Knowledge = c.store_request_word.new.seat.knows in
     let n = c.request_word-word.result in
@@ -44,66 +44,66 @@ invariant_of-self g c =
       targets = c.self.inside.targets;
       since = c.self.inside.since;
       stored = c.self.inside.stored + 1;
-    })) (sym c.of.ensures) (subst (λ (t : AskingTerms). IsAskingSo (asking_after t w)) (sym is) (IsAskingSo-word a w n left (before g at) word told))
+    })) (sym c.of.ensures) (subst (λ (t : AskingTerms). IsAskingSo (asking_after t w)) (sym is) (IsAskingSo-word a w n left (before at) word told))
 
 -- all words are stored
-all : (g : given.Over) (c : After-announced-number g) → c.args.self.now.stored ≡ REQUEST_WORDS
-all g c = omega (arith, c.if-self-lt-REQUEST_WORDS.false, ap (λ (t : AskingTerms). t.stored) c.self.view_is, c.requires.left)
+all : (c : After-announced-number) → c.args.self.now.stored ≡ REQUEST_WORDS
+all c = omega (arith, c.if-self-lt-REQUEST_WORDS.false, ap (λ (t : AskingTerms). t.stored) c.self.view_is, c.requires.left)
 
 -- the request may be announced
-may : (g : given.Over) (c : After-announced-number g) (slot : ℕ) → HasSlot c.args.board.now.book c.args.self.now.start.first c.args.self.now.account slot
+may : (c : After-announced-number) (slot : ℕ) → HasSlot c.args.board.now.book c.args.self.now.start.first c.args.self.now.account slot
     → MayAnnounce c.args.board.now.book c.args.seat.now.knows c.args.self.now.account slot (request_asked c.args.self.now)
-may g c slot slot_in =
-    let at = (goal.at.After-announced-number g c).After-self in
+may c slot slot_in =
+    let at = (goal.at.After-announced-number c).After-self in
     let b : BookTerms = c.args.board.now.book in
     let a : AskingTerms = c.args.self.now in
     subst (λ (v : Knowledge). MayAnnounce b v a.account slot (request_asked a)) (sym c.requires.mark)
-    (MayAnnounce-IsAskingSo b a slot (book g at) (all g c) (before g at) slot_in)
+    (MayAnnounce-IsAskingSo b a slot (book at) (all c) (before at) slot_in)
 
 -- the account is one that the process shares
-mine : (g : given.Over) (c : After-self g) → HasSlot c.args.board.now.book c.args.self.now.start.first c.args.self.now.account (before g c).may.0
-mine g c = HasSlot-IsAskingSo c.args.board.now.book c.args.self.now (book g c) (before g c)
+mine : (c : After-self) → HasSlot c.args.board.now.book c.args.self.now.start.first c.args.self.now.account (before c).may.0
+mine c = HasSlot-IsAskingSo c.args.board.now.book c.args.self.now (book c) (before c)
 
 pub announce-requires-clause-request : goal.announce-requires-clause-request
-announce-requires-clause-request g c =
-    let at = (goal.at.announce-requires-clause-request g c).After-announced-number in
-    let first = (goal.at.After-announced-number g at).After-self in
-    let slot = (before g first).may.0 in (
+announce-requires-clause-request c =
+    let at = (goal.at.announce-requires-clause-request c).After-announced-number in
+    let first = (goal.at.After-announced-number at).After-self in
+    let slot = (before first).may.0 in (
       slot,
       request_asked c.args.self.now,
       subst (λ (t : AskingTerms). MayAnnounce c.args.board.now.book c.args.seat.now.knows t.account slot (request_asked c.args.self.now)) (sym c.self.view_is)
-          (may g at slot (mine g first)),
+          (may at slot (mine first)),
     )
 
 -- it is announced
-told : (g : given.Over) (c : After-announce g) (slot : ℕ) → HasSlot c.args.board.now.book c.args.self.now.start.first c.args.self.now.account slot
+told : (c : After-announce) (slot : ℕ) → HasSlot c.args.board.now.book c.args.self.now.start.first c.args.self.now.account slot
     → Announces c.args.board.now.book c.args.self.now.mark c.announce.new.seat.knows c.args.self.now.account slot (request_asked c.args.self.now)
-told g c slot slot_in =
-    let at = (goal.at.After-announce g c).After-announced-number in
+told c slot slot_in =
+    let at = (goal.at.After-announce c).After-announced-number in
     let b : BookTerms = c.args.board.now.book in
     let a : AskingTerms = c.args.self.now in
     let w : Knowledge = c.announce.new.seat.knows in
     let announced = subst (λ (t : AskingTerms). (s : ℕ) (r : Request) → MayAnnounce b c.args.seat.now.knows t.account s r
     → Announces b c.args.seat.now.knows w t.account s r) c.self.view_is c.announce.ensures.announced in
-    subst (λ (v : Knowledge). Announces b v w a.account slot (request_asked a)) c.requires.mark (announced slot (request_asked a) (may g at slot slot_in))
+    subst (λ (v : Knowledge). Announces b v w a.account slot (request_asked a)) c.requires.mark (announced slot (request_asked a) (may at slot slot_in))
 
 -- as if by one step
-from_start : (g : given.Over) (c : After-announce g) (slot : ℕ) → HasSlot c.args.board.now.book c.args.self.now.start.first c.args.self.now.account slot
+from_start : (c : After-announce) (slot : ℕ) → HasSlot c.args.board.now.book c.args.self.now.start.first c.args.self.now.account slot
     → Announces c.args.board.now.book c.args.self.now.start c.announce.new.seat.knows c.args.self.now.account slot (request_asked c.args.self.now)
-from_start g c slot slot_in =
-    let at = (goal.at.After-announce g c).After-announced-number in
-    Announces-IsAskingSo c.args.board.now.book c.args.self.now c.announce.new.seat.knows slot (all g at)
-    (before g (goal.at.After-announced-number g at).After-self) (told g c slot slot_in)
+from_start c slot slot_in =
+    let at = (goal.at.After-announce c).After-announced-number in
+    Announces-IsAskingSo c.args.board.now.book c.args.self.now c.announce.new.seat.knows slot (all at)
+    (before (goal.at.After-announced-number at).After-self) (told c slot slot_in)
 
 pub invariant_of-self-else-self-lt-REQUEST_WORDS : goal.invariant_of-self-else-self-lt-REQUEST_WORDS
-invariant_of-self-else-self-lt-REQUEST_WORDS g c =
-    let done = (goal.at.invariant_of-self-else-self-lt-REQUEST_WORDS g c).After-announce in
-    let at = (goal.at.After-announce g done).After-announced-number in
-    let first = (goal.at.After-announced-number g at).After-self in
+invariant_of-self-else-self-lt-REQUEST_WORDS c =
+    let done = (goal.at.invariant_of-self-else-self-lt-REQUEST_WORDS c).After-announce in
+    let at = (goal.at.After-announce done).After-announced-number in
+    let first = (goal.at.After-announced-number at).After-self in
     let a : AskingTerms = c.args.self.now in
     let w : Knowledge = c.announce.new.seat.knows in
-    let slot = (before g first).may.0 in
-    let after = IsAskingSo-announced c.args.board.now.book a w slot (all g at) (before g first) (told g done slot (mine g first)) in
+    let slot = (before first).may.0 in
+    let after = IsAskingSo-announced c.args.board.now.book a w slot (all at) (before first) (told done slot (mine first)) in
     subst (λ (s : SeatTerms). IsAskingSo (record {
       start = c.self.inside.start.value.knows;
       mark = s.knows;
@@ -114,44 +114,44 @@ invariant_of-self-else-self-lt-REQUEST_WORDS g c =
     })) (sym c.of-else-self-lt-REQUEST_WORDS.ensures) (subst (λ (t : AskingTerms). IsAskingSo (asking_after t w)) (sym c.self.view_is) after)
 
 pub returns-else-self-lt-REQUEST_WORDS-clause-announced : goal.returns-else-self-lt-REQUEST_WORDS-clause-announced
-returns-else-self-lt-REQUEST_WORDS-clause-announced g c =
-    from_start g (goal.at.returns-else-self-lt-REQUEST_WORDS-clause-announced g c).After-announce
+returns-else-self-lt-REQUEST_WORDS-clause-announced c =
+    from_start (goal.at.returns-else-self-lt-REQUEST_WORDS-clause-announced c).After-announce
 
 -- how many were announced before
-counted : (g : given.Over) (c : After-announced-number g)
+counted : (c : After-announced-number)
     → c.announced-number.result ≡ length (asking_on (own_part c.args.self.now.start) c.args.self.now.account).announced
-counted g c =
-    let at = (goal.at.After-announced-number g c).After-self in
+counted c =
+    let at = (goal.at.After-announced-number c).After-self in
     let a : AskingTerms = c.args.self.now in
     let here : c.announced-number.result ≡ length (asking_on (own_part a.mark) a.account).announced =
     subst (λ (v : Knowledge). c.announced-number.result ≡ length (asking_on (own_part v) a.account).announced) c.requires.mark
     (subst (λ (t : AskingTerms). c.announced-number.result ≡ length (asking_on (own_part c.args.seat.now.knows) t.account).announced) c.self.view_is
     c.announced-number.ensures) in
-    here ∙ announced-IsAskingSo a (omega (arith, all g c)) (before g at)
+    here ∙ announced-IsAskingSo a (omega (arith, all c)) (before at)
 
 pub returns-else-self-lt-REQUEST_WORDS-clause-number : goal.returns-else-self-lt-REQUEST_WORDS-clause-number
-returns-else-self-lt-REQUEST_WORDS-clause-number g c =
-    counted g (goal.at.returns-else-self-lt-REQUEST_WORDS-clause-number g c).After-announced-number
+returns-else-self-lt-REQUEST_WORDS-clause-number c =
+    counted (goal.at.returns-else-self-lt-REQUEST_WORDS-clause-number c).After-announced-number
 
 pub returns-else-self-lt-REQUEST_WORDS-clause-own : goal.returns-else-self-lt-REQUEST_WORDS-clause-own
-returns-else-self-lt-REQUEST_WORDS-clause-own g c slot slot_in =
-    let done = (goal.at.returns-else-self-lt-REQUEST_WORDS-clause-own g c).After-announce in
-    let at = (goal.at.After-announce g done).After-announced-number in
+returns-else-self-lt-REQUEST_WORDS-clause-own c slot slot_in =
+    let done = (goal.at.returns-else-self-lt-REQUEST_WORDS-clause-own c).After-announce in
+    let at = (goal.at.After-announce done).After-announced-number in
     HasAsked-IsAskingSo c.args.board.now.book c.args.self.now c.announce.new.seat.knows slot c.announced-number.result
-    (before g (goal.at.After-announced-number g at).After-self) slot_in (counted g at) (from_start g done slot slot_in)
+    (before (goal.at.After-announced-number at).After-self) slot_in (counted at) (from_start done slot slot_in)
 
 pub returns-else-self-lt-REQUEST_WORDS-clause-nothing : goal.returns-else-self-lt-REQUEST_WORDS-clause-nothing
-returns-else-self-lt-REQUEST_WORDS-clause-nothing g c =
-    let done = (goal.at.returns-else-self-lt-REQUEST_WORDS-clause-nothing g c).After-announce in
-    let at = (goal.at.After-announced-number g (goal.at.After-announce g done).After-announced-number).After-self in
-    let slot = (before g at).may.0 in
-    HasLoadedNothing-IsAskingSo c.args.board.now.book c.args.self.now c.announce.new.seat.knows slot (before g at) (from_start g done slot (mine g at))
+returns-else-self-lt-REQUEST_WORDS-clause-nothing c =
+    let done = (goal.at.returns-else-self-lt-REQUEST_WORDS-clause-nothing c).After-announce in
+    let at = (goal.at.After-announced-number (goal.at.After-announce done).After-announced-number).After-self in
+    let slot = (before at).may.0 in
+    HasLoadedNothing-IsAskingSo c.args.board.now.book c.args.self.now c.announce.new.seat.knows slot (before at) (from_start done slot (mine at))
 
 pub returns-else-self-lt-REQUEST_WORDS-clause-board : goal.returns-else-self-lt-REQUEST_WORDS-clause-board
-returns-else-self-lt-REQUEST_WORDS-clause-board g c =
-    let done = (goal.at.returns-else-self-lt-REQUEST_WORDS-clause-board g c).After-announce in
-    let at = (goal.at.After-announced-number g (goal.at.After-announce g done).After-announced-number).After-self in
+returns-else-self-lt-REQUEST_WORDS-clause-board c =
+    let done = (goal.at.returns-else-self-lt-REQUEST_WORDS-clause-board c).After-announce in
+    let at = (goal.at.After-announced-number (goal.at.After-announce done).After-announced-number).After-self in
     record {
       id = c.announce.ensures.board ∙ c.requires.board.id;
-      book = ap (λ (v : Knowledge). v.book) (told g done (before g at).may.0 (mine g at)).same ∙ book g at;
+      book = ap (λ (v : Knowledge). v.book) (told done (before at).may.0 (mine at)).same ∙ book at;
     }

@@ -17,7 +17,7 @@ use Rattle.at_machines.proofs.catching_up.CatchingUp.turn.Goals.{After-turn, Aft
 use Rattle.at_machines.proofs.catching_up.CatchingUp.turn.Goals as goal
 
 pub unreachable-requires : goal.unreachable-requires
-unreachable-requires g c =
+unreachable-requires c =
     omega (
       arith,
       c.requires.left,
@@ -26,9 +26,9 @@ unreachable-requires g c =
     )
 
 -- what was kept before the turn
-before : (g : given.Over) (c : After-turn g)
+before : (c : After-turn)
     → IsCatchingUpSo c.args.seat.now.knows c.self.inside.counts c.args.totals.now c.self.inside.process (Some c.in-Some.loading)
-before g c =
+before c =
     let counts : List ℕ = c.self.inside.counts in
     let p : ℕ = c.self.inside.process in
     let was : Knowledge = c.self.inside.seat.value.knows in
@@ -39,21 +39,21 @@ before g c =
     (subst (IsCatchingUpSo was counts c.self.inside.totals.value p) c.in-Some.is c.self.invariant))
 
 -- the seat is the board's, and as it was
-stays : (g : given.Over) (c : After-turn g) (t : TotalSums) → HasCounted t c.args.seat.now.knows.book c.args.seat.now.knows.seen
+stays : (c : After-turn) (t : TotalSums) → HasCounted t c.args.seat.now.knows.book c.args.seat.now.knows.seen
     → StaysCounted t c.args.board.now.book c.turn.new.seat.knows.seen
-stays g c t counted =
+stays c t counted =
     StaysCounted-HasCounted t c.args.board.now.book c.turn.new.seat.knows.seen
     (subst (λ (s : SeatTerms). HasCounted t c.args.board.now.book s.knows.seen) (sym c.turn.ensures.same)
     (subst (λ (b : BookTerms). HasCounted t b c.args.seat.now.knows.seen) c.requires.board.book counted))
 
 pub returns-in_err-entry-clause-stays : goal.returns-in_err-entry-clause-stays
-returns-in_err-entry-clause-stays g c =
-    let at = (goal.at.returns-in_err-entry-clause-stays g c).After-turn in
-    stays g at c.args.totals.now (before g at).catching.counted
+returns-in_err-entry-clause-stays c =
+    let at = (goal.at.returns-in_err-entry-clause-stays c).After-turn in
+    stays at c.args.totals.now (before at).catching.counted
 
 pub overflow_add-upto : goal.overflow_add-upto
-overflow_add-upto g c =
-    let so = before g (goal.at.overflow_add-upto g c).After-turn in
+overflow_add-upto c =
+    let so = before (goal.at.overflow_add-upto c).After-turn in
     omega (
       arith,
       c.counted-upto.ensures,
@@ -61,35 +61,35 @@ overflow_add-upto g c =
     )
 
 -- one record more is counted
-counted : (g : given.Over) (c : After-count g) → HasCounted c.count.new.self c.args.seat.now.knows.book c.args.seat.now.knows.seen
-counted g c =
+counted : (c : After-count) → HasCounted c.count.new.self c.args.seat.now.knows.book c.args.seat.now.knows.seen
+counted c =
     let v : Knowledge = c.args.seat.now.knows in
     c.count.ensures.counted v.book v.seen
-    (MayCount-IsCatchingUpSo v c.self.inside.counts c.args.totals.now c.self.inside.process c.in-Some.loading (before g (goal.at.After-count g c).After-turn)
+    (MayCount-IsCatchingUpSo v c.self.inside.counts c.args.totals.now c.self.inside.process c.in-Some.loading (before (goal.at.After-count c).After-turn)
     c.in_ok-entry.entry c.in_ok-entry.ensures.entry)
 
-upto : (g : given.Over) (c : After-count g)
+upto : (c : After-count)
     → c.count.new.self.upto ≡ set c.args.totals.now.upto c.self.inside.process (get_or c.args.totals.now.upto c.self.inside.process 0 + 1)
-upto g c = c.count.ensures.upto ∙ ap (λ k. set c.args.totals.now.upto c.self.inside.process (k + 1)) c.counted-upto.ensures
+upto c = c.count.ensures.upto ∙ ap (λ k. set c.args.totals.now.upto c.self.inside.process (k + 1)) c.counted-upto.ensures
 
 pub at-requires-clause-so_far : goal.at-requires-clause-so_far
-at-requires-clause-so_far g c =
-    let at = (goal.at.at-requires-clause-so_far g c).After-count in
+at-requires-clause-so_far c =
+    let at = (goal.at.at-requires-clause-so_far c).After-count in
     let v : Knowledge = c.args.seat.now.knows in
     let t' : TotalSums = c.count.new.self in
     let p : ℕ = c.self.inside.process in
-    let here = IsCatchingUp-counted v c.self.inside.counts c.args.totals.now p c.in-Some.loading (before g (goal.at.After-count g at).After-turn) t' (counted g at) (upto g at) in
+    let here = IsCatchingUp-counted v c.self.inside.counts c.args.totals.now p c.in-Some.loading (before (goal.at.After-count at).After-turn) t' (counted at) (upto at) in
     subst (λ (s : SeatTerms). IsCatchingUp s.knows.book s.knows.seen c.copy.result t'.upto t' p) (sym c.turn.ensures.same)
     (subst (λ xs. IsCatchingUp v.book v.seen xs t'.upto t' p) (sym c.copy.ensures) here)
 
 pub returns-clause-word : goal.returns-clause-word
-returns-clause-word g c =
-    let at = (goal.at.returns-clause-word g c).After-count in
+returns-clause-word c =
+    let at = (goal.at.returns-clause-word c).After-count in
     let t' : TotalSums = c.count.new.self in
     let l : LoadingTerms = c.in-Some.loading in
     let whole : l.loaded + 1 ≡ RECORD_WORDS = ap (λ (k : LoadingTerms). k.loaded) (sym c.in_ok-entry.ensures.after) ∙ c.in_ok-entry.ensures.ends.0 refl in
     let loaded : l.loaded ≡ c.args.self.now.loaded = ap loaded_of (sym c.in-Some.is) ∙ ap (λ (s : CatchingUpTerms). s.loaded) c.self.view_is in
-    let here = CountsNext-counted c.args.seat.now.knows c.self.inside.counts c.args.totals.now c.self.inside.process l (before g (goal.at.After-count g at).After-turn) t' (counted g at) (upto g at) in (
+    let here = CountsNext-counted c.args.seat.now.knows c.self.inside.counts c.args.totals.now c.self.inside.process l (before (goal.at.After-count at).After-turn) t' (counted at) (upto at) in (
       λ few. absurd (omega (arith, few, whole, loaded)),
       λ _.
           subst (λ xs. CountsNext xs c.args.self.now.totals t') (ap (λ (s : CatchingUpTerms). s.counts) c.self.view_is)
@@ -97,39 +97,39 @@ returns-clause-word g c =
     )
 
 pub returns-clause-stays : goal.returns-clause-stays
-returns-clause-stays g c =
-    let at = (goal.at.returns-clause-stays g c).After-count in
-    stays g (goal.at.After-count g at).After-turn c.count.new.self (counted g at)
+returns-clause-stays c =
+    let at = (goal.at.returns-clause-stays c).After-count in
+    stays (goal.at.After-count at).After-turn c.count.new.self (counted at)
 
 pub returns-clause-counted : goal.returns-clause-counted
-returns-clause-counted g c =
-    let at = (goal.at.returns-clause-counted g c).After-count in
+returns-clause-counted c =
+    let at = (goal.at.returns-clause-counted c).After-count in
     let seen = c.turn.new.seat.knows.seen in
-    stays g (goal.at.After-count g at).After-turn c.count.new.self (counted g at) seen (IsPrefix-refl seen)
+    stays (goal.at.After-count at).After-turn c.count.new.self (counted at) seen (IsPrefix-refl seen)
 
 pub returns-in_err-entry-clause-counted : goal.returns-in_err-entry-clause-counted
-returns-in_err-entry-clause-counted g c =
-    let at = (goal.at.returns-in_err-entry-clause-counted g c).After-turn in
+returns-in_err-entry-clause-counted c =
+    let at = (goal.at.returns-in_err-entry-clause-counted c).After-turn in
     let seen = c.turn.new.seat.knows.seen in
-    stays g at c.args.totals.now (before g at).catching.counted seen (IsPrefix-refl seen)
+    stays at c.args.totals.now (before at).catching.counted seen (IsPrefix-refl seen)
 
 pub returns-in_err-entry-clause-same : goal.returns-in_err-entry-clause-same
-returns-in_err-entry-clause-same g c = c.turn.ensures.same
+returns-in_err-entry-clause-same c = c.turn.ensures.same
 
 pub returns-in_err-entry-clause-steps : goal.returns-in_err-entry-clause-steps
-returns-in_err-entry-clause-steps g c = c.turn.ensures.steps
+returns-in_err-entry-clause-steps c = c.turn.ensures.steps
 
 pub returns-in_err-entry-clause-exchanges : goal.returns-in_err-entry-clause-exchanges
-returns-in_err-entry-clause-exchanges g c = c.turn.ensures.exchanges
+returns-in_err-entry-clause-exchanges c = c.turn.ensures.exchanges
 
 pub returns-clause-same : goal.returns-clause-same
-returns-clause-same g c = c.turn.ensures.same
+returns-clause-same c = c.turn.ensures.same
 
 pub returns-clause-steps : goal.returns-clause-steps
-returns-clause-steps g c = c.turn.ensures.steps
+returns-clause-steps c = c.turn.ensures.steps
 
 pub returns-clause-exchanges : goal.returns-clause-exchanges
-returns-clause-exchanges g c = c.turn.ensures.exchanges
+returns-clause-exchanges c = c.turn.ensures.exchanges
 
 pub returns-clause-ends : goal.returns-clause-ends
-returns-clause-ends g c = c.answer.ensures.ends
+returns-clause-ends c = c.answer.ensures.ends

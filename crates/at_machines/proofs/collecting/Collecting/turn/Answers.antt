@@ -12,10 +12,10 @@ use Rattle.at_machines.proofs.collecting.Collecting.turn.Goals.{After-copy, Afte
 use Rattle.at_machines.proofs.collecting.Collecting.turn.Goals as goal
 
 -- the collect after the load
-kept : (g : given.Over) (c : After-load_length-count g)
+kept : (c : After-load_length-count)
     → IsCollectingSo (collecting_after c.args.self.now c.load_length-count.new.seat.knows)
     (set c.self.inside.counts c.args.self.now.loaded c.load_length-count.result)
-kept g c =
+kept c =
     let b : BookTerms = c.args.board.now.book in
     let before : CollectingTerms = c.args.self.now in
     let w : Knowledge = c.load_length-count.new.seat.knows in
@@ -27,13 +27,13 @@ kept g c =
     IsCollectingSo-turn b before c.self.inside.counts w n (ap (λ (v : Knowledge). v.book) (sym c.requires.mark) ∙ c.requires.board.book) c.requires.left so told
 
 -- the seat is the board's after the load
-book-IsCollectingSo-turn : (g : given.Over) (c : After-load_length-count g) → c.load_length-count.new.seat.knows.book ≡ c.args.board.now.book
-book-IsCollectingSo-turn g c = ap (λ (v : Knowledge). v.book) c.load_length-count.ensures.told.same ∙ c.requires.board.book
+book-IsCollectingSo-turn : (c : After-load_length-count) → c.load_length-count.new.seat.knows.book ≡ c.args.board.now.book
+book-IsCollectingSo-turn c = ap (λ (v : Knowledge). v.book) c.load_length-count.ensures.told.same ∙ c.requires.board.book
 
 -- it is what the fields say
-closes : (g : given.Over) (c : After-of g)
+closes : (c : After-of)
     → IsCollectingSo (record { start = c.self.inside.start.value.knows; mark = c.of.result.value.knows; loaded = c.self.inside.loaded + 1 }) c.set.new.self
-closes g c =
+closes c =
     let before : CollectingTerms = c.args.self.now in
     let is = c.self.view_is in
     let set_to : c.set.new.self ≡ set c.self.inside.counts before.loaded c.load_length-count.result =
@@ -42,12 +42,12 @@ closes g c =
     (sym c.of.ensures)
     (subst (λ xs. IsCollectingSo (record { start = c.self.inside.start.value.knows; mark = c.load_length-count.new.seat.knows; loaded = c.self.inside.loaded + 1 }) xs) (sym set_to)
     (subst (λ (t : CollectingTerms). IsCollectingSo (collecting_after t c.load_length-count.new.seat.knows) (set c.self.inside.counts before.loaded c.load_length-count.result)) (sym is)
-    (kept g (goal.at.After-of g c).After-load_length-count)))
+    (kept (goal.at.After-of c).After-load_length-count)))
 
 -- what holds after the last turn
-collected : (g : given.Over) (c : After-copy g)
+collected : (c : After-copy)
     → IsCollect c.args.board.now.book c.args.self.now.start c.load_length-count.new.seat.knows × (c.copy.result ≡ collect_of c.load_length-count.new.seat.knows)
-collected g c =
+collected c =
     let b : BookTerms = c.args.board.now.book in
     let before : CollectingTerms = c.args.self.now in
     let w : Knowledge = c.load_length-count.new.seat.knows in
@@ -55,30 +55,30 @@ collected g c =
     let checked : IsBook b = subst IsBook c.book.ensures c.known.ensures.checked in
     let count : c.processes.result ≡ b.processes = c.processes.ensures ∙ ap (λ (t : BookTerms). t.processes) c.book-2.ensures in
     let all : before.loaded + 1 ≡ b.processes = omega (arith, loaded, count, c.if-self-processes.false, c.requires.left) in
-    let kept_so = kept g (goal.at.After-copy g c).After-load_length-count in
-    let same : w.book ≡ b = book-IsCollectingSo-turn g (goal.at.After-copy g c).After-load_length-count in
+    let kept_so = kept (goal.at.After-copy c).After-load_length-count in
+    let same : w.book ≡ b = book-IsCollectingSo-turn (goal.at.After-copy c).After-load_length-count in
     let told = IsCollect-IsCollectingSo b (collecting_after before w) _ same checked.begun.some_process all kept_so in
     (told.0, c.copy.ensures ∙ (c.set.ensures ∙ (ap (λ p. set c.self.inside.counts p c.load_length-count.result) loaded ∙ told.1)))
 
 pub invariant_of-self : goal.invariant_of-self
-invariant_of-self g c = closes g (goal.at.invariant_of-self g c).After-of
+invariant_of-self c = closes (goal.at.invariant_of-self c).After-of
 
 pub invariant_of-self-2 : goal.invariant_of-self-2
-invariant_of-self-2 g c = closes g (goal.at.invariant_of-self-2 g c).After-of
+invariant_of-self-2 c = closes (goal.at.invariant_of-self-2 c).After-of
 
 pub returns-clause-collect : goal.returns-clause-collect
-returns-clause-collect g c = (collected g c).0
+returns-clause-collect c = (collected c).0
 
 pub returns-clause-counts : goal.returns-clause-counts
-returns-clause-counts g c = (collected g c).1
+returns-clause-counts c = (collected c).1
 
 -- one load more
-after : (g : given.Over) (c : After-of g) → collecting_after (record {
+after : (c : After-of) → collecting_after (record {
   start = c.self.inside.start.value.knows;
   mark = c.self.inside.mark.value.knows;
   loaded = c.self.inside.loaded;
 }) c.of.result.value.knows ≡ collecting_after c.args.self.now c.load_length-count.new.seat.knows
-after g c =
+after c =
     let inside : CollectingTerms = record {
       start = c.self.inside.start.value.knows;
       mark = c.self.inside.mark.value.knows;
@@ -88,13 +88,13 @@ after g c =
     ∙ ap (λ (t : CollectingTerms). collecting_after t c.load_length-count.new.seat.knows) c.self.view_is
 
 pub returns-then-self-processes-clause-after : goal.returns-then-self-processes-clause-after
-returns-then-self-processes-clause-after g c = after g (goal.at.returns-then-self-processes-clause-after g c).After-of
+returns-then-self-processes-clause-after c = after (goal.at.returns-then-self-processes-clause-after c).After-of
 
 pub returns-clause-after : goal.returns-clause-after
-returns-clause-after g c = after g (goal.at.returns-clause-after g c).After-of
+returns-clause-after c = after (goal.at.returns-clause-after c).After-of
 
 pub returns-then-self-processes-clause-steps : goal.returns-then-self-processes-clause-steps
-returns-then-self-processes-clause-steps g c = c.load_length-count.ensures.steps
+returns-then-self-processes-clause-steps c = c.load_length-count.ensures.steps
 
 pub returns-clause-steps : goal.returns-clause-steps
-returns-clause-steps g c = c.load_length-count.ensures.steps
+returns-clause-steps c = c.load_length-count.ensures.steps

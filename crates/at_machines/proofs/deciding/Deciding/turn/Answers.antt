@@ -25,68 +25,68 @@ use Rattle.at_machines.proofs.deciding.Deciding.turn.Goals.{Else-not-published, 
 use Rattle.at_machines.proofs.deciding.Deciding.turn.Goals as goal
 
 -- the round before the turn
-before : (g : given.Over) (c : After-self g) (stage : RoundStage) → c.self.inside.stage ≡ stage
+before : (c : After-self) (stage : RoundStage) → c.self.inside.stage ≡ stage
     → IsDecidingSo c.self.inside.start.value.knows c.self.inside.mark.value.knows c.self.inside.totals.value c.self.inside.helping.value c.self.inside.front c.self.inside.account
     c.self.inside.round stage
-before g c stage is =
+before c stage is =
     subst (IsDecidingSo c.self.inside.start.value.knows c.self.inside.mark.value.knows c.self.inside.totals.value c.self.inside.helping.value c.self.inside.front
     c.self.inside.account c.self.inside.round) is c.self.invariant
 
 -- what the seat knew is what the last turn left
-known_before : (g : given.Over) (c : After-self g) → c.args.seat.now.knows ≡ c.self.inside.mark.value.knows
-known_before g c = c.requires.mark ∙ sym (ap (λ (t : DecidingTerms). t.mark) c.self.view_is)
+known_before : (c : After-self) → c.args.seat.now.knows ≡ c.self.inside.mark.value.knows
+known_before c = c.requires.mark ∙ sym (ap (λ (t : DecidingTerms). t.mark) c.self.view_is)
 
 -- its seat is the board's
-book : (g : given.Over) (c : After-self g) → c.args.board.now.book ≡ c.self.inside.start.value.knows.book
-book g c = sym c.requires.board.book ∙ (ap (λ (v : Knowledge). v.book) (known_before g c) ∙ c.self.invariant.book)
+book : (c : After-self) → c.args.board.now.book ≡ c.self.inside.start.value.knows.book
+book c = sym c.requires.board.book ∙ (ap (λ (v : Knowledge). v.book) (known_before c) ∙ c.self.invariant.book)
 
 -- the totals are those of the start
-totals_before : (g : given.Over) (c : After-self g) → c.args.totals.now ≡ c.self.inside.totals.value
-totals_before g c = c.requires.totals ∙ sym (ap (λ (t : DecidingTerms). t.totals) c.self.view_is)
+totals_before : (c : After-self) → c.args.totals.now ≡ c.self.inside.totals.value
+totals_before c = c.requires.totals ∙ sym (ap (λ (t : DecidingTerms). t.totals) c.self.view_is)
 
 pub start-requires : goal.start-requires
-start-requires g c =
-    let at = (goal.at.start-requires g c).After-self in
+start-requires c =
+    let at = (goal.at.start-requires c).After-self in
     let i = c.self.inside in
     let start : Knowledge = i.start.value.knows in
     let w : Knowledge = c.turn-loaded.new.seat.knows in
     let d = c.in-Loading.decision in
     let l : LoadingRequestTerms = c.in-Loading.loading in
     let x = c.in_ok-targets-in-Loading.field-0 in
-    let so = before g at (Loading d l) c.in-Loading.is in
+    let so = before at (Loading d l) c.in-Loading.is in
     let rec : Record = c.record_of_round-record.result in
     let told : HasLoadedDecided start w i.helping.value i.front d rec =
     subst (HasLoadedDecided start w i.helping.value i.front d) (sym c.record_of_round-record.ensures)
-    (HasLoadedDecided-LoadsRequest c.args.board.now.book start i.mark.value.knows i.totals.value i.helping.value i.front i.account i.round d l w x (book g at) so
+    (HasLoadedDecided-LoadsRequest c.args.board.now.book start i.mark.value.knows i.totals.value i.helping.value i.front i.account i.round d l w x (book at) so
     c.in_ok-targets-in-Loading.ensures.request) in
     subst (λ (t : BookTerms). MayAppend t w rec)
     (sym (book-HasLoadedDecided start i.mark.value.knows i.totals.value i.helping.value i.front i.account i.round (Loading d l) so w d rec told))
     (MayAppend-HasLoadedDecided start i.mark.value.knows i.totals.value i.helping.value i.front i.account i.round (Loading d l) so w d rec told)
 
 -- the record is published
-published : (g : given.Over) (c : Else-not-published g)
+published : (c : Else-not-published)
     → Publishes c.self.inside.start.value.knows.book c.in-Publishing.appending.start c.turn-published.new.seat.knows (publication_of c.in-Publishing.appending)
-published g c =
+published c =
     let a : AppendingTerms = c.in-Publishing.appending in
-    subst (λ (t : BookTerms). Publishes t a.start c.turn-published.new.seat.knows (publication_of a)) (book g (goal.at.Else-not-published g c).After-self)
+    subst (λ (t : BookTerms). Publishes t a.start c.turn-published.new.seat.knows (publication_of a)) (book (goal.at.Else-not-published c).After-self)
     (c.if-not-published.ensures.published refl)
 
 pub count_published-requires-clause-counted : goal.count_published-requires-clause-counted
-count_published-requires-clause-counted g c =
-    let entry = (goal.at.count_published-requires-clause-counted g c).Else-not-published in
-    let at = (goal.at.Else-not-published g entry).After-self in
+count_published-requires-clause-counted c =
+    let entry = (goal.at.count_published-requires-clause-counted c).Else-not-published in
+    let at = (goal.at.Else-not-published entry).After-self in
     let i = c.self.inside in
     let d = c.in-Publishing.decision in
     let a : AppendingTerms = c.in-Publishing.appending in
     let w : Knowledge = c.turn-published.new.seat.knows in
-    let so = before g at (Publishing d a) c.in-Publishing.is in
-    subst (λ (t : TotalSums). HasCounted t w.book w.seen) (sym (totals_before g at))
+    let so = before at (Publishing d a) c.in-Publishing.is in
+    subst (λ (t : TotalSums). HasCounted t w.book w.seen) (sym (totals_before at))
     (HasCounted-Publishes i.start.value.knows i.mark.value.knows i.totals.value i.helping.value i.front i.account i.round (Publishing d a) so a.start d a.rec so.stage_so.2 w
-    (published g entry))
+    (published entry))
 
 pub returns-in-Proposing-clause-step : goal.returns-in-Proposing-clause-step
-returns-in-Proposing-clause-step g c =
-    let at = (goal.at.returns-in-Proposing-clause-step g c).After-self in
+returns-in-Proposing-clause-step c =
+    let at = (goal.at.returns-in-Proposing-clause-step c).After-self in
     let i = c.self.inside in
     let b : BookTerms = c.args.board.now.book in
     let w : Knowledge = c.propose-decision.new.seat.knows in
@@ -94,7 +94,7 @@ returns-in-Proposing-clause-step g c =
     let p = c.in-Proposing.proposal in
     let old : DecidingTerms = the_view i in
     let told : DecidesAs b old.mark w old.helping.account (round_in old) p d =
-    subst (λ (v : Knowledge). DecidesAs b v w old.helping.account (round_in old) p d) (known_before g at)
+    subst (λ (v : Knowledge). DecidesAs b v w old.helping.account (round_in old) p d) (known_before at)
     (subst (λ r. DecidesAs b c.args.seat.now.knows w old.helping.account r p d) c.self.invariant.round_is
     (subst (λ a. DecidesAs b c.args.seat.now.knows w a i.round p d) c.self.invariant.account_is c.propose-decision.ensures.decided)) in
     let next : request_word d c.decided_request-loading.result.loaded ≡ request_word d 0 = ap (λ (l : LoadingRequestTerms). request_word d l.loaded) c.decided_request-loading.ensures in
@@ -102,8 +102,8 @@ returns-in-Proposing-clause-step g c =
     (subst (λ (s : RoundStage). MakesStep b old w (next_of_round s) (request_word d c.decided_request-loading.result.loaded)) (sym c.in-Proposing.is) (d, p, told, next))
 
 pub returns-else-not-published-clause-step : goal.returns-else-not-published-clause-step
-returns-else-not-published-clause-step g c =
-    let at = (goal.at.returns-else-not-published-clause-step g c).After-self in
+returns-else-not-published-clause-step c =
+    let at = (goal.at.returns-else-not-published-clause-step c).After-self in
     let i = c.self.inside in
     let b : BookTerms = c.args.board.now.book in
     let d = c.in-Publishing.decision in
@@ -112,50 +112,50 @@ returns-else-not-published-clause-step g c =
     let old : DecidingTerms = the_view i in
     let all : a.stored ≡ record_width b = c.if-not-published.ensures.ends.0 refl in
     let told : Publishes b old.mark w (publication_of a) =
-    subst (λ (v : Knowledge). Publishes b v w (publication_of a)) (before g at (Publishing d a) c.in-Publishing.is).stage_so.0 (c.if-not-published.ensures.publishes refl) in
+    subst (λ (v : Knowledge). Publishes b v w (publication_of a)) (before at (Publishing d a) c.in-Publishing.is).stage_so.0 (c.if-not-published.ensures.publishes refl) in
     subst (λ (t : DecidingTerms). MakesRoundStep b t w nothing) c.self.view_is
     (subst (λ (s : RoundStage). MakesStep b old w (next_of_round s) nothing) (sym c.in-Publishing.is)
     (λ less. absurd (omega (arith, less, all)), λ last. ((publication_of a, told), refl)))
 
 pub returns-else-not-published-clause-decided : goal.returns-else-not-published-clause-decided
-returns-else-not-published-clause-decided g c =
-    let entry = (goal.at.returns-else-not-published-clause-decided g c).Else-not-published in
-    let at = (goal.at.Else-not-published g entry).After-self in
+returns-else-not-published-clause-decided c =
+    let entry = (goal.at.returns-else-not-published-clause-decided c).Else-not-published in
+    let at = (goal.at.Else-not-published entry).After-self in
     let i = c.self.inside in
     let d = c.in-Publishing.decision in
     let a : AppendingTerms = c.in-Publishing.appending in
     let w : Knowledge = c.turn-published.new.seat.knows in
-    let so = before g at (Publishing d a) c.in-Publishing.is in
+    let so = before at (Publishing d a) c.in-Publishing.is in
     let told : DecidesNext i.start.value.knows.book i.start.value.knows w i.helping.value i.front d =
     DecidesNext-HasLoadedDecided i.start.value.knows i.mark.value.knows i.totals.value i.helping.value i.front i.account i.round (Publishing d a) so a.start d a.rec
-    so.stage_so.2 w (published g entry) in
+    so.stage_so.2 w (published entry) in
     subst (λ (t : DecidingTerms). DecidesNext c.args.board.now.book t.start w t.helping t.front d) c.self.view_is
-    (subst (λ (t : BookTerms). DecidesNext t i.start.value.knows w i.helping.value i.front d) (sym (book g at)) told)
+    (subst (λ (t : BookTerms). DecidesNext t i.start.value.knows w i.helping.value i.front d) (sym (book at)) told)
 
 -- the totals count the own records up to the one that was published
 pub count_published-requires-clause-own : goal.count_published-requires-clause-own
-count_published-requires-clause-own g c =
-    let entry = (goal.at.count_published-requires-clause-own g c).Else-not-published in
-    let at = (goal.at.Else-not-published g entry).After-self in
+count_published-requires-clause-own c =
+    let entry = (goal.at.count_published-requires-clause-own c).Else-not-published in
+    let at = (goal.at.Else-not-published entry).After-self in
     let i = c.self.inside in
     let a : AppendingTerms = c.in-Publishing.appending in
     let w : Knowledge = c.turn-published.new.seat.knows in
-    let so = before g at (Publishing c.in-Publishing.decision a) c.in-Publishing.is in
-    let first : w.first ≡ a.start.first = ap (λ (v : Knowledge). v.first) (published g entry).same in
+    let so = before at (Publishing c.in-Publishing.decision a) c.in-Publishing.is in
+    let first : w.first ≡ a.start.first = ap (λ (v : Knowledge). v.first) (published entry).same in
     let own = own-HasLoadedDecided i.start.value.knows i.mark.value.knows i.totals.value i.helping.value i.front i.account i.round
     (Publishing c.in-Publishing.decision a) so a.start c.in-Publishing.decision a.rec so.stage_so.2 in
     let start : c.turn-published.new.self.start ≡ a.start = ap (λ (t : AppendingTerms). t.start) c.turn-published.ensures.after in
-    ap (λ (t : TotalSums). get_or t.upto w.first 0) (totals_before g at)
+    ap (λ (t : TotalSums). get_or t.upto w.first 0) (totals_before at)
     ∙ (ap (λ p. get_or i.totals.value.upto p 0) first ∙ (own ∙ ap (λ (v : Knowledge). (own_part v).published) (sym start)))
 
 pub count_published-requires-clause-process : goal.count_published-requires-clause-process
-count_published-requires-clause-process g c =
-    let entry = (goal.at.count_published-requires-clause-process g c).Else-not-published in
-    let at = (goal.at.Else-not-published g entry).After-self in
+count_published-requires-clause-process c =
+    let entry = (goal.at.count_published-requires-clause-process c).Else-not-published in
+    let at = (goal.at.Else-not-published entry).After-self in
     let i = c.self.inside in
     let a : AppendingTerms = c.in-Publishing.appending in
-    let so = before g at (Publishing c.in-Publishing.decision a) c.in-Publishing.is in
-    let same = (published g entry).same in
+    let so = before at (Publishing c.in-Publishing.decision a) c.in-Publishing.is in
+    let same = (published entry).same in
     omega (
       arith,
       process-HasLoadedDecided i.start.value.knows i.mark.value.knows i.totals.value i.helping.value i.front i.account i.round
@@ -165,20 +165,20 @@ count_published-requires-clause-process g c =
     )
 
 pub count_published-requires-clause-last : goal.count_published-requires-clause-last
-count_published-requires-clause-last g c =
+count_published-requires-clause-last c =
     subst (λ (t : AppendingTerms). IsLast t.start c.turn-published.new.seat.knows (publication_of t)) (sym c.turn-published.ensures.after)
     (c.if-not-published.ensures.last refl)
 
 pub returns-else-not-published-clause-upto : goal.returns-else-not-published-clause-upto
-returns-else-not-published-clause-upto g c =
-    let entry = (goal.at.returns-else-not-published-clause-upto g c).Else-not-published in
-    let at = (goal.at.Else-not-published g entry).After-self in
+returns-else-not-published-clause-upto c =
+    let entry = (goal.at.returns-else-not-published-clause-upto c).Else-not-published in
+    let at = (goal.at.Else-not-published entry).After-self in
     let w : Knowledge = c.turn-published.new.seat.knows in
     let front : c.args.totals.now.upto ≡ c.args.self.now.front =
-    ap (λ (t : TotalSums). t.upto) (totals_before g at) ∙ (c.self.invariant.upto ∙ ap (λ (t : DecidingTerms). t.front) c.self.view_is) in
+    ap (λ (t : TotalSums). t.upto) (totals_before at) ∙ (c.self.invariant.upto ∙ ap (λ (t : DecidingTerms). t.front) c.self.view_is) in
     c.count_published.ensures.upto ∙ ap (λ upto. slice_set upto w.first (own_part w).published) front
 
 pub returns-else-not-published-clause-counted : goal.returns-else-not-published-clause-counted
-returns-else-not-published-clause-counted g c =
+returns-else-not-published-clause-counted c =
     subst (λ (t : BookTerms). HasCounted c.count_published.new.totals t c.turn-published.new.seat.knows.seen) c.turn-published.ensures.board.book
     c.count_published.ensures.counted

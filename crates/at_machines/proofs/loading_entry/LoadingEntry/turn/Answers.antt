@@ -14,9 +14,9 @@ use Rattle.at_machines.proofs.loading_entry.LoadingEntry.turn.Goals.{After-load_
 use Rattle.at_machines.proofs.loading_entry.LoadingEntry.turn.Goals as goal
 
 -- the load after the step
-kept : (g : given.Over) (c : After-load_record_word g)
+kept : (c : After-load_record_word)
     → IsLoadingSo (loading_after c.args.self.now) 0 (set c.self.inside.words c.args.self.now.loaded c.load_record_word.result)
-kept g c =
+kept c =
     let before : LoadingTerms = c.args.self.now in
     let is = c.self.view_is in
     let so = subst (λ (t : LoadingTerms). IsLoadingSo t 0 c.self.inside.words) is c.self.invariant.1 in
@@ -27,10 +27,10 @@ kept g c =
     (subst (λ j. IsRecordWord before.knows before.process before.number j c.load_record_word.result) (sym (zero-add before.loaded)) told)
 
 pub returns-clause-entry : goal.returns-clause-entry
-returns-clause-entry g c =
+returns-clause-entry c =
     let before : LoadingTerms = c.args.self.now in
     let w = c.load_record_word.result in
-    let after = kept g (goal.at.returns-clause-entry g c).After-load_record_word in
+    let after = kept (goal.at.returns-clause-entry c).After-load_record_word in
     let loaded : c.self.inside.loaded ≡ before.loaded = ap (λ (t : LoadingTerms). t.loaded) c.self.view_is in
     let all : before.loaded + 1 ≡ RECORD_WORDS = omega (arith, loaded, c.if-self-lt-RECORD_WORDS.false, c.requires.left) in
     let sized : length (set c.self.inside.words before.loaded w) ≡ RECORD_WORDS = length-set c.self.inside.words before.loaded w ∙ c.self.invariant.0 in

@@ -16,13 +16,13 @@ use Rattle.at_machines.proofs.loading_request.LoadingRequest.turn.Goals.{After-o
 use Rattle.at_machines.proofs.loading_request.LoadingRequest.turn.Goals as goal
 
 -- the seat was the board's before the load
-book : (g : given.Over) (c : After-of g) → c.args.self.now.mark.book ≡ c.args.board.now.book
-book g c = ap (λ (v : Knowledge). v.book) (sym c.requires.mark) ∙ c.requires.board.book
+book : (c : After-of) → c.args.self.now.mark.book ≡ c.args.board.now.book
+book c = ap (λ (v : Knowledge). v.book) (sym c.requires.mark) ∙ c.requires.board.book
 
 -- the load after the step
-kept : (g : given.Over) (c : After-of g)
+kept : (c : After-of)
     → IsLoadingRequestSo (request_after c.args.self.now c.load_request_word.new.seat.knows) (set c.self.inside.words c.args.self.now.loaded c.load_request_word.result)
-kept g c =
+kept c =
     let l : LoadingRequestTerms = c.args.self.now in
     let b = c.args.board.now.book in
     let w : Knowledge = c.load_request_word.new.seat.knows in
@@ -32,16 +32,16 @@ kept g c =
     let told : LoadsRequestWord b l.mark w l.account l.slot l.number l.loaded n =
     subst (λ (v : Knowledge). LoadsRequestWord b v w l.account l.slot l.number l.loaded n) c.requires.mark
     (subst (λ (t : LoadingRequestTerms). LoadsRequestWord b c.args.seat.now.knows w t.account t.slot t.number t.loaded n) is c.load_request_word.ensures.told) in
-    IsLoadingRequestSo-turn b l c.self.inside.words w n (book g c) c.requires.left c.self.invariant.0 so told
+    IsLoadingRequestSo-turn b l c.self.inside.words w n (book c) c.requires.left c.self.invariant.0 so told
 
-after_book : (g : given.Over) (c : After-of g) → c.load_request_word.new.seat.knows.book ≡ c.args.board.now.book
-after_book g c = ap (λ (v : Knowledge). v.book) c.load_request_word.ensures.told.same ∙ c.requires.board.book
+after_book : (c : After-of) → c.load_request_word.new.seat.knows.book ≡ c.args.board.now.book
+after_book c = ap (λ (v : Knowledge). v.book) c.load_request_word.ensures.told.same ∙ c.requires.board.book
 
-sized : (g : given.Over) (c : After-of g) → length (set c.self.inside.words c.self.inside.loaded c.load_request_word.result) ≡ REQUEST_WORDS
-sized g c = length-set c.self.inside.words c.self.inside.loaded c.load_request_word.result ∙ c.self.invariant.0
+sized : (c : After-of) → length (set c.self.inside.words c.self.inside.loaded c.load_request_word.result) ≡ REQUEST_WORDS
+sized c = length-set c.self.inside.words c.self.inside.loaded c.load_request_word.result ∙ c.self.invariant.0
 
 -- it is what the fields say
-closes : (g : given.Over) (c : After-of g)
+closes : (c : After-of)
     → (length (set c.self.inside.words c.self.inside.loaded c.load_request_word.result) ≡ REQUEST_WORDS)
     × IsLoadingRequestSo (record {
       start = c.self.inside.start.value.knows;
@@ -51,10 +51,10 @@ closes : (g : given.Over) (c : After-of g)
       number = c.self.inside.number;
       loaded = c.self.inside.loaded + 1;
     }) (set c.self.inside.words c.self.inside.loaded c.load_request_word.result)
-closes g c =
+closes c =
     let w : Knowledge = c.load_request_word.new.seat.knows in
     let words : LoadingRequestTerms → _ = λ t. set c.self.inside.words t.loaded c.load_request_word.result in (
-      sized g c,
+      sized c,
       subst (λ (s : SeatTerms). IsLoadingRequestSo (record {
         start = c.self.inside.start.value.knows;
         mark = s.knows;
@@ -63,18 +63,18 @@ closes g c =
         number = c.self.inside.number;
         loaded = c.self.inside.loaded + 1;
       }) (set c.self.inside.words c.self.inside.loaded c.load_request_word.result)) (sym c.of.ensures)
-          (subst (λ (t : LoadingRequestTerms). IsLoadingRequestSo (request_after t w) (words t)) (sym c.self.view_is) (kept g c)),
+          (subst (λ (t : LoadingRequestTerms). IsLoadingRequestSo (request_after t w) (words t)) (sym c.self.view_is) (kept c)),
     )
 
 pub invariant_of-self : goal.invariant_of-self
-invariant_of-self g c = closes g (goal.at.invariant_of-self g c).After-of
+invariant_of-self c = closes (goal.at.invariant_of-self c).After-of
 
 pub invariant_of-self-2 : goal.invariant_of-self-2
-invariant_of-self-2 g c = closes g (goal.at.invariant_of-self-2 g c).After-of
+invariant_of-self-2 c = closes (goal.at.invariant_of-self-2 c).After-of
 
 pub returns-clause-request : goal.returns-clause-request
-returns-clause-request g c =
-    let at = (goal.at.returns-clause-request g c).After-of in
+returns-clause-request c =
+    let at = (goal.at.returns-clause-request c).After-of in
     let b = c.args.board.now.book in
     let l : LoadingRequestTerms = c.args.self.now in
     let w : Knowledge = c.load_request_word.new.seat.knows in
@@ -84,4 +84,4 @@ returns-clause-request g c =
     let told = subst (λ (t : LoadingRequestTerms). (r : Request) → ArePacked (accounts_of r.targets)
     → set c.self.inside.words t.loaded c.load_request_word.result ≡ request_words r → x ≡ opened t.slot t.number r.targets r.since) is c.request_from.ensures.request in
     LoadsRequest-IsLoadingRequestSo b (request_after l w) (set c.self.inside.words l.loaded c.load_request_word.result) x
-    (after_book g at) (omega (arith, length-set c.self.inside.words l.loaded c.load_request_word.result, c.self.invariant.0)) all (kept g at) told
+    (after_book at) (omega (arith, length-set c.self.inside.words l.loaded c.load_request_word.result, c.self.invariant.0)) all (kept at) told

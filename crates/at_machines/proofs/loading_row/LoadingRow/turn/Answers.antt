@@ -14,19 +14,19 @@ use Rattle.at_machines.proofs.loading_row.LoadingRow.turn.Goals.{After-load_anno
 use Rattle.at_machines.proofs.loading_row.LoadingRow.turn.Goals as goal
 
 -- the row before the turn
-before : (g : given.Over) (c : After-self g) (stage : RowStage) → c.self.inside.stage ≡ stage → IsLoadingRowSo c.args.self.now stage
-before g c stage is =
+before : (c : After-self) (stage : RowStage) → c.self.inside.stage ≡ stage → IsLoadingRowSo c.args.self.now stage
+before c stage is =
     subst (IsLoadingRowSo c.args.self.now) is (subst (λ (r : LoadingRowTerms). IsLoadingRowSo r c.self.inside.stage) c.self.view_is c.self.invariant)
 
 -- its seat is the board's
-book : (g : given.Over) (c : After-self g) → c.args.self.now.mark.book ≡ c.args.board.now.book
-book g c = ap (λ (v : Knowledge). v.book) (sym c.requires.mark) ∙ c.requires.board.book
+book : (c : After-self) → c.args.self.now.mark.book ≡ c.args.board.now.book
+book c = ap (λ (v : Knowledge). v.book) (sym c.requires.mark) ∙ c.requires.board.book
 
 -- what the announced word has told
-told : (g : given.Over) (c : After-load_announced-count g)
+told : (c : After-load_announced-count)
     → LoadsAnnounced c.args.board.now.book c.args.self.now.mark c.load_announced-count.new.seat.knows c.args.self.now.account c.args.self.now.slot
     c.load_announced-count.result
-told g c =
+told c =
     let b = c.args.board.now.book in
     let r : LoadingRowTerms = c.args.self.now in
     let w : Knowledge = c.load_announced-count.new.seat.knows in
@@ -35,25 +35,25 @@ told g c =
     (subst (λ (t : LoadingRowTerms). LoadsAnnounced b c.args.seat.now.knows w t.account t.slot n) c.self.view_is c.load_announced-count.ensures.told)
 
 pub returns-then-slot-self-clause-row : goal.returns-then-slot-self-clause-row
-returns-then-slot-self-clause-row g c =
-    let at = (goal.at.returns-then-slot-self-clause-row g c).After-load_announced-count in
-    let first = (goal.at.After-load_announced-count g at).After-self in
+returns-then-slot-self-clause-row c =
+    let at = (goal.at.returns-then-slot-self-clause-row c).After-load_announced-count in
+    let first = (goal.at.After-load_announced-count at).After-self in
     let r : LoadingRowTerms = c.args.self.now in
     let w : Knowledge = c.load_announced-count.new.seat.knows in
     let own : r.slot ≡ r.own.slot = subst (λ (t : LoadingRowTerms). t.slot ≡ t.own.slot) c.self.view_is c.if-slot-self.true in
     let copy : c.copy.result ≡ r.own = c.copy.ensures ∙ ap (λ (t : LoadingRowTerms). t.own) c.self.view_is in
     subst (λ (x : OpenRequest). LoadsRow r.start w r.account r.slot r.own (Some x)) (sym copy)
-    (LoadsRow-IsLoadingRowSo-own c.args.board.now.book r w c.load_announced-count.result (book g first) (before g first Announced c.in-Announced.is) own (told g at))
+    (LoadsRow-IsLoadingRowSo-own c.args.board.now.book r w c.load_announced-count.result (book first) (before first Announced c.in-Announced.is) own (told at))
 
 pub start-requires : goal.start-requires
-start-requires g c =
+start-requires c =
     let w : Knowledge = c.load_announced-count.new.seat.knows in
     let n = c.load_announced-count.result in
     KnowsOf-LoadsAnnounced c.args.board.now.book c.args.seat.now.knows w c.self.inside.account c.self.inside.slot n (n - 1) (omega (arith, c.if-count-eq0.false))
     c.load_announced-count.ensures.told
 
 pub returns-in_ok-found-in-Last-clause-row : goal.returns-in_ok-found-in-Last-clause-row
-returns-in_ok-found-in-Last-clause-row g c =
-    let first = (goal.at.returns-in_ok-found-in-Last-clause-row g c).After-self in
-    LoadsRow-IsLoadingRowSo-other c.args.board.now.book c.args.self.now c.in-Last.loading c.turn-last.new.seat.knows c.in_ok-found-in-Last.found (book g first)
-    (before g first (Last c.in-Last.loading) c.in-Last.is) c.in_ok-found-in-Last.ensures.request
+returns-in_ok-found-in-Last-clause-row c =
+    let first = (goal.at.returns-in_ok-found-in-Last-clause-row c).After-self in
+    LoadsRow-IsLoadingRowSo-other c.args.board.now.book c.args.self.now c.in-Last.loading c.turn-last.new.seat.knows c.in_ok-found-in-Last.found (book first)
+    (before first (Last c.in-Last.loading) c.in-Last.is) c.in_ok-found-in-Last.ensures.request

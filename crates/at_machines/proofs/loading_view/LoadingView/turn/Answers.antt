@@ -14,55 +14,55 @@ use Rattle.at_machines.proofs.loading_view.LoadingView.turn.Goals.{After-load_re
 use Rattle.at_machines.proofs.loading_view.LoadingView.turn.Goals as goal
 
 -- the load before the step
-so_far : (g : given.Over) (c : After-load_record_word-count g) → IsLoadingSo c.args.self.now RECORD_WORDS c.self.inside.view
-so_far g c = subst (λ (t : LoadingTerms). IsLoadingSo t RECORD_WORDS c.self.inside.view) c.self.view_is c.self.invariant.1
+so_far : (c : After-load_record_word-count) → IsLoadingSo c.args.self.now RECORD_WORDS c.self.inside.view
+so_far c = subst (λ (t : LoadingTerms). IsLoadingSo t RECORD_WORDS c.self.inside.view) c.self.view_is c.self.invariant.1
 
 -- the word that is loaded
-word : (g : given.Over) (c : After-load_record_word-count g)
+word : (c : After-load_record_word-count)
     → IsRecordWord c.args.self.now.knows c.args.self.now.process c.args.self.now.number (RECORD_WORDS + c.args.self.now.loaded) c.load_record_word-count.result
-word g c =
+word c =
     let before : LoadingTerms = c.args.self.now in
     subst (λ (v : Knowledge). IsRecordWord v before.process before.number (RECORD_WORDS + before.loaded) c.load_record_word-count.result) c.requires.mark
     (subst (λ (t : LoadingTerms). IsRecordWord c.args.seat.now.knows t.process t.number (RECORD_WORDS + t.loaded) c.load_record_word-count.result) c.self.view_is
     c.load_record_word-count.ensures.word)
 
 -- its seat is the board's
-book : (g : given.Over) (c : After-load_record_word-count g) → c.args.self.now.knows.book ≡ c.args.board.now.book
-book g c = ap (λ (v : Knowledge). v.book) (sym c.requires.mark) ∙ c.requires.board.book
+book : (c : After-load_record_word-count) → c.args.self.now.knows.book ≡ c.args.board.now.book
+book c = ap (λ (v : Knowledge). v.book) (sym c.requires.mark) ∙ c.requires.board.book
 
-seat : (g : given.Over) (c : After-load_record_word-count g) → IsKept c.args.self.now.knows
-seat g c = subst IsKept c.requires.mark c.known-2.ensures.seat
+seat : (c : After-load_record_word-count) → IsKept c.args.self.now.knows
+seat c = subst IsKept c.requires.mark c.known-2.ensures.seat
 
 pub overflow_cast-count : goal.overflow_cast-count
-overflow_cast-count g c =
-    let read = (goal.at.overflow_cast-count g c).After-load_record_word-count in
+overflow_cast-count c =
+    let read = (goal.at.overflow_cast-count c).After-load_record_word-count in
     let before : LoadingTerms = c.args.self.now in
-    let kept = seat g read in
+    let kept = seat read in
     omega (
       arith,
       small-IsRecordWord before.knows.book before.knows before.process before.number before.loaded c.load_record_word-count.result kept.book.begun kept.history
-          (so_far g read).record_seen (omega (arith, c.requires.left, ap (λ (t : BookTerms). t.processes) (book g read))) (word g read),
+          (so_far read).record_seen (omega (arith, c.requires.left, ap (λ (t : BookTerms). t.processes) (book read))) (word read),
     )
 
 -- the load after the step
-kept : (g : given.Over) (c : After-load_record_word-count g)
+kept : (c : After-load_record_word-count)
     → IsLoadingSo (loading_after c.args.self.now) RECORD_WORDS (set c.self.inside.view c.args.self.now.loaded c.load_record_word-count.result)
-kept g c =
+kept c =
     let inside : c.args.self.now.loaded < length c.self.inside.view =
-    omega (arith, c.requires.left, c.self.invariant.0, ap (λ (t : LoadingTerms). t.knows.book.processes) c.self.view_is, ap (λ (t : BookTerms). t.processes) (book g c)) in
-    IsLoadingSo-turn c.args.self.now RECORD_WORDS c.self.inside.view c.load_record_word-count.result inside (so_far g c) (word g c)
+    omega (arith, c.requires.left, c.self.invariant.0, ap (λ (t : LoadingTerms). t.knows.book.processes) c.self.view_is, ap (λ (t : BookTerms). t.processes) (book c)) in
+    IsLoadingSo-turn c.args.self.now RECORD_WORDS c.self.inside.view c.load_record_word-count.result inside (so_far c) (word c)
 
 pub returns-clause-view : goal.returns-clause-view
-returns-clause-view g c =
-    let read = (goal.at.returns-clause-view g c).After-load_record_word-count in
+returns-clause-view c =
+    let read = (goal.at.returns-clause-view c).After-load_record_word-count in
     let before : LoadingTerms = c.args.self.now in
     let w = c.load_record_word-count.result in
     let loaded : c.self.inside.loaded ≡ before.loaded = ap (λ (t : LoadingTerms). t.loaded) c.self.view_is in
     let count : c.processes.result ≡ before.knows.book.processes =
-    c.processes.ensures ∙ (ap (λ (t : BookTerms). t.processes) c.book-2.ensures ∙ ap (λ (t : BookTerms). t.processes) (sym (book g read))) in
+    c.processes.ensures ∙ (ap (λ (t : BookTerms). t.processes) c.book-2.ensures ∙ ap (λ (t : BookTerms). t.processes) (sym (book read))) in
     let all : before.loaded + 1 ≡ before.knows.book.processes =
-    omega (arith, loaded, count, c.if-self-processes.false, c.requires.left, ap (λ (t : BookTerms). t.processes) (book g read)) in
+    omega (arith, loaded, count, c.if-self-processes.false, c.requires.left, ap (λ (t : BookTerms). t.processes) (book read)) in
     let sized : length (set c.self.inside.view before.loaded w) ≡ before.knows.book.processes =
     length-set c.self.inside.view before.loaded w ∙ (c.self.invariant.0 ∙ ap (λ (t : LoadingTerms). t.knows.book.processes) c.self.view_is) in
     c.copy.ensures ∙ (c.set.ensures ∙ (ap (λ q. set c.self.inside.view q w) loaded
-    ∙ IsViewOf-IsLoadingSo (loading_after before) (set c.self.inside.view before.loaded w) (seat g read) sized all (kept g read)))
+    ∙ IsViewOf-IsLoadingSo (loading_after before) (set c.self.inside.view before.loaded w) (seat read) sized all (kept read)))

@@ -22,131 +22,131 @@ use Rattle.at_machines.proofs.looking.Looking.turn.Goals.{After-copy, After-turn
 use Rattle.at_machines.proofs.looking.Looking.turn.Goals as goal
 
 -- what the turn goes on with
-snaps : (g : given.Over) (c : After-turn-snapped g) → c.args.self.now.stage ≡ Snap c.in-Snap.snapping
-snaps g c = sym (ap (λ (s : LookingTerms). s.stage) c.self.view_is) ∙ c.in-Snap.is
+snaps : (c : After-turn-snapped) → c.args.self.now.stage ≡ Snap c.in-Snap.snapping
+snaps c = sym (ap (λ (s : LookingTerms). s.stage) c.self.view_is) ∙ c.in-Snap.is
 
 -- the look before it
-before : (g : given.Over) (c : After-turn-snapped g)
+before : (c : After-turn-snapped)
     → IsLookingSo c.args.self.now.start c.args.self.now.mark c.args.self.now.was c.args.self.now.totals c.args.self.now.turns (Snap c.in-Snap.snapping)
-before g c =
+before c =
     let s : LookingTerms = c.args.self.now in
-    subst (IsLookingSo s.start s.mark s.was s.totals s.turns) (snaps g c)
+    subst (IsLookingSo s.start s.mark s.was s.totals s.turns) (snaps c)
     (subst (λ (t : LookingTerms). IsLookingSo t.start t.mark t.was t.totals t.turns t.stage) c.self.view_is c.self.invariant)
 
 -- its seat is the board's
-book : (g : given.Over) (c : After-turn-snapped g) → c.args.self.now.start.book ≡ c.args.board.now.book
-book g c = sym (before g c).book ∙ (ap (λ (v : Knowledge). v.book) (sym c.requires.mark) ∙ c.requires.board.book)
+book : (c : After-turn-snapped) → c.args.self.now.start.book ≡ c.args.board.now.book
+book c = sym (before c).book ∙ (ap (λ (v : Knowledge). v.book) (sym c.requires.mark) ∙ c.requires.board.book)
 
 -- the totals are those of the start
-totals : (g : given.Over) (c : After-turn-snapped g) → c.args.self.now.was ≡ c.args.totals.now
-totals g c = sym (before g c).stage_so.totals_are ∙ sym c.requires.totals
+totals : (c : After-turn-snapped) → c.args.self.now.was ≡ c.args.totals.now
+totals c = sym (before c).stage_so.totals_are ∙ sym c.requires.totals
 
-loads : (g : given.Over) (c : After-turn-snapped g) → HasLoaded c.args.self.now.start.book c.args.self.now.start c.turn-snapped.new.seat.knows
-loads g c =
+loads : (c : After-turn-snapped) → HasLoaded c.args.self.now.start.book c.args.self.now.start c.turn-snapped.new.seat.knows
+loads c =
     let w : Knowledge = c.turn-snapped.new.seat.knows in
-    subst (λ (b : BookTerms). HasLoaded b c.args.self.now.start w) (sym (book g c))
-    (subst (λ (v : Knowledge). HasLoaded c.args.board.now.book v w) (before g c).stage_so.start_is c.turn-snapped.ensures.loads)
+    subst (λ (b : BookTerms). HasLoaded b c.args.self.now.start w) (sym (book c))
+    (subst (λ (v : Knowledge). HasLoaded c.args.board.now.book v w) (before c).stage_so.start_is c.turn-snapped.ensures.loads)
 
 -- and they stay counted
-stays : (g : given.Over) (c : After-turn-snapped g) → StaysCounted c.args.totals.now c.args.board.now.book c.turn-snapped.new.seat.knows.seen
-stays g c =
+stays : (c : After-turn-snapped) → StaysCounted c.args.totals.now c.args.board.now.book c.turn-snapped.new.seat.knows.seen
+stays c =
     let v : Knowledge = c.args.self.now.start in
     let was : TotalSums = c.args.self.now.was in
     let w : Knowledge = c.turn-snapped.new.seat.knows in
-    subst (λ (t : TotalSums). StaysCounted t c.args.board.now.book w.seen) (totals g c)
-    (subst (λ (b : BookTerms). StaysCounted was b w.seen) (book g c)
-    (StaysCounted-HasLoaded v.book v w was (before g c).counted (loads g c)))
+    subst (λ (t : TotalSums). StaysCounted t c.args.board.now.book w.seen) (totals c)
+    (subst (λ (b : BookTerms). StaysCounted was b w.seen) (book c)
+    (StaysCounted-HasLoaded v.book v w was (before c).counted (loads c)))
 
 pub returns-in_err-front-in-Snap-clause-counted : goal.returns-in_err-front-in-Snap-clause-counted
-returns-in_err-front-in-Snap-clause-counted g c = stays g (goal.at.returns-in_err-front-in-Snap-clause-counted g c).After-turn-snapped
+returns-in_err-front-in-Snap-clause-counted c = stays (goal.at.returns-in_err-front-in-Snap-clause-counted c).After-turn-snapped
 
 -- the snapshot is whole
-snapped : (g : given.Over) (c : After-copy g)
+snapped : (c : After-copy)
     → IsSnapped c.args.self.now.start.book c.args.self.now.start c.turn-snapped.new.seat.knows c.in_ok-front-in-Snap.front
-snapped g c =
-    let at = (goal.at.After-copy g c).After-turn-snapped in
+snapped c =
+    let at = (goal.at.After-copy c).After-turn-snapped in
     let w : Knowledge = c.turn-snapped.new.seat.knows in
     let front : List ℕ = c.in_ok-front-in-Snap.front in
     let told = c.in_ok-front-in-Snap.ensures in
     let here : IsSnapped c.args.board.now.book c.in-Snap.snapping.start w front =
     record { snapshot = told.snapshot; loads = told.loads; collects = told.collects } in
-    subst (λ (b : BookTerms). IsSnapped b c.args.self.now.start w front) (sym (book g at))
-    (subst (λ (v : Knowledge). IsSnapped c.args.board.now.book v w front) (before g at).stage_so.start_is here)
+    subst (λ (b : BookTerms). IsSnapped b c.args.self.now.start w front) (sym (book at))
+    (subst (λ (v : Knowledge). IsSnapped c.args.board.now.book v w front) (before at).stage_so.start_is here)
 
 pub start-catching-requires-clause-counted : goal.start-catching-requires-clause-counted
-start-catching-requires-clause-counted g c =
-    stays g (goal.at.start-catching-requires-clause-counted g c).After-turn-snapped c.turn-snapped.new.seat.knows.seen (IsPrefix-refl c.turn-snapped.new.seat.knows.seen)
+start-catching-requires-clause-counted c =
+    stays (goal.at.start-catching-requires-clause-counted c).After-turn-snapped c.turn-snapped.new.seat.knows.seen (IsPrefix-refl c.turn-snapped.new.seat.knows.seen)
 
 pub start-catching-requires-clause-more : goal.start-catching-requires-clause-more
-start-catching-requires-clause-more g c =
-    let at = (goal.at.start-catching-requires-clause-more g c).After-turn-snapped in
+start-catching-requires-clause-more c =
+    let at = (goal.at.start-catching-requires-clause-more c).After-turn-snapped in
     let v : Knowledge = c.args.self.now.start in
     let was : TotalSums = c.args.self.now.was in
     let front : List ℕ = c.in_ok-front-in-Snap.front in
     let here : Covers front was.upto =
-    Covers-IsSnapshot v.book v c.turn-snapped.new.seat.knows was front (snapped g (goal.at.start-catching-requires-clause-more g c).After-copy).snapshot (before g at).counted in
-    subst (λ (t : TotalSums). Covers c.copy.result t.upto) (totals g at) (subst (λ (xs : List ℕ). Covers xs was.upto) (sym c.copy.ensures) here)
+    Covers-IsSnapshot v.book v c.turn-snapped.new.seat.knows was front (snapped (goal.at.start-catching-requires-clause-more c).After-copy).snapshot (before at).counted in
+    subst (λ (t : TotalSums). Covers c.copy.result t.upto) (totals at) (subst (λ (xs : List ℕ). Covers xs was.upto) (sym c.copy.ensures) here)
 
 pub start-catching-requires-clause-seen : goal.start-catching-requires-clause-seen
-start-catching-requires-clause-seen g c =
+start-catching-requires-clause-seen c =
     let w : Knowledge = c.turn-snapped.new.seat.knows in
     subst (λ (xs : List ℕ). HasRecords c.args.board.now.book w.seen xs) (sym c.copy.ensures)
     (HasRecords-IsFront c.args.board.now.book w.seen c.in_ok-front-in-Snap.front c.in_ok-front-in-Snap.ensures.snapshot.front)
 
 pub returns-after-is_ended-clause-counted : goal.returns-after-is_ended-clause-counted
-returns-after-is_ended-clause-counted g c = stays g (goal.at.returns-after-is_ended-clause-counted g c).After-turn-snapped
+returns-after-is_ended-clause-counted c = stays (goal.at.returns-after-is_ended-clause-counted c).After-turn-snapped
 
 pub returns-after-is_ended-clause-left : goal.returns-after-is_ended-clause-left
-returns-after-is_ended-clause-left g c =
-    let at = (goal.at.returns-after-is_ended-clause-left g c).After-turn-snapped in
+returns-after-is_ended-clause-left c =
+    let at = (goal.at.returns-after-is_ended-clause-left c).After-turn-snapped in
     let v : Knowledge = c.args.self.now.start in
     omega (
       arith,
       ap look_turns_left c.become_next.ensures,
       c.start-catching.ensures.left,
-      ap look_turns_left (snaps g at),
-      (before g at).stage_so.left,
-      few-IsSnapped v.book v c.turn-snapped.new.seat.knows c.in_ok-front-in-Snap.front (snapped g (goal.at.returns-after-is_ended-clause-left g c).After-copy),
+      ap look_turns_left (snaps at),
+      (before at).stage_so.left,
+      few-IsSnapped v.book v c.turn-snapped.new.seat.knows c.in_ok-front-in-Snap.front (snapped (goal.at.returns-after-is_ended-clause-left c).After-copy),
       ap (λ (xs : List ℕ). sum xs) c.copy.ensures,
     )
 
 pub returns-after-is_ended-clause-looked : goal.returns-after-is_ended-clause-looked
-returns-after-is_ended-clause-looked g c =
-    let at = (goal.at.returns-after-is_ended-clause-looked g c).After-turn-snapped in
+returns-after-is_ended-clause-looked c =
+    let at = (goal.at.returns-after-is_ended-clause-looked c).After-turn-snapped in
     let s : LookingTerms = c.args.self.now in
     let b : BookTerms = c.args.board.now.book in
     let w : Knowledge = c.turn-snapped.new.seat.knows in
     let front : List ℕ = c.in_ok-front-in-Snap.front in
-    let whole = snapped g (goal.at.returns-after-is_ended-clause-looked g c).After-copy in
+    let whole = snapped (goal.at.returns-after-is_ended-clause-looked c).After-copy in
     elim c.if-is_ended.branch as (λ _. IfSome c.if-is_ended.result (HasLooked b s.start w s.was c.args.totals.now)) [
       | then-is_ended o ↦
           let upto : s.totals.upto ≡ front =
           ap (λ (t : TotalSums). t.upto) (sym c.requires.totals)
           ∙ (ap (λ (t : TotalSums). t.upto) (sym c.start-catching.ensures.totals)
           ∙ (c.is_ended-is_ended.ensures.upto o.if-is_ended.true ∙ (c.start-catching.ensures.counts ∙ c.copy.ensures))) in
-          let here = HasLooked-snapped s.start s.mark w s.was s.totals s.turns c.in-Snap.snapping (before g at) front whole upto in
+          let here = HasLooked-snapped s.start s.mark w s.was s.totals s.turns c.in-Snap.snapping (before at) front whole upto in
           subst (λ r. IfSome r (HasLooked b s.start w s.was c.args.totals.now)) (sym o.result-is)
           (subst (λ (t : TotalSums). HasLooked b s.start w s.was t front) (sym c.requires.totals)
-          (subst (λ (k : BookTerms). HasLooked k s.start w s.was s.totals front) (book g at) here))
+          (subst (λ (k : BookTerms). HasLooked k s.start w s.was s.totals front) (book at) here))
       | else-is_ended o ↦ subst (λ r. IfSome r (HasLooked b s.start w s.was c.args.totals.now)) (sym o.result-is) tt
     ]
 
 -- what a turn that counts goes on with
-catches : (g : given.Over) (c : After-turn-caught g) → c.args.self.now.stage ≡ CatchUp c.in-CatchUp.catching
-catches g c = sym (ap (λ (s : LookingTerms). s.stage) c.self.view_is) ∙ c.in-CatchUp.is
+catches : (c : After-turn-caught) → c.args.self.now.stage ≡ CatchUp c.in-CatchUp.catching
+catches c = sym (ap (λ (s : LookingTerms). s.stage) c.self.view_is) ∙ c.in-CatchUp.is
 
-before_catching : (g : given.Over) (c : After-turn-caught g)
+before_catching : (c : After-turn-caught)
     → IsLookingSo c.args.self.now.start c.args.self.now.mark c.args.self.now.was c.args.self.now.totals c.args.self.now.turns (CatchUp c.in-CatchUp.catching)
-before_catching g c =
+before_catching c =
     let s : LookingTerms = c.args.self.now in
-    subst (IsLookingSo s.start s.mark s.was s.totals s.turns) (catches g c)
+    subst (IsLookingSo s.start s.mark s.was s.totals s.turns) (catches c)
     (subst (λ (t : LookingTerms). IsLookingSo t.start t.mark t.was t.totals t.turns t.stage) c.self.view_is c.self.invariant)
 
 pub overflow_add-self-in-CatchUp : goal.overflow_add-self-in-CatchUp
-overflow_add-self-in-CatchUp g c =
-    let at = (goal.at.overflow_add-self-in-CatchUp g c).After-turn-caught in
+overflow_add-self-in-CatchUp c =
+    let at = (goal.at.overflow_add-self-in-CatchUp c).After-turn-caught in
     let s : LookingTerms = c.args.self.now in
-    let so = before_catching g at in
+    let so = before_catching at in
     omega (
       arith,
       ap (λ (t : LookingTerms). t.turns) c.self.view_is,
@@ -156,10 +156,10 @@ overflow_add-self-in-CatchUp g c =
     )
 
 pub returns-in-CatchUp-clause-so_far : goal.returns-in-CatchUp-clause-so_far
-returns-in-CatchUp-clause-so_far g c =
-    let at = (goal.at.returns-in-CatchUp-clause-so_far g c).After-turn-caught in
+returns-in-CatchUp-clause-so_far c =
+    let at = (goal.at.returns-in-CatchUp-clause-so_far c).After-turn-caught in
     let s : LookingTerms = c.args.self.now in
-    let so = before_catching g at in
+    let so = before_catching at in
     let same : s.start.book ≡ c.args.board.now.book = sym so.book ∙ (ap (λ (v : Knowledge). v.book) (sym c.requires.mark) ∙ c.requires.board.book) in
     let seen : length s.mark.seen ≡ length c.turn-caught.new.seat.knows.seen =
     ap (λ (v : Knowledge). length v.seen) (sym c.requires.mark) ∙ ap (λ (t : SeatTerms). length t.knows.seen) (sym c.turn-caught.ensures.same) in
@@ -170,6 +170,6 @@ returns-in-CatchUp-clause-so_far g c =
       ap snapshot_steps (ap (λ (b : BookTerms). b.processes) same),
       sum-IsSnapped s.start.book s.start s.mark c.in-CatchUp.catching.counts so.stage_so.snapped,
       seen,
-      ap look_turns_left (catches g at),
+      ap look_turns_left (catches at),
       c.requires.left,
     )

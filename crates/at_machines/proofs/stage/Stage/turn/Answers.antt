@@ -15,34 +15,34 @@ use Rattle.at_machines.proofs.stage.Stage.turn.Goals.{After-turn}
 use Rattle.at_machines.proofs.stage.Stage.turn.Goals as goal
 
 -- the snapshot before the turn
-before : (g : given.Over) (c : After-turn g) (start : Knowledge) → IsSnappingSo start c.args.seat.now.knows c.args.collects.now c.args.collected.now c.args.self.now
+before : (c : After-turn) (start : Knowledge) → IsSnappingSo start c.args.seat.now.knows c.args.collects.now c.args.collected.now c.args.self.now
     → IsSnappingSo start c.args.seat.now.knows c.args.collects.now c.args.collected.now (Collect c.in-Collect.collecting)
-before g c start so = subst (IsSnappingSo start c.args.seat.now.knows c.args.collects.now c.args.collected.now) c.in-Collect.is so
+before c start so = subst (IsSnappingSo start c.args.seat.now.knows c.args.collects.now c.args.collected.now) c.in-Collect.is so
 
 -- its seat is the board's
-book : (g : given.Over) (c : After-turn g) (start : Knowledge) → IsSnappingSo start c.args.seat.now.knows c.args.collects.now c.args.collected.now c.args.self.now
+book : (c : After-turn) (start : Knowledge) → IsSnappingSo start c.args.seat.now.knows c.args.collects.now c.args.collected.now c.args.self.now
     → c.args.board.now.book ≡ start.book
-book g c start so = sym c.requires.board.book ∙ so.book
+book c start so = sym c.requires.board.book ∙ so.book
 
 -- the load that was made
-load : (g : given.Over) (c : After-turn g) (start : Knowledge) → IsSnappingSo start c.args.seat.now.knows c.args.collects.now c.args.collected.now c.args.self.now
+load : (c : After-turn) (start : Knowledge) → IsSnappingSo start c.args.seat.now.knows c.args.collects.now c.args.collected.now c.args.self.now
     → LoadsLengthOf start.book c.args.seat.now.knows c.turn.new.seat.knows c.in-Collect.collecting.loaded
-load g c start so =
-    subst (λ (b : BookTerms). LoadsLengthOf b c.args.seat.now.knows c.turn.new.seat.knows c.in-Collect.collecting.loaded) (book g c start so) c.turn.ensures.load
+load c start so =
+    subst (λ (b : BookTerms). LoadsLengthOf b c.args.seat.now.knows c.turn.new.seat.knows c.in-Collect.collecting.loaded) (book c start so) c.turn.ensures.load
 
 pub returns-in_err-now-in-Collect-clause-turns : goal.returns-in_err-now-in-Collect-clause-turns
-returns-in_err-now-in-Collect-clause-turns g c = λ start so.
-    let at = (goal.at.returns-in_err-now-in-Collect-clause-turns g c).After-turn in
+returns-in_err-now-in-Collect-clause-turns c = λ start so.
+    let at = (goal.at.returns-in_err-now-in-Collect-clause-turns c).After-turn in
     let v : SeatTerms = c.args.seat.now in
     let w : SeatTerms = c.turn.new.seat in
     let collecting : CollectingTerms = c.in-Collect.collecting in
     let collects = c.args.collects.now in
     let n = c.args.collected.now in
     let after = c.turn.ensures.after in
-    let same = book g at start so in
+    let same = book at start so in
     let goes_on : collecting.loaded + 1 ≢ c.args.board.now.book.processes = λ whole.
     let wrong : false ≡ true = c.in_err-now-in-Collect.ensures.ends.1 (ap (λ (t : CollectingTerms). t.loaded) after ∙ whole) in absurd (cc wrong) in
-    let here = before g at start so in
+    let here = before at start so in
     let left : collecting.loaded + 1 < start.book.processes =
     omega (arith, goes_on, here.stage_so.1, ap (λ (b : BookTerms). b.processes) same) in
     subst (λ (answer : Option (List ℕ)). TurnsStage c.args.board.now.book start v w n c.args.self.now collects n (Collect c.turn.new.self) answer)
@@ -50,10 +50,10 @@ returns-in_err-now-in-Collect-clause-turns g c = λ start so.
     (subst (λ (stage : Stage). TurnsStage c.args.board.now.book start v w n stage collects n (Collect c.turn.new.self) None) (sym c.in-Collect.is)
     (subst (λ (t : CollectingTerms). TurnsStage c.args.board.now.book start v w n (Collect collecting) collects n (Collect t) None) (sym after)
     (subst (λ (b : BookTerms). TurnsStage b start v w n (Collect collecting) collects n (Collect (collecting_after collecting w.knows)) None) (sym same)
-    (TurnsStage-load start v w collects n collecting here (c.turn.ensures.board.book ∙ same) left (load g at start so)))))
+    (TurnsStage-load start v w collects n collecting here (c.turn.ensures.board.book ∙ same) left (load at start so)))))
 
 pub judge-requires-clause-seen : goal.judge-requires-clause-seen
-judge-requires-clause-seen g c = λ p inside.
+judge-requires-clause-seen c = λ p inside.
     let w : Knowledge = c.turn.new.seat.knows in
     let counts = c.in_ok-now-in-Collect.ensures.counts in
     let told = c.in_ok-now-in-Collect.ensures.collect in
@@ -61,8 +61,8 @@ judge-requires-clause-seen g c = λ p inside.
     omega (arith, told.most p (omega (arith, inside, ap length counts, sized)), ap (λ xs. get_or xs p 0) counts)
 
 pub returns-in_ok-now-in-Collect-clause-turns : goal.returns-in_ok-now-in-Collect-clause-turns
-returns-in_ok-now-in-Collect-clause-turns g c = λ start so.
-    let at = (goal.at.returns-in_ok-now-in-Collect-clause-turns g c).After-turn in
+returns-in_ok-now-in-Collect-clause-turns c = λ start so.
+    let at = (goal.at.returns-in_ok-now-in-Collect-clause-turns c).After-turn in
     let v : SeatTerms = c.args.seat.now in
     let w : SeatTerms = c.turn.new.seat in
     let collecting : CollectingTerms = c.in-Collect.collecting in
@@ -70,7 +70,7 @@ returns-in_ok-now-in-Collect-clause-turns g c = λ start so.
     let n = c.args.collected.now in
     let next : Stage = c.judge.new.self in
     let more = c.judge.new.collects in
-    let same = book g at start so in
+    let same = book at start so in
     let counts = c.in_ok-now-in-Collect.ensures.counts in
     let (verdict, is, leads) = c.judge.ensures in
     let last : collecting.loaded + 1 ≡ start.book.processes =
@@ -78,7 +78,7 @@ returns-in_ok-now-in-Collect-clause-turns g c = λ start so.
     ∙ (c.in_ok-now-in-Collect.ensures.ends.0 refl ∙ ap (λ (b : BookTerms). b.processes) same) in
     subst (λ (stage : Stage). TurnsStage c.args.board.now.book start v w n stage more (n + 1) next c.judge.result) (sym c.in-Collect.is)
     (subst (λ (b : BookTerms). TurnsStage b start v w n (Collect collecting) more (n + 1) next c.judge.result) (sym same)
-    (TurnsStage-judge start v w collects more n collecting verdict next c.judge.result (before g at start so) (c.turn.ensures.board.book ∙ same) last (load g at start so)
+    (TurnsStage-judge start v w collects more n collecting verdict next c.judge.result (before at start so) (c.turn.ensures.board.book ∙ same) last (load at start so)
     (subst (λ (b : BookTerms). IsCollect b collecting.start w.knows) same c.in_ok-now-in-Collect.ensures.collect)
     (subst (λ xs. IsVerdictOn collects w.knows.first xs verdict) counts is)
     (subst (λ xs. LeadsTo w.knows xs collects verdict more next c.judge.result) counts leads)))

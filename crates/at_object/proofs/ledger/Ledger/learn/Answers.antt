@@ -16,11 +16,11 @@ use Rattle.at_object.proofs.ledger.Ledger.learn.Goals.{After-learn}
 use Rattle.at_object.proofs.ledger.Ledger.learn.Goals as goal
 
 -- nothing but what was seen has changed
-abbrev knows : (g : given.Over) → After-learn g → Knowledge
-knows g c = c.pass.inside.seat.knows
+abbrev knows : After-learn → Knowledge
+knows c = c.pass.inside.seat.knows
 
-moved : (g : given.Over) (c : After-learn g) → HasMoved c.pass.inside.seat.knows.book c.pass.inside.seat.knows c.learn.new.seat.knows
-moved g c =
+moved : (c : After-learn) → HasMoved c.pass.inside.seat.knows.book c.pass.inside.seat.knows c.learn.new.seat.knows
+moved c =
     let told = c.learn.ensures.learned in
     record {
       kept_before = c.known.ensures.seat;
@@ -32,56 +32,56 @@ moved g c =
       free = ap (λ (t : Knowledge). (own_part t).held) told.same ∙ c.pass.invariant.between.free;
     }
 
-nothing : (g : given.Over) (c : After-learn g) → AsksNothing c.pass.inside.seat.knows c.learn.new.seat.knows
-nothing g c = record { same = λ a. ap (λ (t : Knowledge). (asking_on (own_part t) a).announced) c.learn.ensures.learned.same }
+nothing : (c : After-learn) → AsksNothing c.pass.inside.seat.knows c.learn.new.seat.knows
+nothing c = record { same = λ a. ap (λ (t : Knowledge). (asking_on (own_part t) a).announced) c.learn.ensures.learned.same }
 
-published : (g : given.Over) (c : After-learn g) → (own_part c.learn.new.seat.knows).published ≡ (own_part c.pass.inside.seat.knows).published
-published g c = ap (λ (t : Knowledge). (own_part t).published) c.learn.ensures.learned.same
+published : (c : After-learn) → (own_part c.learn.new.seat.knows).published ≡ (own_part c.pass.inside.seat.knows).published
+published c = ap (λ (t : Knowledge). (own_part t).published) c.learn.ensures.learned.same
 
-between : (g : given.Over) (c : After-learn g) → IsBetweenCalls c.pass.inside.seat.knows.book c.learn.new.seat.knows
-between g c =
-    IsBetweenCalls-still c.pass.inside.seat.knows.book c.pass.inside.seat.knows c.learn.new.seat.knows (moved g c) c.pass.invariant.between (nothing g c)
-    (published g c)
+between : (c : After-learn) → IsBetweenCalls c.pass.inside.seat.knows.book c.learn.new.seat.knows
+between c =
+    IsBetweenCalls-still c.pass.inside.seat.knows.book c.pass.inside.seat.knows c.learn.new.seat.knows (moved c) c.pass.invariant.between (nothing c)
+    (published c)
 
-owns : (g : given.Over) (c : After-learn g)
+owns : (c : After-learn)
     → owns_of c.pass.inside.seat.knows.first c.learn.new.seat.knows.seen ≡ owns_of c.pass.inside.seat.knows.first c.pass.inside.seat.knows.seen
-owns g c =
-    owns_of-still c.pass.inside.seat.knows.book c.pass.inside.seat.knows c.learn.new.seat.knows (moved g c) c.pass.invariant.between (nothing g c)
-    (published g c)
+owns c =
+    owns_of-still c.pass.inside.seat.knows.book c.pass.inside.seat.knows c.learn.new.seat.knows (moved c) c.pass.invariant.between (nothing c)
+    (published c)
 
 pub invariant_of-pass : goal.invariant_of-pass
-invariant_of-pass g c =
+invariant_of-pass c =
     let b : BookTerms = c.pass.inside.seat.knows.book in
     let v : Knowledge = c.pass.inside.seat.knows in
     let w : Knowledge = c.learn.new.seat.knows in
     let was = c.pass.inside.totals in
     let sent = c.pass.inside.sent in
     let invariant = c.pass.invariant in
-    IsPass-HasMoved b v w was was sent sent (moved g c) (between g c)
+    IsPass-HasMoved b v w was was sent sent (moved c) (between c)
     (StaysCounted-HasCounted was b v.seen invariant.counted w.seen c.learn.ensures.learned.more)
-    (ap (λ p. get_or was.upto p 0) (moved g c).process ∙ (invariant.own_counted ∙ sym (published g c))) (invariant.sent_is ∙ sym (owns g c))
-    (λ a none. (nothing g c).same a ∙ invariant.unasked a none)
+    (ap (λ p. get_or was.upto p 0) (moved c).process ∙ (invariant.own_counted ∙ sym (published c))) (invariant.sent_is ∙ sym (owns c))
+    (λ a none. (nothing c).same a ∙ invariant.unasked a none)
 
 pub returns-clause-stands : goal.returns-clause-stands
-returns-clause-stands g c = λ receipts stands.
+returns-clause-stands c = λ receipts stands.
     let b : BookTerms = c.pass.inside.seat.knows.book in
     let v : Knowledge = c.pass.inside.seat.knows in
     let w : Knowledge = c.learn.new.seat.knows in
     let told : Told b v.first v.seen receipts =
     subst (λ (t : PassTerms). Told t.knows.book t.knows.first t.knows.seen receipts) (sym c.pass.view_is) stands in
-    let moves = moved g c in
+    let moves = moved c in
     let still : (a slot : ℕ) → HasSlot b v.first a slot → named a slot w.seen ≡ named a slot v.seen = λ a slot has.
     omega (
       arith,
       named-IsBetweenCalls b v a slot moves.kept_before refl c.pass.invariant.between has,
-      named-IsBetweenCalls b w a slot moves.kept_after moves.book_after (between g c) (subst (λ p. HasSlot b p a slot) (sym moves.process) has),
-      ap length ((nothing g c).same a),
+      named-IsBetweenCalls b w a slot moves.kept_after moves.book_after (between c) (subst (λ p. HasSlot b p a slot) (sym moves.process) has),
+      ap length ((nothing c).same a),
     ) in
     subst (λ t. Told t w.first w.seen receipts) (sym moves.book_after)
     (subst (λ p. Told b p w.seen receipts) (sym moves.process)
-    (Told-IsPrefix b v.first v.seen w.seen receipts moves.kept_before.history c.learn.ensures.learned.more (owns g c) still told))
+    (Told-IsPrefix b v.first v.seen w.seen receipts moves.kept_before.history c.learn.ensures.learned.more (owns c) still told))
 
 pub returns-clause-sent : goal.returns-clause-sent
-returns-clause-sent g c =
-    ap (λ p. owns_of p c.learn.new.seat.knows.seen) (moved g c).process
-    ∙ (owns g c ∙ ap (λ (t : PassTerms). owns_of t.knows.first t.knows.seen) c.pass.view_is)
+returns-clause-sent c =
+    ap (λ p. owns_of p c.learn.new.seat.knows.seen) (moved c).process
+    ∙ (owns c ∙ ap (λ (t : PassTerms). owns_of t.knows.first t.knows.seen) c.pass.view_is)

@@ -11,11 +11,11 @@ use Rattle.at_object.proofs.ledger.Ledger.pay_by_call.Goals.{After-refuse}
 use Rattle.at_object.proofs.ledger.Ledger.pay_by_call.Goals as goal
 
 -- what the type of the pass keeps of its seat
-kept : (g : given.Over) (c : After-refuse g) → IsKept c.args.pass.now.knows
-kept g c = subst (λ (t : PassTerms). IsKept t.knows) c.pass.view_is c.known.ensures.seat
+kept : (c : After-refuse) → IsKept c.args.pass.now.knows
+kept c = subst (λ (t : PassTerms). IsKept t.knows) c.pass.view_is c.known.ensures.seat
 
 pub returns-in-Some-clause-made : goal.returns-in-Some-clause-made
-returns-in-Some-clause-made g c = λ targets payout.
+returns-in-Some-clause-made c = λ targets payout.
     let b : BookTerms = c.args.self.now.book in
     let before : PassTerms = c.args.pass.now in
     let told = c.refuse.ensures in
@@ -23,10 +23,10 @@ returns-in-Some-clause-made g c = λ targets payout.
     subst (λ t. IsBetweenCalls t before.knows) c.requires.pass.book
     (subst (λ (t : PassTerms). IsBetweenCalls t.knows.book t.knows) c.pass.view_is c.pass.invariant.between) in
     subst (λ (t : PassTerms). PaymentMade b before t c.args.source targets c.args.call.now c.refuse.result) (sym told.pass)
-    (PaymentMade-refused b before c.args.source (kept g c) c.requires.pass.book between c.requires.source targets c.args.call.now c.refuse.result told.call
+    (PaymentMade-refused b before c.args.source (kept c) c.requires.pass.book between c.requires.source targets c.args.call.now c.refuse.result told.call
     told.at payout (sym c.refusal.ensures ∙ (c.in-Some.is ∙ ap Some (sym told.reply))))
 
 pub returns-in-Some-clause-runs : goal.returns-in-Some-clause-runs
-returns-in-Some-clause-runs g c =
+returns-in-Some-clause-runs c =
     subst (λ (t : PassTerms). AreRuns c.args.self.now.book t.knows.seen) (sym c.refuse.ensures.pass)
-    (subst (λ (t : BookTerms). AreRuns t c.args.pass.now.knows.seen) c.requires.pass.book (kept g c).history.runs)
+    (subst (λ (t : BookTerms). AreRuns t c.args.pass.now.knows.seen) c.requires.pass.book (kept c).history.runs)

@@ -19,19 +19,19 @@ use Rattle.at_object.proofs.ledger.Ledger.pay_from_shared.Goals.{After-pass-1}
 use Rattle.at_object.proofs.ledger.Ledger.pay_from_shared.Goals as goal
 
 -- the book that the pass's seat knows is the ledger's
-book : (g : given.Over) (c : After-pass-1 g) → c.pass.inside.seat.knows.book ≡ c.self.inside.board.book
-book g c =
+book : (c : After-pass-1) → c.pass.inside.seat.knows.book ≡ c.self.inside.board.book
+book c =
     ap (λ (t : PassTerms). t.knows.book) c.pass.view_is ∙ (c.requires.pass.book ∙ sym (ap (λ (t : BoardTerms). t.book) c.self.view_is))
 
 -- the process has a slot on the account
-slot : (g : given.Over) (c : After-pass-1 g) → (s : ℕ) × HasSlot c.self.inside.board.book c.pass.inside.seat.knows.first c.args.source s
-slot g c =
+slot : (c : After-pass-1) → (s : ℕ) × HasSlot c.self.inside.board.book c.pass.inside.seat.knows.first c.args.source s
+slot c =
     subst (λ (t : BoardTerms). (s : ℕ) × HasSlot t.book c.pass.inside.seat.knows.first c.args.source s) (sym c.self.view_is)
     (subst (λ (t : PassTerms). (s : ℕ) × HasSlot c.args.self.now.book t.knows.first c.args.source s) (sym c.pass.view_is)
     (HasSlot-is_owner c.args.self.now.book c.args.pass.now.knows.first c.args.source c.requires.source c.requires.shared c.requires.owner))
 
 pub pay_in_round-receipt-requires-clause-asks : goal.pay_in_round-receipt-requires-clause-asks
-pay_in_round-receipt-requires-clause-asks g c =
+pay_in_round-receipt-requires-clause-asks c =
     let b : BookTerms = c.self.inside.board.book in
     let v : Knowledge = c.pass.inside.seat.knows in
     let before : PassTerms =
@@ -53,15 +53,15 @@ pay_in_round-receipt-requires-clause-asks g c =
     )
 
 pub invariant_of-pass : goal.invariant_of-pass
-invariant_of-pass g c =
+invariant_of-pass c =
     let told = c.pay_in_round-receipt.ensures in
-    let here = slot g c in
-    IsPass-round c.self.inside.board.book c.pass.inside.seat.knows c.pay_in_round-receipt.new.seat.knows c.known.ensures.seat c.known-2.ensures.seat (book g c)
+    let here = slot c in
+    IsPass-round c.self.inside.board.book c.pass.inside.seat.knows c.pay_in_round-receipt.new.seat.knows c.known.ensures.seat c.known-2.ensures.seat (book c)
     told.board.book c.pass.inside.totals c.pass.inside.sent c.pass.invariant c.args.source here.0 here.1 c.args.call.now c.pay_in_round-receipt.result
     told.pays c.pay_in_round-receipt.new.totals told.counted told.own_counted
 
 pub returns-clause-made : goal.returns-clause-made
-returns-clause-made g c = λ targets payout.
+returns-clause-made c = λ targets payout.
     let told = c.pay_in_round-receipt.ensures in
     let b : BookTerms = c.self.inside.board.book in
     let v : Knowledge = c.pass.inside.seat.knows in
@@ -72,7 +72,7 @@ returns-clause-made g c = λ targets payout.
     let before : PassTerms = record { board = c.pass.inside.seat.board; knows = v; counted = was.upto; calls = c.pass.inside.calls } in
     let after : PassTerms =
     record { board = c.pay_in_round-receipt.new.seat.board; knows = w; counted = now.upto; calls = c.saturating_add-pass-inside.result } in
-    let here = slot g c in
+    let here = slot c in
     let shared : is_shared (account_of b c.args.source) ≡ true =
     ap (λ (t : BoardTerms). is_shared (account_of t.book c.args.source)) c.self.view_is ∙ c.requires.shared in
     let owner : is_owner b v.first c.args.source ≡ true =
@@ -84,15 +84,15 @@ returns-clause-made g c = λ targets payout.
     subst (λ (t : BoardTerms). PaymentMade t.book c.args.pass.now after c.args.source targets c.args.call.now r) c.self.view_is
     (subst (λ (t : PassTerms). PaymentMade b t after c.args.source targets c.args.call.now r) c.pass.view_is
     (PaymentMade-round b before after c.args.source targets c.args.call.now r c.known.ensures.seat c.known-2.ensures.seat
-    (book g c) told.board.book was c.pass.inside.sent c.pass.invariant room (others-le before after was now c.pass.invariant.own_counted told.own_counted told.more)
+    (book c) told.board.book was c.pass.inside.sent c.pass.invariant room (others-le before after was now c.pass.invariant.own_counted told.own_counted told.more)
     here.0 here.1 owner shared told.pays (ap payout_of told.pays.call_is ∙ payout)))
 
 pub returns-clause-runs : goal.returns-clause-runs
-returns-clause-runs g c =
+returns-clause-runs c =
     subst (λ (t : BoardTerms). AreRuns t.book c.pay_in_round-receipt.new.seat.knows.seen) c.self.view_is
     (subst (λ (t : BookTerms). AreRuns t c.pay_in_round-receipt.new.seat.knows.seen) c.pay_in_round-receipt.ensures.board.book
     c.known-2.ensures.seat.history.runs)
 
 pub returns-clause-decides_elsewhere : goal.returns-clause-decides_elsewhere
-returns-clause-decides_elsewhere g c = λ a apart.
+returns-clause-decides_elsewhere c = λ a apart.
     c.pay_in_round-receipt.ensures.decides_elsewhere a apart ∙ ap (λ (t : PassTerms). decides_on t.knows a) c.pass.view_is

@@ -19,18 +19,18 @@ use Rattle.at_object.proofs.ledger.Ledger.pay_from_single.Goals.{After-pass-2-1}
 use Rattle.at_object.proofs.ledger.Ledger.pay_from_single.Goals as goal
 
 -- the book that the pass's seat knows is the ledger's
-book : (g : given.Over) (c : After-pass-2-1 g) → c.pass.inside.seat.knows.book ≡ c.self.inside.board.book
-book g c =
+book : (c : After-pass-2-1) → c.pass.inside.seat.knows.book ≡ c.self.inside.board.book
+book c =
     ap (λ (t : PassTerms). t.knows.book) c.pass.view_is ∙ (c.requires.pass.book ∙ sym (ap (λ (t : BoardTerms). t.book) c.self.view_is))
 
 -- it was paid
-paid : (g : given.Over) (c : After-pass-2-1 g) (targets : List TargetPair) → payout_of c.args.call.now ≡ Some (c.args.source, targets)
+paid : (c : After-pass-2-1) (targets : List TargetPair) → payout_of c.args.call.now ≡ Some (c.args.source, targets)
     → PaysAlone c.self.inside.board.book c.pass.inside.seat.knows c.pay_alone-receipt.new.seat.knows c.args.source targets c.args.call.now
     c.pay_alone-receipt.result
-paid g c targets payout = c.pay_alone-receipt.ensures.pays targets payout
+paid c targets payout = c.pay_alone-receipt.ensures.pays targets payout
 
 pub pay_alone-receipt-requires-clause-room : goal.pay_alone-receipt-requires-clause-room
-pay_alone-receipt-requires-clause-room g c =
+pay_alone-receipt-requires-clause-room c =
     let same : c.pass.inside.seat.knows ≡ c.args.pass.now.knows = ap (λ (t : PassTerms). t.knows) c.pass.view_is in
     let few = c.known.ensures.seat.history.own_room c.pass.inside.seat.knows.first in
     omega (
@@ -48,7 +48,7 @@ pay_alone-receipt-requires-clause-room g c =
     )
 
 pub sent_after-pass-inside-requires : goal.sent_after-pass-inside-requires
-sent_after-pass-inside-requires g c =
+sent_after-pass-inside-requires c =
     let v : Knowledge = c.pass.inside.seat.knows in
     let same : v ≡ c.args.pass.now.knows = ap (λ (t : PassTerms). t.knows) c.pass.view_is in
     omega (
@@ -69,16 +69,16 @@ sent_after-pass-inside-requires g c =
     )
 
 pub invariant_of-pass : goal.invariant_of-pass
-invariant_of-pass g c =
+invariant_of-pass c =
     let targets = c.requires.call.targets in
     let told = c.pay_alone-receipt.ensures in
     subst (IsPass c.pay_alone-receipt.new.seat.knows c.pay_alone-receipt.new.totals) (sym c.sent_after-pass-inside.ensures)
-    (IsPass-alone c.self.inside.board.book c.pass.inside.seat.knows c.pay_alone-receipt.new.seat.knows c.known.ensures.seat c.known-2.ensures.seat (book g c)
+    (IsPass-alone c.self.inside.board.book c.pass.inside.seat.knows c.pay_alone-receipt.new.seat.knows c.known.ensures.seat c.known-2.ensures.seat (book c)
     told.board.book c.pass.inside.totals c.pass.inside.sent c.pass.invariant c.args.source targets c.args.call.now c.pay_alone-receipt.result
-    (paid g c targets c.requires.call.payout) c.pay_alone-receipt.new.totals told.counted told.own_counted)
+    (paid c targets c.requires.call.payout) c.pay_alone-receipt.new.totals told.counted told.own_counted)
 
 pub returns-clause-made : goal.returns-clause-made
-returns-clause-made g c = λ targets payout.
+returns-clause-made c = λ targets payout.
     let told = c.pay_alone-receipt.ensures in
     let b : BookTerms = c.self.inside.board.book in
     let v : Knowledge = c.pass.inside.seat.knows in
@@ -97,21 +97,21 @@ returns-clause-made g c = λ targets payout.
     subst (λ (t : BoardTerms). PaymentMade t.book c.args.pass.now after c.args.source targets c.args.call.now c.pay_alone-receipt.result) c.self.view_is
     (subst (λ (t : PassTerms). PaymentMade b t after c.args.source targets c.args.call.now c.pay_alone-receipt.result) c.pass.view_is
     (PaymentMade-alone b before after c.args.source targets c.args.call.now c.pay_alone-receipt.result c.known.ensures.seat c.known-2.ensures.seat
-    (book g c) told.board.book was c.pass.inside.sent c.pass.invariant room (others-le before after was now c.pass.invariant.own_counted told.own_counted told.more)
-    (omega (arith, c.requires.source, ap (λ (t : BoardTerms). length t.book.accounts) c.self.view_is)) only (paid g c targets payout)))
+    (book c) told.board.book was c.pass.inside.sent c.pass.invariant room (others-le before after was now c.pass.invariant.own_counted told.own_counted told.more)
+    (omega (arith, c.requires.source, ap (λ (t : BoardTerms). length t.book.accounts) c.self.view_is)) only (paid c targets payout)))
 
 pub returns-clause-decided : goal.returns-clause-decided
-returns-clause-decided g c =
+returns-clause-decided c =
     let targets = c.requires.call.targets in
-    decided-alone c.self.inside.board.book c.pass.inside.seat.knows c.pay_alone-receipt.new.seat.knows c.known.ensures.seat c.known-2.ensures.seat (book g c)
+    decided-alone c.self.inside.board.book c.pass.inside.seat.knows c.pay_alone-receipt.new.seat.knows c.known.ensures.seat c.known-2.ensures.seat (book c)
     c.pay_alone-receipt.ensures.board.book c.pass.inside.totals c.pass.inside.sent c.pass.invariant c.args.source targets c.args.call.now
-    c.pay_alone-receipt.result (paid g c targets c.requires.call.payout)
+    c.pay_alone-receipt.result (paid c targets c.requires.call.payout)
 
 pub returns-clause-decides : goal.returns-clause-decides
-returns-clause-decides g c = λ a.
+returns-clause-decides c = λ a.
     let targets = c.requires.call.targets in
     ap (λ (t : Asking). t.decides)
-    (asking-alone c.self.inside.board.book c.pass.inside.seat.knows c.pay_alone-receipt.new.seat.knows c.known.ensures.seat c.known-2.ensures.seat (book g c)
+    (asking-alone c.self.inside.board.book c.pass.inside.seat.knows c.pay_alone-receipt.new.seat.knows c.known.ensures.seat c.known-2.ensures.seat (book c)
     c.pay_alone-receipt.ensures.board.book c.pass.inside.totals c.pass.inside.sent c.pass.invariant c.args.source targets c.args.call.now
-    c.pay_alone-receipt.result (paid g c targets c.requires.call.payout) a
+    c.pay_alone-receipt.result (paid c targets c.requires.call.payout) a
     ∙ ap (λ (t : PassTerms). asking_on (own_part t.knows) a) c.pass.view_is)

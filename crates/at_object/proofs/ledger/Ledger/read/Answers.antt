@@ -14,7 +14,7 @@ use Rattle.at_object.proofs.ledger.Ledger.read.Goals as goal
 
 -- what the seat knew of the book is what the ledger has
 pub invariant_of-pass : goal.invariant_of-pass
-invariant_of-pass g c =
+invariant_of-pass c =
     let told = c.read_account-receipt.ensures in
     let v : Knowledge = c.pass.inside.seat.knows in
     let same : v ≡ c.args.pass.now.knows = ap (λ (t : PassTerms). t.knows) c.pass.view_is in
@@ -24,14 +24,14 @@ invariant_of-pass g c =
     told.at_front.loads c.pass.inside.totals c.read_account-receipt.new.totals c.pass.inside.sent c.pass.invariant told.counted told.own_counted
 
 pub returns-clause-placed : goal.returns-clause-placed
-returns-clause-placed g c = λ earlier stands.
+returns-clause-placed c = λ earlier stands.
     let w : Knowledge = c.read_account-receipt.new.seat.knows in
     subst (λ (t : BoardTerms). IsPlaced t.book c.args.pass.now.knows.first w.seen earlier c.read_account-receipt.result) c.self.view_is
     (subst (λ (t : PassTerms). IsPlaced c.self.inside.board.book t.knows.first w.seen earlier c.read_account-receipt.result) c.pass.view_is
     (c.read_account-receipt.ensures.placed earlier))
 
 pub returns-clause-after_seen : goal.returns-clause-after_seen
-returns-clause-after_seen g c = λ previous.
+returns-clause-after_seen c = λ previous.
     let w : Knowledge = c.read_account-receipt.new.seat.knows in
     let r = c.read_account-receipt.result in
     let front = front_behind w r.at in
@@ -43,7 +43,7 @@ returns-clause-after_seen g c = λ previous.
     )
 
 pub returns-clause-stands : goal.returns-clause-stands
-returns-clause-stands g c = λ earlier stands.
+returns-clause-stands c = λ earlier stands.
     let told = c.read_account-receipt.ensures in
     let v : Knowledge = c.pass.inside.seat.knows in
     let w : Knowledge = c.read_account-receipt.new.seat.knows in
@@ -62,7 +62,7 @@ returns-clause-stands g c = λ earlier stands.
 
 -- no own record was published
 pub returns-clause-sent : goal.returns-clause-sent
-returns-clause-sent g c =
+returns-clause-sent c =
     let told = c.read_account-receipt.ensures in
     let v : Knowledge = c.pass.inside.seat.knows in
     let w : Knowledge = c.read_account-receipt.new.seat.knows in

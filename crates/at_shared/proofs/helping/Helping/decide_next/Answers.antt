@@ -16,9 +16,9 @@ use Rattle.at_shared.proofs.helping.Helping.decide_next.Goals.{After-rounds-roun
 use Rattle.at_shared.proofs.helping.Helping.decide_next.Goals as goal
 
 -- the round is the next one at the front
-round_is : (g : given.Over) (c : After-rounds-round g)
+round_is : (c : After-rounds-round)
     → c.rounds-round.result ≡ rounds c.args.self.now.account (prefix_of c.args.front.now c.args.seat.now.knows.seen)
-round_is g c =
+round_is c =
     let b : BookTerms = c.args.board.now.book in
     let seen = c.args.seat.now.knows.seen in
     let account : c.self.inside.account ≡ c.args.self.now.account = ap (λ (h : HelpingTerms). h.account) c.self.view_is in
@@ -31,29 +31,29 @@ round_is g c =
     told ∙ (ap (λ f. rounds c.self.inside.account (prefix_of f seen)) c.requires.front ∙ ap (λ a. rounds a (prefix_of c.args.front.now seen)) account)
 
 pub publish-requires-clause-totals : goal.publish-requires-clause-totals
-publish-requires-clause-totals g c =
+publish-requires-clause-totals c =
     StaysCounted-HasCounted c.args.totals.now c.args.board.now.book c.args.seat.now.knows.seen c.requires.totals c.propose-decided.new.seat.knows.seen
     c.propose-decided.ensures.decided.decides.more
 
 pub publish-requires-clause-round : goal.publish-requires-clause-round
-publish-requires-clause-round g c =
+publish-requires-clause-round c =
     let b : BookTerms = c.args.board.now.book in
     let v : Knowledge = c.args.seat.now.knows in
     let front = c.args.front.now in
     IsSoundRound-Decides b v c.propose-decided.new.seat.knows c.args.self.now.account c.args.self.now.own.slot _ c.rounds-round.result _ _ front
     c.requires.at_front.history (subst (λ f. IsFront b.processes f v.seen) c.requires.front c.requires.at_front.front) c.requires.helping.asked.slot_in
-    (round_is g (goal.at.publish-requires-clause-round g c).After-rounds-round)
+    (round_is (goal.at.publish-requires-clause-round c).After-rounds-round)
     (subst (λ (h : HelpingTerms). DecidesAs b v c.propose-decided.new.seat.knows h.account c.rounds-round.result c.proposal-proposal.result c.propose-decided.result)
     c.self.view_is c.propose-decided.ensures.decided).decides
 
 pub returns-clause-decided : goal.returns-clause-decided
-returns-clause-decided g c =
+returns-clause-decided c =
     let b : BookTerms = c.args.board.now.book in
     let v : Knowledge = c.args.seat.now.knows in
     let x : Knowledge = c.propose-decided.new.seat.knows in
     let z : Knowledge = c.publish.new.seat.knows in
     let a = c.args.self.now.account in
-    let round = round_is g (goal.at.returns-clause-decided g c).After-rounds-round in
+    let round = round_is (goal.at.returns-clause-decided c).After-rounds-round in
     let h : HelpingTerms = c.args.self.now in
     let d = c.propose-decided.result in (
       d,
@@ -71,10 +71,10 @@ returns-clause-decided g c =
     )
 
 pub publish-requires-clause-seat : goal.publish-requires-clause-seat
-publish-requires-clause-seat g c = c.propose-decided.ensures.board
+publish-requires-clause-seat c = c.propose-decided.ensures.board
 
 pub publish-requires-clause-front : goal.publish-requires-clause-front
-publish-requires-clause-front g c =
+publish-requires-clause-front c =
     let b : BookTerms = c.args.board.now.book in
     let v : Knowledge = c.args.seat.now.knows in
     let front = subst (λ f. IsFront b.processes f v.seen) c.requires.front c.requires.at_front.front in
@@ -82,24 +82,24 @@ publish-requires-clause-front g c =
     c.propose-decided.ensures.decided.decides.more
 
 pub publish-requires-clause-upto : goal.publish-requires-clause-upto
-publish-requires-clause-upto g c = c.requires.front
+publish-requires-clause-upto c = c.requires.front
 
 pub publish-requires-clause-decided : goal.publish-requires-clause-decided
-publish-requires-clause-decided g c =
+publish-requires-clause-decided c =
     subst (λ (h : HelpingTerms). SeesDecision c.propose-decided.new.seat.knows h.account c.rounds-round.result c.propose-decided.result) c.self.view_is
     c.propose-decided.ensures.seen
 
 pub returns-clause-upto : goal.returns-clause-upto
-returns-clause-upto g c = c.publish.ensures.upto
+returns-clause-upto c = c.publish.ensures.upto
 
 pub returns-clause-counted : goal.returns-clause-counted
-returns-clause-counted g c = c.publish.ensures.counted
+returns-clause-counted c = c.publish.ensures.counted
 
 pub returns-clause-board : goal.returns-clause-board
-returns-clause-board g c = c.publish.ensures.board
+returns-clause-board c = c.publish.ensures.board
 
 pub returns-clause-steps : goal.returns-clause-steps
-returns-clause-steps g c = omega (arith, c.propose-decided.ensures.steps, c.publish.ensures.steps)
+returns-clause-steps c = omega (arith, c.propose-decided.ensures.steps, c.publish.ensures.steps)
 
 pub returns-clause-exchanges : goal.returns-clause-exchanges
-returns-clause-exchanges g c = omega (arith, c.propose-decided.ensures.exchanges, c.publish.ensures.exchanges)
+returns-clause-exchanges c = omega (arith, c.propose-decided.ensures.exchanges, c.publish.ensures.exchanges)

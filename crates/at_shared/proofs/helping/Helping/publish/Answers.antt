@@ -9,11 +9,11 @@ use Rattle.at_log.specs.declared.record.Record.{Record}
 use Rattle.at_shared.proofs.helping.Helping.publish.Goals as goal
 
 pub append-requires-clause-record : goal.append-requires-clause-record
-append-requires-clause-record g c =
+append-requires-clause-record c =
     subst (λ (r : Record). MayAppend c.args.board.now.book c.load_request-request.new.seat.knows r) (sym c.record_of_round-record.ensures) (search rules)
 
 pub count_own-requires-clause-counted : goal.count_own-requires-clause-counted
-count_own-requires-clause-counted g c =
+count_own-requires-clause-counted c =
     let b : BookTerms = c.args.board.now.book in
     let v : Knowledge = c.args.seat.now.knows in
     let y : Knowledge = c.load_request-request.new.seat.knows in

@@ -19,31 +19,31 @@ use Rattle.at_shared.proofs.helping.Helping.start.Goals.{After-known, After-look
 use Rattle.at_shared.proofs.helping.Helping.start.Goals as goal
 
 -- the seat has something on the account
-has_account : (g : given.Over) (c : After-look-front g) → HasAccount c.args.seat.now.knows c.args.account
-has_account g c =
+has_account : (c : After-look-front) → HasAccount c.args.seat.now.knows c.args.account
+has_account c =
     let seat = c.known.ensures.seat in
     let same = ap (λ (t : BookTerms). length t.accounts) c.requires.seat.book in
     record { part = omega (arith, seat.one_part); inside = omega (arith, seat.accounts, c.requires.asks.1.slot_in.account_in, same) }
 
 -- the snapshot changes neither what the part has on the account nor anything else of it but its loads
-kept_look : (g : given.Over) (c : After-look-front g) → Keeps c.args.seat.now.knows c.look-front.new.seat.knows
-kept_look g c =
-    Keeps-HasLoaded c.args.board.now.book c.args.seat.now.knows c.look-front.new.seat.knows (has_account g c).part c.look-front.ensures.looked.loads
+kept_look : (c : After-look-front) → Keeps c.args.seat.now.knows c.look-front.new.seat.knows
+kept_look c =
+    Keeps-HasLoaded c.args.board.now.book c.args.seat.now.knows c.look-front.new.seat.knows (has_account c).part c.look-front.ensures.looked.loads
 
 -- the front is a part of what is seen
-place_within : (g : given.Over) (c : After-look-front g) → place c.look-front.result ≤ length c.look-front.new.seat.knows.seen
-place_within g c =
+place_within : (c : After-look-front) → place c.look-front.result ≤ length c.look-front.new.seat.knows.seen
+place_within c =
     place-IsSnapshot-le c.args.board.now.book c.args.seat.now.knows c.look-front.new.seat.knows c.look-front.result c.look-front.ensures.looked.snapshot
     c.look-front.ensures.looked.loads
 
 -- the slot is the process's
-has_slot : (g : given.Over) (c : After-unwrap-slot g) → HasSlot c.args.board.now.book c.look-front.new.seat.knows.first c.args.account c.unwrap-slot.result
-has_slot g c =
+has_slot : (c : After-unwrap-slot) → HasSlot c.args.board.now.book c.look-front.new.seat.knows.first c.args.account c.unwrap-slot.result
+has_slot c =
     let b : BookTerms = c.args.board.now.book in
     let v : Knowledge = c.args.seat.now.knows in
     let w : Knowledge = c.look-front.new.seat.knows in
     let slot_of = c.requires.asks.1.slot_in in
-    let first : w.first ≡ v.first = (kept_look g c.before.before.before.before.before.before.before).first in
+    let first : w.first ≡ v.first = (kept_look c.before.before.before.before.before.before.before).first in
     let found : slot_in (account_of b c.args.account) w.first ≡ Some c.unwrap-slot.result =
     ap (λ (t : BookTerms). slot_in (account_of t c.args.account) w.first) (sym c.book-2.ensures)
     ∙ (ap (slot_in (account_of c.book-2.result.now c.args.account)) (sym c.process.ensures.process) ∙ (sym c.slot_of.ensures.slot ∙ c.unwrap-slot.ensures)) in
@@ -52,27 +52,27 @@ has_slot g c =
     record { account_in = slot_of.account_in; within = omega (arith, same, slot_of.within); owner = found }
 
 pub sum-since-requires : goal.sum-since-requires
-sum-since-requires g c =
-    let before : After-look-front g = (goal.at.sum-since-requires g c).After-look-front in
-    omega (arith, place_within g before, c.look-front.ensures.looked.loads.history.few)
+sum-since-requires c =
+    let before : After-look-front = (goal.at.sum-since-requires c).After-look-front in
+    omega (arith, place_within before, c.look-front.ensures.looked.loads.history.few)
 
 pub ask-number-requires-clause-request : goal.ask-number-requires-clause-request
-ask-number-requires-clause-request g c =
-    let before : After-look-front g = (goal.at.ask-number-requires-clause-request g c).After-look-front in
+ask-number-requires-clause-request c =
+    let before : After-look-front = (goal.at.ask-number-requires-clause-request c).After-look-front in
     let b : BookTerms = c.args.board.now.book in
     let v : Knowledge = c.args.seat.now.knows in
     let w : Knowledge = c.look-front.new.seat.knows in
     let a = c.args.account in
     let slot = c.unwrap-slot.result in
-    let has = has_slot g (goal.at.ask-number-requires-clause-request g c).After-unwrap-slot in
+    let has = has_slot (goal.at.ask-number-requires-clause-request c).After-unwrap-slot in
     let call = c.requires.call in
     let looked = c.look-front.ensures.looked in
     let targets : c.targets_of-targets.result ≡ call.targets = c.targets_of-targets.ensures a call.targets call.payout in (
       slot,
       subst (λ k. MayAskFor b w a slot (asked_for c.targets_of-targets.result k)) (sym c.sum-since.ensures)
-          (MayAskFor-IsSnapshot b v w a slot c.targets_of-targets.result c.look-front.result (has_account g before) looked.snapshot looked.loads
+          (MayAskFor-IsSnapshot b v w a slot c.targets_of-targets.result c.look-front.result (has_account before) looked.snapshot looked.loads
           (record {
-            slot_in = subst (λ p. HasSlot b p a slot) (kept_look g before).first has;
+            slot_in = subst (λ p. HasSlot b p a slot) (kept_look before).first has;
             room = c.requires.asks.1.room;
           })
           c.requires.settled
@@ -84,29 +84,29 @@ ask-number-requires-clause-request g c =
     )
 
 pub collect_rows-asked-requires-clause-own : goal.collect_rows-asked-requires-clause-own
-collect_rows-asked-requires-clause-own g c =
-    c.ask-number.ensures.own c.unwrap-slot.result (has_slot g (goal.at.collect_rows-asked-requires-clause-own g c).After-unwrap-slot)
+collect_rows-asked-requires-clause-own c =
+    c.ask-number.ensures.own c.unwrap-slot.result (has_slot (goal.at.collect_rows-asked-requires-clause-own c).After-unwrap-slot)
 
 -- what was known before
-abbrev to_look : (g : given.Over) → After-ask-number g → After-look-front g
-to_look g c = c.before.before.before.before.before.before.before.before.before.before.before.before.before.before
+abbrev to_look : After-ask-number → After-look-front
+to_look c = c.before.before.before.before.before.before.before.before.before.before.before.before.before.before
 
-abbrev to_ask : (g : given.Over) → After-collect_rows-asked g → After-ask-number g
-to_ask g c = c.before.before.before.before.before
+abbrev to_ask : After-collect_rows-asked → After-ask-number
+to_ask c = c.before.before.before.before.before
 
 -- what asking changes
-told_ask : (g : given.Over) (c : After-ask-number g) → Announces c.args.board.now.book c.look-front.new.seat.knows c.ask-number.new.seat.knows c.args.account
+told_ask : (c : After-ask-number) → Announces c.args.board.now.book c.look-front.new.seat.knows c.ask-number.new.seat.knows c.args.account
     c.unwrap-slot.result (asked_for c.targets_of-targets.result c.sum-since.result)
-told_ask g c = c.ask-number.ensures.announced c.unwrap-slot.result (has_slot g c.before.before.before.before.before.before.before)
+told_ask c = c.ask-number.ensures.announced c.unwrap-slot.result (has_slot c.before.before.before.before.before.before.before)
 
 -- the own request
-abbrev own_of : (g : given.Over) → After-ask-number g → OpenRequest
-own_of g c = opened c.unwrap-slot.result c.ask-number.result c.targets_of-targets.result c.sum-since.result
+abbrev own_of : After-ask-number → OpenRequest
+own_of c = opened c.unwrap-slot.result c.ask-number.result c.targets_of-targets.result c.sum-since.result
 
 -- the parts of the start
-parts : (g : given.Over) (c : After-collect_rows-asked g) → StartsBy c.args.board.now.book c.args.seat.now.knows c.collect_rows-asked.new.seat.knows
-    c.args.account (own_of g (to_ask g c)) c.collect_rows-asked.result
-parts g c =
+parts : (c : After-collect_rows-asked) → StartsBy c.args.board.now.book c.args.seat.now.knows c.collect_rows-asked.new.seat.knows
+    c.args.account (own_of (to_ask c)) c.collect_rows-asked.result
+parts c =
     let looked = c.look-front.ensures.looked in
     record {
       front = c.look-front.result;
@@ -116,7 +116,7 @@ parts g c =
       since = c.sum-since.ensures;
       number = c.ask-number.ensures.number;
       asked = c.ask-number.new.seat.knows;
-      announced = told_ask g (to_ask g c);
+      announced = told_ask (to_ask c);
       nothing = c.ask-number.ensures.nothing;
       rows = c.collect_rows-asked.ensures.rows;
       candidates = c.collect_rows-asked.ensures.candidates;
@@ -124,31 +124,31 @@ parts g c =
       last = c.collect_rows-asked.ensures.own;
     }
 
-kept : (g : given.Over) (c : After-collect_rows-asked g) → Keeps c.args.seat.now.knows c.collect_rows-asked.new.seat.knows
-kept g c =
-    Keeps-StartsBy c.args.board.now.book c.args.seat.now.knows c.collect_rows-asked.new.seat.knows c.args.account (own_of g (to_ask g c)) c.collect_rows-asked.result
-    (parts g c) (has_account g (to_look g (to_ask g c)))
+kept : (c : After-collect_rows-asked) → Keeps c.args.seat.now.knows c.collect_rows-asked.new.seat.knows
+kept c =
+    Keeps-StartsBy c.args.board.now.book c.args.seat.now.knows c.collect_rows-asked.new.seat.knows c.args.account (own_of (to_ask c)) c.collect_rows-asked.result
+    (parts c) (has_account (to_look (to_ask c)))
 
 pub returns-clause-started : goal.returns-clause-started
-returns-clause-started g c =
-    let collected : After-collect_rows-asked g = (goal.at.returns-clause-started g c).After-collect_rows-asked in
+returns-clause-started c =
+    let collected : After-collect_rows-asked = (goal.at.returns-clause-started c).After-collect_rows-asked in
     let b : BookTerms = c.args.board.now.book in
     let v : Knowledge = c.args.seat.now.knows in
     let z : Knowledge = c.collect_rows-asked.new.seat.knows in
     subst (HasStarted b v z) (sym c.of.ensures)
-    (HasStarted-StartsBy b v z c.args.account (own_of g (to_ask g collected)) c.collect_rows-asked.result (parts g collected)
-    (has_account g (to_look g (to_ask g collected))) c.copy.result)
+    (HasStarted-StartsBy b v z c.args.account (own_of (to_ask collected)) c.collect_rows-asked.result (parts collected)
+    (has_account (to_look (to_ask collected))) c.copy.result)
 
 pub returns-clause-helping : goal.returns-clause-helping
-returns-clause-helping g c =
-    let collected : After-collect_rows-asked g = (goal.at.returns-clause-helping g c).After-collect_rows-asked in
+returns-clause-helping c =
+    let collected : After-collect_rows-asked = (goal.at.returns-clause-helping c).After-collect_rows-asked in
     let b : BookTerms = c.args.board.now.book in
     let v : Knowledge = c.args.seat.now.knows in
     let z : Knowledge = c.collect_rows-asked.new.seat.knows in
     let a = c.args.account in
-    let own : OpenRequest = own_of g (to_ask g collected) in
-    let by = parts g collected in
-    let has = has_account g (to_look g (to_ask g collected)) in
+    let own : OpenRequest = own_of (to_ask collected) in
+    let by = parts collected in
+    let has = has_account (to_look (to_ask collected)) in
     let call = c.requires.call in
     let targets : c.targets_of-targets.result ≡ call.targets = c.targets_of-targets.ensures a call.targets call.payout in
     subst (IsHelping b z) (sym c.of.ensures)
@@ -157,65 +157,65 @@ returns-clause-helping g c =
     (omega (arith, number-StartsBy b v z a own c.collect_rows-asked.result by has, c.requires.asks.1.room)) c.requires.free)
 
 pub returns-clause-number : goal.returns-clause-number
-returns-clause-number g c =
-    let collected : After-collect_rows-asked g = (goal.at.returns-clause-number g c).After-collect_rows-asked in
+returns-clause-number c =
+    let collected : After-collect_rows-asked = (goal.at.returns-clause-number c).After-collect_rows-asked in
     let b : BookTerms = c.args.board.now.book in
     let v : Knowledge = c.args.seat.now.knows in
     let z : Knowledge = c.collect_rows-asked.new.seat.knows in
-    let own : OpenRequest = own_of g (to_ask g collected) in
-    ap (λ (h : HelpingTerms). h.own.number) c.of.ensures ∙ number-StartsBy b v z c.args.account own c.collect_rows-asked.result (parts g collected) (has_account g (to_look g (to_ask g collected)))
+    let own : OpenRequest = own_of (to_ask collected) in
+    ap (λ (h : HelpingTerms). h.own.number) c.of.ensures ∙ number-StartsBy b v z c.args.account own c.collect_rows-asked.result (parts collected) (has_account (to_look (to_ask collected)))
 
 pub returns-clause-since : goal.returns-clause-since
-returns-clause-since g c =
-    let collected : After-collect_rows-asked g = (goal.at.returns-clause-since g c).After-collect_rows-asked in
+returns-clause-since c =
+    let collected : After-collect_rows-asked = (goal.at.returns-clause-since c).After-collect_rows-asked in
     let b : BookTerms = c.args.board.now.book in
     let v : Knowledge = c.args.seat.now.knows in
     let z : Knowledge = c.collect_rows-asked.new.seat.knows in
-    let own : OpenRequest = own_of g (to_ask g collected) in
+    let own : OpenRequest = own_of (to_ask collected) in
     omega (
       arith,
-      since-StartsBy b v z c.args.account own c.collect_rows-asked.result (parts g collected) (has_account g (to_look g (to_ask g collected))),
+      since-StartsBy b v z c.args.account own c.collect_rows-asked.result (parts collected) (has_account (to_look (to_ask collected))),
       ap (λ (h : HelpingTerms). h.own.since) c.of.ensures,
     )
 
 pub returns-clause-begins : goal.returns-clause-begins
-returns-clause-begins g c = (kept g (goal.at.returns-clause-begins g c).After-collect_rows-asked).more
+returns-clause-begins c = (kept (goal.at.returns-clause-begins c).After-collect_rows-asked).more
 
 pub returns-clause-process : goal.returns-clause-process
-returns-clause-process g c = (kept g (goal.at.returns-clause-process g c).After-collect_rows-asked).first
+returns-clause-process c = (kept (goal.at.returns-clause-process c).After-collect_rows-asked).first
 
 pub returns-clause-decides : goal.returns-clause-decides
-returns-clause-decides g c = (kept g (goal.at.returns-clause-decides g c).After-collect_rows-asked).decides
+returns-clause-decides c = (kept (goal.at.returns-clause-decides c).After-collect_rows-asked).decides
 
 pub returns-clause-published : goal.returns-clause-published
-returns-clause-published g c = (kept g (goal.at.returns-clause-published g c).After-collect_rows-asked).published
+returns-clause-published c = (kept (goal.at.returns-clause-published c).After-collect_rows-asked).published
 
 pub returns-clause-counted : goal.returns-clause-counted
 unfolding parts
-returns-clause-counted g c =
-    let collected : After-collect_rows-asked g = (goal.at.returns-clause-counted g c).After-collect_rows-asked in
+returns-clause-counted c =
+    let collected : After-collect_rows-asked = (goal.at.returns-clause-counted c).After-collect_rows-asked in
     let b : BookTerms = c.args.board.now.book in
     let v : Knowledge = c.args.seat.now.knows in
     let z : Knowledge = c.collect_rows-asked.new.seat.knows in
-    let own : OpenRequest = own_of g (to_ask g collected) in
-    c.look-front.ensures.looked.counted z.seen (Keeps-StartsBy-look b v z c.args.account own c.collect_rows-asked.result (parts g collected) (has_account g (to_look g (to_ask g collected)))).more
+    let own : OpenRequest = own_of (to_ask collected) in
+    c.look-front.ensures.looked.counted z.seen (Keeps-StartsBy-look b v z c.args.account own c.collect_rows-asked.result (parts collected) (has_account (to_look (to_ask collected)))).more
 
 pub returns-clause-own_counted : goal.returns-clause-own_counted
 unfolding parts
-returns-clause-own_counted g c =
-    let collected : After-collect_rows-asked g = (goal.at.returns-clause-own_counted g c).After-collect_rows-asked in
+returns-clause-own_counted c =
+    let collected : After-collect_rows-asked = (goal.at.returns-clause-own_counted c).After-collect_rows-asked in
     let b : BookTerms = c.args.board.now.book in
     let v : Knowledge = c.args.seat.now.knows in
     let z : Knowledge = c.collect_rows-asked.new.seat.knows in
-    let own : OpenRequest = own_of g (to_ask g collected) in
+    let own : OpenRequest = own_of (to_ask collected) in
     ap (λ (upto : List ℕ). get_or upto z.first 0) c.look-front.ensures.looked.upto
-    ∙ own_counted-StartsBy b v z c.args.account own c.collect_rows-asked.result (parts g collected) (has_account g (to_look g (to_ask g collected)))
+    ∙ own_counted-StartsBy b v z c.args.account own c.collect_rows-asked.result (parts collected) (has_account (to_look (to_ask collected)))
 
 pub returns-clause-steps : goal.returns-clause-steps
-returns-clause-steps g c =
-    let all = kept g (goal.at.returns-clause-steps g c).After-collect_rows-asked in
+returns-clause-steps c =
+    let all = kept (goal.at.returns-clause-steps c).After-collect_rows-asked in
     let looked = c.look-front.ensures.looked in
-    let slot = (has_slot g (goal.at.returns-clause-steps g c).After-unwrap-slot).within in
+    let slot = (has_slot (goal.at.returns-clause-steps c).After-unwrap-slot).within in
     omega (
       arith,
       c.look-front.ensures.steps,

@@ -23,7 +23,7 @@ IsScanOf-parts b scan w start mark collects one two three of =
     subst (λ (s : ScanTerms). IsScanOf b s w) (sym same) of
 
 pub returns-clause-scan : goal.returns-clause-scan
-returns-clause-scan g c =
+returns-clause-scan c =
     let b : BookTerms = c.args.board.now.book in
     let scan : ScanTerms = c.args.self.now in
     let w : Knowledge = c.collect-now.new.seat.knows in
@@ -40,7 +40,7 @@ returns-clause-scan g c =
     (IsScanOf-after b scan c.args.seat.now.knows w (omega (arith, c.known.ensures.seat.one_part)) c.requires.scan c.collect-now.ensures.collect))
 
 pub returns-clause-snapshot : goal.returns-clause-snapshot
-returns-clause-snapshot g c =
+returns-clause-snapshot c =
     let b : BookTerms = c.args.board.now.book in
     let scan : ScanTerms = c.args.self.now in
     let v : Knowledge = c.args.seat.now.knows in

@@ -13,9 +13,9 @@ use Rattle.at_stepper.proofs.caller.Caller.turn.Goals.{After-become_next}
 use Rattle.at_stepper.proofs.caller.Caller.turn.Goals as goal
 
 -- the next call is begun with the calls of the caller, behind its receipts
-next_begun : (g : Over) (c : After-become_next g) → IsCallBegun c.args.board.now.book c.turn-made.new.seat c.turn-made.new.rest c.self.inside.calls.items
+next_begun : (c : After-become_next) → IsCallBegun c.args.board.now.book c.turn-made.new.seat c.turn-made.new.rest c.self.inside.calls.items
     (length c.keep-next.new.receipts.items) c.become_next.new.making.calling
-next_begun g c =
+next_begun c =
     let number = length c.keep-next.new.receipts.items in
     subst (λ (making : Making). IsCallBegun c.args.board.now.book c.turn-made.new.seat c.turn-made.new.rest c.self.inside.calls.items number
     making.calling) (sym c.become_next.ensures)
@@ -23,15 +23,15 @@ next_begun g c =
     c.as_slice.ensures.value c.keep-next.ensures.begun)
 
 -- the caller as it was
-was_making : (g : Over) (c : After-become_next g) → caller_of c.self.inside.seat c.self.inside.rest c.self.inside.calls.items
+was_making : (c : After-become_next) → caller_of c.self.inside.seat c.self.inside.rest c.self.inside.calls.items
     c.self.inside.receipts.items (Some c.in-Some.calling) ≡ c.args.self.now
-was_making g c =
+was_making c =
     ap (λ (o : Option CallingTerms). caller_of c.self.inside.seat c.self.inside.rest c.self.inside.calls.items c.self.inside.receipts.items o)
     (sym c.in-Some.is)
     ∙ c.self.view_is
 
 pub invariant_of-self-2 : goal.invariant_of-self-2
-invariant_of-self-2 g c =
+invariant_of-self-2 c =
     IsCallerOf-answered c.args.board.now.book c.self.inside.seat c.self.inside.rest c.self.inside.calls.items c.self.inside.receipts.items
     c.in-Some.calling (vec_capacity c.self.inside.receipts)
     (subst (λ (o : Option CallingTerms). IsCallerOf c.self.inside.seat c.self.inside.rest c.self.inside.calls.items c.self.inside.receipts.items o
@@ -40,15 +40,15 @@ invariant_of-self-2 g c =
     c.turn-made.new.rest c.known.ensures.seat c.turn-made.ensures.board.book c.turn-made.ensures.call c.turn-made.ensures.start
     c.turn-made.ensures.was c.turn-made.ensures.turns c.turn-made.ensures.exchanges_made c.turn-made.ensures.left c.turn-made.ensures.so_far
     c.in-Some-made.receipt c.in-Some-made.ensures.made c.in-Some-made.ensures.stands c.in-Some-made.ensures.kept c.in-Some-made.ensures.calls
-    c.in-Some-made.ensures.within c.keep-next.new.receipts.items c.keep-next.ensures.receipts c.become_next.new.making.calling (next_begun g c)
+    c.in-Some-made.ensures.within c.keep-next.new.receipts.items c.keep-next.ensures.receipts c.become_next.new.making.calling (next_begun c)
     (vec_capacity c.keep-next.new.receipts) c.keep-next.ensures.capacity
 
 pub returns-clause-turned : goal.returns-clause-turned
-returns-clause-turned g c =
+returns-clause-turned c =
     let answered : CallerTerms =
     caller_of c.turn-made.new.seat c.turn-made.new.rest c.self.inside.calls.items c.keep-next.new.receipts.items c.become_next.new.making.calling in
     subst (λ (r : Receipt). IsAnswered c.args.board.now.book c.args.self.now answered r) (sym c.copy_of-answer.ensures)
-    (subst (λ (t : CallerTerms). IsAnswered c.args.board.now.book t answered c.in-Some-made.receipt) (was_making g c)
+    (subst (λ (t : CallerTerms). IsAnswered c.args.board.now.book t answered c.in-Some-made.receipt) (was_making c)
     (IsAnswered-turned c.args.board.now.book c.self.inside.seat c.self.inside.rest c.self.inside.calls.items c.self.inside.receipts.items
     c.in-Some.calling (vec_capacity c.self.inside.receipts)
     (subst (λ (o : Option CallingTerms). IsCallerOf c.self.inside.seat c.self.inside.rest c.self.inside.calls.items c.self.inside.receipts.items o
@@ -57,10 +57,10 @@ returns-clause-turned g c =
     c.turn-made.new.rest c.known.ensures.seat c.turn-made.ensures.board.book c.turn-made.ensures.call c.turn-made.ensures.start
     c.turn-made.ensures.was c.turn-made.ensures.turns c.turn-made.ensures.exchanges_made c.turn-made.ensures.left c.turn-made.ensures.so_far
     c.in-Some-made.receipt c.in-Some-made.ensures.made c.in-Some-made.ensures.stands c.in-Some-made.ensures.kept c.in-Some-made.ensures.calls
-    c.in-Some-made.ensures.within c.keep-next.new.receipts.items c.keep-next.ensures.receipts c.become_next.new.making.calling (next_begun g c)))
+    c.in-Some-made.ensures.within c.keep-next.new.receipts.items c.keep-next.ensures.receipts c.become_next.new.making.calling (next_begun c)))
 
 pub returns-clause-process : goal.returns-clause-process
-returns-clause-process g c =
+returns-clause-process c =
     process-answered c.args.board.now.book c.self.inside.seat c.self.inside.rest c.self.inside.calls.items c.self.inside.receipts.items
     c.in-Some.calling (vec_capacity c.self.inside.receipts)
     (subst (λ (o : Option CallingTerms). IsCallerOf c.self.inside.seat c.self.inside.rest c.self.inside.calls.items c.self.inside.receipts.items o
@@ -69,13 +69,13 @@ returns-clause-process g c =
     c.turn-made.new.rest c.known.ensures.seat c.turn-made.ensures.board.book c.turn-made.ensures.call c.turn-made.ensures.start
     c.turn-made.ensures.was c.turn-made.ensures.turns c.turn-made.ensures.exchanges_made c.turn-made.ensures.left c.turn-made.ensures.so_far
     c.in-Some-made.receipt c.in-Some-made.ensures.made c.in-Some-made.ensures.stands c.in-Some-made.ensures.kept c.in-Some-made.ensures.calls
-    c.in-Some-made.ensures.within c.keep-next.new.receipts.items c.keep-next.ensures.receipts c.become_next.new.making.calling (next_begun g c)
-    ∙ ap (λ (t : CallerTerms). t.pass.knows.first) (was_making g c)
+    c.in-Some-made.ensures.within c.keep-next.new.receipts.items c.keep-next.ensures.receipts c.become_next.new.making.calling (next_begun c)
+    ∙ ap (λ (t : CallerTerms). t.pass.knows.first) (was_making c)
 
 pub returns-clause-steps : goal.returns-clause-steps
-returns-clause-steps g c =
+returns-clause-steps c =
     c.turn-made.ensures.steps
-    ∙ ap (λ n. c.args.steps.now + n)
+    ∙ ap (λ n. c.args.seat.now.steps + n)
     (steps_of-answered c.args.board.now.book c.self.inside.seat c.self.inside.rest c.self.inside.calls.items c.self.inside.receipts.items
     c.in-Some.calling (vec_capacity c.self.inside.receipts)
     (subst (λ (o : Option CallingTerms). IsCallerOf c.self.inside.seat c.self.inside.rest c.self.inside.calls.items c.self.inside.receipts.items o
@@ -84,5 +84,5 @@ returns-clause-steps g c =
     c.turn-made.new.rest c.known.ensures.seat c.turn-made.ensures.board.book c.turn-made.ensures.call c.turn-made.ensures.start
     c.turn-made.ensures.was c.turn-made.ensures.turns c.turn-made.ensures.exchanges_made c.turn-made.ensures.left c.turn-made.ensures.so_far
     c.in-Some-made.receipt c.in-Some-made.ensures.made c.in-Some-made.ensures.stands c.in-Some-made.ensures.kept c.in-Some-made.ensures.calls
-    c.in-Some-made.ensures.within c.keep-next.new.receipts.items c.keep-next.ensures.receipts c.become_next.new.making.calling (next_begun g c)
+    c.in-Some-made.ensures.within c.keep-next.new.receipts.items c.keep-next.ensures.receipts c.become_next.new.making.calling (next_begun c)
     ∙ ap (λ (r : Receipt). steps_in (Answer r)) (sym c.copy_of-answer.ensures))

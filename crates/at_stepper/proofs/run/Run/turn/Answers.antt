@@ -8,7 +8,7 @@ use Rattle.at_stepper.specs.KeptStepping.{IsTurned}
 use Rattle.at_stepper.proofs.run.Run.turn.Goals as goal
 
 pub returns-clause-turned : goal.returns-clause-turned
-returns-clause-turned g c =
+returns-clause-turned c =
     let ledger : BoardTerms = c.args.self.now.ledger in
     let callers = c.args.self.now.callers.items in
     let process = c.args.process in
@@ -21,7 +21,7 @@ returns-clause-turned g c =
     (record { leaves = told.turned; step = told.step; calls = told.calls; left = told.left; turns_left = told.turns_left })))
 
 pub returns-clause-callers : goal.returns-clause-callers
-returns-clause-callers g c =
+returns-clause-callers c =
     let ledger : BoardTerms = c.args.self.now.ledger in
     let callers = c.args.self.now.callers.items in
     let process = c.args.process in
