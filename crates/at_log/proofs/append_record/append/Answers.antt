@@ -9,7 +9,6 @@ use Rattle.at_log.proofs.Laws.StoredWords.{FitsNext-MayAppend, IsStoring-more, M
 use Rattle.at_log.proofs.Laws.LastRecord.{IsLast-Publishes}
 use Rattle.at_log.specs.declared.record.Record.{Record}
 use Rattle.at_log.specs.ClosingTerms.{published_by}
-use Rattle.at_log.proofs.append_record.append.Given as given
 use Rattle.at_log.proofs.append_record.append.Goals.{After-processes-width}
 use Rattle.at_log.proofs.append_record.append.Goals as goal
 

@@ -2,7 +2,6 @@ use Rattle.std.proofs.Common.{◌≡◌, refl, sym, subst, Option, Some, IsSome}
 use Rattle.at_base.specs.declared.decision.Decision.{Decision}
 use Rattle.at_board.specs.Steps.Decide.{Decides}
 use Rattle.at_rounds.proofs.Answered.{DecidesAs-Decides, IsOf-Decides, SeesDecision-DecidesAs}
-use Rattle.at_rounds.proofs.exchange.propose.Given as given
 use Rattle.at_rounds.proofs.exchange.propose.Goals.{After-unpack_decision}
 use Rattle.at_rounds.proofs.exchange.propose.Goals as goal
 

@@ -5,7 +5,6 @@ use Rattle.at_board.specs.declared.words.TheConstants.{REQUEST_WORDS}
 use Rattle.at_rows.proofs.Laws.Accounts.{HasAccount}
 use Rattle.at_rows.proofs.Laws.Loading.{IsLoaded-more, KnowsOf-IsLoaded, LoadsRequest-IsLoading, account-KnowsOf, since-IsLoading}
 use Rattle.at_rows.specs.Loading.{IsLoading}
-use Rattle.at_rows.proofs.load_request_words.load_request.Given as given
 use Rattle.at_rows.proofs.load_request_words.load_request.Goals.{After-known-2, After-loop-j}
 use Rattle.at_rows.proofs.load_request_words.load_request.Goals as goal
 

@@ -3,7 +3,6 @@ use Rattle.at_ledger.specs.Book.{BookTerms}
 use Rattle.at_rows.proofs.Laws.Accounts.{HasAccount}
 use Rattle.at_rows.proofs.Laws.Rows.{KnowsOf-LoadsAnnounced, LoadsRow-none, LoadsRow-other, LoadsRow-own}
 use Rattle.at_rows.specs.Rows.{LoadsRow}
-use Rattle.at_rows.proofs.load_rows.load_row.Given as given
 use Rattle.at_rows.proofs.load_rows.load_row.Goals.{After-known}
 use Rattle.at_rows.proofs.load_rows.load_row.Goals as goal
 
