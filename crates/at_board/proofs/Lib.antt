@@ -1,3 +1,4 @@
+pub mod Counting
 pub mod StepLaws
 pub mod EndLaws
 pub mod KnowledgeLaws

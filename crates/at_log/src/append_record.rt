@@ -26,11 +26,7 @@ pub fn room(board: &Board, seat: &BoardSeat) -> u32
 }
 
 /// Stores the words of a record, those of its entry and one for each process, and publishes it. Takes no memory.
-pub fn append(
-    board: &Board,
-    seat: &mut BoardSeat,
-    rec: &Record,
-)
+pub fn append(board: &Board, seat: &mut BoardSeat, rec: &Record)
     requires board { IsOf seat.old board.now }
     requires record { MayAppend board.now.book seat.old.knows rec.now }
     ensures published { Publishes board.now.book seat.old.knows seat.new.knows

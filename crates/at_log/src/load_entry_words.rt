@@ -10,12 +10,7 @@ ghost use Rattle.at_log.specs.Loading.{IsEntryOf};
 use at_board::{Board, BoardSeat, Entry, RECORD_WORDS, entry_of};
 
 /// The entry of a record that the seat has seen, in a step for each of its words. Takes no memory.
-pub fn load_entry(
-    board: &Board,
-    seat: &mut BoardSeat,
-    p: u32,
-    i: u32,
-) -> Entry
+pub fn load_entry(board: &Board, seat: &mut BoardSeat, p: u32, i: u32) -> Entry
     requires board { IsOf seat.old board.now }
     requires record { SeesRecord seat.old.knows p i }
     ensures entry { IsEntryOf seat.old.knows p i result }

@@ -10,12 +10,7 @@ use at_base::Counts;
 use at_board::{Board, BoardSeat, RECORD_WORDS};
 
 /// The view of a record that the seat has seen, in a step for each process. Takes no memory.
-pub fn load_view(
-    board: &Board,
-    seat: &mut BoardSeat,
-    p: u32,
-    i: u32,
-) -> Counts
+pub fn load_view(board: &Board, seat: &mut BoardSeat, p: u32, i: u32) -> Counts
     requires board { IsOf seat.old board.now }
     requires record { SeesRecord seat.old.knows p i }
     ensures view { IsViewOf seat.old.knows p i result }

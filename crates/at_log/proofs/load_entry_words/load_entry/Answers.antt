@@ -5,6 +5,7 @@ use Rattle.at_history.specs.declared.publication.Publication.{Publication}
 use Rattle.at_board.specs.declared.knowledge.Knowledge.{Knowledge}
 use Rattle.at_history.specs.BoardState.{publication_at}
 use Rattle.at_history.specs.Publications.{publications_of}
+use Rattle.at_board.proofs.Counting.{stepped-stepped}
 use Rattle.at_board.specs.Knowledge.Records.{IsRecordWord}
 use Rattle.at_board.specs.Knowledge.Seats.{SeatTerms}
 use Rattle.at_board.specs.Words.Packed.{entry_words}
@@ -21,13 +22,11 @@ loop-j-preserved c =
     let word : IsRecordWord v p i j w =
     subst (λ (s : SeatTerms). IsRecordWord s.knows p i j w) c.loop-j.invariant.same c.load_record_word.ensures.word in
     record {
-      same = c.load_record_word.ensures.same ∙ c.loop-j.invariant.same;
+      same = c.load_record_word.ensures.same ∙ stepped-stepped c.args.seat.now c.loop-j.seat c.loop-j.j 1 c.loop-j.invariant.same;
       sized = length-set c.loop-j.words j w ∙ c.loop-j.invariant.sized;
       loaded = below_more (λ k. IsRecordWord v p i k (get_or (set c.loop-j.words j w) k 0)) j
           (λ k below. subst (IsRecordWord v p i k) (sym (get_or-set_other c.loop-j.words j k w 0 (omega arith))) (c.loop-j.invariant.loaded k below))
           (subst (IsRecordWord v p i j) (sym (get_or-set_same c.loop-j.words j w 0 (omega (arith, c.loop-j-test.true, c.loop-j.invariant.sized)))) word);
-      steps = omega (arith, c.load_record_word.ensures.steps, c.loop-j.invariant.steps);
-      exchanges = c.load_record_word.ensures.exchanges ∙ c.loop-j.invariant.exchanges;
     }
 
 pub returns-clause-entry : goal.returns-clause-entry

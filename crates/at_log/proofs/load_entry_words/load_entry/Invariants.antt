@@ -1,4 +1,4 @@
-use Rattle.std.proofs.Common.{◌≡◌, ℕ, ◌+◌, ◌<◌, get_or, length}
+use Rattle.std.proofs.Common.{◌≡◌, ℕ, ◌<◌, get_or, length}
 use Rattle.at_board.specs.Counting.{stepped}
 use Rattle.at_board.specs.Knowledge.Records.{IsRecordWord}
 use Rattle.at_board.specs.declared.words.TheConstants.{RECORD_WORDS}

@@ -5,8 +5,8 @@ use Rattle.at_board.specs.Knowledge.Records.{IsRecordWord}
 use Rattle.at_board.specs.Knowledge.Seats.{SeatTerms}
 use Rattle.at_history.specs.Histories.{IsHistory}
 use Rattle.at_board.specs.declared.words.TheConstants.{RECORD_WORDS}
+use Rattle.at_board.proofs.Counting.{stepped-stepped}
 use Rattle.at_log.proofs.Laws.SeenRecords.{IsLoaded, IsLoaded-more, IsViewOf-IsLoaded, small-IsRecordWord}
-use Rattle.at_log.proofs.load_view_words.load_view.Given as given
 use Rattle.at_log.proofs.load_view_words.load_view.Goals.{After-load_record_word-count, After-processes-processes}
 use Rattle.at_log.proofs.load_view_words.load_view.Goals as goal
 
@@ -41,12 +41,10 @@ loop-q-preserved c =
     let counted = count (goal.at.After-load_record_word-count read).After-processes-processes in
     let inside : c.loop-q.q < length c.loop-q.view = omega (arith, c.loop-q-test.true, counted, c.loop-q.invariant.sized) in
     record {
-      same = c.load_record_word-count.ensures.same ∙ c.loop-q.invariant.same;
+      same = c.load_record_word-count.ensures.same ∙ stepped-stepped c.args.seat.now c.loop-q.seat c.loop-q.q 1 c.loop-q.invariant.same;
       sized = ap length c.set.ensures ∙ (length-set c.loop-q.view c.loop-q.q c.load_record_word-count.result ∙ c.loop-q.invariant.sized);
       loaded = subst (λ t. IsLoaded c.args.seat.now.knows c.args.p c.args.i t (c.loop-q.q + 1)) (sym c.set.ensures)
           (IsLoaded-more c.args.seat.now.knows c.args.p c.args.i c.loop-q.view c.loop-q.q c.load_record_word-count.result inside c.loop-q.invariant.loaded (word read));
-      steps = omega (arith, c.load_record_word-count.ensures.steps, c.loop-q.invariant.steps);
-      exchanges = c.load_record_word-count.ensures.exchanges ∙ c.loop-q.invariant.exchanges;
     }
 
 pub returns-clause-view : goal.returns-clause-view

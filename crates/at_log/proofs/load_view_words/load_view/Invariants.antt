@@ -1,4 +1,4 @@
-use Rattle.std.proofs.Common.{◌≡◌, ◌+◌, length}
+use Rattle.std.proofs.Common.{◌≡◌, length}
 use Rattle.at_board.specs.Counting.{stepped}
 use Rattle.at_log.proofs.Laws.SeenRecords.{IsLoaded}
 use Rattle.at_log.proofs.load_view_words.load_view.Given as goal

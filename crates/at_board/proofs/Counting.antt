@@ -1,0 +1,12 @@
+-- Laws of counts of steps.
+use Rattle.std.proofs.Common.{◌≡◌, ℕ, ◌+◌, ◌∙◌, ap, arith}
+use Rattle.at_board.specs.Counting.{raised, stepped}
+use Rattle.at_board.specs.Knowledge.Seats.{SeatTerms}
+
+-- so many steps and then so many
+pub raised-raised : (count first more : ℕ) → raised (raised count first) more ≡ raised count (first + more)
+raised-raised count first more = omega arith
+
+pub stepped-stepped : (seat after : SeatTerms) (first more : ℕ) → after ≡ stepped seat first → stepped after more ≡ stepped seat (first + more)
+stepped-stepped seat after first more is =
+    ap (λ (s : SeatTerms). stepped s more) is ∙ (λ i. record seat { steps = raised-raised seat.steps first more i })
