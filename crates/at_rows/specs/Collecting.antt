@@ -24,8 +24,8 @@ abbrev pub HasRow : List SeenRow → List OpenRequest → ℕ → Type 0
 HasRow rows list slot = (n : ℕ) × WordCounts rows slot n
     × ((number : ℕ) → number + 1 ≡ n → (x : OpenRequest) × Contains list x × (x.slot ≡ slot) × (x.number ≡ number))
 
--- the rows of the owners at the slots below s were loaded, from so many steps on
-pub record IsCollectingRows (v w : Knowledge) (a : ℕ) (own : OpenRequest) (list : List OpenRequest) (s start steps : ℕ) : Type 0 where
+-- the rows of the owners at the slots below s were loaded, in so many steps
+pub record IsCollectingRows (v w : Knowledge) (a : ℕ) (own : OpenRequest) (list : List OpenRequest) (s made : ℕ) : Type 0 where
   pub rows : List SeenRow
   pub words : List LoadedWord
   pub loads : LoadsOnly v w a rows words
@@ -39,5 +39,5 @@ pub record IsCollectingRows (v w : Knowledge) (a : ℕ) (own : OpenRequest) (lis
   pub slots : map (λ r. r.slot) rows ≡ range_with_len 0 s
   pub own_seen : SeesRequest w a own.slot own.number (request_of own)
   pub seen : (x : OpenRequest) → Contains list x → SeesAsked w a x
-  pub steps_before : s ≤ own.slot → steps ≡ start + s + REQUEST_WORDS * length list
-  pub steps_after : own.slot < s → steps + REQUEST_WORDS ≡ start + s + REQUEST_WORDS * length list
+  pub steps_before : s ≤ own.slot → made ≡ s + REQUEST_WORDS * length list
+  pub steps_after : own.slot < s → made + REQUEST_WORDS ≡ s + REQUEST_WORDS * length list

@@ -16,13 +16,7 @@ use at_ledger::Targets;
 
 /// Stores the words of a request and announces it, in a step for each word and one more. The answer is its number among those
 /// of its slot. Takes no memory.
-pub fn ask(
-    board: &Board,
-    seat: &mut BoardSeat,
-    account: u32,
-    targets: &Targets,
-    since: u32,
-) -> u32
+pub fn ask(board: &Board, seat: &mut BoardSeat, account: u32, targets: &Targets, since: u32) -> u32
     requires board { IsOf seat.old board.now }
     requires request { (slot : ℕ) × MayAskFor board.now.book seat.old.knows account slot
         (asked_for targets.now since) }

@@ -36,9 +36,7 @@ pub fn load_request(
     let mut words = [0u64; REQUEST_WORDS as usize];
     for j in 0..REQUEST_WORDS {
         // Right here: an announced request never changes, so the words are those of one request, however far apart the loads.
-        words[j as usize] = board.load_request_word(
-            seat, account, slot, number, j
-        );
+        words[j as usize] = board.load_request_word(seat, account, slot, number, j);
     }
     request_from(slot, number, words)
 }

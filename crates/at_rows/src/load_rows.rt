@@ -19,12 +19,7 @@ use at_board::{Board, BoardSeat};
 
 /// The last requests of all owners of an account on which the seat's process has asked: its own, and of each other owner the last
 /// one that its announced word counts. Loads each announced word once, in the order of the slots. Takes no memory.
-pub fn collect_rows(
-    board: &Board,
-    seat: &mut BoardSeat,
-    account: u32,
-    own: &OpenRequest,
-) -> Asked
+pub fn collect_rows(board: &Board, seat: &mut BoardSeat, account: u32, own: &OpenRequest) -> Asked
     requires board { IsOf seat.old board.now }
     requires own { HasAsked board.now.book seat.old.knows account own.now }
     ensures collected { HasLoadedRows board.now.book seat.new.knows account own.now.slot }

@@ -14,6 +14,7 @@ use Rattle.at_board.specs.Steps.StoreRequestWord.{MayStoreRequest, StoresRequest
 use Rattle.at_board.specs.Words.Packed.{request_words}
 use Rattle.at_board.specs.declared.knowledge.Asking.{Asking}
 use Rattle.at_board.specs.declared.knowledge.Knowledge.{Knowledge}
+use Rattle.at_board.specs.declared.knowledge.Loads.{Loads}
 use Rattle.at_board.specs.declared.knowledge.Part.{Part}
 use Rattle.at_board.specs.declared.words.TheConstants.{REQUEST_WORDS}
 use Rattle.at_rows.proofs.Laws.Accounts.{HasAccount, asking_on-with_asking, own_part-with_asking, with_asking-again, with_asking-self}
@@ -102,18 +103,20 @@ Announces-IsStoringRequest b v u w a slot r words j has storing told =
       agrees = here.agrees;
       same = here.same
           ∙ (ap (λ (t : Asking). with_asking (record mid { seen = w.seen; requests = v.requests ++ seen_as a slot (length t.announced) r ∷ [] }) a
-          (with_request t r (rounds a w.seen))) there
-          ∙ with_asking-again v w.seen requests a q (with_request old r (rounds a w.seen)) has);
+          (with_request t r (rounds a w.seen) (own_part mid).loads)) there
+          ∙ (ap (λ (l : List Loads). with_asking (record mid { seen = w.seen; requests = requests }) a (with_request q r (rounds a w.seen) l))
+          (ap (λ (t : Part). t.loads) (own_part-with_asking v a q has))
+          ∙ with_asking-again v w.seen requests a q (with_request old r (rounds a w.seen) (own_part v).loads) has));
     }
 
 -- what the seat has on the account after the announcement
 asking_on-Announces : (b : BookTerms) (v w : Knowledge) (a slot : ℕ) (r : Request) → HasAccount v a → Announces b v w a slot r
-    → asking_on (own_part w) a ≡ with_request (asking_on (own_part v) a) r (rounds a w.seen)
+    → asking_on (own_part w) a ≡ with_request (asking_on (own_part v) a) r (rounds a w.seen) (own_part v).loads
 asking_on-Announces b v w a slot r has told =
     let old : Asking = asking_on (own_part v) a in
     let u : Knowledge = record v { seen = w.seen; requests = v.requests ++ seen_as a slot (length old.announced) r ∷ [] } in
     ap (λ t. asking_on (own_part t) a) told.same
-    ∙ asking_on-with_asking u a (with_request old r (rounds a w.seen)) (record { part = has.part; inside = has.inside })
+    ∙ asking_on-with_asking u a (with_request old r (rounds a w.seen) (own_part v).loads) (record { part = has.part; inside = has.inside })
 
 pub HasLoadedNothing-Announces : (b : BookTerms) (v w : Knowledge) (a slot : ℕ) (r : Request) → HasAccount v a → Announces b v w a slot r → HasLoadedNothing w a
 HasLoadedNothing-Announces b v w a slot r has told =

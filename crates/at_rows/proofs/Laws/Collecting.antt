@@ -32,8 +32,8 @@ use Rattle.at_rows.specs.OpenRequests.{AreBelow, AreRising, IsAmong, request_in,
 use Rattle.at_rows.specs.Rows.{AreCandidates, CollectsRows, LoadsOnly, WordCounts, SeesAsked, IsFound, LoadsRow, row_steps}
 use Rattle.at_rows.specs.declared.open_request.OpenRequest.{OpenRequest}
 
-pub IsCollectingRows-start : (v : Knowledge) (a : ℕ) (own : OpenRequest) (start : ℕ) → SeesRequest v a own.slot own.number (request_of own) → IsCollectingRows v v a own [] 0 start start
-IsCollectingRows-start v a own start sees = record {
+pub IsCollectingRows-start : (v : Knowledge) (a : ℕ) (own : OpenRequest) → SeesRequest v a own.slot own.number (request_of own) → IsCollectingRows v v a own [] 0 0
+IsCollectingRows-start v a own sees = record {
   rows = [];
   words = [];
   loads = LoadsOnly-refl v a;
@@ -129,10 +129,10 @@ SeesAsked-LoadsOnly u w a rows words x told has = record {
 }
 
 -- a row of which nothing is loaded besides
-IsCollectingRows-none : (v u w : Knowledge) (a : ℕ) (own : OpenRequest) (list : List OpenRequest) (s start steps count : ℕ) (found : List LoadedWord) → HasAccount v a
-    → IsCollectingRows v u a own list s start steps → LoadsOnly u w a (record { slot = s; count = count } ∷ []) found → s ≢ own.slot → count ≡ 0 → found ≡ []
-    → IsCollectingRows v w a own list (s + 1) start (steps + 1)
-IsCollectingRows-none v u w a own list s start steps count found has so_far told apart zero none =
+IsCollectingRows-none : (v u w : Knowledge) (a : ℕ) (own : OpenRequest) (list : List OpenRequest) (s made count : ℕ) (found : List LoadedWord) → HasAccount v a
+    → IsCollectingRows v u a own list s made → LoadsOnly u w a (record { slot = s; count = count } ∷ []) found → s ≢ own.slot → count ≡ 0 → found ≡ []
+    → IsCollectingRows v w a own list (s + 1) (made + 1)
+IsCollectingRows-none v u w a own list s made count found has so_far told apart zero none =
     let row : SeenRow = record { slot = s; count = count } in
     let rows : List SeenRow = so_far.rows ++ row ∷ [] in
     record {
@@ -160,10 +160,10 @@ IsCollectingRows-none v u w a own list s start steps count found has so_far told
     }
 
 -- the seat's own row
-IsCollectingRows-own : (v u w : Knowledge) (a : ℕ) (own : OpenRequest) (list : List OpenRequest) (s start steps count : ℕ) (found : List LoadedWord) → HasAccount v a
-    → IsCollectingRows v u a own list s start steps → LoadsOnly u w a (record { slot = s; count = count } ∷ []) found → s ≡ own.slot → found ≡ []
-    → SeesAsked w a own → IsCollectingRows v w a own (list ++ own ∷ []) (s + 1) start (steps + 1)
-IsCollectingRows-own v u w a own list s start steps count found has so_far told at none own_has =
+IsCollectingRows-own : (v u w : Knowledge) (a : ℕ) (own : OpenRequest) (list : List OpenRequest) (s made count : ℕ) (found : List LoadedWord) → HasAccount v a
+    → IsCollectingRows v u a own list s made → LoadsOnly u w a (record { slot = s; count = count } ∷ []) found → s ≡ own.slot → found ≡ []
+    → SeesAsked w a own → IsCollectingRows v w a own (list ++ own ∷ []) (s + 1) (made + 1)
+IsCollectingRows-own v u w a own list s made count found has so_far told at none own_has =
     let row : SeenRow = record { slot = s; count = count } in
     let rows : List SeenRow = so_far.rows ++ row ∷ [] in
     let all : List OpenRequest = list ++ own ∷ [] in
@@ -197,10 +197,10 @@ IsCollectingRows-own v u w a own list s start steps count found has so_far told 
     }
 
 -- the row of another owner that has asked
-IsCollectingRows-other : (v u w : Knowledge) (a : ℕ) (own : OpenRequest) (list : List OpenRequest) (s start steps count : ℕ) (found : List LoadedWord) (x : OpenRequest)
-    → HasAccount v a → IsCollectingRows v u a own list s start steps → LoadsOnly u w a (record { slot = s; count = count } ∷ []) found → s ≢ own.slot → x.slot ≡ s
-    → x.number + 1 ≡ count → found ≡ loaded_words (seen_of a x) → SeesAsked w a x → IsCollectingRows v w a own (list ++ x ∷ []) (s + 1) start (steps + (1 + REQUEST_WORDS))
-IsCollectingRows-other v u w a own list s start steps count found x has so_far told apart at last whole x_has =
+IsCollectingRows-other : (v u w : Knowledge) (a : ℕ) (own : OpenRequest) (list : List OpenRequest) (s made count : ℕ) (found : List LoadedWord) (x : OpenRequest)
+    → HasAccount v a → IsCollectingRows v u a own list s made → LoadsOnly u w a (record { slot = s; count = count } ∷ []) found → s ≢ own.slot → x.slot ≡ s
+    → x.number + 1 ≡ count → found ≡ loaded_words (seen_of a x) → SeesAsked w a x → IsCollectingRows v w a own (list ++ x ∷ []) (s + 1) (made + (1 + REQUEST_WORDS))
+IsCollectingRows-other v u w a own list s made count found x has so_far told apart at last whole x_has =
     let row : SeenRow = record { slot = s; count = count } in
     let rows : List SeenRow = so_far.rows ++ row ∷ [] in
     let words : List LoadedWord = so_far.words ++ found in
@@ -244,27 +244,27 @@ IsCollectingRows-other v u w a own list s start steps count found x has so_far t
     }
 
 -- one more row
-IsCollectingRows-found : (v u w : Knowledge) (a : ℕ) (own : OpenRequest) (list : List OpenRequest) (s start steps count : ℕ) (words : List LoadedWord) (found : Option OpenRequest)
-    → HasAccount v a → IsCollectingRows v u a own list s start steps → LoadsOnly u w a (record { slot = s; count = count } ∷ []) words → IsFound a s own count words found → IfSome found (SeesAsked w a)
-    → IsCollectingRows v w a own (list ++ option_to_list found) (s + 1) start (steps + row_steps own.slot s found)
-IsCollectingRows-found v u w a own list s start steps count words None has so_far told (apart, zero, none) seen =
-    subst (λ (l : List OpenRequest). IsCollectingRows v w a own l (s + 1) start (steps + 1)) (sym (append-nil list))
-    (IsCollectingRows-none v u w a own list s start steps count words has so_far told apart zero none)
-IsCollectingRows-found v u w a own list s start steps count words (Some x) has so_far told (inl (at, is, none)) seen =
+IsCollectingRows-found : (v u w : Knowledge) (a : ℕ) (own : OpenRequest) (list : List OpenRequest) (s made count : ℕ) (words : List LoadedWord) (found : Option OpenRequest)
+    → HasAccount v a → IsCollectingRows v u a own list s made → LoadsOnly u w a (record { slot = s; count = count } ∷ []) words → IsFound a s own count words found → IfSome found (SeesAsked w a)
+    → IsCollectingRows v w a own (list ++ option_to_list found) (s + 1) (made + row_steps own.slot s found)
+IsCollectingRows-found v u w a own list s made count words None has so_far told (apart, zero, none) seen =
+    subst (λ (l : List OpenRequest). IsCollectingRows v w a own l (s + 1) (made + 1)) (sym (append-nil list))
+    (IsCollectingRows-none v u w a own list s made count words has so_far told apart zero none)
+IsCollectingRows-found v u w a own list s made count words (Some x) has so_far told (inl (at, is, none)) seen =
     let cost : row_steps own.slot s (Some x) ≡ 1 = ap (λ t. if t then 1 else 1 + REQUEST_WORDS) (eq-eqb s own.slot at) in
-    subst (λ n. IsCollectingRows v w a own (list ++ x ∷ []) (s + 1) start (steps + n)) (sym cost)
-    (subst (λ (y : OpenRequest). IsCollectingRows v w a own (list ++ y ∷ []) (s + 1) start (steps + 1)) (sym is)
-    (IsCollectingRows-own v u w a own list s start steps count words has so_far told at none (subst (SeesAsked w a) is seen)))
-IsCollectingRows-found v u w a own list s start steps count words (Some x) has so_far told (inr (apart, at, last, whole)) seen =
+    subst (λ n. IsCollectingRows v w a own (list ++ x ∷ []) (s + 1) (made + n)) (sym cost)
+    (subst (λ (y : OpenRequest). IsCollectingRows v w a own (list ++ y ∷ []) (s + 1) (made + 1)) (sym is)
+    (IsCollectingRows-own v u w a own list s made count words has so_far told at none (subst (SeesAsked w a) is seen)))
+IsCollectingRows-found v u w a own list s made count words (Some x) has so_far told (inr (apart, at, last, whole)) seen =
     let cost : row_steps own.slot s (Some x) ≡ 1 + REQUEST_WORDS = ap (λ t. if t then 1 else 1 + REQUEST_WORDS) (ne_eqb s own.slot apart) in
-    subst (λ n. IsCollectingRows v w a own (list ++ x ∷ []) (s + 1) start (steps + n)) (sym cost)
-    (IsCollectingRows-other v u w a own list s start steps count words x has so_far told apart at last whole seen)
+    subst (λ n. IsCollectingRows v w a own (list ++ x ∷ []) (s + 1) (made + n)) (sym cost)
+    (IsCollectingRows-other v u w a own list s made count words x has so_far told apart at last whole seen)
 
-pub IsCollectingRows-row : (v u w : Knowledge) (a : ℕ) (own : OpenRequest) (list : List OpenRequest) (s start steps : ℕ) (found : Option OpenRequest) → HasAccount v a
-    → IsCollectingRows v u a own list s start steps → LoadsRow u w a s own found
-    → IsCollectingRows v w a own (list ++ option_to_list found) (s + 1) start (steps + row_steps own.slot s found)
-IsCollectingRows-row v u w a own list s start steps found has so_far told =
-    IsCollectingRows-found v u w a own list s start steps told.count told.words found has so_far told.loads told.is_found told.seen
+pub IsCollectingRows-row : (v u w : Knowledge) (a : ℕ) (own : OpenRequest) (list : List OpenRequest) (s made : ℕ) (found : Option OpenRequest) → HasAccount v a
+    → IsCollectingRows v u a own list s made → LoadsRow u w a s own found
+    → IsCollectingRows v w a own (list ++ option_to_list found) (s + 1) (made + row_steps own.slot s found)
+IsCollectingRows-row v u w a own list s made found has so_far told =
+    IsCollectingRows-found v u w a own list s made told.count told.words found has so_far told.loads told.is_found told.seen
 
 -- what is found in the next row stands above the list
 pub AreBelow-LoadsRow : (u w : Knowledge) (a s : ℕ) (own : OpenRequest) (list : List OpenRequest) (found : Option OpenRequest) → AreBelow list s
@@ -276,16 +276,16 @@ AreBelow-LoadsRow u w a s own list (Some x) below told = elim told.is_found as (
 ]
 
 -- all rows were loaded: what is on the account then
-rows-IsCollectingRows : (v w : Knowledge) (a : ℕ) (own : OpenRequest) (list : List OpenRequest) (s start steps slot n : ℕ) → HasAccount v a
-    → (all : IsCollectingRows v w a own list s start steps) → WordCounts all.rows slot n → WordCounts (asking_on (own_part w) a).rows slot n
-rows-IsCollectingRows v w a own list s start steps slot n has all counted =
+rows-IsCollectingRows : (v w : Knowledge) (a : ℕ) (own : OpenRequest) (list : List OpenRequest) (s made slot n : ℕ) → HasAccount v a
+    → (all : IsCollectingRows v w a own list s made) → WordCounts all.rows slot n → WordCounts (asking_on (own_part w) a).rows slot n
+rows-IsCollectingRows v w a own list s made slot n has all counted =
     let old : Asking = asking_on (own_part v) a in
     let there = asking_on-LoadsOnly v w a all.rows all.words has all.loads in
     subst (λ (t : Asking). WordCounts t.rows slot n) (sym there) (Contains-append_right old.rows all.rows (record { slot = slot; count = n }) counted)
 
-words-IsCollectingRows : (v w : Knowledge) (a : ℕ) (own : OpenRequest) (list : List OpenRequest) (s start steps : ℕ) (y : SeenRequest) → HasAccount v a
-    → (all : IsCollectingRows v w a own list s start steps) → AreWords all.words y → HasLoadedRequest (asking_on (own_part w) a) y
-words-IsCollectingRows v w a own list s start steps y has all words =
+words-IsCollectingRows : (v w : Knowledge) (a : ℕ) (own : OpenRequest) (list : List OpenRequest) (s made : ℕ) (y : SeenRequest) → HasAccount v a
+    → (all : IsCollectingRows v w a own list s made) → AreWords all.words y → HasLoadedRequest (asking_on (own_part w) a) y
+words-IsCollectingRows v w a own list s made y has all words =
     let old : Asking = asking_on (own_part v) a in
     let there = asking_on-LoadsOnly v w a all.rows all.words has all.loads in
     λ j within. subst (λ (t : Asking). Contains t.loaded (record { request = y; word = j })) (sym there)
@@ -297,18 +297,18 @@ whole-IsOwnOrLast : (a : ℕ) (own : OpenRequest) (rows : List SeenRow) (words :
 whole-IsOwnOrLast a own rows words x (inl is) apart = absurd (apart (ap (λ (t : OpenRequest). t.slot) is))
 whole-IsOwnOrLast a own rows words x (inr (other, counted, whole)) apart = whole
 
-pub HasLoadedRows-IsCollectingRows : (b : BookTerms) (v w : Knowledge) (a : ℕ) (own : OpenRequest) (list : List OpenRequest) (s start steps : ℕ) → HasAccount v a
-    → HasAsked b v a own → IsCollectingRows v w a own list s start steps → s ≡ slots_of (account_of b a) → HasLoadedRows b w a own.slot
-HasLoadedRows-IsCollectingRows b v w a own list s start steps has asked all whole = record {
+pub HasLoadedRows-IsCollectingRows : (b : BookTerms) (v w : Knowledge) (a : ℕ) (own : OpenRequest) (list : List OpenRequest) (s made : ℕ) → HasAccount v a
+    → HasAsked b v a own → IsCollectingRows v w a own list s made → s ≡ slots_of (account_of b a) → HasLoadedRows b w a own.slot
+HasLoadedRows-IsCollectingRows b v w a own list s made has asked all whole = record {
   slot_in = subst (λ p. HasSlot b p a own.slot) (sym (first-LoadsOnly v w a all.rows all.words all.loads)) asked.slot_in;
   rows = λ other within apart.
       let (n, counted, last) = all.counted other (omega (arith, within, whole)) apart in (
         n,
-        rows-IsCollectingRows v w a own list s start steps other n has all counted,
+        rows-IsCollectingRows v w a own list s made other n has all counted,
         λ number is.
             let (x, there, slot_is, number_is) = last number is in
             let here : x.slot ≢ own.slot = λ same. apart (sym slot_is ∙ same) in
-            let loaded = words-IsCollectingRows v w a own list s start steps (seen_of a x) has all (whole-IsOwnOrLast a own all.rows all.words x (all.last x there) here) in (
+            let loaded = words-IsCollectingRows v w a own list s made (seen_of a x) has all (whole-IsOwnOrLast a own all.rows all.words x (all.last x there) here) in (
               request_of x,
               subst (λ k. HasLoadedRequest (asking_on (own_part w) a) (seen_as a k number (request_of x))) slot_is
                   (subst (λ k. HasLoadedRequest (asking_on (own_part w) a) (seen_as a x.slot k (request_of x))) number_is loaded),
@@ -316,9 +316,9 @@ HasLoadedRows-IsCollectingRows b v w a own list s start steps has asked all whol
       );
 }
 
-pub CollectsRows-IsCollectingRows : (b : BookTerms) (v w : Knowledge) (a : ℕ) (own : OpenRequest) (list : List OpenRequest) (s start steps : ℕ)
-    → HasAsked b v a own → IsCollectingRows v w a own list s start steps → s ≡ slots_of (account_of b a) → CollectsRows b v w a own list
-CollectsRows-IsCollectingRows b v w a own list s start steps asked all whole = record {
+pub CollectsRows-IsCollectingRows : (b : BookTerms) (v w : Knowledge) (a : ℕ) (own : OpenRequest) (list : List OpenRequest) (s made : ℕ)
+    → HasAsked b v a own → IsCollectingRows v w a own list s made → s ≡ slots_of (account_of b a) → CollectsRows b v w a own list
+CollectsRows-IsCollectingRows b v w a own list s made asked all whole = record {
   rows = all.rows;
   words = all.words;
   loads = all.loads;
@@ -354,9 +354,9 @@ candidate-cases b v w a own y asked same (inl (number, last, is)) =
     ∙ ap (λ (r : Request). seen_as a own.slot own.number r) (ap (λ (row : List Request). request_at row own.number) same ∙ asked.same)))
 candidate-cases b v w a own y asked same (inr loaded) = inr loaded
 
-pub AreCandidates-IsCollectingRows : (b : BookTerms) (v w : Knowledge) (a : ℕ) (own : OpenRequest) (list : List OpenRequest) (s start steps : ℕ) → HasAccount v a
-    → HasAsked b v a own → IsCollectingRows v w a own list s start steps → s ≡ slots_of (account_of b a) → AreCandidates v w a own.slot list
-AreCandidates-IsCollectingRows b v w a own list s start steps has asked all whole =
+pub AreCandidates-IsCollectingRows : (b : BookTerms) (v w : Knowledge) (a : ℕ) (own : OpenRequest) (list : List OpenRequest) (s made : ℕ) → HasAccount v a
+    → HasAsked b v a own → IsCollectingRows v w a own list s made → s ≡ slots_of (account_of b a) → AreCandidates v w a own.slot list
+AreCandidates-IsCollectingRows b v w a own list s made has asked all whole =
     let old : Asking = asking_on (own_part v) a in
     let now : Asking = asking_on (own_part w) a in
     let there = asking_on-LoadsOnly v w a all.rows all.words has all.loads in
@@ -368,7 +368,7 @@ AreCandidates-IsCollectingRows b v w a own list s start steps has asked all whol
     record {
       each = λ y (x, among, is). subst (IsCandidate now a own.slot) (sym is) (elim (all.last x among) as (λ _. IsCandidate now a own.slot (seen_of a x)) [
         | inl own_is ↦ subst (λ (t : OpenRequest). IsCandidate now a own.slot (seen_of a t)) (sym own_is) (candidate-own b v w a own asked same)
-        | inr other ↦ inr (words-IsCollectingRows v w a own list s start steps (seen_of a x) has all other.2)
+        | inr other ↦ inr (words-IsCollectingRows v w a own list s made (seen_of a x) has all other.2)
       ]);
       only = only;
       all = λ none y candidate. elim (candidate-cases b v w a own y asked same candidate) as (λ _. IsAmong a list y) [
@@ -382,16 +382,16 @@ AreCandidates-IsCollectingRows b v w a own list s start steps has asked all whol
     }
 
 -- in so many steps
-pub steps-IsCollectingRows : (b : BookTerms) (v w : Knowledge) (a : ℕ) (own : OpenRequest) (list : List OpenRequest) (s start steps : ℕ) → HasAsked b v a own
-    → IsCollectingRows v w a own list s start steps → s ≡ slots_of (account_of b a)
-    → steps + REQUEST_WORDS ≡ start + slots_of (account_of b a) + REQUEST_WORDS * length list
-steps-IsCollectingRows b v w a own list s start steps asked all whole =
+pub steps-IsCollectingRows : (b : BookTerms) (v w : Knowledge) (a : ℕ) (own : OpenRequest) (list : List OpenRequest) (s made : ℕ) → HasAsked b v a own
+    → IsCollectingRows v w a own list s made → s ≡ slots_of (account_of b a)
+    → made + REQUEST_WORDS ≡ slots_of (account_of b a) + REQUEST_WORDS * length list
+steps-IsCollectingRows b v w a own list s made asked all whole =
     omega (arith, whole, all.steps_after (omega (arith, whole, asked.slot_in.within)))
 
 -- the seat's own request is the last one still
-pub HasAsked-IsCollectingRows : (b : BookTerms) (v w : Knowledge) (a : ℕ) (own : OpenRequest) (list : List OpenRequest) (s start steps : ℕ) → HasAccount v a
-    → HasAsked b v a own → IsCollectingRows v w a own list s start steps → HasAsked b w a own
-HasAsked-IsCollectingRows b v w a own list s start steps has asked all =
+pub HasAsked-IsCollectingRows : (b : BookTerms) (v w : Knowledge) (a : ℕ) (own : OpenRequest) (list : List OpenRequest) (s made : ℕ) → HasAccount v a
+    → HasAsked b v a own → IsCollectingRows v w a own list s made → HasAsked b w a own
+HasAsked-IsCollectingRows b v w a own list s made has asked all =
     let same = announced-LoadsOnly v w a all.rows all.words has all.loads in
     record {
       slot_in = subst (λ p. HasSlot b p a own.slot) (sym (first-LoadsOnly v w a all.rows all.words all.loads)) asked.slot_in;

@@ -8,7 +8,6 @@ use Rattle.at_rows.proofs.Laws.Accounts.{HasAccount}
 use Rattle.at_rows.proofs.Laws.Asking.{Announces-IsStoringRequest, HasAsked-Announces, HasLoadedNothing-Announces, IsOf-Announces, IsStoringRequest-more, IsStoringRequest-start, MayAnnounce-IsStoringRequest, MayStoreRequest-IsStoringRequest, MayAskFor-slot}
 use Rattle.at_rows.proofs.Laws.Loading.{AreTargetsOn-AreTargets}
 use Rattle.at_rows.specs.Asks.{asked_for}
-use Rattle.at_rows.proofs.announce_request.ask.Given as given
 use Rattle.at_rows.proofs.announce_request.ask.Goals.{After-announce, After-announced-number, After-known-2, After-loop-j}
 use Rattle.at_rows.proofs.announce_request.ask.Goals as goal
 

@@ -1,4 +1,4 @@
-use Rattle.std.proofs.Common.{◌≡◌, ◌+◌}
+use Rattle.std.proofs.Common.{◌≡◌}
 use Rattle.at_board.specs.Counting.{raised}
 use Rattle.at_board.specs.Words.Packed.{request_words}
 use Rattle.at_rows.specs.Storing.{IsStoringRequest}
