@@ -13,5 +13,5 @@ mod payments;
 mod reads;
 
 pub use crate::looks::look;
-pub use crate::payments::{pay_own, transfer_own};
+pub use crate::payments::pay_single;
 pub use crate::reads::read_account;

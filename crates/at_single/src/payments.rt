@@ -18,119 +18,12 @@ ghost use Rattle.at_snapshot.specs.Snapshots.{IsSnapshot, snapshot_steps};
 use crate::looks::look;
 use at_board::{Board, BoardSeat, Entry};
 use at_fold::Totals;
-use at_ledger::{Call, Reply, Targets};
-use at_log::{At, Receipt, Record, append};
-
-/// Moves the amount from an account that the seat's process owns alone, if the balance at the front of a snapshot covers it.
-/// Takes no memory.
-pub fn transfer_own(
-    board: &Board,
-    seat: &mut BoardSeat,
-    totals: &mut Totals,
-    from: u32,
-    to: u32,
-    amount: u64,
-) -> Receipt
-    requires seat { IsOf seat.old board.now }
-    requires totals { HasCounted totals.old board.now.book seat.old.knows.seen }
-    requires from { from < length board.now.book.accounts }
-    requires to { to < length board.now.book.accounts }
-    requires owner { IsOnlyOwner board.now.book seat.old.knows.first from }
-    requires room { owns_of seat.old.knows.first seat.old.knows.seen < board.now.book.own_room }
-    ensures call { result.call ≡ Call.Transfer from to amount }
-    ensures reply { result.reply ≡ payment_reply board.now.book
-        (prefix_of (front_behind seat.new.knows result.at) seat.new.knows.seen)
-        from ((to, amount) ∷ []) }
-    ensures placed { (earlier : List Receipt) →
-        owns_in earlier ≡ owns_of seat.old.knows.first seat.old.knows.seen →
-        IsPlaced board.now.book seat.old.knows.first seat.new.knows.seen earlier result }
-    ensures after_front { StandsAfterFront seat.new.knows result }
-    ensures snapshot { IsSnapshot board.now.book seat.old.knows seat.new.knows
-        (front_behind seat.new.knows result.at) }
-    ensures short { result.reply ≡ Reply.Short →
-        StandsAtFront board.now.book seat.old.knows seat.new.knows result.at }
-    ensures done { result.reply ≡ Reply.Done →
-        StandsAtOwn board.now.book seat.old.knows seat.new.knows from ((to, amount) ∷ [])
-        result.at }
-    ensures more { sum totals.old.upto + (own_part seat.new.knows).published
-        ≤ sum totals.new.upto + (own_part seat.old.knows).published }
-    ensures counted { HasCounted totals.new board.now.book seat.new.knows.seen }
-    ensures own_counted { slice_index totals.new.upto seat.new.knows.first
-        ≡ (own_part seat.new.knows).published }
-    ensures board { IsOf seat.new board.now }
-    ensures steps { seat.new.steps ≤ seat.old.steps + snapshot_steps board.now.book.processes
-        + (RECORD_WORDS + board.now.book.processes + 1)
-        + RECORD_WORDS * newly_counted seat.old.knows seat.new.knows totals.old totals.new }
-    ensures steps_short { result.reply ≡ Reply.Short →
-        seat.new.steps ≤ seat.old.steps + snapshot_steps board.now.book.processes
-        + RECORD_WORDS * newly_counted seat.old.knows seat.new.knows totals.old totals.new }
-    ensures exchanges { seat.new.exchanges ≡ seat.old.exchanges }
-{
-    let targets = Targets::one(to, amount);
-    let (reply, at) = pay(board, seat, totals, from, &targets);
-    Receipt {
-        call: Call::Transfer { from, to, amount },
-        reply,
-        at,
-    }
-}
+use at_ledger::{Reply, Targets};
+use at_log::{At, Record, append};
 
 /// Moves each amount to its target from an account that the seat's process owns alone, all of them if the balance at the front of
-/// a snapshot covers their sum, and else none. Takes no memory.
-pub fn pay_own(
-    board: &Board,
-    seat: &mut BoardSeat,
-    totals: &mut Totals,
-    from: u32,
-    targets: &Targets,
-) -> Receipt
-    requires seat { IsOf seat.old board.now }
-    requires totals { HasCounted totals.old board.now.book seat.old.knows.seen }
-    requires from { from < length board.now.book.accounts }
-    requires targets { AreTargetsOn (length board.now.book.accounts) targets.now }
-    requires owner { IsOnlyOwner board.now.book seat.old.knows.first from }
-    requires room { owns_of seat.old.knows.first seat.old.knows.seen < board.now.book.own_room }
-    ensures call { result.call ≡ Call.Pay from targets.now }
-    ensures reply { result.reply ≡ payment_reply board.now.book
-        (prefix_of (front_behind seat.new.knows result.at) seat.new.knows.seen)
-        from targets.now }
-    ensures placed { (earlier : List Receipt) →
-        owns_in earlier ≡ owns_of seat.old.knows.first seat.old.knows.seen →
-        IsPlaced board.now.book seat.old.knows.first seat.new.knows.seen earlier result }
-    ensures after_front { StandsAfterFront seat.new.knows result }
-    ensures snapshot { IsSnapshot board.now.book seat.old.knows seat.new.knows
-        (front_behind seat.new.knows result.at) }
-    ensures short { result.reply ≡ Reply.Short →
-        StandsAtFront board.now.book seat.old.knows seat.new.knows result.at }
-    ensures done { result.reply ≡ Reply.Done →
-        StandsAtOwn board.now.book seat.old.knows seat.new.knows from targets.now result.at }
-    ensures more { sum totals.old.upto + (own_part seat.new.knows).published
-        ≤ sum totals.new.upto + (own_part seat.old.knows).published }
-    ensures counted { HasCounted totals.new board.now.book seat.new.knows.seen }
-    ensures own_counted { slice_index totals.new.upto seat.new.knows.first
-        ≡ (own_part seat.new.knows).published }
-    ensures board { IsOf seat.new board.now }
-    ensures steps { seat.new.steps ≤ seat.old.steps + snapshot_steps board.now.book.processes
-        + (RECORD_WORDS + board.now.book.processes + 1)
-        + RECORD_WORDS * newly_counted seat.old.knows seat.new.knows totals.old totals.new }
-    ensures steps_short { result.reply ≡ Reply.Short →
-        seat.new.steps ≤ seat.old.steps + snapshot_steps board.now.book.processes
-        + RECORD_WORDS * newly_counted seat.old.knows seat.new.knows totals.old totals.new }
-    ensures exchanges { seat.new.exchanges ≡ seat.old.exchanges }
-{
-    let (reply, at) = pay(board, seat, totals, from, targets);
-    Receipt {
-        call: Call::Pay {
-            from,
-            targets: targets.copy(),
-        },
-        reply,
-        at,
-    }
-}
-
-/// What both payments do, whatever the call was: its reply, and where it stands.
-fn pay(
+/// a snapshot covers their sum, and else none: the reply, and where the call stands. Takes no memory.
+pub fn pay_single(
     board: &Board,
     seat: &mut BoardSeat,
     totals: &mut Totals,

@@ -21,9 +21,9 @@ use Rattle.at_single.proofs.Laws.Paid.{IsPaid, IsSnapshot-IsPaid, begins-IsPaid,
 use Rattle.at_single.proofs.Laws.Placed.{IsPlaced-done, IsPlaced-short, MayAppend-IsSnapshot, payment_reply-done, payment_reply-short}
 use Rattle.at_single.specs.Standing.{front_behind, own_record, payment_reply}
 use Rattle.at_snapshot.specs.Snapshots.{IsSnapshot}
-use Rattle.at_single.proofs.payments.pay.Given as given
-use Rattle.at_single.proofs.payments.pay.Goals.{After-balance, After-append}
-use Rattle.at_single.proofs.payments.pay.Goals as goal
+use Rattle.at_single.proofs.payments.pay_single.Given as given
+use Rattle.at_single.proofs.payments.pay_single.Goals.{After-balance, After-append}
+use Rattle.at_single.proofs.payments.pay_single.Goals as goal
 
 pub balance-requires : goal.balance-requires
 balance-requires c =
