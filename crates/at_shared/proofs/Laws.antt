@@ -16,5 +16,7 @@ pub mod Turning
 pub mod Turned
 -- the publishing of a turn's round, and turns in a row
 pub mod Turns
+-- what was loaded before a request was announced, and the snapshot that it stands after
+pub mod Asked
 -- the steps of a call, turn by turn
 pub mod Counting

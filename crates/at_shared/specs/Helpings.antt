@@ -13,6 +13,7 @@ use Rattle.at_board.specs.Knowledge.Parts.{SeesRequest, asking_on, own_part}
 use Rattle.at_board.specs.Steps.Announce.{Announces}
 use Rattle.at_board.specs.declared.knowledge.Knowledge.{Knowledge}
 use Rattle.at_board.specs.declared.knowledge.LoadedWord.{LoadedWord}
+use Rattle.at_board.specs.declared.knowledge.Loads.{Loads}
 use Rattle.at_log.specs.Receipts.{payout_of}
 use Rattle.at_rows.specs.Asks.{HasAsked}
 use Rattle.at_rows.specs.OpenRequests.{IsAmong, request_of, seen_of}
@@ -28,6 +29,10 @@ decides_on v a = (asking_on (own_part v) a).decides
 
 abbrev pub heard_on : Knowledge → ℕ → ℕ
 heard_on v a = (asking_on (own_part v) a).heard
+
+-- its loads of lengths up to its last announcement on the account
+abbrev pub loads_asked : Knowledge → ℕ → List Loads
+loads_asked v a = (asking_on (own_part v) a).loads
 
 -- how many exchanges on cells of the account it has made between two moments
 abbrev pub decides_made : ℕ → Knowledge → Knowledge → ℕ

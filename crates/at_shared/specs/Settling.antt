@@ -3,18 +3,16 @@ use Rattle.std.specs.Prelude.{◌≡◌, ◌≢◌, ℕ, ◌+◌, ◌*◌, ◌<�
 use Rattle.at_ledger.specs.Book.{BookTerms}
 use Rattle.at_ledger.specs.declared.call.Reply.TheVariants.{Done, Short}
 use Rattle.at_history.specs.Fronts.{place}
-use Rattle.at_history.specs.Publications.{IsPrefix}
 use Rattle.at_history.specs.Rounds.{owns_of}
 use Rattle.at_history.specs.declared.request.Request.{Request}
-use Rattle.at_board.specs.Knowledge.Parts.{asking_on, loads_of, own_part}
+use Rattle.at_board.specs.Knowledge.Parts.{asking_on, loads_of, own_part, with_part}
 use Rattle.at_board.specs.declared.knowledge.Knowledge.{Knowledge}
 use Rattle.at_board.specs.declared.knowledge.SeenRequest.{SeenRequest}
 use Rattle.at_board.specs.declared.words.TheConstants.{RECORD_WORDS, REQUEST_WORDS}
 use Rattle.at_log.specs.Told.{key_of}
 use Rattle.at_log.specs.declared.receipt.At.{At}
 use Rattle.at_log.specs.declared.receipt.Receipt.{Receipt}
-use Rattle.at_shared.specs.Helpings.{HasAllSettled}
-use Rattle.at_snapshot.specs.Collected.{HasLoaded}
+use Rattle.at_shared.specs.Helpings.{HasAllSettled, loads_asked}
 use Rattle.at_snapshot.specs.Snapshots.{IsSnapshot}
 
 -- the call was done or short, in a round
@@ -39,15 +37,19 @@ pub record AsksOnce (b : BookTerms) (before after : Knowledge) (a : ℕ) : Type 
   pub owns : owns_of before.first after.seen ≡ owns_of before.first before.seen
   pub gained : (x : SeenRequest) → Contains before.requests x → Contains after.requests x
 
--- the receipt stands at or after the front of the snapshot that its call has taken first, by loads of lengths alone. At its end
--- the seat has seen at least what it had seen then, and has loaded each length at least as often
-pub record StandsAfterSnapshot (b : BookTerms) (before after : Knowledge) (r : Receipt) : Type 0 where
+-- what the seat knows, with its loads of lengths only up to its last announcement on the account
+abbrev pub as_asked : Knowledge → ℕ → Knowledge
+as_asked v a = with_part v (record (own_part v) { loads = loads_asked v a })
+
+-- the receipt stands at or after the front of a snapshot that its call had taken when it announced its one request: each length was
+-- loaded in the call before that, and the request's `since` is the place of the front
+pub record StandsAfterSnapshot (b : BookTerms) (before after : Knowledge) (a : ℕ) (r : Receipt) : Type 0 where
+  pub request : Request
+  pub announced : (asking_on (own_part after) a).announced ≡ (asking_on (own_part before) a).announced ++ request ∷ []
   pub front : List ℕ
-  pub looked : Knowledge
-  pub snapshot : IsSnapshot b before looked front
-  pub loads : HasLoaded b before looked
-  pub more : IsPrefix looked.seen after.seen
-  pub times : (p : ℕ) → p < b.processes → (loads_of (own_part looked) p).times ≤ (loads_of (own_part after) p).times
+  pub snapshot : IsSnapshot b before (as_asked after a) front
+  pub since : request.since ≡ place front
+  pub times : (p : ℕ) → p < b.processes → (loads_of (own_part (as_asked after a)) p).times ≤ (loads_of (own_part after) p).times
   pub after_front : StandsAfter (place front) after r
 
 -- the most steps that asking and collecting take where the account has so many slots

@@ -16,5 +16,5 @@ mod payments;
 mod rounds;
 
 pub use crate::helping::{HelpTurn, Helping, targets_of};
-pub use crate::payments::{pay_shared, transfer_shared};
+pub use crate::payments::pay_shared;
 pub use crate::rounds::record_of_round;

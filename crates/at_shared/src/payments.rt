@@ -1,6 +1,6 @@
 //! Pay-outs from shared accounts.
 
-ghost use Rattle.std.specs.Prelude.{◌≡◌, ◌≢◌, ℕ, ◌+◌, ◌*◌, ◌<◌, ◌≤◌, List, [], ◌∷◌, length, slice_index, sum, None};
+ghost use Rattle.std.specs.Prelude.{◌≡◌, ◌≢◌, ℕ, ◌+◌, ◌*◌, ◌≤◌, List, length, slice_index, sum, None};
 ghost use Rattle.at_board.specs.Counting.{raised};
 ghost use Rattle.at_board.specs.Knowledge.Parts.{asking_on, own_part};
 ghost use Rattle.at_board.specs.Knowledge.Seats.{IsOf};
@@ -10,8 +10,6 @@ ghost use Rattle.at_fold.specs.HasCounted.{HasCounted};
 ghost use Rattle.at_history.specs.Publications.{IsPrefix};
 ghost use Rattle.at_ledger.specs.Account.{slots_of};
 ghost use Rattle.at_ledger.specs.Book.{account_of};
-ghost use Rattle.at_ledger.specs.Call.{AreTargetsOn};
-ghost use Rattle.at_ledger.specs.declared.call.Call.{Call};
 ghost use Rattle.at_log.specs.Placed.{IsPlaced};
 ghost use Rattle.at_log.specs.Receipts.{asks_in};
 ghost use Rattle.at_log.specs.declared.receipt.Receipt.{Receipt};
@@ -24,119 +22,13 @@ ghost use Rattle.at_snapshot.specs.Snapshots.{snapshot_steps};
 use crate::helping::{HelpTurn, Helping};
 use at_board::{Board, BoardSeat};
 use at_fold::Totals;
-use at_ledger::{Call, Targets};
+use at_ledger::Call;
 use at_log::Receipt;
 
-/// Moves the amount from an account that the seat's process shares, if the account covers it when the request's turn comes. Short
-/// uses one request of room too. The call may publish rounds in which others' requests are decided. Takes no memory.
-pub fn transfer_shared(
-    board: &Board,
-    seat: &mut BoardSeat,
-    totals: &mut Totals,
-    account: u32,
-    to: u32,
-    amount: u64,
-) -> Receipt
-    requires seat { IsOf seat.old board.now }
-    requires totals { HasCounted totals.old board.now.book seat.old.knows.seen }
-    requires to { to < length board.now.book.accounts }
-    requires asks { (slot : ℕ) × MayStoreRequest board.now.book seat.old.knows account slot }
-    requires settled { HasAllSettled board.now.book seat.old.knows account }
-    requires free { (own_part seat.old.knows).held ≡ None }
-    ensures call { result.call ≡ Call.Transfer account to amount }
-    ensures in_round { StandsInRound result }
-    ensures placed { (earlier : List Receipt) → asks_in account earlier
-        ≡ length (asking_on (own_part seat.old.knows) account).announced
-        → IsPlaced board.now.book seat.new.knows.first seat.new.knows.seen earlier result }
-    ensures after_start { StandsAfter (length seat.old.knows.seen) seat.new.knows result }
-    ensures after_snapshot { StandsAfterSnapshot board.now.book seat.old.knows seat.new.knows
-        result }
-    ensures asked { AsksOnce board.now.book seat.old.knows seat.new.knows account }
-    ensures turns { SettlesInTurns board.now.book seat.old.knows seat.new.knows account result }
-    ensures free { (own_part seat.new.knows).held ≡ None }
-    ensures begins { IsPrefix seat.old.knows.seen seat.new.knows.seen }
-    ensures process { seat.new.knows.first ≡ seat.old.knows.first }
-    ensures decides_elsewhere { (a : ℕ) → a ≢ account
-        → decides_on seat.new.knows a ≡ decides_on seat.old.knows a }
-    ensures more { sum totals.old.upto + (own_part seat.new.knows).published
-        ≤ sum totals.new.upto + (own_part seat.old.knows).published }
-    ensures counted { HasCounted totals.new board.now.book seat.new.knows.seen }
-    ensures own_counted { slice_index totals.new.upto seat.new.knows.first
-        ≡ (own_part seat.new.knows).published }
-    ensures board { IsOf seat.new board.now }
-    ensures decides { decides_made account seat.old.knows seat.new.knows
-        ≤ slots_of (account_of board.now.book account) }
-    ensures steps { seat.new.steps ≤ seat.old.steps + snapshot_steps board.now.book.processes
-        + asking_steps (slots_of (account_of board.now.book account))
-        + slots_of (account_of board.now.book account)
-        * (snapshot_steps board.now.book.processes + round_steps board.now.book.processes)
-        + RECORD_WORDS * newly_counted seat.old.knows seat.new.knows totals.old totals.new }
-    ensures exchanges { seat.new.exchanges
-        ≡ raised seat.old.exchanges (decides_made account seat.old.knows seat.new.knows) }
-{
-    let call = Call::Transfer {
-        from: account,
-        to,
-        amount,
-    };
-    settle(board, seat, totals, account, &call)
-}
-
-/// Moves each amount to its target from an account that the seat's process shares, all of them if the account covers their sum when
-/// the request's turn comes, and else none. Else as `transfer_shared`. Takes no memory.
+/// Makes the call's pay-out from an account that the seat's process shares, all of it if the account covers the sum when the
+/// request's turn comes, and else none. Asks, and turns until the request is settled. Short uses one request of room too. The call
+/// may publish rounds in which others' requests are decided. Takes no memory.
 pub fn pay_shared(
-    board: &Board,
-    seat: &mut BoardSeat,
-    totals: &mut Totals,
-    from: u32,
-    targets: &Targets,
-) -> Receipt
-    requires seat { IsOf seat.old board.now }
-    requires totals { HasCounted totals.old board.now.book seat.old.knows.seen }
-    requires targets { AreTargetsOn (length board.now.book.accounts) targets.now }
-    requires asks { (slot : ℕ) × MayStoreRequest board.now.book seat.old.knows from slot }
-    requires settled { HasAllSettled board.now.book seat.old.knows from }
-    requires free { (own_part seat.old.knows).held ≡ None }
-    ensures call { result.call ≡ Call.Pay from targets.now }
-    ensures in_round { StandsInRound result }
-    ensures placed { (earlier : List Receipt) → asks_in from earlier
-        ≡ length (asking_on (own_part seat.old.knows) from).announced
-        → IsPlaced board.now.book seat.new.knows.first seat.new.knows.seen earlier result }
-    ensures after_start { StandsAfter (length seat.old.knows.seen) seat.new.knows result }
-    ensures after_snapshot { StandsAfterSnapshot board.now.book seat.old.knows seat.new.knows
-        result }
-    ensures asked { AsksOnce board.now.book seat.old.knows seat.new.knows from }
-    ensures turns { SettlesInTurns board.now.book seat.old.knows seat.new.knows from result }
-    ensures free { (own_part seat.new.knows).held ≡ None }
-    ensures begins { IsPrefix seat.old.knows.seen seat.new.knows.seen }
-    ensures process { seat.new.knows.first ≡ seat.old.knows.first }
-    ensures decides_elsewhere { (a : ℕ) → a ≢ from
-        → decides_on seat.new.knows a ≡ decides_on seat.old.knows a }
-    ensures more { sum totals.old.upto + (own_part seat.new.knows).published
-        ≤ sum totals.new.upto + (own_part seat.old.knows).published }
-    ensures counted { HasCounted totals.new board.now.book seat.new.knows.seen }
-    ensures own_counted { slice_index totals.new.upto seat.new.knows.first
-        ≡ (own_part seat.new.knows).published }
-    ensures board { IsOf seat.new board.now }
-    ensures decides { decides_made from seat.old.knows seat.new.knows
-        ≤ slots_of (account_of board.now.book from) }
-    ensures steps { seat.new.steps ≤ seat.old.steps + snapshot_steps board.now.book.processes
-        + asking_steps (slots_of (account_of board.now.book from))
-        + slots_of (account_of board.now.book from)
-        * (snapshot_steps board.now.book.processes + round_steps board.now.book.processes)
-        + RECORD_WORDS * newly_counted seat.old.knows seat.new.knows totals.old totals.new }
-    ensures exchanges { seat.new.exchanges
-        ≡ raised seat.old.exchanges (decides_made from seat.old.knows seat.new.knows) }
-{
-    let call = Call::Pay {
-        from,
-        targets: targets.copy(),
-    };
-    settle(board, seat, totals, from, &call)
-}
-
-/// Asks, and turns until the request is settled.
-fn settle(
     board: &Board,
     seat: &mut BoardSeat,
     totals: &mut Totals,
@@ -156,7 +48,7 @@ fn settle(
         → IsPlaced board.now.book seat.new.knows.first seat.new.knows.seen earlier result }
     ensures after_start { StandsAfter (length seat.old.knows.seen) seat.new.knows result }
     ensures after_snapshot { StandsAfterSnapshot board.now.book seat.old.knows seat.new.knows
-        result }
+        account result }
     ensures asked { AsksOnce board.now.book seat.old.knows seat.new.knows account }
     ensures turns { SettlesInTurns board.now.book seat.old.knows seat.new.knows account result }
     ensures free { (own_part seat.new.knows).held ≡ None }

@@ -183,7 +183,7 @@ Adds-asking b v w a t row has keeps same announced gained count = record {
 pub Adds-Announces : (b : BookTerms) (v w : Knowledge) (a slot : ℕ) (r : Request) → HasAccount v a → Announces b v w a slot r → Adds b v w a (r ∷ [])
 Adds-Announces b v w a slot r has told =
     let old : Asking = asking_on (own_part v) a in
-    let t : Asking = with_request old r (rounds a w.seen) in
+    let t : Asking = with_request old r (rounds a w.seen) (own_part v).loads in
     Adds-asking b v w a t (r ∷ []) has (Keeps-Announces b v w a slot r has told)
     (ap own_part told.same ∙ get_or-set_same v.parts 0 (part_asking (own_part v) a t) no_part has.part) refl
     (λ x sees. subst (λ (rs : List SeenRequest). Contains rs x) (sym (ap (λ (k : Knowledge). k.requests) told.same))

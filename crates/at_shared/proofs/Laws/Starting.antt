@@ -84,8 +84,8 @@ Keeps-asking v w base a t has first parts more same count =
 pub Keeps-Announces : (b : BookTerms) (v w : Knowledge) (a slot : ℕ) (r : Request) → HasAccount v a → Announces b v w a slot r → Keeps v w
 Keeps-Announces b v w a slot r has told =
     let old : Asking = asking_on (own_part v) a in
-    Keeps-asking v w (record v { seen = w.seen; requests = w.requests }) a (with_request old r (rounds a w.seen)) has refl refl told.more
-    (told.same ∙ ap (λ rs. with_asking (record v { seen = w.seen; requests = rs }) a (with_request old r (rounds a w.seen))) (sym (ap (λ (t : Knowledge). t.requests) told.same)))
+    Keeps-asking v w (record v { seen = w.seen; requests = w.requests }) a (with_request old r (rounds a w.seen) (own_part v).loads) has refl refl told.more
+    (told.same ∙ ap (λ rs. with_asking (record v { seen = w.seen; requests = rs }) a (with_request old r (rounds a w.seen) (own_part v).loads)) (sym (ap (λ (t : Knowledge). t.requests) told.same)))
     refl
 
 pub Keeps-LoadsOnly : (v w : Knowledge) (a : ℕ) (rows : List SeenRow) (words : List LoadedWord) → HasAccount v a → LoadsOnly v w a rows words → Keeps v w
@@ -98,7 +98,7 @@ pub heard-Announces : (b : BookTerms) (v w : Knowledge) (a slot : ℕ) (r : Requ
     → (asking_on (own_part w) a).heard ≡ rounds a w.seen
 heard-Announces b v w a slot r has told =
     let old : Asking = asking_on (own_part v) a in
-    let t : Asking = with_request old r (rounds a w.seen) in
+    let t : Asking = with_request old r (rounds a w.seen) (own_part v).loads in
     ap (λ (k : Knowledge). (asking_on (own_part k) a).heard) told.same
     ∙ (ap (λ (p : Part). (asking_on p a).heard) (get_or-set_same v.parts 0 (part_asking (own_part v) a t) no_part has.part)
     ∙ ap (λ (u : Asking). u.heard) (get_or-set_same (own_part v).asking a t no_asking has.inside))

@@ -14,7 +14,7 @@ use Rattle.at_shared.specs.PaymentTurns.{HasTurned}
 use Rattle.at_shared.specs.Settling.{asking_steps, round_steps}
 use Rattle.at_single.specs.Standing.{newly_counted}
 use Rattle.at_snapshot.specs.Snapshots.{snapshot_steps}
-use Rattle.at_shared.proofs.payments.settle.Given as goal
+use Rattle.at_shared.proofs.payments.pay_shared.Given as goal
 
 -- each turn so far has made one exchange and published a round, of which fewer are left than the account has owners
 abbrev pub invariant-loop-receipt : goal.invariant-loop-receipt
