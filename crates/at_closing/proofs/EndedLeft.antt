@@ -24,6 +24,8 @@ seat_at b seats p =
     get_or seats p (record {
       board = record { words = 0; slots = 0; views_name = 0; atom = 0; block = 0; offset = 0; slot_names = [] };
       knows = starting_seat b p;
+      steps = 0;
+      exchanges = 0;
     })
 
 module _ (e : EndTerms) (seats : List SeatTerms) (receipts : List (List Receipt)) (ended : IsEnd e seats) (all : AllStand e.book seats receipts) where
