@@ -20,8 +20,8 @@ use Rattle.at_log.specs.declared.receipt.Receipt.{Receipt}
 use Rattle.at_history.specs.Histories.{IsHistory}
 use Rattle.at_history.specs.Sound.{Sound}
 use Rattle.at_object.specs.Closings.{AreAccountedFor, ClosedTerms, HasAllLogs}
-use Rattle.at_object.specs.Parted.{IsAtRest, seat_of}
-use Rattle.at_object.specs.Passes.{PassTerms}
+use Rattle.at_object.specs.Parted.{IsAtRest}
+use Rattle.at_object.specs.Passes.{PassTerms, seat_of}
 
 -- each list has the memory of as many records as its pass's process has published
 abbrev pub HasRooms : List PassTerms → List (Vec Record Global) → Type 0
@@ -30,7 +30,7 @@ HasRooms passes rooms = (p : ℕ) (d : Vec Record Global) (e : PassTerms) → p 
 
 -- the pass of a seat that no list has
 pass_with : SeatTerms → PassTerms
-pass_with d = record { board = d.board; knows = d.knows; counted = []; calls = 0 }
+pass_with d = record { board = d.board; knows = d.knows; steps = d.steps; exchanges = d.exchanges; counted = []; calls = 0 }
 
 -- the seat of a pass
 seat_at : (passes : List PassTerms) (p : ℕ) (d : SeatTerms) → p < length passes

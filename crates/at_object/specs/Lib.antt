@@ -1,4 +1,5 @@
 pub mod Passes
+pub mod CallCounts
 pub mod Payments
 pub mod Paid
 pub mod Closings

@@ -38,7 +38,7 @@ pub record PaysInRound (book : BookTerms) (before after : Knowledge) (source : �
   pub placed : (earlier : List Receipt) → asks_in source earlier ≡ length (asking_on (own_part before) source).announced →
       IsPlaced book after.first after.seen earlier receipt
   pub after_start : StandsAfter (length before.seen) after receipt
-  pub after_snapshot : StandsAfterSnapshot book before after receipt
+  pub after_snapshot : StandsAfterSnapshot book before after source receipt
   pub asked : AsksOnce book before after source
   pub free : (own_part after).held ≡ None
   pub begins : IsPrefix before.seen after.seen

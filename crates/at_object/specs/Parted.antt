@@ -3,19 +3,24 @@ use Rattle.std.specs.Prelude.{◌≡◌, ℕ, ◌≤◌, [], Vec}
 use Rattle.std.specs.Vec.{vec_capacity, vec_len}
 use Rattle.at_board.specs.Knowledge.Seats.{IsKept, SeatTerms}
 use Rattle.at_closing.specs.BetweenCalls.{IsBetweenCalls}
+use Rattle.at_object.specs.CallCounts.{CallCountTerms}
 use Rattle.at_object.specs.Passes.{IsPass, PassTerms}
 use Rattle.at_object.specs.declared.parts.Rest.{Rest}
 
--- the seat of a pass, and the pass that a seat and the rest make
-abbrev pub seat_of : PassTerms → SeatTerms
-seat_of pass = record { board = pass.board; knows = pass.knows }
-
+-- the pass that a seat and the rest make
 abbrev pub pass_of : SeatTerms → Rest → PassTerms
-pass_of seat rest = record { board = seat.board; knows = seat.knows; counted = rest.totals.upto; calls = rest.calls }
+pass_of seat rest =
+    record { board = seat.board; knows = seat.knows; steps = seat.steps; exchanges = seat.exchanges; counted = rest.totals.upto; calls = rest.calls.count }
+
+-- the calls were counted for the seat's process on its board
+pub record IsCountOf (calls : CallCountTerms) (seat : SeatTerms) : Type 0 where
+  pub board : calls.board ≡ seat.board
+  pub process : calls.process ≡ seat.knows.first
 
 -- they are of one pass
-abbrev pub IsOfOnePass : SeatTerms → Rest → Type 0
-IsOfOnePass seat rest = IsPass seat.knows rest.totals rest.sent
+pub record IsOfOnePass (seat : SeatTerms) (rest : Rest) : Type 0 where
+  pub pass : IsPass seat.knows rest.totals rest.sent
+  pub calls : IsCountOf rest.calls seat
 
 -- a seat whose process is between calls, with what its type keeps
 pub record IsAtRest (seat : SeatTerms) : Type 0 where

@@ -4,7 +4,7 @@ use Rattle.atomic_table.specs.Seated.{TableId}
 use Rattle.at_ledger.specs.Book.{HasSlot}
 use Rattle.at_history.specs.Rounds.{owns_of}
 use Rattle.at_board.specs.Knowledge.Parts.{asking_on, own_part}
-use Rattle.at_board.specs.Knowledge.Seats.{BoardTerms, IsOf}
+use Rattle.at_board.specs.Knowledge.Seats.{BoardTerms, IsOf, SeatTerms}
 use Rattle.at_board.specs.declared.knowledge.Knowledge.{Knowledge}
 use Rattle.at_closing.specs.BetweenCalls.{IsBetweenCalls}
 use Rattle.at_fold.specs.HasCounted.{HasCounted}
@@ -12,17 +12,23 @@ use Rattle.at_fold.specs.Sums.{TotalSums}
 use Rattle.at_log.specs.Told.{Told}
 use Rattle.at_log.specs.declared.receipt.Receipt.{Receipt}
 
--- a pass by the board of its ledger, what its seat knows, how many records of each process its totals have counted, and how many
--- calls were made with it
+-- a pass by the board of its ledger, what its seat knows, how many steps that has made, how many of them exchanges, how many records
+-- of each process its totals have counted, and how many calls were made with it
 pub record PassTerms : Type 0 where
   pub board : TableId
   pub knows : Knowledge
+  pub steps : ℕ
+  pub exchanges : ℕ
   pub counted : List ℕ
   pub calls : ℕ
 
+-- the seat of a pass
+abbrev pub seat_of : PassTerms → SeatTerms
+seat_of pass = record { board = pass.board; knows = pass.knows; steps = pass.steps; exchanges = pass.exchanges }
+
 -- the pass belongs to the ledger
 abbrev pub IsPassOf : PassTerms → BoardTerms → Type 0
-IsPassOf pass ledger = IsOf (record { board = pass.board; knows = pass.knows }) ledger
+IsPassOf pass ledger = IsOf (seat_of pass) ledger
 
 -- a list of receipts stands with the pass: it accounts for all that its process has in what the pass has seen
 abbrev pub Stands : PassTerms → List Receipt → Type 0
@@ -57,11 +63,13 @@ pub record IsPass (knows : Knowledge) (totals : TotalSums) (sent : ℕ) : Type 0
   pub sent_is : sent ≡ owns_of knows.first knows.seen
   pub unasked : (a : ℕ) → ((slot : ℕ) → ¬ HasSlot knows.book knows.first a slot) → (asking_on (own_part knows) a).announced ≡ []
 
--- a pass of a new ledger: nothing is seen, no call was made, and the empty list stands with it
+-- a pass of a new ledger: nothing is seen, no step and no call was made, and the empty list stands with it
 pub record IsNewPass (ledger : BoardTerms) (process : ℕ) (pass : PassTerms) : Type 0 where
   pub of_ledger : IsPassOf pass ledger
   pub process_is : pass.knows.first ≡ process
   pub seen : pass.knows.seen ≡ []
+  pub steps_are : pass.steps ≡ 0
+  pub exchanges_are : pass.exchanges ≡ 0
   pub calls_are : pass.calls ≡ 0
   pub counted_none : sum pass.counted ≡ 0
   pub asked_none : (a : ℕ) → asked_by pass a ≡ 0

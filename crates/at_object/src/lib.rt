@@ -6,7 +6,7 @@
 //! is one run of the sequential ledger, and what a closed ledger leaves is coherent: its journal is one legal run.
 //!
 //! The definitions read best in this order: `Passes`, what a pass has seen and which receipts stand with it; `Payments`, what a
-//! payment answers and how many steps it takes; `Paid`, how it stands among the publications; `Closings`.
+//! payment answers and how many steps it takes; `Paid`, how it stands among the publications; `Closings`; `CallCounts` and `Parted`.
 #![tactic(auto)]
 
 mod close;
@@ -24,6 +24,6 @@ pub use crate::close::CloseRefused;
 pub use crate::closed::Closed;
 pub use crate::ledger::Ledger;
 pub use crate::notes::Note;
-pub use crate::parts::Rest;
+pub use crate::parts::{CallCount, Rest};
 pub use crate::pass::Pass;
 pub use at_base::NoMemory;

@@ -37,9 +37,10 @@ impl Ledger {
         requires pass { IsPassOf pass.old self.now }
         ensures note { IsOf result self.now }
         ensures seen { result.knows.seen ≡ pass.old.knows.seen }
-        ensures same { pass.new ≡ pass.old }
-        ensures steps { pass.new.steps ≡ raised pass.old.steps 1 }
-        ensures exchanges { pass.new.exchanges ≡ raised pass.old.exchanges 1 }
+        ensures same { pass.new ≡ record pass.old {
+          steps = raised pass.old.steps 1;
+          exchanges = raised pass.old.exchanges 1;
+        } }
     {
         Note {
             note: self.board.note(&mut pass.seat),

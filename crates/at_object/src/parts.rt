@@ -2,10 +2,42 @@
 
 ghost use Rattle.std.specs.Prelude.{◌≡◌};
 ghost use Rattle.at_object.specs.Parted.{IsOfOnePass, pass_of};
+ghost use Rattle.at_object.specs.Passes.{one_more_call};
 
 use crate::pass::Pass;
 use at_board::BoardSeat;
 use at_fold::Totals;
+use std::marker::Model;
+use std::snapshot::Snapshot;
+
+/// How many calls were made with a pass that was taken apart. Only the pass itself gives one, and there is one for each seat, so
+/// that no call is left out where the pass is put together again.
+#[derive(Drop)]
+pub struct CallCount {
+    count: u64,
+    of: Snapshot<BoardSeat>,
+}
+
+impl Model for CallCount {
+    ghost use Rattle.at_object.specs.CallCounts.{CallCountTerms};
+
+    ghost Value = { CallCountTerms };
+
+    ghost view = { λ c. record {
+      count = c.count;
+      board = c.of.value.board;
+      process = c.of.value.knows.first;
+    } };
+}
+
+impl CallCount {
+    /// One more call was made.
+    pub fn count_one(&mut self)
+        ensures { self.new ≡ record self.old { count = one_more_call self.old.count } }
+    {
+        self.count = self.count.saturating_add(1);
+    }
+}
 
 /// What a pass has beside its seat.
 #[derive(Drop)]
@@ -13,8 +45,7 @@ pub struct Rest {
     pub totals: Totals,
     /// How many payments from single accounts have succeeded.
     pub sent: u32,
-    /// How many calls were made.
-    pub calls: u64,
+    pub calls: CallCount,
 }
 
 impl Pass {
@@ -29,6 +60,10 @@ impl Pass {
             sent,
             calls,
         } = self;
+        let calls = CallCount {
+            count: calls,
+            of: Snapshot::of(&seat),
+        };
         (
             seat,
             Rest {
@@ -53,7 +88,7 @@ impl Pass {
             seat,
             totals,
             sent,
-            calls,
+            calls: calls.count,
         }
     }
 }

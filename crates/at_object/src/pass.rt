@@ -28,6 +28,8 @@ impl Model for Pass {
     ghost view = { λ p. record {
       board = p.seat.board;
       knows = p.seat.knows;
+      steps = p.seat.steps;
+      exchanges = p.seat.exchanges;
       counted = p.totals.upto;
       calls = p.calls;
     } };
@@ -63,6 +65,21 @@ impl Pass {
     {
         self.seat.known();
         self.seat.announced(account)
+    }
+
+    /// How many steps the pass has made: atomic loads, stores and compare-exchanges of words, and notes made and taken in. At the
+    /// largest number it stays.
+    pub fn steps(&self) -> u64
+        ensures { result ≡ self.now.steps }
+    {
+        self.seat.steps()
+    }
+
+    /// How many of its steps were exchanges: compare-exchanges of a word, and notes made and taken in. At the largest number it stays.
+    pub fn exchanges(&self) -> u64
+        ensures { result ≡ self.now.exchanges }
+    {
+        self.seat.exchanges()
     }
 
     /// How many calls of `transfer`, `pay` and `read` were made with the pass. At the largest count it stays.

@@ -31,8 +31,8 @@ use at_board::{Board, BoardSeat};
 use at_fold::Totals;
 use at_ledger::{Call, Reply};
 use at_log::{At, Receipt};
-use at_shared::{pay_shared, transfer_shared};
-use at_single::{pay_own, transfer_own};
+use at_shared::{pay_shared, targets_of};
+use at_single::pay_single;
 
 impl Ledger {
     /// Makes a payment, by whichever call.
@@ -50,14 +50,12 @@ impl Ledger {
         ensures runs { AreRuns self.now.book pass.new.knows.seen }
         ensures pass { IsPassOf pass.new self.now }
         ensures calls { pass.new.calls ≡ one_more_call pass.old.calls }
-        ensures refused_steps { IsRefused result → seat.new.steps ≡ seat.old.steps }
-        ensures refused_exchanges { IsRefused result → seat.new.exchanges ≡ seat.old.exchanges }
-        ensures steps { seat.new.steps ≤ seat.old.steps + payment_steps self.now.book source
+        ensures steps { pass.new.steps ≤ pass.old.steps + payment_steps self.now.book source
             + RECORD_WORDS * counted_anew pass.old pass.new }
-        ensures exchanges { seat.new.exchanges
-            ≡ raised seat.old.exchanges (decides_made source pass.old.knows pass.new.knows) }
+        ensures exchanges { pass.new.exchanges
+            ≡ raised pass.old.exchanges (decides_made source pass.old.knows pass.new.knows) }
         ensures exchanges_single { is_shared (account_of self.now.book source) ≡ false
-            → seat.new.exchanges ≡ seat.old.exchanges }
+            → pass.new.exchanges ≡ pass.old.exchanges }
         ensures decides { decides_made source pass.old.knows pass.new.knows
             ≤ slots_of (account_of self.now.book source) }
         ensures decides_elsewhere { (a : ℕ) → a ≢ source
@@ -109,9 +107,9 @@ impl Ledger {
         ensures runs { AreRuns self.now.book pass.new.knows.seen }
         ensures pass { IsPassOf pass.new self.now }
         ensures calls { pass.new.calls ≡ one_more_call pass.old.calls }
-        ensures steps { seat.new.steps ≤ seat.old.steps + single_steps self.now.book.processes
+        ensures steps { pass.new.steps ≤ pass.old.steps + single_steps self.now.book.processes
             + RECORD_WORDS * counted_anew pass.old pass.new }
-        ensures exchanges { seat.new.exchanges ≡ seat.old.exchanges }
+        ensures exchanges { pass.new.exchanges ≡ pass.old.exchanges }
         ensures decides { (a : ℕ) → decides_on pass.new.knows a ≡ decides_on pass.old.knows a }
     {
         pass.seat.known();
@@ -147,18 +145,18 @@ impl Ledger {
         ensures runs { AreRuns self.now.book pass.new.knows.seen }
         ensures pass { IsPassOf pass.new self.now }
         ensures calls { pass.new.calls ≡ one_more_call pass.old.calls }
-        ensures steps { seat.new.steps ≤ seat.old.steps + shared_steps self.now.book.processes
+        ensures steps { pass.new.steps ≤ pass.old.steps + shared_steps self.now.book.processes
             (slots_of (account_of self.now.book source))
             + RECORD_WORDS * counted_anew pass.old pass.new }
-        ensures exchanges { seat.new.exchanges
-            ≡ raised seat.old.exchanges (decides_made source pass.old.knows pass.new.knows) }
+        ensures exchanges { pass.new.exchanges
+            ≡ raised pass.old.exchanges (decides_made source pass.old.knows pass.new.knows) }
         ensures decides { decides_made source pass.old.knows pass.new.knows
             ≤ slots_of (account_of self.now.book source) }
         ensures decides_elsewhere { (a : ℕ) → a ≢ source
             → decides_on pass.new.knows a ≡ decides_on pass.old.knows a }
     {
         pass.seat.known();
-        let receipt = pay_in_round(
+        let receipt = pay_shared(
             &self.board,
             &mut pass.seat,
             &mut pass.totals,
@@ -223,57 +221,11 @@ fn pay_alone(
         + RECORD_WORDS * single.newly_counted seat.old.knows seat.new.knows totals.old totals.new }
     ensures exchanges { seat.new.exchanges ≡ seat.old.exchanges }
 {
-    match call {
-        Call::Transfer { from, to, amount } => transfer_own(
-            board, seat, totals, *from, *to, *amount
-        ),
-        // A payment was asked for.
-        Call::Read { account: _ } => unreachable!(),
-        Call::Pay { from, targets } => pay_own(
-            board, seat, totals, *from, targets
-        ),
-    }
-}
-
-/// A payment by the seat of one of the account's owners.
-fn pay_in_round(
-    board: &Board,
-    seat: &mut BoardSeat,
-    totals: &mut Totals,
-    source: u32,
-    call: &Call,
-) -> Receipt
-    requires seat { IsOf seat.old board.now }
-    requires totals { HasCounted totals.old board.now.book seat.old.knows.seen }
-    requires call { IsPayoutFrom board.now.book source call.now }
-    requires asks { (slot : ℕ) × MayStoreRequest board.now.book seat.old.knows source slot }
-    requires settled { HasAllSettled board.now.book seat.old.knows source }
-    requires free { (own_part seat.old.knows).held ≡ None }
-    ensures pays { PaysInRound board.now.book seat.old.knows seat.new.knows source call.now result }
-    ensures more { sum totals.old.upto + (own_part seat.new.knows).published
-        ≤ sum totals.new.upto + (own_part seat.old.knows).published }
-    ensures counted { HasCounted totals.new board.now.book seat.new.knows.seen }
-    ensures own_counted { slice_index totals.new.upto seat.new.knows.first
-        ≡ (own_part seat.new.knows).published }
-    ensures board { IsOf seat.new board.now }
-    ensures steps { seat.new.steps ≤ seat.old.steps + shared_steps board.now.book.processes
-        (slots_of (account_of board.now.book source))
-        + RECORD_WORDS * single.newly_counted seat.old.knows seat.new.knows totals.old totals.new }
-    ensures exchanges { seat.new.exchanges
-        ≡ raised seat.old.exchanges (decides_made source seat.old.knows seat.new.knows) }
-    ensures decides { decides_made source seat.old.knows seat.new.knows
-        ≤ slots_of (account_of board.now.book source) }
-    ensures decides_elsewhere { (a : ℕ) → a ≢ source
-        → decides_on seat.new.knows a ≡ decides_on seat.old.knows a }
-{
-    match call {
-        Call::Transfer { from, to, amount } => transfer_shared(
-            board, seat, totals, *from, *to, *amount
-        ),
-        // A payment was asked for.
-        Call::Read { account: _ } => unreachable!(),
-        Call::Pay { from, targets } => pay_shared(
-            board, seat, totals, *from, targets
-        ),
+    let targets = targets_of(call);
+    let (reply, at) = pay_single(board, seat, totals, source, &targets);
+    Receipt {
+        call: call.copy(),
+        reply,
+        at,
     }
 }

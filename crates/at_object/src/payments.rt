@@ -60,8 +60,6 @@ impl Ledger {
         ensures refused { IsRefused result
             → pass.new ≡ record pass.old { calls = one_more_call pass.old.calls } }
         ensures refused_at { IsRefused result → result.at ≡ At.Previous }
-        ensures refused_steps { IsRefused result → pass.new.steps ≡ pass.old.steps }
-        ensures refused_exchanges { IsRefused result → pass.new.exchanges ≡ pass.old.exchanges }
         ensures asked_elsewhere { (a : ℕ) → a ≢ from → asked_by pass.new a ≡ asked_by pass.old a }
         ensures counted { others_counted pass.old ≤ others_counted pass.new }
         ensures steps { pass.new.steps ≤ pass.old.steps + payment_steps self.now.book from
@@ -116,8 +114,6 @@ impl Ledger {
         ensures refused { IsRefused result
             → pass.new ≡ record pass.old { calls = one_more_call pass.old.calls } }
         ensures refused_at { IsRefused result → result.at ≡ At.Previous }
-        ensures refused_steps { IsRefused result → pass.new.steps ≡ pass.old.steps }
-        ensures refused_exchanges { IsRefused result → pass.new.exchanges ≡ pass.old.exchanges }
         ensures asked_elsewhere { (a : ℕ) → a ≢ from → asked_by pass.new a ≡ asked_by pass.old a }
         ensures counted { others_counted pass.old ≤ others_counted pass.new }
         ensures steps { pass.new.steps ≤ pass.old.steps + payment_steps self.now.book from

@@ -17,7 +17,7 @@ use Rattle.at_closing.proofs.Laws.Stands.{StandsWith-starting, announced-startin
 use Rattle.at_fold.specs.HasCounted.{HasCounted}
 use Rattle.at_fold.specs.Sums.{TotalSums}
 use Rattle.at_log.specs.Told.{Told}
-use Rattle.at_object.specs.Passes.{AreNewPasses, IsNewPass, IsPass, PassTerms}
+use Rattle.at_object.specs.Passes.{AreNewPasses, IsNewPass, IsPass, PassTerms, seat_of}
 
 -- what the type of a pass keeps, where its seat has seen nothing and its totals have counted nothing
 pub IsPass-starting : (b : BookTerms) (p : ℕ) (totals : TotalSums) → totals.upto ≡ replicate b.processes 0
@@ -32,7 +32,7 @@ IsPass-starting b p totals upto counted = record {
 
 -- the seat of a process on a new board
 abbrev pub new_seat : BookTerms → TableId → ℕ → SeatTerms
-new_seat b id p = record { board = id; knows = starting_seat b p }
+new_seat b id p = record { board = id; knows = starting_seat b p; steps = 0; exchanges = 0 }
 
 -- a seat of a new board that stands before others is that of its place
 pub new_seat-at : (b : BookTerms) (id : TableId) (seats before after : List SeatTerms) (seat : SeatTerms) → AreNew b id seats
@@ -45,12 +45,15 @@ new_seat-at b id seats before after seat new parts =
 
 -- a pass that is made of it is new
 pub IsNewPass-starting : (b : BookTerms) (id : TableId) (p : ℕ) (seat : SeatTerms) (pass : PassTerms) → seat ≡ new_seat b id p
-    → pass.board ≡ seat.board → pass.knows ≡ seat.knows → pass.calls ≡ 0 → pass.counted ≡ replicate b.processes 0 → IsNewPass (record { id = id; book = b }) p pass
-IsNewPass-starting b id p seat pass is board knows calls counted =
-    let same : pass.knows ≡ starting_seat b p = knows ∙ ap (λ (s : SeatTerms). s.knows) is in record {
-      of_ledger = record { id = board ∙ ap (λ (s : SeatTerms). s.board) is; book = ap (λ (v : Knowledge). v.book) same };
+    → seat_of pass ≡ seat → pass.calls ≡ 0 → pass.counted ≡ replicate b.processes 0 → IsNewPass (record { id = id; book = b }) p pass
+IsNewPass-starting b id p seat pass is of calls counted =
+    let new : seat_of pass ≡ new_seat b id p = of ∙ is in
+    let same : pass.knows ≡ starting_seat b p = ap (λ (s : SeatTerms). s.knows) new in record {
+      of_ledger = record { id = ap (λ (s : SeatTerms). s.board) new; book = ap (λ (v : Knowledge). v.book) same };
       process_is = ap (λ (v : Knowledge). v.first) same;
       seen = ap (λ (v : Knowledge). v.seen) same;
+      steps_are = ap (λ (s : SeatTerms). s.steps) new;
+      exchanges_are = ap (λ (s : SeatTerms). s.exchanges) new;
       calls_are = calls;
       counted_none = ap sum counted ∙ place-zeros b.processes;
       asked_none = λ a. ap (λ (v : Knowledge). length (asking_on (own_part v) a).announced) same
@@ -65,13 +68,13 @@ AreNewSoFar b seats passes = (id : TableId) → AreNew b id seats → (p : ℕ) 
 
 pub AreNewSoFar-more : (b : BookTerms) (seats before after : List SeatTerms) (seat : SeatTerms) (passes : List PassTerms) (pass : PassTerms)
     → AreNewSoFar b seats passes → seats ≡ before ++ seat ∷ after → length passes ≡ length before
-    → pass.board ≡ seat.board → pass.knows ≡ seat.knows → pass.calls ≡ 0 → pass.counted ≡ replicate b.processes 0 → AreNewSoFar b seats (passes ++ pass ∷ [])
-AreNewSoFar-more b seats before after seat passes pass made parts count board knows calls counted =
+    → seat_of pass ≡ seat → pass.calls ≡ 0 → pass.counted ≡ replicate b.processes 0 → AreNewSoFar b seats (passes ++ pass ∷ [])
+AreNewSoFar-more b seats before after seat passes pass made parts count of calls counted =
     λ id new p d within.
     let ledger : BoardTerms = record { id = id; book = b } in
     let last : IsNewPass ledger (length passes) pass =
     IsNewPass-starting b id (length passes) seat pass
-    (new_seat-at b id seats before after seat new parts ∙ ap (new_seat b id) (sym count)) board knows calls counted in
+    (new_seat-at b id seats before after seat new parts ∙ ap (new_seat b id) (sym count)) of calls counted in
     below_more (λ k. IsNewPass ledger k (get_or (passes ++ pass ∷ []) k d)) (length passes)
     (λ k below. subst (IsNewPass ledger k) (sym (get_or_append_left passes (pass ∷ []) d k below)) (made id new k d below))
     (subst (IsNewPass ledger (length passes)) (sym (get_or_at passes pass [] d (length passes) refl)) last)

@@ -1,8 +1,8 @@
 use Rattle.std.proofs.Common.{◌≡◌, List, [], ◌∷◌, ◌++◌, map, sym, ap, subst, ◌∙◌, append_assoc, arith}
 use Rattle.std.proofs.lemmas.List.Elements.{All-push}
 use Rattle.at_board.specs.Knowledge.Seats.{SeatTerms}
-use Rattle.at_object.specs.Parted.{IsAtRest, seat_of}
-use Rattle.at_object.specs.Passes.{PassTerms}
+use Rattle.at_object.specs.Parted.{IsAtRest}
+use Rattle.at_object.specs.Passes.{PassTerms, seat_of}
 use Rattle.std.specs.List.{All}
 use Rattle.at_object.proofs.close.seats_of.Goals as goal
 
@@ -23,6 +23,6 @@ loop-pass-preserved c =
           ∙ (ap (λ (p : PassTerms). seats ++ seat_of p ∷ map seat_of left) (sym c.into_parts-seat.ensures.pass)
           ∙ (sym (append_assoc seats (seat ∷ []) (map seat_of left)) ∙ ap (λ ss. ss ++ map seat_of left) (sym more))));
       at_rest = subst (All IsAtRest) (sym more)
-          (All-push IsAtRest seats seat kept.at_rest (record { kept = c.known.ensures.seat; between = c.into_parts-seat.ensures.kept.between }));
+          (All-push IsAtRest seats seat kept.at_rest (record { kept = c.known.ensures.seat; between = c.into_parts-seat.ensures.kept.pass.between }));
       room = omega (arith, kept.room, c.push_reserved.ensures.len, c.push_reserved.ensures.capacity, c.in-Some.ensures.steps.1);
     }

@@ -7,10 +7,10 @@ use Rattle.at_board.specs.Knowledge.Seats.{BoardTerms}
 use Rattle.at_board.specs.declared.knowledge.Knowledge.{Knowledge}
 use Rattle.at_log.specs.Receipts.{payout_of}
 use Rattle.at_object.proofs.Laws.InRound.{IsPass-round}
-use Rattle.at_object.proofs.Laws.Made.{PaymentMade-round, others-le}
+use Rattle.at_object.proofs.Laws.Made.{PaymentMade-round, others-le, seated_pass}
 use Rattle.at_object.proofs.Laws.Looked.{between-IsPass}
 use Rattle.at_object.proofs.Laws.Room.{HasSlot-is_owner, MayStoreRequest-room}
-use Rattle.at_object.specs.Paid.{PaymentMade}
+use Rattle.at_object.specs.Paid.{PaymentMade, PaysInRound}
 use Rattle.at_object.specs.Passes.{PassTerms}
 use Rattle.at_object.specs.Payments.{has_used_up}
 use Rattle.at_shared.specs.Helpings.{decides_on}
@@ -30,12 +30,12 @@ slot c =
     (subst (λ (t : PassTerms). (s : ℕ) × HasSlot c.args.self.now.book t.knows.first c.args.source s) (sym c.pass.view_is)
     (HasSlot-is_owner c.args.self.now.book c.args.pass.now.knows.first c.args.source c.requires.source c.requires.shared c.requires.owner))
 
-pub pay_in_round-receipt-requires-clause-asks : goal.pay_in_round-receipt-requires-clause-asks
-pay_in_round-receipt-requires-clause-asks c =
+pub pay_shared-receipt-requires-clause-asks : goal.pay_shared-receipt-requires-clause-asks
+pay_shared-receipt-requires-clause-asks c =
     let b : BookTerms = c.self.inside.board.book in
     let v : Knowledge = c.pass.inside.seat.knows in
     let before : PassTerms =
-    record { board = c.pass.inside.seat.board; knows = v; counted = c.pass.inside.totals.upto; calls = c.pass.inside.calls } in
+    seated_pass c.pass.inside.seat c.pass.inside.totals.upto c.pass.inside.calls in
     let same_book : v.book ≡ b =
     ap (λ (t : PassTerms). t.knows.book) c.pass.view_is ∙ (c.requires.pass.book ∙ sym (ap (λ (t : BoardTerms). t.book) c.self.view_is)) in
     let here : (s : ℕ) × HasSlot b v.first c.args.source s =
@@ -52,26 +52,43 @@ pay_in_round-receipt-requires-clause-asks c =
           (between-IsPass b v c.pass.inside.totals c.pass.inside.sent same_book c.pass.invariant) here.1 shared room,
     )
 
+-- it was paid
+paid : (c : After-pass-1) → PaysInRound c.self.inside.board.book c.pass.inside.seat.knows c.pay_shared-receipt.new.seat.knows c.args.source c.args.call.now
+    c.pay_shared-receipt.result
+paid c =
+    let told = c.pay_shared-receipt.ensures in
+    record {
+      call_is = told.call;
+      in_round = told.in_round;
+      placed = told.placed;
+      after_start = told.after_start;
+      after_snapshot = told.after_snapshot;
+      asked = told.asked;
+      free = told.free;
+      begins = told.begins;
+      process_is = told.process;
+    }
+
 pub invariant_of-pass : goal.invariant_of-pass
 invariant_of-pass c =
-    let told = c.pay_in_round-receipt.ensures in
+    let told = c.pay_shared-receipt.ensures in
     let here = slot c in
-    IsPass-round c.self.inside.board.book c.pass.inside.seat.knows c.pay_in_round-receipt.new.seat.knows c.known.ensures.seat c.known-2.ensures.seat (book c)
-    told.board.book c.pass.inside.totals c.pass.inside.sent c.pass.invariant c.args.source here.0 here.1 c.args.call.now c.pay_in_round-receipt.result
-    told.pays c.pay_in_round-receipt.new.totals told.counted told.own_counted
+    IsPass-round c.self.inside.board.book c.pass.inside.seat.knows c.pay_shared-receipt.new.seat.knows c.known.ensures.seat c.known-2.ensures.seat (book c)
+    told.board.book c.pass.inside.totals c.pass.inside.sent c.pass.invariant c.args.source here.0 here.1 c.args.call.now c.pay_shared-receipt.result
+    (paid c) c.pay_shared-receipt.new.totals told.counted told.own_counted
 
 pub returns-clause-made : goal.returns-clause-made
 returns-clause-made c = λ targets payout.
-    let told = c.pay_in_round-receipt.ensures in
+    let told = c.pay_shared-receipt.ensures in
     let b : BookTerms = c.self.inside.board.book in
     let v : Knowledge = c.pass.inside.seat.knows in
-    let w : Knowledge = c.pay_in_round-receipt.new.seat.knows in
-    let r = c.pay_in_round-receipt.result in
+    let w : Knowledge = c.pay_shared-receipt.new.seat.knows in
+    let r = c.pay_shared-receipt.result in
     let was = c.pass.inside.totals in
-    let now = c.pay_in_round-receipt.new.totals in
-    let before : PassTerms = record { board = c.pass.inside.seat.board; knows = v; counted = was.upto; calls = c.pass.inside.calls } in
+    let now = c.pay_shared-receipt.new.totals in
+    let before : PassTerms = seated_pass c.pass.inside.seat was.upto c.pass.inside.calls in
     let after : PassTerms =
-    record { board = c.pay_in_round-receipt.new.seat.board; knows = w; counted = now.upto; calls = c.saturating_add-pass-inside.result } in
+    seated_pass c.pay_shared-receipt.new.seat now.upto c.saturating_add-pass-inside.result in
     let here = slot c in
     let shared : is_shared (account_of b c.args.source) ≡ true =
     ap (λ (t : BoardTerms). is_shared (account_of t.book c.args.source)) c.self.view_is ∙ c.requires.shared in
@@ -85,14 +102,14 @@ returns-clause-made c = λ targets payout.
     (subst (λ (t : PassTerms). PaymentMade b t after c.args.source targets c.args.call.now r) c.pass.view_is
     (PaymentMade-round b before after c.args.source targets c.args.call.now r c.known.ensures.seat c.known-2.ensures.seat
     (book c) told.board.book was c.pass.inside.sent c.pass.invariant room (others-le before after was now c.pass.invariant.own_counted told.own_counted told.more)
-    here.0 here.1 owner shared told.pays (ap payout_of told.pays.call_is ∙ payout)))
+    here.0 here.1 owner shared (paid (goal.at.returns-clause-made c).After-pass-1) (ap payout_of told.call ∙ payout)))
 
 pub returns-clause-runs : goal.returns-clause-runs
 returns-clause-runs c =
-    subst (λ (t : BoardTerms). AreRuns t.book c.pay_in_round-receipt.new.seat.knows.seen) c.self.view_is
-    (subst (λ (t : BookTerms). AreRuns t c.pay_in_round-receipt.new.seat.knows.seen) c.pay_in_round-receipt.ensures.board.book
+    subst (λ (t : BoardTerms). AreRuns t.book c.pay_shared-receipt.new.seat.knows.seen) c.self.view_is
+    (subst (λ (t : BookTerms). AreRuns t c.pay_shared-receipt.new.seat.knows.seen) c.pay_shared-receipt.ensures.board.book
     c.known-2.ensures.seat.history.runs)
 
 pub returns-clause-decides_elsewhere : goal.returns-clause-decides_elsewhere
 returns-clause-decides_elsewhere c = λ a apart.
-    c.pay_in_round-receipt.ensures.decides_elsewhere a apart ∙ ap (λ (t : PassTerms). decides_on t.knows a) c.pass.view_is
+    c.pay_shared-receipt.ensures.decides_elsewhere a apart ∙ ap (λ (t : PassTerms). decides_on t.knows a) c.pass.view_is

@@ -8,7 +8,7 @@ use Rattle.at_board.specs.declared.knowledge.Asking.{Asking}
 use Rattle.at_board.specs.declared.knowledge.Knowledge.{Knowledge}
 use Rattle.at_log.specs.Receipts.{payout_of}
 use Rattle.at_object.proofs.Laws.Alone.{IsPass-alone, asking-alone, decided-alone}
-use Rattle.at_object.proofs.Laws.Made.{PaymentMade-alone, others-le}
+use Rattle.at_object.proofs.Laws.Made.{PaymentMade-alone, others-le, seated_pass}
 use Rattle.at_object.proofs.Laws.Room.{sent-room}
 use Rattle.at_object.specs.Paid.{PaymentMade, PaysAlone}
 use Rattle.at_object.specs.Passes.{IsPass, PassTerms}
@@ -85,9 +85,8 @@ returns-clause-made c = λ targets payout.
     let w : Knowledge = c.pay_alone-receipt.new.seat.knows in
     let was = c.pass.inside.totals in
     let now = c.pay_alone-receipt.new.totals in
-    let before : PassTerms = record { board = c.pass.inside.seat.board; knows = v; counted = was.upto; calls = c.pass.inside.calls } in
-    let after : PassTerms =
-    record { board = c.pay_alone-receipt.new.seat.board; knows = w; counted = now.upto; calls = c.saturating_add-pass-inside.result } in
+    let before : PassTerms = seated_pass c.pass.inside.seat was.upto c.pass.inside.calls in
+    let after : PassTerms = seated_pass c.pay_alone-receipt.new.seat now.upto c.saturating_add-pass-inside.result in
     let only : IsOnlyOwner b v.first c.args.source =
     subst (λ (t : BoardTerms). IsOnlyOwner t.book v.first c.args.source) (sym c.self.view_is)
     (subst (λ (t : PassTerms). IsOnlyOwner c.args.self.now.book t.knows.first c.args.source) (sym c.pass.view_is) c.requires.owner) in
