@@ -61,9 +61,9 @@ impl Voice {
         ensures made { HasMadeOneMore ledger.now self.old self.new
             (Call.Transfer (process_of self.old) (value_account size (process_of self.old)) value) }
         ensures proposed { HasProposed size (seen_by self.new) (process_of self.old) value }
-        ensures steps { seat.new.steps ≤ seat.old.steps + single_steps size
+        ensures steps { self.new.pass.steps ≤ self.old.pass.steps + single_steps size
             + RECORD_WORDS * counted_anew self.old.pass self.new.pass }
-        ensures exchanges { seat.new.exchanges ≡ seat.old.exchanges }
+        ensures exchanges { self.new.pass.exchanges ≡ self.old.pass.exchanges }
     {
         let process = self.pass.process();
         let paid = ledger.transfer(
@@ -90,9 +90,9 @@ impl Voice {
             (Call.Transfer (shared_account size) (spent_account size)
             (share_of size (process_of self.old))) }
         ensures asked { HasShareDecided size (seen_by self.new) (process_of self.old) }
-        ensures steps { seat.new.steps ≤ seat.old.steps + shared_steps size size
+        ensures steps { self.new.pass.steps ≤ self.old.pass.steps + shared_steps size size
             + RECORD_WORDS * counted_anew self.old.pass self.new.pass }
-        ensures exchanges { exchanges.new ≤ exchanges.old + size }
+        ensures exchanges { self.new.pass.exchanges ≤ self.old.pass.exchanges + size }
     {
         let share = u64::from(2 * size - (self.pass.process() + 1));
         let asked = ledger.transfer(
@@ -116,9 +116,9 @@ impl Voice {
         ensures read { HasRead ledger.now self.old self.new account result }
         ensures stands { Stands self.new.pass self.new.receipts }
         ensures history { IsHistory ledger.now.book (seen_by self.new) }
-        ensures steps { seat.new.steps ≤ seat.old.steps + snapshot_steps (size_of ledger.now)
+        ensures steps { self.new.pass.steps ≤ self.old.pass.steps + snapshot_steps (size_of ledger.now)
             + RECORD_WORDS * counted_anew self.old.pass self.new.pass }
-        ensures exchanges { seat.new.exchanges ≡ seat.old.exchanges }
+        ensures exchanges { self.new.pass.exchanges ≡ self.old.pass.exchanges }
     {
         let found = ledger.read(&mut self.pass, account);
         let balance = match found.reply {

@@ -8,8 +8,6 @@ use crate::NoMemory;
 use crate::council::Council;
 use crate::voice::Voice;
 use std::alloc::{AllocError, Global};
-use std::marker::Brand;
-use std::sync::ledger::Blank;
 
 /// A voice with the value that it proposes. The answer is 0 until it has proposed.
 #[derive(Drop)]
@@ -47,26 +45,10 @@ pub(crate) fn votes_of(
     Ok(votes)
 }
 
-/// Proposes, with new counters.
-fn propose(
-    council: &Council,
-    vote: &mut Vote,
-    steps: Blank,
-    exchanges: Blank,
-)
-    requires ready { MayVote council.now vote.old }
-    requires names { (steps.name ≡ L.name) × (exchanges.name ≡ X.name) }
-    requires parts { (steps.parts ≡ L.parts) × (exchanges.parts ≡ X.parts) }
-    requires some { (0 < steps.parts) × (0 < exchanges.parts) }
-    ensures { IsCast council.now vote.old vote.new }
-{
-    vote.answer = council.propose(&mut vote.voice, vote.value);
-}
-
-/// Proposes. Nobody reads how many steps it takes.
+/// Proposes.
 pub(crate) fn propose_one(council: &Council, vote: &mut Vote)
     requires { MayVote council.now vote.old }
     ensures { IsCast council.now vote.old vote.new }
 {
-    propose::<Brand, Brand>(council, vote, Blank::new(1), Blank::new(1));
+    vote.answer = council.propose(&mut vote.voice, vote.value);
 }

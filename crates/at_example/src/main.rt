@@ -12,8 +12,6 @@ use at_log::Receipt;
 use at_object::{Closed, Ledger, NoMemory, Pass};
 use std::alloc::{AllocError, Global};
 use std::io;
-use std::marker::Brand;
-use std::sync::ledger::Blank;
 
 /// Process 0 owns account 0, process 1 owns account 1, both share account 2, and account 3 can only be paid into. Ten payments of
 /// each process from its own account may succeed, and each may ask for ten from account 2.
@@ -53,15 +51,7 @@ fn deal(
 
 /// Makes the calls on a new ledger of the book, and closes it with all passes and receipts.
 #[tactic(auto, using(crate::proofs::Accounts::are_accounted_for_two))]
-fn closed_after(
-    alloc: Global,
-    book: &Book,
-    steps: Blank,
-    exchanges: Blank,
-) -> Result<Closed, NoMemory>
-    requires names { (steps.name ≡ L.name) × (exchanges.name ≡ X.name) }
-    requires parts { (steps.parts ≡ L.parts) × (exchanges.parts ≡ X.parts) }
-    requires some { (0 < steps.parts) × (0 < exchanges.parts) }
+fn closed_after(alloc: Global, book: &Book) -> Result<Closed, NoMemory>
     requires four { length book.now.accounts ≡ 4 }
     requires two { book.now.processes ≡ 2 }
     ensures { IfOk result (λ c. All (λ receipts. length receipts < 2 ^ 32) c.closing.receipts) }
@@ -137,6 +127,6 @@ fn main(rt: HostRuntime) -> anyhow::Result<()> {
     if book.accounts() != 4 || book.processes() != 2 {
         return Ok(());
     }
-    let closed = closed_after::<Brand, Brand>(alloc, &book, Blank::new(1), Blank::new(1))?;
+    let closed = closed_after(alloc, &book)?;
     print_journal(&rt, alloc, &closed)
 }

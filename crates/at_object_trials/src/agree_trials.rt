@@ -6,9 +6,7 @@ ghost use Rattle.at_agree.specs.Voices.{MayProposeValue};
 
 use at_agree::{Council, Voice, agree};
 use std::alloc::Global;
-use std::marker::Brand;
 use std::sync::atomic::{AtomicU64, Ordering};
-use std::sync::ledger::Blank;
 use std::thread::{Threads, join_mut, yield_now};
 
 /// What eight processes propose.
@@ -82,12 +80,7 @@ fn others_answer_nine(
 fn all_answer_nine(
     council: &Council,
     voices: &mut Vec<Voice>,
-    steps: Blank,
-    exchanges: Blank,
 ) -> bool
-    requires names { (steps.name ≡ L.name) × (exchanges.name ≡ X.name) }
-    requires parts { (steps.parts ≡ L.parts) × (exchanges.parts ≡ X.parts) }
-    requires some { (0 < steps.parts) × (0 < exchanges.parts) }
     requires voices { All (MayProposeValue council.now) voices.old.items }
 {
     last_answer(council, voices, 9) == Some(9)
@@ -112,25 +105,6 @@ fn agree_always<R: Threads + Sync>(rt: &R, alloc: Global) -> bool {
     true
 }
 
-/// Proposes once the other process is there too, with new counters.
-fn propose_at(
-    council: &Council,
-    gate: &AtomicU64,
-    voice: &mut Voice,
-    value: u64,
-    steps: Blank,
-    exchanges: Blank,
-) -> u64
-    requires names { (steps.name ≡ L.name) × (exchanges.name ≡ X.name) }
-    requires parts { (steps.parts ≡ L.parts) × (exchanges.parts ≡ X.parts) }
-    requires some { (0 < steps.parts) × (0 < exchanges.parts) }
-    requires voice { MayProposeValue council.now voice.old }
-    requires value { value < 2 ^ 32 }
-{
-    meet(gate);
-    council.propose(voice, value)
-}
-
 /// Waits until both processes are there, or a while where not.
 fn meet(gate: &AtomicU64) {
     gate.fetch_add(1, Ordering::SeqCst);
@@ -144,12 +118,13 @@ fn meet(gate: &AtomicU64) {
     }
 }
 
-/// Proposes beside the other process.
+/// Proposes beside the other process, once that is there too.
 fn race(council: &Council, gate: &AtomicU64, voice: &mut Voice, value: u64) -> u64
     requires voice { MayProposeValue council.now voice.old }
     requires value { value < 2 ^ 32 }
 {
-    propose_at::<Brand, Brand>(council, gate, voice, value, Blank::new(1), Blank::new(1))
+    meet(gate);
+    council.propose(voice, value)
 }
 
 /// Two processes propose at once. The value of the first one, if both get one answer.
@@ -204,7 +179,7 @@ fn winners<R: Threads>(rt: &R, alloc: Global) -> Option<(bool, bool)> {
 fn three_voices_in_turn(rt: HostRuntime) {
     let answered = match new_council(rt.alloc(), 3) {
         Some((council, mut voices)) => {
-            all_answer_nine::<Brand, Brand>(&council, &mut voices, Blank::new(1), Blank::new(1))
+            all_answer_nine(&council, &mut voices)
         }
         None => false,
     };

@@ -11,9 +11,7 @@ use at_ledger::{Book, Call, Line, Reply};
 use at_object::{Closed, Ledger};
 use at_players::crowd::wait_for_all;
 use std::alloc::Global;
-use std::marker::Brand;
 use std::sync::atomic::AtomicU64;
-use std::sync::ledger::Blank;
 use std::thread::{Threads, for_each_mut};
 
 /// How many calls each process makes.
@@ -63,13 +61,8 @@ fn call_of(number: u32) -> Option<Call> {
 fn play(
     ledger: &Ledger,
     player: &mut Player,
-    steps: Blank,
-    exchanges: Blank,
 )
-    requires names { (steps.name ≡ L.name) × (exchanges.name ≡ X.name) }
-    requires parts { (steps.parts ≡ L.parts) × (exchanges.parts ≡ X.parts) }
-    requires some { (0 < steps.parts) × (0 < exchanges.parts) }
-    requires player { PlaysOn ledger.now player.old }
+    requires { PlaysOn ledger.now player.old }
     ensures { PlaysOn ledger.now player.new }
 {
     for number in 0..CALLS {
@@ -82,13 +75,13 @@ fn play(
     }
 }
 
-/// Plays with counters of its own, once all threads are there.
+/// Plays once all threads are there.
 fn play_alone(ledger: &Ledger, gate: &AtomicU64, player: &mut Player)
     requires { PlaysOn ledger.now player.old }
     ensures { PlaysOn ledger.now player.new }
 {
     wait_for_all(gate);
-    play::<Brand, Brand>(ledger, player, Blank::new(1), Blank::new(1));
+    play(ledger, player);
 }
 
 /// Four players play, each in a thread of its own.

@@ -36,7 +36,9 @@ const SHORT_USES_ROOM: &Scene = &Scene {
             Reply::Short,
             Place::Round(0, 0),
         ),
+        Row::HasMade(0, 34, 1),
         Row::Calls(0, Deed::Transfer(0, 1, 1), Reply::Full, Place::Previous),
+        Row::HasMade(0, 34, 1),
     ],
     counted: &[Counted(2, 0, 1), Counted(0, 0, 0)],
     journal: &[(0, 1, Reply::Short), (0, 2, Reply::Full)],
@@ -49,14 +51,18 @@ const TWO_OWNERS: &Scene = &Scene {
     accounts: &[(100, &[0, 1]), (0, &[])],
     rows: &[
         Row::Calls(0, Deed::Transfer(0, 1, 60), Reply::Done, Place::Round(0, 0)),
+        Row::HasMade(0, 34, 1),
         Row::Calls(
             1,
             Deed::Transfer(0, 1, 60),
             Reply::Short,
             Place::Round(1, 1),
         ),
+        Row::HasMade(1, 47, 1),
         Row::Calls(0, Deed::Read(0), Reply::Balance(40), Place::Front(&[1, 1])),
+        Row::HasMade(0, 34 + 11, 1),
         Row::Calls(1, Deed::Read(0), Reply::Balance(40), Place::Front(&[1, 1])),
+        Row::HasMade(1, 47 + 4, 1),
     ],
     counted: &[Counted(2, 0, 1), Counted(2, 0, 1)],
     journal: &[
@@ -67,16 +73,22 @@ const TWO_OWNERS: &Scene = &Scene {
     ],
 };
 
-/// Process 0 pays and tells process 1, which then reads what it was paid.
+/// Process 0 pays and tells process 1, which then reads what it was paid. Only the note is an exchange, made by the one and taken in
+/// by the other.
 const WHAT_WAS_TOLD: &Scene = &Scene {
     own_room: 4,
     request_room: 4,
     accounts: &[(100, &[0]), (0, &[1])],
     rows: &[
         Row::Calls(0, Deed::Transfer(0, 1, 40), Reply::Done, Place::Own(0)),
+        Row::HasMade(0, 14, 0),
         Row::Calls(0, Deed::Read(0), Reply::Balance(60), Place::Front(&[1, 0])),
+        Row::HasMade(0, 14 + 4, 0),
         Row::Tells(0, 1),
+        Row::HasMade(0, 14 + 4 + 1, 1),
+        Row::HasMade(1, 1, 1),
         Row::Calls(1, Deed::Read(1), Reply::Balance(40), Place::Front(&[1, 0])),
+        Row::HasMade(1, 1 + 11, 1),
     ],
     counted: &[Counted(2, 1, 0), Counted(1, 0, 0)],
     journal: &[

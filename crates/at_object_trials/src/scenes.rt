@@ -11,8 +11,6 @@ use at_ledger::{Book, BookBuilder, Call, Line, Reply, TARGETS_MAX, Targets};
 use at_log::At;
 use at_object::{Closed, Ledger};
 use std::alloc::Global;
-use std::marker::Brand;
-use std::sync::ledger::Blank;
 
 /// A call: a transfer from an account to another, a pay-out from an account to targets, or a read.
 pub(crate) enum Deed {
@@ -29,10 +27,12 @@ pub(crate) enum Place {
     Previous,
 }
 
-/// What a process does: a call with its reply and its place, or a note, which another process takes in.
+/// What a process does: a call with its reply and its place, or a note, which another process takes in. Or how many steps it has made
+/// by then, and how many exchanges.
 pub(crate) enum Row {
     Calls(u32, Deed, Reply, Place),
     Tells(u32, u32),
+    HasMade(u32, u64, u64),
 }
 
 /// How many calls a process has made, how many of its payments from single accounts have succeeded, and how many it has asked for
@@ -169,6 +169,10 @@ fn plays_row(
             players[other].learn(ledger, note);
             Some(true)
         }
+        Row::HasMade(process, steps, exchanges) => {
+            let player = players.get(*process as usize)?;
+            Some(player.steps() == (*steps, *exchanges))
+        }
     }
 }
 
@@ -188,23 +192,6 @@ fn plays_rows(
         }
     }
     Some(true)
-}
-
-/// Does what the rows say with new counters, and answers whether all replies and places are right.
-fn plays_all(
-    ledger: &Ledger,
-    players: &mut [Player],
-    rows: &[Row],
-    steps: Blank,
-    exchanges: Blank,
-) -> Option<bool>
-    requires names { (steps.name ≡ L.name) × (exchanges.name ≡ X.name) }
-    requires parts { (steps.parts ≡ L.parts) × (exchanges.parts ≡ X.parts) }
-    requires some { (0 < steps.parts) × (0 < exchanges.parts) }
-    requires players { All (PlaysOn ledger.now) players.old }
-    ensures { All (PlaysOn ledger.now) players.new }
-{
-    plays_rows(ledger, players, rows)
 }
 
 /// Whether each player has these counts.
@@ -262,8 +249,7 @@ fn plays_with(ledger: &Ledger, players: &mut [Player], scene: &Scene) -> Option<
     requires { All (PlaysOn ledger.now) players.old }
     ensures { All (PlaysOn ledger.now) players.new }
 {
-    let () = (Blank::new(1), Blank::new(1));
-    match plays_all::<Brand, Brand>(ledger, players, scene.rows) {
+    match plays_rows(ledger, players, scene.rows) {
         Some(right) => Some(right && are_counted(ledger, players, scene.counted)),
         None => None,
     }

@@ -1,7 +1,6 @@
+use Rattle.std.proofs.Common.{◌≡◌, length}
+use Rattle.at_workers.proofs.Played.{HasPlayed}
 use Rattle.at_workers.proofs.play.play_one.Given as goal
 
-abbrev pub ghosts-play-L-Ledger : goal.ghosts-play-L-Ledger
-ghosts-play-L-Ledger g a = record { name = a.steps.name; parts = a.steps.parts }
-
-abbrev pub ghosts-play-X-Ledger : goal.ghosts-play-X-Ledger
-ghosts-play-X-Ledger g a = record { name = a.exchanges.name; parts = a.exchanges.parts }
+abbrev pub invariant-loop-index : goal.invariant-loop-index
+invariant-loop-index g l = HasPlayed l.fn.ledger l.fn.job l.job l._index × (l._index-end ≡ length l.fn.job.calls)

@@ -1,10 +1,10 @@
 use Rattle.std.proofs.Common.{◌≡◌, ◌<◌, length, arith}
 use Rattle.at_workers.proofs.Played.{HasPlayed-all, HasPlayed-more, HasPlayed-none}
-use Rattle.at_workers.proofs.play.play.Goals as goal
+use Rattle.at_workers.proofs.play.play_one.Goals as goal
 
 pub loop-index-init : goal.loop-index-init
 loop-index-init g c = (
-  HasPlayed-none c.args.ledger.now c.args.job.now c.requires.ready c.len-index-end.ensures.stands c.len-index-end.ensures.counted,
+  HasPlayed-none c.args.ledger.now c.args.job.now c.requires c.len-index-end.ensures.stands c.len-index-end.ensures.counted,
   c.len-index-end.ensures.count,
 )
 
