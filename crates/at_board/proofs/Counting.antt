@@ -4,8 +4,14 @@ use Rattle.at_board.specs.Counting.{raised, stepped}
 use Rattle.at_board.specs.Knowledge.Seats.{SeatTerms}
 
 -- so many steps and then so many
+pub raised-none : (count : ℕ) → count ≡ raised count 0
+raised-none count = omega arith
+
 pub raised-raised : (count first more : ℕ) → raised (raised count first) more ≡ raised count (first + more)
 raised-raised count first more = omega arith
+
+pub stepped-none : (seat : SeatTerms) → seat ≡ stepped seat 0
+stepped-none seat = λ i. record seat { steps = raised-none seat.steps i }
 
 pub stepped-stepped : (seat after : SeatTerms) (first more : ℕ) → after ≡ stepped seat first → stepped after more ≡ stepped seat (first + more)
 stepped-stepped seat after first more is =

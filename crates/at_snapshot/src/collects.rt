@@ -34,10 +34,7 @@ pub enum Verdict {
 }
 
 /// Loads each length once, in the order of the processes.
-pub(crate) fn collect(
-    board: &Board,
-    seat: &mut BoardSeat,
-) -> Counts
+pub(crate) fn collect(board: &Board, seat: &mut BoardSeat) -> Counts
     requires { IsOf seat.old board.now }
     ensures collect { IsCollect board.now.book seat.old.knows seat.new.knows }
     ensures counts { result ≡ collect_of seat.new.knows }
@@ -117,12 +114,7 @@ pub fn add_collect(collects: &mut Option<Collects>, now: Counts)
 
 impl Verdict {
     /// What a scan's turn answers by it. A view that is lent is loaded.
-    pub(crate) fn answer(
-        self,
-        board: &Board,
-        seat: &mut BoardSeat,
-        now: &Counts,
-    ) -> Turn
+    pub(crate) fn answer(self, board: &Board, seat: &mut BoardSeat, now: &Counts) -> Turn
         requires board { IsOf seat.old board.now }
         requires verdict { (collects : Option Collects)
             × IsVerdictOn collects seat.old.knows.first now.now self }
@@ -133,9 +125,7 @@ impl Verdict {
     {
         match self {
             Verdict::Repeated => Turn::Clean(now.copy()),
-            Verdict::Lent(p) => {
-                Turn::Borrowed(load_view(board, seat, p, now.get(p) - 1))
-            }
+            Verdict::Lent(p) => { Turn::Borrowed(load_view(board, seat, p, now.get(p) - 1)) }
             Verdict::Undecided => Turn::Again,
         }
     }

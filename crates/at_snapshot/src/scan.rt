@@ -65,11 +65,7 @@ impl Scan {
     }
 
     /// Makes one collect and compares it with those before: `n` steps of `n` processes, and `n` more where it borrows.
-    pub fn turn(
-        &mut self,
-        board: &Board,
-        seat: &mut BoardSeat,
-    ) -> Turn
+    pub fn turn(&mut self, board: &Board, seat: &mut BoardSeat) -> Turn
         requires board { IsOf seat.old board.now }
         requires scan { IsScanOf board.now.book self.old seat.old.knows }
         ensures collect { IsCollect board.now.book seat.old.knows seat.new.knows }

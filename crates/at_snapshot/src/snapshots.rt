@@ -11,10 +11,7 @@ use at_board::{Board, BoardSeat};
 
 /// The counts of one prefix of the board's list, which begins with all that the seat had seen. It takes at most `n + 1` collects
 /// of `n` processes, and no memory.
-pub fn snapshot(
-    board: &Board,
-    seat: &mut BoardSeat,
-) -> Counts
+pub fn snapshot(board: &Board, seat: &mut BoardSeat) -> Counts
     requires { IsOf seat.old board.now }
     ensures snapshot { IsSnapshot board.now.book seat.old.knows seat.new.knows result }
     ensures loads { HasLoaded board.now.book seat.old.knows seat.new.knows }

@@ -6,7 +6,6 @@ use Rattle.at_snapshot.specs.Snapping.{IsSnapping, turns_left}
 use Rattle.at_snapshot.specs.Scans.{IsScanOf, ScanTerms, scan_after}
 use Rattle.at_snapshot.specs.Snapshots.{snapshot_steps}
 use Rattle.at_snapshot.specs.Turns.{view_steps}
-use Rattle.at_snapshot.proofs.snapshots.snapshot.Given.{Over}
 use Rattle.at_snapshot.proofs.snapshots.snapshot.Goals as goal
 
 pub loop-counts-init : goal.loop-counts-init
@@ -14,7 +13,7 @@ loop-counts-init c =
     let b : BookTerms = c.args.board.now.book in
     let v : Knowledge = c.args.seat.now.knows in
     let so = subst (λ (s : ScanTerms). IsScanOf b s v) c.start-scan.ensures.start (c.start-scan.ensures.scan b) in (
-      (0, subst (λ (s : ScanTerms). IsSnapping b v s v c.args.seat.now.steps c.args.seat.now.steps 0) (sym c.start-scan.ensures.start) (IsSnapping-start b v c.args.seat.now.steps c.known.ensures.seat.own so)),
+      (0, 0, subst (λ (s : ScanTerms). IsSnapping b v s v 0 0 0) (sym c.start-scan.ensures.start) (IsSnapping-start b v 0 c.known.ensures.seat.own so), omega arith),
       c.requires,
       refl,
     )
@@ -25,15 +24,15 @@ loop-counts-preserved c =
     let begun : Knowledge = c.args.seat.now.knows in
     let w : Knowledge = c.turn.new.seat.knows in
     let scan : ScanTerms = c.loop-counts.scan in
-    let before = c.args.seat.now.steps in
     let turns = c.loop-counts.invariant.0.0 in
-    let more = IsSnapping-Again b begun scan c.loop-counts.seat.knows w before c.loop-counts.seat.steps turns (omega (arith, c.known.ensures.seat.one_part))
-    c.loop-counts.invariant.0.1 c.turn.ensures.collect c.in-Again.ensures.answer in
-    let steps : c.turn.new.seat.steps ≡ c.loop-counts.seat.steps + b.processes = omega (arith, c.in-Again.ensures.steps) in (
+    let made = c.loop-counts.invariant.0.1 in
+    let more = IsSnapping-Again b begun scan c.loop-counts.seat.knows w 0 made turns (omega (arith, c.known.ensures.seat.one_part))
+    c.loop-counts.invariant.0.2 c.turn.ensures.collect c.in-Again.ensures.answer in (
       (
         turns + 1,
-        subst (λ (s : ScanTerms). IsSnapping b begun s w before c.turn.new.seat.steps (turns + 1)) (sym c.turn.ensures.after)
-            (subst (λ k. IsSnapping b begun (scan_after scan w) w before k (turns + 1)) (sym steps) more),
+        made + b.processes,
+        subst (λ (s : ScanTerms). IsSnapping b begun s w 0 (made + b.processes) (turns + 1)) (sym c.turn.ensures.after) more,
+        omega (arith, c.in-Again.ensures.steps, c.loop-counts.invariant.0.3),
       ),
       c.turn.ensures.board,
       c.turn.ensures.exchanges ∙ c.loop-counts.invariant.2,
@@ -44,19 +43,19 @@ loop-counts-smaller c =
     let b : BookTerms = c.args.board.now.book in
     let scan : ScanTerms = c.loop-counts.scan in
     subst (λ (s : ScanTerms). turns_left b.processes s.collects < turns_left b.processes scan.collects) (sym c.turn.ensures.after)
-    (turns_left-Again b scan.start scan.mark scan.collects c.loop-counts.seat.knows c.turn.new.seat.knows c.loop-counts.invariant.0.1.own c.loop-counts.invariant.0.1.scan_of c.turn.ensures.collect
+    (turns_left-Again b scan.start scan.mark scan.collects c.loop-counts.seat.knows c.turn.new.seat.knows c.loop-counts.invariant.0.2.own c.loop-counts.invariant.0.2.scan_of c.turn.ensures.collect
     c.in-Again.ensures.answer)
 
 -- what holds after the last turn
 snapped : (c : goal.After-drop-scan-inside-in-Clean)
-    → IsSnapped c.args.board.now.book c.args.seat.now.knows c.turn.new.seat.knows c.args.seat.now.steps
-    (c.loop-counts.seat.steps + c.args.board.now.book.processes + view_steps c.args.board.now.book.processes c.turn.result)
+    → IsSnapped c.args.board.now.book c.args.seat.now.knows c.turn.new.seat.knows 0
+    (c.loop-counts.invariant.0.1 + c.args.board.now.book.processes + view_steps c.args.board.now.book.processes c.turn.result)
 snapped c =
     let b : BookTerms = c.args.board.now.book in
     let begun : Knowledge = c.args.seat.now.knows in
     let known : begun.first < b.processes = omega (arith, c.known.ensures.seat.known, ap (λ (t : BookTerms). t.processes) c.requires.book) in
-    IsSnapped-IsSnapping b begun c.loop-counts.scan c.loop-counts.seat.knows c.turn.new.seat.knows c.args.seat.now.steps c.loop-counts.seat.steps
-    c.loop-counts.invariant.0.0 c.turn.result (omega (arith, c.known.ensures.seat.one_part)) known c.loop-counts.invariant.0.1 c.turn.ensures.collect
+    IsSnapped-IsSnapping b begun c.loop-counts.scan c.loop-counts.seat.knows c.turn.new.seat.knows 0 c.loop-counts.invariant.0.1
+    c.loop-counts.invariant.0.0 c.turn.result (omega (arith, c.known.ensures.seat.one_part)) known c.loop-counts.invariant.0.2 c.turn.ensures.collect
 
 pub returns-in-Clean-clause-loads : goal.returns-in-Clean-clause-loads
 returns-in-Clean-clause-loads c = (snapped c).loads
@@ -65,4 +64,4 @@ pub returns-in-Clean-clause-collects : goal.returns-in-Clean-clause-collects
 returns-in-Clean-clause-collects c = (snapped c).collects
 
 pub returns-in-Clean-clause-steps : goal.returns-in-Clean-clause-steps
-returns-in-Clean-clause-steps c = subst (λ k. k ≤ c.args.seat.now.steps + snapshot_steps c.args.board.now.book.processes) (sym c.turn.ensures.steps) (snapped c).few
+returns-in-Clean-clause-steps c = omega (arith, c.turn.ensures.steps, c.loop-counts.invariant.0.3, (snapped c).few)

@@ -1,12 +1,13 @@
 use Rattle.std.proofs.Common.{◌≡◌, ℕ}
+use Rattle.at_board.specs.Counting.{raised}
 use Rattle.at_board.specs.Knowledge.Seats.{IsOf}
 use Rattle.at_snapshot.specs.Snapping.{IsSnapping, turns_left}
 use Rattle.at_snapshot.proofs.snapshots.snapshot.Given as goal
 
--- so many turns answered Again
+-- so many turns answered Again, in so many steps
 abbrev pub invariant-loop-counts : goal.invariant-loop-counts
 invariant-loop-counts l =
-    ((turns : ℕ) × IsSnapping l.board.book l.fn.seat.knows l.scan l.seat.knows l.initial.seat.steps l.seat.steps turns)
+    ((turns made : ℕ) × IsSnapping l.board.book l.fn.seat.knows l.scan l.seat.knows 0 made turns × (l.seat.steps ≡ raised l.initial.seat.steps made))
     × IsOf l.seat l.board
     × (l.seat.exchanges ≡ l.initial.seat.exchanges)
 

@@ -2,6 +2,8 @@ use Rattle.std.proofs.Common.{◌≡◌, ℕ, ◌+◌, ◌-◌, ◌*◌, ◌<◌
 use Rattle.std.specs.List.{sum}
 use Rattle.std.proofs.lemmas.List.{set-get_or}
 use Rattle.at_ledger.specs.Book.{BookTerms}
+use Rattle.at_board.proofs.Counting.{stepped-none, stepped-stepped}
+use Rattle.at_board.specs.Counting.{stepped}
 use Rattle.at_board.specs.Knowledge.Seats.{SeatTerms}
 use Rattle.at_board.specs.declared.words.TheConstants.{RECORD_WORDS}
 use Rattle.at_fold.specs.CatchingUp.{IsCatchingUp}
@@ -10,26 +12,21 @@ use Rattle.at_fold.specs.Sums.{TotalSums}
 use Rattle.at_fold.proofs.Laws.CatchingUp.{IsCatchingUp-more, IsCatchingUp-next, IsCatchingUp-start, count_of-IsCatchingUp, upto-IsCatchingUp}
 use Rattle.at_fold.proofs.Laws.LoadedRecords.{sum-caught}
 use Rattle.at_fold.proofs.Laws.MorePublished.{StaysCounted-HasCounted}
-use Rattle.at_fold.proofs.totals.Totals.catch_up.Given.{Over}
 use Rattle.at_fold.proofs.totals.Totals.catch_up.Goals as goal
 use Rattle.at_fold.proofs.totals.Totals.catch_up.Goals.{then-counted-end, else-counted-end}
 
 pub loop-p-init : goal.loop-p-init
 loop-p-init c = record {
   catching = IsCatchingUp-start c.args.board.now.book c.args.seat.now.knows.seen c.args.counts.now c.args.self.now c.requires.counted c.requires.more c.requires.seen;
-  same = refl;
+  same = stepped-none c.args.seat.now ∙ ap (stepped c.args.seat.now) (omega arith);
   more = omega arith;
-  steps = omega arith;
-  exchanges = refl;
 }
 
 -- the records of one process are counted, whether some were new or none
 record IsCaught (c : goal.Joined-counted-end) : Type 0 where
   counted : HasCounted c.if-counted-end.self c.args.board.now.book c.if-counted-end.seat.knows.seen
   upto : c.if-counted-end.self.upto ≡ set c.loop-p.self.upto c.loop-p.p c.get-end.result
-  same : c.if-counted-end.seat ≡ c.loop-p.seat
-  steps : c.if-counted-end.steps ≡ c.loop-p.seat.steps + RECORD_WORDS * (c.get-end.result - get_or c.loop-p.self.upto c.loop-p.p 0)
-  exchanges : c.if-counted-end.exchanges ≡ c.loop-p.seat.exchanges
+  same : c.if-counted-end.seat ≡ stepped c.loop-p.seat (RECORD_WORDS * (c.get-end.result - get_or c.loop-p.self.upto c.loop-p.p 0))
 
 -- the process is one of the book's
 known_process : (c : goal.Joined-counted-end) → c.loop-p.p < c.args.board.now.book.processes
@@ -51,17 +48,13 @@ is_caught c =
             (subst (λ (s : SeatTerms). HasCounted w.catch_up_with.new.self c.args.board.now.book s.knows.seen) (sym w.seat-is) w.catch_up_with.ensures.counted);
         upto = ap (λ (s : TotalSums). s.upto) w.self-is ∙ w.catch_up_with.ensures.upto;
         same = w.seat-is ∙ w.catch_up_with.ensures.same;
-        steps = omega (arith, w.steps-is, w.catch_up_with.ensures.steps);
-        exchanges = w.exchanges-is ∙ w.catch_up_with.ensures.exchanges;
       }
       | else-counted-end w ↦
           let start : n ≡ get_or t.upto p 0 = omega (arith, start-le c, w.if-counted-end.false, c.counted.ensures) in record {
             counted = subst (λ (s : TotalSums). HasCounted s c.args.board.now.book c.if-counted-end.seat.knows.seen) (sym w.self-is)
                 (subst (λ (s : SeatTerms). HasCounted t c.args.board.now.book s.knows.seen) (sym w.seat-is) c.loop-p.invariant.catching.counted);
             upto = ap (λ (s : TotalSums). s.upto) w.self-is ∙ (sym (set-get_or t.upto p 0) ∙ ap (set t.upto p) (sym start));
-            same = w.seat-is;
-            steps = omega (arith, w.steps-is, start);
-            exchanges = w.exchanges-is;
+            same = w.seat-is ∙ (stepped-none c.loop-p.seat ∙ ap (stepped c.loop-p.seat) (omega (arith, start)));
           }
     ]
 
@@ -87,10 +80,10 @@ loop-p-preserved c =
       catching = IsCatchingUp-next b seen counts start t' p
           (IsCatchingUp-more b seen counts start t t' p n known catching now.counted now.upto (omega (arith, c.get-end.ensures)))
           (ap (λ (l : List ℕ). get_or l p 0) now.upto ∙ (get_or-set_same t.upto p n 0 inside ∙ c.get-end.ensures));
-      same = now.same ∙ was.same;
+      same = now.same
+          ∙ (stepped-stepped c.args.seat.now c.loop-p.seat (RECORD_WORDS * (sum t.upto - sum start)) (RECORD_WORDS * (n - get_or t.upto p 0)) was.same
+          ∙ ap (stepped c.args.seat.now) (omega (arith, was.more, caught, total, more)));
       more = omega (arith, was.more, caught, total, more);
-      steps = omega (arith, now.steps, was.steps, was.more, caught, total, more);
-      exchanges = now.exchanges ∙ was.exchanges;
     }
 
 pub catch_up_with-requires-clause-seen : goal.catch_up_with-requires-clause-seen
@@ -112,5 +105,6 @@ returns-clause-upto c =
     upto-IsCatchingUp c.args.board.now.book c.loop-p.seat.knows.seen c.args.counts.now c.args.self.now.upto c.loop-p.self c.loop-p.p
     (omega (arith, c.loop-p-test.false, c.len-p-end.ensures.length, c.requires.seen.sized)) c.loop-p.invariant.catching
 
-pub returns-clause-steps : goal.returns-clause-steps
-returns-clause-steps c = omega (arith, c.loop-p.invariant.steps, ap (λ (l : List ℕ). sum l) (returns-clause-upto c))
+pub returns-clause-same : goal.returns-clause-same
+returns-clause-same c =
+    c.loop-p.invariant.same ∙ ap (λ (l : List ℕ). stepped c.args.seat.now (RECORD_WORDS * (sum l - sum c.args.self.now.upto))) (returns-clause-upto c)

@@ -1,8 +1,11 @@
-use Rattle.std.proofs.Common.{◌≡◌, ℕ, ◌+◌, ◌<◌, List, length, get_or, set, sym, ap, subst, ◌∙◌, arith, get_or-set_same}
+use Rattle.std.proofs.Common.{◌≡◌, ℕ, ◌+◌, ◌-◌, ◌*◌, ◌<◌, List, length, get_or, set, sym, ap, subst, ◌∙◌, arith, get_or-set_same}
 use Rattle.std.proofs.lemmas.List.{set-set}
 use Rattle.at_ledger.specs.Book.{BookTerms}
 use Rattle.at_history.specs.Publications.{count_of}
+use Rattle.at_board.proofs.Counting.{stepped-stepped}
+use Rattle.at_board.specs.Counting.{stepped}
 use Rattle.at_board.specs.Knowledge.Seats.{SeatTerms}
+use Rattle.at_board.specs.declared.words.TheConstants.{RECORD_WORDS}
 use Rattle.at_history.specs.Histories.{IsHistory}
 use Rattle.at_fold.specs.HasCounted.{HasCounted, MayCount}
 use Rattle.at_fold.proofs.Laws.LoadedRecords.{MayCount-loaded}
@@ -14,7 +17,6 @@ loop-i-preserved c =
     let old : SeatTerms = c.args.seat.now in
     let now : SeatTerms = c.loop-i.seat in
     let same = c.loop-i.invariant.same in
-    let seat = c.load_entry-entry.ensures.same ∙ same in
     let history : IsHistory b now.knows.seen =
     subst (λ (s : SeatTerms). IsHistory b s.knows.seen) (sym same)
     (subst (λ (t : BookTerms). IsHistory t old.knows.seen) c.requires.board.book c.known.ensures.seat.history) in
@@ -31,7 +33,6 @@ loop-i-preserved c =
       counted = subst (λ (s : SeatTerms). HasCounted c.count.new.self b s.knows.seen) (sym c.load_entry-entry.ensures.same) counted;
       upto = c.count.ensures.upto ∙ (ap (λ (l : List ℕ). set l c.args.p (c.loop-i.i + 1)) c.loop-i.invariant.upto
           ∙ set-set c.args.self.now.upto c.args.p c.loop-i.i (c.loop-i.i + 1));
-      same = seat;
-      steps = omega (arith, c.load_entry-entry.ensures.steps, c.loop-i.invariant.steps, c.loop-i.auto.i);
-      exchanges = c.load_entry-entry.ensures.exchanges ∙ c.loop-i.invariant.exchanges;
+      same = c.load_entry-entry.ensures.same
+          ∙ (stepped-stepped old now (RECORD_WORDS * (c.loop-i.i - c.counted-start.result)) RECORD_WORDS same ∙ ap (stepped old) (omega (arith, c.loop-i.auto.i)));
     }
