@@ -14,11 +14,7 @@ use at_snapshot::snapshot;
 
 /// Takes a snapshot, and has the totals count what it counts: what every payment does first, on shared accounts too. Takes no
 /// memory.
-pub fn look(
-    board: &Board,
-    seat: &mut BoardSeat,
-    totals: &mut Totals,
-) -> Counts
+pub fn look(board: &Board, seat: &mut BoardSeat, totals: &mut Totals) -> Counts
     requires seat { IsOf seat.old board.now }
     requires totals { HasCounted totals.old board.now.book seat.old.knows.seen }
     ensures looked { HasLooked board.now.book seat.old.knows seat.new.knows totals.old totals.new
