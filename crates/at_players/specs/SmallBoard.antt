@@ -47,9 +47,9 @@ pub record IsNewPlayer (board : BoardTerms) (seat : SeatTerms) : Type 0 where
   pub new : seat.knows ≡ starting_seat board.book seat.knows.first
   pub player : MayPlay board.book seat.knows.first
 
--- the seat of a process on a new board
+-- the seat of a process on a new board, which has made no step
 abbrev pub new_seat : BoardTerms → ℕ → SeatTerms
-new_seat board p = record { board = board.id; knows = starting_seat board.book p }
+new_seat board p = record { board = board.id; knows = starting_seat board.book p; steps = 0; exchanges = 0 }
 
 -- the seats that are left of a new board's are those of its first processes
 abbrev pub AreLeft : BoardTerms → List SeatTerms → Type 0

@@ -59,7 +59,8 @@ pub fn slot_on(book: &Book, account: u32, process: u32) -> Option<u32>
 pub fn last_seat(board: &Board, seats: &mut Vec<BoardSeat>) -> Option<BoardSeat>
     requires { AreLeft board.now seats.old.items }
     ensures seat { IfSome result (λ seat. (seat.board ≡ board.now.id)
-        × (seat.knows ≡ starting_seat board.now.book seat.knows.first)) }
+        × (seat.knows ≡ starting_seat board.now.book seat.knows.first)
+        × (seat.steps ≡ 0) × (seat.exchanges ≡ 0)) }
     ensures idle { IfSome result (λ seat. IsIdle board.now seat) }
     ensures rest { AreLeft board.now seats.new.items }
 {

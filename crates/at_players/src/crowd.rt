@@ -12,9 +12,7 @@ use at_base::Counts;
 use at_board::{Board, BoardEnd, BoardSeat};
 use at_ledger::Book;
 use std::alloc::{AllocError, Global};
-use std::marker::Brand;
 use std::sync::atomic::{AtomicU64, Ordering};
-use std::sync::ledger::{Blank, Ledger};
 use std::thread::{Threads, join_mut, yield_now};
 
 /// How many records each thread publishes.
@@ -57,11 +55,7 @@ pub fn counts_of(a: u32, b: u32, c: u32, d: u32) -> Counts
 }
 
 /// Loads a length between two records.
-pub fn look(
-    board: &Board,
-    seat: &mut BoardSeat,
-    p: u32,
-) -> u32
+pub fn look(board: &Board, seat: &mut BoardSeat, p: u32) -> u32
     requires idle { IsIdle board.now seat.old }
     requires process { p < board.now.book.processes }
     ensures idle { IsIdle board.now seat.new }
@@ -71,10 +65,7 @@ pub fn look(
 }
 
 /// The counts of four processes at one prefix, where no other process published between two loads of its length.
-pub fn front(
-    board: &Board,
-    seat: &mut BoardSeat,
-) -> Option<Counts>
+pub fn front(board: &Board, seat: &mut BoardSeat) -> Option<Counts>
     requires idle { IsIdle board.now seat.old }
     requires four { board.now.book.processes ≡ 4 }
     ensures idle { IsIdle board.now seat.new }
@@ -96,11 +87,7 @@ pub fn front(
 }
 
 /// Moves 0 from the process's own account to account 0, by a record with this view.
-pub fn move_nothing(
-    board: &Board,
-    seat: &mut BoardSeat,
-    view: &Counts,
-)
+pub fn move_nothing(board: &Board, seat: &mut BoardSeat, view: &Counts)
     requires idle { IsIdle board.now seat.old }
     requires four { board.now.book.processes ≡ 4 }
     requires owner { HasOwnAccount board.now.book seat.old.knows.first }
@@ -141,16 +128,7 @@ pub struct Told {
 }
 
 /// Settles the first round, and then publishes records, beside the other threads.
-pub fn play(
-    board: &Board,
-    alloc: Global,
-    seat: &mut BoardSeat,
-    steps: Blank,
-    exchanges: Blank,
-) -> Result<Told, AllocError>
-    requires names { (steps.name ≡ L.name) × (exchanges.name ≡ X.name) }
-    requires parts { (steps.parts ≡ L.parts) × (exchanges.parts ≡ X.parts) }
-    requires some { (0 < steps.parts) × (0 < exchanges.parts) }
+pub fn play(board: &Board, alloc: Global, seat: &mut BoardSeat) -> Result<Told, AllocError>
     requires four { board.now.book.processes ≡ 4 }
     requires player { IsNewPlayer board.now seat.old }
     ensures idle { IsIdle board.now seat.new }
@@ -179,7 +157,7 @@ pub fn play(
     })
 }
 
-/// Plays with counters of its own, once all threads are there.
+/// Plays once all threads are there.
 pub fn play_alone(
     board: &Board,
     alloc: Global,
@@ -192,7 +170,7 @@ pub fn play_alone(
     ensures process { seat.new.knows.first ≡ seat.old.knows.first }
 {
     wait_for_all(gate);
-    play::<Brand, Brand>(board, alloc, seat, Blank::new(1), Blank::new(1))
+    play(board, alloc, seat)
 }
 
 /// Two threads play.

@@ -1,6 +1,7 @@
 //! The first record of a process on a new board, word by word.
 
 ghost use Rattle.std.specs.Prelude.{◌≡◌, ◌<◌, IsTrue, [], ◌∷◌};
+ghost use Rattle.at_board.specs.Counting.{exchanged};
 ghost use Rattle.at_board.specs.Ends.Opening.{starting_seat};
 ghost use Rattle.at_history.specs.Publications.{count_of};
 ghost use Rattle.at_history.specs.Sound.{IsSoundOwn};
@@ -28,10 +29,7 @@ pub fn may_pay(book: &Book, process: u32) -> bool
 }
 
 /// Pays 30 from account 0 to account 1, by the first record of the seat's process.
-pub fn pay(
-    board: &Board,
-    seat: &mut BoardSeat,
-)
+pub fn pay(board: &Board, seat: &mut BoardSeat)
     requires board { seat.old.board ≡ board.now.id }
     requires new { seat.old.knows ≡ starting_seat board.now.book seat.old.knows.first }
     requires pays { IsSoundOwn board.now.book seat.old.knows.first [] 0 ((1, 30) ∷ []) }
@@ -47,15 +45,11 @@ pub fn pay(
 }
 
 /// The words of the accounts and of the amount of the first record of a process, which its seat tells another.
-pub fn told_words(
-    board: &Board,
-    seat: &mut BoardSeat,
-    other: &mut BoardSeat,
-) -> (u64, u64)
+pub fn told_words(board: &Board, seat: &mut BoardSeat, other: &mut BoardSeat) -> (u64, u64)
     requires seat { IsIdle board.now seat.old }
     requires other { IsIdle board.now other.old }
     requires published { 0 < count_of seat.old.knows.first seat.old.knows.seen }
-    ensures seat { seat.new ≡ seat.old }
+    ensures seat { seat.new ≡ exchanged seat.old 1 }
     ensures other { IsIdle board.now other.new × (other.new.knows.first ≡ other.old.knows.first) }
 {
     let note = board.note(seat);

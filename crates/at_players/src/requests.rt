@@ -43,11 +43,7 @@ pub fn ask_for(
 }
 
 /// Asks for a payment of 7 to account 1, as the first request of the seat's process, which has this slot.
-pub fn ask(
-    board: &Board,
-    seat: &mut BoardSeat,
-    slot: u32,
-) -> OpenRequest
+pub fn ask(board: &Board, seat: &mut BoardSeat, slot: u32) -> OpenRequest
     requires board { seat.old.board ≡ board.now.id }
     requires new { seat.old.knows ≡ starting_seat board.now.book seat.old.knows.first }
     requires slot { HasSlot board.now.book seat.old.knows.first 0 slot }
@@ -85,11 +81,7 @@ pub fn find_oldest(
 }
 
 /// The amount of the first request of a slot of account 0, where it is announced.
-pub fn first_amount(
-    board: &Board,
-    seat: &mut BoardSeat,
-    slot: u32,
-) -> Option<u64>
+pub fn first_amount(board: &Board, seat: &mut BoardSeat, slot: u32) -> Option<u64>
     requires board { IsOf seat.old board.now }
     requires account { 0 < length board.now.book.accounts }
     requires slot { slot < slots_of (account_of board.now.book 0) }

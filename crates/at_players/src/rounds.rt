@@ -45,11 +45,7 @@ fn is_payment(request: &OpenRequest) -> bool
 }
 
 /// The slot whose first request the seat may propose for the first round of account 0, if that is for a payment of 7 to account 1.
-pub fn find_first(
-    board: &Board,
-    seat: &mut BoardSeat,
-    own: &OpenRequest,
-) -> Option<u32>
+pub fn find_first(board: &Board, seat: &mut BoardSeat, own: &OpenRequest) -> Option<u32>
     requires idle { IsIdle board.now seat.old }
     requires own { HasAsked board.now.book seat.old.knows 0 own.now }
     requires nothing { HasLoadedNothing seat.old.knows 0 }
@@ -69,11 +65,7 @@ pub fn find_first(
 }
 
 /// Proposes that the first round of account 0 decide the first request of a slot, which succeeds.
-pub fn decide_first(
-    board: &Board,
-    seat: &mut BoardSeat,
-    slot: u32,
-) -> u64
+pub fn decide_first(board: &Board, seat: &mut BoardSeat, slot: u32) -> u64
     requires idle { IsIdle board.now seat.old }
     requires new { (own_part seat.old.knows).published ≡ 0 }
     requires slot { slot < 8 }
@@ -89,11 +81,7 @@ pub fn decide_first(
 }
 
 /// Publishes the first round of account 0, in which the payment that a slot asked for was decided.
-pub fn publish_round(
-    board: &Board,
-    seat: &mut BoardSeat,
-    slot: u32,
-)
+pub fn publish_round(board: &Board, seat: &mut BoardSeat, slot: u32)
     requires board { IsOf seat.old board.now }
     requires owner { (own : ℕ) × HasSlot board.now.book seat.old.knows.first 0 own }
     requires slot { slot < 8 }
@@ -112,11 +100,7 @@ pub fn publish_round(
 
 /// Asks for a payment on account 0, proposes the oldest request there for the first round, and publishes the round where it is so
 /// decided. Answers the word of the round and whether it has published it, or 0 where the oldest isn't such a payment.
-pub fn settle(
-    board: &Board,
-    seat: &mut BoardSeat,
-    slot: u32,
-) -> (u64, bool)
+pub fn settle(board: &Board, seat: &mut BoardSeat, slot: u32) -> (u64, bool)
     requires board { seat.old.board ≡ board.now.id }
     requires new { seat.old.knows ≡ starting_seat board.now.book seat.old.knows.first }
     requires slot { HasSlot board.now.book seat.old.knows.first 0 slot }

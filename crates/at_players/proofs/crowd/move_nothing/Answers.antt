@@ -9,7 +9,6 @@ use Rattle.at_players.specs.SmallBoard.{HasOwnAccount, IsOwnFront}
 use Rattle.at_history.specs.HeldCells.{held_after}
 use Rattle.at_history.specs.Histories.{IsHistory}
 use Rattle.at_board.specs.Knowledge.Parts.{own_part}
-use Rattle.at_players.proofs.crowd.move_nothing.Given as given
 use Rattle.at_players.proofs.crowd.move_nothing.Goals.{After-store_record_word-6}
 use Rattle.at_players.proofs.crowd.move_nothing.Goals as goal
 

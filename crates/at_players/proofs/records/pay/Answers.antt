@@ -19,7 +19,6 @@ use Rattle.at_history.specs.Sound.{HasView, IsSoundOwn}
 use Rattle.at_history.specs.HeldCells.{held_after}
 use Rattle.at_board.specs.Steps.StoreRecordWord.{with_word}
 use Rattle.at_board.specs.Knowledge.Parts.{own_part}
-use Rattle.at_players.proofs.records.pay.Given as given
 use Rattle.at_players.proofs.records.pay.Goals.{After-store_record_word-2}
 use Rattle.at_players.proofs.records.pay.Goals as goal
 

@@ -18,7 +18,7 @@ returns-clause-idle c =
     let r : Request = asked_for c.args.targets c.args.since in
     let w : Asking = asking_on (own_part v) 0 in
     IsIdle-with_asking c.args.board.now c.args.seat.now c.ask-number.new.seat u.seen (v.requests ++ seen_as 0 slot (length w.announced) r ∷ [])
-    (with_request w r (rounds 0 u.seen)) c.requires.idle c.ask-number.ensures.board (c.ask-number.ensures.announced slot c.requires.request.asks.slot_in).same
+    (with_request w r (rounds 0 u.seen) (own_part v).loads) c.requires.idle c.ask-number.ensures.board (c.ask-number.ensures.announced slot c.requires.request.asks.slot_in).same
 
 pub returns-clause-gained : goal.returns-clause-gained
 returns-clause-gained c =
@@ -28,5 +28,5 @@ returns-clause-gained c =
     let r : Request = asked_for c.args.targets c.args.since in
     let w : Asking = asking_on (own_part v) 0 in
     let told = c.ask-number.ensures.announced slot c.requires.request.asks.slot_in in
-    HasGained-with_asking v u u.seen (v.requests ++ seen_as 0 slot (length w.announced) r ∷ []) (with_request w r (rounds 0 u.seen))
+    HasGained-with_asking v u u.seen (v.requests ++ seen_as 0 slot (length w.announced) r ∷ []) (with_request w r (rounds 0 u.seen) (own_part v).loads)
     c.requires.idle.one_part told.same told.more (λ x there. Contains-append_left v.requests (seen_as 0 slot (length w.announced) r ∷ []) x there)

@@ -7,7 +7,6 @@ use Rattle.at_board.specs.Steps.Publish.{MayPublish}
 use Rattle.at_players.specs.SmallBoard.{HasWon}
 use Rattle.at_history.specs.HeldCells.{held_after}
 use Rattle.at_board.specs.Knowledge.Parts.{own_part}
-use Rattle.at_players.proofs.rounds.publish_round.Given as given
 use Rattle.at_players.proofs.rounds.publish_round.Goals.{After-store_record_word-4}
 use Rattle.at_players.proofs.rounds.publish_round.Goals as goal
 
