@@ -125,7 +125,7 @@ impl Verdict {
     {
         match self {
             Verdict::Repeated => Turn::Clean(now.copy()),
-            Verdict::Lent(p) => { Turn::Borrowed(load_view(board, seat, p, now.get(p) - 1)) }
+            Verdict::Lent(p) => Turn::Borrowed(load_view(board, seat, p, now.get(p) - 1)),
             Verdict::Undecided => Turn::Again,
         }
     }
