@@ -168,12 +168,7 @@ impl Helping {
 
     /// Takes a snapshot. Where the request is settled there, the call is answered. Else the oldest unsettled request is proposed to
     /// the next round, and what was decided there is published; it is settled exactly where that is the own request.
-    pub fn turn(
-        &mut self,
-        board: &Board,
-        seat: &mut BoardSeat,
-        totals: &mut Totals,
-    ) -> HelpTurn
+    pub fn turn(&mut self, board: &Board, seat: &mut BoardSeat, totals: &mut Totals) -> HelpTurn
         requires seat { IsOf seat.old board.now }
         requires totals { HasCounted totals.old board.now.book seat.old.knows.seen }
         requires helping { IsHelping board.now.book seat.old.knows self.old }

@@ -67,16 +67,8 @@ impl Helping {
         let proposal = self.proposal(board, seat, totals, front);
         // Right here: at the front exactly the rounds before this one stand. Others may have decided it before, or do so at the
         // same time: one proposal wins, and all are answered that decision.
-        let decided = propose(
-            board,
-            seat,
-            self.account,
-            round,
-            &proposal
-        );
-        self.publish(
-            board, seat, totals, round, &decided, front
-        );
+        let decided = propose(board, seat, self.account, round, &proposal);
+        self.publish(board, seat, totals, round, &decided, front);
         self.answer(round, &decided)
     }
 
@@ -177,13 +169,7 @@ impl Helping {
         ensures exchanges { seat.new.exchanges ≡ seat.old.exchanges }
     {
         seat.known();
-        let request = load_request(
-            board,
-            seat,
-            self.account,
-            decision.slot,
-            decision.number
-        );
+        let request = load_request(board, seat, self.account, decision.slot, decision.number);
         let record = record_of_round(self.account, round, *decision, request.targets, front);
         // The front stays one whatever others publish before this record. A round that another owner has published already counts
         // once.

@@ -1,12 +1,11 @@
 -- What was loaded before a call's request was announced stays known, and so does the snapshot that was taken by then.
-use Rattle.std.proofs.Common.{◌≡◌, ℕ, ◌<◌, ◌≤◌, List, [], ◌∷◌, length, get_or, map, refl, sym, ap, subst, ◌∙◌, arith, inl, inr}
+use Rattle.std.proofs.Common.{◌≡◌, ℕ, ◌<◌, List, [], ◌∷◌, length, get_or, map, refl, sym, ap, subst, ◌∙◌, arith, inl, inr}
 use Rattle.std.proofs.lemmas.List.{get_or-set_same, get_or_append_left}
 use Rattle.at_ledger.specs.Book.{BookTerms}
 use Rattle.at_history.proofs.Laws.Fronts.{IsFront-IsPrefix, prefix_of-IsPrefix}
 use Rattle.at_history.proofs.Laws.Histories.{ArePublishedBy-IsHistory}
 use Rattle.at_history.proofs.Laws.Prefixes.{IsPrefix-length}
 use Rattle.at_history.specs.BoardState.{publication_at}
-use Rattle.at_history.specs.Fronts.{place, prefix_of}
 use Rattle.at_history.specs.Publications.{IsPrefix, no_publication}
 use Rattle.at_history.specs.Rounds.{rounds}
 use Rattle.at_history.specs.declared.publication.Publication.{Publication}
@@ -120,10 +119,10 @@ module _ (b : BookTerms) (v w z : Knowledge) (a : ℕ) (front : List ℕ) (snaps
         begins = subst (IsPrefix v.seen) (sym (prefix_of-IsPrefix b.processes front w.seen z.seen snapshot.front published more)) snapshot.begins;
         fresh = record {
           loaded = λ p within. omega (
-              arith,
-              snapshot.fresh.loaded p within,
-              ap (λ (ls : List Loads). (get_or ls p (record { times = 0; last = 0 })).times) loads-as_asked,
-            );
+            arith,
+            snapshot.fresh.loaded p within,
+            ap (λ (ls : List Loads). (get_or ls p (record { times = 0; last = 0 })).times) loads-as_asked,
+          );
           taken = elim snapshot.fresh.taken [
             | inl last ↦ inl (last ∙ ap (λ (ls : List Loads). map (λ (l : Loads). l.last) ls) (sym loads-as_asked))
             | inr lent ↦ inr (lent.0, IsBorrowed-as_asked lent.0 lent.1)
@@ -169,10 +168,10 @@ module _ (b : BookTerms) (v u y z : Knowledge) (h : HelpingTerms) (starts : HasS
         snapshot = IsSnapshot-as_asked b v starts.looked z h.account starts.front starts.snapshot starts.loads since_look.more since_look.first part_after kept_loads;
         since = starts.since;
         times = λ p known. omega (
-            arith,
-            since_look.times p known,
-            ap (λ (ls : List Loads). (get_or ls p (record { times = 0; last = 0 })).times) same,
-          );
+          arith,
+          since_look.times p known,
+          ap (λ (ls : List Loads). (get_or ls p (record { times = 0; last = 0 })).times) same,
+        );
         after_front = λ previous. omega (arith, after previous, starts.since);
       }
 

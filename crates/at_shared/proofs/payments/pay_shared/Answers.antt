@@ -22,7 +22,6 @@ use Rattle.at_shared.specs.Settling.{StandsAfter, asking_steps, round_steps}
 use Rattle.at_shared.specs.declared.helping.HelpTurn.TheVariants.{Settled, More}
 use Rattle.at_single.specs.Standing.{newly_counted}
 use Rattle.at_snapshot.specs.Snapshots.{snapshot_steps}
-use Rattle.at_shared.proofs.payments.pay_shared.Given as given
 use Rattle.at_shared.proofs.payments.pay_shared.Goals.{After-turn}
 use Rattle.at_shared.proofs.payments.pay_shared.Goals as goal
 

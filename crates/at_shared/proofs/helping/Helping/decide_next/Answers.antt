@@ -11,7 +11,6 @@ use Rattle.at_rounds.specs.Answers.{DecidesAs}
 use Rattle.at_shared.proofs.Laws.Turns.{IsSoundRound-Decides}
 use Rattle.at_shared.specs.HelpTurns.{AnswersRound, PublishesRound}
 use Rattle.at_shared.specs.HelpingTerms.{HelpingTerms}
-use Rattle.at_shared.proofs.helping.Helping.decide_next.Given as given
 use Rattle.at_shared.proofs.helping.Helping.decide_next.Goals.{After-rounds-round}
 use Rattle.at_shared.proofs.helping.Helping.decide_next.Goals as goal
 

@@ -14,7 +14,6 @@ use Rattle.at_shared.proofs.Laws.Starting.{Keeps, Keeps-HasLoaded, same_some}
 use Rattle.at_shared.specs.HelpingTerms.{HelpingTerms}
 use Rattle.at_shared.specs.Helpings.{HasStarted, IsHelping}
 use Rattle.at_shared.specs.Starting.{StartsBy}
-use Rattle.at_shared.proofs.helping.Helping.start.Given as given
 use Rattle.at_shared.proofs.helping.Helping.start.Goals.{After-known, After-look-front, After-len-count, After-unwrap-slot, After-ask-number, After-collect_rows-asked}
 use Rattle.at_shared.proofs.helping.Helping.start.Goals as goal
 
@@ -43,7 +42,7 @@ has_slot c =
     let v : Knowledge = c.args.seat.now.knows in
     let w : Knowledge = c.look-front.new.seat.knows in
     let slot_of = c.requires.asks.1.slot_in in
-    let first : w.first ≡ v.first = (kept_look c.before.before.before.before.before.before.before).first in
+    let first : w.first ≡ v.first = (kept_look (goal.at.After-unwrap-slot c).After-look-front).first in
     let found : slot_in (account_of b c.args.account) w.first ≡ Some c.unwrap-slot.result =
     ap (λ (t : BookTerms). slot_in (account_of t c.args.account) w.first) (sym c.book-2.ensures)
     ∙ (ap (slot_in (account_of c.book-2.result.now c.args.account)) (sym c.process.ensures.process) ∙ (sym c.slot_of.ensures.slot ∙ c.unwrap-slot.ensures)) in
@@ -89,15 +88,15 @@ collect_rows-asked-requires-clause-own c =
 
 -- what was known before
 abbrev to_look : After-ask-number → After-look-front
-to_look c = c.before.before.before.before.before.before.before.before.before.before.before.before.before.before
+to_look c = (goal.at.After-ask-number c).After-look-front
 
 abbrev to_ask : After-collect_rows-asked → After-ask-number
-to_ask c = c.before.before.before.before.before
+to_ask c = (goal.at.After-collect_rows-asked c).After-ask-number
 
 -- what asking changes
 told_ask : (c : After-ask-number) → Announces c.args.board.now.book c.look-front.new.seat.knows c.ask-number.new.seat.knows c.args.account
     c.unwrap-slot.result (asked_for c.targets_of-targets.result c.sum-since.result)
-told_ask c = c.ask-number.ensures.announced c.unwrap-slot.result (has_slot c.before.before.before.before.before.before.before)
+told_ask c = c.ask-number.ensures.announced c.unwrap-slot.result (has_slot (goal.at.After-ask-number c).After-unwrap-slot)
 
 -- the own request
 abbrev own_of : After-ask-number → OpenRequest

@@ -17,7 +17,6 @@ use Rattle.at_shared.specs.Helpings.{decides_made}
 use Rattle.at_shared.specs.Settling.{round_steps}
 use Rattle.at_shared.specs.declared.helping.HelpTurn.TheVariants.{Settled}
 use Rattle.at_single.proofs.Laws.Looks.{CountsAccount-HasLooked, CountsFront-HasLooked, HasCounted-HasLooked}
-use Rattle.at_shared.proofs.helping.Helping.turn.Given as given
 use Rattle.at_shared.proofs.helping.Helping.turn.Goals.{After-known-3, After-look-front, After-receipt}
 use Rattle.at_shared.proofs.helping.Helping.turn.Goals as goal
 
