@@ -1,5 +1,5 @@
 -- What a call leaves of its pass, whichever way it was made.
-use Rattle.std.proofs.Common.{◌≡◌, ℕ, ◌+◌, ◌*◌, ◌<◌, ◌≤◌, Bool, true, false, cond, List, [], ◌∷◌, ◌++◌, length, None, Some, refl, sym, ap, subst, ◌∙◌, arith, inl, inr}
+use Rattle.std.proofs.Common.{◌≡◌, ◌≢◌, ℕ, ◌+◌, ◌*◌, ◌<◌, ◌≤◌, Bool, true, false, cond, List, [], ◌∷◌, ◌++◌, length, None, Some, refl, sym, ap, subst, ◌∙◌, arith, inl, inr}
 use Rattle.std.proofs.lemmas.Bool.{cases_Bool}
 use Rattle.std.proofs.lemmas.List.Sums.{get_or-le-sum_by}
 use Rattle.std.specs.Prelude.{slice_index, sum}
@@ -15,6 +15,7 @@ use Rattle.at_history.proofs.Laws.Prefixes.{IsPrefix-refl}
 use Rattle.at_history.specs.Fronts.{place}
 use Rattle.at_history.specs.Histories.{IsHistory}
 use Rattle.at_history.specs.Rounds.{owns_of}
+use Rattle.at_board.specs.Counting.{raised}
 use Rattle.at_board.specs.Knowledge.Seats.{IsKept, SeatTerms}
 use Rattle.at_board.specs.Steps.StoreRequestWord.{MayStoreRequest}
 use Rattle.at_board.specs.Words.Addresses.{record_width}
@@ -35,16 +36,18 @@ use Rattle.at_object.proofs.Laws.InRound.{IsPass-round}
 use Rattle.at_object.proofs.Laws.Looked.{IsPass-HasLoaded, between-IsPass, Told-HasLoaded, asking-HasLoaded, owns_of-HasLoaded}
 use Rattle.at_object.proofs.Laws.Made.{PaymentMade-alone, PaymentMade-round, others-le}
 use Rattle.at_object.proofs.Laws.Room.{HasSlot-is_owner, MayStoreRequest-room, sent-room}
+use Rattle.at_object.specs.CallCounts.{CallCountTerms}
 use Rattle.at_object.specs.Paid.{PaymentMade, PaysAlone, PaysInRound}
 use Rattle.at_object.specs.Parted.{IsOfOnePass, pass_of}
 use Rattle.at_object.specs.Passes.{IsPass, PassTerms, Stands, counted_anew, others_counted}
 use Rattle.at_object.specs.Payments.{IsDecidedByBalance, IsRefused, has_used_up, payment_steps, refusal_of, sent_after, shared_steps, single_steps}
 use Rattle.at_object.specs.declared.parts.Rest.{Rest}
-use Rattle.at_shared.specs.Helpings.{HasAllSettled, decides_made}
+use Rattle.at_shared.specs.Helpings.{HasAllSettled, decides_made, decides_on}
 use Rattle.at_single.specs.Standing.{front_behind}
 use Rattle.at_single.specs.Standing as single
 use Rattle.at_snapshot.specs.Snapshots.{snapshot_steps}
-use Rattle.at_calling.specs.Calling.{CallMade, ReadMade, StaysWithin, call_steps, refusal_in}
+use Rattle.at_calling.proofs.Laws.Made.{process-CallMade}
+use Rattle.at_calling.specs.Calling.{CallMade, ReadMade, StaysWithin, call_steps, refusal_in, with_one_call}
 use Rattle.at_calling.specs.PayingAlone.{HasSameAsking, append_steps}
 use Rattle.at_calling.specs.PayingShared.{DecidesFew, settling_steps}
 use Rattle.at_calling.specs.Reading.{IsReadOf, LeavesTotals}
@@ -77,7 +80,7 @@ module _ (b : BookTerms) (seat : SeatTerms) (rest : Rest) (source : ℕ) (kept :
   owner-refusal_of = allowed.0
 
   between : IsBetweenCalls b seat.knows
-  between = between-IsPass b seat.knows rest.totals rest.sent book pass
+  between = between-IsPass b seat.knows rest.totals rest.sent book pass.pass
 
   pub room-refusal_of : is_single (account_of b source) ≡ true → owns_of seat.knows.first seat.knows.seen < b.own_room
   room-refusal_of single =
@@ -86,7 +89,7 @@ module _ (b : BookTerms) (seat : SeatTerms) (rest : Rest) (source : ℕ) (kept :
 
   pub small-refusal_of : is_single (account_of b source) ≡ true → rest.sent < 4096
   small-refusal_of single =
-      omega (arith, room-refusal_of single, pass.sent_is, kept.book.begun.own_room, ap (λ (t : BookTerms). t.own_room) book)
+      omega (arith, room-refusal_of single, pass.pass.sent_is, kept.book.begun.own_room, ap (λ (t : BookTerms). t.own_room) book)
 
   pub asks-refusal_of : source < length b.accounts → is_shared (account_of b source) ≡ true → (slot : ℕ) × MayStoreRequest b seat.knows source slot
   asks-refusal_of known shared =
@@ -161,8 +164,29 @@ append_steps-le width (Balance amount) = omega arith
 pub HasCounted-StaysCounted : (b : BookTerms) (v : Knowledge) (now : TotalSums) → StaysCounted now b v.seen → HasCounted now b v.seen
 HasCounted-StaysCounted b v now stays = stays v.seen (IsPrefix-refl v.seen)
 
+-- so many steps over all turns are few, and none where the call is refused. So many exchanges are those that were decided on the account
+-- that the call names first, at most one for each owner, and on other accounts there are none
+pub record MakesWithin (b : BookTerms) (before after : PassTerms) (call : Call) (steps exchanges : ℕ) (r : Receipt) : Type 0 where
+  pub few : steps ≤ call_steps b call + RECORD_WORDS * counted_anew before after
+  pub refused : IsRefused r → steps ≡ 0
+  pub decided : exchanges ≡ decides_made (first_account call) before.knows after.knows
+  pub few_decided : exchanges ≤ slots_of (account_of b (first_account call))
+  pub decides_elsewhere : (a : ℕ) → a ≢ first_account call → decides_on after.knows a ≡ decides_on before.knows a
+
+-- so the pass has made as many, where its seat has counted them
+pub StaysWithin-MakesWithin : (b : BookTerms) (before after : PassTerms) (call : Call) (steps exchanges : ℕ) (r : Receipt)
+    → MakesWithin b before after call steps exchanges r → after.steps ≡ raised before.steps steps → after.exchanges ≡ raised before.exchanges exchanges
+    → StaysWithin b before after call r
+StaysWithin-MakesWithin b before after call steps exchanges r makes made exchanged = record {
+  few = omega (arith, makes.few, made);
+  refused = λ refused. omega (arith, makes.refused refused, made);
+  decided = exchanged ∙ ap (raised before.exchanges) makes.decided;
+  few_decided = omega (arith, makes.few_decided, makes.decided);
+  decides_elsewhere = makes.decides_elsewhere;
+}
+
 module _ (b : BookTerms) (start : SeatTerms) (was : Rest) (seat : SeatTerms) (rest : Rest) (kept : IsKept start.knows) (keeps : IsKept seat.knows)
-    (book : start.knows.book ≡ b) (same_book : seat.knows.book ≡ b) (pass : IsOfOnePass start was) where
+    (book : start.knows.book ≡ b) (same_book : seat.knows.book ≡ b) (same_board : seat.board ≡ start.board) (pass : IsOfOnePass start was) where
   abbrev before : PassTerms
   before = pass_of start was
 
@@ -175,26 +199,36 @@ module _ (b : BookTerms) (start : SeatTerms) (was : Rest) (seat : SeatTerms) (re
   abbrev w : Knowledge
   w = seat.knows
 
+  -- the seat and the rest are of one pass again, in which one more call is counted
+  one_pass : w.first ≡ v.first → rest.calls ≡ with_one_call was.calls → IsPass w rest.totals rest.sent → IsOfOnePass seat rest
+  one_pass process calls made = record {
+    pass = made;
+    calls = record {
+      board = ap (λ (n : CallCountTerms). n.board) calls ∙ (pass.calls.board ∙ sym same_board);
+      process = ap (λ (n : CallCountTerms). n.process) calls ∙ (pass.calls.process ∙ sym process);
+    };
+  }
+
   module _ (more_steps turns : ℕ) (leaves : LeavesTotals b v w was.totals rest.totals more_steps turns) where
     pub others_counted-LeavesTotals : others_counted before ≤ others_counted after
-    others_counted-LeavesTotals = others-le before after was.totals rest.totals pass.own_counted leaves.own_counted leaves.more
+    others_counted-LeavesTotals = others-le before after was.totals rest.totals pass.pass.own_counted leaves.own_counted leaves.more
 
     -- what was counted before of the own records is among all that was counted
     own_among : slice_index was.totals.upto v.first ≤ sum was.totals.upto
     own_among =
         get_or-le-sum_by (λ (n : ℕ). n) was.totals.upto v.first 0
-        (omega (arith, kept.known, pass.counted.processes))
+        (omega (arith, kept.known, pass.pass.counted.processes))
 
     newly : single.newly_counted v w was.totals rest.totals ≤ counted_anew before after
-    newly = omega (arith, own_among, pass.own_counted, leaves.own_counted, leaves.more)
+    newly = omega (arith, own_among, pass.pass.own_counted, leaves.own_counted, leaves.more)
 
     pub few-LeavesTotals : turns ≤ snapshot_steps b.processes + more_steps + RECORD_WORDS * counted_anew before after
     few-LeavesTotals = omega (arith, leaves.few, newly)
 
     -- a call that decides nothing on any account
-    pub StaysWithin-LeavesTotals : (call : Call) (r : Receipt) → (IsRefused r → ⊥) → HasSameAsking v w
-        → snapshot_steps b.processes + more_steps ≤ call_steps b call → StaysWithin b before after call turns 0 r
-    StaysWithin-LeavesTotals call r decided asks within = record {
+    pub MakesWithin-LeavesTotals : (call : Call) (r : Receipt) → (IsRefused r → ⊥) → HasSameAsking v w
+        → snapshot_steps b.processes + more_steps ≤ call_steps b call → MakesWithin b before after call turns 0 r
+    MakesWithin-LeavesTotals call r decided asks within = record {
       few = omega (arith, few-LeavesTotals, within);
       refused = λ refused. absurd (decided refused);
       decided = omega (arith, ap (λ (t : Asking). t.decides) (asks (first_account call)));
@@ -217,7 +251,7 @@ module _ (b : BookTerms) (start : SeatTerms) (was : Rest) (seat : SeatTerms) (re
         snapshot = read.snapshot;
         placed = λ earlier stands. read.placed earlier;
         stands = λ earlier stands.
-            Told-HasLoaded b v w kept keeps book same_book read.at_front.loads was.totals rest.totals was.sent pass earlier r stands
+            Told-HasLoaded b v w kept keeps book same_book read.at_front.loads was.totals rest.totals was.sent pass.pass earlier r stands
             (read.placed earlier)
             (StandsBehind-front v.first v.seen w.seen r front read.snapshot.begins
             (λ previous. subst (λ p. 2 * place front ≤ key_of p w.seen previous r) first (read.after_front previous)))
@@ -228,22 +262,23 @@ module _ (b : BookTerms) (start : SeatTerms) (was : Rest) (seat : SeatTerms) (re
         process_is = first;
         asked = λ a. ap (λ (t : Asking). length t.announced) (asking-HasLoaded b v w kept keeps book same_book read.at_front.loads a);
         sent = ap (λ p. owns_of p w.seen) first
-            ∙ owns_of-HasLoaded b v w kept keeps book same_book read.at_front.loads was.totals rest.totals was.sent pass;
+            ∙ owns_of-HasLoaded b v w kept keeps book same_book read.at_front.loads was.totals rest.totals was.sent pass.pass;
         counted = others_counted-LeavesTotals;
       }
 
-      pub IsOfOnePass-IsReadOf : StaysCounted rest.totals b w.seen → rest.sent ≡ was.sent → IsOfOnePass seat rest
-      IsOfOnePass-IsReadOf stays sent =
-          subst (IsPass w rest.totals) (sym sent)
-          (IsPass-HasLoaded b v w kept keeps book same_book read.at_front.loads was.totals rest.totals was.sent pass
-          (HasCounted-StaysCounted b w rest.totals stays) leaves.own_counted)
+      pub IsOfOnePass-IsReadOf : StaysCounted rest.totals b w.seen → rest.sent ≡ was.sent → rest.calls ≡ with_one_call was.calls → IsOfOnePass seat rest
+      IsOfOnePass-IsReadOf stays sent calls =
+          one_pass (ReadMade-IsReadOf).process_is calls
+          (subst (IsPass w rest.totals) (sym sent)
+          (IsPass-HasLoaded b v w kept keeps book same_book read.at_front.loads was.totals rest.totals was.sent pass.pass
+          (HasCounted-StaysCounted b w rest.totals stays) leaves.own_counted))
 
       pub asks-IsReadOf : HasSameAsking v w
       asks-IsReadOf = asking-HasLoaded b v w kept keeps book same_book read.at_front.loads
 
-      pub StaysWithin-IsReadOf : more_steps ≡ 0 → StaysWithin b before after (Read account) turns 0 r
-      StaysWithin-IsReadOf none =
-          StaysWithin-LeavesTotals (Read account) r (read_or_refused r _ read.reply) asks-IsReadOf (omega (arith, none))
+      pub MakesWithin-IsReadOf : more_steps ≡ 0 → MakesWithin b before after (Read account) turns 0 r
+      MakesWithin-IsReadOf none =
+          MakesWithin-LeavesTotals (Read account) r (read_or_refused r _ read.reply) asks-IsReadOf (omega (arith, none))
 
     -- a payment from an account of one owner
     module _ (source : ℕ) (targets : List TargetPair) (call : Call) (r : Receipt) (paid : PaysAlone b v w source targets call r)
@@ -256,20 +291,22 @@ module _ (b : BookTerms) (start : SeatTerms) (was : Rest) (seat : SeatTerms) (re
       pub CallMade-PaysAlone : source < length b.accounts → CallMade b before after call r
       CallMade-PaysAlone known =
           CallMade-payout b source targets before after call r payout
-          (PaymentMade-alone b before after source targets call r kept keeps book same_book was.totals was.sent pass why_not.1
+          (PaymentMade-alone b before after source targets call r kept keeps book same_book was.totals was.sent pass.pass why_not.1
           others_counted-LeavesTotals known (record { single = single; owner = why_not.0 }) paid)
 
-      pub IsOfOnePass-PaysAlone : StaysCounted rest.totals b w.seen → rest.sent ≡ sent_after was.sent r.reply → IsOfOnePass seat rest
-      IsOfOnePass-PaysAlone stays sent =
-          subst (IsPass w rest.totals) (sym sent)
-          (IsPass-alone b v w kept keeps book same_book was.totals was.sent pass source targets call r paid rest.totals
-          (HasCounted-StaysCounted b w rest.totals stays) leaves.own_counted)
+      pub IsOfOnePass-PaysAlone : source < length b.accounts → StaysCounted rest.totals b w.seen → rest.sent ≡ sent_after was.sent r.reply
+          → rest.calls ≡ with_one_call was.calls → IsOfOnePass seat rest
+      IsOfOnePass-PaysAlone known stays sent calls =
+          one_pass (process-CallMade b before after call r (CallMade-PaysAlone known)) calls
+          (subst (IsPass w rest.totals) (sym sent)
+          (IsPass-alone b v w kept keeps book same_book was.totals was.sent pass.pass source targets call r paid rest.totals
+          (HasCounted-StaysCounted b w rest.totals stays) leaves.own_counted))
 
-      pub StaysWithin-PaysAlone : more_steps ≡ append_steps (record_width b) r.reply → StaysWithin b before after call turns 0 r
-      StaysWithin-PaysAlone most =
-          StaysWithin-LeavesTotals call r
-          (decided_or_refused r (decided-alone b v w kept keeps book same_book was.totals was.sent pass source targets call r paid))
-          (asking-alone b v w kept keeps book same_book was.totals was.sent pass source targets call r paid)
+      pub MakesWithin-PaysAlone : more_steps ≡ append_steps (record_width b) r.reply → MakesWithin b before after call turns 0 r
+      MakesWithin-PaysAlone most =
+          MakesWithin-LeavesTotals call r
+          (decided_or_refused r (decided-alone b v w kept keeps book same_book was.totals was.sent pass.pass source targets call r paid))
+          (asking-alone b v w kept keeps book same_book was.totals was.sent pass.pass source targets call r paid)
           (omega (
             arith,
             most,
@@ -292,17 +329,18 @@ module _ (b : BookTerms) (start : SeatTerms) (was : Rest) (seat : SeatTerms) (re
       pub CallMade-PaysInRound : CallMade b before after call r
       CallMade-PaysInRound =
           CallMade-payout b source targets before after call r payout
-          (PaymentMade-round b before after source targets call r kept keeps book same_book was.totals was.sent pass why_allowed.1
+          (PaymentMade-round b before after source targets call r kept keeps book same_book was.totals was.sent pass.pass why_allowed.1
           others_counted-LeavesTotals slot.0 slot.1 why_allowed.0 shared paid (ap payout_of paid.call_is ∙ payout))
 
-      pub IsOfOnePass-PaysInRound : HasCounted rest.totals b w.seen → rest.sent ≡ was.sent → IsOfOnePass seat rest
-      IsOfOnePass-PaysInRound counted sent =
-          subst (IsPass w rest.totals) (sym sent)
-          (IsPass-round b v w kept keeps book same_book was.totals was.sent pass source slot.0 slot.1 call r paid rest.totals counted leaves.own_counted)
+      pub IsOfOnePass-PaysInRound : HasCounted rest.totals b w.seen → rest.sent ≡ was.sent → rest.calls ≡ with_one_call was.calls → IsOfOnePass seat rest
+      IsOfOnePass-PaysInRound counted sent calls =
+          one_pass paid.process_is calls
+          (subst (IsPass w rest.totals) (sym sent)
+          (IsPass-round b v w kept keeps book same_book was.totals was.sent pass.pass source slot.0 slot.1 call r paid rest.totals counted leaves.own_counted))
 
-      pub StaysWithin-PaysInRound : (exchanges : ℕ) → more_steps ≡ settling_steps b source → DecidesFew b v w source
-          → exchanges ≡ decides_made source v w → StaysWithin b before after call turns exchanges r
-      StaysWithin-PaysInRound exchanges most few decided =
+      pub MakesWithin-PaysInRound : (exchanges : ℕ) → more_steps ≡ settling_steps b source → DecidesFew b v w source
+          → exchanges ≡ decides_made source v w → MakesWithin b before after call turns exchanges r
+      MakesWithin-PaysInRound exchanges most few decided =
           let first = first_account-payout source targets call payout in
           record {
             few = omega (

@@ -8,6 +8,7 @@ use Rattle.at_ledger.specs.declared.call.Call.{Call}
 use Rattle.at_ledger.specs.declared.call.Reply.{Reply}
 use Rattle.at_history.specs.Fronts.{places_max}
 use Rattle.at_history.specs.Moves.{AreRuns}
+use Rattle.at_board.specs.Counting.{raised}
 use Rattle.at_board.specs.Knowledge.Seats.{BoardTerms, IsKept, IsOf, SeatTerms}
 use Rattle.at_board.specs.Words.Addresses.{record_width}
 use Rattle.at_board.specs.declared.knowledge.Knowledge.{Knowledge}
@@ -23,11 +24,11 @@ use Rattle.at_object.proofs.Laws.Made.{PaymentMade-refused}
 use Rattle.at_object.specs.Paid.{PaysAlone, PaysInRound}
 use Rattle.at_object.specs.Parted.{IsOfOnePass, pass_of}
 use Rattle.at_object.specs.Passes.{PassTerms, Stands, one_more_call}
-use Rattle.at_object.specs.Payments.{sent_after}
+use Rattle.at_object.specs.Payments.{IsRefused, sent_after}
 use Rattle.at_object.specs.declared.parts.Rest.{Rest}
 use Rattle.at_shared.specs.Helpings.{IsPayoutFrom, decides_made}
-use Rattle.at_calling.proofs.CallingLaws.{CallMade-PaysAlone, CallMade-PaysInRound, IsOfOnePass-IsReadOf, IsOfOnePass-PaysAlone, IsOfOnePass-PaysInRound, ReadMade-IsReadOf, StaysWithin-IsReadOf, StaysWithin-PaysAlone, StaysWithin-PaysInRound, call_steps-payout, payment_steps-shared, payment_steps-single, placed-CallMade, refusal_in-payout, small-refusal_of, source-IsCallOn, stands-CallMade}
-use Rattle.at_calling.specs.Calling.{CallMade, CallingTerms, IsWay, MakesCallStep, StaysWithin, call_steps, call_turns_left, exchanges_made, exchanges_of, pass_before, refusal_in, steps_made, steps_of}
+use Rattle.at_calling.proofs.CallingLaws.{CallMade-PaysAlone, CallMade-PaysInRound, IsOfOnePass-IsReadOf, IsOfOnePass-PaysAlone, IsOfOnePass-PaysInRound, MakesWithin, ReadMade-IsReadOf, StaysWithin-MakesWithin, MakesWithin-IsReadOf, MakesWithin-PaysAlone, MakesWithin-PaysInRound, call_steps-payout, payment_steps-shared, payment_steps-single, placed-CallMade, refusal_in-payout, small-refusal_of, source-IsCallOn, stands-CallMade}
+use Rattle.at_calling.specs.Calling.{CallMade, CallingTerms, IsWay, MakesCallStep, StaysWithin, call_steps, call_turns_left, exchanges_made, exchanges_of, pass_before, refusal_in, steps_made, steps_of, with_one_call}
 use Rattle.at_calling.specs.KeptCalling.{IsCallStageSo, IsCallingSo, IsMakingStill, TakesCallTurn}
 use Rattle.at_machines.specs.Looking.{IsWithin, look_turns_left}
 use Rattle.at_calling.specs.PayingAlone.{IsPayWithin, PayingAloneTerms, append_steps, pay_turns_left}
@@ -46,7 +47,7 @@ calling_next t stage mark rest = record { call = t.call; stage = stage; start = 
 pub record Leaves (b : BookTerms) (t : CallingTerms) (after : SeatTerms) (rest : Rest) (steps exchanges : ℕ) (r : Receipt) : Type 0 where
   pub made : CallMade b (pass_before t) (pass_of after rest) t.call r
   pub kept : IsOfOnePass after rest
-  pub within : StaysWithin b (pass_before t) (pass_of after rest) t.call steps exchanges r
+  pub within : MakesWithin b (pass_before t) (pass_of after rest) t.call steps exchanges r
 
 -- a refused call leaves its pass as it was, but for the count of its calls
 CallMade-refused : (b : BookTerms) (before : PassTerms) (call : Call) (r : Receipt) → IsKept before.knows → before.knows.book ≡ b
@@ -80,11 +81,11 @@ module _ (board : BoardTerms) (t : CallingTerms) (so : IsCallingSo t) (seat : Se
     was-refused = unmoved.1
 
     module _ (r : Receipt) (call_is : r.call ≡ t.call) (reply_is : r.reply ≡ reply) (at : r.at ≡ Previous) where
-      here : Leaves board.book t t.start (record t.was { calls = one_more_call t.was.calls }) 0 0 r
+      here : Leaves board.book t t.start (record t.was { calls = with_one_call t.was.calls }) 0 0 r
       here = record {
         made = CallMade-refused board.book (pass_before t) t.call r so.kept book-IsCallingSo
-            (between-IsPass board.book t.start.knows t.was.totals t.was.sent book-IsCallingSo so.pass) known call_is at (because ∙ ap Some (sym reply_is));
-        kept = so.pass;
+            (between-IsPass board.book t.start.knows t.was.totals t.was.sent book-IsCallingSo so.pass.pass) known call_is at (because ∙ ap Some (sym reply_is));
+        kept = record { pass = so.pass.pass; calls = record { board = so.pass.calls.board; process = so.pass.calls.process } };
         within = record {
           few = omega arith;
           refused = λ refused. refl;
@@ -94,10 +95,10 @@ module _ (board : BoardTerms) (t : CallingTerms) (so : IsCallingSo t) (seat : Se
         };
       }
 
-      pub Leaves-refused : Leaves board.book t seat (record t.rest { calls = one_more_call t.rest.calls }) 0 0 r
+      pub Leaves-refused : Leaves board.book t seat (record t.rest { calls = with_one_call t.rest.calls }) 0 0 r
       Leaves-refused =
-          subst (λ (s : SeatTerms). Leaves board.book t s (record t.rest { calls = one_more_call t.rest.calls }) 0 0 r) (sym (same ∙ unmoved.0))
-          (subst (λ (q : Rest). Leaves board.book t t.start (record q { calls = one_more_call q.calls }) 0 0 r) (sym unmoved.1) here)
+          subst (λ (s : SeatTerms). Leaves board.book t s (record t.rest { calls = with_one_call t.rest.calls }) 0 0 r) (sym (same ∙ unmoved.0))
+          (subst (λ (q : Rest). Leaves board.book t t.start (record q { calls = with_one_call q.calls }) 0 0 r) (sym unmoved.1) here)
 
   -- after a turn with a step
   module _ (after : SeatTerms) (of_after : IsOf after board) where
@@ -108,14 +109,17 @@ module _ (board : BoardTerms) (t : CallingTerms) (so : IsCallingSo t) (seat : Se
     book_is = of_after.book ∙ sym book-IsCallingSo
 
     next_so : (stage : CallStage) (rest : Rest) → IsWay t.start.knows.book (pass_before t) t.call stage
+        → after.steps ≡ raised t.start.steps (steps_made stage) → after.exchanges ≡ raised t.start.exchanges (exchanges_made stage)
         → IsCallStageSo (calling_next t stage after rest) stage → IsCallingSo (calling_next t stage after rest)
-    next_so stage rest way stage_so = record {
+    next_so stage rest way steps exchanges stage_so = record {
       kept = so.kept;
       pass = so.pass;
       board = board_is;
       book = book_is;
       call_on = so.call_on;
       way = way;
+      steps = steps;
+      exchanges = exchanges;
       stage_so = stage_so;
     }
 
@@ -137,19 +141,20 @@ module _ (board : BoardTerms) (t : CallingTerms) (so : IsCallingSo t) (seat : Se
       pub Leaves-read : (rest : Rest) (turns : ℕ) (receipt : Receipt) → IsKept after.knows
           → IsReadOf board.book r.looking.start after.knows r.account receipt
           → LeavesTotals board.book r.looking.start after.knows r.looking.was rest.totals 0 turns
-          → StaysCounted rest.totals board.book after.knows.seen → rest.sent ≡ t.rest.sent → Leaves board.book t after rest turns 0 receipt
-      Leaves-read rest turns receipt keeps read leaves stays sent =
+          → StaysCounted rest.totals board.book after.knows.seen → rest.sent ≡ t.rest.sent → rest.calls ≡ with_one_call t.was.calls
+          → Leaves board.book t after rest turns 0 receipt
+      Leaves-read rest turns receipt keeps read leaves stays sent calls =
           let v : Knowledge = t.start.knows in
           let read_on = subst (λ (u : Knowledge). IsReadOf board.book u after.knows r.account receipt) still-read.start_is read in
           let leaves_on = subst (λ (s : TotalSums). LeavesTotals board.book v after.knows s rest.totals 0 turns) still-read.was_is
           (subst (λ (u : Knowledge). LeavesTotals board.book u after.knows r.looking.was rest.totals 0 turns) still-read.start_is leaves) in
           record {
             made = subst (λ (k : Call). CallMade board.book (pass_before t) (pass_of after rest) k receipt) (sym way-read)
-                (ReadMade-IsReadOf board.book t.start t.was after rest so.kept keeps book-IsCallingSo of_after.book so.pass 0 turns leaves_on r.account receipt read_on);
-            kept = IsOfOnePass-IsReadOf board.book t.start t.was after rest so.kept keeps book-IsCallingSo of_after.book so.pass 0 turns leaves_on r.account receipt
-                read_on stays (sent ∙ still-read.sent_is);
-            within = subst (λ (k : Call). StaysWithin board.book (pass_before t) (pass_of after rest) k turns 0 receipt) (sym way-read)
-                (StaysWithin-IsReadOf board.book t.start t.was after rest so.kept keeps book-IsCallingSo of_after.book so.pass 0 turns leaves_on r.account receipt
+                (ReadMade-IsReadOf board.book t.start t.was after rest so.kept keeps book-IsCallingSo of_after.book board_is so.pass 0 turns leaves_on r.account receipt read_on);
+            kept = IsOfOnePass-IsReadOf board.book t.start t.was after rest so.kept keeps book-IsCallingSo of_after.book board_is so.pass 0 turns leaves_on r.account receipt
+                read_on stays (sent ∙ still-read.sent_is) calls;
+            within = subst (λ (k : Call). MakesWithin board.book (pass_before t) (pass_of after rest) k turns 0 receipt) (sym way-read)
+                (MakesWithin-IsReadOf board.book t.start t.was after rest so.kept keeps book-IsCallingSo of_after.book board_is so.pass 0 turns leaves_on r.account receipt
                 read_on refl);
           }
 
@@ -185,8 +190,8 @@ module _ (board : BoardTerms) (t : CallingTerms) (so : IsCallingSo t) (seat : Se
           → PaysAlone board.book p.start after.knows p.from p.targets p.call receipt
           → LeavesTotals board.book p.start after.knows p.was rest.totals (append_steps (record_width board.book) receipt.reply) turns
           → StaysCounted rest.totals board.book after.knows.seen → rest.sent ≡ sent_after t.rest.sent receipt.reply
-          → Leaves board.book t after rest turns 0 receipt
-      Leaves-alone rest turns receipt keeps paid leaves stays sent =
+          → rest.calls ≡ with_one_call t.was.calls → Leaves board.book t after rest turns 0 receipt
+      Leaves-alone rest turns receipt keeps paid leaves stays sent calls =
           let v : Knowledge = t.start.knows in
           let more = append_steps (record_width board.book) receipt.reply in
           let paid_on = subst (λ (k : Call). PaysAlone board.book v after.knows p.from p.targets k receipt) way-alone.1
@@ -195,11 +200,11 @@ module _ (board : BoardTerms) (t : CallingTerms) (so : IsCallingSo t) (seat : Se
           (subst (λ (u : Knowledge). LeavesTotals board.book u after.knows p.was rest.totals more turns) still-alone.start_is leaves) in
           let source_in = source-IsCallOn (length board.book.accounts) p.from p.targets t.call way-alone.0 known in
           record {
-            made = CallMade-PaysAlone board.book t.start t.was after rest so.kept keeps book-IsCallingSo of_after.book so.pass more turns leaves_on p.from p.targets
+            made = CallMade-PaysAlone board.book t.start t.was after rest so.kept keeps book-IsCallingSo of_after.book board_is so.pass more turns leaves_on p.from p.targets
                 t.call receipt paid_on way-alone.0 way-alone.3 way-alone.2 source_in;
-            kept = IsOfOnePass-PaysAlone board.book t.start t.was after rest so.kept keeps book-IsCallingSo of_after.book so.pass more turns leaves_on p.from p.targets
-                t.call receipt paid_on way-alone.0 way-alone.3 way-alone.2 stays (sent ∙ ap (λ (n : ℕ). sent_after n receipt.reply) still-alone.sent_is);
-            within = StaysWithin-PaysAlone board.book t.start t.was after rest so.kept keeps book-IsCallingSo of_after.book so.pass more turns leaves_on p.from p.targets
+            kept = IsOfOnePass-PaysAlone board.book t.start t.was after rest so.kept keeps book-IsCallingSo of_after.book board_is so.pass more turns leaves_on p.from p.targets
+                t.call receipt paid_on way-alone.0 way-alone.3 way-alone.2 source_in stays (sent ∙ ap (λ (n : ℕ). sent_after n receipt.reply) still-alone.sent_is) calls;
+            within = MakesWithin-PaysAlone board.book t.start t.was after rest so.kept keeps book-IsCallingSo of_after.book board_is so.pass more turns leaves_on p.from p.targets
                 t.call receipt paid_on way-alone.0 way-alone.3 way-alone.2 refl;
           }
 
@@ -228,8 +233,9 @@ module _ (board : BoardTerms) (t : CallingTerms) (so : IsCallingSo t) (seat : Se
       pub IsCallingSo-shared : (q : PayingSharedTerms) (rest : Rest) → q.call ≡ p.call → q.account ≡ p.account
           → q.start ≡ p.start → q.mark ≡ after.knows → q.was ≡ p.was
           → (0 < share_turns_left board.book q → (q.totals ≡ rest.totals) × (rest.sent ≡ t.rest.sent) × (rest.calls ≡ t.rest.calls))
+          → after.steps ≡ raised t.start.steps q.turns → after.exchanges ≡ raised t.start.exchanges (share_exchanges_made q)
           → IsCallingSo (calling_next t (PayShared q) after rest)
-      IsCallingSo-shared q rest call account start mark was others =
+      IsCallingSo-shared q rest call account start mark was others steps exchanges =
           next_so (PayShared q) rest
           (subst (λ (b : BookTerms). IsWay b (pass_before t) t.call (PayShared q)) (sym book-IsCallingSo) (
             subst (λ (a : ℕ). IsPayoutFrom board.book a t.call) (sym account) way-shared.0,
@@ -237,6 +243,7 @@ module _ (board : BoardTerms) (t : CallingTerms) (so : IsCallingSo t) (seat : Se
             way-shared.2,
             ap (λ (a : ℕ). is_shared (account_of board.book a)) account ∙ way-shared.3,
           ))
+          steps exchanges
           (λ more.
           let rest_is = others (subst (λ (b : BookTerms). 0 < share_turns_left b q) book-IsCallingSo more) in
           record {
@@ -252,8 +259,9 @@ module _ (board : BoardTerms) (t : CallingTerms) (so : IsCallingSo t) (seat : Se
           → PaysInRound board.book p.start after.knows p.account p.call receipt
           → LeavesTotals board.book p.start after.knows p.was rest.totals (settling_steps board.book p.account) turns
           → HasCounted rest.totals board.book after.knows.seen → DecidesFew board.book p.start after.knows p.account
-          → exchanges ≡ decides_made p.account p.start after.knows → rest.sent ≡ t.rest.sent → Leaves board.book t after rest turns exchanges receipt
-      Leaves-shared rest turns exchanges receipt keeps paid leaves counted few decided sent =
+          → exchanges ≡ decides_made p.account p.start after.knows → rest.sent ≡ t.rest.sent → rest.calls ≡ with_one_call t.was.calls
+          → Leaves board.book t after rest turns exchanges receipt
+      Leaves-shared rest turns exchanges receipt keeps paid leaves counted few decided sent calls =
           let v : Knowledge = t.start.knows in
           let more = settling_steps board.book p.account in
           let targets = way-shared.0.targets in
@@ -266,11 +274,11 @@ module _ (board : BoardTerms) (t : CallingTerms) (so : IsCallingSo t) (seat : Se
           let decided_on = subst (λ (u : Knowledge). exchanges ≡ decides_made p.account u after.knows) still-shared.start_is decided in
           let source_in = source-IsCallOn (length board.book.accounts) p.account targets t.call payout known in
           record {
-            made = CallMade-PaysInRound board.book t.start t.was after rest so.kept keeps book-IsCallingSo of_after.book so.pass more turns leaves_on p.account
+            made = CallMade-PaysInRound board.book t.start t.was after rest so.kept keeps book-IsCallingSo of_after.book board_is so.pass more turns leaves_on p.account
                 targets t.call receipt paid_on payout way-shared.3 way-shared.2 source_in;
-            kept = IsOfOnePass-PaysInRound board.book t.start t.was after rest so.kept keeps book-IsCallingSo of_after.book so.pass more turns leaves_on p.account
-                targets t.call receipt paid_on payout way-shared.3 way-shared.2 source_in counted (sent ∙ still-shared.sent_is);
-            within = StaysWithin-PaysInRound board.book t.start t.was after rest so.kept keeps book-IsCallingSo of_after.book so.pass more turns leaves_on p.account
+            kept = IsOfOnePass-PaysInRound board.book t.start t.was after rest so.kept keeps book-IsCallingSo of_after.book board_is so.pass more turns leaves_on p.account
+                targets t.call receipt paid_on payout way-shared.3 way-shared.2 source_in counted (sent ∙ still-shared.sent_is) calls;
+            within = MakesWithin-PaysInRound board.book t.start t.was after rest so.kept keeps book-IsCallingSo of_after.book board_is so.pass more turns leaves_on p.account
                 targets t.call receipt paid_on payout way-shared.3 way-shared.2 source_in exchanges refl few_on decided_on;
           }
 
@@ -297,9 +305,10 @@ pub TakesCallTurn-stages : (b : BookTerms) (t : CallingTerms) (before after mark
     → MakesCallStep b old before after now.totals → call_turns_left b next < call_turns_left b old
     → steps_made next ≤ call_steps b t.call + RECORD_WORDS * (length after.knows.seen - sum t.was.totals.upto)
     → (IsSome answer ↔ (call_turns_left b next ≡ 0)) → AreRuns b after.knows.seen → exchanges_made next ≡ exchanges_made old + exchanges_of old
-    → IfSome answer (Leaves b t after now (steps_made next) (exchanges_made next)) → IfSome answer (λ r. now.calls ≡ one_more_call t.was.calls)
+    → IfSome answer (Leaves b t after now (steps_made next) (exchanges_made next)) → IfSome answer (λ r. now.calls ≡ with_one_call t.was.calls)
+    → after.steps ≡ raised t.start.steps (steps_made next) → after.exchanges ≡ raised t.start.exchanges (exchanges_made next)
     → TakesCallTurn b t (calling_next t next mark rest) before after now answer
-TakesCallTurn-stages b t before after mark mark_is now rest rest_is old next is answer turns step left so_far ends runs exchanges leaves calls =
+TakesCallTurn-stages b t before after mark mark_is now rest rest_is old next is answer turns step left so_far ends runs exchanges leaves calls made exchanged =
     let all : PassTerms = pass_of after now in
     record {
       call_is = refl;
@@ -323,6 +332,9 @@ TakesCallTurn-stages b t before after mark mark_is now rest rest_is old next is 
       calls = calls;
       runs = runs;
       within = if_some (Leaves b t after now (steps_made next) (exchanges_made next))
-          (StaysWithin b (pass_before t) all t.call (steps_made next) (exchanges_made next)) (λ r l. l.within) answer leaves;
+          (StaysWithin b (pass_before t) all t.call)
+          (λ r l. StaysWithin-MakesWithin b (pass_before t) all t.call (steps_made next) (exchanges_made next) r l.within made exchanged) answer leaves;
+      refused = if_some (Leaves b t after now (steps_made next) (exchanges_made next)) (λ r. IsRefused r → steps_made next ≡ 0)
+          (λ r l. l.within.refused) answer leaves;
       exchanges = exchanges ∙ sym (ap (λ (k : CallStage). exchanges_made k + exchanges_of k) is);
     }

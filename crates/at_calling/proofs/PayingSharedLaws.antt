@@ -27,6 +27,7 @@ use Rattle.at_log.specs.declared.receipt.Receipt.{Receipt}
 use Rattle.at_object.specs.Paid.{PaysInRound}
 use Rattle.at_rows.proofs.Laws.Accounts.{HasAccount, HasAccount-IsSeat}
 use Rattle.at_rows.specs.OpenRequests.{request_of}
+use Rattle.at_shared.proofs.Laws.Asked.{StandsAfterSnapshot-SettlesInTurns}
 use Rattle.at_shared.proofs.Laws.Added.{Adds, Adds-HasLoaded, Adds-HasStarted, Adds-trans, HasAccount-Adds}
 use Rattle.at_shared.proofs.Laws.Counting.{steps_after}
 use Rattle.at_shared.proofs.Laws.Turning.{Adds-HelpAnswers, settled-HelpAnswers}
@@ -35,7 +36,7 @@ use Rattle.at_shared.specs.HelpingTerms.{HelpingTerms}
 use Rattle.at_shared.specs.Helpings.{HasAllSettled, HasStarted, decides_made, decides_on, heard_on}
 use Rattle.at_shared.specs.PaymentTurns.{HasTurned, SettlesInTurns}
 use Rattle.at_shared.specs.PaymentTurns.HasTurned.{again, none}
-use Rattle.at_shared.specs.Settling.{AsksOnce, StandsAfterSnapshot, asking_steps, round_steps}
+use Rattle.at_shared.specs.Settling.{AsksOnce, asking_steps, round_steps}
 use Rattle.at_shared.specs.declared.helping.HelpTurn.TheVariants.{More, Settled}
 use Rattle.at_single.specs.Standing.{newly_counted}
 use Rattle.at_snapshot.specs.Scans.{SeesOwnRecords}
@@ -253,7 +254,7 @@ module _ (b : BookTerms) (v y z : Knowledge) (a : ℕ) (call : Call) (h : Helpin
     }
 
     module _ (r : Receipt) (help : IsHelpOf b y z h (Settled r)) where
-      pub SettlesInTurns-settled : SettlesInTurns b v z a r
+      abbrev pub SettlesInTurns-settled : SettlesInTurns b v z a r
       SettlesInTurns-settled = record {
         helping = h;
         call = sym help.call;
@@ -321,24 +322,13 @@ module _ (b : BookTerms) (v y z : Knowledge) (a : ℕ) (call : Call) (h : Helpin
             AsksOnce-Adds b v z a h.own (Adds-trans b v started.looked z a [] row adds_look adds_since) kept.own settled slot_own helped.start.number
             helped.start.since settled_own
 
-        after_snapshot : StandsAfterSnapshot b v z r
-        after_snapshot = record {
-          front = started.front;
-          looked = started.looked;
-          snapshot = started.snapshot;
-          loads = started.loads;
-          more = adds_since.more;
-          times = adds_since.times;
-          after_front = λ previous. omega (arith, help.after_start previous, started.since);
-        }
-
         pub PaysInRound-settled : HasAllSettled b v a → PaysInRound b v z a call r
         PaysInRound-settled settled = record {
           call_is = help.call ∙ helped.start.call_is;
           in_round = help.in_round;
           placed = λ earlier asks. help.placed earlier (ap (λ t. asks_in t earlier) account ∙ (asks ∙ sym helped.start.number));
           after_start = λ previous. omega (arith, help.after_start previous, helped.start.since);
-          after_snapshot = after_snapshot;
+          after_snapshot = StandsAfterSnapshot-SettlesInTurns b v z a r SettlesInTurns-settled has_account helped.own help.after_start;
           asked = asks_once settled;
           free = seat.free;
           begins = begins;

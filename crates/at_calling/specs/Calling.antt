@@ -9,6 +9,7 @@ use Rattle.at_history.specs.Balances.{balance_after}
 use Rattle.at_history.specs.Fronts.{prefix_of}
 use Rattle.at_history.specs.Histories.{IsHistory}
 use Rattle.at_history.specs.Publications.{IsPrefix}
+use Rattle.at_board.specs.Counting.{raised}
 use Rattle.at_board.specs.Knowledge.Seats.{SeatTerms}
 use Rattle.at_board.specs.Words.Addresses.{record_width}
 use Rattle.at_board.specs.declared.knowledge.Knowledge.{Knowledge}
@@ -19,9 +20,10 @@ use Rattle.at_log.specs.Receipts.{payout_of}
 use Rattle.at_log.specs.Told.{first_account}
 use Rattle.at_log.specs.declared.receipt.At.{At}
 use Rattle.at_log.specs.declared.receipt.Receipt.{Receipt}
+use Rattle.at_object.specs.CallCounts.{CallCountTerms}
 use Rattle.at_object.specs.Paid.{PaymentMade}
 use Rattle.at_object.specs.Parted.{pass_of}
-use Rattle.at_object.specs.Passes.{PassTerms, Stands, asked_by, counted_anew, others_counted, sent_by}
+use Rattle.at_object.specs.Passes.{PassTerms, Stands, asked_by, counted_anew, one_more_call, others_counted, sent_by}
 use Rattle.at_object.specs.Payments.{IsRefused, payment_steps, refusal_of}
 use Rattle.at_object.specs.declared.parts.Rest.{Rest}
 use Rattle.at_shared.specs.Helpings.{IsPayoutFrom, decides_made, decides_on}
@@ -43,6 +45,10 @@ pub record CallingTerms : Type 0 where
   pub was : Rest
   pub mark : SeatTerms
   pub rest : Rest
+
+-- a count of calls after one more
+abbrev pub with_one_call : CallCountTerms → CallCountTerms
+with_one_call calls = record calls { count = one_more_call calls.count }
 
 -- the pass at the start
 abbrev pub pass_before : CallingTerms → PassTerms
@@ -158,11 +164,11 @@ CallMade b before after (Call.Transfer from to amount) r = PaymentMade b before 
 CallMade b before after (Call.Read account) r = ReadMade b before after account r
 CallMade b before after (Call.Pay from targets) r = PaymentMade b before after from targets (Call.Pay from targets) r
 
--- so many steps over all turns are few, and none where the call is refused. So many exchanges are those that its process has decided on the
--- account that the call names first, at most one for each owner, and on other accounts there are none
-pub record StaysWithin (b : BookTerms) (before after : PassTerms) (call : Call) (steps exchanges : ℕ) (r : Receipt) : Type 0 where
-  pub few : steps ≤ call_steps b call + RECORD_WORDS * counted_anew before after
-  pub refused : IsRefused r → steps ≡ 0
-  pub decided : exchanges ≡ decides_made (first_account call) before.knows after.knows
-  pub few_decided : exchanges ≤ slots_of (account_of b (first_account call))
+-- the pass has made few steps over all turns, and none where the call is refused. Its exchanges are those that its process has decided on
+-- the account that the call names first, at most one for each owner, and on other accounts there are none
+pub record StaysWithin (b : BookTerms) (before after : PassTerms) (call : Call) (r : Receipt) : Type 0 where
+  pub few : after.steps ≤ before.steps + call_steps b call + RECORD_WORDS * counted_anew before after
+  pub refused : IsRefused r → after.steps ≡ before.steps
+  pub decided : after.exchanges ≡ raised before.exchanges (decides_made (first_account call) before.knows after.knows)
+  pub few_decided : decides_made (first_account call) before.knows after.knows ≤ slots_of (account_of b (first_account call))
   pub decides_elsewhere : (a : ℕ) → a ≢ first_account call → decides_on after.knows a ≡ decides_on before.knows a

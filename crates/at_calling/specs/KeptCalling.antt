@@ -3,6 +3,7 @@ use Rattle.std.specs.Prelude.{◌≡◌, ◌+◌, ◌++◌, ◌<◌, ◌↔◌, 
 use Rattle.at_ledger.specs.Book.{BookTerms}
 use Rattle.at_ledger.specs.Call.{IsCallOn}
 use Rattle.at_history.specs.Moves.{AreRuns}
+use Rattle.at_board.specs.Counting.{raised}
 use Rattle.at_board.specs.Knowledge.Seats.{IsKept, SeatTerms}
 use Rattle.at_board.specs.Words.Addresses.{record_width}
 use Rattle.at_board.specs.declared.knowledge.Knowledge.{Knowledge}
@@ -10,9 +11,10 @@ use Rattle.at_fold.specs.Sums.{TotalSums}
 use Rattle.at_log.specs.Placed.{IsPlaced}
 use Rattle.at_log.specs.declared.receipt.Receipt.{Receipt}
 use Rattle.at_object.specs.Parted.{IsOfOnePass, pass_of}
-use Rattle.at_object.specs.Passes.{Stands, one_more_call}
+use Rattle.at_object.specs.Passes.{Stands}
+use Rattle.at_object.specs.Payments.{IsRefused}
 use Rattle.at_object.specs.declared.parts.Rest.{Rest}
-use Rattle.at_calling.specs.Calling.{CallMade, CallingTerms, IsCallWithin, IsWay, MakesCallStep, StaysWithin, call_turns_left, exchanges_made, exchanges_of, pass_before, steps_made, steps_of}
+use Rattle.at_calling.specs.Calling.{CallMade, CallingTerms, IsCallWithin, IsWay, MakesCallStep, StaysWithin, call_turns_left, exchanges_made, exchanges_of, pass_before, steps_made, steps_of, with_one_call}
 use Rattle.at_machines.specs.Looking.{look_turns_left}
 use Rattle.at_calling.specs.PayingAlone.{pay_turns_left}
 use Rattle.at_calling.specs.PayingShared.{share_turns_left}
@@ -36,7 +38,7 @@ IsCallStageSo t (PayAlone p) =
     0 < pay_turns_left (record_width t.start.knows.book) p.stage → IsMakingStill t p.start p.mark p.was p.totals
 IsCallStageSo t (PayShared p) = 0 < share_turns_left t.start.knows.book p → IsMakingStill t p.start p.mark p.was p.totals
 
--- a pass that was between calls makes one
+-- a pass that was between calls makes one, and its seat has counted all its steps and exchanges
 pub record IsCallingSo (t : CallingTerms) : Type 0 where
   pub kept : IsKept t.start.knows
   pub pass : IsOfOnePass t.start t.was
@@ -44,6 +46,8 @@ pub record IsCallingSo (t : CallingTerms) : Type 0 where
   pub book : t.mark.knows.book ≡ t.start.knows.book
   pub call_on : IsCallOn (length t.start.knows.book.accounts) t.call
   pub way : IsWay t.start.knows.book (pass_before t) t.call t.stage
+  pub steps : t.mark.steps ≡ raised t.start.steps (steps_made t.stage)
+  pub exchanges : t.mark.exchanges ≡ raised t.start.exchanges (exchanges_made t.stage)
   pub stage_so : IsCallStageSo t t.stage
 
 -- what a turn leaves of the call, in whichever stage it was: all but the stage, and what the seat and the rest of its pass are, is as it was
@@ -62,7 +66,8 @@ pub record TakesCallTurn (b : BookTerms) (t u : CallingTerms) (before after : Se
   pub placed : IfSome answer (λ r. (earlier : List Receipt) → Stands (pass_before t) earlier → IsPlaced b t.start.knows.first after.knows.seen earlier r)
   pub stands : IfSome answer (λ r. (earlier : List Receipt) → Stands (pass_before t) earlier → Stands (pass_of after now) (earlier ++ r ∷ []))
   pub kept : IfSome answer (λ r. IsOfOnePass after now)
-  pub calls : IfSome answer (λ r. now.calls ≡ one_more_call t.was.calls)
+  pub calls : IfSome answer (λ r. now.calls ≡ with_one_call t.was.calls)
   pub runs : AreRuns b after.knows.seen
-  pub within : IfSome answer (StaysWithin b (pass_before t) (pass_of after now) t.call (steps_made u.stage) (exchanges_made u.stage))
+  pub within : IfSome answer (StaysWithin b (pass_before t) (pass_of after now) t.call)
+  pub refused : IfSome answer (λ r. IsRefused r → steps_made u.stage ≡ 0)
   pub exchanges : exchanges_made u.stage ≡ exchanges_made t.stage + exchanges_of t.stage

@@ -9,13 +9,13 @@ ghost use Rattle.at_log.specs.Placed.{IsPlaced};
 ghost use Rattle.at_log.specs.declared.receipt.At.{At};
 ghost use Rattle.at_log.specs.declared.receipt.Receipt.{Receipt};
 ghost use Rattle.at_object.specs.Parted.{IsOfOnePass, pass_of};
-ghost use Rattle.at_object.specs.Passes.{Stands, one_more_call};
-ghost use Rattle.at_object.specs.Payments.{sent_after};
+ghost use Rattle.at_object.specs.Passes.{Stands};
+ghost use Rattle.at_object.specs.Payments.{IsRefused, sent_after};
 ghost use Rattle.at_calling.specs.KeptCalling.{TakesCallTurn};
 ghost use Rattle.at_calling.specs.PayingAlone.{PayingAloneTerms};
 ghost use Rattle.at_calling.specs.PayingShared.{PayingSharedTerms};
 ghost use Rattle.at_calling.specs.Reading.{ReadingTerms};
-ghost use Rattle.at_calling.specs.Calling.{CallMade, IsCallWithin, IsWay, MakesCallStep, StaysWithin, call_turns_left, exchanges_made, exchanges_of, pass_before, steps_made, steps_of};
+ghost use Rattle.at_calling.specs.Calling.{CallMade, IsCallWithin, IsWay, MakesCallStep, StaysWithin, call_turns_left, exchanges_made, exchanges_of, pass_before, steps_made, steps_of, with_one_call};
 
 use crate::call_stage::CallStage;
 use at_board::{Board, BoardSeat};
@@ -95,12 +95,7 @@ impl Calling {
 
     /// Makes the next step of the call. The last turn answers its receipt, and leaves the seat and the rest of one pass. A call that
     /// is refused is answered by its only turn, which makes no step.
-    pub fn turn(
-        &mut self,
-        board: &Board,
-        seat: &mut BoardSeat,
-        rest: &mut Rest,
-    ) -> Option<Receipt>
+    pub fn turn(&mut self, board: &Board, seat: &mut BoardSeat, rest: &mut Rest) -> Option<Receipt>
         requires board { IsOf seat.old board.now }
         requires mark { seat.old ≡ self.old.mark }
         requires rest { rest.old ≡ self.old.rest }
@@ -128,11 +123,11 @@ impl Calling {
             → Stands (pass_before self.old) earlier
             → Stands (pass_of seat.new rest.new) (earlier ++ r ∷ [])) }
         ensures kept { IfSome result (λ r. IsOfOnePass seat.new rest.new) }
-        ensures calls { IfSome result (λ r. rest.new.calls ≡ one_more_call self.old.was.calls) }
+        ensures calls { IfSome result (λ r. rest.new.calls ≡ with_one_call self.old.was.calls) }
         ensures runs { AreRuns board.now.book seat.new.knows.seen }
         ensures within { IfSome result (StaysWithin board.now.book (pass_before self.old)
-            (pass_of seat.new rest.new) self.old.call (steps_made self.new.stage)
-            (exchanges_made self.new.stage)) }
+            (pass_of seat.new rest.new) self.old.call) }
+        ensures refused { IfSome result (λ r. IsRefused r → steps_made self.new.stage ≡ 0) }
         ensures board { IsOf seat.new board.now }
         ensures steps { seat.new.steps ≡ raised seat.old.steps (steps_of self.old.stage) }
         ensures exchanges { seat.new.exchanges ≡ raised seat.old.exchanges (exchanges_of self.old.stage) }
@@ -163,18 +158,13 @@ impl Calling {
     {
         seat.known();
         self.stage.become_next(CallStage::Refused);
-        rest.calls = one_more_call(rest.calls);
+        rest.calls.count_one();
         self.rest = Snapshot::of(rest);
         refused(&self.call, reply)
     }
 
     /// Makes the next step of the read. The last one answers its receipt.
-    fn read_on(
-        &mut self,
-        board: &Board,
-        seat: &mut BoardSeat,
-        rest: &mut Rest,
-    ) -> Option<Receipt>
+    fn read_on(&mut self, board: &Board, seat: &mut BoardSeat, rest: &mut Rest) -> Option<Receipt>
         requires board { IsOf seat.old board.now }
         requires mark { seat.old ≡ self.old.mark }
         requires rest { rest.old ≡ self.old.rest }
@@ -194,7 +184,7 @@ impl Calling {
         self.mark = Snapshot::of(seat);
         self.rest = Snapshot::of(rest);
         let receipt = read?;
-        rest.calls = one_more_call(rest.calls);
+        rest.calls.count_one();
         self.rest = Snapshot::of(rest);
         Some(receipt)
     }
@@ -226,7 +216,7 @@ impl Calling {
         self.rest = Snapshot::of(rest);
         let receipt = paid?;
         rest.sent = sent_after(rest.sent, &receipt.reply);
-        rest.calls = one_more_call(rest.calls);
+        rest.calls.count_one();
         self.rest = Snapshot::of(rest);
         Some(receipt)
     }
@@ -257,7 +247,7 @@ impl Calling {
         self.mark = Snapshot::of(seat);
         self.rest = Snapshot::of(rest);
         let receipt = paid?;
-        rest.calls = one_more_call(rest.calls);
+        rest.calls.count_one();
         self.rest = Snapshot::of(rest);
         Some(receipt)
     }
@@ -272,13 +262,6 @@ fn refused(call: &Call, reply: Reply) -> Receipt
         reply,
         at: At::Previous,
     }
-}
-
-/// One more call was made. At the largest count it stays.
-fn one_more_call(calls: u64) -> u64
-    ensures { result ≡ one_more_call calls }
-{
-    calls.saturating_add(1)
 }
 
 /// How many payments from single accounts have succeeded after one more.

@@ -186,11 +186,7 @@ impl Starting {
     }
 
     /// Stores the next word of the request, or announces it. After that the rows come next.
-    fn ask_on(
-        &mut self,
-        board: &Board,
-        seat: &mut BoardSeat,
-    ) -> Option<Helping>
+    fn ask_on(&mut self, board: &Board, seat: &mut BoardSeat) -> Option<Helping>
         requires board { IsOf seat.old board.now }
         requires mark { seat.old.knows ≡ self.old.mark }
         requires asks { (a : AskingTerms) × (self.old.stage ≡ StartStage.Ask a) }
@@ -216,11 +212,7 @@ impl Starting {
     }
 
     /// Makes the next load of the rows. The last one answers the request that waits.
-    fn collect_on(
-        &mut self,
-        board: &Board,
-        seat: &mut BoardSeat,
-    ) -> Option<Helping>
+    fn collect_on(&mut self, board: &Board, seat: &mut BoardSeat) -> Option<Helping>
         requires board { IsOf seat.old board.now }
         requires mark { seat.old.knows ≡ self.old.mark }
         requires collects { (c : CollectingRowsTerms) × (self.old.stage ≡ StartStage.Collect c) }

@@ -1,7 +1,7 @@
 //! One turn of helping, a step a turn.
 
 ghost use Rattle.std.specs.Prelude.{◌≡◌, ◌+◌, ◌*◌, ◌<◌, ◌≤◌, ◌↔◌, IfSome, IsSome, length};
-ghost use Rattle.at_board.specs.Counting.{raised, stepped};
+ghost use Rattle.at_board.specs.Counting.{raised};
 ghost use Rattle.at_board.specs.Knowledge.Seats.{IsOf};
 ghost use Rattle.at_machines.specs.Deciding.{DecidingTerms};
 ghost use Rattle.at_machines.specs.Looking.{LookingTerms};

@@ -33,7 +33,7 @@ IsCollectingRowsSo-start v a own kept asked = record {
   amid = λ left. record {
     slot_in = omega (arith, asked.slot_in.within);
     before = 0;
-    so_far = IsCollectingRows-start v a own 0 (SeesRequest-start v a own kept asked);
+    so_far = IsCollectingRows-start v a own (SeesRequest-start v a own kept asked);
     turns = refl;
     few = omega arith;
     own_row = λ at. refl;
@@ -134,17 +134,17 @@ made-IsCollectingRowsSo start row list made so left =
 pub IsCollectingRows-IsCollectingRowsSo : (start w : Knowledge) (row : LoadingRowTerms) (list : List OpenRequest) (made : ℕ) (found : Option OpenRequest)
     → IsCollectingRowsSo start row list made → row.next ≢ nothing → LoadsRow row.start w row.account row.slot row.own found
     → row_turns row.next + 1 ≡ row_steps row.own.slot row.slot found
-    → IsCollectingRows start w row.account row.own (list ++ option_to_list found) (row.slot + 1) 0 (made + 1)
+    → IsCollectingRows start w row.account row.own (list ++ option_to_list found) (row.slot + 1) (made + 1)
 IsCollectingRows-IsCollectingRowsSo start w row list made found so left told steps =
     let amid = so.amid left in
     let has : HasAccount start row.account = HasAccount-IsSeat start start.first (own_part start).published row.account so.seat so.asked.slot_in.account_in in
     let turns : amid.before + row_steps row.own.slot row.slot found ≡ made + 1 = omega (arith, amid.turns, steps) in
-    subst (λ n. IsCollectingRows start w row.account row.own (list ++ option_to_list found) (row.slot + 1) 0 n) turns
-    (IsCollectingRows-row start row.start w row.account row.own list row.slot 0 amid.before found has amid.so_far told)
+    subst (λ n. IsCollectingRows start w row.account row.own (list ++ option_to_list found) (row.slot + 1) n) turns
+    (IsCollectingRows-row start row.start w row.account row.own list row.slot amid.before found has amid.so_far told)
 
 -- that of the next slot begins
 pub IsCollectingRowsSo-row : (start w : Knowledge) (row : LoadingRowTerms) (list : List OpenRequest) (made slot : ℕ) (all : List OpenRequest) → IsCollectingRowsSo start row list made
-    → w.book ≡ row.mark.book → slot < slots_of (account_of start.book row.account) → IsCollectingRows start w row.account row.own all slot 0 (made + 1)
+    → w.book ≡ row.mark.book → slot < slots_of (account_of start.book row.account) → IsCollectingRows start w row.account row.own all slot (made + 1)
     → IsCollectingRowsSo start (starting_row w row.account slot row.own) all (made + 1)
 IsCollectingRowsSo-row start w row list made slot all so book slot_in so_far = record {
   seat = so.seat;
@@ -170,16 +170,16 @@ pub record HasCollected (b : BookTerms) (v w : Knowledge) (a : ℕ) (own : OpenR
   pub few : length list ≤ slots_of (account_of b a)
 
 pub HasCollected-IsCollectingRows : (b : BookTerms) (v w : Knowledge) (a : ℕ) (own : OpenRequest) (list : List OpenRequest) (slot made : ℕ) → v.book ≡ b → IsKept v
-    → HasAsked v.book v a own → slot ≡ slots_of (account_of b a) → IsCollectingRows v w a own list slot 0 made → HasCollected b v w a own list made
+    → HasAsked v.book v a own → slot ≡ slots_of (account_of b a) → IsCollectingRows v w a own list slot made → HasCollected b v w a own list made
 HasCollected-IsCollectingRows b v w a own list slot made book kept asked_there whole all =
     let asked : HasAsked b v a own = subst (λ (t : BookTerms). HasAsked t v a own) book asked_there in
     let has : HasAccount v a = HasAccount-IsSeat v v.first (own_part v).published a kept asked_there.slot_in.account_in in
     let some = (all.own_in (omega (arith, whole, asked.slot_in.within))).1 in
     record {
-      collected = HasLoadedRows-IsCollectingRows b v w a own list slot 0 made has asked all whole;
-      rows = CollectsRows-IsCollectingRows b v w a own list slot 0 made asked all whole;
-      candidates = AreCandidates-IsCollectingRows b v w a own list slot 0 made has asked all whole;
-      own_is = HasAsked-IsCollectingRows b v w a own list slot 0 made has asked all;
-      turns = omega (arith, steps-IsCollectingRows b v w a own list slot 0 made asked all whole, some);
+      collected = HasLoadedRows-IsCollectingRows b v w a own list slot made has asked all whole;
+      rows = CollectsRows-IsCollectingRows b v w a own list slot made asked all whole;
+      candidates = AreCandidates-IsCollectingRows b v w a own list slot made has asked all whole;
+      own_is = HasAsked-IsCollectingRows b v w a own list slot made has asked all;
+      turns = omega (arith, steps-IsCollectingRows b v w a own list slot made asked all whole, some);
       few = omega (arith, all.few, whole);
     }

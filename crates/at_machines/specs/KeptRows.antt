@@ -37,7 +37,7 @@ pub record IsLoadingRowSo (r : LoadingRowTerms) (stage : RowStage) : Type 0 wher
 pub record IsAmidRows (start : Knowledge) (row : LoadingRowTerms) (list : List OpenRequest) (made : ℕ) : Type 0 where
   pub slot_in : row.slot < slots_of (account_of start.book row.account)
   pub before : ℕ
-  pub so_far : IsCollectingRows start row.start row.account row.own list row.slot 0 before
+  pub so_far : IsCollectingRows start row.start row.account row.own list row.slot before
   pub turns : made ≡ before + row_turns row.next
   pub few : row_turns row.next ≤ REQUEST_WORDS
   pub own_row : row.slot ≡ row.own.slot → row_turns row.next ≡ 0

@@ -1,6 +1,7 @@
 -- Snapshots that are made one load a turn.
 use Rattle.std.specs.Prelude.{◌≡◌, ℕ, ◌+◌, ◌-◌, ◌*◌, ◌<◌}
 use Rattle.at_ledger.specs.Book.{BookTerms}
+use Rattle.at_board.specs.Counting.{stepped}
 use Rattle.at_board.specs.Knowledge.Seats.{SeatTerms}
 use Rattle.at_board.specs.declared.knowledge.Knowledge.{Knowledge}
 use Rattle.at_machines.specs.Collecting.{LoadsLengthOf}
@@ -20,10 +21,10 @@ pub record SnappingTerms : Type 0 where
   pub next : NextLoad
   pub left : ℕ
 
--- just this load was made. A word of a view leaves the seat as it was
+-- just this load was made. A word of a view tells the seat nothing new
 abbrev pub MakesLoad : BookTerms → NextLoad → SeatTerms → SeatTerms → Type 0
 MakesLoad b (length_of p) before after = LoadsLengthOf b before.knows after.knows p
-MakesLoad b (view_word k) before after = after ≡ before
+MakesLoad b (view_word k) before after = after ≡ stepped before 1
 MakesLoad b nothing before after = ⊥
 
 -- a collect or a view begins, or nothing is left

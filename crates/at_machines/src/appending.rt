@@ -69,11 +69,7 @@ impl Appending {
     }
 
     /// Stores the next word of the record, in one step, and publishes it once all are stored. Whether this turn has published it.
-    pub fn turn(
-        &mut self,
-        board: &Board,
-        seat: &mut BoardSeat,
-    ) -> bool
+    pub fn turn(&mut self, board: &Board, seat: &mut BoardSeat) -> bool
         requires board { IsOf seat.old board.now }
         requires mark { seat.old.knows ≡ self.old.mark }
         requires left { self.old.stored ≤ record_width board.now.book }

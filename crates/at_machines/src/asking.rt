@@ -86,11 +86,7 @@ impl Asking {
 
     /// Stores the next word of the request, in one step, and announces it once all are stored. That turn answers its number among
     /// those of its slot.
-    pub fn turn(
-        &mut self,
-        board: &Board,
-        seat: &mut BoardSeat,
-    ) -> Option<u32>
+    pub fn turn(&mut self, board: &Board, seat: &mut BoardSeat) -> Option<u32>
         requires board { IsOf seat.old board.now }
         requires mark { seat.old.knows ≡ self.old.mark }
         requires left { self.old.stored ≤ REQUEST_WORDS }

@@ -58,11 +58,7 @@ impl Collecting {
     }
 
     /// Loads the length of the next process, in one step. After the last one it answers the counts.
-    pub fn turn(
-        &mut self,
-        board: &Board,
-        seat: &mut BoardSeat,
-    ) -> Option<Counts>
+    pub fn turn(&mut self, board: &Board, seat: &mut BoardSeat) -> Option<Counts>
         requires board { IsOf seat.old board.now }
         requires mark { seat.old.knows ≡ self.old.mark }
         requires left { self.old.loaded < board.now.book.processes }

@@ -72,11 +72,7 @@ impl CollectingRows {
     }
 
     /// Makes the next load, in one step. After the last one it answers the requests that were found.
-    pub fn turn(
-        &mut self,
-        board: &Board,
-        seat: &mut BoardSeat,
-    ) -> Option<Asked>
+    pub fn turn(&mut self, board: &Board, seat: &mut BoardSeat) -> Option<Asked>
         requires board { IsOf seat.old board.now }
         requires mark { seat.old.knows ≡ self.old.mark }
         requires left { self.old.next ≢ NextRowLoad.nothing }

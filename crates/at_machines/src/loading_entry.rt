@@ -63,11 +63,7 @@ impl LoadingEntry {
     }
 
     /// Loads the next word of the entry, in one step. After the last one it answers the entry.
-    pub fn turn(
-        &mut self,
-        board: &Board,
-        seat: &mut BoardSeat,
-    ) -> Option<Entry>
+    pub fn turn(&mut self, board: &Board, seat: &mut BoardSeat) -> Option<Entry>
         requires board { IsOf seat.old board.now }
         requires mark { seat.old.knows ≡ self.old.knows }
         requires left { self.old.loaded < RECORD_WORDS }

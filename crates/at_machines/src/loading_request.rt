@@ -74,11 +74,7 @@ impl LoadingRequest {
     }
 
     /// Loads the next word of the request, in one step. After the last one it answers the request, whole as it was announced.
-    pub fn turn(
-        &mut self,
-        board: &Board,
-        seat: &mut BoardSeat,
-    ) -> Option<OpenRequest>
+    pub fn turn(&mut self, board: &Board, seat: &mut BoardSeat) -> Option<OpenRequest>
         requires board { IsOf seat.old board.now }
         requires mark { seat.old.knows ≡ self.old.mark }
         requires left { self.old.loaded < REQUEST_WORDS }

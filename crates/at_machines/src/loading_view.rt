@@ -65,11 +65,7 @@ impl LoadingView {
     }
 
     /// Loads the next word of the view, in one step. After the last one it answers the view.
-    pub fn turn(
-        &mut self,
-        board: &Board,
-        seat: &mut BoardSeat,
-    ) -> Option<Counts>
+    pub fn turn(&mut self, board: &Board, seat: &mut BoardSeat) -> Option<Counts>
         requires board { IsOf seat.old board.now }
         requires mark { seat.old.knows ≡ self.old.knows }
         requires left { self.old.loaded < board.now.book.processes }

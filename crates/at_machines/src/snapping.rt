@@ -67,11 +67,7 @@ impl Snapping {
     }
 
     /// Makes the next load of the snapshot, in one step. After the last one it answers the counts.
-    pub fn turn(
-        &mut self,
-        board: &Board,
-        seat: &mut BoardSeat,
-    ) -> Option<Counts>
+    pub fn turn(&mut self, board: &Board, seat: &mut BoardSeat) -> Option<Counts>
         requires board { IsOf seat.old board.now }
         requires mark { seat.old.knows ≡ self.old.mark }
         requires left { 0 < self.old.left }
@@ -90,12 +86,9 @@ impl Snapping {
         ensures exchanges { seat.new.exchanges ≡ seat.old.exchanges }
     {
         seat.known();
-        let counts = self.stage.turn(
-            board,
-            seat,
-            &mut self.collects,
-            &mut self.collected
-        );
+        let counts = self
+            .stage
+            .turn(board, seat, &mut self.collects, &mut self.collected);
         self.mark = Snapshot::of(seat);
         counts
     }

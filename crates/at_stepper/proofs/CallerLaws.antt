@@ -13,11 +13,13 @@ use Rattle.at_board.specs.Knowledge.Seats.{IsKept, SeatTerms}
 use Rattle.at_board.specs.declared.words.TheConstants.{RECORD_WORDS}
 use Rattle.at_log.specs.declared.receipt.Receipt.{Receipt}
 use Rattle.at_object.specs.Parted.{IsOfOnePass, pass_of}
-use Rattle.at_object.specs.Passes.{PassTerms, Stands, one_more_call}
+use Rattle.at_object.specs.CallCounts.{CallCountTerms}
+use Rattle.at_object.specs.Passes.{PassTerms, Stands, seat_of}
 use Rattle.at_object.specs.Payments.{IsRefused, has_used_up}
 use Rattle.at_object.specs.declared.parts.Rest.{Rest}
+use Rattle.at_calling.proofs.Laws.Made.{process-CallMade}
 use Rattle.at_stepper.specs.Callers.{CallerTerms, IsAnswered, IsFile, IsStillCalling, caller_turns_left, calls_left_of, is_refused, most_turns, next_call, steps_in}
-use Rattle.at_calling.specs.Calling.{CallMade, CallingTerms, IsCallWithin, IsWay, StaysWithin, call_steps, call_turns_left, exchanges_made, exchanges_of, pass_before, refusal_in, steps_made, steps_of}
+use Rattle.at_calling.specs.Calling.{CallMade, CallingTerms, IsCallWithin, IsWay, StaysWithin, call_steps, call_turns_left, exchanges_made, exchanges_of, pass_before, refusal_in, steps_made, steps_of, with_one_call}
 use Rattle.at_stepper.specs.KeptCallers.{IsCallBegun, IsCallerOf, IsMakingSo, IsNextInMaking, caller_of, calls_answered, pass_in, stage_in}
 use Rattle.at_calling.specs.declared.call_stage.CallStage.{CallStage}
 use Rattle.at_calling.specs.declared.call_stage.CallStage.TheVariants.{PayAlone, PayShared, Read as ReadOn, Refuse, Refused}
@@ -80,17 +82,11 @@ steps_in-Answer b before after call (PayShared paying) r made none way left =
       | inr other ↦ ap (λ t. cond t 0 1) (sym other)
     ]
 
--- the call and the process of what a call leaves
+-- the call of what a call leaves
 pub call-CallMade : (b : BookTerms) (before after : PassTerms) (call : Call) (r : Receipt) → CallMade b before after call r → r.call ≡ call
 call-CallMade b before after (Transfer from to amount) r made = made.call_is
 call-CallMade b before after (Read account) r made = made.call_is
 call-CallMade b before after (Pay from targets) r made = made.call_is
-
-pub process-CallMade : (b : BookTerms) (before after : PassTerms) (call : Call) (r : Receipt) → CallMade b before after call r
-    → after.knows.first ≡ before.knows.first
-process-CallMade b before after (Transfer from to amount) r made = made.process_is
-process-CallMade b before after (Read account) r made = made.process_is
-process-CallMade b before after (Pay from targets) r made = made.process_is
 
 -- the pass between calls, once the next one is begun
 pub pass_in-IsCallBegun : (b : BookTerms) (seat : SeatTerms) (rest : Rest) (calls : List Call) (made : ℕ) (next : Option CallingTerms)
@@ -225,9 +221,8 @@ module _ (b : BookTerms) (seat : SeatTerms) (rest : Rest) (calls : List Call) (r
     -- the call is answered, and the next one is begun
     module _ (r : Receipt) (made : CallMade b (pass_before c) (pass_of after_seat after_rest) c.call r)
         (stands : (earlier : List Receipt) → Stands (pass_before c) earlier → Stands (pass_of after_seat after_rest) (earlier ++ r ∷ []))
-        (one_pass : IsOfOnePass after_seat after_rest) (one_more : after_rest.calls ≡ one_more_call c.was.calls)
-        (within : StaysWithin b (pass_before c) (pass_of after_seat after_rest) c.call (steps_made d.stage) (exchanges_made d.stage) r)
-        (all : List Receipt)
+        (one_pass : IsOfOnePass after_seat after_rest) (one_more : after_rest.calls ≡ with_one_call c.was.calls)
+        (within : StaysWithin b (pass_before c) (pass_of after_seat after_rest) c.call r) (none : IsRefused r → steps_made d.stage ≡ 0) (all : List Receipt)
         (pushed : all ≡ receipts ++ r ∷ []) (then : Option CallingTerms) (begun : IsCallBegun b after_seat after_rest calls (length all) then) where
       abbrev answered : CallerTerms
       answered = caller_of after_seat after_rest calls all then
@@ -240,7 +235,7 @@ module _ (b : BookTerms) (seat : SeatTerms) (rest : Rest) (calls : List Call) (r
 
       steps : steps_of c.stage ≡ steps_in (Answer r)
       steps = steps_in-Answer b (pass_before c) (pass_of after_seat after_rest) c.call c.stage r made
-          (λ refused. sym turns ∙ within.refused refused) way_in_making left_in_making
+          (λ refused. sym turns ∙ none refused) way_in_making left_in_making
 
       stands_all : Stands (pass_in after_seat after_rest then) all
       stands_all =
@@ -258,16 +253,10 @@ module _ (b : BookTerms) (seat : SeatTerms) (rest : Rest) (calls : List Call) (r
             subst (λ (call : Call). CallMade b (pass_before c) (pass_in after_seat after_rest then) call r) next.call_is
             (subst (λ (p : PassTerms). CallMade b (pass_before c) p c.call r) (sym after_pass) made);
         stands = stands_all;
-        seat = ap (λ (p : PassTerms). record { board = p.board; knows = p.knows }) after_pass;
+        seat = ap seat_of after_pass;
         within =
-            subst (λ n. StaysWithin b (pass_before c) (pass_in after_seat after_rest then) (next_call before) n
-            (exchanges_made c.stage + exchanges_of c.stage) r)
-            (turns ∙ ap (λ n. steps_made c.stage + n) steps)
-            (subst (λ n. StaysWithin b (pass_before c) (pass_in after_seat after_rest then) (next_call before) (steps_made d.stage) n r) exchanges
-            (subst (λ (call : Call). StaysWithin b (pass_before c) (pass_in after_seat after_rest then) call (steps_made d.stage)
-            (exchanges_made d.stage) r) next.call_is
-            (subst (λ (p : PassTerms). StaysWithin b (pass_before c) p c.call (steps_made d.stage) (exchanges_made d.stage) r)
-            (sym after_pass) within)));
+            subst (λ (call : Call). StaysWithin b (pass_before c) (pass_in after_seat after_rest then) call r) next.call_is
+            (subst (λ (p : PassTerms). StaysWithin b (pass_before c) p c.call r) (sym after_pass) within);
         unturned = unturned-IsCallBegun b after_seat after_rest calls (length all) then begun;
         unexchanged = unexchanged-IsCallBegun b after_seat after_rest calls (length all) then begun;
         way = λ more. way-IsCallBegun b after_seat after_rest calls (length all) then begun more;
@@ -296,7 +285,7 @@ module _ (b : BookTerms) (seat : SeatTerms) (rest : Rest) (calls : List Call) (r
           file = subst (λ (x : BookTerms). IsFile (length x.accounts) calls) (book ∙ sym same_book) was.caller.file;
           stands = stands_all;
           counted = ap (λ (p : PassTerms). p.calls) after_pass
-              ∙ omega (arith, one_more, count, was.caller.counted, was.caller.file.few, next.more);
+              ∙ omega (arith, ap (λ (n : CallCountTerms). n.count) one_more, count, was.caller.counted, was.caller.file.few, next.more);
           made =
               ap calls_answered pushed
               ∙ (map-append (λ (x : Receipt). x.call) receipts (r ∷ [])

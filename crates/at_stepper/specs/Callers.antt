@@ -10,8 +10,7 @@ use Rattle.at_board.specs.Knowledge.Seats.{SeatTerms}
 use Rattle.at_board.specs.declared.words.TheConstants.{RECORD_WORDS}
 use Rattle.at_fold.specs.Sums.{TotalSums}
 use Rattle.at_log.specs.declared.receipt.Receipt.{Receipt}
-use Rattle.at_object.specs.Parted.{seat_of}
-use Rattle.at_object.specs.Passes.{PassTerms, Stands}
+use Rattle.at_object.specs.Passes.{PassTerms, Stands, seat_of}
 use Rattle.at_calling.specs.Calling.{CallMade, IsWay, StaysWithin, call_steps, exchanges_made, exchanges_of, steps_made}
 use Rattle.at_calling.specs.declared.call_stage.CallStage.{CallStage}
 use Rattle.at_stepper.specs.declared.turned.Turned.{Turned}
@@ -84,8 +83,7 @@ pub record IsAnswered (b : BookTerms) (before after : CallerTerms) (r : Receipt)
   pub made : CallMade b before.pass after.pass (next_call before) r
   pub stands : Stands after.pass after.receipts
   pub seat : seat_of after.pass ≡ after.seat
-  pub within : StaysWithin b before.pass after.pass (next_call before) (steps_made before.stage + steps_in (Answer r))
-      (exchanges_made before.stage + exchanges_of before.stage) r
+  pub within : StaysWithin b before.pass after.pass (next_call before) r
   pub unturned : steps_made after.stage ≡ 0
   pub unexchanged : exchanges_made after.stage ≡ 0
   pub way : length after.receipts < length after.calls → IsWay b after.pass (next_call after) after.stage

@@ -3,13 +3,14 @@ use Rattle.std.specs.Prelude.{◌≡◌, ◌≢◌, ℕ, ◌+◌, ◌^◌, ◌<�
 use Rattle.std.specs.Global.{Global}
 use Rattle.at_ledger.specs.Book.{BookTerms}
 use Rattle.at_ledger.specs.declared.call.Call.{Call}
+use Rattle.at_board.specs.Counting.{raised}
 use Rattle.at_board.specs.Knowledge.Seats.{BoardTerms, IsOf}
 use Rattle.at_log.specs.declared.receipt.Receipt.{Receipt}
 use Rattle.at_object.specs.Closings.{AreAccountedFor}
 use Rattle.at_object.specs.Parted.{HasMemoryFor}
 use Rattle.at_object.specs.Passes.{IsPassOf, PassTerms, Stands}
-use Rattle.at_stepper.specs.Callers.{CallerTerms, LeavesCaller, answers_in, caller_turns_left, calls_left_of}
-use Rattle.at_calling.specs.Calling.{MakesCallStep}
+use Rattle.at_stepper.specs.Callers.{CallerTerms, LeavesCaller, answers_in, caller_turns_left, calls_left_of, steps_in}
+use Rattle.at_calling.specs.Calling.{MakesCallStep, exchanges_of}
 use Rattle.at_stepper.specs.KeptCallers.{calls_answered}
 use Rattle.at_stepper.specs.Stepping.{IsOver, StepperTerms, all_turns_left, calls_left, files_of}
 use Rattle.at_stepper.specs.declared.caller.Start.{Start}
@@ -53,6 +54,8 @@ pub record AreCallersOn (ledger : BoardTerms) (callers : List CallerTerms) : Typ
 pub record IsTurned (b : BookTerms) (turned : Turned) (before after : CallerTerms) : Type 0 where
   pub leaves : LeavesCaller b before after turned
   pub step : MakesCallStep b before.stage before.seat after.seat after.totals
+  pub steps : after.seat.steps ≡ raised before.seat.steps (steps_in turned)
+  pub exchanges : after.seat.exchanges ≡ raised before.seat.exchanges (exchanges_of before.stage)
   pub calls : after.calls ≡ before.calls
   pub left : calls_left_of before ≡ calls_left_of after + answers_in turned
   pub turns_left : caller_turns_left b after < caller_turns_left b before

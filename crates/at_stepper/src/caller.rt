@@ -6,7 +6,7 @@ ghost use Rattle.at_board.specs.Counting.{raised};
 ghost use Rattle.at_board.specs.Knowledge.Seats.{IsOf};
 ghost use Rattle.at_ledger.specs.Call.{IsCallOn};
 ghost use Rattle.at_ledger.specs.declared.call.Call.{Call};
-ghost use Rattle.at_object.specs.Parted.{HasMemoryFor, IsOfOnePass, seat_of};
+ghost use Rattle.at_object.specs.Parted.{HasMemoryFor, IsOfOnePass};
 ghost use Rattle.at_object.specs.Passes.{IsPassOf, Stands};
 ghost use Rattle.at_stepper.specs.Callers.{IsFile, IsNewCaller, LeavesCaller, answers_in, caller_turns_left, calls_left_of, steps_in};
 ghost use Rattle.at_calling.specs.Calling.{MakesCallStep, exchanges_of};
@@ -92,10 +92,7 @@ impl Caller {
     }
 
     /// Makes the next step of the call in the making. Where this ends the call, its receipt is kept and answered.
-    pub(crate) fn turn(
-        &mut self,
-        board: &Board,
-    ) -> Turned
+    pub(crate) fn turn(&mut self, board: &Board) -> Turned
         requires board { IsOf self.old.seat board.now }
         requires left { 0 < calls_left_of self.old }
         ensures turned { LeavesCaller board.now.book self.old self.new result }
@@ -108,8 +105,9 @@ impl Caller {
         ensures process { self.new.pass.knows.first ≡ self.old.pass.knows.first }
         ensures pass { IsPassOf self.old.pass board.now → IsPassOf self.new.pass board.now }
         ensures board { IsOf self.new.seat board.now }
-        ensures steps { seat.new.steps ≡ raised seat.old.steps (steps_in result) }
-        ensures exchanges { seat.new.exchanges ≡ raised seat.old.exchanges (exchanges_of self.old.stage) }
+        ensures steps { self.new.seat.steps ≡ raised self.old.seat.steps (steps_in result) }
+        ensures exchanges { self.new.seat.exchanges
+            ≡ raised self.old.seat.exchanges (exchanges_of self.old.stage) }
     {
         let Some(calling) = &mut self.making.calling else {
             // A call is left, and so it is in the making.

@@ -12,8 +12,6 @@ use crate::stepper::Stepper;
 use at_ledger::{Book, Call, Line};
 use at_object::NoMemory;
 use std::alloc::{AllocError, Global};
-use std::marker::Brand;
-use std::sync::ledger::{Blank, Ledger};
 
 /// A turn of a process, and whether it answered a call.
 #[derive(Drop)]
@@ -49,43 +47,12 @@ pub fn replay(
     let Ok(mut stepper) = Stepper::new(alloc, book, files) else {
         return Err(AllocError);
     };
-    let turns = turns_of::<Brand, Brand>(
-        alloc,
-        &mut stepper,
-        book.processes(),
-        schedule,
-        Blank::new(1),
-        Blank::new(1),
-    )?;
+    let mut turns = Vec::new(alloc);
+    make_turns(&mut stepper, book.processes(), schedule, &mut turns)?;
     match stepper.finish(alloc) {
         Ok(lines) => Ok(Replayed { lines, turns }),
         Err(_) => Err(AllocError),
     }
-}
-
-/// Makes all turns of a new run, with new counters.
-fn turns_of(
-    alloc: Global,
-    stepper: &mut Stepper,
-    processes: u32,
-    schedule: &[u32],
-    steps: Blank,
-    exchanges: Blank,
-) -> Result<Vec<TurnMade>, NoMemory>
-    requires unturned { IsUnturned stepper.old }
-    requires count { length stepper.old.callers ≡ processes }
-    requires schedule { All (λ process. process < processes) schedule.now }
-    requires names { (steps.name ≡ L.name) × (exchanges.name ≡ X.name) }
-    requires parts { (steps.parts ≡ L.parts) × (exchanges.parts ≡ X.parts) }
-    requires some { (0 < steps.parts) × (0 < exchanges.parts) }
-    ensures turns { IfOk result
-        (λ turns. AreTurnsOf (files_of stepper.old) schedule.now turns.items) }
-    ensures over { OnOk result (IsOver stepper.new) }
-    ensures same { IsSameRun stepper.old stepper.new }
-{
-    let mut turns = Vec::new(alloc);
-    make_turns(stepper, processes, schedule, &mut turns)?;
-    Ok(turns)
 }
 
 /// Makes all turns of a new run: those of the schedule, and then those of all processes in turn until all are idle.
@@ -112,11 +79,7 @@ fn make_turns(
 }
 
 /// Makes turns of processes 0, 1 and so on in turn, again and again, until all are idle.
-fn run_out(
-    stepper: &mut Stepper,
-    processes: u32,
-    turns: &mut Vec<TurnMade>,
-) -> Result<(), NoMemory>
+fn run_out(stepper: &mut Stepper, processes: u32, turns: &mut Vec<TurnMade>) -> Result<(), NoMemory>
     requires count { length stepper.old.callers ≡ processes }
     ensures turned { OnOk result (TurnInRounds processes turns.old.items stepper.old
         turns.new.items stepper.new) }

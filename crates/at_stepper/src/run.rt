@@ -1,9 +1,6 @@
 //! What a run is made with.
 
-ghost use Rattle.std.specs.Prelude.{◌≡◌, ◌+◌, ◌<◌, ◌==◌, length, slice_index, slice_index_or};
-ghost use Rattle.at_board.specs.Counting.{raised};
-ghost use Rattle.at_stepper.specs.Callers.{CallerTerms, steps_in};
-ghost use Rattle.at_calling.specs.Calling.{exchanges_of};
+ghost use Rattle.std.specs.Prelude.{◌≡◌, ◌<◌, ◌==◌, length, slice_index};
 ghost use Rattle.at_stepper.specs.KeptStepping.{AreCallersOn, TurnsOne, stepper_terms};
 ghost use Rattle.at_stepper.specs.Stepping.{calls_left};
 
@@ -28,17 +25,11 @@ impl Run {
     }
 
     /// Makes the process's next turn.
-    pub(crate) fn turn(
-        &mut self,
-        process: u32,
-    ) -> Turned
+    pub(crate) fn turn(&mut self, process: u32) -> Turned
         requires callers { AreCallersOn self.old.ledger self.old.callers.items }
         requires left { 0 < slice_index (calls_left (stepper_terms self.old)) process }
         ensures turned { TurnsOne process result (stepper_terms self.old) (stepper_terms self.new) }
         ensures callers { AreCallersOn self.new.ledger self.new.callers.items }
-        ensures steps { seat.new.steps ≡ raised seat.old.steps (steps_in result) }
-        ensures exchanges { (d : CallerTerms) → seat.new.exchanges ≡ seat.old.exchanges
-            + exchanges_of (slice_index_or self.old.callers.items process d).stage }
     {
         let caller = &mut self.callers[process as usize];
         caller.turn(self.ledger.board())

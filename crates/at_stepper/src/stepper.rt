@@ -75,10 +75,7 @@ impl Stepper {
     /// Makes the process's next turn: one step of the board, or none where its call is answered not-owner or full. The last turn of a call
     /// answers its receipt, and the call after it begins with the process's next turn. The work is that of one step, and of a copy of the
     /// receipt where there is one. It takes no memory.
-    pub fn turn(
-        &mut self,
-        process: u32,
-    ) -> Turned
+    pub fn turn(&mut self, process: u32) -> Turned
         requires left { 0 < slice_index (calls_left self.old) process }
         ensures turned { (d : CallerTerms) → LeavesCaller self.old.ledger.book
             (slice_index_or self.old.callers process d)
@@ -99,9 +96,12 @@ impl Stepper {
             → slice_index (calls_left self.new) q ≡ slice_index (calls_left self.old) q }
         // Whatever is scheduled, the turns come to an end.
         ensures turns_left { all_turns_left self.new < all_turns_left self.old }
-        ensures steps { seat.new.steps ≡ raised seat.old.steps (steps_in result) }
-        ensures exchanges { (d : CallerTerms) → seat.new.exchanges ≡ seat.old.exchanges
-            + exchanges_of (slice_index_or self.old.callers process d).stage }
+        ensures steps { (d : CallerTerms) → (slice_index_or self.new.callers process d).seat.steps
+            ≡ raised (slice_index_or self.old.callers process d).seat.steps (steps_in result) }
+        ensures exchanges { (d : CallerTerms)
+            → (slice_index_or self.new.callers process d).seat.exchanges
+            ≡ raised (slice_index_or self.old.callers process d).seat.exchanges
+            (exchanges_of (slice_index_or self.old.callers process d).stage) }
     {
         match &mut self.progress {
             Progress::Running(run) => run.turn(process),

@@ -11,9 +11,7 @@ use at_ledger::Reply;
 use at_log::{At, Receipt};
 use at_players::boards::new_pair;
 use std::alloc::Global;
-use std::marker::Brand;
 use std::process::Abort;
-use std::sync::ledger::{Blank, Ledger};
 
 /// Account 1 of process 0 and account 2 of process 1.
 const ACCOUNTS: &[(u64, &[u64])] = &[(0, &[]), (10, &[0]), (10, &[1])];
@@ -59,56 +57,31 @@ fn is_read(
     taken == turns && receipt.reply == Reply::Balance(balance)
 }
 
+/// Whether a seat has made so many steps, and no exchange.
+fn has_made(seat: &BoardSeat, steps: u32) -> bool {
+    seat.steps() == u64::from(steps) && seat.exchanges() == 0
+}
+
 /// Process 0 pays, and process 1 reads account 0 then.
-fn pays_and_reads<R: Abort>(
-    rt: &R,
-    alloc: Global,
-    one: Blank,
-    another: Blank,
-    payment: (u64, bool, u32),
-    read: (u64, u32),
-)
-    requires names { (one.name ≡ L.name) × (another.name ≡ X.name) }
-    requires parts { (one.parts ≡ L.parts) × (another.parts ≡ X.parts) }
-    requires some { (0 < one.parts) × (0 < another.parts) }
-{
+fn pays_and_reads<R: Abort>(rt: &R, alloc: Global, payment: (u64, bool, u32), read: (u64, u32)) {
     let (board, mut seat, mut other) = new_pair(alloc, 4, ACCOUNTS).expect(rt, "a board");
     let mut totals = Totals::new(alloc, board.book()).expect(rt, "totals");
     let mut others = Totals::new(alloc, board.book()).expect(rt, "totals of the other");
     let (balance, turns) = read;
     let paid = is_paid(&board, &mut seat, &mut totals, payment);
-    let told = is_read(
-        &board,
-        &mut other,
-        &mut others,
-        balance,
-        turns
-    );
+    let told = is_read(&board, &mut other, &mut others, balance, turns);
     assert!(rt; paid && told);
+    assert!(rt; has_made(&seat, payment.2) && has_made(&other, turns));
 }
 
 /// Two collects of two loads and ten stores; and for the read two collects and the seven words of the record.
 #[test]
 fn a_payment_is_read(rt: HostRuntime) {
-    pays_and_reads::<Brand, Brand, _>(
-        &rt,
-        rt.alloc(),
-        Blank::new(1),
-        Blank::new(1),
-        (3, true, 14),
-        (3, 11),
-    );
+    pays_and_reads(&rt, rt.alloc(), (3, true, 14), (3, 11));
 }
 
 /// Two collects, and nothing is stored; so the read has two collects too.
 #[test]
 fn a_payment_is_short(rt: HostRuntime) {
-    pays_and_reads::<Brand, Brand, _>(
-        &rt,
-        rt.alloc(),
-        Blank::new(1),
-        Blank::new(1),
-        (11, false, 4),
-        (0, 4),
-    );
+    pays_and_reads(&rt, rt.alloc(), (11, false, 4), (0, 4));
 }

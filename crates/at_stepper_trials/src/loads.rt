@@ -11,10 +11,7 @@ use at_log::{Entry, Record};
 use at_machines::{Collecting, LoadingEntry, LoadingView};
 
 /// The counts of a collect, and how many turns it took.
-fn collects(
-    board: &Board,
-    seat: &mut BoardSeat,
-) -> (Counts, u32)
+fn collects(board: &Board, seat: &mut BoardSeat) -> (Counts, u32)
     requires { IsOf seat.old board.now }
     ensures board { IsOf seat.new board.now }
     ensures seen { HasSeenSoMany seat.new result.0 }
@@ -31,11 +28,7 @@ fn collects(
 }
 
 /// The entry of the first record of a process, and how many turns its load took.
-fn loads_entry(
-    board: &Board,
-    seat: &mut BoardSeat,
-    p: u32,
-) -> (Entry, u32)
+fn loads_entry(board: &Board, seat: &mut BoardSeat, p: u32) -> (Entry, u32)
     requires board { IsOf seat.old board.now }
     requires record { SeesRecord seat.old.knows p 0 }
     ensures { seat.new ≡ seat.old }
@@ -51,11 +44,7 @@ fn loads_entry(
 }
 
 /// The view of that record, and how many turns its load took.
-fn loads_view(
-    board: &Board,
-    seat: &mut BoardSeat,
-    p: u32,
-) -> (Counts, u32)
+fn loads_view(board: &Board, seat: &mut BoardSeat, p: u32) -> (Counts, u32)
     requires board { IsOf seat.old board.now }
     requires record { SeesRecord seat.old.knows p 0 }
 {
@@ -72,10 +61,7 @@ fn loads_view(
 
 /// The first record of process 0, where a collect counts it, and how many turns the collect and the loads of its entry and its view
 /// took.
-pub(crate) fn loads_first(
-    board: &Board,
-    seat: &mut BoardSeat,
-) -> Option<(Record, (u32, u32, u32))>
+pub(crate) fn loads_first(board: &Board, seat: &mut BoardSeat) -> Option<(Record, (u32, u32, u32))>
     requires { IsOf seat.old board.now }
 {
     let (counts, lengths) = collects(board, seat);

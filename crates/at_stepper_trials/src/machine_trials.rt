@@ -12,9 +12,7 @@ use at_log::{Entry, Record};
 use at_machines::Snapping;
 use at_players::boards::new_pair;
 use std::alloc::Global;
-use std::marker::Brand;
 use std::process::Abort;
-use std::sync::ledger::{Blank, Ledger};
 
 /// Account 1 of process 0 and account 2 of process 1.
 const ACCOUNTS: &[(u64, &[u64])] = &[(0, &[]), (10, &[0]), (10, &[1])];
@@ -39,11 +37,7 @@ fn moves_nothing(record: &Record) -> bool {
 
 /// Whether process 0 moves nothing in 4 loads and 10 stores, and process 1 loads the record then, in 2 loads of lengths, 7 of words
 /// and 2 of counts.
-fn is_told(
-    board: &Board,
-    seat: &mut BoardSeat,
-    other: &mut BoardSeat,
-) -> bool
+fn is_told(board: &Board, seat: &mut BoardSeat, other: &mut BoardSeat) -> bool
     requires { AreNewPair board.now seat.old other.old }
 {
     let moved = moves(board, seat);
@@ -56,11 +50,7 @@ fn is_told(
 }
 
 /// Moves nothing so many times.
-fn moves_often(
-    board: &Board,
-    seat: &mut BoardSeat,
-    records: u32,
-) -> bool
+fn moves_often(board: &Board, seat: &mut BoardSeat, records: u32) -> bool
     requires { IsOf seat.old board.now }
 {
     for _record in 0..records {
@@ -82,9 +72,7 @@ fn snaps_beside(
     requires { AreNewPair board.now seat.old other.old }
 {
     let mut snapping = Snapping::start(board, seat);
-    if !goes_on(&mut snapping, board, seat)
-        || !goes_on(&mut snapping, board, seat)
-    {
+    if !goes_on(&mut snapping, board, seat) || !goes_on(&mut snapping, board, seat) {
         return None;
     }
     if !moves_often(board, other, records) {
@@ -102,53 +90,38 @@ fn has_ended(snapped: &Option<(Counts, u32)>, counts: (u32, u32), turns: u32) ->
 }
 
 /// One process moves, and the other loads the record.
-fn tells<R: Abort>(rt: &R, alloc: Global, one: Blank, another: Blank)
-    requires names { (one.name ≡ L.name) × (another.name ≡ X.name) }
-    requires parts { (one.parts ≡ L.parts) × (another.parts ≡ X.parts) }
-    requires some { (0 < one.parts) × (0 < another.parts) }
-{
+fn tells<R: Abort>(rt: &R, alloc: Global) {
     let (board, mut seat, mut other) = new_pair(alloc, 4, ACCOUNTS).expect(rt, "a board");
     assert!(rt; is_told(&board, &mut seat, &mut other));
+    assert!(rt; seat.steps() == 14 && other.steps() == 11);
 }
 
 /// A snapshot whose first collect is whole before the other process moves so many times.
-fn meets<R: Abort>(
-    rt: &R,
-    alloc: Global,
-    one: Blank,
-    another: Blank,
-    records: u32,
-    counts: (u32, u32),
-    turns: u32,
-)
-    requires names { (one.name ≡ L.name) × (another.name ≡ X.name) }
-    requires parts { (one.parts ≡ L.parts) × (another.parts ≡ X.parts) }
-    requires some { (0 < one.parts) × (0 < another.parts) }
-{
+fn meets<R: Abort>(rt: &R, alloc: Global, records: u32, counts: (u32, u32), turns: u32) {
     let (board, mut seat, mut other) = new_pair(alloc, 4, ACCOUNTS).expect(rt, "a board");
     let snapped = snaps_beside(&board, &mut seat, &mut other, records);
-    assert!(rt; has_ended(&snapped, counts, turns));
+    assert!(rt; has_ended(&snapped, counts, turns) && seat.steps() == 2 + u64::from(turns));
 }
 
 #[test]
 fn a_record_is_told(rt: HostRuntime) {
-    tells::<Brand, Brand, _>(&rt, rt.alloc(), Blank::new(1), Blank::new(1));
+    tells(&rt, rt.alloc());
 }
 
 /// A second collect, which equals the first.
 #[test]
 fn a_snapshot_ends(rt: HostRuntime) {
-    meets::<Brand, Brand, _>(&rt, rt.alloc(), Blank::new(1), Blank::new(1), 0, (0, 0), 2);
+    meets(&rt, rt.alloc(), 0, (0, 0), 2);
 }
 
 /// A second collect, which differs, and a third.
 #[test]
 fn a_snapshot_meets_a_record(rt: HostRuntime) {
-    meets::<Brand, Brand, _>(&rt, rt.alloc(), Blank::new(1), Blank::new(1), 1, (0, 1), 4);
+    meets(&rt, rt.alloc(), 1, (0, 1), 4);
 }
 
 /// A second collect, in which the other process has risen by two, and the view of its last record.
 #[test]
 fn a_snapshot_borrows_a_view(rt: HostRuntime) {
-    meets::<Brand, Brand, _>(&rt, rt.alloc(), Blank::new(1), Blank::new(1), 2, (0, 1), 4);
+    meets(&rt, rt.alloc(), 2, (0, 1), 4);
 }

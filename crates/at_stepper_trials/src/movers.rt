@@ -27,11 +27,7 @@ pub(crate) fn has_own_account(book: &Book, process: u32) -> bool
 }
 
 /// Whether one more turn doesn't end a snapshot.
-pub(crate) fn goes_on(
-    snapping: &mut Snapping,
-    board: &Board,
-    seat: &mut BoardSeat,
-) -> bool
+pub(crate) fn goes_on(snapping: &mut Snapping, board: &Board, seat: &mut BoardSeat) -> bool
     requires { IsStillSnapping board.now seat.old snapping.old }
     ensures { IsTrue result → IsStillSnapping board.now seat.new snapping.new }
 {
@@ -39,11 +35,7 @@ pub(crate) fn goes_on(
 }
 
 /// The counts of a snapshot, and in how many more turns it ends.
-pub(crate) fn ends(
-    mut snapping: Snapping,
-    board: &Board,
-    seat: &mut BoardSeat,
-) -> (Counts, u32)
+pub(crate) fn ends(mut snapping: Snapping, board: &Board, seat: &mut BoardSeat) -> (Counts, u32)
     requires { IsStillSnapping board.now seat.old snapping }
     ensures snapshot { IsSnapshot board.now.book snapping.start seat.new.knows result.0 }
     ensures loads { HasLoaded board.now.book snapping.start seat.new.knows }
@@ -59,11 +51,7 @@ pub(crate) fn ends(
 }
 
 /// Publishes a record. How many turns that took.
-fn appends(
-    mut appending: Appending,
-    board: &Board,
-    seat: &mut BoardSeat,
-) -> u32
+fn appends(mut appending: Appending, board: &Board, seat: &mut BoardSeat) -> u32
     requires board { IsOf seat.old board.now }
     requires mark { seat.old.knows ≡ appending.mark }
     requires left { appending.stored ≤ record_width board.now.book }
@@ -77,10 +65,7 @@ fn appends(
 }
 
 /// Moves nothing with the view of a snapshot, where there is room. How many turns the snapshot and the append took.
-pub(crate) fn moves(
-    board: &Board,
-    seat: &mut BoardSeat,
-) -> Option<(u32, u32)>
+pub(crate) fn moves(board: &Board, seat: &mut BoardSeat) -> Option<(u32, u32)>
     requires { IsOf seat.old board.now }
     ensures { IsOf seat.new board.now }
 {
@@ -98,10 +83,6 @@ pub(crate) fn moves(
         },
         view,
     };
-    let stores = appends(
-        Appending::start(seat, record),
-        board,
-        seat
-    );
+    let stores = appends(Appending::start(seat, record), board, seat);
     Some((loads, stores))
 }

@@ -13,18 +13,12 @@ use at_ledger::{Book, Call, Line};
 use at_log::Receipt;
 use at_object::{Ledger, Pass};
 use std::alloc::Global;
-use std::marker::Brand;
-use std::sync::ledger::Blank;
 
 /// How many calls are made by a pass at most.
 const MOST_CALLS: usize = 64;
 
 /// Makes a call on a pass.
-fn call_by(
-    ledger: &Ledger,
-    pass: &mut Pass,
-    call: &Call,
-) -> Receipt
+fn call_by(ledger: &Ledger, pass: &mut Pass, call: &Call) -> Receipt
     requires pass { IsPassOf pass.old ledger.now }
     requires call { IsCallOn (length ledger.now.book.accounts) call.now }
     ensures pass { IsPassOf pass.new ledger.now }
@@ -34,9 +28,7 @@ fn call_by(
     ensures calls { pass.new.calls ≡ one_more_call pass.old.calls }
 {
     match call {
-        Call::Transfer { from, to, amount } => ledger.transfer(
-            pass, *from, *to, *amount
-        ),
+        Call::Transfer { from, to, amount } => ledger.transfer(pass, *from, *to, *amount),
         Call::Read { account } => ledger.read(pass, *account),
         Call::Pay { from, targets } => ledger.pay(pass, *from, targets),
     }
@@ -71,12 +63,7 @@ fn make_all(
     receipts: &mut [Vec<Receipt>],
     files: &[Vec<Call>],
     order: &[u32],
-    steps: Blank,
-    exchanges: Blank,
 ) -> Option<()>
-    requires names { (steps.name ≡ L.name) × (exchanges.name ≡ X.name) }
-    requires parts { (steps.parts ≡ L.parts) × (exchanges.parts ≡ X.parts) }
-    requires some { (0 < steps.parts) × (0 < exchanges.parts) }
     requires made { HaveMadeCalls ledger.now passes.old receipts.old }
     ensures { IfSome result (λ _. HaveMadeCalls ledger.now passes.new receipts.new) }
 {
@@ -86,13 +73,7 @@ fn make_all(
         }
         let process = *process as usize;
         let file = files.get(process)?;
-        make_next(
-            ledger,
-            passes,
-            receipts,
-            process,
-            file.as_slice()
-        )?;
+        make_next(ledger, passes, receipts, process, file.as_slice())?;
     }
     Some(())
 }
@@ -129,14 +110,12 @@ pub(crate) fn journal_by_calls(alloc: Global, order: &[u32]) -> Option<Vec<Line>
     let book = small_book(alloc)?;
     let files = small_files(alloc).ok()?;
     let (ledger, mut passes, mut receipts) = new_ledger(alloc, &book)?;
-    make_all::<Brand, Brand>(
+    make_all(
         &ledger,
         passes.as_mut_slice(),
         receipts.as_mut_slice(),
         files.as_slice(),
         order,
-        Blank::new(1),
-        Blank::new(1),
     )?;
     journal_of(alloc, ledger, passes, receipts)
 }

@@ -9,8 +9,6 @@ use crate::small_files::{Outcome, outcome_of, small_book, small_files};
 use at_ledger::Line;
 use at_stepper::Stepper;
 use std::alloc::Global;
-use std::marker::Brand;
-use std::sync::ledger::{Blank, Ledger};
 
 /// Each order of the calls, by their processes.
 const ORDERS: [(Outcome, [u32; 3]); 3] = [
@@ -20,10 +18,7 @@ const ORDERS: [(Outcome, [u32; 3]); 3] = [
 ];
 
 /// Makes all turns of the next call of a process, if it has one.
-fn turn_call(
-    stepper: &mut Stepper,
-    process: u32,
-)
+fn turn_call(stepper: &mut Stepper, process: u32)
     requires { process < length stepper.old.callers }
     ensures { length stepper.new.callers ≡ length stepper.old.callers }
 {
@@ -35,15 +30,7 @@ fn turn_call(
 }
 
 /// Makes calls, the next of a process for each entry of an order. Whether that are all.
-fn turn_all(
-    stepper: &mut Stepper,
-    order: &[u32],
-    steps: Blank,
-    exchanges: Blank,
-) -> bool
-    requires names { (steps.name ≡ L.name) × (exchanges.name ≡ X.name) }
-    requires parts { (steps.parts ≡ L.parts) × (exchanges.parts ≡ X.parts) }
-    requires some { (0 < steps.parts) × (0 < exchanges.parts) }
+fn turn_all(stepper: &mut Stepper, order: &[u32]) -> bool
     requires two { length stepper.old.callers ≡ 2 }
     ensures { IsTrue result → IsOver stepper.new }
 {
@@ -68,7 +55,7 @@ fn new_stepper(alloc: Global) -> Option<Stepper>
 /// The journal of the small files where their calls are made by turns, one after another in this order of processes.
 fn journal_by_turns(alloc: Global, order: &[u32]) -> Option<Vec<Line>> {
     let mut stepper = new_stepper(alloc)?;
-    if !turn_all::<Brand, Brand>(&mut stepper, order, Blank::new(1), Blank::new(1)) {
+    if !turn_all(&mut stepper, order) {
         return None;
     }
     stepper.finish(alloc).ok()

@@ -1,20 +1,20 @@
 use Rattle.std.proofs.Common.{◌≡◌, ◌<◌, ◌↔◌, IfSome, IsSome, Option, None, Some, length, false, true, refl, sym, ap, subst, ◌∙◌, arith}
 use Rattle.at_ledger.specs.Book.{BookTerms}
 use Rattle.at_history.specs.Moves.{AreRuns}
+use Rattle.at_board.specs.Counting.{raised}
 use Rattle.at_board.specs.Knowledge.Seats.{SeatTerms}
 use Rattle.at_fold.specs.Sums.{TotalSums}
 use Rattle.at_log.specs.declared.receipt.Receipt.{Receipt}
-use Rattle.at_object.specs.Passes.{one_more_call}
 use Rattle.at_object.specs.Payments.{sent_after}
 use Rattle.at_object.specs.declared.parts.Rest.{Rest}
-use Rattle.at_calling.specs.Calling.{CallingTerms, MakesCallStep, call_turns_left}
+use Rattle.at_calling.specs.Calling.{CallingTerms, MakesCallStep, call_turns_left, exchanges_made, steps_made, with_one_call}
 use Rattle.at_calling.specs.KeptCalling.{IsCallingSo, TakesCallTurn}
 use Rattle.at_calling.specs.PayingAlone.{PayingAloneTerms, turns_made}
 use Rattle.at_calling.specs.declared.call_stage.CallStage.{CallStage}
 use Rattle.at_calling.specs.declared.call_stage.CallStage.TheVariants.{PayAlone}
 use Rattle.at_calling.proofs.CallingTurns.{Leaves, TakesCallTurn-stages, calling_next, Leaves-alone, few-alone, small-alone, still-alone}
 use Rattle.at_calling.proofs.calling.Calling.pay_alone_on.Given as given
-use Rattle.at_calling.proofs.calling.Calling.pay_alone_on.Goals.{After-known, After-one_more_call-rest, After-self}
+use Rattle.at_calling.proofs.calling.Calling.pay_alone_on.Goals.{After-known, After-count_one, After-self}
 use Rattle.at_calling.proofs.calling.Calling.pay_alone_on.Goals as goal
 
 -- the call before the turn
@@ -30,12 +30,23 @@ left c = subst (λ (k : CallStage). 0 < call_turns_left c.args.board.now.book k)
 runs : (c : After-known) → AreRuns c.args.board.now.book c.turn-paid.new.seat.knows.seen
 runs c = subst (λ (b : BookTerms). AreRuns b c.turn-paid.new.seat.knows.seen) c.turn-paid.ensures.board.book c.known.ensures.seat.history.runs
 
+-- the seat has counted all steps and exchanges of the call
+steps : (c : After-known) → c.turn-paid.new.seat.steps ≡ raised c.args.self.now.start.steps (turns_made c.turn-paid.new.self)
+steps c =
+    let so_far = (so (goal.at.After-known c).After-self).steps in
+    omega (arith, c.turn-paid.ensures.steps, c.turn-paid.ensures.turns, so_far, ap (λ (s : SeatTerms). s.steps) c.requires.mark, ap steps_made (stage_is c))
+
+exchanges : (c : After-known) → c.turn-paid.new.seat.exchanges ≡ raised c.args.self.now.start.exchanges (0)
+exchanges c =
+    let so_far = (so (goal.at.After-known c).After-self).exchanges in
+    omega (arith, c.turn-paid.ensures.exchanges, so_far, ap (λ (s : SeatTerms). s.exchanges) c.requires.mark, ap exchanges_made (stage_is c))
+
 -- what the turn leaves
 turned : (c : After-known) (mark : SeatTerms) → mark ≡ c.turn-paid.new.seat → (now : Rest) → now.totals ≡ c.turn-paid.new.totals → (rest : Rest)
     → rest ≡ now → (answer : Option Receipt)
     → (IsSome answer ↔ (call_turns_left c.args.board.now.book (PayAlone c.turn-paid.new.self) ≡ 0))
     → IfSome answer (Leaves c.args.board.now.book c.args.self.now c.turn-paid.new.seat now (turns_made c.turn-paid.new.self) 0)
-    → IfSome answer (λ r. now.calls ≡ one_more_call c.args.self.now.was.calls)
+    → IfSome answer (λ r. now.calls ≡ with_one_call c.args.self.now.was.calls)
     → TakesCallTurn c.args.board.now.book c.args.self.now (calling_next (record {
       call = c.self.inside.call;
       stage = c.self.inside.stage;
@@ -57,7 +68,7 @@ turned c mark mark_is now totals_are rest rest_is answer ends leaves calls =
     (TakesCallTurn-stages b t c.args.seat.now after mark mark_is now rest rest_is (PayAlone p) next (stage_is c) answer told.turns
     (subst (λ (s : TotalSums). MakesCallStep b (PayAlone p) c.args.seat.now after s) (sym totals_are) told.step) told.left
     (few-alone c.args.board.now t (so first) c.args.seat.now c.requires.mark c.requires.board after told.board p (stage_is c) (left c)
-    (length after.knows.seen) (turns_made c.turn-paid.new.self) told.so_far) ends (runs c) refl leaves calls)
+    (length after.knows.seen) (turns_made c.turn-paid.new.self) told.so_far) ends (runs c) refl leaves calls (steps c) (exchanges c))
 
 pub returns-in_err-receipt-clause-turned : goal.returns-in_err-receipt-clause-turned
 returns-in_err-receipt-clause-turned c =
@@ -92,32 +103,32 @@ sent_after-rest-requires c =
       ap (λ (q : Rest). q.sent) c.requires.rest,
     )
 
-abbrev rest_after : After-one_more_call-rest → Rest
-rest_after c = record { totals = c.turn-paid.new.totals; sent = c.sent_after-rest.result; calls = c.one_more_call-rest.result }
+abbrev rest_after : After-count_one → Rest
+rest_after c = record { totals = c.turn-paid.new.totals; sent = c.sent_after-rest.result; calls = c.count_one.new.self }
 
-leaves : (c : After-one_more_call-rest)
+calls_after : (c : After-count_one) → (rest_after c).calls ≡ with_one_call c.args.self.now.was.calls
+calls_after c =
+    let known = (goal.at.After-count_one c).After-known in
+    let first = (goal.at.After-known known).After-self in
+    c.count_one.ensures
+    ∙ (ap (λ (q : Rest). with_one_call q.calls) c.requires.rest
+    ∙ ap with_one_call (still-alone c.args.board.now c.args.self.now (so first) c.args.seat.now c.requires.mark c.requires.board c.turn-paid.new.seat c.turn-paid.ensures.board
+    c.in-PayAlone.paying (stage_is known) (left known)).calls_are)
+
+leaves : (c : After-count_one)
     → Leaves c.args.board.now.book c.args.self.now c.turn-paid.new.seat (rest_after c) (turns_made c.turn-paid.new.self) 0 c.in_ok-receipt.receipt
 leaves c =
-    let known = (goal.at.After-one_more_call-rest c).After-known in
+    let known = (goal.at.After-count_one c).After-known in
     let first = (goal.at.After-known known).After-self in
     let told = c.in_ok-receipt.ensures in
     Leaves-alone c.args.board.now c.args.self.now (so first) c.args.seat.now c.requires.mark c.requires.board c.turn-paid.new.seat c.turn-paid.ensures.board
     c.in-PayAlone.paying (stage_is known) (left known) (rest_after c) (turns_made c.turn-paid.new.self)
     c.in_ok-receipt.receipt c.known.ensures.seat told.answer told.leaves told.counted
-    (c.sent_after-rest.ensures ∙ ap (λ (q : Rest). sent_after q.sent c.in_ok-receipt.receipt.reply) c.requires.rest)
-
-calls_after : (c : After-one_more_call-rest) → (rest_after c).calls ≡ one_more_call c.args.self.now.was.calls
-calls_after c =
-    let known = (goal.at.After-one_more_call-rest c).After-known in
-    let first = (goal.at.After-known known).After-self in
-    c.one_more_call-rest.ensures
-    ∙ (ap (λ (q : Rest). one_more_call q.calls) c.requires.rest
-    ∙ ap one_more_call (still-alone c.args.board.now c.args.self.now (so first) c.args.seat.now c.requires.mark c.requires.board c.turn-paid.new.seat c.turn-paid.ensures.board
-    c.in-PayAlone.paying (stage_is known) (left known)).calls_are)
+    (c.sent_after-rest.ensures ∙ ap (λ (q : Rest). sent_after q.sent c.in_ok-receipt.receipt.reply) c.requires.rest) (calls_after c)
 
 pub returns-clause-turned : goal.returns-clause-turned
 returns-clause-turned c =
-    let ended = (goal.at.returns-clause-turned c).After-one_more_call-rest in
-    let known = (goal.at.After-one_more_call-rest ended).After-known in
+    let ended = (goal.at.returns-clause-turned c).After-count_one in
+    let known = (goal.at.After-count_one ended).After-known in
     turned known c.of.result.value c.of.ensures (rest_after ended) refl c.of-3.result.value c.of-3.ensures (Some c.in_ok-receipt.receipt)
     (λ some. c.in_ok-receipt.ensures.ends.0 refl, λ none. refl) (leaves ended) (calls_after ended)

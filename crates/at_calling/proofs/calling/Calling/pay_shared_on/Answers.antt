@@ -2,21 +2,21 @@ use Rattle.std.proofs.Common.{◌≡◌, ℕ, ◌-◌, ◌<◌, ◌≤◌, ◌�
 use Rattle.std.specs.List.{sum}
 use Rattle.at_ledger.specs.Book.{BookTerms}
 use Rattle.at_history.specs.Moves.{AreRuns}
+use Rattle.at_board.specs.Counting.{raised}
 use Rattle.at_board.specs.Knowledge.Seats.{SeatTerms}
 use Rattle.at_board.specs.declared.knowledge.Knowledge.{Knowledge}
 use Rattle.at_fold.specs.Sums.{TotalSums}
 use Rattle.at_log.specs.declared.receipt.Receipt.{Receipt}
-use Rattle.at_object.specs.Passes.{one_more_call}
 use Rattle.at_object.specs.declared.parts.Rest.{Rest}
 use Rattle.at_shared.specs.Helpings.{decides_made}
-use Rattle.at_calling.specs.Calling.{CallingTerms, MakesCallStep, call_turns_left}
+use Rattle.at_calling.specs.Calling.{CallingTerms, MakesCallStep, call_turns_left, exchanges_made, steps_made, with_one_call}
 use Rattle.at_calling.specs.KeptCalling.{IsCallingSo, TakesCallTurn}
 use Rattle.at_calling.specs.PayingShared.{PayingSharedTerms, share_exchanges_made, share_turns_left, share_turns_most}
 use Rattle.at_calling.specs.declared.call_stage.CallStage.{CallStage}
 use Rattle.at_calling.specs.declared.call_stage.CallStage.TheVariants.{PayShared}
 use Rattle.at_calling.proofs.CallingTurns.{Leaves, TakesCallTurn-stages, calling_next, IsCallingSo-shared, Leaves-shared, few-shared, share_exchanges_made-ended, still-shared}
 use Rattle.at_calling.proofs.calling.Calling.pay_shared_on.Given as given
-use Rattle.at_calling.proofs.calling.Calling.pay_shared_on.Goals.{After-known, After-one_more_call-rest, After-self}
+use Rattle.at_calling.proofs.calling.Calling.pay_shared_on.Goals.{After-known, After-count_one, After-self}
 use Rattle.at_calling.proofs.calling.Calling.pay_shared_on.Goals as goal
 
 -- the call before the turn
@@ -44,12 +44,23 @@ few c =
       ap (λ (s : TotalSums). share_turns_most c.args.board.now.book c.in-PayShared.paying.account (records - sum s.upto)) told.was,
     )
 
+-- the seat has counted all steps and exchanges of the call
+steps : (c : After-known) → c.turn-paid.new.seat.steps ≡ raised c.args.self.now.start.steps (c.turn-paid.new.self.turns)
+steps c =
+    let so_far = (so (goal.at.After-known c).After-self).steps in
+    omega (arith, c.turn-paid.ensures.steps, c.turn-paid.ensures.turns, so_far, ap (λ (s : SeatTerms). s.steps) c.requires.mark, ap steps_made (stage_is c))
+
+exchanges : (c : After-known) → c.turn-paid.new.seat.exchanges ≡ raised c.args.self.now.start.exchanges (share_exchanges_made c.turn-paid.new.self)
+exchanges c =
+    let so_far = (so (goal.at.After-known c).After-self).exchanges in
+    omega (arith, c.turn-paid.ensures.exchanges, c.turn-paid.ensures.decides, so_far, ap (λ (s : SeatTerms). s.exchanges) c.requires.mark, ap exchanges_made (stage_is c))
+
 -- what the turn leaves
 turned : (c : After-known) (mark : SeatTerms) → mark ≡ c.turn-paid.new.seat → (now : Rest) → now.totals ≡ c.turn-paid.new.totals → (rest : Rest)
     → rest ≡ now → (answer : Option Receipt)
     → (IsSome answer ↔ (call_turns_left c.args.board.now.book (PayShared c.turn-paid.new.self) ≡ 0))
     → IfSome answer (Leaves c.args.board.now.book c.args.self.now c.turn-paid.new.seat now c.turn-paid.new.self.turns (share_exchanges_made c.turn-paid.new.self))
-    → IfSome answer (λ r. now.calls ≡ one_more_call c.args.self.now.was.calls)
+    → IfSome answer (λ r. now.calls ≡ with_one_call c.args.self.now.was.calls)
     → TakesCallTurn c.args.board.now.book c.args.self.now (calling_next (record {
       call = c.self.inside.call;
       stage = c.self.inside.stage;
@@ -71,7 +82,7 @@ turned c mark mark_is now totals_are rest rest_is answer ends leaves calls =
     (TakesCallTurn-stages b t c.args.seat.now after mark mark_is now rest rest_is (PayShared p) next (stage_is c) answer told.turns
     (subst (λ (s : TotalSums). MakesCallStep b (PayShared p) c.args.seat.now after s) (sym totals_are) told.step) told.left
     (few-shared c.args.board.now t (so first) c.args.seat.now c.requires.mark c.requires.board after told.board p (stage_is c) (left c)
-    (length after.knows.seen) c.turn-paid.new.self.turns (few c)) ends (runs c) told.decides leaves calls)
+    (length after.knows.seen) c.turn-paid.new.self.turns (few c)) ends (runs c) told.decides leaves calls (steps c) (exchanges c))
 
 pub returns-in_err-receipt-clause-turned : goal.returns-in_err-receipt-clause-turned
 returns-in_err-receipt-clause-turned c =
@@ -91,7 +102,7 @@ returns-in_err-receipt-clause-turned c =
       λ none. let wrong : false ≡ true = c.in_err-receipt.ensures.ends.1 none in absurd (cc wrong),
     ) tt tt)
 
-decided : (c : After-one_more_call-rest)
+decided : (c : After-count_one)
     → share_exchanges_made c.turn-paid.new.self ≡ decides_made c.in-PayShared.paying.account c.in-PayShared.paying.start c.turn-paid.new.seat.knows
 decided c =
     let told = c.turn-paid.ensures in
@@ -102,34 +113,34 @@ decided c =
     ∙ (ap (λ (v : Knowledge). decides_made q.account q.start v) told.mark
     ∙ (ap (λ (v : Knowledge). decides_made q.account v w) told.start ∙ ap (λ (a : ℕ). decides_made a p.start w) told.account))
 
-abbrev rest_after : After-one_more_call-rest → Rest
-rest_after c = record { totals = c.turn-paid.new.totals; sent = c.args.rest.now.sent; calls = c.one_more_call-rest.result }
+abbrev rest_after : After-count_one → Rest
+rest_after c = record { totals = c.turn-paid.new.totals; sent = c.args.rest.now.sent; calls = c.count_one.new.self }
 
-leaves : (c : After-one_more_call-rest)
+calls_after : (c : After-count_one) → (rest_after c).calls ≡ with_one_call c.args.self.now.was.calls
+calls_after c =
+    let known = (goal.at.After-count_one c).After-known in
+    let first = (goal.at.After-known known).After-self in
+    c.count_one.ensures
+    ∙ (ap (λ (q : Rest). with_one_call q.calls) c.requires.rest
+    ∙ ap with_one_call (still-shared c.args.board.now c.args.self.now (so first) c.args.seat.now c.requires.mark c.requires.board c.turn-paid.new.seat c.turn-paid.ensures.board
+    c.in-PayShared.paying (stage_is known) (left known)).calls_are)
+
+leaves : (c : After-count_one)
     → Leaves c.args.board.now.book c.args.self.now c.turn-paid.new.seat (rest_after c) c.turn-paid.new.self.turns (share_exchanges_made c.turn-paid.new.self) c.in_ok-receipt.receipt
 leaves c =
-    let known = (goal.at.After-one_more_call-rest c).After-known in
+    let known = (goal.at.After-count_one c).After-known in
     let first = (goal.at.After-known known).After-self in
     let told = c.in_ok-receipt.ensures in
     Leaves-shared c.args.board.now c.args.self.now (so first) c.args.seat.now c.requires.mark c.requires.board c.turn-paid.new.seat c.turn-paid.ensures.board
     c.in-PayShared.paying (stage_is known) (left known) (rest_after c) c.turn-paid.new.self.turns
     (share_exchanges_made c.turn-paid.new.self) c.in_ok-receipt.receipt c.known.ensures.seat told.answer told.leaves told.counted told.few (decided c)
-    (ap (λ (q : Rest). q.sent) c.requires.rest)
-
-calls_after : (c : After-one_more_call-rest) → (rest_after c).calls ≡ one_more_call c.args.self.now.was.calls
-calls_after c =
-    let known = (goal.at.After-one_more_call-rest c).After-known in
-    let first = (goal.at.After-known known).After-self in
-    c.one_more_call-rest.ensures
-    ∙ (ap (λ (q : Rest). one_more_call q.calls) c.requires.rest
-    ∙ ap one_more_call (still-shared c.args.board.now c.args.self.now (so first) c.args.seat.now c.requires.mark c.requires.board c.turn-paid.new.seat c.turn-paid.ensures.board
-    c.in-PayShared.paying (stage_is known) (left known)).calls_are)
+    (ap (λ (q : Rest). q.sent) c.requires.rest) (calls_after c)
 
 -- the call is answered
 pub invariant_of-self-2 : goal.invariant_of-self-2
 invariant_of-self-2 c =
-    let ended = (goal.at.invariant_of-self-2 c).After-one_more_call-rest in
-    let known = (goal.at.After-one_more_call-rest ended).After-known in
+    let ended = (goal.at.invariant_of-self-2 c).After-count_one in
+    let known = (goal.at.After-count_one ended).After-known in
     let first = (goal.at.After-known known).After-self in
     let t : CallingTerms = c.args.self.now in
     let q : PayingSharedTerms = c.turn-paid.new.self in
@@ -138,13 +149,14 @@ invariant_of-self-2 c =
     let none : share_turns_left c.args.board.now.book q ≡ 0 = c.in_ok-receipt.ensures.ends.0 refl in
     let next : IsCallingSo (calling_next t (PayShared q) c.turn-paid.new.seat rest) =
     IsCallingSo-shared c.args.board.now t (so first) c.args.seat.now c.requires.mark c.requires.board c.turn-paid.new.seat told.board c.in-PayShared.paying
-    (stage_is known) (left known) q rest told.call told.account told.start told.mark told.was (λ more. absurd (omega (arith, more, none))) in
+    (stage_is known) (left known) q rest told.call told.account told.start told.mark told.was (λ more. absurd (omega (arith, more, none)))
+    (steps known) (exchanges known) in
     subst (λ (s : CallingTerms). IsCallingSo (calling_next s (PayShared q) c.of.result.value rest)) (sym c.self.view_is)
     (subst (λ (m : SeatTerms). IsCallingSo (calling_next t (PayShared q) m rest)) (sym c.of.ensures) next)
 
 pub returns-clause-turned : goal.returns-clause-turned
 returns-clause-turned c =
-    let ended = (goal.at.returns-clause-turned c).After-one_more_call-rest in
-    let known = (goal.at.After-one_more_call-rest ended).After-known in
+    let ended = (goal.at.returns-clause-turned c).After-count_one in
+    let known = (goal.at.After-count_one ended).After-known in
     turned known c.of.result.value c.of.ensures (rest_after ended) refl c.of-3.result.value c.of-3.ensures (Some c.in_ok-receipt.receipt)
     (λ some. c.in_ok-receipt.ensures.ends.0 refl, λ none. refl) (leaves ended) (calls_after ended)

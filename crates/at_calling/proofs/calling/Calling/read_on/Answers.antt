@@ -1,19 +1,19 @@
 use Rattle.std.proofs.Common.{◌≡◌, ◌<◌, ◌↔◌, IfSome, IsSome, Option, None, Some, length, false, true, refl, sym, ap, subst, ◌∙◌}
 use Rattle.at_ledger.specs.Book.{BookTerms}
 use Rattle.at_history.specs.Moves.{AreRuns}
+use Rattle.at_board.specs.Counting.{raised}
 use Rattle.at_board.specs.Knowledge.Seats.{SeatTerms}
 use Rattle.at_fold.specs.Sums.{TotalSums}
 use Rattle.at_log.specs.declared.receipt.Receipt.{Receipt}
-use Rattle.at_object.specs.Passes.{one_more_call}
 use Rattle.at_object.specs.declared.parts.Rest.{Rest}
-use Rattle.at_calling.specs.Calling.{CallingTerms, MakesCallStep, call_turns_left}
+use Rattle.at_calling.specs.Calling.{CallingTerms, MakesCallStep, call_turns_left, exchanges_made, steps_made, with_one_call}
 use Rattle.at_calling.specs.KeptCalling.{IsCallingSo, TakesCallTurn}
 use Rattle.at_calling.specs.Reading.{ReadingTerms}
 use Rattle.at_calling.specs.declared.call_stage.CallStage.{CallStage}
 use Rattle.at_calling.specs.declared.call_stage.CallStage.TheVariants.{Read}
 use Rattle.at_calling.proofs.CallingTurns.{Leaves, TakesCallTurn-stages, calling_next, Leaves-read, few-read, still-read}
 use Rattle.at_calling.proofs.calling.Calling.read_on.Given as given
-use Rattle.at_calling.proofs.calling.Calling.read_on.Goals.{After-known, After-one_more_call-rest, After-self}
+use Rattle.at_calling.proofs.calling.Calling.read_on.Goals.{After-known, After-count_one, After-self}
 use Rattle.at_calling.proofs.calling.Calling.read_on.Goals as goal
 
 -- the call before the turn
@@ -29,12 +29,23 @@ left c = subst (λ (k : CallStage). 0 < call_turns_left c.args.board.now.book k)
 runs : (c : After-known) → AreRuns c.args.board.now.book c.turn-read.new.seat.knows.seen
 runs c = subst (λ (b : BookTerms). AreRuns b c.turn-read.new.seat.knows.seen) c.turn-read.ensures.board.book c.known.ensures.seat.history.runs
 
+-- the seat has counted all steps and exchanges of the call
+steps : (c : After-known) → c.turn-read.new.seat.steps ≡ raised c.args.self.now.start.steps (c.turn-read.new.self.looking.turns)
+steps c =
+    let so_far = (so (goal.at.After-known c).After-self).steps in
+    omega (arith, c.turn-read.ensures.steps, c.turn-read.ensures.turns, so_far, ap (λ (s : SeatTerms). s.steps) c.requires.mark, ap steps_made (stage_is c))
+
+exchanges : (c : After-known) → c.turn-read.new.seat.exchanges ≡ raised c.args.self.now.start.exchanges (0)
+exchanges c =
+    let so_far = (so (goal.at.After-known c).After-self).exchanges in
+    omega (arith, c.turn-read.ensures.exchanges, so_far, ap (λ (s : SeatTerms). s.exchanges) c.requires.mark, ap exchanges_made (stage_is c))
+
 -- what the turn leaves
 turned : (c : After-known) (mark : SeatTerms) → mark ≡ c.turn-read.new.seat → (now : Rest) → now.totals ≡ c.turn-read.new.totals → (rest : Rest)
     → rest ≡ now → (answer : Option Receipt)
     → (IsSome answer ↔ (call_turns_left c.args.board.now.book (Read c.turn-read.new.self) ≡ 0))
     → IfSome answer (Leaves c.args.board.now.book c.args.self.now c.turn-read.new.seat now c.turn-read.new.self.looking.turns 0)
-    → IfSome answer (λ r. now.calls ≡ one_more_call c.args.self.now.was.calls)
+    → IfSome answer (λ r. now.calls ≡ with_one_call c.args.self.now.was.calls)
     → TakesCallTurn c.args.board.now.book c.args.self.now (calling_next (record {
       call = c.self.inside.call;
       stage = c.self.inside.stage;
@@ -56,7 +67,7 @@ turned c mark mark_is now totals_are rest rest_is answer ends leaves calls =
     (TakesCallTurn-stages b t c.args.seat.now after mark mark_is now rest rest_is (Read p) next (stage_is c) answer told.turns
     (subst (λ (s : TotalSums). MakesCallStep b (Read p) c.args.seat.now after s) (sym totals_are) told.load) told.left
     (few-read c.args.board.now t (so first) c.args.seat.now c.requires.mark c.requires.board after told.board p (stage_is c) (left c)
-    (length after.knows.seen) c.turn-read.new.self.looking.turns told.so_far) ends (runs c) refl leaves calls)
+    (length after.knows.seen) c.turn-read.new.self.looking.turns told.so_far) ends (runs c) refl leaves calls (steps c) (exchanges c))
 
 pub returns-in_err-receipt-clause-turned : goal.returns-in_err-receipt-clause-turned
 returns-in_err-receipt-clause-turned c =
@@ -76,31 +87,31 @@ returns-in_err-receipt-clause-turned c =
       λ none. let wrong : false ≡ true = c.in_err-receipt.ensures.ends.1 none in absurd (cc wrong),
     ) tt tt)
 
-abbrev rest_after : After-one_more_call-rest → Rest
-rest_after c = record { totals = c.turn-read.new.totals; sent = c.args.rest.now.sent; calls = c.one_more_call-rest.result }
+abbrev rest_after : After-count_one → Rest
+rest_after c = record { totals = c.turn-read.new.totals; sent = c.args.rest.now.sent; calls = c.count_one.new.self }
 
-leaves : (c : After-one_more_call-rest)
+calls_after : (c : After-count_one) → (rest_after c).calls ≡ with_one_call c.args.self.now.was.calls
+calls_after c =
+    let known = (goal.at.After-count_one c).After-known in
+    let first = (goal.at.After-known known).After-self in
+    c.count_one.ensures
+    ∙ (ap (λ (q : Rest). with_one_call q.calls) c.requires.rest
+    ∙ ap with_one_call (still-read c.args.board.now c.args.self.now (so first) c.args.seat.now c.requires.mark c.requires.board c.turn-read.new.seat c.turn-read.ensures.board
+    c.in-Read.reading (stage_is known) (left known)).calls_are)
+
+leaves : (c : After-count_one)
     → Leaves c.args.board.now.book c.args.self.now c.turn-read.new.seat (rest_after c) c.turn-read.new.self.looking.turns 0 c.in_ok-receipt.receipt
 leaves c =
-    let known = (goal.at.After-one_more_call-rest c).After-known in
+    let known = (goal.at.After-count_one c).After-known in
     let first = (goal.at.After-known known).After-self in
     let told = c.in_ok-receipt.ensures in
     Leaves-read c.args.board.now c.args.self.now (so first) c.args.seat.now c.requires.mark c.requires.board c.turn-read.new.seat c.turn-read.ensures.board
     c.in-Read.reading (stage_is known) (left known) (rest_after c) c.turn-read.new.self.looking.turns c.in_ok-receipt.receipt
-    c.known.ensures.seat told.answer told.leaves c.turn-read.ensures.counted (ap (λ (q : Rest). q.sent) c.requires.rest)
-
-calls_after : (c : After-one_more_call-rest) → (rest_after c).calls ≡ one_more_call c.args.self.now.was.calls
-calls_after c =
-    let known = (goal.at.After-one_more_call-rest c).After-known in
-    let first = (goal.at.After-known known).After-self in
-    c.one_more_call-rest.ensures
-    ∙ (ap (λ (q : Rest). one_more_call q.calls) c.requires.rest
-    ∙ ap one_more_call (still-read c.args.board.now c.args.self.now (so first) c.args.seat.now c.requires.mark c.requires.board c.turn-read.new.seat c.turn-read.ensures.board
-    c.in-Read.reading (stage_is known) (left known)).calls_are)
+    c.known.ensures.seat told.answer told.leaves c.turn-read.ensures.counted (ap (λ (q : Rest). q.sent) c.requires.rest) (calls_after c)
 
 pub returns-clause-turned : goal.returns-clause-turned
 returns-clause-turned c =
-    let ended = (goal.at.returns-clause-turned c).After-one_more_call-rest in
-    let known = (goal.at.After-one_more_call-rest ended).After-known in
+    let ended = (goal.at.returns-clause-turned c).After-count_one in
+    let known = (goal.at.After-count_one ended).After-known in
     turned known c.of.result.value c.of.ensures (rest_after ended) refl c.of-3.result.value c.of-3.ensures (Some c.in_ok-receipt.receipt)
     (λ some. c.in_ok-receipt.ensures.ends.0 refl, λ none. refl) (leaves ended) (calls_after ended)

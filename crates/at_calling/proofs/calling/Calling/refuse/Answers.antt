@@ -4,10 +4,10 @@ use Rattle.at_ledger.specs.Book.{BookTerms}
 use Rattle.at_board.specs.Knowledge.Seats.{SeatTerms}
 use Rattle.at_log.specs.declared.receipt.At.TheVariants.{Previous}
 use Rattle.at_log.specs.declared.receipt.Receipt.{Receipt}
-use Rattle.at_object.specs.Passes.{one_more_call}
+use Rattle.at_object.specs.CallCounts.{CallCountTerms}
 use Rattle.at_object.specs.declared.parts.Rest.{Rest}
 use Rattle.at_calling.proofs.CallingTurns.{Leaves, Leaves-refused, TakesCallTurn-stages, calling_next, was-refused}
-use Rattle.at_calling.specs.Calling.{CallingTerms}
+use Rattle.at_calling.specs.Calling.{CallingTerms, exchanges_made, steps_made, with_one_call}
 use Rattle.at_calling.specs.KeptCalling.{IsCallingSo, TakesCallTurn}
 use Rattle.at_calling.specs.declared.call_stage.CallStage.{CallStage}
 use Rattle.at_calling.specs.declared.call_stage.CallStage.TheVariants.{Refuse, Refused}
@@ -20,10 +20,10 @@ returns c =
     let t : CallingTerms = c.args.self.now in
     let seat : SeatTerms = c.args.seat.now in
     let so : IsCallingSo t = subst IsCallingSo c.self.view_is c.self.invariant in
-    let now : Rest = record c.args.rest.now { calls = c.one_more_call-rest.result } in
-    let now_is : now ≡ record t.rest { calls = one_more_call t.rest.calls } =
-    ap (λ (n : ℕ). record c.args.rest.now { calls = n }) c.one_more_call-rest.ensures
-    ∙ ap (λ (q : Rest). record q { calls = one_more_call q.calls }) c.requires.rest in
+    let now : Rest = record c.args.rest.now { calls = c.count_one.new.self } in
+    let now_is : now ≡ record t.rest { calls = with_one_call t.rest.calls } =
+    ap (λ (n : CallCountTerms). record c.args.rest.now { calls = n }) c.count_one.ensures
+    ∙ ap (λ (q : Rest). record q { calls = with_one_call q.calls }) c.requires.rest in
     let r : Receipt = record { call = t.call; reply = c.args.reply; at = Previous } in
     let receipt : c.refused.result ≡ r =
     c.refused.ensures ∙ ap (λ (s : CallingTerms). record { call = s.call; reply = c.args.reply; at = Previous }) c.self.view_is in
@@ -53,4 +53,6 @@ returns c =
     (TakesCallTurn-stages b t seat seat t.mark (sym c.requires.mark) now c.of.result.value c.of.ensures (Refuse c.args.reply) Refused c.requires.stage (Some r)
     refl refl (omega arith) (omega arith) (λ some. refl, λ none. refl)
     (subst (λ (k : BookTerms). AreRuns k seat.knows.seen) c.requires.board.book c.known.ensures.seat.history.runs) refl leaves
-    (ap (λ (q : Rest). q.calls) now_is ∙ ap (λ (q : Rest). one_more_call q.calls) was))))
+    (ap (λ (q : Rest). q.calls) now_is ∙ ap (λ (q : Rest). with_one_call q.calls) was)
+    (omega (arith, so.steps, ap (λ (s : SeatTerms). s.steps) c.requires.mark, ap steps_made c.requires.stage))
+    (omega (arith, so.exchanges, ap (λ (s : SeatTerms). s.exchanges) c.requires.mark, ap exchanges_made c.requires.stage)))))

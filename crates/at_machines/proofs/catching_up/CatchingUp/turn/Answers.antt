@@ -116,20 +116,8 @@ returns-in_err-entry-clause-counted c =
 pub returns-in_err-entry-clause-same : goal.returns-in_err-entry-clause-same
 returns-in_err-entry-clause-same c = c.turn.ensures.same
 
-pub returns-in_err-entry-clause-steps : goal.returns-in_err-entry-clause-steps
-returns-in_err-entry-clause-steps c = c.turn.ensures.steps
-
-pub returns-in_err-entry-clause-exchanges : goal.returns-in_err-entry-clause-exchanges
-returns-in_err-entry-clause-exchanges c = c.turn.ensures.exchanges
-
 pub returns-clause-same : goal.returns-clause-same
 returns-clause-same c = c.turn.ensures.same
-
-pub returns-clause-steps : goal.returns-clause-steps
-returns-clause-steps c = c.turn.ensures.steps
-
-pub returns-clause-exchanges : goal.returns-clause-exchanges
-returns-clause-exchanges c = c.turn.ensures.exchanges
 
 pub returns-clause-ends : goal.returns-clause-ends
 returns-clause-ends c = c.answer.ensures.ends

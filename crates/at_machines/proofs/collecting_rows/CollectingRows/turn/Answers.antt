@@ -65,14 +65,14 @@ returns-in_err-found-clause-load c =
 
 -- the rows up to this one are whole
 whole : (c : After-add)
-    → IsCollectingRows c.self.inside.start.value.knows c.turn.new.seat.knows c.self.inside.row.account c.self.inside.row.own c.add.new.self (c.self.inside.row.slot + 1) 0
+    → IsCollectingRows c.self.inside.start.value.knows c.turn.new.seat.knows c.self.inside.row.account c.self.inside.row.own c.add.new.self (c.self.inside.row.slot + 1)
     (c.self.inside.made + 1)
 whole c =
     let at = (goal.at.After-add c).After-turn in
     let start : Knowledge = c.self.inside.start.value.knows in
     let w : Knowledge = c.turn.new.seat.knows in
     let row : LoadingRowTerms = c.self.inside.row in
-    subst (λ (l : List OpenRequest). IsCollectingRows start w row.account row.own l (row.slot + 1) 0 (c.self.inside.made + 1)) (sym c.add.ensures)
+    subst (λ (l : List OpenRequest). IsCollectingRows start w row.account row.own l (row.slot + 1) (c.self.inside.made + 1)) (sym c.add.ensures)
     (IsCollectingRows-IsCollectingRowsSo start w row c.self.inside.asked c.self.inside.made c.in_ok-found.found c.self.invariant (left at)
     c.in_ok-found.ensures.row c.in_ok-found.ensures.turns)
 

@@ -1,4 +1,4 @@
-use Rattle.std.proofs.Common.{◌≡◌, ◌∙◌, ◌+◌, List, Option, Some, ap, length, subst, sym}
+use Rattle.std.proofs.Common.{◌≡◌, ◌∙◌, List, Option, Some, ap, arith, length, subst, sym}
 use Rattle.std.specs.Vec.{vec_capacity}
 use Rattle.at_ledger.specs.declared.call.Call.{Call}
 use Rattle.at_log.specs.declared.receipt.Receipt.{Receipt}
@@ -8,7 +8,6 @@ use Rattle.at_calling.specs.Calling.{CallingTerms}
 use Rattle.at_stepper.specs.KeptCallers.{IsCallBegun, IsCallerOf, caller_of}
 use Rattle.at_stepper.specs.declared.caller.Making.{Making}
 use Rattle.at_stepper.specs.declared.turned.Turned.TheVariants.{Answer}
-use Rattle.at_stepper.proofs.caller.Caller.turn.Given.{Over}
 use Rattle.at_stepper.proofs.caller.Caller.turn.Goals.{After-become_next}
 use Rattle.at_stepper.proofs.caller.Caller.turn.Goals as goal
 
@@ -40,7 +39,7 @@ invariant_of-self-2 c =
     c.turn-made.new.rest c.known.ensures.seat c.turn-made.ensures.board.book c.turn-made.ensures.call c.turn-made.ensures.start
     c.turn-made.ensures.was c.turn-made.ensures.turns c.turn-made.ensures.exchanges_made c.turn-made.ensures.left c.turn-made.ensures.so_far
     c.in-Some-made.receipt c.in-Some-made.ensures.made c.in-Some-made.ensures.stands c.in-Some-made.ensures.kept c.in-Some-made.ensures.calls
-    c.in-Some-made.ensures.within c.keep-next.new.receipts.items c.keep-next.ensures.receipts c.become_next.new.making.calling (next_begun c)
+    c.in-Some-made.ensures.within c.in-Some-made.ensures.refused c.keep-next.new.receipts.items c.keep-next.ensures.receipts c.become_next.new.making.calling (next_begun c)
     (vec_capacity c.keep-next.new.receipts) c.keep-next.ensures.capacity
 
 pub returns-clause-turned : goal.returns-clause-turned
@@ -57,7 +56,7 @@ returns-clause-turned c =
     c.turn-made.new.rest c.known.ensures.seat c.turn-made.ensures.board.book c.turn-made.ensures.call c.turn-made.ensures.start
     c.turn-made.ensures.was c.turn-made.ensures.turns c.turn-made.ensures.exchanges_made c.turn-made.ensures.left c.turn-made.ensures.so_far
     c.in-Some-made.receipt c.in-Some-made.ensures.made c.in-Some-made.ensures.stands c.in-Some-made.ensures.kept c.in-Some-made.ensures.calls
-    c.in-Some-made.ensures.within c.keep-next.new.receipts.items c.keep-next.ensures.receipts c.become_next.new.making.calling (next_begun c)))
+    c.in-Some-made.ensures.within c.in-Some-made.ensures.refused c.keep-next.new.receipts.items c.keep-next.ensures.receipts c.become_next.new.making.calling (next_begun c)))
 
 pub returns-clause-process : goal.returns-clause-process
 returns-clause-process c =
@@ -69,14 +68,12 @@ returns-clause-process c =
     c.turn-made.new.rest c.known.ensures.seat c.turn-made.ensures.board.book c.turn-made.ensures.call c.turn-made.ensures.start
     c.turn-made.ensures.was c.turn-made.ensures.turns c.turn-made.ensures.exchanges_made c.turn-made.ensures.left c.turn-made.ensures.so_far
     c.in-Some-made.receipt c.in-Some-made.ensures.made c.in-Some-made.ensures.stands c.in-Some-made.ensures.kept c.in-Some-made.ensures.calls
-    c.in-Some-made.ensures.within c.keep-next.new.receipts.items c.keep-next.ensures.receipts c.become_next.new.making.calling (next_begun c)
+    c.in-Some-made.ensures.within c.in-Some-made.ensures.refused c.keep-next.new.receipts.items c.keep-next.ensures.receipts c.become_next.new.making.calling (next_begun c)
     ∙ ap (λ (t : CallerTerms). t.pass.knows.first) (was_making c)
 
 pub returns-clause-steps : goal.returns-clause-steps
 returns-clause-steps c =
-    c.turn-made.ensures.steps
-    ∙ ap (λ n. c.args.seat.now.steps + n)
-    (steps_of-answered c.args.board.now.book c.self.inside.seat c.self.inside.rest c.self.inside.calls.items c.self.inside.receipts.items
+    let made = steps_of-answered c.args.board.now.book c.self.inside.seat c.self.inside.rest c.self.inside.calls.items c.self.inside.receipts.items
     c.in-Some.calling (vec_capacity c.self.inside.receipts)
     (subst (λ (o : Option CallingTerms). IsCallerOf c.self.inside.seat c.self.inside.rest c.self.inside.calls.items c.self.inside.receipts.items o
     (vec_capacity c.self.inside.receipts)) c.in-Some.is c.self.invariant)
@@ -84,5 +81,6 @@ returns-clause-steps c =
     c.turn-made.new.rest c.known.ensures.seat c.turn-made.ensures.board.book c.turn-made.ensures.call c.turn-made.ensures.start
     c.turn-made.ensures.was c.turn-made.ensures.turns c.turn-made.ensures.exchanges_made c.turn-made.ensures.left c.turn-made.ensures.so_far
     c.in-Some-made.receipt c.in-Some-made.ensures.made c.in-Some-made.ensures.stands c.in-Some-made.ensures.kept c.in-Some-made.ensures.calls
-    c.in-Some-made.ensures.within c.keep-next.new.receipts.items c.keep-next.ensures.receipts c.become_next.new.making.calling (next_begun c)
-    ∙ ap (λ (r : Receipt). steps_in (Answer r)) (sym c.copy_of-answer.ensures))
+    c.in-Some-made.ensures.within c.in-Some-made.ensures.refused c.keep-next.new.receipts.items c.keep-next.ensures.receipts c.become_next.new.making.calling (next_begun c)
+    ∙ ap (λ (r : Receipt). steps_in (Answer r)) (sym c.copy_of-answer.ensures) in
+    omega (arith, c.turn-made.ensures.steps, made, ap (λ (t : CallerTerms). t.seat.steps) c.self.view_is)

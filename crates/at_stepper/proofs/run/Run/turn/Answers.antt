@@ -18,7 +18,7 @@ returns-clause-turned c =
     (λ d. subst (λ (was : CallerTerms). IsTurned ledger.book c.turn.result was c.turn.new.self)
     (get_or_read callers process c.index_mut-caller.result.now within c.index_mut-caller.ensures.value d)
     (subst (λ (l : BoardTerms). IsTurned l.book c.turn.result c.index_mut-caller.result.now c.turn.new.self) c.board.ensures
-    (record { leaves = told.turned; step = told.step; calls = told.calls; left = told.left; turns_left = told.turns_left })))
+    (record { leaves = told.turned; step = told.step; calls = told.calls; left = told.left; turns_left = told.turns_left; steps = told.steps; exchanges = told.exchanges })))
 
 pub returns-clause-callers : goal.returns-clause-callers
 returns-clause-callers c =
