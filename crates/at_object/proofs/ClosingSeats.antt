@@ -105,7 +105,7 @@ module _ (ledger : BoardTerms) (passes : List PassTerms) (receipts : List (List 
   pub room-seats : (e : EndTerms) (rooms : List (Vec Record Global)) → e.book ≡ ledger.book → IsEnd e seats → HasRooms passes rooms
       → (p : ℕ) (d : Vec Record Global) → p < e.book.processes → length (records_of e p) ≤ vec_capacity (get_or rooms p d)
   room-seats e rooms same ended room p d known =
-      let none : PassTerms = pass_with (record { board = ledger.id; knows = starting_seat ledger.book p }) in
+      let none : PassTerms = pass_with (record { board = ledger.id; knows = starting_seat ledger.book p; steps = 0; exchanges = 0 }) in
       let within : p < length passes = omega (arith, known, accounted.passes_count, ap (λ (b : BookTerms). b.processes) same) in
       omega (arith, length-records_of-pass e same ended p none known, room p d none within)
 

@@ -5,7 +5,8 @@ ghost use Rattle.std.specs.Vec.{vec_capacity};
 ghost use Rattle.at_board.specs.Knowledge.Parts.{own_part};
 ghost use Rattle.at_log.specs.Coherent.{Coherent};
 ghost use Rattle.at_object.specs.Closings.{AreAccountedFor, HasAllLogs};
-ghost use Rattle.at_object.specs.Parted.{HasMemoryFor, IsAtRest, seat_of};
+ghost use Rattle.at_object.specs.Parted.{HasMemoryFor, IsAtRest};
+ghost use Rattle.at_object.specs.Passes.{seat_of};
 
 use crate::NoMemory;
 use crate::closed::Closed;

@@ -30,10 +30,7 @@ impl Model for Note {
 impl Ledger {
     /// A note of what the pass has seen, for another pass. It counts as an exchange, since it hands over what no word says. Takes no
     /// memory.
-    pub fn note(
-        &self,
-        pass: &mut Pass,
-    ) -> Note
+    pub fn note(&self, pass: &mut Pass) -> Note
         requires pass { IsPassOf pass.old self.now }
         ensures note { IsOf result self.now }
         ensures seen { result.knows.seen ≡ pass.old.knows.seen }
@@ -49,11 +46,7 @@ impl Ledger {
 
     /// Takes in a note, so that the pass's later calls come after all that the note has seen. It counts as an exchange. Takes no
     /// memory.
-    pub fn learn(
-        &self,
-        pass: &mut Pass,
-        note: Note,
-    )
+    pub fn learn(&self, pass: &mut Pass, note: Note)
         requires pass { IsPassOf pass.old self.now }
         requires note { IsOf note self.now }
         ensures learned { pass.new.knows.seen ≡ longer pass.old.knows.seen note.knows.seen }
@@ -72,7 +65,6 @@ impl Ledger {
         ensures exchanges { pass.new.exchanges ≡ raised pass.old.exchanges 1 }
     {
         pass.seat.known();
-        self.board
-            .learn(&mut pass.seat, note.note);
+        self.board.learn(&mut pass.seat, note.note);
     }
 }

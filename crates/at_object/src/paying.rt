@@ -36,12 +36,7 @@ use at_single::pay_single;
 
 impl Ledger {
     /// Makes a payment, by whichever call.
-    pub(crate) fn pay_by_call(
-        &self,
-        pass: &mut Pass,
-        source: u32,
-        call: &Call,
-    ) -> Receipt
+    pub(crate) fn pay_by_call(&self, pass: &mut Pass, source: u32, call: &Call) -> Receipt
         requires pass { IsPassOf pass.old self.now }
         requires call { IsPayoutFrom self.now.book source call.now }
         requires source { source < length self.now.book.accounts }
@@ -90,12 +85,7 @@ impl Ledger {
     }
 
     /// A payment from an account of one owner.
-    fn pay_from_single(
-        &self,
-        pass: &mut Pass,
-        source: u32,
-        call: &Call,
-    ) -> Receipt
+    fn pay_from_single(&self, pass: &mut Pass, source: u32, call: &Call) -> Receipt
         requires pass { IsPassOf pass.old self.now }
         requires call { IsPayoutFrom self.now.book source call.now }
         requires source { source < length self.now.book.accounts }
@@ -113,13 +103,7 @@ impl Ledger {
         ensures decides { (a : ℕ) → decides_on pass.new.knows a ≡ decides_on pass.old.knows a }
     {
         pass.seat.known();
-        let receipt = pay_alone(
-            &self.board,
-            &mut pass.seat,
-            &mut pass.totals,
-            source,
-            call
-        );
+        let receipt = pay_alone(&self.board, &mut pass.seat, &mut pass.totals, source, call);
         pass.seat.known();
         pass.sent = sent_after(pass.sent, &receipt.reply);
         pass.calls = pass.calls.saturating_add(1);
@@ -127,12 +111,7 @@ impl Ledger {
     }
 
     /// A payment from a shared account.
-    fn pay_from_shared(
-        &self,
-        pass: &mut Pass,
-        source: u32,
-        call: &Call,
-    ) -> Receipt
+    fn pay_from_shared(&self, pass: &mut Pass, source: u32, call: &Call) -> Receipt
         requires pass { IsPassOf pass.old self.now }
         requires call { IsPayoutFrom self.now.book source call.now }
         requires source { source < length self.now.book.accounts }
@@ -156,13 +135,7 @@ impl Ledger {
             → decides_on pass.new.knows a ≡ decides_on pass.old.knows a }
     {
         pass.seat.known();
-        let receipt = pay_shared(
-            &self.board,
-            &mut pass.seat,
-            &mut pass.totals,
-            source,
-            call
-        );
+        let receipt = pay_shared(&self.board, &mut pass.seat, &mut pass.totals, source, call);
         pass.seat.known();
         pass.calls = pass.calls.saturating_add(1);
         receipt

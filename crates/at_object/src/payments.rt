@@ -25,13 +25,7 @@ use at_log::Receipt;
 
 impl Ledger {
     /// Moves the amount from one account to another, as the pay-out with this one target does. Takes no memory.
-    pub fn transfer(
-        &self,
-        pass: &mut Pass,
-        from: u32,
-        to: u32,
-        amount: u64,
-    ) -> Receipt
+    pub fn transfer(&self, pass: &mut Pass, from: u32, to: u32, amount: u64) -> Receipt
         requires pass { IsPassOf pass.old self.now }
         requires from { from < length self.now.book.accounts }
         requires to { to < length self.now.book.accounts }
@@ -80,12 +74,7 @@ impl Ledger {
     /// Moves each amount from one account to its target, or none of them. The answer is not-owner where the process doesn't own the
     /// account, full where it has used up its room there, short where the balance doesn't cover the sum, and else done. A short
     /// payment from a shared account uses room too. Takes no memory.
-    pub fn pay(
-        &self,
-        pass: &mut Pass,
-        from: u32,
-        targets: &Targets,
-    ) -> Receipt
+    pub fn pay(&self, pass: &mut Pass, from: u32, targets: &Targets) -> Receipt
         requires pass { IsPassOf pass.old self.now }
         requires from { from < length self.now.book.accounts }
         requires targets { AreTargetsOn (length self.now.book.accounts) targets.now }

@@ -24,11 +24,7 @@ use at_single::read_account;
 
 impl Ledger {
     /// The balance of an account, at the front of a snapshot that the call takes. Takes no memory.
-    pub fn read(
-        &self,
-        pass: &mut Pass,
-        account: u32,
-    ) -> Receipt
+    pub fn read(&self, pass: &mut Pass, account: u32) -> Receipt
         requires pass { IsPassOf pass.old self.now }
         requires account { account < length self.now.book.accounts }
         ensures call { result.call ≡ Call.Read account }
@@ -56,12 +52,7 @@ impl Ledger {
         ensures exchanges { pass.new.exchanges ≡ pass.old.exchanges }
     {
         pass.seat.known();
-        let receipt = read_account(
-            &self.board,
-            &mut pass.seat,
-            &mut pass.totals,
-            account
-        );
+        let receipt = read_account(&self.board, &mut pass.seat, &mut pass.totals, account);
         pass.seat.known();
         pass.calls = pass.calls.saturating_add(1);
         receipt

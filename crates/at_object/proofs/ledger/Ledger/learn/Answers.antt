@@ -11,7 +11,6 @@ use Rattle.at_fold.proofs.Laws.MorePublished.{StaysCounted-HasCounted}
 use Rattle.at_log.specs.Told.{Told}
 use Rattle.at_object.proofs.Laws.Alone.{IsPass-HasMoved}
 use Rattle.at_object.specs.Passes.{PassTerms}
-use Rattle.at_object.proofs.ledger.Ledger.learn.Given as given
 use Rattle.at_object.proofs.ledger.Ledger.learn.Goals.{After-learn}
 use Rattle.at_object.proofs.ledger.Ledger.learn.Goals as goal
 

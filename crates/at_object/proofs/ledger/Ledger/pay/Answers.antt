@@ -1,7 +1,6 @@
 use Rattle.std.proofs.Common.{Some, ap, subst}
 use Rattle.at_ledger.specs.declared.call.Call.TheVariants.{Pay}
 use Rattle.at_object.specs.Paid.{PaymentMade}
-use Rattle.at_object.proofs.ledger.Ledger.pay.Given as given
 use Rattle.at_object.proofs.ledger.Ledger.pay.Goals.{After-pay_by_call}
 use Rattle.at_object.proofs.ledger.Ledger.pay.Goals as goal
 

@@ -14,7 +14,6 @@ use Rattle.at_object.specs.Paid.{PaymentMade, PaysInRound}
 use Rattle.at_object.specs.Passes.{PassTerms}
 use Rattle.at_object.specs.Payments.{has_used_up}
 use Rattle.at_shared.specs.Helpings.{decides_on}
-use Rattle.at_object.proofs.ledger.Ledger.pay_from_shared.Given as given
 use Rattle.at_object.proofs.ledger.Ledger.pay_from_shared.Goals.{After-pass-1}
 use Rattle.at_object.proofs.ledger.Ledger.pay_from_shared.Goals as goal
 

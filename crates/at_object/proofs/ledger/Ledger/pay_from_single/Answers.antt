@@ -14,7 +14,6 @@ use Rattle.at_object.specs.Paid.{PaymentMade, PaysAlone}
 use Rattle.at_object.specs.Passes.{IsPass, PassTerms}
 use Rattle.at_object.specs.Payments.{has_used_up}
 use Rattle.at_single.specs.Standing.{IsOnlyOwner}
-use Rattle.at_object.proofs.ledger.Ledger.pay_from_single.Given as given
 use Rattle.at_object.proofs.ledger.Ledger.pay_from_single.Goals.{After-pass-2-1}
 use Rattle.at_object.proofs.ledger.Ledger.pay_from_single.Goals as goal
 

@@ -2,7 +2,6 @@ use Rattle.std.proofs.Common.{◌<◌, ℕ, zero, suc, ◌∷◌, [], refl, arit
 use Rattle.at_ledger.specs.Call.{AreTargetsOn}
 use Rattle.at_ledger.specs.declared.call.Call.TheVariants.{Transfer}
 use Rattle.at_object.specs.Paid.{PaymentMade}
-use Rattle.at_object.proofs.ledger.Ledger.transfer.Given as given
 use Rattle.at_object.proofs.ledger.Ledger.transfer.Goals.{After-pay_by_call}
 use Rattle.at_object.proofs.ledger.Ledger.transfer.Goals as goal
 
