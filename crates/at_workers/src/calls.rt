@@ -11,11 +11,7 @@ use at_log::Receipt;
 use at_object::{Ledger, Pass};
 
 /// Makes a transfer by `transfer`, a read by `read`, and a pay-out by `pay`.
-pub(crate) fn make(
-    ledger: &Ledger,
-    pass: &mut Pass,
-    call: &Call,
-) -> Receipt
+pub(crate) fn make(ledger: &Ledger, pass: &mut Pass, call: &Call) -> Receipt
     requires pass { IsPassOf pass.old ledger.now }
     requires accounts { IsCallOn (length ledger.now.book.accounts) call.now }
     ensures call { result.call ≡ call.now }
@@ -27,9 +23,7 @@ pub(crate) fn make(
     ensures calls { pass.new.calls ≡ one_more_call pass.old.calls }
 {
     match call {
-        Call::Transfer { from, to, amount } => {
-            ledger.transfer(pass, *from, *to, *amount)
-        }
+        Call::Transfer { from, to, amount } => { ledger.transfer(pass, *from, *to, *amount) }
         Call::Read { account } => ledger.read(pass, *account),
         Call::Pay { from, targets } => ledger.pay(pass, *from, targets),
     }

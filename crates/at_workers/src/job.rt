@@ -100,11 +100,7 @@ impl Job {
     }
 
     /// Makes the next call, which the gate is told of.
-    pub(crate) fn make_next<G: Gate>(
-        &mut self,
-        ledger: &Ledger,
-        gate: &G,
-    )
+    pub(crate) fn make_next<G: Gate>(&mut self, ledger: &Ledger, gate: &G)
         requires of_ledger { IsPassOf self.old.pass ledger.now }
         requires more { length self.old.receipts < length self.old.calls }
         ensures of_ledger { IsPassOf self.new.pass ledger.now }
