@@ -9,7 +9,6 @@ use Rattle.at_board.specs.declared.knowledge.Knowledge.{Knowledge}
 use Rattle.at_machines.proofs.AppendingLaws.{IsAppendingSo-published, IsAppendingSo-word, IsLast-IsAppendingSo, MayPublish-IsAppendingSo, Publishes-IsAppendingSo, length-view-IsAppendingSo}
 use Rattle.at_machines.specs.Kept.{IsAppendingSo}
 use Rattle.at_machines.specs.Appending.{AppendingTerms, appending_after, publication_of}
-use Rattle.at_machines.proofs.appending.Appending.turn.Given as given
 use Rattle.at_machines.proofs.appending.Appending.turn.Goals.{After-processes, After-publish}
 use Rattle.at_machines.proofs.appending.Appending.turn.Goals as goal
 

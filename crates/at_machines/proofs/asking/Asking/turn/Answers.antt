@@ -11,7 +11,6 @@ use Rattle.at_board.specs.declared.words.TheConstants.{REQUEST_WORDS}
 use Rattle.at_machines.proofs.AskingLaws.{Announces-IsAskingSo, HasAsked-IsAskingSo, HasLoadedNothing-IsAskingSo, HasSlot-IsAskingSo, IsAskingSo-announced, IsAskingSo-word, MayAnnounce-IsAskingSo, announced-IsAskingSo}
 use Rattle.at_machines.specs.Asking.{AskingTerms, asking_after, request_asked}
 use Rattle.at_machines.specs.KeptAsking.{IsAskingSo}
-use Rattle.at_machines.proofs.asking.Asking.turn.Given as given
 use Rattle.at_machines.proofs.asking.Asking.turn.Goals.{After-announce, After-announced-number, After-self}
 use Rattle.at_machines.proofs.asking.Asking.turn.Goals as goal
 

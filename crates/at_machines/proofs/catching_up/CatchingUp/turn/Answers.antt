@@ -12,7 +12,6 @@ use Rattle.at_machines.proofs.CatchingUpLaws.{CountsNext-counted, IsCatchingUp-c
 use Rattle.at_machines.specs.CatchingUp.{CatchingUpTerms, CountsNext, loaded_of, loads_left}
 use Rattle.at_machines.specs.KeptCatchingUp.{IsCatchingUpSo}
 use Rattle.at_machines.specs.Loading.{LoadingTerms}
-use Rattle.at_machines.proofs.catching_up.CatchingUp.turn.Given as given
 use Rattle.at_machines.proofs.catching_up.CatchingUp.turn.Goals.{After-turn, After-count}
 use Rattle.at_machines.proofs.catching_up.CatchingUp.turn.Goals as goal
 

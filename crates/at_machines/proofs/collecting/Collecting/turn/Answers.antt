@@ -7,7 +7,6 @@ use Rattle.at_snapshot.specs.Collected.{IsCollect, collect_of}
 use Rattle.at_machines.proofs.CollectingLaws.{IsCollect-IsCollectingSo, IsCollectingSo-turn}
 use Rattle.at_machines.specs.Kept.{IsCollectingSo}
 use Rattle.at_machines.specs.Collecting.{CollectingTerms, collecting_after}
-use Rattle.at_machines.proofs.collecting.Collecting.turn.Given as given
 use Rattle.at_machines.proofs.collecting.Collecting.turn.Goals.{After-copy, After-load_length-count, After-of}
 use Rattle.at_machines.proofs.collecting.Collecting.turn.Goals as goal
 

@@ -11,7 +11,6 @@ use Rattle.at_machines.specs.KeptRows.{IsCollectingRowsSo}
 use Rattle.at_machines.specs.LoadingRow.{LoadingRowTerms, MakesLoadOf, row_after, starting_row}
 use Rattle.at_machines.specs.LoadingRow.NextRowLoad.{nothing}
 use Rattle.at_machines.specs.contracts.collecting_rows.CollectingRows.{the_view}
-use Rattle.at_machines.proofs.collecting_rows.CollectingRows.turn.Given as given
 use Rattle.at_machines.proofs.collecting_rows.CollectingRows.turn.Goals.{After-add, After-replace, After-slot-next, After-start, After-turn}
 use Rattle.at_machines.proofs.collecting_rows.CollectingRows.turn.Goals as goal
 

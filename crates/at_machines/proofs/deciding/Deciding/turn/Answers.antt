@@ -1,6 +1,7 @@
-use Rattle.std.proofs.Common.{◌≡◌, get_or, refl, sym, ap, subst, ◌∙◌, arith}
+use Rattle.std.proofs.Common.{◌≡◌, ◌≢◌, false, get_or, true, refl, sym, ap, subst, ◌∙◌, arith}
 use Rattle.std.specs.Prelude.{slice_set}
-use Rattle.at_board.specs.Knowledge.Parts.{own_part}
+use Rattle.at_board.specs.Knowledge.Parts.{SeesDecision, own_part}
+use Rattle.at_board.specs.Knowledge.Seats.{SeatTerms}
 use Rattle.at_log.specs.LastRecord.{IsLast}
 use Rattle.at_ledger.specs.Book.{BookTerms}
 use Rattle.at_board.specs.Steps.Publish.{Publishes}
@@ -15,13 +16,12 @@ use Rattle.at_shared.specs.HelpTurns.{DecidesNext}
 use Rattle.at_machines.proofs.DecidingLaws.{DecidesNext-HasLoadedDecided, HasCounted-Publishes, HasLoadedDecided-LoadsRequest, MayAppend-HasLoadedDecided, book-HasLoadedDecided, own-HasLoadedDecided, process-HasLoadedDecided}
 use Rattle.at_machines.specs.Appending.{AppendingTerms, publication_of}
 use Rattle.at_machines.specs.Deciding.{DecidingTerms, MakesRoundStep, MakesStep, nothing, request_word, next_of_round, round_in}
-use Rattle.at_machines.specs.KeptDeciding.{HasLoadedDecided, IsDecidingSo}
+use Rattle.at_machines.specs.KeptDeciding.{HasDecided, HasLoadedDecided, IsDecidingSo}
 use Rattle.at_machines.specs.LoadingRequest.{LoadingRequestTerms}
 use Rattle.at_machines.specs.contracts.deciding.Deciding.{the_view}
 use Rattle.at_machines.specs.declared.round_stage.RoundStage.{RoundStage}
-use Rattle.at_machines.specs.declared.round_stage.RoundStage.TheVariants.{Loading, Publishing}
-use Rattle.at_machines.proofs.deciding.Deciding.turn.Given as given
-use Rattle.at_machines.proofs.deciding.Deciding.turn.Goals.{Else-not-published, After-self}
+use Rattle.at_machines.specs.declared.round_stage.RoundStage.TheVariants.{Loading, Proposing, Publishing}
+use Rattle.at_machines.proofs.deciding.Deciding.turn.Goals.{After-decided_request-loading, After-record_of_round-record, After-self, Else-not-published}
 use Rattle.at_machines.proofs.deciding.Deciding.turn.Goals as goal
 
 -- the round before the turn
@@ -44,6 +44,22 @@ book c = sym c.requires.board.book ∙ (ap (λ (v : Knowledge). v.book) (known_b
 totals_before : (c : After-self) → c.args.totals.now ≡ c.self.inside.totals.value
 totals_before c = c.requires.totals ∙ sym (ap (λ (t : DecidingTerms). t.totals) c.self.view_is)
 
+-- the request that was decided is loaded whole
+loaded : (c : After-record_of_round-record)
+    → HasLoadedDecided c.self.inside.start.value.knows c.turn-loaded.new.seat.knows c.self.inside.helping.value c.self.inside.front c.in-Loading.decision
+    c.record_of_round-record.result
+loaded c =
+    let at = (goal.at.After-record_of_round-record c).After-self in
+    let i = c.self.inside in
+    let start : Knowledge = i.start.value.knows in
+    let w : Knowledge = c.turn-loaded.new.seat.knows in
+    let d = c.in-Loading.decision in
+    let l : LoadingRequestTerms = c.in-Loading.loading in
+    let x = c.in_ok-targets-in-Loading.field-0 in
+    subst (HasLoadedDecided start w i.helping.value i.front d) (sym c.record_of_round-record.ensures)
+    (HasLoadedDecided-LoadsRequest c.args.board.now.book start i.mark.value.knows i.totals.value i.helping.value i.front i.account i.round d l w x (book at)
+    (before at (Loading d l) c.in-Loading.is) c.in_ok-targets-in-Loading.ensures.request)
+
 pub start-requires : goal.start-requires
 start-requires c =
     let at = (goal.at.start-requires c).After-self in
@@ -52,13 +68,9 @@ start-requires c =
     let w : Knowledge = c.turn-loaded.new.seat.knows in
     let d = c.in-Loading.decision in
     let l : LoadingRequestTerms = c.in-Loading.loading in
-    let x = c.in_ok-targets-in-Loading.field-0 in
     let so = before at (Loading d l) c.in-Loading.is in
     let rec : Record = c.record_of_round-record.result in
-    let told : HasLoadedDecided start w i.helping.value i.front d rec =
-    subst (HasLoadedDecided start w i.helping.value i.front d) (sym c.record_of_round-record.ensures)
-    (HasLoadedDecided-LoadsRequest c.args.board.now.book start i.mark.value.knows i.totals.value i.helping.value i.front i.account i.round d l w x (book at) so
-    c.in_ok-targets-in-Loading.ensures.request) in
+    let told = loaded (goal.at.start-requires c).After-record_of_round-record in
     subst (λ (t : BookTerms). MayAppend t w rec)
     (sym (book-HasLoadedDecided start i.mark.value.knows i.totals.value i.helping.value i.front i.account i.round (Loading d l) so w d rec told))
     (MayAppend-HasLoadedDecided start i.mark.value.knows i.totals.value i.helping.value i.front i.account i.round (Loading d l) so w d rec told)
@@ -182,3 +194,103 @@ pub returns-else-not-published-clause-counted : goal.returns-else-not-published-
 returns-else-not-published-clause-counted c =
     subst (λ (t : BookTerms). HasCounted c.count_published.new.totals t c.turn-published.new.seat.knows.seen) c.turn-published.ensures.board.book
     c.count_published.ensures.counted
+
+-- the round is decided
+decided : (c : After-decided_request-loading)
+    → HasDecided c.self.inside.start.value.knows c.propose-decision.new.seat.knows c.self.inside.helping.value c.self.inside.front c.propose-decision.result
+decided c =
+    let at = (goal.at.After-decided_request-loading c).After-self in
+    let i = c.self.inside in
+    let start : Knowledge = i.start.value.knows in
+    let w : Knowledge = c.propose-decision.new.seat.knows in
+    let p = c.in-Proposing.proposal in
+    let d = c.propose-decision.result in
+    let a = i.helping.value.account in
+    let so = before at (Proposing p) c.in-Proposing.is in
+    record {
+      proposal = p;
+      proposes = so.stage_so.1;
+      decides = subst (λ r. DecidesAs start.book start w a r p d) c.self.invariant.round_is
+          (subst (λ n. DecidesAs start.book start w n i.round p d) c.self.invariant.account_is
+          (subst (λ (v : Knowledge). DecidesAs start.book v w i.account i.round p d) (known_before at ∙ so.stage_so.0)
+          (subst (λ (b : BookTerms). DecidesAs b c.args.seat.now.knows w i.account i.round p d) (book at) c.propose-decision.ensures.decided)));
+      sees = subst (λ r. SeesDecision w a r d) c.self.invariant.round_is (subst (λ n. SeesDecision w n i.round d) c.self.invariant.account_is c.propose-decision.ensures.seen);
+    }
+
+pub invariant_of-self : goal.invariant_of-self
+invariant_of-self c =
+    let at = (goal.at.invariant_of-self c).After-self in
+    let i = c.self.inside in
+    let is = c.decided_request-loading.ensures in
+    record {
+      seat = c.self.invariant.seat;
+      book = ap (λ (s : SeatTerms). s.knows.book) c.of.ensures ∙ (c.propose-decision.ensures.board.book ∙ book at);
+      account_is = c.self.invariant.account_is;
+      round_is = c.self.invariant.round_is;
+      counted = c.self.invariant.counted;
+      at_front = c.self.invariant.at_front;
+      upto = c.self.invariant.upto;
+      own = c.self.invariant.own;
+      helping = c.self.invariant.helping;
+      unsettled = c.self.invariant.unsettled;
+      stage_so = (
+        ap (λ (l : LoadingRequestTerms). l.mark) is ∙ sym (ap (λ (s : SeatTerms). s.knows) c.of.ensures),
+        omega (arith, ap (λ (l : LoadingRequestTerms). l.loaded) is),
+        ap (λ (l : LoadingRequestTerms). l.account) is ∙ c.self.invariant.account_is,
+        ap (λ (l : LoadingRequestTerms). l.slot) is,
+        ap (λ (l : LoadingRequestTerms). l.number) is,
+        subst (λ (l : LoadingRequestTerms). HasDecided i.start.value.knows l.start i.helping.value i.front c.propose-decision.result) (sym is)
+            (decided (goal.at.invariant_of-self c).After-decided_request-loading),
+      );
+    }
+
+pub invariant_of-self-in-Loading : goal.invariant_of-self-in-Loading
+invariant_of-self-in-Loading c =
+    let at = (goal.at.invariant_of-self-in-Loading c).After-self in
+    let i = c.self.inside in
+    let is = c.start.ensures in
+    record {
+      seat = c.self.invariant.seat;
+      book = ap (λ (s : SeatTerms). s.knows.book) c.of-in-Loading.ensures ∙ (c.turn-loaded.ensures.board.book ∙ book at);
+      account_is = c.self.invariant.account_is;
+      round_is = c.self.invariant.round_is;
+      counted = c.self.invariant.counted;
+      at_front = c.self.invariant.at_front;
+      upto = c.self.invariant.upto;
+      own = c.self.invariant.own;
+      helping = c.self.invariant.helping;
+      unsettled = c.self.invariant.unsettled;
+      stage_so = (
+        ap (λ (a : AppendingTerms). a.mark) is ∙ sym (ap (λ (s : SeatTerms). s.knows) c.of-in-Loading.ensures),
+        omega (arith, ap (λ (a : AppendingTerms). a.stored) is),
+        subst (λ (a : AppendingTerms). HasLoadedDecided i.start.value.knows a.start i.helping.value i.front c.in-Loading.decision a.rec) (sym is)
+            (loaded (goal.at.invariant_of-self-in-Loading c).After-record_of_round-record),
+      );
+    }
+
+pub invariant_of-self-then-not-published : goal.invariant_of-self-then-not-published
+invariant_of-self-then-not-published c =
+    let at = (goal.at.invariant_of-self-then-not-published c).After-self in
+    let i = c.self.inside in
+    let d = c.in-Publishing.decision in
+    let a : AppendingTerms = c.in-Publishing.appending in
+    let is = c.turn-published.ensures.after in
+    let so = before at (Publishing d a) c.in-Publishing.is in
+    let left : a.stored ≢ record_width c.args.board.now.book = λ all. let wrong : false ≡ true = c.if-not-published.ensures.ends.1 all in absurd (cc wrong) in
+    record {
+      seat = c.self.invariant.seat;
+      book = ap (λ (s : SeatTerms). s.knows.book) c.of-in-Publishing.ensures ∙ (c.turn-published.ensures.board.book ∙ book at);
+      account_is = c.self.invariant.account_is;
+      round_is = c.self.invariant.round_is;
+      counted = c.self.invariant.counted;
+      at_front = c.self.invariant.at_front;
+      upto = c.self.invariant.upto;
+      own = c.self.invariant.own;
+      helping = c.self.invariant.helping;
+      unsettled = c.self.invariant.unsettled;
+      stage_so = (
+        ap (λ (t : AppendingTerms). t.mark) is ∙ sym (ap (λ (s : SeatTerms). s.knows) c.of-in-Publishing.ensures),
+        omega (arith, ap (λ (t : AppendingTerms). t.stored) is, left, so.stage_so.1, ap (λ (b : BookTerms). record_width b) (book at)),
+        subst (λ (t : AppendingTerms). HasLoadedDecided i.start.value.knows t.start i.helping.value i.front d t.rec) (sym is) so.stage_so.2,
+      );
+    }

@@ -9,7 +9,6 @@ use Rattle.at_board.specs.declared.words.TheConstants.{RECORD_WORDS}
 use Rattle.at_machines.proofs.LoadingLaws.{IsLoadingSo-turn, entry_words-IsLoadingSo}
 use Rattle.at_machines.specs.Kept.{IsLoadingSo}
 use Rattle.at_machines.specs.Loading.{LoadingTerms, loading_after}
-use Rattle.at_machines.proofs.loading_entry.LoadingEntry.turn.Given as given
 use Rattle.at_machines.proofs.loading_entry.LoadingEntry.turn.Goals.{After-load_record_word}
 use Rattle.at_machines.proofs.loading_entry.LoadingEntry.turn.Goals as goal
 

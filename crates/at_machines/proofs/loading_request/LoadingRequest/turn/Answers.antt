@@ -11,7 +11,6 @@ use Rattle.at_rows.specs.Asks.{opened}
 use Rattle.at_machines.proofs.LoadingRequestLaws.{IsLoadingRequestSo-turn, LoadsRequest-IsLoadingRequestSo}
 use Rattle.at_machines.specs.KeptRequests.{IsLoadingRequestSo}
 use Rattle.at_machines.specs.LoadingRequest.{LoadingRequestTerms, request_after}
-use Rattle.at_machines.proofs.loading_request.LoadingRequest.turn.Given as given
 use Rattle.at_machines.proofs.loading_request.LoadingRequest.turn.Goals.{After-of}
 use Rattle.at_machines.proofs.loading_request.LoadingRequest.turn.Goals as goal
 

@@ -9,7 +9,6 @@ use Rattle.at_machines.specs.KeptRows.{IsLoadingRowSo}
 use Rattle.at_machines.specs.LoadingRow.{LoadingRowTerms}
 use Rattle.at_machines.specs.declared.row_stage.RowStage.{RowStage}
 use Rattle.at_machines.specs.declared.row_stage.RowStage.TheVariants.{Announced, Last}
-use Rattle.at_machines.proofs.loading_row.LoadingRow.turn.Given as given
 use Rattle.at_machines.proofs.loading_row.LoadingRow.turn.Goals.{After-load_announced-count, After-self}
 use Rattle.at_machines.proofs.loading_row.LoadingRow.turn.Goals as goal
 

@@ -9,7 +9,6 @@ use Rattle.at_log.proofs.Laws.SeenRecords.{small-IsRecordWord}
 use Rattle.at_machines.proofs.LoadingLaws.{IsLoadingSo-turn, IsViewOf-IsLoadingSo}
 use Rattle.at_machines.specs.Kept.{IsLoadingSo}
 use Rattle.at_machines.specs.Loading.{LoadingTerms, loading_after}
-use Rattle.at_machines.proofs.loading_view.LoadingView.turn.Given as given
 use Rattle.at_machines.proofs.loading_view.LoadingView.turn.Goals.{After-load_record_word-count}
 use Rattle.at_machines.proofs.loading_view.LoadingView.turn.Goals as goal
 

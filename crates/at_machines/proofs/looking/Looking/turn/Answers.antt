@@ -17,7 +17,6 @@ use Rattle.at_machines.specs.KeptLooking.{IsLookingSo}
 use Rattle.at_machines.specs.KeptSnapshots.{IsSnapped}
 use Rattle.at_machines.specs.Looking.{LookingTerms, look_turns_left}
 use Rattle.at_machines.specs.declared.look_stage.LookStage.TheVariants.{CatchUp, Snap}
-use Rattle.at_machines.proofs.looking.Looking.turn.Given as given
 use Rattle.at_machines.proofs.looking.Looking.turn.Goals.{After-copy, After-turn-caught, After-turn-snapped, then-is_ended, else-is_ended}
 use Rattle.at_machines.proofs.looking.Looking.turn.Goals as goal
 

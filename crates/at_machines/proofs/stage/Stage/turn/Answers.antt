@@ -10,7 +10,6 @@ use Rattle.at_machines.specs.Collecting.{CollectingTerms, LoadsLengthOf, collect
 use Rattle.at_machines.specs.KeptSnapshots.{IsSnappingSo, LeadsTo, TurnsStage}
 use Rattle.at_machines.specs.declared.stage.Stage.{Stage}
 use Rattle.at_machines.specs.declared.stage.Stage.TheVariants.{Collect}
-use Rattle.at_machines.proofs.stage.Stage.turn.Given as given
 use Rattle.at_machines.proofs.stage.Stage.turn.Goals.{After-turn}
 use Rattle.at_machines.proofs.stage.Stage.turn.Goals as goal
 
