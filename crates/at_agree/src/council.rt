@@ -48,11 +48,7 @@ impl Council {
     /// Proposes a value, and answers the value that is chosen: where all processes keep to the plan, it is that of the process
     /// whose request was decided first. One voice can't see what others will do, so this is a premise.
     /// Takes no memory.
-    pub fn propose(
-        &self,
-        voice: &mut Voice,
-        value: u64,
-    ) -> u64
+    pub fn propose(&self, voice: &mut Voice, value: u64) -> u64
         requires voice { IsVoiceOf voice.old self.now }
         requires unproposed { HasNotProposed voice.old }
         requires value { value < 2 ^ 32 }

@@ -47,12 +47,7 @@ impl Voice {
     }
 
     /// The first call: pays the value from the process's own account into its value account. It is done in every case.
-    pub(crate) fn pay_value(
-        &mut self,
-        ledger: &Ledger,
-        size: u32,
-        value: u64,
-    )
+    pub(crate) fn pay_value(&mut self, ledger: &Ledger, size: u32, value: u64)
         requires council { IsCouncil ledger.now }
         requires size { size ≡ size_of ledger.now }
         requires voice { IsVoiceOf self.old ledger.now }
@@ -66,21 +61,12 @@ impl Voice {
         ensures exchanges { self.new.pass.exchanges ≡ self.old.pass.exchanges }
     {
         let process = self.pass.process();
-        let paid = ledger.transfer(
-            &mut self.pass,
-            process,
-            size + process,
-            value
-        );
+        let paid = ledger.transfer(&mut self.pass, process, size + process, value);
         self.receipts.push_reserved(paid);
     }
 
     /// The second call: asks for at least half of the shared account.
-    pub(crate) fn ask_for_share(
-        &mut self,
-        ledger: &Ledger,
-        size: u32,
-    )
+    pub(crate) fn ask_for_share(&mut self, ledger: &Ledger, size: u32)
         requires council { IsCouncil ledger.now }
         requires size { size ≡ size_of ledger.now }
         requires voice { IsVoiceOf self.old ledger.now }
@@ -95,21 +81,12 @@ impl Voice {
         ensures exchanges { self.new.pass.exchanges ≤ self.old.pass.exchanges + size }
     {
         let share = u64::from(2 * size - (self.pass.process() + 1));
-        let asked = ledger.transfer(
-            &mut self.pass,
-            2 * size,
-            2 * size + 1,
-            share
-        );
+        let asked = ledger.transfer(&mut self.pass, 2 * size, 2 * size + 1, share);
         self.receipts.push_reserved(asked);
     }
 
     /// The third and the fourth call: reads an account.
-    pub(crate) fn find(
-        &mut self,
-        ledger: &Ledger,
-        account: u32,
-    ) -> u64
+    pub(crate) fn find(&mut self, ledger: &Ledger, account: u32) -> u64
         requires voice { IsVoiceOf self.old ledger.now }
         requires account { account < length ledger.now.book.accounts }
         requires some_room { length self.old.receipts < 4 }

@@ -50,6 +50,7 @@ returns-clause-steps c =
     omega (
       arith,
       c.transfer-asked.ensures.steps,
+      ap (λ (v : VoiceTerms). v.pass.steps) c.self.view_is,
       new,
       payment_steps-shared c.args.ledger.now c.args.size c.requires.council c.requires.size,
     )
@@ -59,6 +60,7 @@ returns-clause-exchanges c =
     omega (
       arith,
       c.transfer-asked.ensures.exchanges,
+      ap (λ (v : VoiceTerms). v.pass.exchanges) c.self.view_is,
       c.transfer-asked.ensures.decides,
       slots_of-council c.args.ledger.now c.args.size c.requires.council c.requires.size,
     )

@@ -54,6 +54,7 @@ returns-clause-steps c =
     omega (
       arith,
       c.transfer-paid.ensures.steps,
+      ap (λ (v : VoiceTerms). v.pass.steps) c.self.view_is,
       new,
       payment_steps-own c.args.ledger.now c.args.size c.process-process.result c.requires.council c.requires.size known,
     )
@@ -66,3 +67,4 @@ returns-clause-exchanges c =
     c.requires.size c.process-process.ensures was c.self.invariant in
     c.transfer-paid.ensures.exchanges_single
     (is_shared-own c.args.ledger.now c.args.size c.process-process.result c.requires.council c.requires.size known)
+    ∙ ap (λ (v : VoiceTerms). v.pass.exchanges) c.self.view_is
