@@ -18,10 +18,8 @@ use at_players::crowd::wait_for_all;
 use at_shared::transfer_shared;
 use at_single::{read_account, transfer_own};
 use std::alloc::Global;
-use std::marker::Brand;
 use std::process::Abort;
 use std::sync::atomic::AtomicU64;
-use std::sync::ledger::{Blank, Ledger};
 use std::thread::{Threads, join_mut};
 
 /// How often each thread calls.
@@ -143,12 +141,7 @@ pub(crate) fn pay_shared_often(
     board: &Board,
     alloc: Global,
     seat: &mut BoardSeat,
-    steps: Blank,
-    exchanges: Blank,
 ) -> Receipts
-    requires names { (steps.name ≡ L.name) × (exchanges.name ≡ X.name) }
-    requires parts { (steps.parts ≡ L.parts) × (exchanges.parts ≡ X.parts) }
-    requires some { (0 < steps.parts) × (0 < exchanges.parts) }
     requires idle { IsIdle board.now seat.old }
     ensures rest { IfSome result (λ _. HoldsNoCell board.now seat.new) }
 {
@@ -169,12 +162,7 @@ pub(crate) fn pay_own_often(
     board: &Board,
     alloc: Global,
     seat: &mut BoardSeat,
-    steps: Blank,
-    exchanges: Blank,
 ) -> Receipts
-    requires names { (steps.name ≡ L.name) × (exchanges.name ≡ X.name) }
-    requires parts { (steps.parts ≡ L.parts) × (exchanges.parts ≡ X.parts) }
-    requires some { (0 < steps.parts) × (0 < exchanges.parts) }
     requires idle { IsIdle board.now seat.old }
     ensures rest { IfSome result (λ _. HoldsNoCell board.now seat.new) }
 {
@@ -192,12 +180,7 @@ pub(crate) fn read_often(
     board: &Board,
     alloc: Global,
     seat: &mut BoardSeat,
-    steps: Blank,
-    exchanges: Blank,
 ) -> Receipts
-    requires names { (steps.name ≡ L.name) × (exchanges.name ≡ X.name) }
-    requires parts { (steps.parts ≡ L.parts) × (exchanges.parts ≡ X.parts) }
-    requires some { (0 < steps.parts) × (0 < exchanges.parts) }
     requires idle { IsIdle board.now seat.old }
     ensures rest { IfSome result (λ _. HoldsNoCell board.now seat.new) }
 {
@@ -216,7 +199,7 @@ fn share_alone(board: &Board, alloc: Global, gate: &AtomicU64, seat: &mut BoardS
     ensures rest { IfSome result (λ _. HoldsNoCell board.now seat.new) }
 {
     wait_for_all(gate);
-    pay_shared_often::<Brand, Brand>(board, alloc, seat, Blank::new(1), Blank::new(1))
+    pay_shared_often(board, alloc, seat)
 }
 
 /// Pays from the single account with counters of its own, once all threads are there.
@@ -225,7 +208,7 @@ fn own_alone(board: &Board, alloc: Global, gate: &AtomicU64, seat: &mut BoardSea
     ensures rest { IfSome result (λ _. HoldsNoCell board.now seat.new) }
 {
     wait_for_all(gate);
-    pay_own_often::<Brand, Brand>(board, alloc, seat, Blank::new(1), Blank::new(1))
+    pay_own_often(board, alloc, seat)
 }
 
 /// Reads with counters of its own, once all threads are there.
@@ -234,7 +217,7 @@ fn read_alone(board: &Board, alloc: Global, gate: &AtomicU64, seat: &mut BoardSe
     ensures rest { IfSome result (λ _. HoldsNoCell board.now seat.new) }
 {
     wait_for_all(gate);
-    read_often::<Brand, Brand>(board, alloc, seat, Blank::new(1), Blank::new(1))
+    read_often(board, alloc, seat)
 }
 
 /// Two threads pay from the shared account.

@@ -13,9 +13,7 @@ use at_log::{At, Receipt};
 use at_players::boards::new_pair;
 use at_single::{read_account, transfer_own};
 use std::alloc::Global;
-use std::marker::Brand;
 use std::process::Abort;
-use std::sync::ledger::{Blank, Ledger};
 
 /// Whether process 0 owns account 0 alone, and there is an account 1.
 fn owns_alone(book: &Book) -> bool
@@ -69,10 +67,7 @@ fn pays_and_reads(
 }
 
 /// Two processes of a new board.
-fn pays<R: Abort>(rt: &R, alloc: Global, one: Blank, another: Blank)
-    requires names { (one.name ≡ L.name) × (another.name ≡ X.name) }
-    requires parts { (one.parts ≡ L.parts) × (another.parts ≡ X.parts) }
-    requires some { (0 < one.parts) × (0 < another.parts) }
+fn pays<R: Abort>(rt: &R, alloc: Global)
 {
     let accounts = [(100, [0].as_slice()), (0, [1].as_slice())];
     let (board, mut seat, mut other) = new_pair(alloc, 4, accounts.as_slice()).expect(
@@ -93,5 +88,5 @@ fn pays<R: Abort>(rt: &R, alloc: Global, one: Blank, another: Blank)
 
 #[test]
 fn a_payment_is_read_by_both(rt: HostRuntime) {
-    pays::<Brand, Brand, _>(&rt, rt.alloc(), Blank::new(1), Blank::new(1));
+    pays(&rt, rt.alloc());
 }
