@@ -19,7 +19,7 @@ use at_fold::Totals;
 use at_ledger::{Call, Reply, Targets};
 use at_log::{At, Receipt};
 use at_players::boards::{has_record, new_pair, new_three, slot_on};
-use at_shared::{HelpTurn, Helping, pay_shared, transfer_shared};
+use at_shared::{HelpTurn, Helping, pay_shared};
 use at_single::read_account;
 use std::alloc::Global;
 use std::process::Abort;
@@ -83,7 +83,12 @@ fn pays(
     if !may_ask(board, seat, totals) {
         return None;
     }
-    let receipt = transfer_shared(board, seat, totals, 0, 1, amount);
+    let call = Call::Transfer {
+        from: 0,
+        to: 1,
+        amount,
+    };
+    let receipt = pay_shared(board, seat, totals, 0, &call);
     in_round(&receipt)
 }
 
@@ -102,7 +107,8 @@ fn pays_listed(
         return None;
     }
     let targets = Targets::one(1, amount);
-    let receipt = pay_shared(board, seat, totals, 0, &targets);
+    let call = Call::Pay { from: 0, targets };
+    let receipt = pay_shared(board, seat, totals, 0, &call);
     in_round(&receipt)
 }
 

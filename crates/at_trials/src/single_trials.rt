@@ -8,10 +8,10 @@ ghost use Rattle.at_trials.specs.SmallFold.{IsNewTotals};
 use crate::fold_trials::new_totals;
 use at_board::{Board, BoardSeat};
 use at_fold::Totals;
-use at_ledger::{Book, Reply};
+use at_ledger::{Book, Reply, Targets};
 use at_log::{At, Receipt};
 use at_players::boards::new_pair;
-use at_single::{read_account, transfer_own};
+use at_single::{pay_single, read_account};
 use std::alloc::Global;
 use std::process::Abort;
 
@@ -36,9 +36,9 @@ fn read_at(receipt: &Receipt) -> Option<(u64, u32, u32)> {
     }
 }
 
-/// Whether a receipt stands at the first record of its process.
-fn is_first_done(receipt: &Receipt) -> bool {
-    receipt.reply == Reply::Done && matches!(receipt.at, At::Own(0))
+/// Whether a payment was done and stands at the first record of its process.
+fn is_first_done(reply: &Reply, at: &At) -> bool {
+    *reply == Reply::Done && matches!(at, At::Own(0))
 }
 
 /// Whether process 0 pays 40 to account 1 and reads 60, and process 1, once it was told, reads 40, both at one front.
@@ -56,12 +56,13 @@ fn pays_and_reads(
     if !owns_alone(board.book()) {
         return false;
     }
-    let paid = transfer_own(board, seat, totals, 0, 1, 40);
+    let targets = Targets::one(1, 40);
+    let (reply, at) = pay_single(board, seat, totals, 0, &targets);
     let here = read_account(board, seat, totals, 0);
     let note = board.note(seat);
     board.learn(other, note);
     let there = read_account(board, other, others, 1);
-    is_first_done(&paid)
+    is_first_done(&reply, &at)
         && read_at(&here) == Some((60, 1, 0))
         && read_at(&there) == Some((40, 1, 0))
 }
