@@ -11,17 +11,15 @@ use crate::fold_trials::new_totals;
 use at_base::{Decision, Head, unpack_decision, unpack_head};
 use at_board::{Board, BoardEnd, BoardSeat};
 use at_fold::Totals;
-use at_ledger::{Book, Draft, DraftAccount, Reply};
+use at_ledger::{Book, Call, Draft, DraftAccount, Reply, Targets};
 use at_log::{At, Receipt};
 use at_players::boards::{last_seat, slot_on};
 use at_players::crowd::wait_for_all;
-use at_shared::transfer_shared;
-use at_single::{read_account, transfer_own};
+use at_shared::pay_shared;
+use at_single::{pay_single, read_account};
 use std::alloc::Global;
-use std::marker::Brand;
 use std::process::Abort;
 use std::sync::atomic::AtomicU64;
-use std::sync::ledger::{Blank, Ledger};
 use std::thread::{Threads, join_mut};
 
 /// How often each thread calls.
@@ -65,7 +63,7 @@ pub(crate) fn begins_sharing(board: &Board, seat: &BoardSeat) -> bool
 }
 
 /// Pays 1 from account 0 to account 1, if the seat's process has room for a request there.
-fn pay_shared(
+fn pay_from_shared(
     board: &Board,
     seat: &mut BoardSeat,
     totals: &mut Totals,
@@ -79,7 +77,12 @@ fn pay_shared(
     if board.book().request_room() <= number || board.book().accounts() < 2 {
         return None;
     }
-    let receipt = transfer_shared(board, seat, totals, 0, 1, 1);
+    let call = Call::Transfer {
+        from: 0,
+        to: 1,
+        amount: 1,
+    };
+    let receipt = pay_shared(board, seat, totals, 0, &call);
     if board.announced(seat, 0) == number + 1 {
         Some(receipt)
     } else {
@@ -113,12 +116,10 @@ fn pay_own(
     if board.book().own_room() <= seat.published() {
         return None;
     }
-    let receipt = transfer_own(board, seat, totals, 2, 0, 1);
-    match receipt.reply {
-        Reply::Done => Some(receipt),
-        Reply::Short => Some(receipt),
-        _ => None,
-    }
+    let targets = Targets::one(0, 1);
+    let (reply, at) = pay_single(board, seat, totals, 2, &targets);
+    let call = Call::Pay { from: 2, targets };
+    Some(Receipt { call, reply, at })
 }
 
 /// Reads an account, if there is one of this number.
@@ -143,12 +144,7 @@ pub(crate) fn pay_shared_often(
     board: &Board,
     alloc: Global,
     seat: &mut BoardSeat,
-    steps: Blank,
-    exchanges: Blank,
 ) -> Receipts
-    requires names { (steps.name ≡ L.name) × (exchanges.name ≡ X.name) }
-    requires parts { (steps.parts ≡ L.parts) × (exchanges.parts ≡ X.parts) }
-    requires some { (0 < steps.parts) × (0 < exchanges.parts) }
     requires idle { IsIdle board.now seat.old }
     ensures rest { IfSome result (λ _. HoldsNoCell board.now seat.new) }
 {
@@ -158,7 +154,7 @@ pub(crate) fn pay_shared_often(
     }
     let mut receipts = Vec::new(alloc);
     for _call in 0..CALLS {
-        let receipt = pay_shared(board, seat, &mut totals)?;
+        let receipt = pay_from_shared(board, seat, &mut totals)?;
         receipts.push(receipt).ok()?;
     }
     Some(receipts)
@@ -169,12 +165,7 @@ pub(crate) fn pay_own_often(
     board: &Board,
     alloc: Global,
     seat: &mut BoardSeat,
-    steps: Blank,
-    exchanges: Blank,
 ) -> Receipts
-    requires names { (steps.name ≡ L.name) × (exchanges.name ≡ X.name) }
-    requires parts { (steps.parts ≡ L.parts) × (exchanges.parts ≡ X.parts) }
-    requires some { (0 < steps.parts) × (0 < exchanges.parts) }
     requires idle { IsIdle board.now seat.old }
     ensures rest { IfSome result (λ _. HoldsNoCell board.now seat.new) }
 {
@@ -192,12 +183,7 @@ pub(crate) fn read_often(
     board: &Board,
     alloc: Global,
     seat: &mut BoardSeat,
-    steps: Blank,
-    exchanges: Blank,
 ) -> Receipts
-    requires names { (steps.name ≡ L.name) × (exchanges.name ≡ X.name) }
-    requires parts { (steps.parts ≡ L.parts) × (exchanges.parts ≡ X.parts) }
-    requires some { (0 < steps.parts) × (0 < exchanges.parts) }
     requires idle { IsIdle board.now seat.old }
     ensures rest { IfSome result (λ _. HoldsNoCell board.now seat.new) }
 {
@@ -210,31 +196,31 @@ pub(crate) fn read_often(
     Some(receipts)
 }
 
-/// Pays from the shared account with counters of its own, once all threads are there.
+/// Pays from the shared account once all threads are there.
 fn share_alone(board: &Board, alloc: Global, gate: &AtomicU64, seat: &mut BoardSeat) -> Receipts
     requires idle { IsIdle board.now seat.old }
     ensures rest { IfSome result (λ _. HoldsNoCell board.now seat.new) }
 {
     wait_for_all(gate);
-    pay_shared_often::<Brand, Brand>(board, alloc, seat, Blank::new(1), Blank::new(1))
+    pay_shared_often(board, alloc, seat)
 }
 
-/// Pays from the single account with counters of its own, once all threads are there.
+/// Pays from the single account once all threads are there.
 fn own_alone(board: &Board, alloc: Global, gate: &AtomicU64, seat: &mut BoardSeat) -> Receipts
     requires idle { IsIdle board.now seat.old }
     ensures rest { IfSome result (λ _. HoldsNoCell board.now seat.new) }
 {
     wait_for_all(gate);
-    pay_own_often::<Brand, Brand>(board, alloc, seat, Blank::new(1), Blank::new(1))
+    pay_own_often(board, alloc, seat)
 }
 
-/// Reads with counters of its own, once all threads are there.
+/// Reads once all threads are there.
 fn read_alone(board: &Board, alloc: Global, gate: &AtomicU64, seat: &mut BoardSeat) -> Receipts
     requires idle { IsIdle board.now seat.old }
     ensures rest { IfSome result (λ _. HoldsNoCell board.now seat.new) }
 {
     wait_for_all(gate);
-    read_often::<Brand, Brand>(board, alloc, seat, Blank::new(1), Blank::new(1))
+    read_often(board, alloc, seat)
 }
 
 /// Two threads pay from the shared account.

@@ -13,9 +13,7 @@ use at_players::requests::{ask, first_amount};
 use at_players::rounds::{decide_first, find_first, first_word, publish_round, settle};
 use at_players::words::{TO_ACCOUNT_0, TO_ACCOUNT_1};
 use std::alloc::Global;
-use std::marker::Brand;
 use std::process::Abort;
-use std::sync::ledger::{Blank, Ledger};
 
 /// Worked words of targets, packed and unpacked.
 #[test]
@@ -61,10 +59,7 @@ fn asks_and_sees(
 }
 
 /// One process asks, and the other sees what.
-fn requests<R: Abort>(rt: &R, alloc: Global, one: Blank, another: Blank)
-    requires names { (one.name ≡ L.name) × (another.name ≡ X.name) }
-    requires parts { (one.parts ≡ L.parts) × (another.parts ≡ X.parts) }
-    requires some { (0 < one.parts) × (0 < another.parts) }
+fn requests<R: Abort>(rt: &R, alloc: Global)
 {
     let accounts = [(100, [0, 1].as_slice()), (0, [].as_slice())];
     let (board, mut second, mut seat) = new_pair(alloc, 65, accounts.as_slice()).expect(
@@ -75,7 +70,7 @@ fn requests<R: Abort>(rt: &R, alloc: Global, one: Blank, another: Blank)
 
 #[test]
 fn a_request_is_seen(rt: HostRuntime) {
-    requests::<Brand, Brand, _>(&rt, rt.alloc(), Blank::new(1), Blank::new(1));
+    requests(&rt, rt.alloc());
 }
 
 /// Whether process 1 settles the first round of the account that it shares with process 0.
@@ -135,10 +130,7 @@ fn has_first_round(end: &BoardEnd) -> bool
 }
 
 /// One process settles a round of the account that it shares with another. The closed board has the words of its record.
-fn settles<R: Abort>(rt: &R, alloc: Global, one: Blank, another: Blank)
-    requires names { (one.name ≡ L.name) × (another.name ≡ X.name) }
-    requires parts { (one.parts ≡ L.parts) × (another.parts ≡ X.parts) }
-    requires some { (0 < one.parts) × (0 < another.parts) }
+fn settles<R: Abort>(rt: &R, alloc: Global)
 {
     let accounts = [(100, [0, 1].as_slice()), (0, [].as_slice())];
     let (board, first, second) = new_pair(alloc, 65, accounts.as_slice()).expect(rt, "a board");
@@ -148,7 +140,7 @@ fn settles<R: Abort>(rt: &R, alloc: Global, one: Blank, another: Blank)
 
 #[test]
 fn a_round_is_settled(rt: HostRuntime) {
-    settles::<Brand, Brand, _>(&rt, rt.alloc(), Blank::new(1), Blank::new(1));
+    settles(&rt, rt.alloc());
 }
 
 /// The slots of processes 0 and 1 on account 0, if a request there to pay 7 to account 1 can be covered.
@@ -221,10 +213,7 @@ fn has_round_twice(end: &BoardEnd) -> bool
 }
 
 /// Two processes publish one round, the one that decided it last.
-fn publish_twice<R: Abort>(rt: &R, alloc: Global, one: Blank, another: Blank)
-    requires names { (one.name ≡ L.name) × (another.name ≡ X.name) }
-    requires parts { (one.parts ≡ L.parts) × (another.parts ≡ X.parts) }
-    requires some { (0 < one.parts) × (0 < another.parts) }
+fn publish_twice<R: Abort>(rt: &R, alloc: Global)
 {
     let accounts = [(100, [0, 1].as_slice()), (0, [].as_slice())];
     let (board, first, second) = new_pair(alloc, 65, accounts.as_slice()).expect(rt, "a board");
@@ -234,7 +223,7 @@ fn publish_twice<R: Abort>(rt: &R, alloc: Global, one: Blank, another: Blank)
 
 #[test]
 fn a_round_is_published_by_both(rt: HostRuntime) {
-    publish_twice::<Brand, Brand, _>(&rt, rt.alloc(), Blank::new(1), Blank::new(1));
+    publish_twice(&rt, rt.alloc());
 }
 
 /// Whether one process pays, and the other reads what, through notes alone.
@@ -282,10 +271,7 @@ fn has_payment(end: &BoardEnd) -> bool
 }
 
 /// One process pays, and the other reads what. The closed board has the words of the record.
-fn tells<R: Abort>(rt: &R, alloc: Global, one: Blank, another: Blank)
-    requires names { (one.name ≡ L.name) × (another.name ≡ X.name) }
-    requires parts { (one.parts ≡ L.parts) × (another.parts ≡ X.parts) }
-    requires some { (0 < one.parts) × (0 < another.parts) }
+fn tells<R: Abort>(rt: &R, alloc: Global)
 {
     let accounts = [(100, [0].as_slice()), (100, [1].as_slice())];
     let (board, seat, other) = new_pair(alloc, 65, accounts.as_slice()).expect(rt, "a board");
@@ -295,7 +281,7 @@ fn tells<R: Abort>(rt: &R, alloc: Global, one: Blank, another: Blank)
 
 #[test]
 fn a_record_is_told(rt: HostRuntime) {
-    tells::<Brand, Brand, _>(&rt, rt.alloc(), Blank::new(1), Blank::new(1));
+    tells(&rt, rt.alloc());
 }
 
 /// The end of the board of one process, where that has paid.
@@ -326,10 +312,7 @@ fn has_single_payment(end: &BoardEnd) -> bool
 }
 
 /// The only process pays an account without an owner. The closed board has the words of the record.
-fn pays_alone<R: Abort>(rt: &R, alloc: Global, one: Blank, another: Blank)
-    requires names { (one.name ≡ L.name) × (another.name ≡ X.name) }
-    requires parts { (one.parts ≡ L.parts) × (another.parts ≡ X.parts) }
-    requires some { (0 < one.parts) × (0 < another.parts) }
+fn pays_alone<R: Abort>(rt: &R, alloc: Global)
 {
     let accounts = [(100, [0].as_slice()), (0, [].as_slice())];
     let (board, seat) = new_single(alloc, 65, accounts.as_slice()).expect(rt, "a board");
@@ -339,5 +322,5 @@ fn pays_alone<R: Abort>(rt: &R, alloc: Global, one: Blank, another: Blank)
 
 #[test]
 fn a_lone_process_pays(rt: HostRuntime) {
-    pays_alone::<Brand, Brand, _>(&rt, rt.alloc(), Blank::new(1), Blank::new(1));
+    pays_alone(&rt, rt.alloc());
 }

@@ -19,9 +19,7 @@ use at_players::boards::{new_pair, new_single, slot_on};
 use at_players::crowd::look;
 use at_players::rounds::settle;
 use std::alloc::Global;
-use std::marker::Brand;
 use std::process::Abort;
-use std::sync::ledger::{Blank, Ledger};
 
 /// Totals for the board that have counted nothing.
 pub(crate) fn new_totals(alloc: Global, board: &Board) -> Option<Totals>
@@ -187,10 +185,7 @@ fn counts_a_pay_out(
 }
 
 /// The only process of a board pays two targets, and new totals catch up.
-fn pays_out<R: Abort>(rt: &R, alloc: Global, one: Blank, another: Blank)
-    requires names { (one.name ≡ L.name) × (another.name ≡ X.name) }
-    requires parts { (one.parts ≡ L.parts) × (another.parts ≡ X.parts) }
-    requires some { (0 < one.parts) × (0 < another.parts) }
+fn pays_out<R: Abort>(rt: &R, alloc: Global)
 {
     let accounts = [
         (100, [0].as_slice()),
@@ -204,7 +199,7 @@ fn pays_out<R: Abort>(rt: &R, alloc: Global, one: Blank, another: Blank)
 
 #[test]
 fn a_pay_out_is_counted(rt: HostRuntime) {
-    pays_out::<Brand, Brand, _>(&rt, rt.alloc(), Blank::new(1), Blank::new(1));
+    pays_out(&rt, rt.alloc());
 }
 
 /// Whether totals have counted one record of process 0, and none of process 1.
@@ -237,10 +232,7 @@ fn counts_what_was_told(
 }
 
 /// One process pays, and new totals of the other catch up.
-fn tells<R: Abort>(rt: &R, alloc: Global, one: Blank, another: Blank)
-    requires names { (one.name ≡ L.name) × (another.name ≡ X.name) }
-    requires parts { (one.parts ≡ L.parts) × (another.parts ≡ X.parts) }
-    requires some { (0 < one.parts) × (0 < another.parts) }
+fn tells<R: Abort>(rt: &R, alloc: Global)
 {
     let accounts = [(100, [0].as_slice()), (0, [1].as_slice())];
     let (board, mut seat, mut other) = new_pair(alloc, 4, accounts.as_slice()).expect(
@@ -252,7 +244,7 @@ fn tells<R: Abort>(rt: &R, alloc: Global, one: Blank, another: Blank)
 
 #[test]
 fn a_told_record_is_counted(rt: HostRuntime) {
-    tells::<Brand, Brand, _>(&rt, rt.alloc(), Blank::new(1), Blank::new(1));
+    tells(&rt, rt.alloc());
 }
 
 /// Whether process 0 counts its own record as it publishes it, and has no round of account 1, which it shares.
@@ -274,10 +266,7 @@ fn counts_own(
 }
 
 /// A process counts its own record.
-fn counts<R: Abort>(rt: &R, alloc: Global, one: Blank, another: Blank)
-    requires names { (one.name ≡ L.name) × (another.name ≡ X.name) }
-    requires parts { (one.parts ≡ L.parts) × (another.parts ≡ X.parts) }
-    requires some { (0 < one.parts) × (0 < another.parts) }
+fn counts<R: Abort>(rt: &R, alloc: Global)
 {
     let accounts = [(100, [0].as_slice()), (0, [0, 1].as_slice())];
     let (board, mut seat, _) = new_pair(alloc, 4, accounts.as_slice()).expect(rt, "a board");
@@ -287,7 +276,7 @@ fn counts<R: Abort>(rt: &R, alloc: Global, one: Blank, another: Blank)
 
 #[test]
 fn an_own_record_is_counted(rt: HostRuntime) {
-    counts::<Brand, Brand, _>(&rt, rt.alloc(), Blank::new(1), Blank::new(1));
+    counts(&rt, rt.alloc());
 }
 
 /// The decision that process 0's first request succeeds, before anything is published.
@@ -343,10 +332,7 @@ fn counts_a_round(
 }
 
 /// A round is decided and published on the account that two processes share, and new totals catch up.
-fn decides<R: Abort>(rt: &R, alloc: Global, one: Blank, another: Blank)
-    requires names { (one.name ≡ L.name) × (another.name ≡ X.name) }
-    requires parts { (one.parts ≡ L.parts) × (another.parts ≡ X.parts) }
-    requires some { (0 < one.parts) × (0 < another.parts) }
+fn decides<R: Abort>(rt: &R, alloc: Global)
 {
     let accounts = [(100, [0, 1].as_slice()), (0, [].as_slice())];
     let (board, mut seat, _) = new_pair(alloc, 4, accounts.as_slice()).expect(rt, "a board");
@@ -356,5 +342,5 @@ fn decides<R: Abort>(rt: &R, alloc: Global, one: Blank, another: Blank)
 
 #[test]
 fn a_published_round_is_counted(rt: HostRuntime) {
-    decides::<Brand, Brand, _>(&rt, rt.alloc(), Blank::new(1), Blank::new(1));
+    decides(&rt, rt.alloc());
 }

@@ -15,9 +15,7 @@ use at_ledger::{Call, Reply, Targets};
 use at_log::{At, Closing, Entry, Receipt, Record, load_entry, load_view, room};
 use at_players::boards::{new_pair, new_single};
 use std::alloc::Global;
-use std::marker::Brand;
 use std::process::Abort;
-use std::sync::ledger::{Blank, Ledger};
 
 /// The only process pays, in nine steps.
 fn pays_alone(
@@ -75,10 +73,7 @@ fn appends(
 }
 
 /// The only process of a board pays two targets.
-fn appends_alone<R: Abort>(rt: &R, alloc: Global, one: Blank, another: Blank)
-    requires names { (one.name ≡ L.name) × (another.name ≡ X.name) }
-    requires parts { (one.parts ≡ L.parts) × (another.parts ≡ X.parts) }
-    requires some { (0 < one.parts) × (0 < another.parts) }
+fn appends_alone<R: Abort>(rt: &R, alloc: Global)
 {
     let accounts = [
         (100, [0].as_slice()),
@@ -91,7 +86,7 @@ fn appends_alone<R: Abort>(rt: &R, alloc: Global, one: Blank, another: Blank)
 
 #[test]
 fn a_record_is_appended(rt: HostRuntime) {
-    appends_alone::<Brand, Brand, _>(&rt, rt.alloc(), Blank::new(1), Blank::new(1));
+    appends_alone(&rt, rt.alloc());
 }
 
 /// The record by which process 0 pays 1 to account 1, as process 1 loads it after a note.
@@ -132,10 +127,7 @@ fn is_payment(told: &Option<Record>) -> bool {
 }
 
 /// One process pays 1 to account 1, and the other loads the record, through a note alone.
-fn tells<R: Abort>(rt: &R, alloc: Global, one: Blank, another: Blank)
-    requires names { (one.name ≡ L.name) × (another.name ≡ X.name) }
-    requires parts { (one.parts ≡ L.parts) × (another.parts ≡ X.parts) }
-    requires some { (0 < one.parts) × (0 < another.parts) }
+fn tells<R: Abort>(rt: &R, alloc: Global)
 {
     let accounts = [(100, [0].as_slice()), (100, [1].as_slice())];
     let (board, mut seat, mut other) = new_pair(alloc, 4, accounts.as_slice()).expect(
@@ -147,7 +139,7 @@ fn tells<R: Abort>(rt: &R, alloc: Global, one: Blank, another: Blank)
 
 #[test]
 fn a_record_is_told(rt: HostRuntime) {
-    tells::<Brand, Brand, _>(&rt, rt.alloc(), Blank::new(1), Blank::new(1));
+    tells(&rt, rt.alloc());
 }
 
 /// A closing says its processes, its records and its receipts.

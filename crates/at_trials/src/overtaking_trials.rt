@@ -14,9 +14,7 @@ use at_ledger::Reply;
 use at_players::boards::{book_of, last_seat};
 use at_shared::{HelpTurn, Helping};
 use std::alloc::Global;
-use std::marker::Brand;
 use std::process::Abort;
-use std::sync::ledger::{Blank, Ledger};
 
 /// How many owners share account 0, which is the most that may.
 const OWNERS: u32 = 8;
@@ -256,17 +254,12 @@ fn eight_are_served(
 fn overtakes_seven<R: Abort>(
     rt: &R,
     alloc: Global,
-    one: Blank,
-    another: Blank,
 )
-    requires names { (one.name ≡ L.name) × (another.name ≡ X.name) }
-    requires parts { (one.parts ≡ L.parts) × (another.parts ≡ X.parts) }
-    requires some { (0 < one.parts) × (0 < another.parts) }
 {
     assert!(rt; eight_are_served(alloc) == Some(true));
 }
 
 #[test]
 fn a_request_is_overtaken_by_seven(rt: HostRuntime) {
-    overtakes_seven::<Brand, Brand, _>(&rt, rt.alloc(), Blank::new(1), Blank::new(1));
+    overtakes_seven(&rt, rt.alloc());
 }

@@ -13,9 +13,7 @@ use at_log::{Entry, Record, append};
 use at_players::boards::new_three;
 use at_snapshot::{Scan, Turn, snapshot};
 use std::alloc::Global;
-use std::marker::Brand;
 use std::process::Abort;
-use std::sync::ledger::{Blank, Ledger};
 
 /// The counts of three processes.
 fn three(counts: &Counts) -> Option<(u32, u32, u32)> {
@@ -167,10 +165,7 @@ fn scans_beside(
 }
 
 /// Nobody publishes.
-fn scans<R: Abort>(rt: &R, alloc: Global, one: Blank, another: Blank)
-    requires names { (one.name ≡ L.name) × (another.name ≡ X.name) }
-    requires parts { (one.parts ≡ L.parts) × (another.parts ≡ X.parts) }
-    requires some { (0 < one.parts) × (0 < another.parts) }
+fn scans<R: Abort>(rt: &R, alloc: Global)
 {
     let (board, (_, _, mut seat)) = new_three(alloc, 4, ACCOUNTS.as_slice()).expect(rt, "a board");
     assert!(rt; scans_alone(&board, &mut seat));
@@ -180,13 +175,8 @@ fn scans<R: Abort>(rt: &R, alloc: Global, one: Blank, another: Blank)
 fn meets<R: Abort>(
     rt: &R,
     alloc: Global,
-    one: Blank,
-    another: Blank,
     again: bool,
 )
-    requires names { (one.name ≡ L.name) × (another.name ≡ X.name) }
-    requires parts { (one.parts ≡ L.parts) × (another.parts ≡ X.parts) }
-    requires some { (0 < one.parts) × (0 < another.parts) }
 {
     let (board, (mut seat, mut other, _)) = new_three(alloc, 4, ACCOUNTS.as_slice()).expect(
         rt, "a board",
@@ -212,15 +202,15 @@ fn counts_one(third: &Option<Turn>, is_borrowed: bool) -> bool {
 
 #[test]
 fn a_scan_ends(rt: HostRuntime) {
-    scans::<Brand, Brand, _>(&rt, rt.alloc(), Blank::new(1), Blank::new(1));
+    scans(&rt, rt.alloc());
 }
 
 #[test]
 fn a_scan_meets_a_record(rt: HostRuntime) {
-    meets::<Brand, Brand, _>(&rt, rt.alloc(), Blank::new(1), Blank::new(1), false);
+    meets(&rt, rt.alloc(), false);
 }
 
 #[test]
 fn a_scan_borrows_a_view(rt: HostRuntime) {
-    meets::<Brand, Brand, _>(&rt, rt.alloc(), Blank::new(1), Blank::new(1), true);
+    meets(&rt, rt.alloc(), true);
 }

@@ -19,12 +19,10 @@ use at_fold::Totals;
 use at_ledger::{Call, Reply, Targets};
 use at_log::{At, Receipt};
 use at_players::boards::{has_record, new_pair, new_three, slot_on};
-use at_shared::{HelpTurn, Helping, pay_shared, transfer_shared};
+use at_shared::{HelpTurn, Helping, pay_shared};
 use at_single::read_account;
 use std::alloc::Global;
-use std::marker::Brand;
 use std::process::Abort;
-use std::sync::ledger::{Blank, Ledger};
 
 /// What a call answers, and its round and place.
 pub(crate) type InRound = Option<(Reply, u32, u32)>;
@@ -85,7 +83,12 @@ fn pays(
     if !may_ask(board, seat, totals) {
         return None;
     }
-    let receipt = transfer_shared(board, seat, totals, 0, 1, amount);
+    let call = Call::Transfer {
+        from: 0,
+        to: 1,
+        amount,
+    };
+    let receipt = pay_shared(board, seat, totals, 0, &call);
     in_round(&receipt)
 }
 
@@ -104,7 +107,8 @@ fn pays_listed(
         return None;
     }
     let targets = Targets::one(1, amount);
-    let receipt = pay_shared(board, seat, totals, 0, &targets);
+    let call = Call::Pay { from: 0, targets };
+    let receipt = pay_shared(board, seat, totals, 0, &call);
     in_round(&receipt)
 }
 
@@ -278,10 +282,7 @@ fn has_three_rounds(end: &BoardEnd) -> bool
 }
 
 /// One of two owners of account 0 pays from it, until that is short.
-fn pays_in_rounds<R: Abort>(rt: &R, alloc: Global, one: Blank, another: Blank)
-    requires names { (one.name ≡ L.name) × (another.name ≡ X.name) }
-    requires parts { (one.parts ≡ L.parts) × (another.parts ≡ X.parts) }
-    requires some { (0 < one.parts) × (0 < another.parts) }
+fn pays_in_rounds<R: Abort>(rt: &R, alloc: Global)
 {
     let accounts = [(100, [0, 1].as_slice()), (0, [].as_slice())];
     let (board, first, second) = new_pair(alloc, 4, accounts.as_slice()).expect(rt, "a board");
@@ -291,7 +292,7 @@ fn pays_in_rounds<R: Abort>(rt: &R, alloc: Global, one: Blank, another: Blank)
 
 #[test]
 fn later_rounds_are_published(rt: HostRuntime) {
-    pays_in_rounds::<Brand, Brand, _>(&rt, rt.alloc(), Blank::new(1), Blank::new(1));
+    pays_in_rounds(&rt, rt.alloc());
 }
 
 /// A request of a payment of 10 from account 0 to account 1, if the seat's process may ask for it.
@@ -431,10 +432,7 @@ fn three_totals(alloc: Global, board: &Board) -> Option<(Totals, Totals, Totals)
 }
 
 /// Three owners of account 0 ask in their order, and the third turns.
-fn overtakes<R: Abort>(rt: &R, alloc: Global, one: Blank, another: Blank)
-    requires names { (one.name ≡ L.name) × (another.name ≡ X.name) }
-    requires parts { (one.parts ≡ L.parts) × (another.parts ≡ X.parts) }
-    requires some { (0 < one.parts) × (0 < another.parts) }
+fn overtakes<R: Abort>(rt: &R, alloc: Global)
 {
     let accounts = [(30, [0, 1, 2].as_slice()), (0, [].as_slice())];
     let (board, seats) = new_three(alloc, 4, accounts.as_slice()).expect(rt, "a board");
@@ -455,7 +453,7 @@ fn overtakes<R: Abort>(rt: &R, alloc: Global, one: Blank, another: Blank)
 
 #[test]
 fn a_request_is_overtaken_once_by_each(rt: HostRuntime) {
-    overtakes::<Brand, Brand, _>(&rt, rt.alloc(), Blank::new(1), Blank::new(1));
+    overtakes(&rt, rt.alloc());
 }
 
 /// Whether the second of two owners that have asked settles first the request of the other, and then its own, and its totals
@@ -496,10 +494,7 @@ fn decided_at(slot: u32) -> OwnerSaid {
 }
 
 /// Two owners of account 0 ask in their order, and the second turns.
-fn overtakes_once<R: Abort>(rt: &R, alloc: Global, one: Blank, another: Blank)
-    requires names { (one.name ≡ L.name) × (another.name ≡ X.name) }
-    requires parts { (one.parts ≡ L.parts) × (another.parts ≡ X.parts) }
-    requires some { (0 < one.parts) × (0 < another.parts) }
+fn overtakes_once<R: Abort>(rt: &R, alloc: Global)
 {
     let accounts = [(30, [0, 1].as_slice()), (0, [].as_slice())];
     let (board, mut zero, mut one) = new_pair(alloc, 4, accounts.as_slice()).expect(rt, "a board");
@@ -518,5 +513,5 @@ fn overtakes_once<R: Abort>(rt: &R, alloc: Global, one: Blank, another: Blank)
 
 #[test]
 fn a_request_is_overtaken_once(rt: HostRuntime) {
-    overtakes_once::<Brand, Brand, _>(&rt, rt.alloc(), Blank::new(1), Blank::new(1));
+    overtakes_once(&rt, rt.alloc());
 }

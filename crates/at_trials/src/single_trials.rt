@@ -8,14 +8,12 @@ ghost use Rattle.at_trials.specs.SmallFold.{IsNewTotals};
 use crate::fold_trials::new_totals;
 use at_board::{Board, BoardSeat};
 use at_fold::Totals;
-use at_ledger::{Book, Reply};
+use at_ledger::{Book, Reply, Targets};
 use at_log::{At, Receipt};
 use at_players::boards::new_pair;
-use at_single::{read_account, transfer_own};
+use at_single::{pay_single, read_account};
 use std::alloc::Global;
-use std::marker::Brand;
 use std::process::Abort;
-use std::sync::ledger::{Blank, Ledger};
 
 /// Whether process 0 owns account 0 alone, and there is an account 1.
 fn owns_alone(book: &Book) -> bool
@@ -38,9 +36,9 @@ fn read_at(receipt: &Receipt) -> Option<(u64, u32, u32)> {
     }
 }
 
-/// Whether a receipt stands at the first record of its process.
-fn is_first_done(receipt: &Receipt) -> bool {
-    receipt.reply == Reply::Done && matches!(receipt.at, At::Own(0))
+/// Whether a payment was done and stands at the first record of its process.
+fn is_first_done(reply: &Reply, at: &At) -> bool {
+    *reply == Reply::Done && matches!(at, At::Own(0))
 }
 
 /// Whether process 0 pays 40 to account 1 and reads 60, and process 1, once it was told, reads 40, both at one front.
@@ -58,21 +56,19 @@ fn pays_and_reads(
     if !owns_alone(board.book()) {
         return false;
     }
-    let paid = transfer_own(board, seat, totals, 0, 1, 40);
+    let targets = Targets::one(1, 40);
+    let (reply, at) = pay_single(board, seat, totals, 0, &targets);
     let here = read_account(board, seat, totals, 0);
     let note = board.note(seat);
     board.learn(other, note);
     let there = read_account(board, other, others, 1);
-    is_first_done(&paid)
+    is_first_done(&reply, &at)
         && read_at(&here) == Some((60, 1, 0))
         && read_at(&there) == Some((40, 1, 0))
 }
 
 /// Two processes of a new board.
-fn pays<R: Abort>(rt: &R, alloc: Global, one: Blank, another: Blank)
-    requires names { (one.name ≡ L.name) × (another.name ≡ X.name) }
-    requires parts { (one.parts ≡ L.parts) × (another.parts ≡ X.parts) }
-    requires some { (0 < one.parts) × (0 < another.parts) }
+fn pays<R: Abort>(rt: &R, alloc: Global)
 {
     let accounts = [(100, [0].as_slice()), (0, [1].as_slice())];
     let (board, mut seat, mut other) = new_pair(alloc, 4, accounts.as_slice()).expect(
@@ -93,5 +89,5 @@ fn pays<R: Abort>(rt: &R, alloc: Global, one: Blank, another: Blank)
 
 #[test]
 fn a_payment_is_read_by_both(rt: HostRuntime) {
-    pays::<Brand, Brand, _>(&rt, rt.alloc(), Blank::new(1), Blank::new(1));
+    pays(&rt, rt.alloc());
 }

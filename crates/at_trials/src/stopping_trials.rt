@@ -16,9 +16,7 @@ use at_log::At;
 use at_players::boards::slot_on;
 use at_shared::Helping;
 use std::alloc::Global;
-use std::marker::Brand;
 use std::process::Abort;
-use std::sync::ledger::{Blank, Ledger};
 use std::thread::{Threads, join_mut};
 
 /// Asks for 1 from account 0 and collects the other owners' requests, if the seat's process has a slot and room there, and stops: the
@@ -50,12 +48,7 @@ fn stop(
     board: &Board,
     alloc: Global,
     seat: &mut BoardSeat,
-    steps: Blank,
-    exchanges: Blank,
 ) -> Option<()>
-    requires names { (steps.name ≡ L.name) × (exchanges.name ≡ X.name) }
-    requires parts { (steps.parts ≡ L.parts) × (exchanges.parts ≡ X.parts) }
-    requires some { (0 < steps.parts) × (0 < exchanges.parts) }
     requires idle { IsIdle board.now seat.old }
 {
     let mut totals = new_totals(alloc, board)?;
@@ -69,28 +62,28 @@ fn stop(
 fn stop_alone(board: &Board, alloc: Global, seat: &mut BoardSeat) -> Option<()>
     requires idle { IsIdle board.now seat.old }
 {
-    stop::<Brand, Brand>(board, alloc, seat, Blank::new(1), Blank::new(1))
+    stop(board, alloc, seat)
 }
 
 /// Pays from the shared account.
 fn share(board: &Board, alloc: Global, seat: &mut BoardSeat) -> Receipts
     requires idle { IsIdle board.now seat.old }
 {
-    pay_shared_often::<Brand, Brand>(board, alloc, seat, Blank::new(1), Blank::new(1))
+    pay_shared_often(board, alloc, seat)
 }
 
 /// Pays from the single account.
 fn own(board: &Board, alloc: Global, seat: &mut BoardSeat) -> Receipts
     requires idle { IsIdle board.now seat.old }
 {
-    pay_own_often::<Brand, Brand>(board, alloc, seat, Blank::new(1), Blank::new(1))
+    pay_own_often(board, alloc, seat)
 }
 
 /// Reads.
 fn read(board: &Board, alloc: Global, seat: &mut BoardSeat) -> Receipts
     requires idle { IsIdle board.now seat.old }
 {
-    read_often::<Brand, Brand>(board, alloc, seat, Blank::new(1), Blank::new(1))
+    read_often(board, alloc, seat)
 }
 
 /// A thread pays from the single account, and another reads.

@@ -15,10 +15,8 @@ use at_players::boards::{book_of, last_seat};
 use at_players::crowd::{RECORDS, wait_for_all};
 use at_snapshot::snapshot;
 use std::alloc::{AllocError, Global};
-use std::marker::Brand;
 use std::process::Abort;
 use std::sync::atomic::AtomicU64;
-use std::sync::ledger::{Blank, Ledger};
 use std::thread::{Threads, join_mut};
 
 /// How often the fourth scans.
@@ -85,12 +83,7 @@ fn publish_all(
     board: &Board,
     alloc: Global,
     seat: &mut BoardSeat,
-    steps: Blank,
-    exchanges: Blank,
 ) -> Views
-    requires names { (steps.name ≡ L.name) × (exchanges.name ≡ X.name) }
-    requires parts { (steps.parts ≡ L.parts) × (exchanges.parts ≡ X.parts) }
-    requires some { (0 < steps.parts) × (0 < exchanges.parts) }
     requires publisher { IsPublisher board.now seat.old }
 {
     let mut views = Vec::new(alloc);
@@ -130,12 +123,7 @@ fn scan_all(
     board: &Board,
     alloc: Global,
     seat: &mut BoardSeat,
-    steps: Blank,
-    exchanges: Blank,
 ) -> Scans
-    requires names { (steps.name ≡ L.name) × (exchanges.name ≡ X.name) }
-    requires parts { (steps.parts ≡ L.parts) × (exchanges.parts ≡ X.parts) }
-    requires some { (0 < steps.parts) × (0 < exchanges.parts) }
     requires board { IsOf seat.old board.now }
 {
     let mut answers = Vec::new(alloc);
@@ -154,7 +142,7 @@ fn publish_alone(board: &Board, alloc: Global, gate: &AtomicU64, seat: &mut Boar
     requires { IsPublisher board.now seat.old }
 {
     wait_for_all(gate);
-    publish_all::<Brand, Brand>(board, alloc, seat, Blank::new(1), Blank::new(1))
+    publish_all(board, alloc, seat)
 }
 
 /// Scans with counters of its own, once all threads are there.
@@ -162,7 +150,7 @@ fn scan_alone(board: &Board, alloc: Global, gate: &AtomicU64, seat: &mut BoardSe
     requires { IsOf seat.old board.now }
 {
     wait_for_all(gate);
-    scan_all::<Brand, Brand>(board, alloc, seat, Blank::new(1), Blank::new(1))
+    scan_all(board, alloc, seat)
 }
 
 /// Two threads publish.

@@ -4,21 +4,21 @@ use Rattle.at_ledger.specs.Book.{BookTerms, HasSlot}
 use Rattle.at_ledger.specs.declared.call.Call.{Call}
 use Rattle.at_log.specs.Receipts.{is_at_round, payout_of}
 use Rattle.at_trials.proofs.SettledLaws.{HasAllSettled-next, source_of_payout}
-use Rattle.at_trials.proofs.account_trials.pay_shared.Goals as goal
+use Rattle.at_trials.proofs.account_trials.pay_from_shared.Goals as goal
 
 pub returns-then-announced-number : goal.returns-then-announced-number
 returns-then-announced-number c =
     let b : BookTerms = c.args.board.now.book in
     let v : Knowledge = c.args.seat.now.knows in
-    let w : Knowledge = c.transfer_shared-receipt.new.seat.knows in
-    let told = c.transfer_shared-receipt.ensures in
+    let w : Knowledge = c.pay_shared-receipt.new.seat.knows in
+    let told = c.pay_shared-receipt.ensures in
     let slot = c.in_ok-_slot._slot in
     let has : HasSlot b v.first 0 slot =
     subst (λ p. HasSlot b p 0 slot) c.process.ensures.process (subst (λ t. HasSlot t c.process.result 0 slot) c.book.ensures c.in_ok-_slot.ensures) in
     record {
       sharer = record {
         caller = record { rest = record { of_board = told.board; free = told.free }; counted = told.counted };
-        settled = HasAllSettled-next b v w slot c.transfer_shared-receipt.result has told.process told.begins c.requires.sharer.settled
+        settled = HasAllSettled-next b v w slot c.pay_shared-receipt.result has told.process told.begins c.requires.sharer.settled
             (omega (arith, c.announced-number.ensures, c.announced.ensures, c.if-announced-number.true))
             (ap (λ (t : Call). source_of_payout (payout_of t)) told.call) (ap is_at_round told.in_round.at) told.placed;
       };

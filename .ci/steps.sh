@@ -1,0 +1,71 @@
+#!/bin/sh
+# Fails where a step could be made that no clause counts. What a seat counts of its own steps is proved of each call of at_board,
+# against the table that its words lie in; that a call makes one operation there, and that no other word is shared, is looked at here.
+#
+#   1. In at_board, a function names an operation of the table once at most, outside every loop and closure, and counts one step or
+#      exchange where it does. No function names a raw operation or looks at a word without a step, but `meet`, which loads a word of
+#      its own once.
+#   2. In every crate of the product, nothing names an atomic word, a lock, a channel or a yield. A test may.
+cd "$(dirname "$0")/../crates" || exit 2
+failed=0
+say() {
+    echo "FAILED: $*"
+    failed=1
+}
+
+# The operations of a table's shared part that a seat makes.
+steps='(load|store|compare_exchange|split_seat|join_seat)::<'
+# What no call of at_board may use: an operation that no rule of the table sees, a look at its words, and waiting.
+unseen='peek|raw::|fetch_add|swap::<|exchange_weak|loop *\{|while |spin|yield|park|sleep'
+
+# Of each function of a file: its name, how often it names an operation, whether in a loop, how often it counts.
+functions() {
+    awk -v steps="$steps" '
+        function flush() { if (name != "") print name, made, looped, counted; name = ""; made = 0; looped = 0; counted = 0; depth = 0 }
+        { line = $0; sub(/\/\/.*/, "", line) }
+        match(line, /(^| )fn [a-z_0-9]+/) { flush(); name = substr(line, RSTART, RLENGTH); sub(/.*fn /, "", name) }
+        line ~ /(^| )(for|while|loop) / { if (name != "") depth = 1 }
+        line ~ /\|\|? *\{|\| [a-z]/ && line !~ /(requires|ensures|ghost)/ { if (name != "") depth = 1 }
+        { text = line; while (match(text, steps)) { made++; if (depth) looped = 1; text = substr(text, RSTART + RLENGTH) } }
+        { text = line; while (match(text, /count_(step|exchange)\(\)/)) { counted++; text = substr(text, RSTART + RLENGTH) } }
+        END { flush() }
+    ' "$1"
+}
+
+for file in at_board/src/*.rt; do
+    code=$(sed 's|//.*||' "$file")
+    case $file in
+        at_board/src/meet.rt)
+            [ "$(printf '%s\n' "$code" | grep -c 'raw::load')" -eq 1 ] || say "$file: one load of a word of its own"
+            ;;
+        *)
+            printf '%s\n' "$code" | grep -v '^ *\(requires\|ensures\|ghost\)' | grep -nE "$unseen" && say "$file: an operation that no step counts"
+            ;;
+    esac
+    functions "$file" | while read -r name made looped counted; do
+        case $file:$name in
+            # Cutting and gathering seats, before and after all steps.
+            at_board/src/deal.rt:deal | at_board/src/close.rt:gather) continue ;;
+            at_board/src/counter.rt:* | at_board/src/meet.rt:meet) continue ;;
+        esac
+        [ "$made" -le 1 ] || echo "$file: $name makes $made operations"
+        [ "$looped" -eq 0 ] || echo "$file: $name makes an operation in a loop or a closure"
+        [ "$made" -eq "$counted" ] || echo "$file: $name makes $made operations and counts $counted"
+    done | grep . && say "$file: an operation for each step, and a step for each operation"
+done
+
+# What a seat has counted is changed by counting alone.
+for file in at_board/src/*.rt; do
+    sed -E 's|//.*||; s/made\.count_(step|exchange)\(\);//g; s/^ +made: (_|StepCounts::none\(\)),$//; s/made: StepCounts,//' "$file" |
+        sed -E '/^ +(steps = s|exchanges = s|self)\.made\.(steps|exchanges);?$/d' |
+        grep -nE '\bmade\b' && say "$file: counts of steps are changed"
+done
+
+words='sync::atomic|Atomic(U|I|Bool|Ptr)|Mutex|RwLock|Condvar|OnceLock|crossbeam|mpsc|channel\(|yield_now|spin_loop|atomic_table'
+grep -nE "$words" */src/*.rt |
+    grep -vE '^(at_board|at_players|at_[a-z_]*trials)/|^[a-z_]*/src/[a-z_]*tests?(_rows)?\.rt:' |
+    grep -vE ':[0-9]+: *(//|ghost use)' && say "a word, a lock or a channel outside the board"
+grep -nE 'sync::atomic' at_board/src/*.rt | grep -vE '^at_board/src/meet.rt:' && say "at_board: an atomic word outside its table"
+
+[ "$failed" -eq 0 ] && echo "steps: each operation on the board is one counted step, and no other word is shared"
+exit "$failed"
