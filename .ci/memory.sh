@@ -1,5 +1,5 @@
 #!/bin/sh
-# Runs the built program with its Nth allocation refused, for N = 1, 2 and so on as long as there is an Nth, and again with
+# Runs the built program with its Nth allocation refused, for N = 1, 2 and so on as long as there is an Nth, and then with
 # all from the Nth on refused. Each answer has to be the one with memory, or want of memory: status 7, its one line on the
 # error output, and nothing on the output. It prints a line for each command, and last 'N passed, N failed'.
 #
@@ -20,13 +20,14 @@ cd -- "$work" || exit 2
 passed=0
 failed=0
 
-# Refuses the request whose number is in REFUSE, and where ALL is set each later one too. It makes the file `refused` then.
+# Refuses the request whose number is in REFUSE, and where REST is "too" each later one. It makes the file `refused` then.
 cat >refuse.c <<'END'
 #include <errno.h>
 #include <fcntl.h>
 #include <stdatomic.h>
 #include <stddef.h>
 #include <stdlib.h>
+#include <string.h>
 #include <unistd.h>
 
 extern void *__libc_malloc(size_t);
@@ -36,18 +37,19 @@ extern void *__libc_memalign(size_t, size_t);
 
 static atomic_long asked;
 static long first;
-static int all;
+static int rest;
 
 __attribute__((constructor)) static void begin(void) {
     const char *number = getenv("REFUSE");
-    all = getenv("ALL") != NULL;
+    const char *later = getenv("REST");
+    rest = later && strcmp(later, "too") == 0;
     asked = 0;
     first = number ? atol(number) : 0;
 }
 
 static int is_refused(void) {
     long number = ++asked;
-    if (first == 0 || number < first || (number > first && !all))
+    if (first == 0 || number < first || (number > first && !rest))
         return 0;
     if (number == first)
         close(open("refused", O_CREAT | O_WRONLY, 0600));
@@ -82,12 +84,14 @@ is_answered() {
     fi
 }
 
-# Whether each answer to these words is good, and the Nth allocation of some was refused.
+# Whether each answer to these words is good, where one allocation is refused or the rest too, and some was refused.
 each_refused() {
+    rest=$1
+    shift
     n=1
     while :; do
         rm -f refused
-        LD_PRELOAD=$work/refuse.so REFUSE=$n "$program" "$@" >out 2>err
+        LD_PRELOAD=$work/refuse.so REFUSE=$n REST=$rest "$program" "$@" >out 2>err
         status=$?
         [ -e refused ] || break
         [ "$status" -eq 7 ] && wants=$((wants + 1))
@@ -104,19 +108,12 @@ tried() {
     known=$?
     sort out >full
     wants=0
-    good=yes
-    each_refused "$@" || good=no
-    one=$((n - 1))
-    [ "$good" = no ] || ALL=yes
-    export ALL
-    [ "$good" = no ] || each_refused "$@" || good=no
-    unset ALL
-    if [ "$good" = yes ] && [ "$wants" -gt 0 ]; then
+    if each_refused alone "$@" && each_refused too "$@" && [ "$wants" -gt 0 ]; then
         passed=$((passed + 1))
-        echo "ok: $name: $one allocations, and then $((n - 1)); $wants answers of want of memory"
+        echo "ok: $name: each of $((n - 1)) allocations, and $wants answers of want of memory"
     else
         failed=$((failed + 1))
-        echo "FAILED: $name: allocation $n: status $status, $(wc -c <out) bytes on the output, on the error output: $(cat err)"
+        echo "FAILED: $name: allocation $n ($rest): status $status, $(wc -c <out) bytes on the output, on the error output: $(cat err)"
     fi
 }
 
