@@ -102,6 +102,14 @@ run agree $(cat "$agree/three.values")
 grep -Fxf "$agree/three.lines" out >one || echo none >one
 printed 'the example agree, of three values' one
 
+# A word is a file's name, whatever it is, and the standard input is never read.
+cp "$usual/pay0.csv" ./-
+cp "$usual/book.csv" ./--help
+echo read,0 | run run "$usual/book.csv" -
+printed 'a file whose name is a dash' "$usual/usual.report"
+run run --help - </dev/null
+printed 'a book whose name is an option elsewhere' "$usual/usual.report"
+
 yes read,0 | head -n 16384 >reads.csv
 echo 'checked 1 2 16384' >checked
 run check "$usual/book.csv" reads.csv
@@ -116,6 +124,16 @@ run run "$(printf '\377')"
 refused 'words that are not text' 2 "$usage"
 run run "$usual/book.csv"
 refused 'too few files' 2 'files: wanted 1, given 0'
+# Seventeen words for payments, one more than there may be processes.
+pays=$(yes "$usual/pay0.csv" | head -n 17)
+IFS='
+'
+run run "$usual/book.csv" $pays
+refused 'seventeen files for one process' 2 'files: wanted 1, given 17'
+printf '%s\n' book,1 processes,16 limits,1,1 account,0,0, >sixteen.csv
+run run sixteen.csv $pays
+refused 'seventeen files for sixteen processes' 2 'files: wanted 16, given 17'
+unset IFS
 run run "$usual/pay0.csv" "$usual/pay0.csv"
 refused 'a bad book' 3 'book: line 1: shape'
 run run "$usual/book.csv" "$usual/book.csv"
@@ -155,6 +173,105 @@ refused 'an error output that is full' 5 'read fault: file 0'
 (ulimit -v 12000 && exec "$program" run "$usual/book.csv" long.csv) >out 2>err
 status=$?
 refused 'too little memory' 7 'no memory'
+
+# Each command at its limits, where want of memory would be a wrong answer: the most processes, accounts, owners, rooms, calls,
+# turns, messages, deliveries and bytes. Account 0 has eight owners and all rounds that there may be, and the openings are the
+# largest. Each process pays from account 0 and from an account of its own, up to the rooms and past them.
+awk 'BEGIN {
+    print "book,1\nprocesses,16\nlimits,4096,1024\naccount,0,8192,0 1 2 3 4 5 6 7"
+    print "account,1,18446744073708521423,1"
+    for (a = 2; a < 1024; a++) print "account," a ",1000," a % 16
+}' >largest.csv
+awk 'BEGIN {
+    for (p = 0; p < 16; p++) {
+        own = 16 + p
+        for (i = 0; i < 4096; i++)
+            print "transfer,0," own ",1\ntransfer," own ",0,1\nread,1023\nread,0" >("most" p ".csv")
+    }
+}' </dev/null
+each() {
+    for p in 0 1 2 3 4 5 6 7 8 9 10 11 12 13 14 15; do
+        echo "$1$p.csv"
+    done
+}
+echo 'checked 16 1024 262144' >checked
+run check largest.csv $(each most)
+printed 'the most calls, read' checked
+name='at the limits'
+ran largest.csv $(each most)
+
+for p in 0 1 2 3 4 5 6 7 8 9 10 11 12 13 14 15; do
+    head -n 64 most$p.csv >few$p.csv
+done
+awk 'BEGIN { for (i = 0; i < 1000000; i++) print i % 16 }' >turns.csv
+run replay largest.csv turns.csv $(each few)
+cp out report
+echo 'verified 1024' >verified
+[ "$status" -eq 0 ] && run verify largest.csv report $(each few)
+printed 'a replay at the limits' verified
+
+echo 'agreed 8 4294967295' >agreed
+run agree 4294967295 4294967295 4294967295 4294967295 4294967295 4294967295 4294967295 4294967295
+printed 'the most values' agreed
+printf '%s\n' 'made 7 8 1000' 'done 5959' 'read 2041' 'balances 9' '0 104854' '1 106530' '2 111048' '3 107857' '4 108286' \
+    '5 109196' '6 108862' '7 109538' '8 733829' 'total 1600000' >made
+run make 7 8 1000
+printed 'the most that is made' made
+
+# Each process sends 256 messages around a ring, and each node is given all of them.
+awk 'BEGIN {
+    print "book,1\nprocesses,16\nlimits,1,1"
+    for (p = 0; p < 16; p++) print "account," p ",300," p
+}' >ring.csv
+awk 'BEGIN {
+    for (p = 0; p < 16; p++)
+        for (i = 0; i < 256; i++) print "send," p "," (p + 1) % 16 ",1,0,0,0,0,0,0,0,0,0,0,0,0,0,0,0,0" >("send" p ".csv")
+}' </dev/null
+awk 'BEGIN { for (i = 255; i >= 0; i--) for (n = 0; n < 16; n++) for (p = 0; p < 16; p++) print n "," p "," i }' >order.csv
+awk 'BEGIN {
+    for (n = 0; n < 16; n++) {
+        printf "node %d\nvalidated", n
+        for (p = 0; p < 16; p++) printf " 256"
+        printf "\n"
+        for (p = 0; p < 16; p++) print p " 300"
+        print "total 4800"
+    }
+}' >nodes
+run deliver ring.csv order.csv $(each send)
+printed 'the most messages and deliveries' nodes
+
+# A right report of as many bytes as a file may have: pay-outs of the longest form that are answered not-owner, of which the first
+# have shorter amounts.
+awk -v most=8388608 'BEGIN {
+    book = "book,2\nprocesses,a123456789012345,b123456789012345,c123456789012345\nlimits,1,1\naccount,from-12345678901,7,\naccount,to-1234567890123,5,"
+    print book >"long.csv"
+    end = "balances 2\nfrom-12345678901 7\nto-1234567890123 5\ntotal 12\n"
+    split("a b c", letter, " ")
+    digits = "18446744073709551615"
+    for (n = 1; n <= 49152; n++) {
+        size += 201 + length((n - 1) % 16384 + 1)
+        if (size + length("journal " n "\n" end) >= most) break
+    }
+    over = size + length("journal " n "\n" end) - most
+    printf "journal %d\n", n >"long.report"
+    for (i = 0; i < n; i++) {
+        p = int(i / 16384) + 1
+        call = "from-12345678901"
+        for (j = 0; j < 4; j++) {
+            cut = over < 19 ? over : 19
+            over -= cut
+            call = call " to-1234567890123 " substr(digits, 1, 20 - cut)
+        }
+        print letter[p] "123456789012345 " i % 16384 + 1 " pay " call " not-owner" >"long.report"
+        gsub(" ", ",", call)
+        print "pay," call >("long" p ".csv")
+    }
+    printf "%s", end >"long.report"
+    print "verified " n >"verified"
+}' </dev/null
+run verify long.csv long.report long1.csv long2.csv long3.csv
+[ "$(wc -c <long.report)" -eq 8388608 ] || status=bytes
+printed 'a right report of the most bytes' verified
 
 echo "$passed passed, $failed failed"
 [ "$failed" -eq 0 ]

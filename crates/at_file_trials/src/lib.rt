@@ -5,6 +5,8 @@
 #[cfg(test)]
 mod broadcast_tests;
 #[cfg(test)]
+mod device_tests;
+#[cfg(test)]
 mod files_tests;
 #[cfg(test)]
 mod io_tests;

@@ -8,18 +8,25 @@ ghost use Rattle.at_files.specs.Spelled.{items_of, with_item};
 use crate::records::Records;
 use csv::ByteRecord;
 use std::alloc::Global;
+use std::fmt::{Debug, Display};
+use thiserror::Error;
 
 /// A file's first fault. A line is the number of a record, from 1.
-#[derive(Clone, Copy, Debug, PartialEq, Eq, Drop)]
+#[derive(Clone, Copy, Debug, PartialEq, Eq, Drop, Error)]
+#[error_bound(W: Debug + Display)]
+#[error("line {line}: {why}")]
 pub struct BadRecord<W> {
     pub line: u32,
     pub why: W,
 }
 
 /// Why nothing came of a file.
-#[derive(Clone, Copy, Debug, PartialEq, Eq, Drop)]
+#[derive(Clone, Copy, Debug, PartialEq, Eq, Drop, Error)]
+#[error_bound(W: Debug + Display)]
 pub enum ReadFault<W> {
+    #[error(transparent)]
     Bad(BadRecord<W>),
+    #[error("no memory")]
     NoMemory,
 }
 

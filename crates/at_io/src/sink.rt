@@ -1,8 +1,11 @@
 ghost use Rattle.std.specs.Prelude.{◌≡◌, ℕ, ◌≤◌, ◌<◌, Bool, true, List, [], ◌++◌, length, take, IfOk, OnOk, OnErr};
 ghost use Rattle.at_io.specs.Faults.{Rose};
 
+use thiserror::Error;
+
 /// Bytes could not be written.
-#[derive(Clone, Copy, Debug, PartialEq, Eq)]
+#[derive(Clone, Copy, Debug, PartialEq, Eq, Error)]
+#[error("the bytes cannot be written")]
 pub struct WriteFailed;
 
 /// What takes bytes, one after another.

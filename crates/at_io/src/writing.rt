@@ -3,9 +3,11 @@ ghost use Rattle.at_io.specs.Faults.{Rose};
 ghost use Rattle.at_io.specs.Sink.{TakesPrefix};
 
 use crate::sink::Sink;
+use thiserror::Error;
 
 /// Bytes could not all be written.
-#[derive(Clone, Copy, Debug, PartialEq, Eq)]
+#[derive(Clone, Copy, Debug, PartialEq, Eq, Error)]
+#[error("the bytes cannot all be written")]
 pub struct WriteFault;
 
 /// Writes all bytes, piece by piece as the sink takes them.

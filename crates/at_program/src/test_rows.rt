@@ -11,6 +11,15 @@ pub(crate) const EACH_OWN: &[u8] =
 pub(crate) const EACH_SENDS: &[u8] =
     b"book,1\nprocesses,2\nlimits,4,4\naccount,0,100,0\naccount,1,0,1\n";
 
+pub(crate) const SIXTEEN: &[u8] = b"book,1\nprocesses,16\nlimits,4,4\naccount,0,100,0\n";
+
+pub(crate) const READS_AND_PAYS: &[u8] = b"read,1\ntransfer,0,1,30\n";
+
+pub(crate) const READS_PAYS_AND_READS: &[u8] = b"read,0\ntransfer,1,0,20\nread,1\n";
+
+pub(crate) const HELD_REPORT: &str =
+    "journal 5\n1 1 read 0 100\n1 2 transfer 1 0 20 done\n0 1 read 1 80\n0 2 transfer 0 1 30 done\n1 3 read 1 110\nbalances 2\n0 90\n1 110\ntotal 200\n";
+
 pub(crate) const ROOM: &[u8] = b"book,1\nprocesses,1\nlimits,1,1\naccount,0,10,0\naccount,1,0,\n";
 
 pub(crate) const NEUTRAL: &[u8] =

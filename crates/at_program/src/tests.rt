@@ -8,16 +8,17 @@ use crate::test_rows::{
     WORDS,
 };
 use at_io::{MemoryShelf, MemorySink};
-use at_ledger::Reply;
 use at_report::Status;
-use at_workers::{Gate, OpenGate};
+use at_workers::OpenGate;
 use std::alloc::{AllocError, Global};
-use std::sync::atomic::{AtomicBool, AtomicU64, Ordering};
 use std::test::Fail;
-use std::thread::{Threads, yield_now};
+use std::thread::Threads;
 
 /// The files of these contents: `book`, `0`, `1`, `2` and `3`.
-fn files_of(alloc: Global, contents: &[&[u8]]) -> Result<Vec<(String, Vec<u8>)>, AllocError> {
+pub(crate) fn files_of(
+    alloc: Global,
+    contents: &[&[u8]],
+) -> Result<Vec<(String, Vec<u8>)>, AllocError> {
     let mut files = Vec::new(alloc);
     for (name, bytes) in ["book", "0", "1", "2", "3"].iter().zip(contents) {
         let name = String::from_str(alloc, name)?;
@@ -26,7 +27,7 @@ fn files_of(alloc: Global, contents: &[&[u8]]) -> Result<Vec<(String, Vec<u8>)>,
     Ok(files)
 }
 
-fn words_of(alloc: Global, words: &str) -> Result<Vec<String>, AllocError> {
+pub(crate) fn words_of(alloc: Global, words: &str) -> Result<Vec<String>, AllocError> {
     let mut all = Vec::new(alloc);
     for word in words.split_whitespace() {
         all.push(String::from_str(alloc, word)?)?;
@@ -201,92 +202,6 @@ fn runs_are_verified(rt: HostRuntime) -> Result<(), Fail> {
     for run in VERIFIED_RUNS {
         assert!(rt; is_verified(&rt, rt.alloc(), run)?, "{}", run.3);
     }
-    Ok(())
-}
-
-/// How often a process looks for another before it goes on without it.
-const LOOKS: u64 = 200_000_000;
-
-/// A gate at which each of four processes waits for the other three before its first call. It notes how often one went on alone, and
-/// how often it was told of a call and of a reply.
-#[derive(Drop)]
-struct Crowd {
-    here: [AtomicBool; 4],
-    missed: AtomicU64,
-    calls: AtomicU64,
-    replies: AtomicU64,
-}
-
-impl Crowd {
-    fn new() -> Crowd {
-        Crowd {
-            here: [
-                AtomicBool::new(false),
-                AtomicBool::new(false),
-                AtomicBool::new(false),
-                AtomicBool::new(false),
-            ],
-            missed: AtomicU64::new(0),
-            calls: AtomicU64::new(0),
-            replies: AtomicU64::new(0),
-        }
-    }
-
-    /// Whether no process went on alone, and the gate was told of each of so many calls once.
-    fn is_kept(&self, calls: u64) -> bool {
-        self.missed.load(Ordering::SeqCst) == 0
-            && self.calls.load(Ordering::SeqCst) == calls
-            && self.replies.load(Ordering::SeqCst) == calls
-    }
-
-    /// Looks for a process until it is there. Its thread may have no processor meanwhile, so this one yields now and then.
-    fn look_for(&self, process: &AtomicBool) {
-        for look in 0..LOOKS {
-            if process.load(Ordering::SeqCst) {
-                return;
-            }
-            if look % 65_536 == 0 {
-                yield_now();
-            }
-        }
-        self.missed.fetch_add(1, Ordering::SeqCst);
-    }
-}
-
-impl Gate for Crowd {
-    fn pass(&self, process: u32, line: u32) {
-        self.calls.fetch_add(1, Ordering::SeqCst);
-        if line != 1 {
-            return;
-        }
-        if let Some(own) = self.here.get(process as usize) {
-            own.store(true, Ordering::SeqCst);
-        }
-        for other in &self.here {
-            self.look_for(other);
-        }
-    }
-
-    fn answered(&self, _process: u32, _line: u32, _reply: &Reply) {
-        self.replies.fetch_add(1, Ordering::SeqCst);
-    }
-}
-
-/// The four processes of `make` run at once: each waits at its first call until all are there. The closed ledger is kept.
-#[test]
-fn four_processes_meet(rt: HostRuntime) -> Result<(), Fail> {
-    let alloc = rt.alloc();
-    let words = words_of(alloc, "make 7 4 2")?;
-    let mut shelf = MemoryShelf::new(Vec::new(alloc), Vec::new(alloc));
-    let mut out = MemorySink::new(alloc, 1_000)?;
-    let mut err = MemorySink::new(alloc, 256)?;
-    let (crowd, mut kept) = (Crowd::new(), None);
-    let words = words.as_slice();
-    let status = serve(
-        &rt, alloc, words, &mut shelf, &mut out, &mut err, &crowd, &mut kept,
-    );
-    assert!(rt; status == Status::Done && kept.is_some());
-    assert!(rt; crowd.is_kept(8));
     Ok(())
 }
 

@@ -1,9 +1,11 @@
 -- Lines and their words.
-use Rattle.std.proofs.Common.{◌≡◌, ℕ, ◌+◌, List, [], ◌∷◌, ◌++◌, map, length, take, get_or, ◌<◌, ap, ◌∙◌, sym, append_assoc, append-nil, arith}
+use Rattle.std.proofs.Common.{Result, Ok, Err, OnErr, ◌≡◌, ℕ, ◌+◌, List, [], ◌∷◌, ◌++◌, map, length, take, get_or, ◌<◌, ◌≤◌, ap, ◌∙◌, sym, append_assoc, append-nil, arith}
+use Rattle.std.specs.Io.{StartsWith}
 use Rattle.std.specs.List.{join_with_byte, range_with_len}
 use Rattle.std.proofs.lemmas.Grind.{flat_map-append}
-use Rattle.std.proofs.lemmas.List.{take_more, map-append}
+use Rattle.std.proofs.lemmas.List.{length-append, take-take, take_more, map-append}
 use Rattle.std.proofs.lemmas.List.FromFn.{map-range_with_len_more}
+use Rattle.std.proofs.Math.Seq.{take-append_seam}
 use Rattle.at_report.specs.Lines.{Words, spaced, line_text, lines_text}
 
 -- a line is its first word, and then the others, each after a space
@@ -48,3 +50,14 @@ lines_text-take_more f out xs i x within is =
 -- four texts after another
 pub append-four : (out a b c d : List ℕ) → (((out ++ a) ++ b) ++ c) ++ d ≡ out ++ (((a ++ b) ++ c) ++ d)
 append-four out a b c d = simp append_assoc
+
+-- what starts with a text that was added to starts with what stood there before
+starts_before : (now mid was more : List ℕ) → mid ≡ was ++ more → StartsWith now mid → StartsWith now was
+starts_before now mid was more added starts =
+    let long : length was ≤ length mid = rw (added, length-append) (omega arith) in
+    sym (take-take (length was) (length mid) now long) ∙ ap (λ (text : List ℕ). take (length was) text) (starts ∙ added) ∙ take-append_seam was more
+
+-- so it is where memory was refused
+pub OnErr-starts_before : {T E : Type 0} (r : Result T E) (now mid was more : List ℕ) → mid ≡ was ++ more → StartsWith now mid → OnErr r (StartsWith now was)
+OnErr-starts_before (Ok x) now mid was more added starts = tt
+OnErr-starts_before (Err e) now mid was more added starts = starts_before now mid was more added starts

@@ -1,6 +1,7 @@
 //! Lines of printed texts, word by word.
 
-ghost use Rattle.std.specs.Prelude.{◌≡◌, ◌<◌, [], ◌∷◌, ◌++◌, length, decimal, OnOk};
+ghost use Rattle.std.specs.Prelude.{◌≡◌, ◌<◌, [], ◌∷◌, ◌++◌, length, take, decimal, OnOk, OnErr};
+ghost use Rattle.std.specs.Io.{StartsWith};
 ghost use Rattle.at_ledger.specs.Call.{AreTargetsOn, IsCallOn, IsLineOn, target_at};
 ghost use Rattle.at_report.specs.Lines.{spaced, line_text, targets_words, call_words, reply_word, journal_words};
 
@@ -10,7 +11,8 @@ use at_ledger::{Call, Line, Reply, Targets};
 
 /// Adds a word that follows another on its line.
 fn push_word(out: &mut Vec<u8>, word: &[u8]) -> Result<(), NoMemory>
-    ensures { OnOk result (out.new.items ≡ out.old.items ++ spaced (word.now ∷ [])) }
+    ensures text { OnOk result (out.new.items ≡ out.old.items ++ spaced (word.now ∷ [])) }
+    ensures begun { OnErr result (StartsWith out.new.items out.old.items) }
 {
     out.push(b' ')?;
     out.extend_from_slice(word)
@@ -18,7 +20,8 @@ fn push_word(out: &mut Vec<u8>, word: &[u8]) -> Result<(), NoMemory>
 
 /// Adds a number that follows a word on its line.
 pub(crate) fn push_number(out: &mut Vec<u8>, n: u64) -> Result<(), NoMemory>
-    ensures { OnOk result (out.new.items ≡ out.old.items ++ spaced (decimal n ∷ [])) }
+    ensures text { OnOk result (out.new.items ≡ out.old.items ++ spaced (decimal n ∷ [])) }
+    ensures begun { OnErr result (StartsWith out.new.items out.old.items) }
 {
     out.push(b' ')?;
     at_base::push_number(out, n)
@@ -26,7 +29,8 @@ pub(crate) fn push_number(out: &mut Vec<u8>, n: u64) -> Result<(), NoMemory>
 
 /// Adds a line of a word and a number.
 pub(crate) fn push_numbered(out: &mut Vec<u8>, word: &[u8], n: u64) -> Result<(), NoMemory>
-    ensures { OnOk result (out.new.items ≡ out.old.items ++ line_text (word.now ∷ decimal n ∷ [])) }
+    ensures text { OnOk result (out.new.items ≡ out.old.items ++ line_text (word.now ∷ decimal n ∷ [])) }
+    ensures begun { OnErr result (StartsWith out.new.items out.old.items) }
 {
     out.extend_from_slice(word)?;
     push_number(out, n)?;
@@ -37,9 +41,10 @@ pub(crate) fn push_numbered(out: &mut Vec<u8>, word: &[u8], n: u64) -> Result<()
 fn push_target(out: &mut Vec<u8>, names: &Names, targets: &Targets, i: u32) -> Result<(), NoMemory>
     requires target { i < length targets.now }
     requires accounts { AreTargetsOn (length names.now.accounts) targets.now }
-    ensures { OnOk result
+    ensures text { OnOk result
         (out.new.items ≡ out.old.items ++ spaced
         (targets_words names.now (target_at targets.now i ∷ []))) }
+    ensures begun { OnErr result (StartsWith out.new.items out.old.items) }
 {
     push_word(out, names.account(targets.to(i)))?;
     push_number(out, targets.amount(i))
@@ -47,8 +52,9 @@ fn push_target(out: &mut Vec<u8>, names: &Names, targets: &Targets, i: u32) -> R
 
 fn push_targets(out: &mut Vec<u8>, names: &Names, targets: &Targets) -> Result<(), NoMemory>
     requires { AreTargetsOn (length names.now.accounts) targets.now }
-    ensures { OnOk result
+    ensures text { OnOk result
         (out.new.items ≡ out.old.items ++ spaced (targets_words names.now targets.now)) }
+    ensures begun { OnErr result (StartsWith out.new.items out.old.items) }
 {
     for i in 0..targets.len() {
         push_target(out, names, targets, i)?;
@@ -58,8 +64,9 @@ fn push_targets(out: &mut Vec<u8>, names: &Names, targets: &Targets) -> Result<(
 
 fn push_call(out: &mut Vec<u8>, names: &Names, call: &Call) -> Result<(), NoMemory>
     requires { IsCallOn (length names.now.accounts) call.now }
-    ensures { OnOk result
+    ensures text { OnOk result
         (out.new.items ≡ out.old.items ++ spaced (call_words names.now call.now)) }
+    ensures begun { OnErr result (StartsWith out.new.items out.old.items) }
 {
     match call {
         Call::Transfer { from, to, amount } => push_transfer(out, names, *from, *to, *amount),
@@ -84,9 +91,10 @@ fn push_transfer(
 ) -> Result<(), NoMemory>
     requires source { from < length names.now.accounts }
     requires target { to < length names.now.accounts }
-    ensures { OnOk result
+    ensures text { OnOk result
         (out.new.items ≡ out.old.items ++ spaced
         (call_words names.now (Call.Transfer from to amount))) }
+    ensures begun { OnErr result (StartsWith out.new.items out.old.items) }
 {
     push_word(out, b"transfer")?;
     push_word(out, names.account(from))?;
@@ -95,7 +103,8 @@ fn push_transfer(
 }
 
 fn push_reply(out: &mut Vec<u8>, reply: Reply) -> Result<(), NoMemory>
-    ensures { OnOk result (out.new.items ≡ out.old.items ++ spaced (reply_word reply ∷ [])) }
+    ensures text { OnOk result (out.new.items ≡ out.old.items ++ spaced (reply_word reply ∷ [])) }
+    ensures begun { OnErr result (StartsWith out.new.items out.old.items) }
 {
     match reply {
         Reply::Done => push_word(out, b"done"),
@@ -106,11 +115,28 @@ fn push_reply(out: &mut Vec<u8>, reply: Reply) -> Result<(), NoMemory>
     }
 }
 
-/// Adds a line of the journal, with its newline.
-pub fn push_line(out: &mut Vec<u8>, names: &Names, line: &Line) -> Result<(), NoMemory>
+/// Cuts a text back to what it was where not all could be added.
+pub(crate) fn all_or_nothing(
+    out: &mut Vec<u8>,
+    length: usize,
+    added: Result<(), NoMemory>,
+) -> Result<(), NoMemory>
+    ensures same { result ≡ added }
+    ensures all { OnOk result (out.new.items ≡ out.old.items) }
+    ensures nothing { OnErr result (out.new.items ≡ take length out.old.items) }
+{
+    if added.is_err() {
+        out.truncate(length);
+    }
+    added
+}
+
+/// Adds what a line of the journal is made of, one part after another.
+fn push_parts(out: &mut Vec<u8>, names: &Names, line: &Line) -> Result<(), NoMemory>
     requires { IsLineOn (length names.now.processes) (length names.now.accounts) line.now }
-    ensures { OnOk result
+    ensures text { OnOk result
         (out.new.items ≡ out.old.items ++ line_text (journal_words names.now line.now)) }
+    ensures begun { OnErr result (StartsWith out.new.items out.old.items) }
 {
     out.extend_from_slice(names.process(line.process))?;
     push_number(out, u64::from(line.number))?;
@@ -118,4 +144,16 @@ pub fn push_line(out: &mut Vec<u8>, names: &Names, line: &Line) -> Result<(), No
     push_reply(out, line.reply)?;
     out.push(b'\n')?;
     Ok(())
+}
+
+/// Adds a line of the journal, with its newline.
+pub fn push_line(out: &mut Vec<u8>, names: &Names, line: &Line) -> Result<(), NoMemory>
+    requires { IsLineOn (length names.now.processes) (length names.now.accounts) line.now }
+    ensures text { OnOk result
+        (out.new.items ≡ out.old.items ++ line_text (journal_words names.now line.now)) }
+    ensures kept { OnErr result (out.new.items ≡ out.old.items) }
+{
+    let length = out.len();
+    let added = push_parts(out, names, line);
+    all_or_nothing(out, length, added)
 }

@@ -1,6 +1,7 @@
 //! The report of a run, and the lines of a check, of a verified report and of an agreement.
 
-ghost use Rattle.std.specs.Prelude.{◌≡◌, ◌^◌, ◌<◌, ◌++◌, List, length, All, IfOk, OnOk};
+ghost use Rattle.std.specs.Prelude.{◌≡◌, ◌^◌, ◌<◌, ◌++◌, List, length, All, IfOk, OnOk, OnErr};
+ghost use Rattle.std.specs.Io.{StartsWith};
 ghost use Rattle.at_ledger.specs.Call.{IsLineOn};
 ghost use Rattle.at_ledger.specs.Run.{last_state};
 ghost use Rattle.at_ledger.specs.declared.call.Line.{Line};
@@ -9,7 +10,7 @@ ghost use Rattle.at_report.specs.Lines.{line_text, lines_text};
 ghost use Rattle.at_report.specs.Report.{IsPrinted, agreed_line, audit_lines, balance_lines, checked_line, heading_words, printed_journal, report_text, verified_line};
 
 use crate::NoMemory;
-use crate::lines::{push_line, push_number, push_numbered};
+use crate::lines::{all_or_nothing, push_line, push_number, push_numbered};
 use crate::replaying::replay;
 use at_files::Names;
 use at_ledger::{Book, Line, State};
@@ -24,13 +25,32 @@ fn push_balances(
 ) -> Result<(), NoMemory>
     requires book { state.now.book ≡ book.now }
     requires names { length names.now.accounts ≡ length book.now.accounts }
-    ensures { OnOk result
+    ensures text { OnOk result
         (out.new.items ≡ out.old.items ++ lines_text (balance_lines names.now state.now)) }
+    ensures begun { OnErr result (StartsWith out.new.items out.old.items) }
 {
     for account in 0..book.accounts() {
         push_numbered(out, names.account(account), state.balance(account))?;
     }
     Ok(())
+}
+
+/// Adds how many accounts there are, the balance of each, and their total.
+fn push_audit_lines(
+    out: &mut Vec<u8>,
+    book: &Book,
+    names: &Names,
+    state: &State,
+) -> Result<(), NoMemory>
+    requires book { state.now.book ≡ book.now }
+    requires names { length names.now.accounts ≡ length book.now.accounts }
+    ensures text { OnOk result
+        (out.new.items ≡ out.old.items ++ lines_text (audit_lines names.now state.now)) }
+    ensures begun { OnErr result (StartsWith out.new.items out.old.items) }
+{
+    push_numbered(out, b"balances", u64::from(book.accounts()))?;
+    push_balances(out, book, names, state)?;
+    push_numbered(out, b"total", state.total())
 }
 
 /// Adds the end of a report: how many accounts there are, the balance of each, and their total.
@@ -42,12 +62,13 @@ pub fn push_audit(
 ) -> Result<(), NoMemory>
     requires book { state.now.book ≡ book.now }
     requires names { length names.now.accounts ≡ length book.now.accounts }
-    ensures { OnOk result
+    ensures text { OnOk result
         (out.new.items ≡ out.old.items ++ lines_text (audit_lines names.now state.now)) }
+    ensures kept { OnErr result (out.new.items ≡ out.old.items) }
 {
-    push_numbered(out, b"balances", u64::from(book.accounts()))?;
-    push_balances(out, book, names, state)?;
-    push_numbered(out, b"total", state.total())
+    let length = out.len();
+    let added = push_audit_lines(out, book, names, state);
+    all_or_nothing(out, length, added)
 }
 
 /// Adds the end of a report of these lines: what is left after all of them.
@@ -70,9 +91,12 @@ pub(crate) fn push_end(
 
 /// Adds the first line of a report: how many lines its journal has.
 pub fn push_heading(out: &mut Vec<u8>, lines: u64) -> Result<(), NoMemory>
-    ensures { OnOk result (out.new.items ≡ out.old.items ++ line_text (heading_words lines)) }
+    ensures text { OnOk result (out.new.items ≡ out.old.items ++ line_text (heading_words lines)) }
+    ensures kept { OnErr result (out.new.items ≡ out.old.items) }
 {
-    push_numbered(out, b"journal", lines)
+    let length = out.len();
+    let added = push_numbered(out, b"journal", lines);
+    all_or_nothing(out, length, added)
 }
 
 /// Adds how many lines there are, and then each of them.

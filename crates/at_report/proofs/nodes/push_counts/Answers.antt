@@ -8,5 +8,5 @@ pub loop-p-preserved : goal.loop-p-preserved
 loop-p-preserved c =
     let word = validated_word c.args.node.now in
     let more : c.push_number.new.out.items ≡ c.loop-p.out.items ++ spaced (word c.loop-p.p ∷ []) =
-    rw (← c.validated.ensures.count, ← c.from.ensures) c.in_ok-push_number.ensures in
+    rw (← c.validated.ensures.count, ← c.from.ensures) c.in_ok-push_number.ensures.text in
     more ∙ rw c.loop-p.invariant (spaced-map_more word c.args.out.now.items c.loop-p.p)

@@ -15,7 +15,7 @@ use Rattle.at_verify.proofs.verifying.parting.Goals.{then-same-len-2-via-then-sa
 pub returns-then-at-len-clause-parts : goal.returns-then-at-len-clause-parts
 returns-then-at-len-clause-parts c n is =
     let heading : c.deref.result.now ≡ line_text (heading_words c.count_calls-calls.result) =
-    c.deref.ensures.value ∙ rw (c.in_ok-push_heading.ensures, c.new-expected.ensures.items, c.from.ensures) refl in
+    c.deref.ensures.value ∙ rw (c.in_ok-push_heading.ensures.text, c.new-expected.ensures.items, c.from.ensures) refl in
     let short : c.common-at.result < length c.deref.result.now = rw c.deref.ensures.value (omega (arith, c.len.ensures)) in
     let same : c.common-at.result ≡ n = cc in
     subst (PartsAt c.args.book.now c.args.names.now (files_in c.args.files.now) c.args.text.now) same
@@ -25,7 +25,7 @@ returns-then-at-len-clause-parts c n is =
 pub loop-turn-init : goal.loop-turn-init
 loop-turn-init c =
     let heading : c.deref.result.now ≡ line_text (heading_words c.count_calls-calls.result) =
-    c.deref.ensures.value ∙ rw (c.in_ok-push_heading.ensures, c.new-expected.ensures.items, c.from.ensures) refl in
+    c.deref.ensures.value ∙ rw (c.in_ok-push_heading.ensures.text, c.new-expected.ensures.items, c.from.ensures) refl in
     let long : length c.deref.result.now ≤ c.common-at.result = rw c.deref.ensures.value (omega (arith, c.len.ensures)) in
     let count : c.processes.result ≡ length (files_in c.args.files.now) = let files = length-files_in c.args.files.now in omega arith in
     let made : c.zeros-made.result ≡ none_made (files_in c.args.files.now) = c.zeros-made.ensures ∙ ap (λ (n : ℕ). replicate n 0) count in
@@ -61,7 +61,7 @@ returns-then-same-len-clause-parts c n is =
     let files = length-files_in c.args.files.now in
     let left : sum c.loop-turn.made < sum_by (length {A = Call}) (files_in c.args.files.now) = omega (arith, c.loop-turn.invariant.count, c.loop-turn-test.true, c.count_calls-calls.ensures) in
     let line : c.deref-in-loop-turn.result.now ≡ line_text (journal_words c.args.names.now c.in-Some.line) =
-    c.deref-in-loop-turn.ensures.value ∙ rw (c.in_ok-push_line.ensures, c.clear.ensures.items) refl in
+    c.deref-in-loop-turn.ensures.value ∙ rw (c.in_ok-push_line.ensures.text, c.clear.ensures.items) refl in
     let short : c.common-same.result < length c.deref-in-loop-turn.result.now = rw c.deref-in-loop-turn.ensures.value (omega (arith, c.len-in-loop-turn.ensures)) in
     let same : c.loop-turn.at + c.common-same.result ≡ n = cc in
     subst (PartsAt c.args.book.now c.args.names.now (files_in c.args.files.now) c.args.text.now) same
@@ -74,7 +74,7 @@ loop-turn-preserved c =
     let files = length-files_in c.args.files.now in
     let left : sum c.loop-turn.made < sum_by (length {A = Call}) (files_in c.args.files.now) = omega (arith, c.loop-turn.invariant.count, c.loop-turn-test.true, c.count_calls-calls.ensures) in
     let line : c.deref-in-loop-turn.result.now ≡ line_text (journal_words c.args.names.now c.in-Some.line) =
-    c.deref-in-loop-turn.ensures.value ∙ rw (c.in_ok-push_line.ensures, c.clear.ensures.items) refl in
+    c.deref-in-loop-turn.ensures.value ∙ rw (c.in_ok-push_line.ensures.text, c.clear.ensures.items) refl in
     let long : length c.deref-in-loop-turn.result.now ≤ c.common-same.result = rw c.deref-in-loop-turn.ensures.value (omega (arith, c.len-in-loop-turn.ensures)) in
     let next = c.in-Some.ensures.next in
     let each = c.loop-turn.invariant.walked.are.each in
@@ -94,7 +94,7 @@ pub returns-then-same-len-2-clause-parts : goal.returns-then-same-len-2-clause-p
 returns-then-same-len-2-clause-parts c n is =
     let most = sum-le (files_in c.args.files.now) c.loop-turn.made c.loop-turn.invariant.walked.are in
     let all : sum c.loop-turn.made ≡ sum_by (length {A = Call}) (files_in c.args.files.now) = omega (arith, c.loop-turn.invariant.count, c.loop-turn-test.false, c.count_calls-calls.ensures) in
-    let audit : c.deref-2.result.now ≡ lines_text (audit_lines c.args.names.now c.loop-turn.state) = c.deref-2.ensures.value ∙ rw (c.in_ok-push_audit.ensures, c.clear-2.ensures.items) refl in
+    let audit : c.deref-2.result.now ≡ lines_text (audit_lines c.args.names.now c.loop-turn.state) = c.deref-2.ensures.value ∙ rw (c.in_ok-push_audit.ensures.text, c.clear-2.ensures.items) refl in
     let rest = length-drop c.loop-turn.at c.args.text.now in
     let some : (c.common-same-2.result < length (drop c.loop-turn.at c.args.text.now)) ⊎ (c.common-same-2.result < length c.deref-2.result.now) =
     elim c.then-same-len-2.branch [
@@ -110,7 +110,7 @@ pub returns-clause-report : goal.returns-clause-report
 returns-clause-report c is =
     let most = sum-le (files_in c.args.files.now) c.loop-turn.made c.loop-turn.invariant.walked.are in
     let all : sum c.loop-turn.made ≡ sum_by (length {A = Call}) (files_in c.args.files.now) = omega (arith, c.loop-turn.invariant.count, c.loop-turn-test.false, c.count_calls-calls.ensures) in
-    let audit : c.deref-2.result.now ≡ lines_text (audit_lines c.args.names.now c.loop-turn.state) = c.deref-2.ensures.value ∙ rw (c.in_ok-push_audit.ensures, c.clear-2.ensures.items) refl in
+    let audit : c.deref-2.result.now ≡ lines_text (audit_lines c.args.names.now c.loop-turn.state) = c.deref-2.ensures.value ∙ rw (c.in_ok-push_audit.ensures.text, c.clear-2.ensures.items) refl in
     let rest = length-drop c.loop-turn.at c.args.text.now in
     let ends : length c.deref-2.result.now ≤ c.common-same-2.result = rw c.deref-2.ensures.value (omega (arith, c.len-2.ensures, c.if-same-len-2.false)) in
     audit-whole c.args.book.now c.args.names.now (files_in c.args.files.now) c.args.text.now c.deref-2.result.now c.loop-turn.at c.common-same-2.result

@@ -1,0 +1,140 @@
+#!/bin/sh
+# Runs the built program with its Nth allocation refused, for N = 1, 2 and so on as long as there is an Nth, and then with
+# all from the Nth on refused. Each answer has to be the one with memory, or want of memory: status 7, its one line on the
+# error output, and nothing on the output. It prints a line for each command, and last 'N passed, N failed'.
+#
+#   memory.sh [PROGRAM]           the program is crates/at_program/out/at_program where none is named
+#
+# It needs a C compiler, for a `malloc` of its own that is loaded before that of the C library. It is no part of the gate.
+
+root=$(CDPATH='' cd -- "$(dirname -- "$0")/.." && pwd) || exit 2
+program=${1:-$root/crates/at_program/out/at_program}
+examples=$root/examples
+compiler=$(command -v cc || command -v gcc || command -v clang) || {
+    echo "memory.sh: no C compiler is on the path" >&2
+    exit 2
+}
+work=$(mktemp -d) || exit 2
+trap 'rm -rf -- "$work"' EXIT
+cd -- "$work" || exit 2
+passed=0
+failed=0
+
+# Refuses the request whose number is in REFUSE, and where REST is "too" each later one. It makes the file `refused` then.
+cat >refuse.c <<'END'
+#include <errno.h>
+#include <fcntl.h>
+#include <stdatomic.h>
+#include <stddef.h>
+#include <stdlib.h>
+#include <string.h>
+#include <unistd.h>
+
+extern void *__libc_malloc(size_t);
+extern void *__libc_calloc(size_t, size_t);
+extern void *__libc_realloc(void *, size_t);
+extern void *__libc_memalign(size_t, size_t);
+
+static atomic_long asked;
+static long first;
+static int rest;
+
+__attribute__((constructor)) static void begin(void) {
+    const char *number = getenv("REFUSE");
+    const char *later = getenv("REST");
+    rest = later && strcmp(later, "too") == 0;
+    asked = 0;
+    first = number ? atol(number) : 0;
+}
+
+static int is_refused(void) {
+    long number = ++asked;
+    if (first == 0 || number < first || (number > first && !rest))
+        return 0;
+    if (number == first)
+        close(open("refused", O_CREAT | O_WRONLY, 0600));
+    errno = ENOMEM;
+    return 1;
+}
+
+void *malloc(size_t size) { return is_refused() ? NULL : __libc_malloc(size); }
+void *calloc(size_t count, size_t size) { return is_refused() ? NULL : __libc_calloc(count, size); }
+void *realloc(void *old, size_t size) { return is_refused() ? NULL : __libc_realloc(old, size); }
+void *memalign(size_t align, size_t size) { return is_refused() ? NULL : __libc_memalign(align, size); }
+void *aligned_alloc(size_t align, size_t size) { return is_refused() ? NULL : __libc_memalign(align, size); }
+int posix_memalign(void **out, size_t align, size_t size) {
+    void *found = is_refused() ? NULL : __libc_memalign(align, size);
+    if (found == NULL)
+        return ENOMEM;
+    *out = found;
+    return 0;
+}
+END
+"$compiler" -shared -fPIC -O1 -o refuse.so refuse.c || exit 2
+echo 'no memory' >wanted
+
+# Where the order of several processes' lines is open the lines are compared, and not their order.
+is_answered() {
+    if [ "$status" -eq 7 ]; then
+        [ ! -s out ] && cmp -s wanted err
+    elif [ "$status" -eq "$known" ]; then
+        sort out | cmp -s - full && cmp -s known_err err
+    else
+        false
+    fi
+}
+
+# Whether each answer to these words is good, where one allocation is refused or the rest too, and some was refused.
+each_refused() {
+    rest=$1
+    shift
+    n=1
+    while :; do
+        rm -f refused
+        LD_PRELOAD=$work/refuse.so REFUSE=$n REST=$rest "$program" "$@" >out 2>err
+        status=$?
+        [ -e refused ] || break
+        [ "$status" -eq 7 ] && wants=$((wants + 1))
+        is_answered || return 1
+        n=$((n + 1))
+    done
+    [ "$n" -gt 1 ]
+}
+
+tried() {
+    name=$1
+    shift
+    "$program" "$@" >out 2>known_err
+    known=$?
+    sort out >full
+    wants=0
+    if each_refused alone "$@" && each_refused too "$@" && [ "$wants" -gt 0 ]; then
+        passed=$((passed + 1))
+        echo "ok: $name: each of $((n - 1)) allocations, and $wants answers of want of memory"
+    else
+        failed=$((failed + 1))
+        echo "FAILED: $name: allocation $n ($rest): status $status, $(wc -c <out) bytes on the output, on the error output: $(cat err)"
+    fi
+}
+
+owners=$examples/owners
+household=$examples/household
+replay=$examples/replay/helping
+deliver=$examples/deliver
+# Each of two processes pays from an account of its own and reads one that nobody pays to, so each reply is the same in all orders.
+printf '%s\n' book,1 processes,2 limits,4,4 account,0,100,0 account,1,100,1 account,2,7, account,3,9,'0 1' >book.csv
+printf '%s\n' transfer,0,0,30 read,2 transfer,3,3,1 >pay0.csv
+printf '%s\n' transfer,1,1,20 read,2 transfer,3,3,2 >pay1.csv
+tried 'run, of two processes' run book.csv pay0.csv pay1.csv
+tried 'run, of one process' run "$examples/usual/book.csv" "$examples/usual/pay0.csv"
+tried 'check' check "$household/book.csv" "$household/ann.csv" "$household/bob.csv"
+tried 'make' make 7 3 4
+tried 'replay' replay "$replay/book.csv" "$replay/schedule.csv" "$replay"/pay*.csv
+tried 'agree' agree 5 5 5
+tried 'deliver' deliver "$deliver/book.csv" "$deliver/order.csv" "$deliver/send0.csv" "$deliver/send1.csv"
+tried 'verify' verify "$owners/book.csv" "$owners/owners.report" "$owners"/pay*.csv
+tried 'verify, of a forged report' verify "$household/book.csv" "$household/forged.report" "$household/ann.csv" "$household/bob.csv"
+tried 'a refusal' check "$household/book.csv" "$household/book.csv" "$household/bob.csv"
+
+echo "$passed passed, $failed failed"
+[ "$failed" -eq 0 ]
