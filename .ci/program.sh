@@ -105,9 +105,10 @@ printed 'the example agree, of three values' one
 # A word is a file's name, whatever it is, and the standard input is never read.
 cp "$usual/pay0.csv" ./-
 cp "$usual/book.csv" ./--help
-echo read,0 | run run "$usual/book.csv" -
+echo read,0 >typed
+run run "$usual/book.csv" - <typed
 printed 'a file whose name is a dash' "$usual/usual.report"
-run run --help - </dev/null
+run run --help - <typed
 printed 'a book whose name is an option elsewhere' "$usual/usual.report"
 
 yes read,0 | head -n 16384 >reads.csv
@@ -220,7 +221,7 @@ printed 'the most that is made' made
 
 # Each process sends 256 messages around a ring, and each node is given all of them.
 awk 'BEGIN {
-    print "book,1\nprocesses,16\nlimits,1,1"
+    print "book,1\nprocesses,16\nlimits,256,1"
     for (p = 0; p < 16; p++) print "account," p ",300," p
 }' >ring.csv
 awk 'BEGIN {
