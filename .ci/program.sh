@@ -105,9 +105,10 @@ printed 'the example agree, of three values' one
 # A word is a file's name, whatever it is, and the standard input is never read.
 cp "$usual/pay0.csv" ./-
 cp "$usual/book.csv" ./--help
-echo read,0 | run run "$usual/book.csv" -
+echo read,0 >typed
+run run "$usual/book.csv" - <typed
 printed 'a file whose name is a dash' "$usual/usual.report"
-run run --help - </dev/null
+run run --help - <typed
 printed 'a book whose name is an option elsewhere' "$usual/usual.report"
 
 yes read,0 | head -n 16384 >reads.csv
@@ -218,14 +219,18 @@ printf '%s\n' 'made 7 8 1000' 'done 5959' 'read 2041' 'balances 9' '0 104854' '1
 run make 7 8 1000
 printed 'the most that is made' made
 
-# Each process sends 256 messages around a ring, and each node is given all of them.
+# Each process sends 256 messages around a ring, and each node is given all of them, the last ones first.
 awk 'BEGIN {
-    print "book,1\nprocesses,16\nlimits,1,1"
+    print "book,1\nprocesses,16\nlimits,256,1"
     for (p = 0; p < 16; p++) print "account," p ",300," p
 }' >ring.csv
 awk 'BEGIN {
     for (p = 0; p < 16; p++)
-        for (i = 0; i < 256; i++) print "send," p "," (p + 1) % 16 ",1,0,0,0,0,0,0,0,0,0,0,0,0,0,0,0,0" >("send" p ".csv")
+        for (i = 0; i < 256; i++) {
+            sent = "send," p "," (p + 1) % 16 ",1"
+            for (q = 0; q < 16; q++) sent = sent "," (q == p ? i : 0)
+            print sent >("send" p ".csv")
+        }
 }' </dev/null
 awk 'BEGIN { for (i = 255; i >= 0; i--) for (n = 0; n < 16; n++) for (p = 0; p < 16; p++) print n "," p "," i }' >order.csv
 awk 'BEGIN {
