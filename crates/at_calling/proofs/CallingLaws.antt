@@ -37,7 +37,8 @@ use Rattle.at_object.proofs.Laws.Looked.{IsPass-HasLoaded, between-IsPass, Told-
 use Rattle.at_object.proofs.Laws.Made.{PaymentMade-alone, PaymentMade-round, others-le}
 use Rattle.at_object.proofs.Laws.Room.{HasSlot-is_owner, MayStoreRequest-room, sent-room}
 use Rattle.at_object.specs.CallCounts.{CallCountTerms}
-use Rattle.at_object.specs.Paid.{PaymentMade, PaysAlone, PaysInRound}
+use Rattle.at_object.specs.Paid.{PaysAlone, PaysInRound}
+use Rattle.at_object.specs.Calls.{PaymentMade}
 use Rattle.at_object.specs.Parted.{IsOfOnePass, pass_of}
 use Rattle.at_object.specs.Passes.{IsPass, PassTerms, Stands, counted_anew, others_counted}
 use Rattle.at_object.specs.Payments.{IsDecidedByBalance, IsRefused, has_used_up, payment_steps, refusal_of, sent_after, shared_steps, single_steps}
@@ -47,7 +48,8 @@ use Rattle.at_single.specs.Standing.{front_behind}
 use Rattle.at_single.specs.Standing as single
 use Rattle.at_snapshot.specs.Snapshots.{snapshot_steps}
 use Rattle.at_calling.proofs.Laws.Made.{process-CallMade}
-use Rattle.at_calling.specs.Calling.{CallMade, ReadMade, StaysWithin, call_steps, refusal_in, with_one_call}
+use Rattle.at_calling.specs.Calling.{refusal_in, with_one_call}
+use Rattle.at_object.specs.Calls.{CallMade, ReadMade, StaysWithin, call_steps}
 use Rattle.at_calling.specs.PayingAlone.{HasSameAsking, append_steps}
 use Rattle.at_calling.specs.PayingShared.{DecidesFew, settling_steps}
 use Rattle.at_calling.specs.Reading.{IsReadOf, LeavesTotals}

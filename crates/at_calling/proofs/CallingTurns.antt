@@ -28,7 +28,8 @@ use Rattle.at_object.specs.Payments.{IsRefused, sent_after}
 use Rattle.at_object.specs.declared.parts.Rest.{Rest}
 use Rattle.at_shared.specs.Helpings.{IsPayoutFrom, decides_made}
 use Rattle.at_calling.proofs.CallingLaws.{CallMade-PaysAlone, CallMade-PaysInRound, IsOfOnePass-IsReadOf, IsOfOnePass-PaysAlone, IsOfOnePass-PaysInRound, MakesWithin, ReadMade-IsReadOf, StaysWithin-MakesWithin, MakesWithin-IsReadOf, MakesWithin-PaysAlone, MakesWithin-PaysInRound, call_steps-payout, payment_steps-shared, payment_steps-single, placed-CallMade, refusal_in-payout, small-refusal_of, source-IsCallOn, stands-CallMade}
-use Rattle.at_calling.specs.Calling.{CallMade, CallingTerms, IsWay, MakesCallStep, StaysWithin, call_steps, call_turns_left, exchanges_made, exchanges_of, pass_before, refusal_in, steps_made, steps_of, with_one_call}
+use Rattle.at_calling.specs.Calling.{CallingTerms, IsWay, MakesCallStep, call_turns_left, exchanges_made, exchanges_of, pass_before, refusal_in, steps_made, steps_of, with_one_call}
+use Rattle.at_object.specs.Calls.{CallMade, StaysWithin, call_steps}
 use Rattle.at_calling.specs.KeptCalling.{IsCallStageSo, IsCallingSo, IsMakingStill, TakesCallTurn}
 use Rattle.at_machines.specs.Looking.{IsWithin, look_turns_left}
 use Rattle.at_calling.specs.PayingAlone.{IsPayWithin, PayingAloneTerms, append_steps, pay_turns_left}

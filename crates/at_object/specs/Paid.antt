@@ -48,20 +48,3 @@ pub record PaysInRound (book : BookTerms) (before after : Knowledge) (source : �
 abbrev pub HasLoadedFresh : BookTerms → PassTerms → PassTerms → Type 0
 HasLoadedFresh book before after = (p : ℕ) → p < book.processes →
     (loads_of (own_part before.knows) p).times + fresh_loads ≤ (loads_of (own_part after.knows) p).times
-
--- what a payment leaves of its pass
-pub record PaymentMade (book : BookTerms) (before after : PassTerms) (source : ℕ) (targets : List TargetPair) (call : Call) (receipt : Receipt) : Type 0 where
-  pub call_is : receipt.call ≡ call
-  pub reply : receipt.reply ≡ reply_of book before after source targets receipt
-  pub placed : (earlier : List Receipt) → Stands before earlier → IsPlaced book before.knows.first after.knows.seen earlier receipt
-  pub stands : (earlier : List Receipt) → Stands before earlier → Stands after (earlier ++ receipt ∷ [])
-  pub after_seen : IsDecidedByBalance receipt → StandsAfter (length before.knows.seen) after.knows receipt
-  pub loads : IsDecidedByBalance receipt → HasLoadedFresh book before after
-  pub alone : IsDecidedByBalance receipt → is_single (account_of book source) ≡ true → PaysAlone book before.knows after.knows source targets call receipt
-  pub in_round : IsDecidedByBalance receipt → is_shared (account_of book source) ≡ true → PaysInRound book before.knows after.knows source call receipt
-  pub begins : IsPrefix before.knows.seen after.knows.seen
-  pub process_is : after.knows.first ≡ before.knows.first
-  pub refused : IsRefused receipt → after ≡ record before { calls = one_more_call before.calls }
-  pub refused_at : IsRefused receipt → receipt.at ≡ At.Previous
-  pub asked_elsewhere : (a : ℕ) → a ≢ source → asked_by after a ≡ asked_by before a
-  pub counted : others_counted before ≤ others_counted after

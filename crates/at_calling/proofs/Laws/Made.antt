@@ -5,7 +5,7 @@ use Rattle.at_ledger.specs.declared.call.Call.{Call}
 use Rattle.at_ledger.specs.declared.call.Call.TheVariants.{Pay, Read, Transfer}
 use Rattle.at_log.specs.declared.receipt.Receipt.{Receipt}
 use Rattle.at_object.specs.Passes.{PassTerms}
-use Rattle.at_calling.specs.Calling.{CallMade}
+use Rattle.at_object.specs.Calls.{CallMade}
 
 -- its process is the same
 pub process-CallMade : (b : BookTerms) (before after : PassTerms) (call : Call) (r : Receipt) → CallMade b before after call r
