@@ -1,7 +1,6 @@
 -- What the payments of the crates below leave, whatever the call was: a transfer, or a pay-out to the same targets.
-use Rattle.std.specs.Prelude.{◌≡◌, ◌≢◌, ℕ, ◌+◌, ◌<◌, ◌≤◌, ◌++◌, List, [], ◌∷◌, length, true, None}
-use Rattle.at_ledger.specs.Account.{is_shared, is_single}
-use Rattle.at_ledger.specs.Book.{BookTerms, account_of}
+use Rattle.std.specs.Prelude.{◌≡◌, ℕ, ◌+◌, ◌<◌, ◌≤◌, List, length, None}
+use Rattle.at_ledger.specs.Book.{BookTerms}
 use Rattle.at_ledger.specs.Call.{TargetPair}
 use Rattle.at_ledger.specs.declared.call.Call.{Call}
 use Rattle.at_ledger.specs.declared.call.Reply.TheVariants.{Done, Short}
@@ -13,10 +12,8 @@ use Rattle.at_board.specs.Knowledge.Parts.{asking_on, loads_of, own_part}
 use Rattle.at_board.specs.declared.knowledge.Knowledge.{Knowledge}
 use Rattle.at_log.specs.Placed.{IsPlaced}
 use Rattle.at_log.specs.Receipts.{asks_in, owns_in}
-use Rattle.at_log.specs.declared.receipt.At.{At}
 use Rattle.at_log.specs.declared.receipt.Receipt.{Receipt}
-use Rattle.at_object.specs.Passes.{PassTerms, Stands, asked_by, one_more_call, others_counted}
-use Rattle.at_object.specs.Payments.{IsDecidedByBalance, IsRefused, reply_of}
+use Rattle.at_object.specs.Passes.{PassTerms}
 use Rattle.at_shared.specs.Settling.{AsksOnce, StandsAfter, StandsAfterSnapshot, StandsInRound}
 use Rattle.at_single.specs.Standing.{StandsAfterFront, StandsAtFront, StandsAtOwn, front_behind, payment_reply}
 use Rattle.at_snapshot.specs.Snapshots.{IsSnapshot}

@@ -18,7 +18,7 @@ ghost use Rattle.at_log.specs.Placed.{IsPlaced};
 ghost use Rattle.at_log.specs.Receipts.{payout_of};
 ghost use Rattle.at_log.specs.declared.receipt.At.{At};
 ghost use Rattle.at_log.specs.declared.receipt.Receipt.{Receipt};
-ghost use Rattle.at_object.specs.Calls.{PaymentMade, StaysWithin};
+ghost use Rattle.at_object.specs.Calls.{PaymentMade};
 ghost use Rattle.at_object.specs.Paid.{PaysAlone};
 ghost use Rattle.at_object.specs.Passes.{IsPassOf, Stands, asked_by, counted_anew, one_more_call, sent_by};
 ghost use Rattle.at_object.specs.Payments.{IsDecidedByBalance, IsRefused, has_used_up, payment_steps, refusal_of, sent_after, shared_steps, single_steps};
@@ -43,10 +43,19 @@ impl Ledger {
         requires source { source < length self.now.book.accounts }
         ensures made { (targets : List TargetPair) → payout_of call.now ≡ Some (source, targets)
             → PaymentMade self.now.book pass.old pass.new source targets call.now result }
-        ensures within { StaysWithin self.now.book pass.old pass.new call.now result }
         ensures runs { AreRuns self.now.book pass.new.knows.seen }
         ensures pass { IsPassOf pass.new self.now }
         ensures calls { pass.new.calls ≡ one_more_call pass.old.calls }
+        ensures steps { pass.new.steps ≤ pass.old.steps + payment_steps self.now.book source
+            + RECORD_WORDS * counted_anew pass.old pass.new }
+        ensures exchanges { pass.new.exchanges
+            ≡ raised pass.old.exchanges (decides_made source pass.old.knows pass.new.knows) }
+        ensures exchanges_single { is_shared (account_of self.now.book source) ≡ false
+            → pass.new.exchanges ≡ pass.old.exchanges }
+        ensures decides { decides_made source pass.old.knows pass.new.knows
+            ≤ slots_of (account_of self.now.book source) }
+        ensures decides_elsewhere { (a : ℕ) → a ≢ source
+            → decides_on pass.new.knows a ≡ decides_on pass.old.knows a }
     {
         pass.seat.known();
         match self.refusal(pass, source) {

@@ -4,9 +4,8 @@ use Rattle.at_history.specs.Moves.{AreRuns}
 use Rattle.at_board.specs.Knowledge.Seats.{IsKept}
 use Rattle.at_closing.specs.BetweenCalls.{IsBetweenCalls}
 use Rattle.at_object.proofs.Laws.Made.{PaymentMade-refused}
-use Rattle.at_object.proofs.Laws.Within.{StaysWithin-refused}
-use Rattle.at_object.specs.Calls.{PaymentMade, StaysWithin}
-use Rattle.at_object.specs.Passes.{PassTerms, one_more_call}
+use Rattle.at_object.specs.Calls.{PaymentMade}
+use Rattle.at_object.specs.Passes.{PassTerms}
 use Rattle.at_object.proofs.ledger.Ledger.pay_by_call.Goals.{After-refuse}
 use Rattle.at_object.proofs.ledger.Ledger.pay_by_call.Goals as goal
 
@@ -30,9 +29,3 @@ pub returns-in-Some-clause-runs : goal.returns-in-Some-clause-runs
 returns-in-Some-clause-runs c =
     subst (λ (t : PassTerms). AreRuns c.args.self.now.book t.knows.seen) (sym c.refuse.ensures.pass)
     (subst (λ (t : BookTerms). AreRuns t c.args.pass.now.knows.seen) c.requires.pass.book (kept c).history.runs)
-
-pub returns-in-Some-clause-within : goal.returns-in-Some-clause-within
-returns-in-Some-clause-within c =
-    let before : PassTerms = c.args.pass.now in
-    subst (λ (t : PassTerms). StaysWithin c.args.self.now.book before t c.args.call.now c.refuse.result) (sym c.refuse.ensures.pass)
-    (StaysWithin-refused c.args.self.now.book before (one_more_call before.calls) c.args.call.now c.refuse.result)
