@@ -1,6 +1,6 @@
 use Rattle.std.proofs.Common.{◌<◌, ◌∙◌, ap, length, rules, subst}
 use Rattle.std.specs.Vec.{vec_capacity}
-use Rattle.at_object.proofs.Laws.Calls.{begins-CallMade, call-CallMade, process-CallMade, stands-CallMade}
+use Rattle.at_object.proofs.Laws.Calls.{begins-CallMade, process-CallMade, stands-CallMade}
 use Rattle.at_object.specs.Passes.{IsPassOf}
 use Rattle.at_history.specs.Publications.{IsPrefix}
 use Rattle.at_workers.specs.Jobs.{JobTerms}
