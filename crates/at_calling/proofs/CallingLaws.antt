@@ -37,7 +37,8 @@ use Rattle.at_object.proofs.Laws.Looked.{IsPass-HasLoaded, between-IsPass, Told-
 use Rattle.at_object.proofs.Laws.Made.{PaymentMade-alone, PaymentMade-round, others-le}
 use Rattle.at_object.proofs.Laws.Room.{HasSlot-is_owner, MayStoreRequest-room, sent-room}
 use Rattle.at_object.specs.CallCounts.{CallCountTerms}
-use Rattle.at_object.specs.Paid.{PaymentMade, PaysAlone, PaysInRound}
+use Rattle.at_object.specs.Paid.{PaysAlone, PaysInRound}
+use Rattle.at_object.specs.Calls.{PaymentMade}
 use Rattle.at_object.specs.Parted.{IsOfOnePass, pass_of}
 use Rattle.at_object.specs.Passes.{IsPass, PassTerms, Stands, counted_anew, others_counted}
 use Rattle.at_object.specs.Payments.{IsDecidedByBalance, IsRefused, has_used_up, payment_steps, refusal_of, sent_after, shared_steps, single_steps}
@@ -46,8 +47,10 @@ use Rattle.at_shared.specs.Helpings.{HasAllSettled, decides_made, decides_on}
 use Rattle.at_single.specs.Standing.{front_behind}
 use Rattle.at_single.specs.Standing as single
 use Rattle.at_snapshot.specs.Snapshots.{snapshot_steps}
-use Rattle.at_calling.proofs.Laws.Made.{process-CallMade}
-use Rattle.at_calling.specs.Calling.{CallMade, ReadMade, StaysWithin, call_steps, refusal_in, with_one_call}
+use Rattle.at_object.proofs.Laws.Calls.{process-CallMade}
+use Rattle.at_object.proofs.Laws.Within.{call_steps-payout, may_exchange-payout, read_or_refused}
+use Rattle.at_calling.specs.Calling.{refusal_in, with_one_call}
+use Rattle.at_object.specs.Calls.{CallMade, ReadMade, StaysWithin, call_steps, may_exchange}
 use Rattle.at_calling.specs.PayingAlone.{HasSameAsking, append_steps}
 use Rattle.at_calling.specs.PayingShared.{DecidesFew, settling_steps}
 use Rattle.at_calling.specs.Reading.{IsReadOf, LeavesTotals}
@@ -58,11 +61,6 @@ decided_or_refused r (inl done) (inl refused) = let both : Done ≡ NotOwner = s
 decided_or_refused r (inl done) (inr refused) = let both : Done ≡ Full = sym done ∙ refused in absurd (cc both)
 decided_or_refused r (inr short) (inl refused) = let both : Short ≡ NotOwner = sym short ∙ refused in absurd (cc both)
 decided_or_refused r (inr short) (inr refused) = let both : Short ≡ Full = sym short ∙ refused in absurd (cc both)
-
--- nor is a read refused
-pub read_or_refused : (r : Receipt) (balance : ℕ) → r.reply ≡ Balance balance → IsRefused r → ⊥
-read_or_refused r balance told (inl refused) = let both : Balance balance ≡ NotOwner = sym told ∙ refused in absurd (cc both)
-read_or_refused r balance told (inr refused) = let both : Balance balance ≡ Full = sym told ∙ refused in absurd (cc both)
 
 -- why a payment is not refused
 pub refusal_of-None : (owner used : Bool) → cond owner (cond used (Some Full) None) (Some NotOwner) ≡ None → (owner ≡ true) × (used ≡ false)
@@ -112,12 +110,6 @@ module _ (b : BookTerms) (source : ℕ) (targets : List TargetPair) where
   CallMade-payout before after (Pay from ts) r payout made =
       subst (λ (x : ℕ × List TargetPair). PaymentMade b before after x.0 x.1 (Pay from ts) r) (sym (same_payout (from, ts) (source, targets) payout)) made
 
-  pub call_steps-payout : (call : Call) → payout_of call ≡ Some (source, targets) → call_steps b call ≡ payment_steps b source
-  call_steps-payout (Transfer from to amount) payout =
-      ap (λ (x : ℕ × List TargetPair). payment_steps b x.0) (same_payout (from, (to, amount) ∷ []) (source, targets) payout)
-  call_steps-payout (Read account) payout = absurd (cc payout)
-  call_steps-payout (Pay from ts) payout = ap (λ (x : ℕ × List TargetPair). payment_steps b x.0) (same_payout (from, ts) (source, targets) payout)
-
   pub refusal_in-payout : (before : PassTerms) (call : Call) → payout_of call ≡ Some (source, targets)
       → refusal_in b before call ≡ refusal_of b before source
   refusal_in-payout before (Transfer from to amount) payout =
@@ -139,19 +131,6 @@ pub payment_steps-shared : (b : BookTerms) (source : ℕ) → is_shared (account
 payment_steps-shared b source shared =
     ap (λ t. cond t (shared_steps b.processes (slots_of (account_of b source))) (single_steps b.processes)) shared
 
--- each call's receipt is placed, and stands with the pass
-pub placed-CallMade : (b : BookTerms) (before after : PassTerms) (call : Call) (r : Receipt) → CallMade b before after call r
-    → (earlier : List Receipt) → Stands before earlier → IsPlaced b before.knows.first after.knows.seen earlier r
-placed-CallMade b before after (Transfer from to amount) r made = made.placed
-placed-CallMade b before after (Read account) r made = made.placed
-placed-CallMade b before after (Pay from targets) r made = made.placed
-
-pub stands-CallMade : (b : BookTerms) (before after : PassTerms) (call : Call) (r : Receipt) → CallMade b before after call r
-    → (earlier : List Receipt) → Stands before earlier → Stands after (earlier ++ r ∷ [])
-stands-CallMade b before after (Transfer from to amount) r made = made.stands
-stands-CallMade b before after (Read account) r made = made.stands
-stands-CallMade b before after (Pay from targets) r made = made.stands
-
 -- an append has few steps
 pub append_steps-le : (width : ℕ) (reply : Reply) → append_steps width reply ≤ width + 1
 append_steps-le width Done = omega arith
@@ -170,6 +149,7 @@ pub record MakesWithin (b : BookTerms) (before after : PassTerms) (call : Call) 
   pub few : steps ≤ call_steps b call + RECORD_WORDS * counted_anew before after
   pub refused : IsRefused r → steps ≡ 0
   pub decided : exchanges ≡ decides_made (first_account call) before.knows after.knows
+  pub none : may_exchange b call ≡ false → exchanges ≡ 0
   pub few_decided : exchanges ≤ slots_of (account_of b (first_account call))
   pub decides_elsewhere : (a : ℕ) → a ≢ first_account call → decides_on after.knows a ≡ decides_on before.knows a
 
@@ -181,6 +161,7 @@ StaysWithin-MakesWithin b before after call steps exchanges r makes made exchang
   few = omega (arith, makes.few, made);
   refused = λ refused. omega (arith, makes.refused refused, made);
   decided = exchanged ∙ ap (raised before.exchanges) makes.decided;
+  none = λ no. omega (arith, exchanged, makes.none no);
   few_decided = omega (arith, makes.few_decided, makes.decided);
   decides_elsewhere = makes.decides_elsewhere;
 }
@@ -232,6 +213,7 @@ module _ (b : BookTerms) (start : SeatTerms) (was : Rest) (seat : SeatTerms) (re
       few = omega (arith, few-LeavesTotals, within);
       refused = λ refused. absurd (decided refused);
       decided = omega (arith, ap (λ (t : Asking). t.decides) (asks (first_account call)));
+      none = λ no. refl;
       few_decided = omega arith;
       decides_elsewhere = λ a apart. ap (λ (t : Asking). t.decides) (asks a);
     }
@@ -352,6 +334,7 @@ module _ (b : BookTerms) (start : SeatTerms) (was : Rest) (seat : SeatTerms) (re
             );
             refused = λ refused. absurd (decided_or_refused r paid.in_round.reply refused);
             decided = decided ∙ ap (λ a. decides_made a v w) (sym first);
+            none = λ no. let both : false ≡ true = sym no ∙ (may_exchange-payout b source targets call payout ∙ shared) in absurd (cc both);
             few_decided = subst (λ a. exchanges ≤ slots_of (account_of b a)) (sym first) (omega (arith, decided, few.few));
             decides_elsewhere = λ a apart. few.elsewhere a (λ same. apart (same ∙ sym first));
           }

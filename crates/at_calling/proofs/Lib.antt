@@ -1,4 +1,3 @@
-pub mod Laws
 pub mod ReadingLaws
 pub mod PayingAloneLaws
 pub mod PayingAloneTurns

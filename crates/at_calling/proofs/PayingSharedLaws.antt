@@ -149,7 +149,7 @@ IsHelpingThen-begun t h u helping start mark was totals turns left helped counte
 
 -- a turn of helping goes on after others
 module _ (b : BookTerms) (v y z : Knowledge) (a : ℕ) (call : Call) (h : HelpingTerms) (helped : HasHelped b v y a call h) where
-  account : h.account ≡ a
+  abbrev account : h.account ≡ a
   account = helped.start.account_is
 
   on_y : decides_on y h.account ≡ decides_on y a

@@ -21,7 +21,7 @@ use Rattle.at_log.specs.Told.{first_account}
 use Rattle.at_log.specs.declared.receipt.At.{At}
 use Rattle.at_log.specs.declared.receipt.Receipt.{Receipt}
 use Rattle.at_object.specs.CallCounts.{CallCountTerms}
-use Rattle.at_object.specs.Paid.{PaymentMade}
+use Rattle.at_object.specs.Calls.{call_steps}
 use Rattle.at_object.specs.Parted.{pass_of}
 use Rattle.at_object.specs.Passes.{PassTerms, Stands, asked_by, counted_anew, one_more_call, others_counted, sent_by}
 use Rattle.at_object.specs.Payments.{IsRefused, payment_steps, refusal_of}
@@ -132,43 +132,6 @@ MakesCallStep b (Read r) before after now = MakesLookLoad b r.looking.stage befo
 MakesCallStep b (PayAlone p) before after now = MakesPayStep b p.stage before after now
 MakesCallStep b (PayShared p) before after now = MakesShareStep b p.stage before after now
 
--- the most steps of a call, beside the loads of records that its totals count
-abbrev pub call_steps : BookTerms → Call → ℕ
-call_steps b (Call.Transfer from to amount) = payment_steps b from
-call_steps b (Call.Read account) = snapshot_steps b.processes
-call_steps b (Call.Pay from targets) = payment_steps b from
-
 -- the steps so far are no more than these, and the loads of the records that are among so many and weren't counted at the start
 abbrev pub IsCallWithin : BookTerms → CallingTerms → ℕ → Type 0
 IsCallWithin b t records = steps_made t.stage ≤ call_steps b t.call + RECORD_WORDS * (records - sum t.was.totals.upto)
-
--- what a read leaves of its pass
-pub record ReadMade (book : BookTerms) (before after : PassTerms) (account : ℕ) (receipt : Receipt) : Type 0 where
-  pub call_is : receipt.call ≡ Call.Read account
-  pub at_front : receipt.at ≡ At.Front (front_behind after.knows receipt.at)
-  pub reply : receipt.reply ≡ Balance (balance_after book (prefix_of (front_behind after.knows receipt.at) after.knows.seen) account)
-  pub snapshot : IsSnapshot book before.knows after.knows (front_behind after.knows receipt.at)
-  pub placed : (earlier : List Receipt) → Stands before earlier → IsPlaced book before.knows.first after.knows.seen earlier receipt
-  pub stands : (earlier : List Receipt) → Stands before earlier → Stands after (earlier ++ receipt ∷ [])
-  pub after_seen : StandsAfter (length before.knows.seen) after.knows receipt
-  pub begins : IsPrefix before.knows.seen after.knows.seen
-  pub history : IsHistory book after.knows.seen
-  pub process_is : after.knows.first ≡ before.knows.first
-  pub asked : (a : ℕ) → asked_by after a ≡ asked_by before a
-  pub sent : sent_by after ≡ sent_by before
-  pub counted : others_counted before ≤ others_counted after
-
--- what a call leaves of its pass
-abbrev pub CallMade : BookTerms → PassTerms → PassTerms → Call → Receipt → Type 0
-CallMade b before after (Call.Transfer from to amount) r = PaymentMade b before after from ((to, amount) ∷ []) (Call.Transfer from to amount) r
-CallMade b before after (Call.Read account) r = ReadMade b before after account r
-CallMade b before after (Call.Pay from targets) r = PaymentMade b before after from targets (Call.Pay from targets) r
-
--- the pass has made few steps over all turns, and none where the call is refused. Its exchanges are those that its process has decided on
--- the account that the call names first, at most one for each owner, and on other accounts there are none
-pub record StaysWithin (b : BookTerms) (before after : PassTerms) (call : Call) (r : Receipt) : Type 0 where
-  pub few : after.steps ≤ before.steps + call_steps b call + RECORD_WORDS * counted_anew before after
-  pub refused : IsRefused r → after.steps ≡ before.steps
-  pub decided : after.exchanges ≡ raised before.exchanges (decides_made (first_account call) before.knows after.knows)
-  pub few_decided : decides_made (first_account call) before.knows after.knows ≤ slots_of (account_of b (first_account call))
-  pub decides_elsewhere : (a : ℕ) → a ≢ first_account call → decides_on after.knows a ≡ decides_on before.knows a

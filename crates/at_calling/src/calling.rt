@@ -15,7 +15,8 @@ ghost use Rattle.at_calling.specs.KeptCalling.{TakesCallTurn};
 ghost use Rattle.at_calling.specs.PayingAlone.{PayingAloneTerms};
 ghost use Rattle.at_calling.specs.PayingShared.{PayingSharedTerms};
 ghost use Rattle.at_calling.specs.Reading.{ReadingTerms};
-ghost use Rattle.at_calling.specs.Calling.{CallMade, IsCallWithin, IsWay, MakesCallStep, StaysWithin, call_turns_left, exchanges_made, exchanges_of, pass_before, steps_made, steps_of, with_one_call};
+ghost use Rattle.at_calling.specs.Calling.{IsCallWithin, IsWay, MakesCallStep, call_turns_left, exchanges_made, exchanges_of, pass_before, steps_made, steps_of, with_one_call};
+ghost use Rattle.at_object.specs.Calls.{CallMade, StaysWithin};
 
 use crate::call_stage::CallStage;
 use at_board::{Board, BoardSeat};

@@ -25,11 +25,7 @@ fn book_of_four(alloc: Global) -> anyhow::Result<Book> {
 }
 
 /// Three calls of each process, and what they answered. Threads could make them: the ledger is shared, and each pass is one caller's.
-fn deal(
-    ledger: &Ledger,
-    zero: &mut Pass,
-    one: &mut Pass,
-) -> ([Receipt; 3], [Receipt; 3])
+fn deal(ledger: &Ledger, zero: &mut Pass, one: &mut Pass) -> ([Receipt; 3], [Receipt; 3])
     requires four { length ledger.now.book.accounts ≡ 4 }
     requires zero { IsNewPass ledger.now 0 zero.old }
     requires one { IsNewPass ledger.now 1 one.old }

@@ -5,6 +5,9 @@ pub mod Looked
 pub mod Alone
 pub mod InRound
 pub mod Made
+-- the same of any call, and what it may take
+pub mod Calls
+pub mod Within
 -- what a payment needs, and why it is done where the balance covers it
 pub mod Room
 pub mod Covered

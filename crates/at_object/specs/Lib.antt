@@ -4,3 +4,4 @@ pub mod Payments
 pub mod Paid
 pub mod Closings
 pub mod Parted
+pub mod Calls

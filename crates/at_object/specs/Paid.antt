@@ -1,7 +1,6 @@
 -- What the payments of the crates below leave, whatever the call was: a transfer, or a pay-out to the same targets.
-use Rattle.std.specs.Prelude.{◌≡◌, ◌≢◌, ℕ, ◌+◌, ◌<◌, ◌≤◌, ◌++◌, List, [], ◌∷◌, length, true, None}
-use Rattle.at_ledger.specs.Account.{is_shared, is_single}
-use Rattle.at_ledger.specs.Book.{BookTerms, account_of}
+use Rattle.std.specs.Prelude.{◌≡◌, ℕ, ◌+◌, ◌<◌, ◌≤◌, List, length, None}
+use Rattle.at_ledger.specs.Book.{BookTerms}
 use Rattle.at_ledger.specs.Call.{TargetPair}
 use Rattle.at_ledger.specs.declared.call.Call.{Call}
 use Rattle.at_ledger.specs.declared.call.Reply.TheVariants.{Done, Short}
@@ -13,10 +12,8 @@ use Rattle.at_board.specs.Knowledge.Parts.{asking_on, loads_of, own_part}
 use Rattle.at_board.specs.declared.knowledge.Knowledge.{Knowledge}
 use Rattle.at_log.specs.Placed.{IsPlaced}
 use Rattle.at_log.specs.Receipts.{asks_in, owns_in}
-use Rattle.at_log.specs.declared.receipt.At.{At}
 use Rattle.at_log.specs.declared.receipt.Receipt.{Receipt}
-use Rattle.at_object.specs.Passes.{PassTerms, Stands, asked_by, one_more_call, others_counted}
-use Rattle.at_object.specs.Payments.{IsDecidedByBalance, IsRefused, reply_of}
+use Rattle.at_object.specs.Passes.{PassTerms}
 use Rattle.at_shared.specs.Settling.{AsksOnce, StandsAfter, StandsAfterSnapshot, StandsInRound}
 use Rattle.at_single.specs.Standing.{StandsAfterFront, StandsAtFront, StandsAtOwn, front_behind, payment_reply}
 use Rattle.at_snapshot.specs.Snapshots.{IsSnapshot}
@@ -48,20 +45,3 @@ pub record PaysInRound (book : BookTerms) (before after : Knowledge) (source : �
 abbrev pub HasLoadedFresh : BookTerms → PassTerms → PassTerms → Type 0
 HasLoadedFresh book before after = (p : ℕ) → p < book.processes →
     (loads_of (own_part before.knows) p).times + fresh_loads ≤ (loads_of (own_part after.knows) p).times
-
--- what a payment leaves of its pass
-pub record PaymentMade (book : BookTerms) (before after : PassTerms) (source : ℕ) (targets : List TargetPair) (call : Call) (receipt : Receipt) : Type 0 where
-  pub call_is : receipt.call ≡ call
-  pub reply : receipt.reply ≡ reply_of book before after source targets receipt
-  pub placed : (earlier : List Receipt) → Stands before earlier → IsPlaced book before.knows.first after.knows.seen earlier receipt
-  pub stands : (earlier : List Receipt) → Stands before earlier → Stands after (earlier ++ receipt ∷ [])
-  pub after_seen : IsDecidedByBalance receipt → StandsAfter (length before.knows.seen) after.knows receipt
-  pub loads : IsDecidedByBalance receipt → HasLoadedFresh book before after
-  pub alone : IsDecidedByBalance receipt → is_single (account_of book source) ≡ true → PaysAlone book before.knows after.knows source targets call receipt
-  pub in_round : IsDecidedByBalance receipt → is_shared (account_of book source) ≡ true → PaysInRound book before.knows after.knows source call receipt
-  pub begins : IsPrefix before.knows.seen after.knows.seen
-  pub process_is : after.knows.first ≡ before.knows.first
-  pub refused : IsRefused receipt → after ≡ record before { calls = one_more_call before.calls }
-  pub refused_at : IsRefused receipt → receipt.at ≡ At.Previous
-  pub asked_elsewhere : (a : ℕ) → a ≢ source → asked_by after a ≡ asked_by before a
-  pub counted : others_counted before ≤ others_counted after

@@ -9,6 +9,7 @@
 //! payment answers and how many steps it takes; `Paid`, how it stands among the publications; `Closings`; `CallCounts` and `Parted`.
 #![tactic(auto)]
 
+mod calls;
 mod close;
 mod closed;
 mod crossing;

@@ -45,11 +45,7 @@ fn last_voice(council: &Council, voices: &mut Vec<Voice>) -> Option<Voice>
 }
 
 /// What the last of the voices that are left answers when it proposes a value.
-fn last_answer(
-    council: &Council,
-    voices: &mut Vec<Voice>,
-    value: u64,
-) -> Option<u64>
+fn last_answer(council: &Council, voices: &mut Vec<Voice>, value: u64) -> Option<u64>
     requires voices { All (MayProposeValue council.now) voices.old.items }
     requires value { value < 2 ^ 32 }
     ensures { All (MayProposeValue council.now) voices.new.items }
@@ -61,30 +57,22 @@ fn last_answer(
 }
 
 /// Whether process 0 and then process 1 answer 9, where they propose 7 and 8.
-fn others_answer_nine(
-    council: &Council,
-    voices: &mut Vec<Voice>,
-) -> bool
+fn others_answer_nine(council: &Council, voices: &mut Vec<Voice>) -> bool
     requires { All (MayProposeValue council.now) voices.old.items }
 {
     match last_voice(council, voices) {
         Some(mut one) => {
-            last_answer(council, voices, 7) == Some(9)
-                && council.propose(&mut one, 8) == 9
+            last_answer(council, voices, 7) == Some(9) && council.propose(&mut one, 8) == 9
         }
         None => false,
     }
 }
 
 /// Whether processes 2, 0 and 1, which propose 9, 7 and 8 one after another, all answer 9.
-fn all_answer_nine(
-    council: &Council,
-    voices: &mut Vec<Voice>,
-) -> bool
+fn all_answer_nine(council: &Council, voices: &mut Vec<Voice>) -> bool
     requires voices { All (MayProposeValue council.now) voices.old.items }
 {
-    last_answer(council, voices, 9) == Some(9)
-        && others_answer_nine(council, voices)
+    last_answer(council, voices, 9) == Some(9) && others_answer_nine(council, voices)
 }
 
 /// Whether eight processes agree on one of their values.
@@ -178,9 +166,7 @@ fn winners<R: Threads>(rt: &R, alloc: Global) -> Option<(bool, bool)> {
 #[test]
 fn three_voices_in_turn(rt: HostRuntime) {
     let answered = match new_council(rt.alloc(), 3) {
-        Some((council, mut voices)) => {
-            all_answer_nine(&council, &mut voices)
-        }
+        Some((council, mut voices)) => { all_answer_nine(&council, &mut voices) }
         None => false,
     };
     assert!(rt; answered);

@@ -37,11 +37,7 @@ pub(crate) fn is_on(book: &Book, call: &Call) -> bool
 }
 
 /// Makes a call on a pass.
-pub(crate) fn call_by(
-    ledger: &Ledger,
-    pass: &mut Pass,
-    call: &Call,
-) -> Receipt
+pub(crate) fn call_by(ledger: &Ledger, pass: &mut Pass, call: &Call) -> Receipt
     requires pass { IsPassOf pass.old ledger.now }
     requires call { IsCallOn (length ledger.now.book.accounts) call.now }
     ensures stands { (earlier : List Receipt) → Stands pass.old earlier
@@ -50,9 +46,7 @@ pub(crate) fn call_by(
     ensures calls { pass.new.calls ≡ one_more_call pass.old.calls }
 {
     match call {
-        Call::Transfer { from, to, amount } => ledger.transfer(
-            pass, *from, *to, *amount
-        ),
+        Call::Transfer { from, to, amount } => ledger.transfer(pass, *from, *to, *amount),
         Call::Read { account } => ledger.read(pass, *account),
         Call::Pay { from, targets } => ledger.pay(pass, *from, targets),
     }

@@ -40,11 +40,7 @@ fn close_again(alloc: Global, refused: CloseRefused) -> Option<Closed>
 }
 
 /// Process 0 reads account 0.
-fn read_again(
-    ledger: &Ledger,
-    passes: &mut [Pass],
-    receipts: &mut [Vec<Receipt>],
-) -> Option<()>
+fn read_again(ledger: &Ledger, passes: &mut [Pass], receipts: &mut [Vec<Receipt>]) -> Option<()>
     requires accounted { AreAccountedFor ledger.now passes.old (map (λ v. v.items) receipts.old) }
     requires few { AreFew (map (λ v. v.items) receipts.old) }
     ensures accounted { IfSome result (λ _. AreAccountedFor ledger.now passes.new

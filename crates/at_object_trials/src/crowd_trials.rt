@@ -58,10 +58,7 @@ fn call_of(number: u32) -> Option<Call> {
 }
 
 /// Makes all calls beside the other threads, or those before one for whose receipt there is no memory.
-fn play(
-    ledger: &Ledger,
-    player: &mut Player,
-)
+fn play(ledger: &Ledger, player: &mut Player)
     requires { PlaysOn ledger.now player.old }
     ensures { PlaysOn ledger.now player.new }
 {

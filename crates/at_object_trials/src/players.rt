@@ -76,11 +76,7 @@ impl Player {
     }
 
     /// Makes a call and keeps its receipt, if it names accounts that are there, and there is memory for the receipt.
-    pub(crate) fn make(
-        &mut self,
-        ledger: &Ledger,
-        call: &Call,
-    ) -> Option<()>
+    pub(crate) fn make(&mut self, ledger: &Ledger, call: &Call) -> Option<()>
         requires { PlaysOn ledger.now self.old }
         ensures { PlaysOn ledger.now self.new }
     {
@@ -94,10 +90,7 @@ impl Player {
     }
 
     /// A note of what the pass has seen.
-    pub(crate) fn note(
-        &mut self,
-        ledger: &Ledger,
-    ) -> Note
+    pub(crate) fn note(&mut self, ledger: &Ledger) -> Note
         requires { PlaysOn ledger.now self.old }
         ensures note { IsOf result ledger.now }
         ensures player { PlaysOn ledger.now self.new }
@@ -106,11 +99,7 @@ impl Player {
     }
 
     /// Takes in a note.
-    pub(crate) fn learn(
-        &mut self,
-        ledger: &Ledger,
-        note: Note,
-    )
+    pub(crate) fn learn(&mut self, ledger: &Ledger, note: Note)
         requires player { PlaysOn ledger.now self.old }
         requires note { IsOf note ledger.now }
         ensures { PlaysOn ledger.now self.new }

@@ -143,11 +143,7 @@ fn has_told(player: &Player, reply: Reply, place: &Place) -> bool {
 }
 
 /// Does what a row says, and answers whether the reply and the place are right.
-fn plays_row(
-    ledger: &Ledger,
-    players: &mut [Player],
-    row: &Row,
-) -> Option<bool>
+fn plays_row(ledger: &Ledger, players: &mut [Player], row: &Row) -> Option<bool>
     requires { All (PlaysOn ledger.now) players.old }
     ensures { All (PlaysOn ledger.now) players.new }
 {
@@ -177,11 +173,7 @@ fn plays_row(
 }
 
 /// Does what the rows say, and answers whether all replies and places are right.
-fn plays_rows(
-    ledger: &Ledger,
-    players: &mut [Player],
-    rows: &[Row],
-) -> Option<bool>
+fn plays_rows(ledger: &Ledger, players: &mut [Player], rows: &[Row]) -> Option<bool>
     requires { All (PlaysOn ledger.now) players.old }
     ensures { All (PlaysOn ledger.now) players.new }
 {

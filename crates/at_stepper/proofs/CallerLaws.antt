@@ -17,9 +17,10 @@ use Rattle.at_object.specs.CallCounts.{CallCountTerms}
 use Rattle.at_object.specs.Passes.{PassTerms, Stands, seat_of}
 use Rattle.at_object.specs.Payments.{IsRefused, has_used_up}
 use Rattle.at_object.specs.declared.parts.Rest.{Rest}
-use Rattle.at_calling.proofs.Laws.Made.{process-CallMade}
+use Rattle.at_object.proofs.Laws.Calls.{process-CallMade}
 use Rattle.at_stepper.specs.Callers.{CallerTerms, IsAnswered, IsFile, IsStillCalling, caller_turns_left, calls_left_of, is_refused, most_turns, next_call, steps_in}
-use Rattle.at_calling.specs.Calling.{CallMade, CallingTerms, IsCallWithin, IsWay, StaysWithin, call_steps, call_turns_left, exchanges_made, exchanges_of, pass_before, refusal_in, steps_made, steps_of, with_one_call}
+use Rattle.at_calling.specs.Calling.{CallingTerms, IsCallWithin, IsWay, call_turns_left, exchanges_made, exchanges_of, pass_before, refusal_in, steps_made, steps_of, with_one_call}
+use Rattle.at_object.specs.Calls.{CallMade, StaysWithin, call_steps}
 use Rattle.at_stepper.specs.KeptCallers.{IsCallBegun, IsCallerOf, IsMakingSo, IsNextInMaking, caller_of, calls_answered, pass_in, stage_in}
 use Rattle.at_calling.specs.declared.call_stage.CallStage.{CallStage}
 use Rattle.at_calling.specs.declared.call_stage.CallStage.TheVariants.{PayAlone, PayShared, Read as ReadOn, Refuse, Refused}

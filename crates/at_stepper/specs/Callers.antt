@@ -11,7 +11,8 @@ use Rattle.at_board.specs.declared.words.TheConstants.{RECORD_WORDS}
 use Rattle.at_fold.specs.Sums.{TotalSums}
 use Rattle.at_log.specs.declared.receipt.Receipt.{Receipt}
 use Rattle.at_object.specs.Passes.{PassTerms, Stands, seat_of}
-use Rattle.at_calling.specs.Calling.{CallMade, IsWay, StaysWithin, call_steps, exchanges_made, exchanges_of, steps_made}
+use Rattle.at_calling.specs.Calling.{IsWay, exchanges_made, exchanges_of, steps_made}
+use Rattle.at_object.specs.Calls.{CallMade, StaysWithin, call_steps}
 use Rattle.at_calling.specs.declared.call_stage.CallStage.{CallStage}
 use Rattle.at_stepper.specs.declared.turned.Turned.{Turned}
 use Rattle.at_stepper.specs.declared.turned.Turned.TheVariants.{Answer, Step}

@@ -7,7 +7,6 @@ ghost use Rattle.at_ledger.specs.declared.call.Call.{Call};
 ghost use Rattle.at_object.specs.Passes.{IsPassOf, Stands};
 ghost use Rattle.at_workers.specs.Jobs.{calls_of};
 
-use crate::calls::make;
 use crate::gate::Gate;
 use at_ledger::Call;
 use at_log::Receipt;
@@ -118,7 +117,7 @@ impl Job {
         let line = index as u32 + 1;
         let call = self.calls[index].copy();
         gate.pass(process, line);
-        let receipt = make(ledger, &mut self.pass, &call);
+        let receipt = ledger.call(&mut self.pass, &call);
         gate.answered(process, line, &receipt.reply);
         self.receipts.push_reserved(receipt);
     }

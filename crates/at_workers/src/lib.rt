@@ -4,7 +4,6 @@
 //! order. A gate is told of each call, before and after it.
 #![tactic(auto)]
 
-mod calls;
 mod crossing;
 mod gate;
 mod halves;

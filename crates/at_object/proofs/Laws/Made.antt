@@ -32,7 +32,8 @@ use Rattle.at_log.specs.declared.receipt.Receipt.{Receipt}
 use Rattle.at_object.proofs.Laws.Alone.{moved-done, moved-short, nothing-done, nothing-short, reply-done, reply-short, short_or_done, told-done, told-short}
 use Rattle.at_object.proofs.Laws.InRound.{asks-round, loads-round, moved-round, placed-round, reply-round, told-round}
 use Rattle.at_object.proofs.Laws.Room.{HasSlot-is_owner}
-use Rattle.at_object.specs.Paid.{PaymentMade, PaysAlone, PaysInRound}
+use Rattle.at_object.specs.Paid.{PaysAlone, PaysInRound}
+use Rattle.at_object.specs.Calls.{PaymentMade}
 use Rattle.at_object.specs.Passes.{IsPass, PassTerms, Stands, asked_by, one_more_call, others_counted, sent_by}
 use Rattle.at_object.specs.Payments.{IsDecidedByBalance, IsRefused, has_used_up, prefix_before, refusal_of, reply_of}
 use Rattle.at_shared.specs.Settling.{StandsAfter}

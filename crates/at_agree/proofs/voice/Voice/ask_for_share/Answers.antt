@@ -24,8 +24,8 @@ invariant_of-self c =
     let more : length c.self.inside.receipts.items < 4 = search rules in
     IsVoice-made c.args.ledger.now c.self.inside.pass c.transfer-asked.new.pass c.self.inside.receipts.items
     c.push_reserved.new.self.items c.transfer-asked.result (vec_capacity c.self.inside.receipts)
-    (vec_capacity c.push_reserved.new.self) was c.transfer-asked.ensures.pass c.self.invariant more c.transfer-asked.ensures.stands
-    c.transfer-asked.ensures.calls c.transfer-asked.ensures.process c.push_reserved.ensures.items c.push_reserved.ensures.capacity
+    (vec_capacity c.push_reserved.new.self) was c.transfer-asked.ensures.pass c.self.invariant more c.transfer-asked.ensures.made.stands
+    c.transfer-asked.ensures.calls c.transfer-asked.ensures.made.process_is c.push_reserved.ensures.items c.push_reserved.ensures.capacity
 
 pub returns-clause-asked : goal.returns-clause-asked
 returns-clause-asked c =
@@ -41,7 +41,7 @@ returns-clause-asked c =
     let known = known_in council voice (vec_capacity c.self.inside.receipts) c.args.size p c.requires.size c.process.ensures was c.self.invariant in
     let asked : HasShareDecided c.args.size after.knows.seen p =
     HasShareDecided-asked council before after c.args.size p r earlier c.requires.council c.requires.size known c.process.ensures
-    (c.transfer-asked.ensures.call ∙ ap (λ n. Transfer (shared_account c.args.size) (spent_account c.args.size) n) c.from-share.ensures) unasked (c.transfer-asked.ensures.placed earlier c.self.invariant.stands) in
+    (c.transfer-asked.ensures.made.call_is ∙ ap (λ n. Transfer (shared_account c.args.size) (spent_account c.args.size) n) c.from-share.ensures) unasked (c.transfer-asked.ensures.made.placed earlier c.self.invariant.stands) in
     subst (HasShareDecided c.args.size after.knows.seen) (c.process.ensures ∙ ap (λ (v : VoiceTerms). process_of v) c.self.view_is) asked
 
 pub returns-clause-steps : goal.returns-clause-steps
@@ -49,7 +49,7 @@ returns-clause-steps c =
     let new = ap (λ (v : VoiceTerms). counted_anew v.pass c.transfer-asked.new.pass) c.self.view_is in
     omega (
       arith,
-      c.transfer-asked.ensures.steps,
+      c.transfer-asked.ensures.within.few,
       ap (λ (v : VoiceTerms). v.pass.steps) c.self.view_is,
       new,
       payment_steps-shared c.args.ledger.now c.args.size c.requires.council c.requires.size,
@@ -59,8 +59,8 @@ pub returns-clause-exchanges : goal.returns-clause-exchanges
 returns-clause-exchanges c =
     omega (
       arith,
-      c.transfer-asked.ensures.exchanges,
+      c.transfer-asked.ensures.within.decided,
       ap (λ (v : VoiceTerms). v.pass.exchanges) c.self.view_is,
-      c.transfer-asked.ensures.decides,
+      c.transfer-asked.ensures.within.few_decided,
       slots_of-council c.args.ledger.now c.args.size c.requires.council c.requires.size,
     )

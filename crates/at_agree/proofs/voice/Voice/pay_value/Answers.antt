@@ -22,8 +22,8 @@ invariant_of-self c =
     let more : length c.self.inside.receipts.items < 4 = omega (arith, ap (λ (rs : List Receipt). length rs) none) in
     IsVoice-made c.args.ledger.now c.self.inside.pass c.transfer-paid.new.pass c.self.inside.receipts.items
     c.push_reserved.new.self.items c.transfer-paid.result (vec_capacity c.self.inside.receipts)
-    (vec_capacity c.push_reserved.new.self) was c.transfer-paid.ensures.pass c.self.invariant more c.transfer-paid.ensures.stands
-    c.transfer-paid.ensures.calls c.transfer-paid.ensures.process c.push_reserved.ensures.items c.push_reserved.ensures.capacity
+    (vec_capacity c.push_reserved.new.self) was c.transfer-paid.ensures.pass c.self.invariant more c.transfer-paid.ensures.made.stands
+    c.transfer-paid.ensures.calls c.transfer-paid.ensures.made.process_is c.push_reserved.ensures.items c.push_reserved.ensures.capacity
 
 pub returns-clause-proposed : goal.returns-clause-proposed
 returns-clause-proposed c =
@@ -39,8 +39,8 @@ returns-clause-proposed c =
     let empty : Stands before [] = subst (λ (rs : List Receipt). Stands before rs) none c.self.invariant.stands in
     let proposed : HasProposed c.args.size after.knows.seen c.process-process.result c.args.value =
     HasProposed-paid council before after c.args.size c.process-process.result r c.args.value c.requires.council c.requires.size known
-    c.requires.value c.process-process.ensures c.transfer-paid.ensures.process c.transfer-paid.ensures.call
-    (c.transfer-paid.ensures.placed [] empty) (c.transfer-paid.ensures.stands [] empty) c.transfer-paid.ensures.alone in
+    c.requires.value c.process-process.ensures c.transfer-paid.ensures.made.process_is c.transfer-paid.ensures.made.call_is
+    (c.transfer-paid.ensures.made.placed [] empty) (c.transfer-paid.ensures.made.stands [] empty) c.transfer-paid.ensures.made.alone in
     subst (λ p. HasProposed c.args.size after.knows.seen p c.args.value)
     (c.process-process.ensures ∙ ap (λ (v : VoiceTerms). process_of v) c.self.view_is) proposed
 
@@ -53,7 +53,7 @@ returns-clause-steps c =
     let new = ap (λ (v : VoiceTerms). counted_anew v.pass c.transfer-paid.new.pass) c.self.view_is in
     omega (
       arith,
-      c.transfer-paid.ensures.steps,
+      c.transfer-paid.ensures.within.few,
       ap (λ (v : VoiceTerms). v.pass.steps) c.self.view_is,
       new,
       payment_steps-own c.args.ledger.now c.args.size c.process-process.result c.requires.council c.requires.size known,
@@ -65,6 +65,6 @@ returns-clause-exchanges c =
     let was : IsPassOf c.self.inside.pass c.args.ledger.now = search rules in
     let known = known_in c.args.ledger.now voice (vec_capacity c.self.inside.receipts) c.args.size c.process-process.result
     c.requires.size c.process-process.ensures was c.self.invariant in
-    c.transfer-paid.ensures.exchanges_single
+    c.transfer-paid.ensures.within.none
     (is_shared-own c.args.ledger.now c.args.size c.process-process.result c.requires.council c.requires.size known)
     ∙ ap (λ (v : VoiceTerms). v.pass.exchanges) c.self.view_is

@@ -4,7 +4,7 @@ use Rattle.at_history.specs.Moves.{AreRuns}
 use Rattle.at_board.specs.Knowledge.Seats.{IsKept}
 use Rattle.at_closing.specs.BetweenCalls.{IsBetweenCalls}
 use Rattle.at_object.proofs.Laws.Made.{PaymentMade-refused}
-use Rattle.at_object.specs.Paid.{PaymentMade}
+use Rattle.at_object.specs.Calls.{PaymentMade}
 use Rattle.at_object.specs.Passes.{PassTerms}
 use Rattle.at_object.proofs.ledger.Ledger.pay_by_call.Goals.{After-refuse}
 use Rattle.at_object.proofs.ledger.Ledger.pay_by_call.Goals as goal

@@ -10,7 +10,8 @@ use Rattle.at_object.proofs.Laws.InRound.{IsPass-round}
 use Rattle.at_object.proofs.Laws.Made.{PaymentMade-round, others-le, seated_pass}
 use Rattle.at_object.proofs.Laws.Looked.{between-IsPass}
 use Rattle.at_object.proofs.Laws.Room.{HasSlot-is_owner, MayStoreRequest-room}
-use Rattle.at_object.specs.Paid.{PaymentMade, PaysInRound}
+use Rattle.at_object.specs.Paid.{PaysInRound}
+use Rattle.at_object.specs.Calls.{PaymentMade}
 use Rattle.at_object.specs.Passes.{PassTerms}
 use Rattle.at_object.specs.Payments.{has_used_up}
 use Rattle.at_shared.specs.Helpings.{decides_on}

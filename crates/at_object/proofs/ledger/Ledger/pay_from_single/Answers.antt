@@ -10,7 +10,8 @@ use Rattle.at_log.specs.Receipts.{payout_of}
 use Rattle.at_object.proofs.Laws.Alone.{IsPass-alone, asking-alone, decided-alone}
 use Rattle.at_object.proofs.Laws.Made.{PaymentMade-alone, others-le, seated_pass}
 use Rattle.at_object.proofs.Laws.Room.{sent-room}
-use Rattle.at_object.specs.Paid.{PaymentMade, PaysAlone}
+use Rattle.at_object.specs.Paid.{PaysAlone}
+use Rattle.at_object.specs.Calls.{PaymentMade}
 use Rattle.at_object.specs.Passes.{IsPass, PassTerms}
 use Rattle.at_object.specs.Payments.{has_used_up}
 use Rattle.at_single.specs.Standing.{IsOnlyOwner}

@@ -1,15 +1,28 @@
-use Rattle.std.proofs.Common.{◌≡◌, ◌≤◌, ◌*◌, sym, ap, subst, ◌∙◌, arith, length}
-use Rattle.at_history.specs.Fronts.{place}
+use Rattle.std.proofs.Common.{rules, ◌≡◌, ℕ, ◌+◌, ◌-◌, ◌≤◌, ◌*◌, ◌++◌, List, [], ◌∷◌, sym, ap, subst, ◌∙◌, arith, length}
+use Rattle.std.proofs.lemmas.List.Sums.{get_or-le-sum_by}
+use Rattle.std.specs.Prelude.{slice_index, sum}
+use Rattle.at_ledger.specs.declared.call.Reply.TheVariants.{Balance}
+use Rattle.at_history.specs.Balances.{balance_after}
+use Rattle.at_history.specs.Fronts.{place, prefix_of}
 use Rattle.at_history.specs.Rounds.{owns_of}
-use Rattle.at_board.specs.Knowledge.Seats.{BoardTerms}
+use Rattle.at_board.specs.Knowledge.Seats.{BoardTerms, SeatTerms}
+use Rattle.at_board.specs.declared.knowledge.Asking.{Asking}
 use Rattle.at_board.specs.declared.knowledge.Knowledge.{Knowledge}
+use Rattle.at_board.specs.declared.words.TheConstants.{RECORD_WORDS}
 use Rattle.at_closing.proofs.Laws.Calls.{StandsBehind-front, length-prefix_of-le}
 use Rattle.at_log.specs.Placed.{IsPlaced}
 use Rattle.at_log.specs.Receipts.{is_at_own, is_at_round}
 use Rattle.at_log.specs.Told.{Told, key_of}
 use Rattle.at_object.proofs.Laws.Looked.{IsPass-HasLoaded, Told-HasLoaded, owns_of-HasLoaded}
-use Rattle.at_object.specs.Passes.{PassTerms}
+use Rattle.at_log.specs.declared.receipt.Receipt.{Receipt}
+use Rattle.at_object.proofs.Laws.Within.{read_or_refused}
+use Rattle.at_object.specs.Passes.{PassTerms, Stands, others_counted, sent_by}
+use Rattle.at_shared.proofs.Laws.Started.{asking_on-HasLoaded}
+use Rattle.at_shared.specs.Helpings.{decides_on}
+use Rattle.at_shared.specs.Settling.{StandsAfter}
+use Rattle.at_snapshot.specs.Snapshots.{IsSnapshot, snapshot_steps}
 use Rattle.at_single.specs.Standing.{front_behind}
+use Rattle.at_object.proofs.ledger.Ledger.read.Goals.{After-known-2}
 use Rattle.at_object.proofs.ledger.Ledger.read.Goals as goal
 
 -- what the seat knew of the book is what the ledger has
@@ -23,15 +36,18 @@ invariant_of-pass c =
     IsPass-HasLoaded c.self.inside.board.book v c.read_account-receipt.new.seat.knows c.known.ensures.seat c.known-2.ensures.seat book told.board.book
     told.at_front.loads c.pass.inside.totals c.read_account-receipt.new.totals c.pass.inside.sent c.pass.invariant told.counted told.own_counted
 
-pub returns-clause-placed : goal.returns-clause-placed
-returns-clause-placed c = λ earlier stands.
+-- the receipt is right after the earlier ones
+placed : (c : After-known-2) → (earlier : List Receipt)
+    → IsPlaced c.args.self.now.book c.args.pass.now.knows.first c.read_account-receipt.new.seat.knows.seen earlier c.read_account-receipt.result
+placed c = λ earlier.
     let w : Knowledge = c.read_account-receipt.new.seat.knows in
     subst (λ (t : BoardTerms). IsPlaced t.book c.args.pass.now.knows.first w.seen earlier c.read_account-receipt.result) c.self.view_is
     (subst (λ (t : PassTerms). IsPlaced c.self.inside.board.book t.knows.first w.seen earlier c.read_account-receipt.result) c.pass.view_is
     (c.read_account-receipt.ensures.placed earlier))
 
-pub returns-clause-after_seen : goal.returns-clause-after_seen
-returns-clause-after_seen c = λ previous.
+-- it stands after all that was seen
+after_seen : (c : After-known-2) → StandsAfter (length c.args.pass.now.knows.seen) c.read_account-receipt.new.seat.knows c.read_account-receipt.result
+after_seen c = λ previous.
     let w : Knowledge = c.read_account-receipt.new.seat.knows in
     let r = c.read_account-receipt.result in
     let front = front_behind w r.at in
@@ -42,8 +58,10 @@ returns-clause-after_seen c = λ previous.
       ap (λ (t : PassTerms). length t.knows.seen) c.pass.view_is,
     )
 
-pub returns-clause-stands : goal.returns-clause-stands
-returns-clause-stands c = λ earlier stands.
+-- and with the earlier ones
+stands : (c : After-known-2) → (earlier : List Receipt) → Stands c.args.pass.now earlier
+    → let w : Knowledge = c.read_account-receipt.new.seat.knows in Told w.book w.first w.seen (earlier ++ c.read_account-receipt.result ∷ [])
+stands c = λ earlier stands.
     let told = c.read_account-receipt.ensures in
     let v : Knowledge = c.pass.inside.seat.knows in
     let w : Knowledge = c.read_account-receipt.new.seat.knows in
@@ -61,8 +79,9 @@ returns-clause-stands c = λ earlier stands.
     (ap is_at_own told.at_front.at_front) (ap is_at_round told.at_front.at_front)
 
 -- no own record was published
-pub returns-clause-sent : goal.returns-clause-sent
-returns-clause-sent c =
+sent : (c : After-known-2)
+    → let w : Knowledge = c.read_account-receipt.new.seat.knows in owns_of w.first w.seen ≡ sent_by c.args.pass.now
+sent c =
     let told = c.read_account-receipt.ensures in
     let v : Knowledge = c.pass.inside.seat.knows in
     let w : Knowledge = c.read_account-receipt.new.seat.knows in
@@ -73,3 +92,71 @@ returns-clause-sent c =
     ∙ (owns_of-HasLoaded c.self.inside.board.book v w c.known.ensures.seat c.known-2.ensures.seat book told.board.book told.at_front.loads
     c.pass.inside.totals c.read_account-receipt.new.totals c.pass.inside.sent c.pass.invariant
     ∙ ap (λ (t : Knowledge). owns_of t.first t.seen) same)
+
+-- few steps were made: what was counted before of the own records is among all that was counted
+few : (c : After-known-2) → let w : SeatTerms = c.read_account-receipt.new.seat in let was = c.args.pass.now in
+    w.steps ≤ was.steps + snapshot_steps c.args.self.now.book.processes
+    + RECORD_WORDS * ((sum c.read_account-receipt.new.totals.upto - slice_index c.read_account-receipt.new.totals.upto w.knows.first) - others_counted was)
+few c =
+    let told = c.read_account-receipt.ensures in
+    let was = c.pass.inside.totals in
+    let first = c.pass.inside.seat.knows.first in
+    let among : slice_index was.upto first ≤ sum was.upto =
+    get_or-le-sum_by (λ (n : ℕ). n) was.upto first 0 (omega (arith, c.known.ensures.seat.known, c.pass.invariant.counted.processes)) in
+    omega (
+      arith,
+      told.steps,
+      among,
+      c.pass.invariant.own_counted,
+      told.own_counted,
+      told.more,
+      ap (λ (t : PassTerms). t.steps) c.pass.view_is,
+      ap (λ (t : PassTerms). others_counted t) c.pass.view_is,
+      ap (λ (t : BoardTerms). snapshot_steps t.book.processes) c.self.view_is,
+    )
+
+-- no exchange was made
+decides : (c : After-known-2) (a : ℕ) → decides_on c.read_account-receipt.new.seat.knows a ≡ decides_on c.args.pass.now.knows a
+decides c a =
+    let told = c.read_account-receipt.ensures in
+    let v : Knowledge = c.pass.inside.seat.knows in
+    ap (λ (t : Asking). t.decides) (asking_on-HasLoaded c.self.inside.board.book v c.read_account-receipt.new.seat.knows a
+    (omega (arith, c.known.ensures.seat.one_part)) told.at_front.loads)
+    ∙ ap (λ (t : PassTerms). decides_on t.knows a) c.pass.view_is
+
+pub returns-clause-made : goal.returns-clause-made
+returns-clause-made c =
+    let d : After-known-2 = (goal.at.returns-clause-made c).After-known-2 in
+    let told = c.read_account-receipt.ensures in
+    let w : Knowledge = c.read_account-receipt.new.seat.knows in
+    let r = c.read_account-receipt.result in
+    let front = front_behind w r.at in
+    record {
+      call_is = told.call;
+      at_front = told.at_front.at_front;
+      reply = subst (λ (t : BoardTerms). r.reply ≡ Balance (balance_after t.book (prefix_of front w.seen) c.args.account)) c.self.view_is told.reply;
+      snapshot = subst (λ (t : BoardTerms). IsSnapshot t.book c.args.pass.now.knows w front) c.self.view_is
+          (subst (λ (t : PassTerms). IsSnapshot c.self.inside.board.book t.knows w front) c.pass.view_is told.snapshot);
+      placed = λ earlier _. placed d earlier;
+      stands = stands d;
+      after_seen = after_seen d;
+      begins = search rules;
+      history = search rules;
+      process_is = search rules;
+      asked = search rules;
+      sent = sent d;
+      counted = search rules;
+    }
+
+pub returns-clause-within : goal.returns-clause-within
+returns-clause-within c =
+    let d : After-known-2 = (goal.at.returns-clause-within c).After-known-2 in
+    let told = c.read_account-receipt.ensures in
+    record {
+      few = few d;
+      refused = λ refused. absurd (read_or_refused c.read_account-receipt.result _ told.reply refused);
+      decided = omega (arith, told.exchanges, ap (λ (t : PassTerms). t.exchanges) c.pass.view_is, decides d c.args.account);
+      none = λ _. told.exchanges ∙ ap (λ (t : PassTerms). t.exchanges) c.pass.view_is;
+      few_decided = omega (arith, decides d c.args.account);
+      decides_elsewhere = λ a apart. decides d a;
+    }

@@ -1,0 +1,41 @@
+-- What a call leaves of its pass, whichever call it is: the fields that payments and reads have alike.
+use Rattle.std.proofs.Common.{◌≡◌, ◌++◌, List, [], ◌∷◌}
+use Rattle.at_ledger.specs.Book.{BookTerms}
+use Rattle.at_ledger.specs.declared.call.Call.{Call}
+use Rattle.at_ledger.specs.declared.call.Call.TheVariants.{Pay, Read, Transfer}
+use Rattle.at_history.specs.Publications.{IsPrefix}
+use Rattle.at_log.specs.Placed.{IsPlaced}
+use Rattle.at_log.specs.declared.receipt.Receipt.{Receipt}
+use Rattle.at_object.specs.Calls.{CallMade}
+use Rattle.at_object.specs.Passes.{PassTerms, Stands}
+
+module _ (b : BookTerms) (before after : PassTerms) where
+  -- the receipt has the call
+  pub call-CallMade : (call : Call) (r : Receipt) → CallMade b before after call r → r.call ≡ call
+  call-CallMade (Transfer from to amount) r made = made.call_is
+  call-CallMade (Read account) r made = made.call_is
+  call-CallMade (Pay from targets) r made = made.call_is
+
+  -- it is right after the earlier ones, and stands with them
+  pub placed-CallMade : (call : Call) (r : Receipt) → CallMade b before after call r
+      → (earlier : List Receipt) → Stands before earlier → IsPlaced b before.knows.first after.knows.seen earlier r
+  placed-CallMade (Transfer from to amount) r made = made.placed
+  placed-CallMade (Read account) r made = made.placed
+  placed-CallMade (Pay from targets) r made = made.placed
+
+  pub stands-CallMade : (call : Call) (r : Receipt) → CallMade b before after call r
+      → (earlier : List Receipt) → Stands before earlier → Stands after (earlier ++ r ∷ [])
+  stands-CallMade (Transfer from to amount) r made = made.stands
+  stands-CallMade (Read account) r made = made.stands
+  stands-CallMade (Pay from targets) r made = made.stands
+
+  -- what was seen is still seen, by the same process
+  pub begins-CallMade : (call : Call) (r : Receipt) → CallMade b before after call r → IsPrefix before.knows.seen after.knows.seen
+  begins-CallMade (Transfer from to amount) r made = made.begins
+  begins-CallMade (Read account) r made = made.begins
+  begins-CallMade (Pay from targets) r made = made.begins
+
+  pub process-CallMade : (call : Call) (r : Receipt) → CallMade b before after call r → after.knows.first ≡ before.knows.first
+  process-CallMade (Transfer from to amount) r made = made.process_is
+  process-CallMade (Read account) r made = made.process_is
+  process-CallMade (Pay from targets) r made = made.process_is
