@@ -5,7 +5,7 @@ ghost use Rattle.at_board.specs.Counting.{raised};
 
 /// How many steps were made, and how many of them were exchanges. At its largest number each stays. Only this crate makes one
 /// and counts on it, so that no step of a seat is left out.
-#[derive(Clone, Copy, Drop)]
+#[derive(Drop)]
 pub(crate) struct StepCounts {
     pub(crate) steps: u64,
     pub(crate) exchanges: u64,
