@@ -17,7 +17,7 @@ use Rattle.at_broadcast.specs.Messages.{IsMessageOn, MessageList, list_of, messa
 use Rattle.at_broadcast.specs.Node.{left}
 use Rattle.at_broadcast.specs.Progress.{IsProgress, messages_of, no_sender, sender_of}
 use Rattle.at_broadcast.specs.Sender.{IsSender, SenderState, message_counted, stored}
-use Rattle.at_broadcast.specs.Validated.{IsValid, Reached, went, raised}
+use Rattle.at_broadcast.specs.Validated.{IsValid, Reached, went, raised_at}
 use Rattle.at_broadcast.specs.Validated.Reached.{raise}
 use Rattle.at_broadcast.proofs.BalanceLaws.{covers-from_balance_at}
 use Rattle.at_broadcast.proofs.MessageLaws.{Reached-with_message, message_of-new, message_of-other}
@@ -25,7 +25,7 @@ use Rattle.at_broadcast.proofs.MoveLaws.{get_or-moved, less, moved, sum-moved}
 use Rattle.at_broadcast.proofs.RangeLaws.{sum_by-take_none}
 use Rattle.at_broadcast.proofs.ReachedLaws.{IsCounted, IsCounted-Reached, after-Reached, length-Reached}
 use Rattle.at_broadcast.proofs.SenderLaws.{IsSender-message_counted, IsSender-stored}
-use Rattle.at_broadcast.proofs.SumLaws.{part, sum_of_first-le, sum_of_first-raised, sum_of_first-same, sum_of_first-with_message}
+use Rattle.at_broadcast.proofs.SumLaws.{part, sum_of_first-le, sum_of_first-raised_at, sum_of_first-same, sum_of_first-with_message}
 
 -- the list of a sender is what is kept of it
 pub list_of-messages_of : (senders : List SenderState) (p : ℕ) → list_of (messages_of senders) p ≡ (sender_of senders p).messages
@@ -201,10 +201,10 @@ Stands-valid b counts senders balances p m is valid =
       known = is.known p (get_or counts p 0) m valid.delivered;
     }
 
-pub IsProgress-raised : (b : BookTerms) (counts : List ℕ) (senders : List SenderState) (balances : List ℕ) (p : ℕ) (m : Message)
+pub IsProgress-raised_at : (b : BookTerms) (counts : List ℕ) (senders : List SenderState) (balances : List ℕ) (p : ℕ) (m : Message)
     → IsProgress b counts senders balances → IsValid b (messages_of senders) counts p m
-    → IsProgress b (raised counts p) (set senders p (message_counted (sender_of senders p) (get_or counts p 0) m.to m.amount)) (moved balances m.from m.to m.amount)
-IsProgress-raised b counts senders balances p m is valid =
+    → IsProgress b (raised_at counts p) (set senders p (message_counted (sender_of senders p) (get_or counts p 0) m.to m.amount)) (moved balances m.from m.to m.amount)
+IsProgress-raised_at b counts senders balances p m is valid =
     let messages : List MessageList = messages_of senders in
     let number : ℕ = get_or counts p 0 in
     let new : SenderState = message_counted (sender_of senders p) number m.to m.amount in
@@ -219,9 +219,9 @@ IsProgress-raised b counts senders balances p m is valid =
       book = is.book;
       counted = length-set counts p (number + 1) ∙ is.counted;
       sized = length-set senders p new ∙ is.sized;
-      credits = λ q q_in. elim (cases_eq q p) as (λ _. IsSender (length b.accounts) (get_or (raised counts p) q 0) (sender_of (set senders p new) q)) [
-        | inl e ↦ subst (λ (q : ℕ). IsSender (length b.accounts) (get_or (raised counts p) q 0) (sender_of (set senders p new) q)) (sym e)
-            (subst (IsSender (length b.accounts) (get_or (raised counts p) p 0)) (sym (get_or-set_same senders p new no_sender stands.sender))
+      credits = λ q q_in. elim (cases_eq q p) as (λ _. IsSender (length b.accounts) (get_or (raised_at counts p) q 0) (sender_of (set senders p new) q)) [
+        | inl e ↦ subst (λ (q : ℕ). IsSender (length b.accounts) (get_or (raised_at counts p) q 0) (sender_of (set senders p new) q)) (sym e)
+            (subst (IsSender (length b.accounts) (get_or (raised_at counts p) p 0)) (sym (get_or-set_same senders p new no_sender stands.sender))
             (subst (λ (n : ℕ). IsSender (length b.accounts) n new) (sym (get_or-set_same counts p (number + 1) 0 counted))
             (IsSender-message_counted (length b.accounts) number (sender_of senders p) m (is.credits p stands.process) stands.number stands.message stands.known.target)))
         | inr apart ↦
@@ -229,14 +229,14 @@ IsProgress-raised b counts senders balances p m is valid =
             (subst (IsSender (length b.accounts) (get_or counts q 0)) (sym (get_or-set_other senders p q new no_sender apart)) (is.credits q q_in))
       ];
       known = λ q k other e. is.known q k other (ap (λ (l : List MessageList). message_of l q k) (sym same) ∙ e);
-      reached = subst (λ (l : List MessageList). ∥ Reached b l (raised counts p) ∥₁) (sym same) (∥∥₁_map is.reached (λ r. raise counts p m r valid));
+      reached = subst (λ (l : List MessageList). ∥ Reached b l (raised_at counts p) ∥₁) (sym same) (∥∥₁_map is.reached (λ r. raise counts p m r valid));
       balanced = length-set (less balances m.from m.amount) m.to (get_or (less balances m.from m.amount) m.to 0 + m.amount)
           ∙ (length-set balances m.from (get_or balances m.from 0 - m.amount) ∙ is.balanced);
       balance = λ a a_in.
-          let credits = ap (λ (l : List MessageList). sum_of_first (message_credit a) l (raised counts p)) same
-          ∙ (sum_of_first-raised (message_credit a) messages counts p refl listed counted ∙ ap (λ x. sum_of_first (message_credit a) messages counts + message_credit a x) valid.delivered) in
-          let debits = ap (λ (l : List MessageList). sum_of_first (message_debit a) l (raised counts p)) same
-          ∙ (sum_of_first-raised (message_debit a) messages counts p refl listed counted ∙ ap (λ x. sum_of_first (message_debit a) messages counts + message_debit a x) valid.delivered) in
+          let credits = ap (λ (l : List MessageList). sum_of_first (message_credit a) l (raised_at counts p)) same
+          ∙ (sum_of_first-raised_at (message_credit a) messages counts p refl listed counted ∙ ap (λ x. sum_of_first (message_credit a) messages counts + message_credit a x) valid.delivered) in
+          let debits = ap (λ (l : List MessageList). sum_of_first (message_debit a) l (raised_at counts p)) same
+          ∙ (sum_of_first-raised_at (message_debit a) messages counts p refl listed counted ∙ ap (λ x. sum_of_first (message_debit a) messages counts + message_debit a x) valid.delivered) in
           omega (arith, credits, debits, is.balance a a_in, get_or-moved balances m.from m.to m.amount a from_in to_in covered);
       total = sum-moved balances m.from m.to m.amount from_in to_in covered ∙ is.total;
     }
@@ -245,12 +245,12 @@ IsProgress-raised b counts senders balances p m is valid =
 pub IsProgress-raised_to : (b : BookTerms) (counts : List ℕ) (senders : List SenderState) (balances : List ℕ) (p : ℕ) (m : Message)
     → IsProgress b counts senders balances → IsValid b (messages_of senders) counts p m
     → (new : SenderState) (counts_new balances_new : List ℕ) → new ≡ message_counted (sender_of senders p) (get_or counts p 0) m.to m.amount
-    → counts_new ≡ raised counts p → balances_new ≡ moved balances m.from m.to m.amount → IsProgress b counts_new (set senders p new) balances_new
+    → counts_new ≡ raised_at counts p → balances_new ≡ moved balances m.from m.to m.amount → IsProgress b counts_new (set senders p new) balances_new
 IsProgress-raised_to b counts senders balances p m is valid new counts_new balances_new new_is counts_is balances_is =
     subst (λ (s : SenderState). IsProgress b counts_new (set senders p s) balances_new) (sym new_is)
     (subst (λ (l : List ℕ). IsProgress b l (set senders p (message_counted (sender_of senders p) (get_or counts p 0) m.to m.amount)) balances_new) (sym counts_is)
-    (subst (λ (l : List ℕ). IsProgress b (raised counts p) (set senders p (message_counted (sender_of senders p) (get_or counts p 0) m.to m.amount)) l) (sym balances_is)
-    (IsProgress-raised b counts senders balances p m is valid)))
+    (subst (λ (l : List ℕ). IsProgress b (raised_at counts p) (set senders p (message_counted (sender_of senders p) (get_or counts p 0) m.to m.amount)) l) (sym balances_is)
+    (IsProgress-raised_at b counts senders balances p m is valid)))
 
 -- the credit that is added
 pub message_counted-same : (sender read : SenderState) (number number_m to to_m amount amount_m : ℕ) → read ≡ sender → number ≡ number_m → to ≡ to_m → amount ≡ amount_m
@@ -269,6 +269,6 @@ moved-same balances from from_m to to_m amount amount_m was then from_is to_is a
     ∙ (ap (λ a. moved balances a to amount) from_is ∙ (ap (λ a. moved balances from_m a amount) to_is ∙ ap (λ x. moved balances from_m to_m x) amount_is)))
 
 -- one message less is left
-pub left-raised : (counts : List ℕ) (p : ℕ) → p < length counts → get_or counts p 0 < MESSAGES_MAX → left (raised counts p) + 1 ≡ left counts
-left-raised counts p counted room =
+pub left-raised_at : (counts : List ℕ) (p : ℕ) → p < length counts → get_or counts p 0 < MESSAGES_MAX → left (raised_at counts p) + 1 ≡ left counts
+left-raised_at counts p counted room =
     omega (arith, room, sum_by-set (λ n. MESSAGES_MAX - n) counts p (get_or counts p 0 + 1) 0 counted)

@@ -5,7 +5,7 @@ use Rattle.std.proofs.lemmas.List.{length-replicate}
 use Rattle.at_ledger.specs.Book.{BookTerms, account_of}
 use Rattle.at_broadcast.specs.declared.message.Message.{Message}
 use Rattle.at_broadcast.specs.Messages.{MessageList, message_of}
-use Rattle.at_broadcast.specs.Validated.{IsValid, Reached, raised}
+use Rattle.at_broadcast.specs.Validated.{IsValid, Reached, raised_at}
 use Rattle.at_broadcast.specs.Validated.Reached.{zeros, raise}
 
 pub length-Reached : (b : BookTerms) (messages : List MessageList) (counts : List ℕ) → Reached b messages counts → length counts ≡ b.processes
@@ -19,10 +19,10 @@ get_or-zeros (suc n) zero = refl
 get_or-zeros (suc n) (suc p) = get_or-zeros n p
 
 -- raising an entry leaves it where it was or one above
-raised-le : (counts : List ℕ) (p : ℕ) → get_or (raised counts p) p 0 ≤ get_or counts p 0 + 1
-raised-le [] p = omega arith
-raised-le (c ∷ counts) zero = omega arith
-raised-le (c ∷ counts) (suc p) = raised-le counts p
+raised_at-le : (counts : List ℕ) (p : ℕ) → get_or (raised_at counts p) p 0 ≤ get_or counts p 0 + 1
+raised_at-le [] p = omega arith
+raised_at-le (c ∷ counts) zero = omega arith
+raised_at-le (c ∷ counts) (suc p) = raised_at-le counts p
 
 -- a counted message: it was delivered, and its sender is the one owner of its source
 pub record IsCounted (b : BookTerms) (messages : List MessageList) (p number : ℕ) : Type 0 where
@@ -43,9 +43,9 @@ IsCounted-Reached b messages _ (raise counts p m before valid) q number below =
               owner = valid.owner ∙ ap (λ (i : ℕ). i ∷ []) (sym same);
             }
             | inr apart ↦
-                let here : get_or (raised counts p) q 0 ≡ get_or (raised counts p) p 0 = ap (λ (i : ℕ). get_or (raised counts p) i 0) same in
+                let here : get_or (raised_at counts p) q 0 ≡ get_or (raised_at counts p) p 0 = ap (λ (i : ℕ). get_or (raised_at counts p) i 0) same in
                 let was : get_or counts q 0 ≡ get_or counts p 0 = ap (λ (i : ℕ). get_or counts i 0) same in
-                IsCounted-Reached b messages counts before q number (omega (arith, raised-le counts p, here, was, apart, below))
+                IsCounted-Reached b messages counts before q number (omega (arith, raised_at-le counts p, here, was, apart, below))
           ]
       | inr apart ↦
           let same = get_or-set_other counts p q (get_or counts p 0 + 1) 0 apart in
@@ -68,11 +68,11 @@ pub below-Reached : (b : BookTerms) (messages : List MessageList) (counts stuck 
     → length stuck ≡ b.processes → ((p : ℕ) (m : Message) → ¬ IsValid b messages stuck p m) → (p : ℕ) → get_or counts p 0 ≤ get_or stuck p 0
 below-Reached b messages _ stuck zeros sized none q = omega (arith, get_or-zeros b.processes q)
 below-Reached b messages _ stuck (raise counts p m before valid) sized none q =
-    elim (cases_eq q p) as (λ _. get_or (raised counts p) q 0 ≤ get_or stuck q 0) [
+    elim (cases_eq q p) as (λ _. get_or (raised_at counts p) q 0 ≤ get_or stuck q 0) [
       | inl same ↦
-          subst (λ (q : ℕ). get_or (raised counts p) q 0 ≤ get_or stuck q 0) (sym same)
-          (elim (cases_lt (get_or counts p 0) (get_or stuck p 0)) as (λ _. get_or (raised counts p) p 0 ≤ get_or stuck p 0) [
-            | inl more ↦ omega (arith, raised-le counts p)
+          subst (λ (q : ℕ). get_or (raised_at counts p) q 0 ≤ get_or stuck q 0) (sym same)
+          (elim (cases_lt (get_or counts p 0) (get_or stuck p 0)) as (λ _. get_or (raised_at counts p) p 0 ≤ get_or stuck p 0) [
+            | inl more ↦ omega (arith, raised_at-le counts p)
             | inr most ↦
                 let level : get_or counts p 0 ≡ get_or stuck p 0 = omega (arith, below-Reached b messages counts stuck before sized none p) in
                 absurd (none p m (record {

@@ -5,7 +5,7 @@ use Rattle.std.proofs.lemmas.Bool.{cases_eq}
 use Rattle.std.proofs.lemmas.List.{take-set-le}
 use Rattle.at_broadcast.specs.declared.message.Message.{Message}
 use Rattle.at_broadcast.specs.Messages.{MessageList, list_of, message_of, sum_of_first, with_message}
-use Rattle.at_broadcast.specs.Validated.{raised}
+use Rattle.at_broadcast.specs.Validated.{raised_at}
 use Rattle.at_broadcast.proofs.RangeLaws.{range-le, range-one, range-same, sum_by-take_le, sum_by-take_more}
 
 -- the sum over the first messages of one sender
@@ -26,15 +26,15 @@ sum_of_first-le weight messages counts others none less =
     (λ p low high. sum_by-take_le weight (list_of messages p) (get_or counts p 0) (get_or others p 0) none (less p (omega arith)))
 
 -- one more message of one sender
-pub sum_of_first-raised : (weight : Option Message → ℕ) (messages : List MessageList) (counts : List ℕ) (p : ℕ) → weight None ≡ 0
+pub sum_of_first-raised_at : (weight : Option Message → ℕ) (messages : List MessageList) (counts : List ℕ) (p : ℕ) → weight None ≡ 0
     → p < length messages → p < length counts
-    → sum_of_first weight messages (raised counts p) ≡ sum_of_first weight messages counts + weight (message_of messages p (get_or counts p 0))
-sum_of_first-raised weight messages counts p none known counted =
+    → sum_of_first weight messages (raised_at counts p) ≡ sum_of_first weight messages counts + weight (message_of messages p (get_or counts p 0))
+sum_of_first-raised_at weight messages counts p none known counted =
     let c : ℕ = get_or counts p 0 in
-    let same : get_or (raised counts p) p 0 ≡ c + 1 = get_or-set_same counts p (c + 1) 0 counted in
-    let here : part weight messages (raised counts p) p ≡ part weight messages counts p + weight (message_of messages p c) =
+    let same : get_or (raised_at counts p) p 0 ≡ c + 1 = get_or-set_same counts p (c + 1) 0 counted in
+    let here : part weight messages (raised_at counts p) p ≡ part weight messages counts p + weight (message_of messages p c) =
     ap (λ k. sum_by weight (take k (list_of messages p))) (same ∙ add-one c) ∙ sum_by-take_more weight (list_of messages p) c none in
-    range-one (part weight messages counts) (part weight messages (raised counts p)) 0 (length messages) p (weight (message_of messages p c))
+    range-one (part weight messages counts) (part weight messages (raised_at counts p)) 0 (length messages) p (weight (message_of messages p c))
     (omega arith) (omega (arith, known)) here
     (λ q apart. ap (λ k. sum_by weight (take k (list_of messages q))) (get_or-set_other counts p q (c + 1) 0 apart))
 

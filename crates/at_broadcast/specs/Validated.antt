@@ -28,14 +28,14 @@ pub record IsValid (b : BookTerms) (messages : List MessageList) (counts : List 
   pub balance : pos m.amount ≤ℤ balance_at b messages m.deps m.from
 
 -- one more of a process
-abbrev pub raised : List ℕ → ℕ → List ℕ
-raised counts p = slice_set counts p (slice_index counts p + 1)
+abbrev pub raised_at : List ℕ → ℕ → List ℕ
+raised_at counts p = slice_set counts p (slice_index counts p + 1)
 
 -- counts that are reached from zeros by raising entries whose next message is valid
 pub data Reached (b : BookTerms) (messages : List MessageList) : List ℕ → Type 0 where
   zeros : Reached b messages (replicate b.processes 0)
   raise : (counts : List ℕ) (p : ℕ) (m : Message) → Reached b messages counts → IsValid b messages counts p m
-      → Reached b messages (raised counts p)
+      → Reached b messages (raised_at counts p)
 
 -- the validated counts: they are reached by raising, and there no next message is valid
 pub record IsClosed (b : BookTerms) (messages : List MessageList) (counts : List ℕ) : Type 0 where

@@ -2,10 +2,9 @@
 
 ghost use Rattle.std.specs.Prelude.{◌≡◌, ◌+◌, ◌≤◌, ◌<◌, ◌^◌, ◌↔◌, ℕ, pos, ◌≤ℤ◌, [], ◌∷◌, length, replicate, slice_index, None, Some, IsTrue, IfOk, OnOk, OnErr, IfSome, IfNone, is_some};
 ghost use Rattle.at_base.specs.Counts.{Covers};
-ghost use Rattle.at_board.specs.Counting.{raised};
 ghost use Rattle.at_ledger.specs.Book.{account_of};
 ghost use Rattle.at_broadcast.specs.Messages.{IsMessageOn, message_credit, message_of, sum_of_first, with_message};
-ghost use Rattle.at_broadcast.specs.Validated.{IsValid, balance_at, raised};
+ghost use Rattle.at_broadcast.specs.Validated.{IsValid, balance_at, raised_at};
 ghost use Rattle.at_broadcast.specs.declared.message.Message.{Message};
 ghost use Rattle.at_broadcast.specs.declared.message.TheConstants.{MESSAGES_MAX};
 
@@ -124,7 +123,7 @@ impl Progress {
         requires { IsValidNext self.old transfer }
         ensures book { self.new.book ≡ self.old.book }
         ensures messages { self.new.messages ≡ self.old.messages }
-        ensures validated { self.new.validated ≡ raised self.old.validated transfer.sender }
+        ensures validated { self.new.validated ≡ raised_at self.old.validated transfer.sender }
         ensures left { left self.new.validated + 1 ≡ left self.old.validated }
     {
         let number = self.validated.get(transfer.sender);

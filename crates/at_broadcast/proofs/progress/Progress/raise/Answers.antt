@@ -5,9 +5,9 @@ use Rattle.at_broadcast.specs.declared.message.Message.{Message}
 use Rattle.at_broadcast.specs.Node.{NodeState, left}
 use Rattle.at_broadcast.specs.Progress.{messages_of, no_sender, sender_of}
 use Rattle.at_broadcast.specs.Sender.{SenderState, credits_to, message_counted}
-use Rattle.at_broadcast.specs.Validated.{IsValid, raised}
+use Rattle.at_broadcast.specs.Validated.{IsValid, raised_at}
 use Rattle.at_broadcast.proofs.MoveLaws.{moved-le}
-use Rattle.at_broadcast.proofs.ProgressLaws.{Stands, Stands-valid, IsProgress-raised_to, covered-valid, message_counted-same, left-raised, messages_of-message_counted, moved-same}
+use Rattle.at_broadcast.proofs.ProgressLaws.{Stands, Stands-valid, IsProgress-raised_to, covered-valid, message_counted-same, left-raised_at, messages_of-message_counted, moved-same}
 use Rattle.at_broadcast.proofs.SenderLaws.{room-next}
 use Rattle.at_broadcast.proofs.progress.Progress.raise.Goals.{After-index_mut, After-index_mut-2, After-index_mut-3}
 use Rattle.at_broadcast.proofs.progress.Progress.raise.Goals as goal
@@ -112,10 +112,10 @@ returns-clause-left c =
     let here = stands at.After-index_mut in
     let counts : List ℕ = c.self.inside.validated in
     let p : ℕ = c.args.transfer.sender in
-    let raised_is : c.set.new.self ≡ raised counts p = c.set.ensures ∙ ap (λ n. set counts p (n + 1)) c.get-number.ensures in
+    let raised_is : c.set.new.self ≡ raised_at counts p = c.set.ensures ∙ ap (λ n. set counts p (n + 1)) c.get-number.ensures in
     omega (
       arith,
       ap left raised_is,
       ap (λ (s : NodeState). left s.validated) c.self.view_is,
-      left-raised counts p (omega (arith, here.process, c.self.invariant.counted)) (omega (arith, here.number, (c.self.invariant.credits p here.process).messages)),
+      left-raised_at counts p (omega (arith, here.process, c.self.invariant.counted)) (omega (arith, here.number, (c.self.invariant.credits p here.process).messages)),
     )
