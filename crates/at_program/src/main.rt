@@ -11,8 +11,6 @@
 
 ghost use Rattle.std.specs.Prelude.{◌≢◌, IfErr};
 
-mod asked;
-mod replaying;
 mod serving;
 #[cfg(test)]
 mod test_rows;
