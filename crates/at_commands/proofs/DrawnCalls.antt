@@ -12,7 +12,8 @@ use Rattle.at_ledger.specs.Run.{Whole, lines_of}
 use Rattle.at_ledger.specs.declared.call.Call.{Call}
 use Rattle.at_ledger.specs.declared.call.Call.TheVariants.{Transfer, Read, Pay}
 use Rattle.at_ledger.specs.declared.call.Line.{Line}
-use Rattle.at_commands.specs.Generator.{MayMake, account_drawn, amount_drawn, call_drawn, calls_drawn, drawn, files_made, kind_drawn, next_state, source_drawn, state_after_calls}
+use Rattle.at_loading.specs.Limits.{MayMake}
+use Rattle.at_commands.specs.Generator.{account_drawn, amount_drawn, call_drawn, calls_drawn, drawn, files_made, kind_drawn, next_state, source_drawn, state_after_calls}
 use Rattle.at_verify.specs.Right.{IsPlayable}
 use Rattle.at_commands.specs.Made.{call_debit, over_files}
 use Rattle.at_commands.proofs.LineSums.{sum_by-Whole}

@@ -9,7 +9,8 @@ use Rattle.at_ledger.specs.Book.{rounds_of, total_of}
 use Rattle.at_ledger.specs.Draft.{account_fault, owner_fault, owners_fault, with_account}
 use Rattle.at_ledger.specs.Limits.{most_accounts, most_owners, most_rounds}
 use Rattle.std.proofs.Math.Nat.{mul-le-mul, mul_comm, suc-mul}
-use Rattle.at_commands.specs.Generator.{MayMake, book_of_own_accounts, joint_terms, own_terms}
+use Rattle.at_loading.specs.Limits.{MayMake}
+use Rattle.at_commands.specs.Generator.{book_of_own_accounts, joint_terms, own_terms}
 
 -- an owner that is a process, high enough and not the ninth has no fault
 owner_fault_none : (processes account count least owner : ℕ) → owner < processes → least ≤ owner → count < 8 → owner_fault processes account count least owner ≡ None

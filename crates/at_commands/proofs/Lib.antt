@@ -2,7 +2,6 @@ pub mod Laws
 pub mod JobsMade
 pub mod JobsRun
 pub mod NodesGiven
-pub mod ValueLaws
 pub mod GeneratorLaws
 pub mod GeneratedBook
 pub mod LineSums
@@ -11,3 +10,4 @@ pub mod SettledRuns
 pub mod DrawnCalls
 pub mod GeneratedRuns
 pub mod LoadedTexts
+pub mod Endings

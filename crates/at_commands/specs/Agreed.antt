@@ -1,7 +1,6 @@
 -- What `agree` prints, and the closed ledger that it keeps.
-use Rattle.std.specs.Prelude.{◌≡◌, ℕ, List, ◌++◌, length, Option, Some}
+use Rattle.std.specs.Prelude.{◌≡◌, ℕ, List, length, Option, Some}
 use Rattle.at_agree.specs.Agreement.{IsAgreement}
-use Rattle.at_io.specs.Sink.{TakesPrefix}
 use Rattle.at_object.specs.Closings.{ClosedTerms}
 use Rattle.at_report.specs.Report.{agreed_line}
 
@@ -17,15 +16,3 @@ pub record PrintsAgreed (values : List ℕ) (kept : Option ClosedTerms) (text : 
   pub value : ℕ
   pub agreed : KeepsAgreement values kept value
   pub printed : text ≡ agreed_line (length values) value
-
--- a sink has taken all of such a text
-pub record TookAgreed (values : List ℕ) (kept : Option ClosedTerms) (before after : List ℕ) : Type 0 where
-  pub text : List ℕ
-  pub printed : PrintsAgreed values kept text
-  pub taken : after ≡ before ++ text
-
--- a sink has taken a prefix of such a text, and not all of it
-pub record TookAgreedPrefix (values : List ℕ) (kept : Option ClosedTerms) (before after : List ℕ) : Type 0 where
-  pub text : List ℕ
-  pub printed : PrintsAgreed values kept text
-  pub taken : TakesPrefix before after text

@@ -1,12 +1,8 @@
 -- What a command prints.
-use Rattle.std.specs.Prelude.{◌≡◌, ◌⊎◌, ℕ, List, ◌++◌, length, sum, sum_by, Ok, Option, Some, None}
+use Rattle.std.specs.Prelude.{◌≡◌, ℕ, List, length, sum, sum_by, Ok, Option, Some, None}
 use Rattle.at_ledger.specs.Book.{total_of}
 use Rattle.at_ledger.specs.Run.{Legal, Whole, last_state}
-use Rattle.at_io.specs.Faults.{Rose}
-use Rattle.at_io.specs.Sink.{TakesPrefix}
 use Rattle.at_object.specs.Closings.{ClosedTerms}
-use Rattle.at_report.specs.FaultText.{fault_line}
-use Rattle.at_report.specs.declared.status.Status.{Status}
 use Rattle.at_report.specs.Report.{report_text, checked_line}
 use Rattle.at_loading.specs.Loading.{Files, Loaded, Spelled, loaded}
 use Rattle.at_commands.specs.Running.{IsClosedAfter, journal_of}
@@ -34,20 +30,3 @@ pub record PrintsSpelled (files : Files) (form : Form) (kept : Option ClosedTerm
   pub read : loaded files form ≡ Ok what
   pub spelled : Spelled files form what
   pub printed : Prints form.command what kept text
-
--- a sink has taken all of such a text
-pub record TookAll (files : Files) (form : Form) (kept : Option ClosedTerms) (before after : List ℕ) : Type 0 where
-  pub text : List ℕ
-  pub printed : PrintsSpelled files form kept text
-  pub taken : after ≡ before ++ text
-
--- a sink has taken a prefix of such a text, and not all of it
-pub record TookPrefix (files : Files) (form : Form) (kept : Option ClosedTerms) (before after : List ℕ) : Type 0 where
-  pub text : List ℕ
-  pub printed : PrintsSpelled files form kept text
-  pub taken : TakesPrefix before after text
-
--- a sink has taken the line of a refusal, or a prefix of it where a fault of the sink was counted
-abbrev pub TookLine : Status → ℕ → ℕ → List ℕ → List ℕ → Type 0
-TookLine refusal faults faults_now before after =
-    (after ≡ before ++ fault_line refusal) ⊎ (Rose faults faults_now × TakesPrefix before after (fault_line refusal))

@@ -1,13 +1,12 @@
 -- A report beside the files that it should be the report of, and what `verify` says of it.
-use Rattle.std.specs.Prelude.{◌≡◌, ℕ, ◌+◌, ◌⊎◌, ⊤, Bool, true, List, ◌++◌, length, Result, Ok, Err}
+use Rattle.std.specs.Prelude.{◌≡◌, ℕ, ◌+◌, ◌⊎◌, ⊤, Bool, true, List, length, Result, Ok, Err}
 use Rattle.at_files.specs.Results.{and_then}
-use Rattle.at_io.specs.Sink.{TakesPrefix}
 use Rattle.at_ledger.specs.declared.call.Call.{Call}
 use Rattle.at_report.specs.Report.{verified_line}
 use Rattle.at_report.specs.declared.status.Status.{Status}
-use Rattle.at_report.specs.declared.status.Status.TheVariants.{Done, NoMemory, NotLegal, WriteFault}
+use Rattle.at_report.specs.declared.status.Status.TheVariants.{NoMemory, NotLegal}
 use Rattle.at_verify.specs.Right.{IsFirstWrong, IsReport, IsReportOf}
-use Rattle.at_loading.specs.Faults.{MayRefuse}
+use Rattle.at_loading.specs.Faults.{IsWritten, MayRefuse}
 use Rattle.at_loading.specs.Loading.{Files, HoldsFile, Loaded, MayReach, Spelled, fetched, loaded, loaded_shown}
 use Rattle.at_loading.specs.Words.{Verifying}
 use Rattle.at_loading.specs.declared.loading.Loaded as program
@@ -63,18 +62,6 @@ pub record VerifiesSpelled (files : Files) (asked : Verifying) (text : List ℕ)
   pub spelled : SpellsClaim files asked claim
   pub verifies : Verifies claim text
 
--- a sink has taken all of such a text
-pub record TookVerified (files : Files) (asked : Verifying) (before after : List ℕ) : Type 0 where
-  pub text : List ℕ
-  pub printed : VerifiesSpelled files asked text
-  pub taken : after ≡ before ++ text
-
--- a sink has taken a prefix of such a text, and not all of it
-pub record TookVerifiedPrefix (files : Files) (asked : Verifying) (before after : List ℕ) : Type 0 where
-  pub text : List ℕ
-  pub printed : VerifiesSpelled files asked text
-  pub taken : TakesPrefix before after text
-
 -- no fault was counted, and where the files are told, this is the first wrong line of their claim
 abbrev pub IsNotLegal : Bool → Result Claim Status → ℕ → ℕ → ℕ → Type 0
 IsNotLegal tells expected before now line = (now ≡ before) × (tells ≡ true → (c : Claim) × (expected ≡ Ok c) × IsWrongAt c line)
@@ -102,7 +89,7 @@ MayReachClaim tells files asked file = MayReach tells files asked.checked file �
 -- what is answered of a claim: where its report is right the text is written or not, and else the first wrong line is told
 abbrev pub AnswersClaim : Claim → Status → Type 0
 AnswersClaim c (NotLegal line) = IsWrongAt c line
-AnswersClaim c answer = IsRight c × ((answer ≡ Done) ⊎ (answer ≡ WriteFault))
+AnswersClaim c answer = IsRight c × IsWritten answer
 
 -- what is answered where no fault of the shelf is counted: the refusal that its files bring, or what is answered of their claim
 abbrev pub AnswersVerify : Result Claim Status → Status → Type 0

@@ -1,5 +1,5 @@
 -- What the files of `deliver` hold, and what it prints of them.
-use Rattle.std.specs.Prelude.{◌≡◌, ℕ, ◌+◌, ◌⊎◌, Bool, true, List, ◌++◌, length, Result, Ok, Err}
+use Rattle.std.specs.Prelude.{◌≡◌, ℕ, ◌+◌, ◌⊎◌, Bool, true, List, length, Result, Ok, Err}
 use Rattle.at_files.specs.Deliveries.{Delivers, deliveries_of}
 use Rattle.at_files.specs.Records.{file_records}
 use Rattle.at_files.specs.Results.{and_then}
@@ -7,7 +7,6 @@ use Rattle.at_files.specs.declared.deliveries.Delivery.{Delivery}
 use Rattle.at_files.specs.declared.deliveries.OrderWhy.{OrderWhy}
 use Rattle.at_files.specs.declared.spelled.BadRecord.{BadRecord}
 use Rattle.at_broadcast.specs.declared.message.Message.{Message}
-use Rattle.at_io.specs.Sink.{TakesPrefix}
 use Rattle.at_report.specs.Lines.{Word}
 use Rattle.at_report.specs.declared.status.Status.{Status}
 use Rattle.at_report.specs.declared.status.Status.TheVariants as status
@@ -69,18 +68,6 @@ pub record DeliversSpelled (files : Files) (asked : Delivering) (text : List ℕ
   pub read : broadcast files asked ≡ Ok what
   pub spelled : SpellsBroadcast files asked what
   pub printed : PrintsNodes what text
-
--- a sink has taken all of such a text
-pub record TookDelivered (files : Files) (asked : Delivering) (before after : List ℕ) : Type 0 where
-  pub text : List ℕ
-  pub printed : DeliversSpelled files asked text
-  pub taken : after ≡ before ++ text
-
--- a sink has taken a prefix of such a text, and not all of it
-pub record TookDeliveredPrefix (files : Files) (asked : Delivering) (before after : List ℕ) : Type 0 where
-  pub text : List ℕ
-  pub printed : DeliversSpelled files asked text
-  pub taken : TakesPrefix before after text
 
 -- the file with this number is that of the deliveries, and where the files are told all others are good
 pub record ReachesOrder (tells : Bool) (files : Files) (asked : Delivering) (file : ℕ) : Type 0 where

@@ -1,19 +1,11 @@
 -- The book and the calls that a number gives.
-use Rattle.std.specs.Prelude.{ℕ, ◌+◌, ◌*◌, ◌/◌, ◌%◌, ◌^◌, ◌≤◌, ◌==◌, List, [], ◌∷◌, ◌++◌, map, zero, suc, if◌then◌else◌}
-use Rattle.at_commands.specs.Limits.{most_made_calls, most_made_processes}
+use Rattle.std.specs.Prelude.{ℕ, ◌+◌, ◌*◌, ◌/◌, ◌%◌, ◌^◌, ◌==◌, List, [], ◌∷◌, ◌++◌, map, zero, suc, if◌then◌else◌}
 use Rattle.std.specs.List.{range_with_len}
 use Rattle.at_ledger.specs.Account.{AccountTerms}
 use Rattle.at_ledger.specs.Book.{BookTerms}
 use Rattle.at_ledger.specs.Draft.{terms_with}
 use Rattle.at_ledger.specs.declared.call.Call.{Call}
 use Rattle.at_ledger.specs.declared.call.Call.TheVariants.{Transfer, Read}
-
--- how many processes there may be, and how many calls of each
-pub record MayMake (processes calls : ℕ) : Type 0 where
-  pub some_process : 1 ≤ processes
-  pub few_processes : processes ≤ most_made_processes
-  pub some_call : 1 ≤ calls
-  pub few_calls : calls ≤ most_made_calls
 
 -- the state after a draw
 unfoldable pub next_state : ℕ → ℕ

@@ -1,7 +1,6 @@
-pub mod Limits
+pub mod Outcome
 pub mod Writing
 pub mod Generator
-pub mod Unread
 pub mod Running
 pub mod Answer
 pub mod Made
@@ -9,3 +8,5 @@ pub mod Agreed
 pub mod Claims
 pub mod Nodes
 pub mod Delivering
+pub mod Replaying
+pub mod Answered

@@ -13,7 +13,7 @@ use Rattle.at_object.specs.Closings.{ClosedTerms}
 use Rattle.at_report.specs.Summary.{is_read, summary_of, summary_text}
 use Rattle.at_commands.specs.Generator.{book_made, files_made}
 use Rattle.at_commands.specs.Running.{IsClosedAfter, journal_of}
-use Rattle.at_commands.specs.declared.unread.Making.{Making}
+use Rattle.at_loading.specs.declared.numbers.Making.{Making}
 
 -- what the call brings to the account once it is done
 abbrev pub call_credit : ℕ → Call → ℕ

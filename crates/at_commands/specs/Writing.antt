@@ -1,9 +1,11 @@
 -- What writing a text comes to.
-use Rattle.std.specs.Prelude.{◌≡◌, ℕ, ◌⊎◌, Bool, true, List, ◌++◌}
+use Rattle.std.specs.Prelude.{◌≡◌, ℕ, ◌⊎◌, Bool, true, List, ◌++◌, Result, Ok, Err}
 use Rattle.at_io.specs.Faults.{Rose}
 use Rattle.at_io.specs.Sink.{TakesPrefix}
+use Rattle.at_report.specs.FaultText.{fault_line}
 use Rattle.at_report.specs.declared.status.Status.{Status}
 use Rattle.at_report.specs.declared.status.Status.TheVariants.{Done, WriteFault}
+use Rattle.at_commands.specs.Outcome.{Outcome}
 
 -- the sink has taken the text and counted no fault, or it has counted one and taken a prefix
 pub record Wrote (tells : Bool) (text before after : List ℕ) (faults faults_now : ℕ) (answer : Status) : Type 0 where
@@ -12,3 +14,25 @@ pub record Wrote (tells : Bool) (text before after : List ℕ) (faults faults_no
   pub fault : answer ≡ WriteFault → Rose faults faults_now
   pub prefix : answer ≡ WriteFault → tells ≡ true → TakesPrefix before after text
   pub answers : (answer ≡ Done) ⊎ (answer ≡ WriteFault)
+
+-- how a command ends that has made this, whose text is given so: the text is written, or the refusal is answered
+abbrev pub Ends : {A : Type 0} → (A → List ℕ) → Result A Status → Outcome → Type 0
+Ends text (Ok a) o = Wrote o.tells (text a) o.before o.after o.faults o.faults_now o.answer
+Ends text (Err refusal) o = o.answer ≡ refusal
+
+-- a sink has taken all of a text that is printed so
+pub record TookAll (prints : List ℕ → Type 0) (before after : List ℕ) : Type 0 where
+  pub text : List ℕ
+  pub printed : prints text
+  pub taken : after ≡ before ++ text
+
+-- a sink has taken a prefix of such a text, and not all of it
+pub record TookPrefix (prints : List ℕ → Type 0) (before after : List ℕ) : Type 0 where
+  pub text : List ℕ
+  pub printed : prints text
+  pub taken : TakesPrefix before after text
+
+-- a sink has taken the line of a refusal, or a prefix of it where a fault of the sink was counted
+abbrev pub TookLine : Status → ℕ → ℕ → List ℕ → List ℕ → Type 0
+TookLine refusal faults faults_now before after =
+    (after ≡ before ++ fault_line refusal) ⊎ (Rose faults faults_now × TakesPrefix before after (fault_line refusal))

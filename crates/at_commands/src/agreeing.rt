@@ -1,22 +1,22 @@
 //! What `agree` makes of the values that its words propose.
 
-ghost use Rattle.std.specs.Prelude.{◌≡◌, ◌≢◌, ◌^◌, ◌<◌, ◌≤◌, ◌⊎◌, ℕ, length, true, None, All, IfOk};
-ghost use Rattle.at_agree.specs.Council.{IsSize};
+ghost use Rattle.std.specs.Prelude.{◌≡◌, ◌≢◌, ◌≤◌, None, IfOk};
 ghost use Rattle.at_io.specs.Faults.{Rose};
-ghost use Rattle.at_commands.specs.Agreed.{KeepsAgreement, PrintsAgreed, TookAgreed, TookAgreedPrefix};
+ghost use Rattle.at_commands.specs.Agreed.{PrintsAgreed};
+ghost use Rattle.at_commands.specs.Answered.{AnsweredAgree};
+ghost use Rattle.at_loading.specs.Limits.{MayAgreeOn};
 
-use crate::ending::{Printed, finish};
+use crate::ending::{Printed, end_keeping};
 use at_agree::agree;
 use at_io::Sink;
 use at_object::{Closed, NoMemory};
-use at_report::{Status, UsageFault, agreed_text};
+use at_report::{Status, agreed_text};
 use std::alloc::Global;
 use std::thread::Threads;
 
 /// The line of the value that the processes agree on, each of which proposes one of the values, by threads.
 fn agreement<R: Threads + Sync>(rt: &R, alloc: Global, values: &[u64]) -> Result<Printed, NoMemory>
-    requires size { IsSize (length values.now) }
-    requires below { All (λ value. value < 2 ^ 32) values.now }
+    requires { MayAgreeOn values.now }
     ensures { IfOk result (λ p. PrintsAgreed values.now p.closed p.text.items) }
 {
     let agreed = agree(rt, alloc, values)?;
@@ -36,26 +36,26 @@ pub fn answer_agree<R: Threads + Sync, O: Sink>(
     kept: &mut Option<Closed>,
 ) -> Status
     requires kept { kept.old ≡ None }
-    requires size { IsSize (length values.now) }
-    requires below { All (λ value. value < 2 ^ 32) values.now }
+    requires may { MayAgreeOn values.now }
     ensures later { O.faults out.old ≤ O.faults out.new }
     ensures as_told { O.tells out.new ≡ O.tells out.old }
-    ensures form { result ≢ Status.Usage UsageFault.Words }
-    ensures done { result ≡ Status.Done → O.tells out.old ≡ true
-        → TookAgreed values.now kept.new (O.taken out.old) (O.taken out.new) }
+    ensures answered { AnsweredAgree values.now
+        (record {
+          tells = O.tells out.old;
+          before = O.taken out.old;
+          after = O.taken out.new;
+          faults = O.faults out.old;
+          faults_now = O.faults out.new;
+          kept = kept.new;
+          answer = result;
+        }) }
     ensures done_kept { result ≡ Status.Done → O.faults out.new ≡ O.faults out.old }
     ensures write_fault { result ≡ Status.WriteFault → Rose (O.faults out.old) (O.faults out.new) }
-    ensures prefix { result ≡ Status.WriteFault → O.tells out.old ≡ true
-        → TookAgreedPrefix values.now kept.new (O.taken out.old) (O.taken out.new) }
-    ensures answers { (result ≡ Status.Done) ⊎ ((result ≡ Status.WriteFault)
-        ⊎ (result ≡ Status.NoMemory)) }
-    ensures ran { (result ≡ Status.Done) ⊎ (result ≡ Status.WriteFault)
-        → (value : ℕ) × KeepsAgreement values.now kept.new value }
     ensures untouched { result ≢ Status.Done → result ≢ Status.WriteFault
         → (out.new ≡ out.old) × (kept.new ≡ None) }
 {
     let Ok(printed) = agreement(rt, alloc, values) else {
         return Status::NoMemory;
     };
-    finish(printed, out, kept)
+    end_keeping(Ok(printed), out, kept)
 }

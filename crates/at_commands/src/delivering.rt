@@ -1,24 +1,25 @@
 //! What `deliver` prints of a broadcast.
 
-ghost use Rattle.std.specs.Prelude.{◌≡◌, ◌≢◌, ◌⊎◌, ◌+◌, ◌^◌, ◌<◌, ◌≤◌, ℕ, All, length, map, true, Ok, Err, IfOk, IfErr, OnOk};
+ghost use Rattle.std.specs.Prelude.{◌≡◌, ◌≢◌, ◌+◌, ◌^◌, ◌<◌, ◌≤◌, ℕ, All, length, map, true, None, Ok, Err, IfOk, IfErr, OnOk};
 ghost use Rattle.at_files.specs.Deliveries.{IsDelivery};
 ghost use Rattle.at_files.specs.Limits.{most_messages};
 ghost use Rattle.at_io.specs.Faults.{Rose};
 ghost use Rattle.at_io.specs.Shelf.{SameFiles};
-ghost use Rattle.at_commands.specs.Delivering.{DeliversLoaded, DeliversSpelled, MayReachBroadcast, SpellsOrder, TookDelivered, TookDeliveredPrefix, broadcast, order_beside, order_loaded};
+ghost use Rattle.at_commands.specs.Answered.{AnsweredDeliver};
+ghost use Rattle.at_commands.specs.Delivering.{DeliversLoaded, DeliversSpelled, MayReachBroadcast, SpellsOrder, broadcast, order_beside, order_loaded};
 ghost use Rattle.at_loading.specs.Faults.{HasFurtherNumbers, Kind, MayRefuseOf};
 ghost use Rattle.at_loading.specs.Loading.{all_shown, contents_of};
-ghost use Rattle.at_commands.specs.Nodes.{AreSent, Broadcast, PrintsNodes, counts_of};
+ghost use Rattle.at_commands.specs.Nodes.{AreSent, PrintsNodes, counts_of};
 ghost use Rattle.at_loading.specs.Words.{delivering_shown};
 
-use crate::ending::write_text;
+use crate::ending::end;
 use crate::nodes::nodes_given;
 use at_base::Counts;
 use at_broadcast::Message;
 use at_files::{Delivery, ReadOrderFault, read_deliveries};
 use at_io::{Shelf, Sink};
 use at_loading::{Delivering, Loaded, Messages, fetch_file, load_all};
-use at_report::{Status, UsageFault, nodes_text};
+use at_report::{Status, nodes_text};
 use std::alloc::{AllocError, Global};
 
 /// How many messages each process has.
@@ -173,33 +174,28 @@ pub fn answer_deliver<F: Shelf, O: Sink>(
     ensures later { (F.faults shelf.old ≤ F.faults shelf.new)
         × (O.faults out.old ≤ O.faults out.new) }
     ensures as_told { O.tells out.new ≡ O.tells out.old }
-    ensures form { result ≢ Status.Usage UsageFault.Words }
-    ensures done { result ≡ Status.Done → F.tells shelf.old ≡ true → O.tells out.old ≡ true
-        → TookDelivered (F.file shelf.old) (delivering_shown asked.now) (O.taken out.old)
-        (O.taken out.new) }
+    ensures answered { AnsweredDeliver (delivering_shown asked.now)
+        (record {
+          tells = F.tells shelf.old;
+          files = F.file shelf.old;
+          faults = F.faults shelf.old;
+          faults_now = F.faults shelf.new;
+        })
+        (record {
+          tells = O.tells out.old;
+          before = O.taken out.old;
+          after = O.taken out.new;
+          faults = O.faults out.old;
+          faults_now = O.faults out.new;
+          kept = None;
+          answer = result;
+        }) }
     ensures done_kept { result ≡ Status.Done
         → (F.faults shelf.new ≡ F.faults shelf.old) × (O.faults out.new ≡ O.faults out.old) }
     ensures write_fault { result ≡ Status.WriteFault
         → Rose (O.faults out.old) (O.faults out.new) × (F.faults shelf.new ≡ F.faults shelf.old) }
-    ensures prefix { result ≡ Status.WriteFault → F.tells shelf.old ≡ true → O.tells out.old ≡ true
-        → TookDeliveredPrefix (F.file shelf.old) (delivering_shown asked.now) (O.taken out.old)
-        (O.taken out.new) }
-    ensures refusal { result ≢ Status.Done → result ≢ Status.WriteFault
-        → MayRefuseOf Kind.messages (F.tells shelf.old)
-        (broadcast (F.file shelf.old) (delivering_shown asked.now)) (F.faults shelf.old)
-        (F.faults shelf.new) result }
-    ensures reached { (file : ℕ) → result ≡ Status.ReadFault file
-        → MayReachBroadcast (F.tells shelf.old) (F.file shelf.old) (delivering_shown asked.now)
-        file }
-    ensures numbered { HasFurtherNumbers (length asked.now.messages.now) result }
-    ensures loads { F.tells shelf.old ≡ true → (result ≡ Status.Done) ⊎ (result ≡ Status.WriteFault)
-        → (c : Broadcast)
-        × (broadcast (F.file shelf.old) (delivering_shown asked.now) ≡ Ok c) }
     ensures untouched { result ≢ Status.Done → result ≢ Status.WriteFault → out.new ≡ out.old }
 {
-    let text = match broadcast_text(alloc, shelf, asked) {
-        Ok(text) => text,
-        Err(refusal) => return refusal,
-    };
-    write_text(out, text.as_slice())
+    let made = broadcast_text(alloc, shelf, asked);
+    end(made, out)
 }

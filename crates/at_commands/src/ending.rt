@@ -1,7 +1,8 @@
-//! How each command ends: the text that it made is written, and the answer says whether all of it was.
+//! How each command ends: the text that it made is written, and the answer says whether all of it was; or its refusal is
+//! answered.
 
-ghost use Rattle.std.specs.Prelude.{◌≡◌, ◌≤◌};
-ghost use Rattle.at_commands.specs.Writing.{Wrote};
+ghost use Rattle.std.specs.Prelude.{◌≡◌, ◌≤◌, None, IfOk, IfErr};
+ghost use Rattle.at_commands.specs.Writing.{Ends, Wrote};
 
 use at_io::{Sink, put_all};
 use at_object::Closed;
@@ -15,7 +16,7 @@ pub struct Printed {
 }
 
 /// Writes a whole text that was made before.
-pub fn write_text<O: Sink>(out: &mut O, text: &[u8]) -> Status
+fn write_text<O: Sink>(out: &mut O, text: &[u8]) -> Status
     ensures later { O.faults out.old ≤ O.faults out.new }
     ensures as_told { O.tells out.new ≡ O.tells out.old }
     ensures wrote { Wrote (O.tells out.old) text.now (O.taken out.old) (O.taken out.new)
@@ -27,15 +28,54 @@ pub fn write_text<O: Sink>(out: &mut O, text: &[u8]) -> Status
     }
 }
 
-/// Keeps the closed ledger of what is printed, and writes the text.
-pub fn finish<O: Sink>(printed: Printed, out: &mut O, kept: &mut Option<Closed>) -> Status
+/// Ends a command that has made this text, or came to this refusal.
+pub fn end<O: Sink>(made: Result<Vec<u8>, Status>, out: &mut O) -> Status
     ensures later { O.faults out.old ≤ O.faults out.new }
     ensures as_told { O.tells out.new ≡ O.tells out.old }
-    ensures wrote { Wrote (O.tells out.old) printed.text.items (O.taken out.old) (O.taken out.new)
-        (O.faults out.old) (O.faults out.new) result }
-    ensures kept { kept.new ≡ printed.closed }
+    ensures ends { Ends (λ text. text.items) made
+        (record {
+          tells = O.tells out.old;
+          before = O.taken out.old;
+          after = O.taken out.new;
+          faults = O.faults out.old;
+          faults_now = O.faults out.new;
+          kept = None;
+          answer = result;
+        }) }
+    ensures untouched { IfErr made (λ _. out.new ≡ out.old) }
 {
-    let Printed { text, closed } = printed;
-    *kept = closed;
-    write_text(out, text.as_slice())
+    match made {
+        Ok(text) => write_text(out, text.as_slice()),
+        Err(refusal) => refusal,
+    }
+}
+
+/// The same of a command that makes calls on a ledger: this is kept, closed.
+pub fn end_keeping<O: Sink>(
+    made: Result<Printed, Status>,
+    out: &mut O,
+    kept: &mut Option<Closed>,
+) -> Status
+    ensures later { O.faults out.old ≤ O.faults out.new }
+    ensures as_told { O.tells out.new ≡ O.tells out.old }
+    ensures ends { Ends (λ p. p.text.items) made
+        (record {
+          tells = O.tells out.old;
+          before = O.taken out.old;
+          after = O.taken out.new;
+          faults = O.faults out.old;
+          faults_now = O.faults out.new;
+          kept = kept.new;
+          answer = result;
+        }) }
+    ensures kept { IfOk made (λ p. kept.new ≡ p.closed) }
+    ensures untouched { IfErr made (λ _. (out.new ≡ out.old) × (kept.new ≡ kept.old)) }
+{
+    match made {
+        Ok(Printed { text, closed }) => {
+            *kept = closed;
+            write_text(out, text.as_slice())
+        }
+        Err(refusal) => refusal,
+    }
 }

@@ -1,20 +1,21 @@
 //! What `verify` says of a report.
 
-ghost use Rattle.std.specs.Prelude.{◌≡◌, ◌≢◌, ◌⊎◌, ◌≤◌, ℕ, All, length, true, Ok, Err, IfOk, IfErr, OnOk};
+ghost use Rattle.std.specs.Prelude.{◌≡◌, ◌≢◌, ◌≤◌, ℕ, All, length, true, None, Err, IfOk, IfErr, OnOk};
 ghost use Rattle.at_files.specs.Names.{AreNamesOf};
 ghost use Rattle.at_io.specs.Faults.{Rose};
 ghost use Rattle.at_io.specs.Limits.{most_file_bytes};
 ghost use Rattle.at_io.specs.Shelf.{SameFiles};
 ghost use Rattle.at_verify.specs.Right.{IsPlayable, files_in};
 ghost use Rattle.at_loading.specs.Faults.{HasFurtherNumbers};
-ghost use Rattle.at_commands.specs.Claims.{IsRightClaim, MayReachClaim, MayRefuseClaim, RefusesClaim, TookVerified, TookVerifiedPrefix, Verifies, VerifiesSpelled, claim_shown, claimed};
+ghost use Rattle.at_commands.specs.Answered.{AnsweredVerify};
+ghost use Rattle.at_commands.specs.Claims.{MayReachClaim, MayRefuseClaim, RefusesClaim, Verifies, VerifiesSpelled, claim_shown, claimed};
 ghost use Rattle.at_loading.specs.Words.{verifying_shown};
 
-use crate::ending::write_text;
+use crate::ending::end;
 use at_io::{Shelf, Sink};
 use at_ledger::Call;
 use at_loading::{Loaded, Verifying, fetch_file, load};
-use at_report::{Status, UsageFault, verified_text};
+use at_report::{Status, verified_text};
 use at_verify::{Verdict, count_calls, verify};
 use std::alloc::Global;
 
@@ -88,31 +89,28 @@ pub fn answer_verify<F: Shelf, O: Sink>(
     ensures later { (F.faults shelf.old ≤ F.faults shelf.new)
         × (O.faults out.old ≤ O.faults out.new) }
     ensures as_told { O.tells out.new ≡ O.tells out.old }
-    ensures form { result ≢ Status.Usage UsageFault.Words }
-    ensures done { result ≡ Status.Done → F.tells shelf.old ≡ true → O.tells out.old ≡ true
-        → TookVerified (F.file shelf.old) (verifying_shown asked.now) (O.taken out.old)
-        (O.taken out.new) }
+    ensures answered { AnsweredVerify (verifying_shown asked.now)
+        (record {
+          tells = F.tells shelf.old;
+          files = F.file shelf.old;
+          faults = F.faults shelf.old;
+          faults_now = F.faults shelf.new;
+        })
+        (record {
+          tells = O.tells out.old;
+          before = O.taken out.old;
+          after = O.taken out.new;
+          faults = O.faults out.old;
+          faults_now = O.faults out.new;
+          kept = None;
+          answer = result;
+        }) }
     ensures done_kept { result ≡ Status.Done
         → (F.faults shelf.new ≡ F.faults shelf.old) × (O.faults out.new ≡ O.faults out.old) }
     ensures write_fault { result ≡ Status.WriteFault
         → Rose (O.faults out.old) (O.faults out.new) × (F.faults shelf.new ≡ F.faults shelf.old) }
-    ensures prefix { result ≡ Status.WriteFault → F.tells shelf.old ≡ true → O.tells out.old ≡ true
-        → TookVerifiedPrefix (F.file shelf.old) (verifying_shown asked.now) (O.taken out.old)
-        (O.taken out.new) }
-    ensures refusal { result ≢ Status.Done → result ≢ Status.WriteFault
-        → MayRefuseClaim (F.tells shelf.old)
-        (claimed (F.file shelf.old) (verifying_shown asked.now)) (F.faults shelf.old)
-        (F.faults shelf.new) result }
-    ensures reached { (file : ℕ) → result ≡ Status.ReadFault file
-        → MayReachClaim (F.tells shelf.old) (F.file shelf.old) (verifying_shown asked.now) file }
-    ensures numbered { HasFurtherNumbers (length asked.now.checked.payments.now) result }
-    ensures right { F.tells shelf.old ≡ true → (result ≡ Status.Done) ⊎ (result ≡ Status.WriteFault)
-        → IsRightClaim (claimed (F.file shelf.old) (verifying_shown asked.now)) }
     ensures untouched { result ≢ Status.Done → result ≢ Status.WriteFault → out.new ≡ out.old }
 {
-    let text = match claim_text(alloc, shelf, asked) {
-        Ok(text) => text,
-        Err(refusal) => return refusal,
-    };
-    write_text(out, text.as_slice())
+    let made = claim_text(alloc, shelf, asked);
+    end(made, out)
 }

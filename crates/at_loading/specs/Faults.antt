@@ -70,7 +70,11 @@ pub record IsFaultless (before now : ℕ) : Type 0 where
   pub kept : now ≡ before
   pub below : now ≢ 2 ^ 64 - 1
 
+-- all is done, or what could not be written whole was written as a prefix
+abbrev pub IsWritten : Status → Type 0
+IsWritten answer = (answer ≡ Done) ⊎ (answer ≡ WriteFault)
+
 -- what is answered where no fault of the shelf is counted: the refusal that its files bring, or else the text is written or not
 abbrev pub Answers : {A : Type 0} → Result A Status → Status → Type 0
 Answers (Err refusal) answer = answer ≡ refusal
-Answers (Ok l) answer = (answer ≡ Done) ⊎ (answer ≡ WriteFault)
+Answers (Ok l) answer = IsWritten answer

@@ -11,10 +11,8 @@
 
 ghost use Rattle.std.specs.Prelude.{◌≢◌, IfErr};
 
-mod asked;
 #[cfg(test)]
 mod gate_tests;
-mod replaying;
 mod serving;
 #[cfg(test)]
 mod test_rows;

@@ -1,0 +1,62 @@
+use Rattle.std.proofs.Common.{◌≡◌, ◌⊎◌, ◌∙◌, ℕ, true, None, Ok, List, Option, Vec, inl, inr, refl, string_bytes, length}
+use Rattle.std.specs.Global.{Global}
+use Rattle.std.specs.Result.{IfOk}
+use Rattle.std.proofs.lemmas.List.{length-map}
+use Rattle.at_loading.specs.Faults.{HasFurtherNumbers, IsWritten, MayRefuseOf}
+use Rattle.at_loading.specs.Faults.Kind.{messages}
+use Rattle.at_loading.specs.Words.{delivering_shown}
+use Rattle.at_loading.proofs.Laws.Exact.{MayRefuse-exact}
+use Rattle.at_loading.proofs.Laws.MayRefuse.{MayRefuse-loaded}
+use Rattle.at_commands.specs.Delivering.{DeliversSpelled, MayReachBroadcast, broadcast}
+use Rattle.at_commands.specs.Nodes.{Broadcast}
+use Rattle.at_commands.proofs.Laws.Deliveries.{broadcast-SpellsBroadcast}
+use Rattle.at_commands.proofs.Endings.{Ends-faults, Ends-kept, Ends-refusal, LeavesOf-Ends, Refuses-loading}
+use Rattle.at_commands.proofs.delivering.answer_deliver.Goals as goal
+
+abbrev text_of : Vec ℕ Global → List ℕ
+text_of p = p.items
+
+pub returns-clause-answered : goal.returns-clause-answered
+returns-clause-answered g c =
+    let tells = g.F.Shelf.tells c.args.shelf.now in
+    let files = g.F.Shelf.file c.args.shelf.now in
+    let before = g.F.Shelf.faults c.args.shelf.now in
+    let now = g.F.Shelf.faults c.broadcast_text-made.new.shelf in
+    let asked = delivering_shown c.args.asked.now in
+    let made = c.broadcast_text-made.result in
+    let does = c.broadcast_text-made.ensures in
+    let ends = c.end.ensures.ends in
+    let never = Refuses-loading messages tells (broadcast files asked) before now in
+    let left = LeavesOf-Ends text_of (λ text. DeliversSpelled files asked text) (λ refusal. MayRefuseOf messages tells (broadcast files asked) before now refusal) (λ file. MayReachBroadcast tells files asked file) (HasFurtherNumbers (length asked.messages)) tells made _ ends never tt tt (λ told. does.printed told) does.err does.reached
+    (rw (length-map c.args.asked.now.messages.now string_bytes) does.numbered) in
+    let loads : tells ≡ true → IsWritten c.end.result → (l : Broadcast) × (broadcast files asked ≡ Ok l) = λ told written. let spells = (left.printed told written).printed in (spells.what, spells.read) in
+    record {
+      done = left.done;
+      prefix = left.prefix;
+      loads = loads;
+      complete = λ what told spells shelf out. MayRefuse-loaded messages _ (broadcast files asked) what _ _ _ _ _ told (broadcast-SpellsBroadcast files asked what spells) shelf out (λ is. (Ends-faults text_of _ made _ ends never does.err (inr is)).1.fault is) left.refusal;
+      refusal = left.refusal;
+      exact = λ told faultless. MayRefuse-exact messages _ (broadcast files asked) _ _ _ told faultless loads left.refusal;
+      reached = left.reached;
+      numbered = left.numbered;
+      formed = left.formed;
+    }
+
+pub returns-clause-done_kept : goal.returns-clause-done_kept
+returns-clause-done_kept g c is =
+    let does = c.broadcast_text-made.ensures in
+    let never = Refuses-loading messages (g.F.Shelf.tells c.args.shelf.now) (broadcast (g.F.Shelf.file c.args.shelf.now) (delivering_shown c.args.asked.now)) (g.F.Shelf.faults c.args.shelf.now) (g.F.Shelf.faults c.broadcast_text-made.new.shelf) in (
+      Ends-kept text_of _ _ c.broadcast_text-made.result _ c.end.ensures.ends never does.err does.kept (inl is),
+      (Ends-faults text_of _ c.broadcast_text-made.result _ c.end.ensures.ends never does.err (inl is)).1.kept is,
+    )
+
+pub returns-clause-write_fault : goal.returns-clause-write_fault
+returns-clause-write_fault g c is =
+    let does = c.broadcast_text-made.ensures in
+    let never = Refuses-loading messages (g.F.Shelf.tells c.args.shelf.now) (broadcast (g.F.Shelf.file c.args.shelf.now) (delivering_shown c.args.asked.now)) (g.F.Shelf.faults c.args.shelf.now) (g.F.Shelf.faults c.broadcast_text-made.new.shelf) in (
+      (Ends-faults text_of _ c.broadcast_text-made.result _ c.end.ensures.ends never does.err (inr is)).1.fault is,
+      Ends-kept text_of _ _ c.broadcast_text-made.result _ c.end.ensures.ends never does.err does.kept (inr is),
+    )
+
+pub returns-clause-untouched : goal.returns-clause-untouched
+returns-clause-untouched g c undone unwritten = Ends-refusal text_of _ c.broadcast_text-made.result _ c.end.ensures.ends c.end.ensures.untouched undone unwritten

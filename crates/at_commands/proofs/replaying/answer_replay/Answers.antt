@@ -1,0 +1,61 @@
+use Rattle.std.proofs.Common.{◌≡◌, ◌⊎◌, ◌∙◌, ℕ, true, None, Ok, List, Option, Vec, inl, inr, refl, string_bytes, length}
+use Rattle.std.specs.Global.{Global}
+use Rattle.std.specs.Result.{IfOk}
+use Rattle.std.proofs.lemmas.List.{length-map}
+use Rattle.at_loading.specs.Faults.{HasFurtherNumbers, IsWritten, MayRefuseOf}
+use Rattle.at_loading.specs.Faults.Kind.{scheduled}
+use Rattle.at_loading.specs.Words.{replaying_shown}
+use Rattle.at_loading.proofs.Laws.Exact.{MayRefuse-exact}
+use Rattle.at_loading.proofs.Laws.MayRefuse.{MayRefuse-loaded}
+use Rattle.at_commands.specs.Replaying.{MayReachReplay, Replay, ReplaysSpelled, replay_loaded}
+use Rattle.at_commands.proofs.Laws.Replays.{replay_loaded-SpellsReplay}
+use Rattle.at_commands.proofs.Endings.{Ends-faults, Ends-kept, Ends-refusal, LeavesOf-Ends, Refuses-loading}
+use Rattle.at_commands.proofs.replaying.answer_replay.Goals as goal
+
+abbrev text_of : Vec ℕ Global → List ℕ
+text_of p = p.items
+
+pub returns-clause-answered : goal.returns-clause-answered
+returns-clause-answered g c =
+    let tells = g.F.Shelf.tells c.args.shelf.now in
+    let files = g.F.Shelf.file c.args.shelf.now in
+    let before = g.F.Shelf.faults c.args.shelf.now in
+    let now = g.F.Shelf.faults c.replay_text-made.new.shelf in
+    let asked = replaying_shown c.args.asked.now in
+    let made = c.replay_text-made.result in
+    let does = c.replay_text-made.ensures in
+    let ends = c.end.ensures.ends in
+    let never = Refuses-loading scheduled tells (replay_loaded files asked) before now in
+    let left = LeavesOf-Ends text_of (λ text. ReplaysSpelled files asked text) (λ refusal. MayRefuseOf scheduled tells (replay_loaded files asked) before now refusal) (λ file. MayReachReplay tells files asked file) (HasFurtherNumbers (length asked.payments)) tells made _ ends never tt tt (λ told. does.printed told) does.err does.reached
+    (rw (length-map c.args.asked.now.payments.now string_bytes) does.numbered) in
+    let loads : tells ≡ true → IsWritten c.end.result → (l : Replay) × (replay_loaded files asked ≡ Ok l) = λ told written. let spells = (left.printed told written).printed in (spells.replay, spells.read) in
+    record {
+      done = left.done;
+      prefix = left.prefix;
+      loads = loads;
+      complete = λ what told spells shelf out. MayRefuse-loaded scheduled _ (replay_loaded files asked) what _ _ _ _ _ told (replay_loaded-SpellsReplay files asked what spells) shelf out (λ is. (Ends-faults text_of _ made _ ends never does.err (inr is)).1.fault is) left.refusal;
+      refusal = left.refusal;
+      exact = λ told faultless. MayRefuse-exact scheduled _ (replay_loaded files asked) _ _ _ told faultless loads left.refusal;
+      reached = left.reached;
+      numbered = left.numbered;
+      formed = left.formed;
+    }
+
+pub returns-clause-done_kept : goal.returns-clause-done_kept
+returns-clause-done_kept g c is =
+    let does = c.replay_text-made.ensures in
+    let never = Refuses-loading scheduled (g.F.Shelf.tells c.args.shelf.now) (replay_loaded (g.F.Shelf.file c.args.shelf.now) (replaying_shown c.args.asked.now)) (g.F.Shelf.faults c.args.shelf.now) (g.F.Shelf.faults c.replay_text-made.new.shelf) in (
+      Ends-kept text_of _ _ c.replay_text-made.result _ c.end.ensures.ends never does.err does.kept (inl is),
+      (Ends-faults text_of _ c.replay_text-made.result _ c.end.ensures.ends never does.err (inl is)).1.kept is,
+    )
+
+pub returns-clause-write_fault : goal.returns-clause-write_fault
+returns-clause-write_fault g c is =
+    let does = c.replay_text-made.ensures in
+    let never = Refuses-loading scheduled (g.F.Shelf.tells c.args.shelf.now) (replay_loaded (g.F.Shelf.file c.args.shelf.now) (replaying_shown c.args.asked.now)) (g.F.Shelf.faults c.args.shelf.now) (g.F.Shelf.faults c.replay_text-made.new.shelf) in (
+      (Ends-faults text_of _ c.replay_text-made.result _ c.end.ensures.ends never does.err (inr is)).1.fault is,
+      Ends-kept text_of _ _ c.replay_text-made.result _ c.end.ensures.ends never does.err does.kept (inr is),
+    )
+
+pub returns-clause-untouched : goal.returns-clause-untouched
+returns-clause-untouched g c undone unwritten = Ends-refusal text_of _ c.replay_text-made.result _ c.end.ensures.ends c.end.ensures.untouched undone unwritten

@@ -1,0 +1,74 @@
+use Rattle.std.proofs.Common.{◌≡◌, ◌⊎◌, ◌∙◌, ℕ, true, None, Ok, List, Option, Vec, inl, inr, refl, string_bytes, length}
+use Rattle.std.specs.Global.{Global}
+use Rattle.std.specs.Result.{IfOk}
+use Rattle.std.proofs.lemmas.List.{length-map}
+use Rattle.at_object.specs.Closings.{ClosedTerms}
+use Rattle.at_loading.specs.Faults.{HasFileNumbers, IsWritten, MayRefuse}
+use Rattle.at_loading.specs.Faults.Kind.{payments}
+use Rattle.at_loading.specs.Loading.{Loaded, MayReach, loaded}
+use Rattle.at_loading.specs.Words.{form_shown}
+use Rattle.at_loading.proofs.Laws.Exact.{MayRefuse-exact}
+use Rattle.at_loading.proofs.Laws.MayRefuse.{MayRefuse-loaded}
+use Rattle.at_loading.proofs.Laws.SpelledLoaded.{loaded-Spelled}
+use Rattle.at_commands.specs.Answer.{Prints, PrintsSpelled}
+use Rattle.at_commands.specs.declared.ending.Printed.{Printed}
+use Rattle.at_commands.proofs.Endings.{Ends-faults, Ends-kept, Ends-refusal, LeavesOf-Ends, Refuses-loading, Ends-printed, IfOk-kept, none-kept}
+use Rattle.at_commands.proofs.running.answer_files.Goals as goal
+
+abbrev text_of : Printed → List ℕ
+text_of p = p.text.items
+
+pub returns-clause-answered : goal.returns-clause-answered
+returns-clause-answered g c =
+    let tells = g.F.Shelf.tells c.args.shelf.now in
+    let files = g.F.Shelf.file c.args.shelf.now in
+    let before = g.F.Shelf.faults c.args.shelf.now in
+    let now = g.F.Shelf.faults c.files_text-made.new.shelf in
+    let asked = form_shown c.args.form.now in
+    let made = c.files_text-made.result in
+    let does = c.files_text-made.ensures in
+    let ends = c.end_keeping.ensures.ends in
+    let never = Refuses-loading payments tells (loaded files asked) before now in
+    let kept = c.end_keeping.new.kept in
+    let spelled : tells ≡ true → IfOk made (λ p. PrintsSpelled files asked kept p.text.items) = λ told.
+    IfOk-kept (λ (k : Option ClosedTerms) (p : Printed). PrintsSpelled files asked k p.text.items) (λ p. p.closed) made kept c.end_keeping.ensures.kept (does.printed told) in
+    let prints : IfOk made (λ p. (l : Loaded) × Prints asked.command l kept p.text.items) =
+    IfOk-kept (λ (k : Option ClosedTerms) (p : Printed). (l : Loaded) × Prints asked.command l k p.text.items) (λ p. p.closed) made kept c.end_keeping.ensures.kept does.prints in
+    let left = LeavesOf-Ends text_of (λ text. PrintsSpelled files asked kept text) (λ refusal. MayRefuse tells (loaded files asked) before now refusal) (λ file. MayReach tells files asked file) (HasFileNumbers (length asked.payments)) tells made _ ends never tt tt spelled does.err does.reached
+    (rw (length-map c.args.form.now.payments.now string_bytes) does.numbered) in
+    let loads : tells ≡ true → IsWritten c.end_keeping.result → (l : Loaded) × (loaded files asked ≡ Ok l) = λ told written. let spells = (left.printed told written).printed in (spells.what, spells.read) in
+    record {
+      done = left.done;
+      prefix = left.prefix;
+      loads = loads;
+      ran_spelled = λ told written. let p = left.printed told written in (p.text, p.printed);
+      ran = λ written. let p = Ends-printed text_of (λ text. (l : Loaded) × Prints asked.command l kept text) _ made _ ends never does.err prints written in (p.printed.0, p.text, p.printed.1);
+      checks = λ is. none-kept _ (λ p. p.closed) made _ kept c.end_keeping.ensures.kept c.end_keeping.ensures.untouched c.requires (does.checks is);
+      complete = λ what told spells shelf out. MayRefuse-loaded payments _ (loaded files asked) what _ _ _ _ _ told (loaded-Spelled files asked what spells) shelf out (λ is. (Ends-faults text_of _ made _ ends never does.err (inr is)).1.fault is) left.refusal;
+      refusal = left.refusal;
+      exact = λ told faultless. MayRefuse-exact payments _ (loaded files asked) _ _ _ told faultless loads left.refusal;
+      reached = left.reached;
+      numbered = left.numbered;
+      formed = left.formed;
+    }
+
+pub returns-clause-done_kept : goal.returns-clause-done_kept
+returns-clause-done_kept g c is =
+    let does = c.files_text-made.ensures in
+    let never = Refuses-loading payments (g.F.Shelf.tells c.args.shelf.now) (loaded (g.F.Shelf.file c.args.shelf.now) (form_shown c.args.form.now)) (g.F.Shelf.faults c.args.shelf.now) (g.F.Shelf.faults c.files_text-made.new.shelf) in (
+      Ends-kept text_of _ _ c.files_text-made.result _ c.end_keeping.ensures.ends never does.err does.kept (inl is),
+      (Ends-faults text_of _ c.files_text-made.result _ c.end_keeping.ensures.ends never does.err (inl is)).1.kept is,
+    )
+
+pub returns-clause-write_fault : goal.returns-clause-write_fault
+returns-clause-write_fault g c is =
+    let does = c.files_text-made.ensures in
+    let never = Refuses-loading payments (g.F.Shelf.tells c.args.shelf.now) (loaded (g.F.Shelf.file c.args.shelf.now) (form_shown c.args.form.now)) (g.F.Shelf.faults c.args.shelf.now) (g.F.Shelf.faults c.files_text-made.new.shelf) in (
+      (Ends-faults text_of _ c.files_text-made.result _ c.end_keeping.ensures.ends never does.err (inr is)).1.fault is,
+      Ends-kept text_of _ _ c.files_text-made.result _ c.end_keeping.ensures.ends never does.err does.kept (inr is),
+    )
+
+pub returns-clause-untouched : goal.returns-clause-untouched
+returns-clause-untouched g c undone unwritten =
+    let same = Ends-refusal text_of _ c.files_text-made.result _ c.end_keeping.ensures.ends c.end_keeping.ensures.untouched undone unwritten in
+    (same.0, same.1 ∙ c.requires)

@@ -1,0 +1,58 @@
+use Rattle.std.proofs.Common.{◌≡◌, ◌⊎◌, ◌∙◌, ℕ, true, None, Ok, List, Option, Vec, inl, inr, refl, string_bytes, length}
+use Rattle.std.specs.Global.{Global}
+use Rattle.std.specs.Result.{IfOk}
+use Rattle.std.proofs.lemmas.List.{length-map}
+use Rattle.at_loading.specs.Faults.{HasFurtherNumbers, IsWritten}
+use Rattle.at_loading.specs.Words.{verifying_shown}
+use Rattle.at_commands.specs.Claims.{IsRightClaim, MayReachClaim, MayRefuseClaim, VerifiesSpelled, claimed}
+use Rattle.at_commands.proofs.Laws.Claims.{AnswersVerify-exact, MayRefuseClaim-right, claimed-SpellsClaim}
+use Rattle.at_commands.proofs.Endings.{Ends-faults, Ends-kept, Ends-refusal, LeavesOf-Ends, Refuses-claim}
+use Rattle.at_commands.proofs.verifying.answer_verify.Goals as goal
+
+abbrev text_of : Vec ℕ Global → List ℕ
+text_of p = p.items
+
+pub returns-clause-answered : goal.returns-clause-answered
+returns-clause-answered g c =
+    let tells = g.F.Shelf.tells c.args.shelf.now in
+    let files = g.F.Shelf.file c.args.shelf.now in
+    let before = g.F.Shelf.faults c.args.shelf.now in
+    let now = g.F.Shelf.faults c.claim_text-made.new.shelf in
+    let asked = verifying_shown c.args.asked.now in
+    let made = c.claim_text-made.result in
+    let does = c.claim_text-made.ensures in
+    let ends = c.end.ensures.ends in
+    let never = Refuses-claim tells (claimed files asked) before now in
+    let left = LeavesOf-Ends text_of (λ text. VerifiesSpelled files asked text) (λ refusal. MayRefuseClaim tells (claimed files asked) before now refusal) (λ file. MayReachClaim tells files asked file) (HasFurtherNumbers (length asked.checked.payments)) tells made _ ends never tt tt (λ told. does.printed told) does.err does.reached
+    (rw (length-map c.args.asked.now.checked.payments.now string_bytes) does.numbered) in
+    let loads : tells ≡ true → IsWritten c.end.result → IsRightClaim (claimed files asked) = λ told written. let spells = (left.printed told written).printed in (spells.claim, spells.read, spells.verifies.report.is) in
+    record {
+      done = left.done;
+      prefix = left.prefix;
+      right = loads;
+      complete = λ claim told spells right shelf out. MayRefuseClaim-right _ (claimed files asked) claim _ _ _ _ _ told (claimed-SpellsClaim files asked claim spells) right shelf out (λ is. (Ends-faults text_of _ made _ ends never does.err (inr is)).1.fault is) left.refusal;
+      refusal = left.refusal;
+      exact = λ told faultless. AnswersVerify-exact _ (claimed files asked) _ _ _ told faultless left.refusal (loads told);
+      reached = left.reached;
+      numbered = left.numbered;
+      formed = left.formed;
+    }
+
+pub returns-clause-done_kept : goal.returns-clause-done_kept
+returns-clause-done_kept g c is =
+    let does = c.claim_text-made.ensures in
+    let never = Refuses-claim (g.F.Shelf.tells c.args.shelf.now) (claimed (g.F.Shelf.file c.args.shelf.now) (verifying_shown c.args.asked.now)) (g.F.Shelf.faults c.args.shelf.now) (g.F.Shelf.faults c.claim_text-made.new.shelf) in (
+      Ends-kept text_of _ _ c.claim_text-made.result _ c.end.ensures.ends never does.err does.kept (inl is),
+      (Ends-faults text_of _ c.claim_text-made.result _ c.end.ensures.ends never does.err (inl is)).1.kept is,
+    )
+
+pub returns-clause-write_fault : goal.returns-clause-write_fault
+returns-clause-write_fault g c is =
+    let does = c.claim_text-made.ensures in
+    let never = Refuses-claim (g.F.Shelf.tells c.args.shelf.now) (claimed (g.F.Shelf.file c.args.shelf.now) (verifying_shown c.args.asked.now)) (g.F.Shelf.faults c.args.shelf.now) (g.F.Shelf.faults c.claim_text-made.new.shelf) in (
+      (Ends-faults text_of _ c.claim_text-made.result _ c.end.ensures.ends never does.err (inr is)).1.fault is,
+      Ends-kept text_of _ _ c.claim_text-made.result _ c.end.ensures.ends never does.err does.kept (inr is),
+    )
+
+pub returns-clause-untouched : goal.returns-clause-untouched
+returns-clause-untouched g c undone unwritten = Ends-refusal text_of _ c.claim_text-made.result _ c.end.ensures.ends c.end.ensures.untouched undone unwritten

@@ -1,0 +1,83 @@
+-- What the files of `replay` hold, and what it prints of them.
+use Rattle.std.specs.Prelude.{◌≡◌, ℕ, ◌+◌, ◌⊎◌, Bool, true, List, length, sum, Result, Ok, Err}
+use Rattle.at_ledger.specs.Book.{total_of}
+use Rattle.at_ledger.specs.Run.{Legal, Whole, last_state}
+use Rattle.at_ledger.specs.declared.call.Line.{Line}
+use Rattle.at_files.specs.Records.{file_records}
+use Rattle.at_files.specs.Results.{and_then}
+use Rattle.at_files.specs.Schedule.{Schedules, schedule_of}
+use Rattle.at_files.specs.declared.schedule.ScheduleWhy.{ScheduleWhy}
+use Rattle.at_files.specs.declared.spelled.BadRecord.{BadRecord}
+use Rattle.at_report.specs.Lines.{Word}
+use Rattle.at_report.specs.Report.{report_text}
+use Rattle.at_report.specs.declared.status.Status.{Status}
+use Rattle.at_report.specs.declared.status.Status.TheVariants as status
+use Rattle.at_loading.specs.Loading.{Files, HoldsFile, Loaded, MayReachOf, PaysReplayBytes, SpelledOf, all_loaded, fetched, replay_calls_given}
+use Rattle.at_loading.specs.Words.{Replaying}
+
+-- a book, the calls of each process, and the schedule of their turns
+pub record Replay : Type 0 where
+  pub what : Loaded
+  pub schedule : List ℕ
+
+-- the text is the report of one legal run of the files' calls, each process's once and in file order. The balances that it prints are
+-- the run's last, and their sum is that of the openings
+pub record ReportsReplay (l : Loaded) (text : List ℕ) : Type 0 where
+  pub lines : List Line
+  pub whole : Whole l.files lines
+  pub legal : Legal l.book lines
+  pub total : sum (last_state l.book lines).balances ≡ total_of l.book
+  pub printed : text ≡ report_text l.book l.names lines
+
+-- the number of the schedule, which comes after all other files
+abbrev pub schedule_number : Replaying → ℕ
+schedule_number asked = length asked.payments + 1
+
+-- the schedule of a file's bytes
+abbrev pub schedule_read : Result (List ℕ) (BadRecord ScheduleWhy) → Result (List ℕ) Status
+schedule_read (Ok schedule) = Ok schedule
+schedule_read (Err bad) = Err (status.BadSchedule bad.line bad.why)
+
+-- the schedule of the file of this name and number, beside so many processes
+abbrev pub schedule_loaded : Files → Word → ℕ → ℕ → Result (List ℕ) Status
+schedule_loaded files name number processes = and_then (fetched (files name) number) (λ bytes. schedule_read (schedule_of processes (file_records bytes)))
+
+-- the schedule beside what was loaded
+abbrev pub with_schedule : Loaded → Result (List ℕ) Status → Result Replay Status
+with_schedule l schedule = and_then schedule (λ turns. Ok (record { what = l; schedule = turns }))
+
+-- the book and the calls of the words' files, or the first refusal: a payment file may not have more calls than a replay makes
+abbrev pub calls_loaded : Files → Replaying → Result Loaded Status
+calls_loaded files asked = all_loaded replay_calls_given files asked.book asked.payments
+
+-- what the words' files hold, or the first refusal: the book's, that of the number of payment files, that of each of these in
+-- turn, and then that of the schedule
+abbrev pub replay_loaded : Files → Replaying → Result Replay Status
+replay_loaded files asked = and_then (calls_loaded files asked) (λ l. with_schedule l (schedule_loaded files asked.schedule (schedule_number asked) l.book.processes))
+
+-- the file of this name spells the schedule
+pub record SpellsSchedule (files : Files) (name : Word) (processes : ℕ) (schedule : List ℕ) : Type 0 where
+  pub bytes : List ℕ
+  pub held : HoldsFile files name bytes
+  pub spelled : Schedules processes (file_records bytes) schedule
+
+-- the words' files spell a book, its calls and a schedule
+pub record SpellsReplay (files : Files) (asked : Replaying) (r : Replay) : Type 0 where
+  pub calls : SpelledOf PaysReplayBytes files asked.book asked.payments r.what
+  pub schedule : SpellsSchedule files asked.schedule r.what.book.processes r.schedule
+
+-- the text is the report of a run of what the files' bytes spell
+pub record ReplaysSpelled (files : Files) (asked : Replaying) (text : List ℕ) : Type 0 where
+  pub replay : Replay
+  pub read : replay_loaded files asked ≡ Ok replay
+  pub spelled : SpellsReplay files asked replay
+  pub printed : ReportsReplay replay.what text
+
+-- the file with this number is the schedule, and where the files are told all others are good
+pub record ReachesSchedule (tells : Bool) (files : Files) (asked : Replaying) (file : ℕ) : Type 0 where
+  pub named : file ≡ schedule_number asked
+  pub reached : tells ≡ true → (l : Loaded) × (calls_loaded files asked ≡ Ok l)
+
+-- the file with this number is one of the words', and where the files are told what stands before it is good
+abbrev pub MayReachReplay : Bool → Files → Replaying → ℕ → Type 0
+MayReachReplay tells files asked file = MayReachOf replay_calls_given tells files asked.book asked.payments file ⊎ ReachesSchedule tells files asked file

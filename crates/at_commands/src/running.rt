@@ -1,0 +1,165 @@
+//! What `run` and `check` answer.
+
+ghost use Rattle.std.specs.Prelude.{◌≡◌, ◌≢◌, ◌≤◌, ℕ, All, length, sum_by, true, None, Err, IfOk, IfErr, OnOk};
+ghost use Rattle.at_commands.specs.Answer.{Prints, PrintsSpelled};
+ghost use Rattle.at_commands.specs.Answered.{AnsweredFiles};
+ghost use Rattle.at_files.specs.Names.{AreNamesOf};
+ghost use Rattle.at_io.specs.Faults.{Rose};
+ghost use Rattle.at_io.specs.Shelf.{SameFiles};
+ghost use Rattle.at_loading.specs.Faults.{HasFileNumbers, MayRefuse};
+ghost use Rattle.at_loading.specs.Loading.{Loaded, MayReach, loaded};
+ghost use Rattle.at_loading.specs.Words.{form_shown};
+ghost use Rattle.at_report.specs.Report.{checked_line};
+ghost use Rattle.at_verify.specs.Right.{IsPlayable, files_in};
+
+use crate::ending::{Printed, end_keeping};
+use crate::playing::{journal_of, play};
+use at_files::Names;
+use at_io::{Shelf, Sink};
+use at_ledger::{Book, Call};
+use at_loading::{Command, Form, load};
+use at_object::Closed;
+use at_report::{Status, checked_text, report};
+use at_verify::count_calls;
+use at_workers::Gate;
+use std::alloc::{AllocError, Global};
+use std::thread::Threads;
+
+/// The report of a run of the files, all of them at once.
+fn run_text<R: Threads + Sync, G: Gate + Sync>(
+    rt: &R,
+    alloc: Global,
+    book: &Book,
+    names: &Names,
+    files: Vec<Vec<Call>>,
+    gate: &G,
+) -> Result<Printed, AllocError>
+    requires names { AreNamesOf book.now names.now }
+    requires count { length files.items ≡ book.now.processes }
+    requires known { All (IsPlayable (length book.now.accounts)) (files_in files.items) }
+    ensures { IfOk result (λ p. Prints Command.Run
+        (record { book = book.now; names = names.now; files = files_in files.items })
+        p.closed p.text.items) }
+{
+    let closed = play(rt, alloc, book, files, gate)?;
+    let lines = journal_of(alloc, &closed)?;
+    let text = report(alloc, book, names, lines.as_slice())?;
+    Ok(Printed {
+        text,
+        closed: Some(closed),
+    })
+}
+
+/// The line of how many calls the files have.
+fn check_text(alloc: Global, book: &Book, files: &[Vec<Call>]) -> Result<Printed, AllocError>
+    requires count { length files.now ≡ book.now.processes }
+    requires known { All (IsPlayable (length book.now.accounts)) (files_in files.now) }
+    ensures none { IfOk result (λ p. p.closed ≡ None) }
+    ensures text { IfOk result
+        (λ p. p.text.items ≡ checked_line book.now (sum_by length (files_in files.now))) }
+{
+    let _known = book.accounts();
+    let text = checked_text(alloc, book, count_calls(files))?;
+    Ok(Printed { text, closed: None })
+}
+
+/// What the command prints of the files.
+fn text_of<R: Threads + Sync, G: Gate + Sync>(
+    rt: &R,
+    alloc: Global,
+    command: Command,
+    book: &Book,
+    names: &Names,
+    files: Vec<Vec<Call>>,
+    gate: &G,
+) -> Result<Printed, AllocError>
+    requires names { AreNamesOf book.now names.now }
+    requires count { length files.items ≡ book.now.processes }
+    requires known { All (IsPlayable (length book.now.accounts)) (files_in files.items) }
+    ensures { IfOk result (λ p. Prints command
+        (record { book = book.now; names = names.now; files = files_in files.items })
+        p.closed p.text.items) }
+{
+    match command {
+        Command::Run => run_text(rt, alloc, book, names, files, gate),
+        Command::Check => check_text(alloc, book, files.as_slice()),
+    }
+}
+
+/// The text of the form's command for its files, or why there is none.
+fn files_text<R: Threads + Sync, F: Shelf, G: Gate + Sync>(
+    rt: &R,
+    alloc: Global,
+    shelf: &mut F,
+    form: &Form<'_>,
+    gate: &G,
+) -> Result<Printed, Status>
+    ensures files { SameFiles (F.tells shelf.old) (F.tells shelf.new) (F.file shelf.old)
+        (F.file shelf.new) }
+    ensures later { F.faults shelf.old ≤ F.faults shelf.new }
+    ensures kept { OnOk result (F.faults shelf.new ≡ F.faults shelf.old) }
+    ensures printed { F.tells shelf.old ≡ true
+        → IfOk result
+        (λ p. PrintsSpelled (F.file shelf.old) (form_shown form.now) p.closed p.text.items) }
+    ensures prints { IfOk result
+        (λ p. (l : Loaded) × Prints form.now.command l p.closed p.text.items) }
+    ensures checks { form.now.command ≡ Command.Check → IfOk result (λ p. p.closed ≡ None) }
+    ensures err { IfErr result
+        (λ refusal. MayRefuse (F.tells shelf.old) (loaded (F.file shelf.old) (form_shown form.now))
+        (F.faults shelf.old) (F.faults shelf.new) refusal) }
+    ensures reached { (file : ℕ) → result ≡ Err (Status.ReadFault file)
+        → MayReach (F.tells shelf.old) (F.file shelf.old) (form_shown form.now) file }
+    ensures numbered { IfErr result (HasFileNumbers (length form.now.payments.now)) }
+{
+    let at_loading::Loaded { book, names, files } = match load(alloc, shelf, form) {
+        Ok(loaded) => loaded,
+        Err(refusal) => return Err(refusal),
+    };
+    match text_of(rt, alloc, form.command, &book, &names, files, gate) {
+        Ok(printed) => Ok(printed),
+        Err(_) => Err(Status::NoMemory),
+    }
+}
+
+/// Does what the form asks.
+pub fn answer_files<R: Threads + Sync, F: Shelf, O: Sink, G: Gate + Sync>(
+    rt: &R,
+    alloc: Global,
+    shelf: &mut F,
+    out: &mut O,
+    form: &Form<'_>,
+    gate: &G,
+    kept: &mut Option<Closed>,
+) -> Status
+    requires { kept.old ≡ None }
+    ensures files { SameFiles (F.tells shelf.old) (F.tells shelf.new) (F.file shelf.old)
+        (F.file shelf.new) }
+    ensures later { (F.faults shelf.old ≤ F.faults shelf.new)
+        × (O.faults out.old ≤ O.faults out.new) }
+    ensures as_told { O.tells out.new ≡ O.tells out.old }
+    ensures answered { AnsweredFiles (form_shown form.now)
+        (record {
+          tells = F.tells shelf.old;
+          files = F.file shelf.old;
+          faults = F.faults shelf.old;
+          faults_now = F.faults shelf.new;
+        })
+        (record {
+          tells = O.tells out.old;
+          before = O.taken out.old;
+          after = O.taken out.new;
+          faults = O.faults out.old;
+          faults_now = O.faults out.new;
+          kept = kept.new;
+          answer = result;
+        }) }
+    ensures done_kept { result ≡ Status.Done
+        → (F.faults shelf.new ≡ F.faults shelf.old) × (O.faults out.new ≡ O.faults out.old) }
+    ensures write_fault { result ≡ Status.WriteFault
+        → Rose (O.faults out.old) (O.faults out.new) × (F.faults shelf.new ≡ F.faults shelf.old) }
+    ensures untouched { result ≢ Status.Done → result ≢ Status.WriteFault
+        → (out.new ≡ out.old) × (kept.new ≡ None) }
+{
+    let made = files_text(rt, alloc, shelf, form, gate);
+    end_keeping(made, out, kept)
+}

@@ -1,0 +1,23 @@
+use Rattle.std.proofs.Common.{◌≡◌, ◌^◌, ◌<◌, [], get_or, length, sym, ◌∙◌, ap, arith}
+use Rattle.std.proofs.lemmas.List.{length_push, length-map}
+use Rattle.std.proofs.lemmas.List.Elements.{All-push}
+use Rattle.at_base.specs.Numbers.{number_of}
+use Rattle.at_loading.specs.Words.{small, words_of}
+use Rattle.at_loading.proofs.Laws.FilesLoaded.{get_or-words_of}
+use Rattle.at_loading.proofs.ValueLaws.{values_named-take_more}
+use Rattle.at_loading.proofs.numbers.values_of.Goals as goal
+
+pub loop-word-preserved : goal.loop-word-preserved
+loop-word-preserved c =
+    let before = c.loop-word.invariant in
+    let words = words_of c.args.words.now in
+    let within : c.loop-word.word-index < length c.args.words.now = omega arith in
+    let within_words : c.loop-word.word-index < length words = rw length-map within in
+    let word : get_or words c.loop-word.word-index [] ≡ c.as_str.result.now =
+    get_or-words_of c.args.words.now c.loop-word.word-index c.word-item.result within c.word-item.is ∙ sym c.as_str.ensures.value in
+    record {
+      named = rw c.push.ensures.items (values_named-take_more words c.loop-word.word-index c.loop-word.values.items c.in_ok-value_of.field-0
+          within_words before.named (ap (λ w. small (number_of w)) word ∙ sym c.in_ok-value_of.ensures.value));
+      count = rw (c.push.ensures.items, length_push) (omega (arith, before.count));
+      below = rw c.push.ensures.items (All-push (λ value. value < 2 ^ 32) c.loop-word.values.items c.in_ok-value_of.field-0 before.below c.in_ok-value_of.ensures.below);
+    }

@@ -1,4 +1,0 @@
-pub mod AskedLaws
-pub mod ExactLaws
-pub mod FormLaws
-pub mod ReplayingLaws
