@@ -45,7 +45,8 @@ impl Totals {
         requires seen { end ≤ count_of p seat.old.knows.seen }
         ensures counted { HasCounted self.new board.now.book seat.new.knows.seen }
         ensures upto { self.new.upto ≡ slice_set self.old.upto p end }
-        ensures same { seat.new ≡ stepped seat.old (RECORD_WORDS * (end - slice_index self.old.upto p)) }
+        ensures same { seat.new ≡ stepped seat.old
+            (RECORD_WORDS * (end - slice_index self.old.upto p)) }
     {
         seat.known();
         let start = self.counted(p);

@@ -39,7 +39,7 @@ fn ask_and_stop(board: &Board, seat: &mut BoardSeat, totals: &mut Totals) -> Opt
     Some(())
 }
 
-/// Begins a payment from account 0 with counters of its own, and stops in the middle.
+/// Begins a payment from account 0, and stops in the middle.
 fn stop(board: &Board, alloc: Global, seat: &mut BoardSeat) -> Option<()>
     requires idle { IsIdle board.now seat.old }
 {

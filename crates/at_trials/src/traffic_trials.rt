@@ -122,7 +122,7 @@ fn scan_all(board: &Board, alloc: Global, seat: &mut BoardSeat) -> Scans
     Ok(Some(answers))
 }
 
-/// Publishes with counters of its own, once all threads are there.
+/// Publishes once all threads are there.
 fn publish_alone(board: &Board, alloc: Global, gate: &AtomicU64, seat: &mut BoardSeat) -> Views
     requires { IsPublisher board.now seat.old }
 {
@@ -130,7 +130,7 @@ fn publish_alone(board: &Board, alloc: Global, gate: &AtomicU64, seat: &mut Boar
     publish_all(board, alloc, seat)
 }
 
-/// Scans with counters of its own, once all threads are there.
+/// Scans once all threads are there.
 fn scan_alone(board: &Board, alloc: Global, gate: &AtomicU64, seat: &mut BoardSeat) -> Scans
     requires { IsOf seat.old board.now }
 {
