@@ -64,7 +64,8 @@ impl Council {
         ensures voice { IsVoiceOf voice.new self.now }
         ensures process { process_of voice.new ≡ process_of voice.old }
         ensures begins { IsPrefix (seen_by voice.old) (seen_by voice.new) }
-        ensures steps { voice.new.pass.steps ≤ voice.old.pass.steps + propose_steps (size_of self.now)
+        ensures steps { voice.new.pass.steps
+            ≤ voice.old.pass.steps + propose_steps (size_of self.now)
             + RECORD_WORDS * counted_anew voice.old.pass voice.new.pass }
         ensures exchanges { voice.new.pass.exchanges ≤ voice.old.pass.exchanges + size_of self.now }
     {

@@ -93,7 +93,8 @@ impl Voice {
         ensures read { HasRead ledger.now self.old self.new account result }
         ensures stands { Stands self.new.pass self.new.receipts }
         ensures history { IsHistory ledger.now.book (seen_by self.new) }
-        ensures steps { self.new.pass.steps ≤ self.old.pass.steps + snapshot_steps (size_of ledger.now)
+        ensures steps { self.new.pass.steps
+            ≤ self.old.pass.steps + snapshot_steps (size_of ledger.now)
             + RECORD_WORDS * counted_anew self.old.pass self.new.pass }
         ensures exchanges { self.new.pass.exchanges ≡ self.old.pass.exchanges }
     {

@@ -1,35 +1,22 @@
 -- Calls of the object that are made one step a turn, by a pass that was taken apart.
-use Rattle.std.specs.Prelude.{◌≡◌, ◌≢◌, ℕ, ◌+◌, ◌-◌, ◌*◌, ◌++◌, ◌≤◌, true, List, [], ◌∷◌, length, sum, Option, Some, None}
-use Rattle.at_ledger.specs.Account.{is_shared, is_single, slots_of}
+use Rattle.std.specs.Prelude.{◌≡◌, ◌≢◌, ℕ, ◌+◌, ◌-◌, ◌*◌, ◌≤◌, true, sum, Option, Some, None}
+use Rattle.at_ledger.specs.Account.{is_shared, is_single}
 use Rattle.at_ledger.specs.Book.{BookTerms, account_of}
 use Rattle.at_ledger.specs.declared.call.Call.{Call}
 use Rattle.at_ledger.specs.declared.call.Reply.{Reply}
-use Rattle.at_ledger.specs.declared.call.Reply.TheVariants.{Balance}
-use Rattle.at_history.specs.Balances.{balance_after}
-use Rattle.at_history.specs.Fronts.{prefix_of}
-use Rattle.at_history.specs.Histories.{IsHistory}
-use Rattle.at_history.specs.Publications.{IsPrefix}
-use Rattle.at_board.specs.Counting.{raised}
 use Rattle.at_board.specs.Knowledge.Seats.{SeatTerms}
 use Rattle.at_board.specs.Words.Addresses.{record_width}
 use Rattle.at_board.specs.declared.knowledge.Knowledge.{Knowledge}
 use Rattle.at_board.specs.declared.words.TheConstants.{RECORD_WORDS}
 use Rattle.at_fold.specs.Sums.{TotalSums}
-use Rattle.at_log.specs.Placed.{IsPlaced}
 use Rattle.at_log.specs.Receipts.{payout_of}
-use Rattle.at_log.specs.Told.{first_account}
-use Rattle.at_log.specs.declared.receipt.At.{At}
-use Rattle.at_log.specs.declared.receipt.Receipt.{Receipt}
 use Rattle.at_object.specs.CallCounts.{CallCountTerms}
 use Rattle.at_object.specs.Calls.{call_steps}
 use Rattle.at_object.specs.Parted.{pass_of}
-use Rattle.at_object.specs.Passes.{PassTerms, Stands, asked_by, counted_anew, one_more_call, others_counted, sent_by}
-use Rattle.at_object.specs.Payments.{IsRefused, payment_steps, refusal_of}
+use Rattle.at_object.specs.Passes.{PassTerms, one_more_call}
+use Rattle.at_object.specs.Payments.{refusal_of}
 use Rattle.at_object.specs.declared.parts.Rest.{Rest}
-use Rattle.at_shared.specs.Helpings.{IsPayoutFrom, decides_made, decides_on}
-use Rattle.at_shared.specs.Settling.{StandsAfter}
-use Rattle.at_single.specs.Standing.{front_behind}
-use Rattle.at_snapshot.specs.Snapshots.{IsSnapshot, snapshot_steps}
+use Rattle.at_shared.specs.Helpings.{IsPayoutFrom}
 use Rattle.at_machines.specs.Looking.{MakesLookLoad, look_turns_left}
 use Rattle.at_calling.specs.PayingAlone.{MakesPayStep, pay_turns_left, turns_made}
 use Rattle.at_calling.specs.PayingShared.{MakesShareStep, share_exchanges_at, share_exchanges_made, share_turns_left}

@@ -131,7 +131,8 @@ impl Calling {
         ensures refused { IfSome result (λ r. IsRefused r → steps_made self.new.stage ≡ 0) }
         ensures board { IsOf seat.new board.now }
         ensures steps { seat.new.steps ≡ raised seat.old.steps (steps_of self.old.stage) }
-        ensures exchanges { seat.new.exchanges ≡ raised seat.old.exchanges (exchanges_of self.old.stage) }
+        ensures exchanges { seat.new.exchanges
+            ≡ raised seat.old.exchanges (exchanges_of self.old.stage) }
         ensures exchanges_made { exchanges_made self.new.stage
             ≡ exchanges_made self.old.stage + exchanges_of self.old.stage }
     {
@@ -238,7 +239,8 @@ impl Calling {
             result }
         ensures board { IsOf seat.new board.now }
         ensures steps { seat.new.steps ≡ raised seat.old.steps 1 }
-        ensures exchanges { seat.new.exchanges ≡ raised seat.old.exchanges (exchanges_of self.old.stage) }
+        ensures exchanges { seat.new.exchanges
+            ≡ raised seat.old.exchanges (exchanges_of self.old.stage) }
     {
         let CallStage::PayShared(paying) = &mut self.stage else {
             unreachable!()

@@ -150,7 +150,8 @@ impl PayingShared {
             (settling_steps board.now.book self.old.account) self.new.turns) }
         ensures board { IsOf seat.new board.now }
         ensures steps { seat.new.steps ≡ raised seat.old.steps 1 }
-        ensures exchanges { seat.new.exchanges ≡ raised seat.old.exchanges (share_exchanges_at self.old.stage) }
+        ensures exchanges { seat.new.exchanges
+            ≡ raised seat.old.exchanges (share_exchanges_at self.old.stage) }
         // Over all turns the exchanges are those that were decided.
         ensures decides { share_exchanges_made self.new
             ≡ share_exchanges_made self.old + share_exchanges_at self.old.stage }
@@ -213,7 +214,8 @@ impl PayingShared {
             totals.new result }
         ensures board { IsOf seat.new board.now }
         ensures steps { seat.new.steps ≡ raised seat.old.steps 1 }
-        ensures exchanges { seat.new.exchanges ≡ raised seat.old.exchanges (share_exchanges_at self.old.stage) }
+        ensures exchanges { seat.new.exchanges
+            ≡ raised seat.old.exchanges (share_exchanges_at self.old.stage) }
     {
         let ShareStage::Help(helping, turning) = &mut self.stage else {
             // The stage is a turn of helping, as is asked.

@@ -150,7 +150,8 @@ impl Turning {
             (help_turns_made self.new)) }
         ensures board { IsOf seat.new board.now }
         ensures steps { seat.new.steps ≡ raised seat.old.steps 1 }
-        ensures exchanges { seat.new.exchanges ≡ raised seat.old.exchanges (exchanges_at self.old.stage) }
+        ensures exchanges { seat.new.exchanges
+            ≡ raised seat.old.exchanges (exchanges_at self.old.stage) }
         // Over all turns the exchanges are those that were decided.
         ensures decides { decides_made self.old.helping.account self.old.start seat.new.knows
             ≡ decides_made self.old.helping.account self.old.start self.old.mark
@@ -221,7 +222,8 @@ impl Turning {
             totals.new result }
         ensures board { IsOf seat.new board.now }
         ensures steps { seat.new.steps ≡ raised seat.old.steps 1 }
-        ensures exchanges { seat.new.exchanges ≡ raised seat.old.exchanges (exchanges_at self.old.stage) }
+        ensures exchanges { seat.new.exchanges
+            ≡ raised seat.old.exchanges (exchanges_at self.old.stage) }
     {
         seat.known();
         let TurnStage::Decide(deciding) = &mut self.stage else {

@@ -16,12 +16,7 @@ use at_log::load_entry;
 impl Totals {
     /// Counts all records that `counts` counts, which the seat has seen. Loads the entries of those alone that weren't counted
     /// before, in a step for each word.
-    pub fn catch_up(
-        &mut self,
-        board: &Board,
-        seat: &mut BoardSeat,
-        counts: &Counts,
-    )
+    pub fn catch_up(&mut self, board: &Board, seat: &mut BoardSeat, counts: &Counts)
         requires board { IsOf seat.old board.now }
         requires counted { HasCounted self.old board.now.book seat.old.knows.seen }
         requires more { Covers counts.now self.old.upto }
@@ -42,13 +37,7 @@ impl Totals {
     }
 
     /// Counts the records of a process up to this number of them.
-    fn catch_up_with(
-        &mut self,
-        board: &Board,
-        seat: &mut BoardSeat,
-        p: u32,
-        end: u32,
-    )
+    fn catch_up_with(&mut self, board: &Board, seat: &mut BoardSeat, p: u32, end: u32)
         requires board { IsOf seat.old board.now }
         requires counted { HasCounted self.old board.now.book seat.old.knows.seen }
         requires process { p < board.now.book.processes }
@@ -56,7 +45,8 @@ impl Totals {
         requires seen { end ≤ count_of p seat.old.knows.seen }
         ensures counted { HasCounted self.new board.now.book seat.new.knows.seen }
         ensures upto { self.new.upto ≡ slice_set self.old.upto p end }
-        ensures same { seat.new ≡ stepped seat.old (RECORD_WORDS * (end - slice_index self.old.upto p)) }
+        ensures same { seat.new ≡ stepped seat.old
+            (RECORD_WORDS * (end - slice_index self.old.upto p)) }
     {
         seat.known();
         let start = self.counted(p);

@@ -34,7 +34,8 @@ pub fn append(board: &Board, seat: &mut BoardSeat, rec: &Record)
     ensures last { IsLast seat.old.knows seat.new.knows
         (published_by seat.old.knows.first rec.now) }
     ensures board { seat.new.board ≡ seat.old.board }
-    ensures steps { seat.new.steps ≡ raised seat.old.steps (RECORD_WORDS + board.now.book.processes + 1) }
+    ensures steps { seat.new.steps ≡ raised seat.old.steps
+        (RECORD_WORDS + board.now.book.processes + 1) }
     ensures exchanges { seat.new.exchanges ≡ seat.old.exchanges }
 {
     board.book().known();

@@ -132,7 +132,8 @@ impl Deciding {
         ensures waits { 0 < self.new.left → totals.new ≡ totals.old }
         ensures board { IsOf seat.new board.now }
         ensures steps { seat.new.steps ≡ raised seat.old.steps 1 }
-        ensures exchanges { seat.new.exchanges ≡ raised seat.old.exchanges (exchanges_in self.old.next) }
+        ensures exchanges { seat.new.exchanges
+            ≡ raised seat.old.exchanges (exchanges_in self.old.next) }
     {
         seat.known();
         let (a, r) = (self.account, self.round);

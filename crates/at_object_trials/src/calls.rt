@@ -45,9 +45,5 @@ pub(crate) fn call_by(ledger: &Ledger, pass: &mut Pass, call: &Call) -> Receipt
     ensures pass { IsPassOf pass.new ledger.now }
     ensures calls { pass.new.calls ≡ one_more_call pass.old.calls }
 {
-    match call {
-        Call::Transfer { from, to, amount } => ledger.transfer(pass, *from, *to, *amount),
-        Call::Read { account } => ledger.read(pass, *account),
-        Call::Pay { from, targets } => ledger.pay(pass, *from, targets),
-    }
+    ledger.call(pass, call)
 }

@@ -29,7 +29,8 @@ pub(crate) fn push_number(out: &mut Vec<u8>, n: u64) -> Result<(), NoMemory>
 
 /// Adds a line of a word and a number.
 pub(crate) fn push_numbered(out: &mut Vec<u8>, word: &[u8], n: u64) -> Result<(), NoMemory>
-    ensures text { OnOk result (out.new.items ≡ out.old.items ++ line_text (word.now ∷ decimal n ∷ [])) }
+    ensures text { OnOk result (out.new.items ≡ out.old.items
+        ++ line_text (word.now ∷ decimal n ∷ [])) }
     ensures begun { OnErr result (StartsWith out.new.items out.old.items) }
 {
     out.extend_from_slice(word)?;

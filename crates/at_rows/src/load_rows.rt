@@ -29,7 +29,8 @@ pub fn collect_rows(board: &Board, seat: &mut BoardSeat, account: u32, own: &Ope
         result }
     ensures own { HasAsked board.now.book seat.new.knows account own.now }
     ensures board { IsOf seat.new board.now }
-    ensures steps { seat.new.steps ≡ raised seat.old.steps (slots_of (account_of board.now.book account)
+    ensures steps { seat.new.steps
+        ≡ raised seat.old.steps (slots_of (account_of board.now.book account)
         + REQUEST_WORDS * (length result - 1)) }
     ensures few { length result ≤ slots_of (account_of board.now.book account) }
     ensures most { seat.new.steps ≤ seat.old.steps + (slots_of (account_of board.now.book account)

@@ -60,7 +60,8 @@ impl Helping {
             (own_part seat.new.knows).published }
         ensures counted { HasCounted totals.new board.now.book seat.new.knows.seen }
         ensures board { IsOf seat.new board.now }
-        ensures steps { seat.new.steps ≡ raised seat.old.steps (round_steps board.now.book.processes) }
+        ensures steps { seat.new.steps
+            ≡ raised seat.old.steps (round_steps board.now.book.processes) }
         ensures exchanges { seat.new.exchanges ≡ raised seat.old.exchanges 1 }
     {
         let round = totals.rounds(self.account);

@@ -27,11 +27,7 @@ fn call_by(ledger: &Ledger, pass: &mut Pass, call: &Call) -> Receipt
         → Stands pass.new (earlier ++ result ∷ []) }
     ensures calls { pass.new.calls ≡ one_more_call pass.old.calls }
 {
-    match call {
-        Call::Transfer { from, to, amount } => ledger.transfer(pass, *from, *to, *amount),
-        Call::Read { account } => ledger.read(pass, *account),
-        Call::Pay { from, targets } => ledger.pay(pass, *from, targets),
-    }
+    ledger.call(pass, call)
 }
 
 /// Makes the next call of a process's file, and keeps its receipt.

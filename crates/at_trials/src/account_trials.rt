@@ -63,11 +63,7 @@ pub(crate) fn begins_sharing(board: &Board, seat: &BoardSeat) -> bool
 }
 
 /// Pays 1 from account 0 to account 1, if the seat's process has room for a request there.
-fn pay_from_shared(
-    board: &Board,
-    seat: &mut BoardSeat,
-    totals: &mut Totals,
-) -> Option<Receipt>
+fn pay_from_shared(board: &Board, seat: &mut BoardSeat, totals: &mut Totals) -> Option<Receipt>
     requires sharer { IsSharer board.now seat.old totals.old }
     ensures sharer { IfSome result (λ _. IsSharer board.now seat.new totals.new) }
 {
@@ -102,11 +98,7 @@ fn owns_alone(book: &Book, process: u32) -> bool
 }
 
 /// Pays 1 from account 2 to account 0, if the seat's process owns it alone and has room for a record.
-fn pay_own(
-    board: &Board,
-    seat: &mut BoardSeat,
-    totals: &mut Totals,
-) -> Option<Receipt>
+fn pay_own(board: &Board, seat: &mut BoardSeat, totals: &mut Totals) -> Option<Receipt>
     requires caller { IsCaller board.now seat.old totals.old }
     ensures caller { IfSome result (λ _. IsCaller board.now seat.new totals.new) }
 {
@@ -123,12 +115,7 @@ fn pay_own(
 }
 
 /// Reads an account, if there is one of this number.
-fn read(
-    board: &Board,
-    seat: &mut BoardSeat,
-    totals: &mut Totals,
-    account: u32,
-) -> Option<Receipt>
+fn read(board: &Board, seat: &mut BoardSeat, totals: &mut Totals, account: u32) -> Option<Receipt>
     requires caller { IsCaller board.now seat.old totals.old }
     ensures caller { IfSome result (λ _. IsCaller board.now seat.new totals.new) }
 {
@@ -140,11 +127,7 @@ fn read(
 }
 
 /// Pays from the shared account beside the other threads.
-pub(crate) fn pay_shared_often(
-    board: &Board,
-    alloc: Global,
-    seat: &mut BoardSeat,
-) -> Receipts
+pub(crate) fn pay_shared_often(board: &Board, alloc: Global, seat: &mut BoardSeat) -> Receipts
     requires idle { IsIdle board.now seat.old }
     ensures rest { IfSome result (λ _. HoldsNoCell board.now seat.new) }
 {
@@ -161,11 +144,7 @@ pub(crate) fn pay_shared_often(
 }
 
 /// Pays from the single account beside the other threads.
-pub(crate) fn pay_own_often(
-    board: &Board,
-    alloc: Global,
-    seat: &mut BoardSeat,
-) -> Receipts
+pub(crate) fn pay_own_often(board: &Board, alloc: Global, seat: &mut BoardSeat) -> Receipts
     requires idle { IsIdle board.now seat.old }
     ensures rest { IfSome result (λ _. HoldsNoCell board.now seat.new) }
 {
@@ -179,11 +158,7 @@ pub(crate) fn pay_own_often(
 }
 
 /// Reads one account after another beside the other threads.
-pub(crate) fn read_often(
-    board: &Board,
-    alloc: Global,
-    seat: &mut BoardSeat,
-) -> Receipts
+pub(crate) fn read_often(board: &Board, alloc: Global, seat: &mut BoardSeat) -> Receipts
     requires idle { IsIdle board.now seat.old }
     ensures rest { IfSome result (λ _. HoldsNoCell board.now seat.new) }
 {

@@ -36,11 +36,7 @@ fn words_of_players(rt: HostRuntime) {
 }
 
 /// Whether the second process sees the first request of the other, which asks for 7.
-fn asks_and_sees(
-    board: &Board,
-    second: &mut BoardSeat,
-    seat: &mut BoardSeat,
-) -> bool
+fn asks_and_sees(board: &Board, second: &mut BoardSeat, seat: &mut BoardSeat) -> bool
     requires { AreNewPair board.now second.old seat.old }
 {
     let Some(slot) = slot_on(board.book(), 0, seat.process()) else {
@@ -59,8 +55,7 @@ fn asks_and_sees(
 }
 
 /// One process asks, and the other sees what.
-fn requests<R: Abort>(rt: &R, alloc: Global)
-{
+fn requests<R: Abort>(rt: &R, alloc: Global) {
     let accounts = [(100, [0, 1].as_slice()), (0, [].as_slice())];
     let (board, mut second, mut seat) = new_pair(alloc, 65, accounts.as_slice()).expect(
         rt, "a board",
@@ -74,10 +69,7 @@ fn a_request_is_seen(rt: HostRuntime) {
 }
 
 /// Whether process 1 settles the first round of the account that it shares with process 0.
-fn settles_first(
-    board: &Board,
-    seat: &mut BoardSeat,
-) -> bool
+fn settles_first(board: &Board, seat: &mut BoardSeat) -> bool
     requires { seat.old ≡ new_seat board.now 1 }
     ensures { IsTrue result → IsIdle board.now seat.new × (seat.new.knows.first ≡ 1) }
 {
@@ -130,8 +122,7 @@ fn has_first_round(end: &BoardEnd) -> bool
 }
 
 /// One process settles a round of the account that it shares with another. The closed board has the words of its record.
-fn settles<R: Abort>(rt: &R, alloc: Global)
-{
+fn settles<R: Abort>(rt: &R, alloc: Global) {
     let accounts = [(100, [0, 1].as_slice()), (0, [].as_slice())];
     let (board, first, second) = new_pair(alloc, 65, accounts.as_slice()).expect(rt, "a board");
     let end = end_of_first(board, alloc, first, second).expect(rt, "an end");
@@ -159,11 +150,7 @@ fn slots_of_both(board: &Board) -> Option<(u32, u32)>
 }
 
 /// Whether process 0 decides the first round, then process 1, which finds it decided so, publishes it, and process 0 does so last.
-fn publish_one_round(
-    board: &Board,
-    zero: &mut BoardSeat,
-    one: &mut BoardSeat,
-) -> bool
+fn publish_one_round(board: &Board, zero: &mut BoardSeat, one: &mut BoardSeat) -> bool
     requires { AreNewPair board.now zero.old one.old }
     ensures zero { IsTrue result → IsIdle board.now zero.new × (zero.new.knows.first ≡ 0) }
     ensures one { IsTrue result → IsIdle board.now one.new × (one.new.knows.first ≡ 1) }
@@ -184,12 +171,7 @@ fn publish_one_round(
 }
 
 /// The board's end, where both processes have published the first round.
-fn end_of_both(
-    board: Board,
-    alloc: Global,
-    zero: BoardSeat,
-    one: BoardSeat,
-) -> Option<BoardEnd>
+fn end_of_both(board: Board, alloc: Global, zero: BoardSeat, one: BoardSeat) -> Option<BoardEnd>
     requires { AreNewPair board zero one }
     ensures { IfSome result (λ end. end.book.processes ≡ 2) }
 {
@@ -213,8 +195,7 @@ fn has_round_twice(end: &BoardEnd) -> bool
 }
 
 /// Two processes publish one round, the one that decided it last.
-fn publish_twice<R: Abort>(rt: &R, alloc: Global)
-{
+fn publish_twice<R: Abort>(rt: &R, alloc: Global) {
     let accounts = [(100, [0, 1].as_slice()), (0, [].as_slice())];
     let (board, first, second) = new_pair(alloc, 65, accounts.as_slice()).expect(rt, "a board");
     let end = end_of_both(board, alloc, first, second).expect(rt, "an end");
@@ -227,11 +208,7 @@ fn a_round_is_published_by_both(rt: HostRuntime) {
 }
 
 /// Whether one process pays, and the other reads what, through notes alone.
-fn pays_and_tells(
-    board: &Board,
-    seat: &mut BoardSeat,
-    other: &mut BoardSeat,
-) -> bool
+fn pays_and_tells(board: &Board, seat: &mut BoardSeat, other: &mut BoardSeat) -> bool
     requires { AreNewPair board.now seat.old other.old }
     ensures seat { IsTrue result → IsIdle board.now seat.new × (seat.new.knows.first ≡ 0) }
     ensures other { IsTrue result → IsIdle board.now other.new × (other.new.knows.first ≡ 1) }
@@ -245,12 +222,7 @@ fn pays_and_tells(
 }
 
 /// The board's end, where process 0 has paid and told process 1 of it.
-fn end_of_told(
-    board: Board,
-    alloc: Global,
-    seat: BoardSeat,
-    other: BoardSeat,
-) -> Option<BoardEnd>
+fn end_of_told(board: Board, alloc: Global, seat: BoardSeat, other: BoardSeat) -> Option<BoardEnd>
     requires { AreNewPair board seat other }
     ensures { IfSome result (λ end. end.book.processes ≡ 2) }
 {
@@ -271,8 +243,7 @@ fn has_payment(end: &BoardEnd) -> bool
 }
 
 /// One process pays, and the other reads what. The closed board has the words of the record.
-fn tells<R: Abort>(rt: &R, alloc: Global)
-{
+fn tells<R: Abort>(rt: &R, alloc: Global) {
     let accounts = [(100, [0].as_slice()), (100, [1].as_slice())];
     let (board, seat, other) = new_pair(alloc, 65, accounts.as_slice()).expect(rt, "a board");
     let end = end_of_told(board, alloc, seat, other).expect(rt, "an end");
@@ -285,11 +256,7 @@ fn a_record_is_told(rt: HostRuntime) {
 }
 
 /// The end of the board of one process, where that has paid.
-fn end_of_single(
-    board: Board,
-    alloc: Global,
-    seat: BoardSeat,
-) -> Option<BoardEnd>
+fn end_of_single(board: Board, alloc: Global, seat: BoardSeat) -> Option<BoardEnd>
     requires alone { board.book.processes ≡ 1 }
     requires seat { seat ≡ new_seat board 0 }
     ensures { IfSome result (λ end. end.book.processes ≡ 1) }
@@ -312,8 +279,7 @@ fn has_single_payment(end: &BoardEnd) -> bool
 }
 
 /// The only process pays an account without an owner. The closed board has the words of the record.
-fn pays_alone<R: Abort>(rt: &R, alloc: Global)
-{
+fn pays_alone<R: Abort>(rt: &R, alloc: Global) {
     let accounts = [(100, [0].as_slice()), (0, [].as_slice())];
     let (board, seat) = new_single(alloc, 65, accounts.as_slice()).expect(rt, "a board");
     let end = end_of_single(board, alloc, seat).expect(rt, "an end");

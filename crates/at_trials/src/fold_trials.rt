@@ -32,11 +32,7 @@ pub(crate) fn new_totals(alloc: Global, board: &Board) -> Option<Totals>
 }
 
 /// The only process pays, in nine steps.
-fn pays_alone(
-    board: &Board,
-    seat: &mut BoardSeat,
-    targets: Targets,
-)
+fn pays_alone(board: &Board, seat: &mut BoardSeat, targets: Targets)
     requires board { seat.old.board ≡ board.now.id }
     requires new { seat.old.knows ≡ starting_seat board.now.book seat.old.knows.first }
     requires process { seat.old.knows.first ≡ 0 }
@@ -51,10 +47,7 @@ fn pays_alone(
 }
 
 /// The words of the first record of the only process.
-fn first_words(
-    board: &Board,
-    seat: &mut BoardSeat,
-) -> [u64; 8]
+fn first_words(board: &Board, seat: &mut BoardSeat) -> [u64; 8]
     requires board { IsOf seat.old board.now }
     requires alone { board.now.book.processes ≡ 1 }
     requires one { HasOnlyFirst board.now.book seat.old.knows.seen }
@@ -68,11 +61,7 @@ fn first_words(
 }
 
 /// New totals catch up with the only record, in seven steps.
-fn catches_up(
-    board: &Board,
-    seat: &mut BoardSeat,
-    totals: &mut Totals,
-)
+fn catches_up(board: &Board, seat: &mut BoardSeat, totals: &mut Totals)
     requires board { IsOf seat.old board.now }
     requires one { HasOnlyFirst board.now.book seat.old.knows.seen }
     requires counted { HasCounted totals.old board.now.book seat.old.knows.seen }
@@ -161,11 +150,7 @@ fn sixty_and_forty() -> Targets
 }
 
 /// Whether the only process pays 60 and 40, its record has these words, and totals that catch up tell the balances.
-fn counts_a_pay_out(
-    board: &Board,
-    seat: &mut BoardSeat,
-    totals: &mut Totals,
-) -> bool
+fn counts_a_pay_out(board: &Board, seat: &mut BoardSeat, totals: &mut Totals) -> bool
     requires alone { board.now.book.processes ≡ 1 }
     requires seat { seat.old ≡ new_seat board.now 0 }
     requires new { IsNewTotals totals.old board.now.book }
@@ -185,8 +170,7 @@ fn counts_a_pay_out(
 }
 
 /// The only process of a board pays two targets, and new totals catch up.
-fn pays_out<R: Abort>(rt: &R, alloc: Global)
-{
+fn pays_out<R: Abort>(rt: &R, alloc: Global) {
     let accounts = [
         (100, [0].as_slice()),
         (0, [].as_slice()),
@@ -232,8 +216,7 @@ fn counts_what_was_told(
 }
 
 /// One process pays, and new totals of the other catch up.
-fn tells<R: Abort>(rt: &R, alloc: Global)
-{
+fn tells<R: Abort>(rt: &R, alloc: Global) {
     let accounts = [(100, [0].as_slice()), (0, [1].as_slice())];
     let (board, mut seat, mut other) = new_pair(alloc, 4, accounts.as_slice()).expect(
         rt, "a board",
@@ -248,11 +231,7 @@ fn a_told_record_is_counted(rt: HostRuntime) {
 }
 
 /// Whether process 0 counts its own record as it publishes it, and has no round of account 1, which it shares.
-fn counts_own(
-    board: &Board,
-    seat: &mut BoardSeat,
-    totals: &mut Totals,
-) -> bool
+fn counts_own(board: &Board, seat: &mut BoardSeat, totals: &mut Totals) -> bool
     requires seat { seat.old ≡ new_seat board.now 0 }
     requires new { IsNewTotals totals.old board.now.book }
 {
@@ -266,8 +245,7 @@ fn counts_own(
 }
 
 /// A process counts its own record.
-fn counts<R: Abort>(rt: &R, alloc: Global)
-{
+fn counts<R: Abort>(rt: &R, alloc: Global) {
     let accounts = [(100, [0].as_slice()), (0, [0, 1].as_slice())];
     let (board, mut seat, _) = new_pair(alloc, 4, accounts.as_slice()).expect(rt, "a board");
     let mut totals = new_totals(alloc, &board).expect(rt, "totals");
@@ -288,10 +266,7 @@ const FIRST: Decision = Decision {
 };
 
 /// Whether process 0 asks to pay 7 to account 1, decides it in the first round of account 0 and publishes that as the only record.
-fn begins(
-    board: &Board,
-    seat: &mut BoardSeat,
-) -> bool
+fn begins(board: &Board, seat: &mut BoardSeat) -> bool
     requires two { board.now.book.processes ≡ 2 }
     requires seat { seat.old ≡ new_seat board.now 0 }
     ensures accounts { IsTrue result → 1 < length board.now.book.accounts }
@@ -311,11 +286,7 @@ fn begins(
 }
 
 /// Whether totals that catch up with the record of a round tell what it has decided, and the balances after it.
-fn counts_a_round(
-    board: &Board,
-    seat: &mut BoardSeat,
-    totals: &mut Totals,
-) -> bool
+fn counts_a_round(board: &Board, seat: &mut BoardSeat, totals: &mut Totals) -> bool
     requires two { board.now.book.processes ≡ 2 }
     requires seat { seat.old ≡ new_seat board.now 0 }
     requires new { IsNewTotals totals.old board.now.book }
@@ -332,8 +303,7 @@ fn counts_a_round(
 }
 
 /// A round is decided and published on the account that two processes share, and new totals catch up.
-fn decides<R: Abort>(rt: &R, alloc: Global)
-{
+fn decides<R: Abort>(rt: &R, alloc: Global) {
     let accounts = [(100, [0, 1].as_slice()), (0, [].as_slice())];
     let (board, mut seat, _) = new_pair(alloc, 4, accounts.as_slice()).expect(rt, "a board");
     let mut totals = new_totals(alloc, &board).expect(rt, "totals");

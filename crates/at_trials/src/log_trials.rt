@@ -18,11 +18,7 @@ use std::alloc::Global;
 use std::process::Abort;
 
 /// The only process pays, in nine steps.
-fn pays_alone(
-    board: &Board,
-    seat: &mut BoardSeat,
-    targets: Targets,
-)
+fn pays_alone(board: &Board, seat: &mut BoardSeat, targets: Targets)
     requires board { seat.old.board ≡ board.now.id }
     requires new { seat.old.knows ≡ starting_seat board.now.book seat.old.knows.first }
     requires pays { IsSoundOwn board.now.book seat.old.knows.first [] 0 targets }
@@ -35,11 +31,7 @@ fn pays_alone(
 }
 
 /// The first record of a process, which its seat tells the other: in two steps with an exchange each, and nine without.
-fn told_record(
-    board: &Board,
-    seat: &mut BoardSeat,
-    other: &mut BoardSeat,
-) -> Record
+fn told_record(board: &Board, seat: &mut BoardSeat, other: &mut BoardSeat) -> Record
     requires seat { IsOf seat.old board.now }
     requires other { IsOf other.old board.now }
     requires published { 0 < count_of seat.old.knows.first seat.old.knows.seen }
@@ -56,10 +48,7 @@ fn told_record(
 }
 
 /// Whether the only process pays 60 and 40, and has room for three more records then.
-fn appends(
-    board: &Board,
-    seat: &mut BoardSeat,
-) -> bool
+fn appends(board: &Board, seat: &mut BoardSeat) -> bool
     requires alone { board.now.book.processes ≡ 1 }
     requires seat { seat.old ≡ new_seat board.now 0 }
 {
@@ -73,8 +62,7 @@ fn appends(
 }
 
 /// The only process of a board pays two targets.
-fn appends_alone<R: Abort>(rt: &R, alloc: Global)
-{
+fn appends_alone<R: Abort>(rt: &R, alloc: Global) {
     let accounts = [
         (100, [0].as_slice()),
         (0, [].as_slice()),
@@ -90,11 +78,7 @@ fn a_record_is_appended(rt: HostRuntime) {
 }
 
 /// The record by which process 0 pays 1 to account 1, as process 1 loads it after a note.
-fn pays_and_tells(
-    board: &Board,
-    seat: &mut BoardSeat,
-    other: &mut BoardSeat,
-) -> Option<Record>
+fn pays_and_tells(board: &Board, seat: &mut BoardSeat, other: &mut BoardSeat) -> Option<Record>
     requires { AreNewPair board.now seat.old other.old }
 {
     let targets = Targets::one(1, 1);
@@ -127,8 +111,7 @@ fn is_payment(told: &Option<Record>) -> bool {
 }
 
 /// One process pays 1 to account 1, and the other loads the record, through a note alone.
-fn tells<R: Abort>(rt: &R, alloc: Global)
-{
+fn tells<R: Abort>(rt: &R, alloc: Global) {
     let accounts = [(100, [0].as_slice()), (100, [1].as_slice())];
     let (board, mut seat, mut other) = new_pair(alloc, 4, accounts.as_slice()).expect(
         rt, "a board",

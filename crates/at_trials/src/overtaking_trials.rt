@@ -66,10 +66,7 @@ fn callers_of(alloc: Global, board: &Board, seats: &mut Vec<BoardSeat>) -> Optio
 }
 
 /// The process, once it has asked for a payment of 10 from account 0 to account 1, if it may.
-fn asks_first(
-    board: &Board,
-    caller: Caller,
-) -> Option<Waiter>
+fn asks_first(board: &Board, caller: Caller) -> Option<Waiter>
     requires { MayCall board.now caller.seat caller.totals }
     ensures { IfSome result (λ w. IsWaiting board.now w.seat w.totals w.helping) }
 {
@@ -86,11 +83,7 @@ fn asks_first(
 }
 
 /// The last eight of these processes, the last of them first, each of which asks after the one before it.
-fn all_ask(
-    alloc: Global,
-    board: &Board,
-    callers: &mut Vec<Caller>,
-) -> Option<Vec<Waiter>>
+fn all_ask(alloc: Global, board: &Board, callers: &mut Vec<Caller>) -> Option<Vec<Waiter>>
     requires { All (λ c. MayCall board.now c.seat c.totals) callers.old.items }
     ensures { IfSome result (λ ws. All (λ w. IsWaiting board.now w.seat w.totals w.helping)
         ws.items) }
@@ -107,10 +100,7 @@ fn all_ask(
 }
 
 /// Whether the next seven turns of a process decide others' requests.
-fn is_overtaken_by_seven(
-    board: &Board,
-    waiter: &mut Waiter,
-) -> bool
+fn is_overtaken_by_seven(board: &Board, waiter: &mut Waiter) -> bool
     requires { IsWaiting board.now waiter.old.seat waiter.old.totals waiter.old.helping }
     ensures { IsTrue result → IsWaiting board.now waiter.new.seat waiter.new.totals
         waiter.new.helping }
@@ -120,7 +110,7 @@ fn is_overtaken_by_seven(
             &mut waiter.helping,
             board,
             &mut waiter.seat,
-            &mut waiter.totals
+            &mut waiter.totals,
         ) {
             return false;
         }
@@ -154,10 +144,7 @@ fn has_eight_rounds(board: &Board, seat: &BoardSeat, totals: &Totals) -> bool
 
 /// Whether the last owner settles the requests of the others first, one round each in the order in which they have asked, and then
 /// its own.
-fn serves_all(
-    board: &Board,
-    waiter: &mut Waiter,
-) -> bool
+fn serves_all(board: &Board, waiter: &mut Waiter) -> bool
     requires { IsWaiting board.now waiter.old.seat waiter.old.totals waiter.old.helping }
 {
     if waiter.seat.process() != OWNERS - 1 {
@@ -170,7 +157,7 @@ fn serves_all(
         &mut waiter.helping,
         board,
         &mut waiter.seat,
-        &mut waiter.totals
+        &mut waiter.totals,
     );
     late == Some((Reply::Done, OWNERS - 1, OWNERS - 1))
         && has_eight_rounds(board, &waiter.seat, &waiter.totals)
@@ -201,10 +188,7 @@ fn finds_settled(
 
 /// Whether the next turns of the first seven owners, from the last of them to the first, find their requests settled, that of each
 /// in the round of its number.
-fn others_find(
-    board: &Board,
-    waiters: &mut Vec<Waiter>,
-) -> bool
+fn others_find(board: &Board, waiters: &mut Vec<Waiter>) -> bool
     requires { All (λ w. IsWaiting board.now w.seat w.totals w.helping) waiters.old.items }
     ensures { IsTrue result → seat.new.exchanges ≡ seat.old.exchanges }
 {
@@ -217,7 +201,7 @@ fn others_find(
             &mut waiter.helping,
             board,
             &mut waiter.seat,
-            &mut waiter.totals
+            &mut waiter.totals,
         ) else {
             return false;
         };
@@ -230,9 +214,7 @@ fn others_find(
 
 /// Whether eight owners of account 0 ask in their order on a new board, the last one serves all of them in that order, and the others
 /// then find that.
-fn eight_are_served(
-    alloc: Global,
-) -> Option<bool> {
+fn eight_are_served(alloc: Global) -> Option<bool> {
     let accounts = [
         (100, [0, 1, 2, 3, 4, 5, 6, 7].as_slice()),
         (0, [].as_slice()),
@@ -244,18 +226,11 @@ fn eight_are_served(
     let mut callers = callers_of(alloc, &board, &mut seats)?;
     let mut waiters = all_ask(alloc, &board, &mut callers)?;
     let mut last = waiters.pop()?;
-    Some(
-        serves_all(&board, &mut last)
-            && others_find(&board, &mut waiters),
-    )
+    Some(serves_all(&board, &mut last) && others_find(&board, &mut waiters))
 }
 
 /// Eight owners of one account are served.
-fn overtakes_seven<R: Abort>(
-    rt: &R,
-    alloc: Global,
-)
-{
+fn overtakes_seven<R: Abort>(rt: &R, alloc: Global) {
     assert!(rt; eight_are_served(alloc) == Some(true));
 }
 

@@ -35,11 +35,7 @@ pub(crate) fn may_pay(book: &Book, process: u32, first: u32, targets: &Targets) 
 }
 
 /// Pays these targets from account 0, by the first record of the seat's process. The answer is what the record says.
-pub(crate) fn pay(
-    board: &Board,
-    seat: &mut BoardSeat,
-    targets: Targets,
-) -> Entry
+pub(crate) fn pay(board: &Board, seat: &mut BoardSeat, targets: Targets) -> Entry
     requires board { seat.old.board ≡ board.now.id }
     requires new { seat.old.knows ≡ starting_seat board.now.book seat.old.knows.first }
     requires pays { IsSoundOwn board.now.book seat.old.knows.first [] 0 targets }

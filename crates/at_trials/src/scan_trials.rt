@@ -82,10 +82,7 @@ fn paid(view: Counts) -> Record
 }
 
 /// Pays by the first record of the seat's process.
-fn pay(
-    board: &Board,
-    seat: &mut BoardSeat,
-)
+fn pay(board: &Board, seat: &mut BoardSeat)
     requires board { seat.old.board ≡ board.now.id }
     requires new { seat.old.knows ≡ starting_seat board.now.book seat.old.knows.first }
     requires pays { MayPayTwice board.now.book seat.old.knows.first }
@@ -100,10 +97,7 @@ fn pay(
 }
 
 /// Pays once more with the view of a snapshot, where that counts the first payment alone.
-fn pay_again(
-    board: &Board,
-    seat: &mut BoardSeat,
-) -> bool
+fn pay_again(board: &Board, seat: &mut BoardSeat) -> bool
     requires board { IsOf seat.old board.now }
     requires process { seat.old.knows.first ≡ 1 }
     requires paid { HasPaid seat.old.knows }
@@ -122,10 +116,7 @@ fn pay_again(
 const ACCOUNTS: [(u64, &[u64]); 3] = [(10, &[0]), (10, &[1]), (10, &[2])];
 
 /// Whether the second collect equals the first, where nobody publishes, and a snapshot counts nothing.
-fn scans_alone(
-    board: &Board,
-    seat: &mut BoardSeat,
-) -> bool
+fn scans_alone(board: &Board, seat: &mut BoardSeat) -> bool
     requires { seat.old ≡ new_seat board.now 2 }
 {
     let mut scan = Scan::start(seat);
@@ -165,19 +156,13 @@ fn scans_beside(
 }
 
 /// Nobody publishes.
-fn scans<R: Abort>(rt: &R, alloc: Global)
-{
+fn scans<R: Abort>(rt: &R, alloc: Global) {
     let (board, (_, _, mut seat)) = new_three(alloc, 4, ACCOUNTS.as_slice()).expect(rt, "a board");
     assert!(rt; scans_alone(&board, &mut seat));
 }
 
 /// Another process publishes, once or twice. Whether the scan answers these counts, its own or borrowed.
-fn meets<R: Abort>(
-    rt: &R,
-    alloc: Global,
-    again: bool,
-)
-{
+fn meets<R: Abort>(rt: &R, alloc: Global, again: bool) {
     let (board, (mut seat, mut other, _)) = new_three(alloc, 4, ACCOUNTS.as_slice()).expect(
         rt, "a board",
     );

@@ -70,12 +70,7 @@ fn may_ask(board: &Board, seat: &BoardSeat, totals: &Totals) -> bool
 }
 
 /// What a payment from account 0 to account 1 answers, if the seat's process may ask for it.
-fn pays(
-    board: &Board,
-    seat: &mut BoardSeat,
-    totals: &mut Totals,
-    amount: u64,
-) -> InRound
+fn pays(board: &Board, seat: &mut BoardSeat, totals: &mut Totals, amount: u64) -> InRound
     requires ready { MayCall board.now seat.old totals.old }
     ensures ready { MayCall board.now seat.new totals.new }
     ensures process { seat.new.knows.first ≡ seat.old.knows.first }
@@ -93,12 +88,7 @@ fn pays(
 }
 
 /// What the same payment answers as a list of one target.
-fn pays_listed(
-    board: &Board,
-    seat: &mut BoardSeat,
-    totals: &mut Totals,
-    amount: u64,
-) -> InRound
+fn pays_listed(board: &Board, seat: &mut BoardSeat, totals: &mut Totals, amount: u64) -> InRound
     requires ready { MayCall board.now seat.old totals.old }
     ensures ready { MayCall board.now seat.new totals.new }
     ensures process { seat.new.knows.first ≡ seat.old.knows.first }
@@ -113,11 +103,7 @@ fn pays_listed(
 }
 
 /// Whether payments of 60 and 30 are done in the first rounds, and one more of 30 is short in the next.
-fn pays_until_short(
-    board: &Board,
-    seat: &mut BoardSeat,
-    totals: &mut Totals,
-) -> bool
+fn pays_until_short(board: &Board, seat: &mut BoardSeat, totals: &mut Totals) -> bool
     requires ready { MayCall board.now seat.old totals.old }
     ensures ready { MayCall board.now seat.new totals.new }
     ensures process { seat.new.knows.first ≡ seat.old.knows.first }
@@ -139,12 +125,7 @@ const FIRST: Decision = Decision {
 };
 
 /// What the process reads of an account of the board.
-fn reads(
-    board: &Board,
-    seat: &mut BoardSeat,
-    totals: &mut Totals,
-    account: u32,
-) -> Option<Reply>
+fn reads(board: &Board, seat: &mut BoardSeat, totals: &mut Totals, account: u32) -> Option<Reply>
     requires ready { MayCall board.now seat.old totals.old }
     ensures ready { MayCall board.now seat.new totals.new }
     ensures process { seat.new.knows.first ≡ seat.old.knows.first }
@@ -159,11 +140,7 @@ fn reads(
 
 /// Whether the process reads 10 and 90, and its totals say that three requests of the first owner are decided in three rounds, how
 /// the first was, and that none of the other owner is.
-fn reads_the_rest(
-    board: &Board,
-    seat: &mut BoardSeat,
-    totals: &mut Totals,
-) -> bool
+fn reads_the_rest(board: &Board, seat: &mut BoardSeat, totals: &mut Totals) -> bool
     requires ready { MayCall board.now seat.old totals.old }
     ensures ready { MayCall board.now seat.new totals.new }
     ensures process { seat.new.knows.first ≡ seat.old.knows.first }
@@ -210,12 +187,7 @@ fn close_pair(board: Board, alloc: Global, zero: BoardSeat, one: BoardSeat) -> O
 }
 
 /// The board's end, where process 0 has paid from account 0 until it was short.
-fn end_of_paid(
-    board: Board,
-    alloc: Global,
-    zero: BoardSeat,
-    one: BoardSeat,
-) -> Option<BoardEnd>
+fn end_of_paid(board: Board, alloc: Global, zero: BoardSeat, one: BoardSeat) -> Option<BoardEnd>
     requires { AreNewPair board zero one }
     ensures { IfSome result (λ end. end.book.processes ≡ 2) }
 {
@@ -226,13 +198,7 @@ fn end_of_paid(
     ) else {
         return None;
     };
-    if pays_and_reads(
-        &board,
-        &mut zero,
-        &mut one,
-        &mut totals,
-        &mut others
-    ) {
+    if pays_and_reads(&board, &mut zero, &mut one, &mut totals, &mut others) {
         close_pair(board, alloc, zero, one)
     } else {
         None
@@ -282,8 +248,7 @@ fn has_three_rounds(end: &BoardEnd) -> bool
 }
 
 /// One of two owners of account 0 pays from it, until that is short.
-fn pays_in_rounds<R: Abort>(rt: &R, alloc: Global)
-{
+fn pays_in_rounds<R: Abort>(rt: &R, alloc: Global) {
     let accounts = [(100, [0, 1].as_slice()), (0, [].as_slice())];
     let (board, first, second) = new_pair(alloc, 4, accounts.as_slice()).expect(rt, "a board");
     let end = end_of_paid(board, alloc, first, second).expect(rt, "an end");
@@ -296,11 +261,7 @@ fn later_rounds_are_published(rt: HostRuntime) {
 }
 
 /// A request of a payment of 10 from account 0 to account 1, if the seat's process may ask for it.
-pub(crate) fn asks(
-    board: &Board,
-    seat: &mut BoardSeat,
-    totals: &mut Totals,
-) -> Option<Helping>
+pub(crate) fn asks(board: &Board, seat: &mut BoardSeat, totals: &mut Totals) -> Option<Helping>
     requires ready { MayCall board.now seat.old totals.old }
     ensures helping { IfSome result (λ h. IsHelping board.now.book seat.new.knows h) }
     ensures counted { HasCounted totals.new board.now.book seat.new.knows.seen }
@@ -432,8 +393,7 @@ fn three_totals(alloc: Global, board: &Board) -> Option<(Totals, Totals, Totals)
 }
 
 /// Three owners of account 0 ask in their order, and the third turns.
-fn overtakes<R: Abort>(rt: &R, alloc: Global)
-{
+fn overtakes<R: Abort>(rt: &R, alloc: Global) {
     let accounts = [(30, [0, 1, 2].as_slice()), (0, [].as_slice())];
     let (board, seats) = new_three(alloc, 4, accounts.as_slice()).expect(rt, "a board");
     let (mut zero, mut one, mut two) = seats;
@@ -494,21 +454,12 @@ fn decided_at(slot: u32) -> OwnerSaid {
 }
 
 /// Two owners of account 0 ask in their order, and the second turns.
-fn overtakes_once<R: Abort>(rt: &R, alloc: Global)
-{
+fn overtakes_once<R: Abort>(rt: &R, alloc: Global) {
     let accounts = [(30, [0, 1].as_slice()), (0, [].as_slice())];
     let (board, mut zero, mut one) = new_pair(alloc, 4, accounts.as_slice()).expect(rt, "a board");
     let mut first = new_totals(alloc, &board).expect(rt, "totals");
     let mut second = new_totals(alloc, &board).expect(rt, "totals");
-    assert!(rt;
-        is_overtaken_once(
-            &board,
-            &mut zero,
-            &mut one,
-            &mut first,
-            &mut second
-        )
-    );
+    assert!(rt; is_overtaken_once(&board, &mut zero, &mut one, &mut first, &mut second));
 }
 
 #[test]

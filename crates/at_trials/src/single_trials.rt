@@ -68,23 +68,14 @@ fn pays_and_reads(
 }
 
 /// Two processes of a new board.
-fn pays<R: Abort>(rt: &R, alloc: Global)
-{
+fn pays<R: Abort>(rt: &R, alloc: Global) {
     let accounts = [(100, [0].as_slice()), (0, [1].as_slice())];
     let (board, mut seat, mut other) = new_pair(alloc, 4, accounts.as_slice()).expect(
         rt, "a board",
     );
     let mut totals = new_totals(alloc, &board).expect(rt, "totals");
     let mut others = new_totals(alloc, &board).expect(rt, "totals");
-    assert!(rt;
-        pays_and_reads(
-            &board,
-            &mut seat,
-            &mut other,
-            &mut totals,
-            &mut others
-        )
-    );
+    assert!(rt; pays_and_reads(&board, &mut seat, &mut other, &mut totals, &mut others));
 }
 
 #[test]

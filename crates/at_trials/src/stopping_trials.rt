@@ -21,11 +21,7 @@ use std::thread::{Threads, join_mut};
 
 /// Asks for 1 from account 0 and collects the other owners' requests, if the seat's process has a slot and room there, and stops: the
 /// request waits, and its owner never turns.
-fn ask_and_stop(
-    board: &Board,
-    seat: &mut BoardSeat,
-    totals: &mut Totals,
-) -> Option<()>
+fn ask_and_stop(board: &Board, seat: &mut BoardSeat, totals: &mut Totals) -> Option<()>
     requires sharer { IsSharer board.now seat.old totals.old }
 {
     let book = board.book();
@@ -43,12 +39,8 @@ fn ask_and_stop(
     Some(())
 }
 
-/// Begins a payment from account 0 with counters of its own, and stops in the middle.
-fn stop(
-    board: &Board,
-    alloc: Global,
-    seat: &mut BoardSeat,
-) -> Option<()>
+/// Begins a payment from account 0, and stops in the middle.
+fn stop(board: &Board, alloc: Global, seat: &mut BoardSeat) -> Option<()>
     requires idle { IsIdle board.now seat.old }
 {
     let mut totals = new_totals(alloc, board)?;

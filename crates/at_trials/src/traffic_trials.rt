@@ -58,10 +58,7 @@ fn last_publisher(board: &Board, seats: &mut Vec<BoardSeat>, process: u32) -> Op
 }
 
 /// Moves 0 from the process's own account to account 0 with the view of a snapshot, and answers the view.
-fn move_nothing(
-    board: &Board,
-    seat: &mut BoardSeat,
-) -> Counts
+fn move_nothing(board: &Board, seat: &mut BoardSeat) -> Counts
     requires publisher { IsPublisher board.now seat.old }
     requires room { (own_part seat.old.knows).published < board.now.book.own_room }
     ensures publisher { IsPublisher board.now seat.new }
@@ -79,11 +76,7 @@ fn move_nothing(
 }
 
 /// Publishes records beside the other threads, and answers their views.
-fn publish_all(
-    board: &Board,
-    alloc: Global,
-    seat: &mut BoardSeat,
-) -> Views
+fn publish_all(board: &Board, alloc: Global, seat: &mut BoardSeat) -> Views
     requires publisher { IsPublisher board.now seat.old }
 {
     let mut views = Vec::new(alloc);
@@ -97,11 +90,7 @@ fn publish_all(
 }
 
 /// Whether these counts count each last record together with all that its view counts.
-fn counts_last_views(
-    board: &Board,
-    seat: &mut BoardSeat,
-    counts: &Counts,
-) -> bool
+fn counts_last_views(board: &Board, seat: &mut BoardSeat, counts: &Counts) -> bool
     requires board { IsOf seat.old board.now }
     requires seen { HasSeen seat.old counts.now }
     ensures same { seat.new ≡ SAME }
@@ -119,11 +108,7 @@ fn counts_last_views(
 }
 
 /// Scans beside the other threads, and answers the counts, or none where a last record disagrees with them.
-fn scan_all(
-    board: &Board,
-    alloc: Global,
-    seat: &mut BoardSeat,
-) -> Scans
+fn scan_all(board: &Board, alloc: Global, seat: &mut BoardSeat) -> Scans
     requires board { IsOf seat.old board.now }
 {
     let mut answers = Vec::new(alloc);
@@ -137,7 +122,7 @@ fn scan_all(
     Ok(Some(answers))
 }
 
-/// Publishes with counters of its own, once all threads are there.
+/// Publishes once all threads are there.
 fn publish_alone(board: &Board, alloc: Global, gate: &AtomicU64, seat: &mut BoardSeat) -> Views
     requires { IsPublisher board.now seat.old }
 {
@@ -145,7 +130,7 @@ fn publish_alone(board: &Board, alloc: Global, gate: &AtomicU64, seat: &mut Boar
     publish_all(board, alloc, seat)
 }
 
-/// Scans with counters of its own, once all threads are there.
+/// Scans once all threads are there.
 fn scan_alone(board: &Board, alloc: Global, gate: &AtomicU64, seat: &mut BoardSeat) -> Scans
     requires { IsOf seat.old board.now }
 {

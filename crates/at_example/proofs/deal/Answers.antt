@@ -18,11 +18,11 @@ returns-clause-zero c =
     let same = c.note-note.ensures.same in
     record {
       of_ledger = c.read-paid_in.ensures.pass;
-      process_is = c.read-paid_in.ensures.process ∙ ap (λ (p : PassTerms). p.knows.first) same ∙ c.transfer-short.ensures.process
-          ∙ c.transfer-paid.ensures.process ∙ c.requires.zero.process_is;
-      stands = c.read-paid_in.ensures.stands (paid ∷ short ∷ [])
+      process_is = c.read-paid_in.ensures.made.process_is ∙ ap (λ (p : PassTerms). p.knows.first) same ∙ c.transfer-short.ensures.made.process_is
+          ∙ c.transfer-paid.ensures.made.process_is ∙ c.requires.zero.process_is;
+      stands = c.read-paid_in.ensures.made.stands (paid ∷ short ∷ [])
           (subst (λ p. Stands p (paid ∷ short ∷ [])) (sym same)
-          (c.transfer-short.ensures.stands (paid ∷ []) (c.transfer-paid.ensures.stands [] c.requires.zero.stands)));
+          (c.transfer-short.ensures.made.stands (paid ∷ []) (c.transfer-paid.ensures.made.stands [] c.requires.zero.stands)));
       counted = omega (
         arith,
         c.read-paid_in.ensures.calls,
@@ -39,11 +39,11 @@ returns-clause-one c =
     let rest : Receipt = c.read-rest.result in
     record {
       of_ledger = c.pay-paid_out.ensures.pass;
-      process_is = c.pay-paid_out.ensures.process ∙ c.read-rest.ensures.process ∙ c.learn.ensures.process
-          ∙ c.transfer-agreed.ensures.process ∙ c.requires.one.process_is;
-      stands = c.pay-paid_out.ensures.stands (agreed ∷ rest ∷ [])
-          (c.read-rest.ensures.stands (agreed ∷ [])
-          (c.learn.ensures.stands (agreed ∷ []) (c.transfer-agreed.ensures.stands [] c.requires.one.stands)));
+      process_is = c.pay-paid_out.ensures.made.process_is ∙ c.read-rest.ensures.made.process_is ∙ c.learn.ensures.process
+          ∙ c.transfer-agreed.ensures.made.process_is ∙ c.requires.one.process_is;
+      stands = c.pay-paid_out.ensures.made.stands (agreed ∷ rest ∷ [])
+          (c.read-rest.ensures.made.stands (agreed ∷ [])
+          (c.learn.ensures.stands (agreed ∷ []) (c.transfer-agreed.ensures.made.stands [] c.requires.one.stands)));
       counted = omega (
         arith,
         c.pay-paid_out.ensures.calls,

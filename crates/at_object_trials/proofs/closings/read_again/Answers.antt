@@ -26,7 +26,7 @@ returns-clause-accounted c =
     (subst (λ rs. AreAccountedFor ledger (set c.args.passes.now 0 c.read.new.pass) (set (map items c.args.receipts.now) 0 rs)) (sym more)
     (AreAccountedFor-one_more ledger c.args.passes.now (map items c.args.receipts.now) pass c.read.new.pass old.items c.read.result all
     some (ap (λ (x : PassTerms). get_or c.args.passes.now 0 x) c.index-passes-0.is) old_is
-    (omega (arith, c.if-len-ge-MOST_CALLS.false, c.len.ensures, ap (λ (v : Vec Receipt Global). length v.items) c.index-receipts-0.is)) c.read.ensures.pass c.read.ensures.process c.read.ensures.stands c.read.ensures.calls))
+    (omega (arith, c.if-len-ge-MOST_CALLS.false, c.len.ensures, ap (λ (v : Vec Receipt Global). length v.items) c.index-receipts-0.is)) c.read.ensures.pass c.read.ensures.made.process_is c.read.ensures.made.stands c.read.ensures.calls))
 
 pub returns-clause-few : goal.returns-clause-few
 returns-clause-few c =

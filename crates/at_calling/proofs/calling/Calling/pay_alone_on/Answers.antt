@@ -13,7 +13,6 @@ use Rattle.at_calling.specs.PayingAlone.{PayingAloneTerms, turns_made}
 use Rattle.at_calling.specs.declared.call_stage.CallStage.{CallStage}
 use Rattle.at_calling.specs.declared.call_stage.CallStage.TheVariants.{PayAlone}
 use Rattle.at_calling.proofs.CallingTurns.{Leaves, TakesCallTurn-stages, calling_next, Leaves-alone, few-alone, small-alone, still-alone}
-use Rattle.at_calling.proofs.calling.Calling.pay_alone_on.Given as given
 use Rattle.at_calling.proofs.calling.Calling.pay_alone_on.Goals.{After-known, After-count_one, After-self}
 use Rattle.at_calling.proofs.calling.Calling.pay_alone_on.Goals as goal
 

@@ -15,7 +15,6 @@ use Rattle.at_calling.specs.PayingShared.{PayingSharedTerms, share_exchanges_mad
 use Rattle.at_calling.specs.declared.call_stage.CallStage.{CallStage}
 use Rattle.at_calling.specs.declared.call_stage.CallStage.TheVariants.{PayShared}
 use Rattle.at_calling.proofs.CallingTurns.{Leaves, TakesCallTurn-stages, calling_next, IsCallingSo-shared, Leaves-shared, few-shared, share_exchanges_made-ended, still-shared}
-use Rattle.at_calling.proofs.calling.Calling.pay_shared_on.Given as given
 use Rattle.at_calling.proofs.calling.Calling.pay_shared_on.Goals.{After-known, After-count_one, After-self}
 use Rattle.at_calling.proofs.calling.Calling.pay_shared_on.Goals as goal
 

@@ -12,7 +12,6 @@ use Rattle.at_calling.specs.Reading.{ReadingTerms}
 use Rattle.at_calling.specs.declared.call_stage.CallStage.{CallStage}
 use Rattle.at_calling.specs.declared.call_stage.CallStage.TheVariants.{Read}
 use Rattle.at_calling.proofs.CallingTurns.{Leaves, TakesCallTurn-stages, calling_next, Leaves-read, few-read, still-read}
-use Rattle.at_calling.proofs.calling.Calling.read_on.Given as given
 use Rattle.at_calling.proofs.calling.Calling.read_on.Goals.{After-known, After-count_one, After-self}
 use Rattle.at_calling.proofs.calling.Calling.read_on.Goals as goal
 

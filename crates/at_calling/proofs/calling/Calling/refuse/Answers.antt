@@ -1,4 +1,4 @@
-use Rattle.std.proofs.Common.{◌≡◌, ℕ, Some, refl, sym, ap, subst, ◌∙◌, arith}
+use Rattle.std.proofs.Common.{◌≡◌, Some, refl, sym, ap, subst, ◌∙◌, arith}
 use Rattle.at_history.specs.Moves.{AreRuns}
 use Rattle.at_ledger.specs.Book.{BookTerms}
 use Rattle.at_board.specs.Knowledge.Seats.{SeatTerms}

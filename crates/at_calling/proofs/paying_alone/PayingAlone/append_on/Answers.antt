@@ -30,7 +30,6 @@ use Rattle.at_calling.specs.contracts.paying_alone.PayingAlone.{the_view}
 use Rattle.at_calling.specs.declared.pay_stage.PayStage.TheVariants.{Append}
 use Rattle.at_machines.specs.Appending.{AppendingTerms, StoresNextWord, publication_of}
 use Rattle.at_machines.specs.Looking.{IsWithin}
-use Rattle.at_calling.proofs.paying_alone.PayingAlone.append_on.Given as given
 use Rattle.at_calling.proofs.paying_alone.PayingAlone.append_on.Goals.{After-self, After-turn-is_published}
 use Rattle.at_calling.proofs.paying_alone.PayingAlone.append_on.Goals as goal
 

@@ -30,7 +30,6 @@ use Rattle.at_calling.specs.declared.pay_stage.PayStage.{PayStage}
 use Rattle.at_calling.specs.declared.pay_stage.PayStage.TheVariants.{Append, Look}
 use Rattle.at_machines.specs.Appending.{AppendingTerms, starting_appending}
 use Rattle.at_machines.specs.Looking.{IsWithin}
-use Rattle.at_calling.proofs.paying_alone.PayingAlone.look_on.Given as given
 use Rattle.at_calling.proofs.paying_alone.PayingAlone.look_on.Goals.{After-is_short, After-known, After-self, After-start, After-turn-looked}
 use Rattle.at_calling.proofs.paying_alone.PayingAlone.look_on.Goals as goal
 

@@ -23,7 +23,6 @@ use Rattle.at_calling.specs.Turning.{IsHelpOf, IsHelpWithin, LeavesSeat, Turning
 use Rattle.at_calling.specs.contracts.paying_shared.PayingShared.{the_view}
 use Rattle.at_calling.specs.declared.share_stage.ShareStage.{ShareStage}
 use Rattle.at_calling.specs.declared.share_stage.ShareStage.TheVariants.{Ended, Help}
-use Rattle.at_calling.proofs.paying_shared.PayingShared.help_on.Given as given
 use Rattle.at_calling.proofs.paying_shared.PayingShared.help_on.Goals.{After-known, After-self, After-turn-helped}
 use Rattle.at_calling.proofs.paying_shared.PayingShared.help_on.Goals as goal
 

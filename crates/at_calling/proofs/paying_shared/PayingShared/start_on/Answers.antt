@@ -23,7 +23,6 @@ use Rattle.at_calling.specs.Turning.{TurningTerms, help_turns_left}
 use Rattle.at_calling.specs.contracts.paying_shared.PayingShared.{the_view}
 use Rattle.at_calling.specs.declared.share_stage.ShareStage.{ShareStage}
 use Rattle.at_calling.specs.declared.share_stage.ShareStage.TheVariants.{Help, Start}
-use Rattle.at_calling.proofs.paying_shared.PayingShared.start_on.Given as given
 use Rattle.at_calling.proofs.paying_shared.PayingShared.start_on.Goals.{After-known, After-self, After-start-turning, After-turn-started}
 use Rattle.at_calling.proofs.paying_shared.PayingShared.start_on.Goals as goal
 

@@ -9,7 +9,6 @@ use Rattle.at_log.specs.declared.receipt.Receipt.{Receipt}
 use Rattle.at_single.proofs.Laws.Looks.{CountsAccount-HasLooked, CountsFront-HasLooked, balance-HasLooked}
 use Rattle.at_calling.proofs.ReadingLaws.{IsReadOf-HasLooked}
 use Rattle.at_calling.specs.Reading.{IsReadOf, ReadingTerms}
-use Rattle.at_calling.proofs.reading.Reading.turn.Given as given
 use Rattle.at_calling.proofs.reading.Reading.turn.Goals.{After-known}
 use Rattle.at_calling.proofs.reading.Reading.turn.Goals as goal
 

@@ -18,7 +18,6 @@ use Rattle.at_calling.specs.Starting.{MakesStartStep, StartingTerms, asking_step
 use Rattle.at_calling.specs.contracts.starting.Starting.{the_view}
 use Rattle.at_calling.specs.declared.start_stage.StartStage.{StartStage}
 use Rattle.at_calling.specs.declared.start_stage.StartStage.TheVariants.{Ask, Collect}
-use Rattle.at_calling.proofs.starting.Starting.ask_on.Given as given
 use Rattle.at_calling.proofs.starting.Starting.ask_on.Goals.{After-become_next, After-opened, After-self, After-slot_of, After-turn-announced}
 use Rattle.at_calling.proofs.starting.Starting.ask_on.Goals as goal
 

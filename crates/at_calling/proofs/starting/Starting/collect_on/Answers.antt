@@ -20,7 +20,6 @@ use Rattle.at_calling.specs.Reading.{LeavesTotals}
 use Rattle.at_calling.specs.Starting.{IsStartOf, StartingTerms, asking_steps_of, start_turns_after, start_turns_in, start_turns_left, unless_ended}
 use Rattle.at_calling.specs.contracts.starting.Starting.{the_view}
 use Rattle.at_calling.specs.declared.start_stage.StartStage.TheVariants.{Collect}
-use Rattle.at_calling.proofs.starting.Starting.collect_on.Given as given
 use Rattle.at_calling.proofs.starting.Starting.collect_on.Goals.{After-self, After-turn-collected}
 use Rattle.at_calling.proofs.starting.Starting.collect_on.Goals as goal
 

@@ -19,7 +19,6 @@ use Rattle.at_calling.specs.Starting.{StartingTerms, asking_steps_of, start_turn
 use Rattle.at_calling.specs.contracts.starting.Starting.{the_view}
 use Rattle.at_calling.specs.declared.start_stage.StartStage.{StartStage}
 use Rattle.at_calling.specs.declared.start_stage.StartStage.TheVariants.{Ask, Look}
-use Rattle.at_calling.proofs.starting.Starting.look_on.Given as given
 use Rattle.at_calling.proofs.starting.Starting.look_on.Goals.{After-self, After-targets_of-targets, After-turn-looked}
 use Rattle.at_calling.proofs.starting.Starting.look_on.Goals as goal
 

@@ -26,7 +26,6 @@ use Rattle.at_calling.specs.Reading.{LeavesTotals}
 use Rattle.at_calling.specs.Turning.{IsHelpOf, LeavesSeat, TurningTerms, WaitsOn, help_turns_left}
 use Rattle.at_calling.specs.contracts.turning.Turning.{the_view}
 use Rattle.at_calling.specs.declared.turn_stage.TurnStage.TheVariants.{Decide}
-use Rattle.at_calling.proofs.turning.Turning.decide_on.Given as given
 use Rattle.at_calling.proofs.turning.Turning.decide_on.Goals.{After-self, After-turn-decided}
 use Rattle.at_calling.proofs.turning.Turning.decide_on.Goals as goal
 

@@ -33,7 +33,6 @@ use Rattle.at_calling.specs.Reading.{LeavesTotals}
 use Rattle.at_calling.specs.Turning.{IsHelpOf, LeavesSeat, TurningTerms, WaitsOn, help_turns_in, help_turns_left}
 use Rattle.at_calling.specs.contracts.turning.Turning.{the_view}
 use Rattle.at_calling.specs.declared.turn_stage.TurnStage.TheVariants.{Decide, Found, Look}
-use Rattle.at_calling.proofs.turning.Turning.look_on.Given as given
 use Rattle.at_calling.proofs.turning.Turning.look_on.Goals.{After-known, After-self, After-receipt, After-start-deciding, After-turn-looked}
 use Rattle.at_calling.proofs.turning.Turning.look_on.Goals as goal
 
