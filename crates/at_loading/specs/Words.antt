@@ -1,5 +1,5 @@
 -- What the words of each command ask for.
-use Rattle.std.specs.Prelude.{◌≡◌, ℕ, ⊤, ◌&&◌, List, [], ◌∷◌, map, length, codes, bytes_eq, nat_le, Option, Some, None, option_map, if◌then◌else◌, String, string_bytes}
+use Rattle.std.specs.Prelude.{ℕ, ⊤, ◌&&◌, List, [], ◌∷◌, map, length, codes, bytes_eq, nat_le, Option, Some, None, option_map, if◌then◌else◌, String, string_bytes}
 use Rattle.std.specs.Global.{Global}
 use Rattle.at_base.specs.Numbers.{number_of}
 use Rattle.at_ledger.specs.Draft.{is_within}
