@@ -1,6 +1,6 @@
 -- Words are refused exactly where they ask for nothing.
 use Rattle.std.proofs.Common.{◌≡◌, ◌↔◌, Option, Some, None, refl, inl, inr}
-use Rattle.at_report.specs.declared.status.Status.TheVariants.{Done, NoMemory, Usage, WriteFault}
+use Rattle.at_report.specs.declared.status.Status.TheVariants.{Usage}
 use Rattle.at_report.specs.declared.status.UsageFault.TheVariants.{Words}
 use Rattle.at_loading.specs.Words.{Wanted}
 use Rattle.at_loading.specs.Words.Wanted.{Agree, Deliver, Files, Make, Replay, Verify}

@@ -1,5 +1,4 @@
-use Rattle.std.proofs.Common.{◌∙◌, inl, inr, refl}
-use Rattle.at_commands.specs.Made.{SummarizesRun, made}
+use Rattle.std.proofs.Common.{inl, inr}
 use Rattle.at_commands.proofs.making.answer_make.Goals as goal
 
 pub returns-clause-answered : goal.returns-clause-answered

@@ -1,6 +1,5 @@
-use Rattle.std.proofs.Common.{◌≡◌, ◌⊎◌, ◌∙◌, ℕ, true, None, Ok, List, Option, Vec, inl, inr, refl, string_bytes, length}
+use Rattle.std.proofs.Common.{◌≡◌, ℕ, true, Ok, List, Vec, inl, inr, string_bytes, length}
 use Rattle.std.specs.Global.{Global}
-use Rattle.std.specs.Result.{IfOk}
 use Rattle.std.proofs.lemmas.List.{length-map}
 use Rattle.at_loading.specs.Faults.{HasFurtherNumbers, IsWritten, MayRefuseOf}
 use Rattle.at_loading.specs.Faults.Kind.{scheduled}

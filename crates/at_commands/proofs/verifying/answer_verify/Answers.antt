@@ -1,6 +1,5 @@
-use Rattle.std.proofs.Common.{◌≡◌, ◌⊎◌, ◌∙◌, ℕ, true, None, Ok, List, Option, Vec, inl, inr, refl, string_bytes, length}
+use Rattle.std.proofs.Common.{◌≡◌, ℕ, true, List, Vec, inl, inr, string_bytes, length}
 use Rattle.std.specs.Global.{Global}
-use Rattle.std.specs.Result.{IfOk}
 use Rattle.std.proofs.lemmas.List.{length-map}
 use Rattle.at_loading.specs.Faults.{HasFurtherNumbers, IsWritten}
 use Rattle.at_loading.specs.Words.{verifying_shown}

@@ -1,4 +1,3 @@
-use Rattle.std.proofs.Common.{◌↔◌}
 use Rattle.at_loading.specs.Words.{wanted_of, words_of}
 use Rattle.at_commands.proofs.Laws.Formless.{Leaves-formless}
 use Rattle.at_program.proofs.serving.serve.Goals as goal
