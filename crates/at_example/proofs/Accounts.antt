@@ -1,5 +1,5 @@
 -- The passes and receipts of a ledger of two processes.
-use Rattle.std.proofs.Common.{◌≡◌, ℕ, ◌<◌, List, [], ◌∷◌, ◌++◌, ap, get_or, length, subst, sym, ◌∙◌, arith, zero, suc}
+use Rattle.std.proofs.Common.{◌≡◌, ◌<◌, List, [], ◌∷◌, ◌++◌, ap, get_or, length, subst, sym, ◌∙◌, arith, zero, suc}
 use Rattle.std.proofs.lemmas.List.{get_or_append_left, get_or_at, length-append}
 use Rattle.at_board.specs.Knowledge.Seats.{BoardTerms}
 use Rattle.at_log.specs.declared.receipt.Receipt.{Receipt}

@@ -1,4 +1,4 @@
-use Rattle.std.proofs.Common.{◌≡◌, List, ◌++◌, ap, ◌∙◌}
+use Rattle.std.proofs.Common.{◌++◌, ap, ◌∙◌}
 use Rattle.std.specs.Option.{option_to_list}
 use Rattle.at_ledger.specs.Book.{BookTerms}
 use Rattle.at_example.proofs.Accounts.{IsNewPass-two}
