@@ -31,7 +31,8 @@ fn collects(board: &Board, seat: &mut BoardSeat) -> (Counts, u32)
 fn loads_entry(board: &Board, seat: &mut BoardSeat, p: u32) -> (Entry, u32)
     requires board { IsOf seat.old board.now }
     requires record { SeesRecord seat.old.knows p 0 }
-    ensures { seat.new ≡ seat.old }
+    ensures knows { seat.new.knows ≡ seat.old.knows }
+    ensures board { IsOf seat.new board.now }
 {
     let mut loading = LoadingEntry::start(seat, p, 0);
     let mut turns: u32 = 1;
