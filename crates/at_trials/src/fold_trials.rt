@@ -51,7 +51,8 @@ fn first_words(board: &Board, seat: &mut BoardSeat) -> [u64; 8]
     requires board { IsOf seat.old board.now }
     requires alone { board.now.book.processes ≡ 1 }
     requires one { HasOnlyFirst board.now.book seat.old.knows.seen }
-    ensures same { seat.new ≡ SAME }
+    ensures board { IsOf seat.new board.now }
+    ensures knows { seat.new.knows ≡ seat.old.knows }
 {
     let mut words = [0u64; 8];
     for j in 0..8u32 {

@@ -187,16 +187,16 @@ fn finds_settled(
 }
 
 /// Whether the next turns of the first seven owners, from the last of them to the first, find their requests settled, that of each
-/// in the round of its number.
+/// in the round of its number, with no exchange.
 fn others_find(board: &Board, waiters: &mut Vec<Waiter>) -> bool
     requires { All (λ w. IsWaiting board.now w.seat w.totals w.helping) waiters.old.items }
-    ensures { IsTrue result → seat.new.exchanges ≡ seat.old.exchanges }
 {
     for i in 1..OWNERS {
         let Some(mut waiter) = waiters.pop() else {
             return false;
         };
         let process = OWNERS - 1 - i;
+        let exchanges = waiter.seat.exchanges();
         let Some(answer) = finds_settled(
             &mut waiter.helping,
             board,
@@ -206,6 +206,9 @@ fn others_find(board: &Board, waiters: &mut Vec<Waiter>) -> bool
             return false;
         };
         if waiter.seat.process() != process || answer != (Reply::Done, process, process) {
+            return false;
+        }
+        if waiter.seat.exchanges() != exchanges {
             return false;
         }
     }

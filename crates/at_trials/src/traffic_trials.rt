@@ -93,7 +93,8 @@ fn publish_all(board: &Board, alloc: Global, seat: &mut BoardSeat) -> Views
 fn counts_last_views(board: &Board, seat: &mut BoardSeat, counts: &Counts) -> bool
     requires board { IsOf seat.old board.now }
     requires seen { HasSeen seat.old counts.now }
-    ensures same { seat.new ≡ SAME }
+    ensures board { IsOf seat.new board.now }
+    ensures knows { seat.new.knows ≡ seat.old.knows }
 {
     for p in 0..counts.len() {
         let Some(last) = counts.get(p).checked_sub(1) else {

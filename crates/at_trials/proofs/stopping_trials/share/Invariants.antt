@@ -1,7 +1,0 @@
-use Rattle.at_trials.proofs.stopping_trials.share.Given as goal
-
-abbrev pub ghosts-pay_shared_often-L-Ledger : goal.ghosts-pay_shared_often-L-Ledger
-ghosts-pay_shared_often-L-Ledger a = record { name = a.steps.name; parts = a.steps.parts }
-
-abbrev pub ghosts-pay_shared_often-X-Ledger : goal.ghosts-pay_shared_often-X-Ledger
-ghosts-pay_shared_often-X-Ledger a = record { name = a.exchanges.name; parts = a.exchanges.parts }
