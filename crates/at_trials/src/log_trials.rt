@@ -1,7 +1,7 @@
 //! A record is appended on a small board, and another process loads it through a note.
 
 ghost use Rattle.std.specs.Prelude.{◌≡◌, ◌+◌, ◌<◌, [], IsTrue};
-ghost use Rattle.at_board.specs.Counting.{raised};
+ghost use Rattle.at_board.specs.Counting.{exchanged, raised};
 ghost use Rattle.at_board.specs.Ends.Opening.{starting_seat};
 ghost use Rattle.at_board.specs.Knowledge.Seats.{IsOf};
 ghost use Rattle.at_history.specs.Publications.{count_of};
@@ -30,14 +30,15 @@ fn pays_alone(board: &Board, seat: &mut BoardSeat, targets: Targets)
     let _entry = pay(board, seat, targets);
 }
 
-/// The first record of a process, which its seat tells the other: in two steps with an exchange each, and nine without.
+/// The first record of a process, which its seat tells the other: in a step with an exchange of each, and nine more of the other.
 fn told_record(board: &Board, seat: &mut BoardSeat, other: &mut BoardSeat) -> Record
     requires seat { IsOf seat.old board.now }
     requires other { IsOf other.old board.now }
     requires published { 0 < count_of seat.old.knows.first seat.old.knows.seen }
     requires two { board.now.book.processes ≡ 2 }
-    ensures steps { seat.new.steps ≡ raised seat.old.steps 11 }
-    ensures exchanges { seat.new.exchanges ≡ raised seat.old.exchanges 2 }
+    ensures noted { seat.new ≡ exchanged seat.old 1 }
+    ensures steps { other.new.steps ≡ raised other.old.steps 10 }
+    ensures exchanges { other.new.exchanges ≡ raised other.old.exchanges 1 }
 {
     let note = board.note(seat);
     board.learn(other, note);

@@ -215,6 +215,16 @@ fn others_find(board: &Board, waiters: &mut Vec<Waiter>) -> bool
     true
 }
 
+/// Whether the last of them serves all, and the others then find that.
+fn last_serves_all(board: &Board, waiters: &mut Vec<Waiter>) -> bool
+    requires { All (λ w. IsWaiting board.now w.seat w.totals w.helping) waiters.old.items }
+{
+    let Some(mut last) = waiters.pop() else {
+        return false;
+    };
+    serves_all(board, &mut last) && others_find(board, waiters)
+}
+
 /// Whether eight owners of account 0 ask in their order on a new board, the last one serves all of them in that order, and the others
 /// then find that.
 fn eight_are_served(alloc: Global) -> Option<bool> {
@@ -228,8 +238,7 @@ fn eight_are_served(alloc: Global) -> Option<bool> {
     };
     let mut callers = callers_of(alloc, &board, &mut seats)?;
     let mut waiters = all_ask(alloc, &board, &mut callers)?;
-    let mut last = waiters.pop()?;
-    Some(serves_all(&board, &mut last) && others_find(&board, &mut waiters))
+    Some(last_serves_all(&board, &mut waiters))
 }
 
 /// Eight owners of one account are served.

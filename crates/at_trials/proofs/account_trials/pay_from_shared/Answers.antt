@@ -1,8 +1,9 @@
-use Rattle.std.proofs.Common.{ap, subst, arith}
+use Rattle.std.proofs.Common.{rules, [], ◌∷◌, length, refl, ap, subst, arith}
 use Rattle.at_board.specs.declared.knowledge.Knowledge.{Knowledge}
 use Rattle.at_ledger.specs.Book.{BookTerms, HasSlot}
 use Rattle.at_ledger.specs.declared.call.Call.{Call}
 use Rattle.at_log.specs.Receipts.{is_at_round, payout_of}
+use Rattle.at_trials.proofs.OneTarget.{AreTargetsOn-one}
 use Rattle.at_trials.proofs.SettledLaws.{HasAllSettled-next, source_of_payout}
 use Rattle.at_trials.proofs.account_trials.pay_from_shared.Goals as goal
 
@@ -23,3 +24,10 @@ returns-then-announced-number c =
             (ap (λ (t : Call). source_of_payout (payout_of t)) told.call) (ap is_at_round told.in_round.at) told.placed;
       };
     }
+
+pub pay_shared-receipt-requires-clause-call : goal.pay_shared-receipt-requires-clause-call
+pay_shared-receipt-requires-clause-call c = record {
+  targets = (1, 1) ∷ [];
+  payout = refl;
+  accounts = AreTargetsOn-one (length c.args.board.now.book.accounts) 1 1 (search rules);
+}

@@ -4,8 +4,8 @@ use Rattle.at_board.specs.declared.knowledge.Knowledge.{Knowledge}
 use Rattle.at_ledger.specs.Book.{BookTerms}
 use Rattle.at_trials.proofs.account_trials.pay_own.Goals as goal
 
-pub transfer_own-receipt-requires-clause-room : goal.transfer_own-receipt-requires-clause-room
-transfer_own-receipt-requires-clause-room c =
+pub pay_single-reply-requires-clause-room : goal.pay_single-reply-requires-clause-room
+pay_single-reply-requires-clause-room c =
     let v : Knowledge = c.args.seat.now.knows in
     omega (
       arith,

@@ -1,10 +1,12 @@
-use Rattle.std.proofs.Common.{◌≡◌, ℕ, List, get_or, replicate, set, sym, ap, subst, ◌∙◌, arith}
+use Rattle.std.proofs.Common.{◌≡◌, ◌*◌, ◌-◌, ℕ, List, get_or, replicate, set, sym, ap, subst, ◌∙◌, arith}
 use Rattle.std.specs.List.{sum}
 use Rattle.at_ledger.specs.Book.{BookTerms, IsBook}
 use Rattle.at_history.proofs.Laws.Sums.{get_or-zeros}
 use Rattle.at_history.specs.declared.publication.Publication.{Publication}
 use Rattle.at_history.specs.Publications.{counts}
+use Rattle.at_board.specs.Counting.{stepped}
 use Rattle.at_board.specs.Knowledge.Seats.{SeatTerms}
+use Rattle.at_board.specs.declared.words.TheConstants.{RECORD_WORDS}
 use Rattle.at_history.specs.Histories.{IsHistory}
 use Rattle.at_trials.proofs.FirstRecord.{CountsAll-counts, HasRecords-counts, counts-HasOnlyFirst, sum-first}
 use Rattle.at_fold.specs.HasCounted.{HasCounted}
@@ -49,15 +51,16 @@ returns-clause-all c =
     let counted : HasCounted t b old.knows.seen = subst (λ (s : SeatTerms). HasCounted t b s.knows.seen) same c.catch_up.ensures.counted in
     subst (λ (s : SeatTerms). CountsAll t b s.knows.seen) (sym same) (CountsAll-counts t b old.knows.seen history counted (c.catch_up.ensures.upto ∙ upto))
 
-pub returns-clause-steps : goal.returns-clause-steps
-returns-clause-steps c =
+pub returns-clause-same : goal.returns-clause-same
+returns-clause-same c =
     let b : BookTerms = c.args.board.now.book in
     let known = c.processes.ensures ∙ ap (λ (t : BookTerms). t.processes) c.book-2.ensures in
     let upto = handed_in b c.zeros-counts.result c.set.new.self c.processes.result c.set.ensures c.zeros-counts.ensures known in
+    let cost : RECORD_WORDS * (sum c.set.new.self - sum c.args.totals.now.upto) ≡ 7 =
     omega (
       arith,
-      c.catch_up.ensures.steps,
       ap (λ (l : List ℕ). sum l) upto,
       ap (λ (l : List ℕ). sum l) c.requires.new,
       sum-first b.processes (omega (arith, c.requires.counted.book.begun.some_process)),
-    )
+    ) in
+    c.catch_up.ensures.same ∙ ap (λ (n : ℕ). stepped c.args.seat.now n) cost

@@ -3,11 +3,11 @@ use Rattle.at_history.specs.Rounds.{owns_of}
 use Rattle.at_board.specs.Knowledge.Seats.{SeatTerms}
 use Rattle.at_trials.proofs.single_trials.pays_and_reads.Goals as goal
 
-pub transfer_own-paid-requires-clause-totals : goal.transfer_own-paid-requires-clause-totals
-transfer_own-paid-requires-clause-totals c = c.requires.totals.counted c.args.seat.now.knows.seen
+pub pay_single-reply-requires-clause-totals : goal.pay_single-reply-requires-clause-totals
+pay_single-reply-requires-clause-totals c = c.requires.totals.counted c.args.seat.now.knows.seen
 
-pub transfer_own-paid-requires-clause-room : goal.transfer_own-paid-requires-clause-room
-transfer_own-paid-requires-clause-room c =
+pub pay_single-reply-requires-clause-room : goal.pay_single-reply-requires-clause-room
+pay_single-reply-requires-clause-room c =
     omega (
       arith,
       ap (λ (s : SeatTerms). owns_of s.knows.first s.knows.seen) c.requires.pair.zero,
