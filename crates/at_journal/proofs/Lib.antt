@@ -16,9 +16,6 @@ pub mod JournalRuns
 pub mod WholeLaws
 pub mod NamedLaws
 pub mod LineOrder
-pub mod Decided
-pub mod DecidedLaws
-pub mod SmallClosingsLaws
 pub mod LinePositions
 pub mod OwnPositions
 pub mod RoundPositions

@@ -2,5 +2,4 @@ pub mod Held
 pub mod Calls
 pub mod Order
 pub mod Ordered
-pub mod SmallClosings
 pub mod Positions

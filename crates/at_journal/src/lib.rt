@@ -5,16 +5,10 @@
 #![tactic(auto)]
 
 mod fronts;
-#[cfg(test)]
-mod journal_tests;
 mod keyed;
 mod lines;
 mod order;
 mod positions;
-#[cfg(test)]
-mod slow_order;
-#[cfg(test)]
-mod tests;
 
 ghost use Rattle.std.specs.Prelude.{◌≡◌, ℕ, ◌^◌, ◌<◌, length, All, IfOk};
 ghost use Rattle.at_ledger.specs.Run.{Legal, Whole, last_state};

@@ -1,7 +1,0 @@
-use Rattle.std.proofs.Common.{subst₂, sym}
-use Rattle.at_log.specs.Coherent.{Coherent}
-use Rattle.at_journal.proofs.SmallClosingsLaws.{Coherent-refused_first}
-use Rattle.at_journal.proofs.journal_tests.not_owner_first.Goals as goal
-
-pub check-requires-clause-coherent : goal.check-requires-clause-coherent
-check-requires-clause-coherent g c = subst₂ Coherent (sym c.in_ok-two_singles.ensures) (sym c.in_ok-refused_first.ensures) Coherent-refused_first
