@@ -85,6 +85,119 @@ echo 2 >schedule.csv
 run replay "$replay/helping/book.csv" schedule.csv "$replay/helping"/pay*.csv
 refused 'a schedule of no process' 9 'schedule: line 1: unknown process'
 
+# Worked journals: a schedule, of processes and how many turns each has, leads to one order of the publications, whatever the
+# processes' numbers are. What it leaves is played in turn.
+turns() {
+    while [ $# -gt 0 ]; do
+        yes "$1" | head -n "$2"
+        shift 2
+    done >schedule.csv
+}
+lines() { printf '%s\n' "$@"; }
+replayed() {
+    cat >wanted
+    run replay book.csv schedule.csv pay0.csv pay1.csv "$@"
+}
+
+lines book,1 processes,2 limits,4,4 account,0,0,0 account,1,10,1 >book.csv
+lines transfer,1,0,5 read,1 >pay0.csv
+: >pay1.csv
+turns
+replayed <<END
+journal 2
+0 1 transfer 1 0 5 not-owner
+0 2 read 1 10
+balances 2
+0 0
+1 10
+total 10
+END
+printed 'a journal in which a refused payment is first' wanted
+
+lines transfer,0,1,10 >pay0.csv
+lines transfer,1,0,10 >pay1.csv
+turns 1 14
+replayed <<END
+journal 2
+1 1 transfer 1 0 10 done
+0 1 transfer 0 1 10 done
+balances 2
+0 0
+1 10
+total 10
+END
+printed 'a journal against the order of the processes' wanted
+
+lines transfer,0,1,1 transfer,0,1,7 >pay0.csv
+lines transfer,1,0,4 transfer,1,0,3 transfer,1,0,11 >pay1.csv
+turns 0 4 1 28 0 28
+replayed <<END
+journal 5
+0 1 transfer 0 1 1 short
+1 1 transfer 1 0 4 done
+1 2 transfer 1 0 3 done
+0 2 transfer 0 1 7 done
+1 3 transfer 1 0 11 short
+balances 2
+0 0
+1 10
+total 10
+END
+printed 'a journal of a short payment before the others and one behind' wanted
+
+lines book,1 processes,2 limits,4,4 'account,0,100,0 1' account,1,0, >book.csv
+lines transfer,0,1,60 read,0 >pay0.csv
+cp pay0.csv pay1.csv
+turns 0 34 1 80
+replayed <<END
+journal 4
+0 1 transfer 0 1 60 done
+1 1 transfer 0 1 60 short
+0 2 read 0 40
+1 2 read 0 40
+balances 2
+0 40
+1 60
+total 100
+END
+printed 'a journal of two owners, one after the other' wanted
+
+lines transfer,0,1,60 read,1 >pay1.csv
+turns 0 13 1 13 0 4 1 4 0 40
+replayed <<END
+journal 4
+0 1 transfer 0 1 60 done
+0 2 read 0 40
+1 1 transfer 0 1 60 short
+1 2 read 1 60
+balances 2
+0 40
+1 60
+total 100
+END
+printed 'a journal of two owners, of whom one publishes the round of the other' wanted
+
+lines book,2 processes,a,b,c limits,1,1 account,a,5,a account,b,5,b account,c,0, >book.csv
+lines pay,a,c,3,b,2 transfer,a,c,1 >pay0.csv
+lines transfer,a,b,1 transfer,b,c,5 >pay1.csv
+lines read,c read,c >pay2.csv
+turns 2 6 0 6 1 7
+replayed pay2.csv <<END
+journal 6
+b 1 transfer a b 1 not-owner
+c 1 read c 0
+a 1 pay a c 3 b 2 done
+a 2 transfer a c 1 full
+b 2 transfer b c 5 done
+c 2 read c 8
+balances 3
+a 0
+b 2
+c 8
+total 10
+END
+printed 'a journal of lines that stand at one place' wanted
+
 deliver=$examples/deliver
 run deliver "$deliver/book.csv" "$deliver/order.csv" "$deliver/send0.csv" "$deliver/send1.csv"
 printed 'the example deliver' "$deliver/deliver.nodes"
