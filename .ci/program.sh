@@ -163,7 +163,7 @@ END
 printed 'a journal of two owners, one after the other' wanted
 
 lines transfer,0,1,60 read,1 >pay1.csv
-turns 0 13 1 13 0 4 1 4 0 40
+turns 0 13 1 19 0 4 1 4 0 17 1 17 0 11
 replayed <<END
 journal 4
 0 1 transfer 0 1 60 done
@@ -181,7 +181,7 @@ lines book,2 processes,a,b,c limits,1,1 account,a,5,a account,b,5,b account,c,0,
 lines pay,a,c,3,b,2 transfer,a,c,1 >pay0.csv
 lines transfer,a,b,1 transfer,b,c,5 >pay1.csv
 lines read,c read,c >pay2.csv
-turns 2 6 0 6 1 7
+turns 2 6 0 6 1 7 0 12 1 11
 replayed pay2.csv <<END
 journal 6
 b 1 transfer a b 1 not-owner
@@ -197,6 +197,38 @@ c 8
 total 10
 END
 printed 'a journal of lines that stand at one place' wanted
+
+# Two owners of account 0 have asked, and the second decides for the first. A credit comes before its next turn, or none does.
+lines book,1 processes,3 limits,4,4 'account,0,10,0 1' account,1,100,2 account,2,0, >book.csv
+lines transfer,0,2,10 >pay0.csv
+lines transfer,0,2,5 >pay1.csv
+lines transfer,1,0,100 >pay2.csv
+turns 0 15 1 45 2 24 1 31
+replayed pay2.csv <<END
+journal 3
+0 1 transfer 0 2 10 done
+2 1 transfer 1 0 100 done
+1 1 transfer 0 2 5 done
+balances 3
+0 95
+1 0
+2 15
+total 110
+END
+printed 'a credit between two rounds' wanted
+
+: >pay2.csv
+replayed pay2.csv <<END
+journal 2
+0 1 transfer 0 2 10 done
+1 1 transfer 0 2 5 short
+balances 3
+0 0
+1 100
+2 10
+total 110
+END
+printed 'no credit between two rounds' wanted
 
 deliver=$examples/deliver
 run deliver "$deliver/book.csv" "$deliver/order.csv" "$deliver/send0.csv" "$deliver/send1.csv"
