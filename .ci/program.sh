@@ -230,6 +230,54 @@ total 110
 END
 printed 'no credit between two rounds' wanted
 
+# The second owner asks first, beside one payment of process 2, and the first owner beside two. Age comes before the owner's slot.
+lines transfer,0,2,5 >pay0.csv
+lines transfer,0,2,10 >pay1.csv
+lines transfer,1,2,1 transfer,1,2,1 >pay2.csv
+turns 2 17 1 22 2 17 0 90
+replayed pay2.csv <<END
+journal 4
+2 1 transfer 1 2 1 done
+2 2 transfer 1 2 1 done
+1 1 transfer 0 2 10 done
+0 1 transfer 0 2 5 short
+balances 3
+0 0
+1 98
+2 12
+total 110
+END
+printed 'the older of two requests is decided first' wanted
+
+# The second owner finds no other request, and the first finds both. Each proposes its own to the first round, and the first exchange
+# there stands for both.
+lines book,1 processes,2 limits,4,4 'account,0,60,0 1' account,1,0, >book.csv
+lines transfer,0,1,60 >pay0.csv
+lines transfer,0,1,7 >pay1.csv
+turns 1 13 0 19 1 5 0 5
+replayed <<END
+journal 2
+1 1 transfer 0 1 7 done
+0 1 transfer 0 1 60 short
+balances 2
+0 53
+1 7
+total 60
+END
+printed 'a round for 7 which 60 is proposed to later' wanted
+
+turns 1 13 0 19 0 5 1 5
+replayed <<END
+journal 2
+0 1 transfer 0 1 60 done
+1 1 transfer 0 1 7 short
+balances 2
+0 0
+1 60
+total 60
+END
+printed 'a round for 60 which 7 is proposed to later' wanted
+
 deliver=$examples/deliver
 run deliver "$deliver/book.csv" "$deliver/order.csv" "$deliver/send0.csv" "$deliver/send1.csv"
 printed 'the example deliver' "$deliver/deliver.nodes"
