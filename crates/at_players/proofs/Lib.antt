@@ -1,3 +1,4 @@
 pub mod SmallBoardLaws
 pub mod AskedLaws
 pub mod Announced
+pub mod Closing

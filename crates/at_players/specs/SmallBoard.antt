@@ -11,6 +11,10 @@ use Rattle.at_board.specs.Knowledge.Parts.{SeesDecision, SeesRequest, own_part}
 use Rattle.at_board.specs.Knowledge.Seats.{BoardTerms, IsOf, SeatTerms}
 use Rattle.at_board.specs.Words.Addresses.{record_width}
 use Rattle.at_board.specs.declared.knowledge.Knowledge.{Knowledge}
+use Rattle.at_players.specs.declared.boards.Single.{Single}
+use Rattle.at_players.specs.declared.boards.Pair.{Pair}
+use Rattle.at_players.specs.declared.boards.Three.{Three}
+use Rattle.at_players.specs.declared.boards.Four.{Four}
 
 -- a payment of 7 to account 1
 abbrev pub payment : Request
@@ -41,6 +45,13 @@ pub record MayPlay (b : BookTerms) (process : ℕ) : Type 0 where
   pub covered : 7 ≤ (account_of b 0).opening
   pub owner : HasOwnAccount b process
 
+-- all four processes may play
+pub record MayAllPlay (b : BookTerms) : Type 0 where
+  pub zero : MayPlay b 0
+  pub one : MayPlay b 1
+  pub two : MayPlay b 2
+  pub three : MayPlay b 3
+
 -- the seat of a new board, of a process that may play
 pub record IsNewPlayer (board : BoardTerms) (seat : SeatTerms) : Type 0 where
   pub id : seat.board ≡ board.id
@@ -51,15 +62,36 @@ pub record IsNewPlayer (board : BoardTerms) (seat : SeatTerms) : Type 0 where
 abbrev pub new_seat : BoardTerms → ℕ → SeatTerms
 new_seat board p = record { board = board.id; knows = starting_seat board.book p; steps = 0; exchanges = 0 }
 
--- the seats that are left of a new board's are those of its first processes
-abbrev pub AreLeft : BoardTerms → List SeatTerms → Type 0
-AreLeft board seats = (p : ℕ) (d : SeatTerms) → p < length seats → slice_index_or seats p d ≡ new_seat board p
+-- the seats that are left of a new board's are those of its first processes, so many
+pub record AreLeft (board : BoardTerms) (count : ℕ) (seats : List SeatTerms) : Type 0 where
+  pub counted : length seats ≡ count
+  pub each : (p : ℕ) (d : SeatTerms) → p < count → slice_index_or seats p d ≡ new_seat board p
 
--- the seats of a new board's two processes
-pub record AreNewPair (board : BoardTerms) (s t : SeatTerms) : Type 0 where
-  pub processes : board.book.processes ≡ 2
-  pub zero : s ≡ new_seat board 0
-  pub one : t ≡ new_seat board 1
+-- a new board of one process with its seat
+pub record IsNewSingle (s : Single) : Type 0 where
+  pub processes : s.board.book.processes ≡ 1
+  pub seat : s.seat ≡ new_seat s.board 0
+
+-- a new board of two processes with their seats
+pub record IsNewPair (s : Pair) : Type 0 where
+  pub processes : s.board.book.processes ≡ 2
+  pub zero : s.zero ≡ new_seat s.board 0
+  pub one : s.one ≡ new_seat s.board 1
+
+-- of three
+pub record IsNewThree (s : Three) : Type 0 where
+  pub processes : s.board.book.processes ≡ 3
+  pub zero : s.zero ≡ new_seat s.board 0
+  pub one : s.one ≡ new_seat s.board 1
+  pub two : s.two ≡ new_seat s.board 2
+
+-- and of four
+pub record IsNewFour (s : Four) : Type 0 where
+  pub processes : s.board.book.processes ≡ 4
+  pub zero : s.zero ≡ new_seat s.board 0
+  pub one : s.one ≡ new_seat s.board 1
+  pub two : s.two ≡ new_seat s.board 2
+  pub three : s.three ≡ new_seat s.board 3
 
 -- a seat of the board between two records: it holds no cell, and nothing of the next record is stored
 pub record IsIdle (board : BoardTerms) (seat : SeatTerms) : Type 0 where

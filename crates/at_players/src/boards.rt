@@ -1,44 +1,118 @@
 //! Small boards with their seats, and what they end with.
 
-ghost use Rattle.std.specs.Prelude.{◌≡◌, ◌<◌, ◌≤◌, length, IfSome};
-ghost use Rattle.at_board.specs.Ends.Opening.{starting_seat};
+ghost use Rattle.std.specs.Prelude.{◌≡◌, ◌+◌, ◌<◌, ◌≤◌, length, IfSome};
+ghost use Rattle.at_board.specs.Ends.Closing.{IsFreeSeat};
 ghost use Rattle.at_board.specs.Words.Addresses.{record_width};
 ghost use Rattle.at_ledger.specs.Book.{HasSlot};
-ghost use Rattle.at_players.specs.SmallBoard.{AreLeft, AreNewPair, IsIdle, new_seat};
+ghost use Rattle.at_players.specs.SmallBoard.{AreLeft, IsNewFour, IsNewPair, IsNewSingle, IsNewThree, new_seat};
 
 use at_board::{Board, BoardEnd, BoardSeat};
-use at_ledger::{Book, Draft, DraftAccount};
-use std::alloc::{AllocError, Global};
+use at_ledger::{Book, BookBuilder};
+use std::alloc::Global;
 
-/// Drafts of accounts, each by its opening and its owners.
-fn drafts_of(alloc: Global, accounts: &[(u64, &[u64])]) -> Result<Vec<DraftAccount>, AllocError> {
-    let mut drafts = Vec::new(alloc);
-    for (opening, owners) in accounts {
-        drafts.push(DraftAccount {
-            opening: *opening,
-            owners: owners.to_vec(alloc)?,
-        })?;
-    }
-    Ok(drafts)
+/// An account: what it opens with, and its owners.
+pub type Account = (u64, &'static [u64]);
+
+/// A board of one process with its seat. What holds it has a call where it drops it, and not the drop of each field; so have those
+/// that hold the boards below.
+pub struct Single {
+    pub board: Board,
+    pub seat: BoardSeat,
 }
 
-/// A book of these accounts, each by its opening and its owners. Each owner of a shared account has room for four requests.
+impl Drop for Single {
+    fn drop(self) {
+        let Single { board: _, seat: _ } = self;
+    }
+}
+
+/// A board of two processes with their seats.
+pub struct Pair {
+    pub board: Board,
+    pub zero: BoardSeat,
+    pub one: BoardSeat,
+}
+
+impl Drop for Pair {
+    fn drop(self) {
+        let Pair {
+            board: _,
+            zero: _,
+            one: _,
+        } = self;
+    }
+}
+
+/// A board of three processes with their seats.
+pub struct Three {
+    pub board: Board,
+    pub zero: BoardSeat,
+    pub one: BoardSeat,
+    pub two: BoardSeat,
+}
+
+impl Drop for Three {
+    fn drop(self) {
+        let Three {
+            board: _,
+            zero: _,
+            one: _,
+            two: _,
+        } = self;
+    }
+}
+
+/// A board of four processes with their seats.
+pub struct Four {
+    pub board: Board,
+    pub zero: BoardSeat,
+    pub one: BoardSeat,
+    pub two: BoardSeat,
+    pub three: BoardSeat,
+}
+
+impl Drop for Four {
+    fn drop(self) {
+        let Four {
+            board: _,
+            zero: _,
+            one: _,
+            two: _,
+            three: _,
+        } = self;
+    }
+}
+
+/// Adds accounts to a book. Whether all could be added.
+fn are_added(builder: &mut BookBuilder, accounts: &[Account]) -> bool
+    ensures { builder.new.processes ≡ builder.old.processes }
+{
+    for (opening, owners) in accounts {
+        match builder.add(*opening, owners) {
+            Ok(()) => {}
+            Err(_) => return false,
+        }
+    }
+    true
+}
+
+/// A book of these accounts.
 pub fn book_of(
     alloc: Global,
     processes: u64,
     own_room: u64,
-    accounts: &[(u64, &[u64])],
-) -> Option<Book> {
-    let Ok(accounts) = drafts_of(alloc, accounts) else {
+    request_room: u64,
+    accounts: &[Account],
+) -> Option<Book>
+    ensures { IfSome result (λ b. b.processes ≡ processes) }
+{
+    let Ok(mut builder) = BookBuilder::new(alloc, processes, own_room, request_room) else {
         return None;
     };
-    let draft = Draft {
-        processes,
-        own_room,
-        request_room: 4,
-        accounts,
-    };
-    match Book::new(alloc, &draft) {
+    if !are_added(&mut builder, accounts) {
+        return None;
+    }
+    match builder.finish() {
         Ok(book) => Some(book),
         Err(_) => None,
     }
@@ -55,141 +129,194 @@ pub fn slot_on(book: &Book, account: u32, process: u32) -> Option<u32>
     }
 }
 
-/// The last of the seats that are left of a new board's.
-pub fn last_seat(board: &Board, seats: &mut Vec<BoardSeat>) -> Option<BoardSeat>
-    requires { AreLeft board.now seats.old.items }
-    ensures seat { IfSome result (λ seat. (seat.board ≡ board.now.id)
-        × (seat.knows ≡ starting_seat board.now.book seat.knows.first)
-        × (seat.steps ≡ 0) × (seat.exchanges ≡ 0)) }
-    ensures idle { IfSome result (λ seat. IsIdle board.now seat) }
-    ensures rest { AreLeft board.now seats.new.items }
+/// The seat of a process, which is the last of those that are left of a new board's.
+pub fn last_seat(board: &Board, seats: &mut Vec<BoardSeat>, process: u32) -> BoardSeat
+    requires { AreLeft board.now (process + 1) seats.old.items }
+    ensures seat { result ≡ new_seat board.now process }
+    ensures rest { AreLeft board.now process seats.new.items }
 {
-    seats.pop()
+    let _ = board;
+    seats.swap_remove(process as usize)
 }
 
-/// The last of the seats that are left of a new board's, if it is that of this process.
-pub fn seat_of(board: &Board, seats: &mut Vec<BoardSeat>, process: u32) -> Option<BoardSeat>
-    requires { AreLeft board.now seats.old.items }
-    ensures seat { IfSome result (λ seat. seat ≡ new_seat board.now process) }
-    ensures rest { AreLeft board.now seats.new.items }
+/// A new board of one process with these accounts.
+pub fn new_single(alloc: Global, own_room: u64, accounts: &[Account]) -> Option<Single>
+    ensures { IfSome result IsNewSingle }
 {
-    let seat = last_seat(board, seats)?;
-    if seat.process() == process {
-        Some(seat)
-    } else {
-        None
-    }
-}
-
-/// The last two seats that are left of a new board's, if they are those of processes 0 and 1.
-fn pair_of(board: &Board, seats: &mut Vec<BoardSeat>) -> Option<(BoardSeat, BoardSeat)>
-    requires { AreLeft board.now seats.old.items }
-    ensures zero { IfSome result (λ r. r.0 ≡ new_seat board.now 0) }
-    ensures one { IfSome result (λ r. r.1 ≡ new_seat board.now 1) }
-{
-    let one = seat_of(board, seats, 1)?;
-    let zero = seat_of(board, seats, 0)?;
-    Some((zero, one))
-}
-
-/// A new board of one process with these accounts, each by its opening and its owners, and its only seat.
-pub fn new_single(
-    alloc: Global,
-    own_room: u64,
-    accounts: &[(u64, &[u64])],
-) -> Option<(Board, BoardSeat)>
-    ensures alone { IfSome result (λ r. r.0.book.processes ≡ 1) }
-    ensures seat { IfSome result (λ r. r.1 ≡ new_seat r.0 0) }
-{
-    let book = book_of(alloc, 1, own_room, accounts)?;
-    let Ok((board, mut seats)) = Board::new(alloc, &book) else {
-        return None;
-    };
-    if board.book().processes() != 1 {
-        return None;
-    }
-    match seat_of(&board, &mut seats, 0) {
-        Some(seat) => Some((board, seat)),
+    match book_of(alloc, 1, own_room, 4, accounts) {
+        Some(book) => single_on(alloc, &book),
         None => None,
     }
 }
 
-/// A new board of two processes with these accounts, each by its opening and its owners, and its two seats.
-pub fn new_pair(
-    alloc: Global,
-    own_room: u64,
-    accounts: &[(u64, &[u64])],
-) -> Option<(Board, BoardSeat, BoardSeat)>
-    ensures { IfSome result (λ r. AreNewPair r.0 r.1 r.2) }
+/// A new board of this book.
+fn single_on(alloc: Global, book: &Book) -> Option<Single>
+    requires { book.now.processes ≡ 1 }
+    ensures { IfSome result IsNewSingle }
 {
-    let book = book_of(alloc, 2, own_room, accounts)?;
-    let Ok((board, mut seats)) = Board::new(alloc, &book) else {
-        return None;
-    };
-    if board.book().processes() != 2 {
-        return None;
+    match Board::new(alloc, book) {
+        Ok((board, mut seats)) => {
+            let seat = last_seat(&board, &mut seats, 0);
+            Some(Single { board, seat })
+        }
+        Err(_) => None,
     }
-    match pair_of(&board, &mut seats) {
-        Some((zero, one)) => Some((board, zero, one)),
+}
+
+/// A new board of two processes with these accounts. Each owner of a shared account has room for four requests.
+pub fn new_pair(alloc: Global, own_room: u64, accounts: &[Account]) -> Option<Pair>
+    ensures { IfSome result IsNewPair }
+{
+    match book_of(alloc, 2, own_room, 4, accounts) {
+        Some(book) => pair_on(alloc, &book),
         None => None,
     }
 }
 
-/// The last three seats that are left of a new board's, if they are those of processes 0, 1 and 2.
-fn three_of(board: &Board, seats: &mut Vec<BoardSeat>) -> Option<(BoardSeat, BoardSeat, BoardSeat)>
-    requires { AreLeft board.now seats.old.items }
-    ensures zero { IfSome result (λ r. r.0 ≡ new_seat board.now 0) }
-    ensures one { IfSome result (λ r. r.1 ≡ new_seat board.now 1) }
-    ensures two { IfSome result (λ r. r.2 ≡ new_seat board.now 2) }
+/// A new board of this book.
+fn pair_on(alloc: Global, book: &Book) -> Option<Pair>
+    requires { book.now.processes ≡ 2 }
+    ensures { IfSome result IsNewPair }
 {
-    let two = seat_of(board, seats, 2)?;
-    let (zero, one) = pair_of(board, seats)?;
-    Some((zero, one, two))
+    match Board::new(alloc, book) {
+        Ok((board, mut seats)) => {
+            let one = last_seat(&board, &mut seats, 1);
+            let zero = last_seat(&board, &mut seats, 0);
+            Some(Pair { board, zero, one })
+        }
+        Err(_) => None,
+    }
 }
 
-/// A new board of three processes with these accounts, each by its opening and its owners, and its three seats.
-pub fn new_three(
-    alloc: Global,
-    own_room: u64,
-    accounts: &[(u64, &[u64])],
-) -> Option<(Board, (BoardSeat, BoardSeat, BoardSeat))>
-    ensures zero { IfSome result (λ r. r.1.0 ≡ new_seat r.0 0) }
-    ensures one { IfSome result (λ r. r.1.1 ≡ new_seat r.0 1) }
-    ensures two { IfSome result (λ r. r.1.2 ≡ new_seat r.0 2) }
+/// A new board of three processes with these accounts. Each owner of a shared account has room for four requests.
+pub fn new_three(alloc: Global, own_room: u64, accounts: &[Account]) -> Option<Three>
+    ensures { IfSome result IsNewThree }
 {
-    let book = book_of(alloc, 3, own_room, accounts)?;
-    let Ok((board, mut seats)) = Board::new(alloc, &book) else {
-        return None;
-    };
-    match three_of(&board, &mut seats) {
-        Some(three) => Some((board, three)),
+    match book_of(alloc, 3, own_room, 4, accounts) {
+        Some(book) => three_on(alloc, &book),
         None => None,
     }
 }
 
-/// Closes a board with its only seat.
-pub fn close_one(board: Board, alloc: Global, seat: BoardSeat) -> Option<BoardEnd>
-    requires alone { board.book.processes ≡ 1 }
-    requires seat { IsIdle board seat × (seat.knows.first ≡ 0) }
-    ensures { IfSome result (λ e. e.book ≡ board.book) }
+/// A new board of this book.
+fn three_on(alloc: Global, book: &Book) -> Option<Three>
+    requires { book.now.processes ≡ 3 }
+    ensures { IfSome result IsNewThree }
 {
-    let Ok(seats) = Vec::from_array(alloc, [seat]) else {
-        return None;
-    };
-    Some(board.close(seats))
+    match Board::new(alloc, book) {
+        Ok((board, mut seats)) => {
+            let two = last_seat(&board, &mut seats, 2);
+            let one = last_seat(&board, &mut seats, 1);
+            let zero = last_seat(&board, &mut seats, 0);
+            Some(Three {
+                board,
+                zero,
+                one,
+                two,
+            })
+        }
+        Err(_) => None,
+    }
 }
 
-/// Closes a board with its two seats.
-pub fn close_two(board: Board, alloc: Global, zero: BoardSeat, one: BoardSeat) -> Option<BoardEnd>
-    requires two { board.book.processes ≡ 2 }
-    requires zero { IsIdle board zero × (zero.knows.first ≡ 0) }
-    requires one { IsIdle board one × (one.knows.first ≡ 1) }
-    ensures { IfSome result (λ e. e.book ≡ board.book) }
+/// A new board of four processes with these accounts.
+pub fn new_four(
+    alloc: Global,
+    own_room: u64,
+    request_room: u64,
+    accounts: &[Account],
+) -> Option<Four>
+    ensures { IfSome result IsNewFour }
 {
-    let Ok(seats) = Vec::from_array(alloc, [zero, one]) else {
-        return None;
-    };
-    Some(board.close(seats))
+    match book_of(alloc, 4, own_room, request_room, accounts) {
+        Some(book) => four_on(alloc, &book),
+        None => None,
+    }
+}
+
+/// A new board of this book.
+fn four_on(alloc: Global, book: &Book) -> Option<Four>
+    requires { book.now.processes ≡ 4 }
+    ensures { IfSome result IsNewFour }
+{
+    match Board::new(alloc, book) {
+        Ok((board, mut seats)) => {
+            let three = last_seat(&board, &mut seats, 3);
+            let two = last_seat(&board, &mut seats, 2);
+            let one = last_seat(&board, &mut seats, 1);
+            let zero = last_seat(&board, &mut seats, 0);
+            Some(Four {
+                board,
+                zero,
+                one,
+                two,
+                three,
+            })
+        }
+        Err(_) => None,
+    }
+}
+
+impl Single {
+    /// The end of the board. The memory is taken before the board is taken apart.
+    pub fn close(self, alloc: Global) -> Option<BoardEnd>
+        requires alone { self.board.book.processes ≡ 1 }
+        requires seat { IsFreeSeat self.board 0 self.seat }
+        ensures { IfSome result (λ e. e.book ≡ self.board.book) }
+    {
+        let Ok(mut seats) = Vec::with_capacity(alloc, 1) else {
+            return None;
+        };
+        let Single { board, seat } = self;
+        seats.push_reserved(seat);
+        Some(board.close(seats))
+    }
+}
+
+impl Pair {
+    /// The end of the board.
+    pub fn close(self, alloc: Global) -> Option<BoardEnd>
+        requires two { self.board.book.processes ≡ 2 }
+        requires zero { IsFreeSeat self.board 0 self.zero }
+        requires one { IsFreeSeat self.board 1 self.one }
+        ensures { IfSome result (λ e. e.book ≡ self.board.book) }
+    {
+        let Ok(mut seats) = Vec::with_capacity(alloc, 2) else {
+            return None;
+        };
+        let Pair { board, zero, one } = self;
+        seats.push_reserved(zero);
+        seats.push_reserved(one);
+        Some(board.close(seats))
+    }
+}
+
+impl Four {
+    /// The end of the board.
+    pub fn close(self, alloc: Global) -> Option<BoardEnd>
+        requires four { self.board.book.processes ≡ 4 }
+        requires zero { IsFreeSeat self.board 0 self.zero }
+        requires one { IsFreeSeat self.board 1 self.one }
+        requires two { IsFreeSeat self.board 2 self.two }
+        requires three { IsFreeSeat self.board 3 self.three }
+        ensures { IfSome result (λ e. e.book ≡ self.board.book) }
+    {
+        let Ok(mut seats) = Vec::with_capacity(alloc, 4) else {
+            return None;
+        };
+        let Four {
+            board,
+            zero,
+            one,
+            two,
+            three,
+        } = self;
+        seats.push_reserved(zero);
+        seats.push_reserved(one);
+        seats.push_reserved(two);
+        seats.push_reserved(three);
+        Some(board.close(seats))
+    }
 }
 
 /// Whether a record of a closed board begins with these words.

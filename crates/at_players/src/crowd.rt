@@ -1,17 +1,17 @@
 //! Four players, which publish, load and decide at once on one board.
 
-ghost use Rattle.std.specs.Prelude.{◌≡◌, ◌<◌, length, IfSome, None, IsTrue, [], ◌∷◌};
+ghost use Rattle.std.specs.Prelude.{◌≡◌, ◌<◌, IfSome, IsTrue, [], ◌∷◌};
 ghost use Rattle.at_board.specs.Knowledge.Parts.{own_part};
 ghost use Rattle.at_board.specs.Steps.LoadLength.{LoadsLength};
-ghost use Rattle.at_players.specs.SmallBoard.{IsIdle, HasOwnAccount, IsNewPlayer, IsOwnFront, MayPlay, AreLeft};
+ghost use Rattle.at_players.specs.SmallBoard.{IsIdle, HasOwnAccount, IsNewFour, IsNewPlayer, IsOwnFront, MayAllPlay, MayPlay};
 
-use crate::boards::{book_of, last_seat, slot_on};
+use crate::boards::{Account, Four, new_four, slot_on};
 use crate::rounds::settle;
 use crate::words::TO_ACCOUNT_0;
 use at_base::Counts;
-use at_board::{Board, BoardEnd, BoardSeat};
+use at_board::{Board, BoardSeat};
 use at_ledger::Book;
-use std::alloc::{AllocError, Global};
+use std::alloc::Global;
 use std::sync::atomic::{AtomicU64, Ordering};
 use std::thread::{Threads, join_mut, yield_now};
 
@@ -23,6 +23,15 @@ pub const LOOKS: u32 = 4 * RECORDS + 8;
 
 /// How often a thread looks whether the others are there before it starts without them.
 pub const WAITS: u32 = 100_000;
+
+/// All four processes share account 0, and each has another account.
+const ACCOUNTS: &[Account] = &[
+    (100, &[0, 1, 2, 3]),
+    (100, &[0]),
+    (100, &[1]),
+    (100, &[2]),
+    (100, &[3]),
+];
 
 /// Whether a process shares account 0 by its own number, which covers 7, and owns the account after that of its number alone.
 pub fn may_play(book: &Book, process: u32) -> bool
@@ -119,16 +128,70 @@ pub fn wait_for_all(gate: &AtomicU64) {
 }
 
 /// What a thread was told: the word of the first round of account 0, whether it has published that round, and the views of its
-/// records.
-#[derive(Drop)]
+/// records, if there was memory for all of them.
 pub struct Told {
     pub word: u64,
     pub has_round: bool,
     pub views: Vec<Counts>,
+    pub has_all: bool,
 }
 
-/// Settles the first round, and then publishes records, beside the other threads.
-pub fn play(board: &Board, alloc: Global, seat: &mut BoardSeat) -> Result<Told, AllocError>
+impl Drop for Told {
+    fn drop(self) {
+        let Told {
+            word: _,
+            has_round: _,
+            views: _,
+            has_all: _,
+        } = self;
+    }
+}
+
+/// Publishes a record with the front, where there is one and room, and keeps the view. False where there is no memory for it.
+fn publish_once(board: &Board, seat: &mut BoardSeat, views: &mut Vec<Counts>) -> bool
+    requires four { board.now.book.processes ≡ 4 }
+    requires idle { IsIdle board.now seat.old }
+    requires owner { HasOwnAccount board.now.book seat.old.knows.first }
+    ensures idle { IsIdle board.now seat.new }
+    ensures process { seat.new.knows.first ≡ seat.old.knows.first }
+{
+    let Some(view) = front(board, seat) else {
+        return true;
+    };
+    if RECORDS <= seat.published() || board.book().own_room() <= seat.published() {
+        return true;
+    }
+    move_nothing(board, seat, &view);
+    views.push(view).is_ok()
+}
+
+/// Publishes records beside the other threads, and keeps their views. Whether there was memory for them.
+fn publish_often(board: &Board, seat: &mut BoardSeat, views: &mut Vec<Counts>) -> bool
+    requires four { board.now.book.processes ≡ 4 }
+    requires idle { IsIdle board.now seat.old }
+    requires owner { HasOwnAccount board.now.book seat.old.knows.first }
+    ensures idle { IsIdle board.now seat.new }
+    ensures process { seat.new.knows.first ≡ seat.old.knows.first }
+{
+    for _look in 0..LOOKS {
+        if !publish_once(board, seat, views) {
+            return false;
+        }
+    }
+    true
+}
+
+/// The views of a process that has published the first round, where it has. None where there is no memory for it.
+fn first_views(alloc: Global, has_round: bool) -> Option<Vec<Counts>> {
+    let mut views = Vec::new(alloc);
+    if has_round && views.push(counts_of(0, 0, 0, 0)).is_err() {
+        return None;
+    }
+    Some(views)
+}
+
+/// Settles the first round, and then publishes records, beside the other threads. None where there is no memory for a view.
+pub fn play(board: &Board, alloc: Global, seat: &mut BoardSeat) -> Option<Told>
     requires four { board.now.book.processes ≡ 4 }
     requires player { IsNewPlayer board.now seat.old }
     ensures idle { IsIdle board.now seat.new }
@@ -136,25 +199,18 @@ pub fn play(board: &Board, alloc: Global, seat: &mut BoardSeat) -> Result<Told, 
 {
     let process = seat.process();
     let (word, has_round) = settle(board, seat, process);
-    let mut views = Vec::new(alloc);
-    if has_round {
-        views.push(counts_of(0, 0, 0, 0))?;
-    }
-    for _look in 0..LOOKS {
-        let Some(view) = front(board, seat) else {
-            continue;
-        };
-        if RECORDS <= seat.published() || board.book().own_room() <= seat.published() {
-            break;
+    match first_views(alloc, has_round) {
+        Some(mut views) => {
+            let has_all = publish_often(board, seat, &mut views);
+            Some(Told {
+                word,
+                has_round,
+                views,
+                has_all,
+            })
         }
-        move_nothing(board, seat, &view);
-        views.push(view)?;
+        None => None,
     }
-    Ok(Told {
-        word,
-        has_round,
-        views,
-    })
 }
 
 /// Plays once all threads are there.
@@ -163,7 +219,7 @@ pub fn play_alone(
     alloc: Global,
     gate: &AtomicU64,
     seat: &mut BoardSeat,
-) -> Result<Told, AllocError>
+) -> Option<Told>
     requires four { board.now.book.processes ≡ 4 }
     requires player { IsNewPlayer board.now seat.old }
     ensures idle { IsIdle board.now seat.new }
@@ -181,7 +237,7 @@ pub fn play_two<R: Threads>(
     gate: &AtomicU64,
     one: &mut BoardSeat,
     other: &mut BoardSeat,
-) -> (Result<Told, AllocError>, Result<Told, AllocError>)
+) -> (Option<Told>, Option<Told>)
     requires four { board.now.book.processes ≡ 4 }
     requires one { IsNewPlayer board.now one.old }
     requires other { IsNewPlayer board.now other.old }
@@ -204,10 +260,7 @@ pub fn play_four<R: Threads + Sync>(
     one: &mut BoardSeat,
     two: &mut BoardSeat,
     three: &mut BoardSeat,
-) -> (
-    (Result<Told, AllocError>, Result<Told, AllocError>),
-    (Result<Told, AllocError>, Result<Told, AllocError>),
-)
+) -> ((Option<Told>, Option<Told>), (Option<Told>, Option<Told>))
     requires four { board.now.book.processes ≡ 4 }
     requires zero { IsNewPlayer board.now zero.old }
     requires one { IsNewPlayer board.now one.old }
@@ -226,85 +279,26 @@ pub fn play_four<R: Threads + Sync>(
     )
 }
 
-/// The last of the seats that are left, if it is that of this process, which may play.
-pub fn last_player(board: &Board, seats: &mut Vec<BoardSeat>, process: u32) -> Option<BoardSeat>
-    requires process { process < 4 }
-    requires new { AreLeft board.now seats.old.items }
-    ensures player { IfSome result (λ seat. IsNewPlayer board.now seat) }
-    ensures process { IfSome result (λ seat. seat.knows.first ≡ process) }
-    ensures rest { AreLeft board.now seats.new.items }
+/// Whether all four processes may play.
+fn may_all_play(book: &Book) -> bool
+    ensures { IsTrue result → MayAllPlay book.now }
 {
-    let seat = last_seat(board, seats)?;
-    if seat.process() != process || !may_play(board.book(), process) {
-        return None;
-    }
-    Some(seat)
+    may_play(book, 0) && may_play(book, 1) && may_play(book, 2) && may_play(book, 3)
 }
 
-/// The four seats that are left of a new board's, if their processes may play.
-fn players_of(
-    board: &Board,
-    seats: &mut Vec<BoardSeat>,
-) -> Option<(BoardSeat, BoardSeat, BoardSeat, BoardSeat)>
-    requires new { AreLeft board.now seats.old.items }
-    ensures zero { IfSome result (λ r. IsNewPlayer board.now r.0 × (r.0.knows.first ≡ 0)) }
-    ensures one { IfSome result (λ r. IsNewPlayer board.now r.1 × (r.1.knows.first ≡ 1)) }
-    ensures two { IfSome result (λ r. IsNewPlayer board.now r.2 × (r.2.knows.first ≡ 2)) }
-    ensures three { IfSome result (λ r. IsNewPlayer board.now r.3 × (r.3.knows.first ≡ 3)) }
+/// A new board of four processes that may play.
+pub fn new_players(alloc: Global) -> Option<Four>
+    ensures new { IfSome result IsNewFour }
+    ensures players { IfSome result (λ four. MayAllPlay four.board.book) }
 {
-    let three = last_player(board, seats, 3)?;
-    let two = last_player(board, seats, 2)?;
-    let one = last_player(board, seats, 1)?;
-    let zero = last_player(board, seats, 0)?;
-    Some((zero, one, two, three))
-}
-
-/// A new board of four processes that share account 0 and have another account each, with its four seats.
-pub fn new_four(alloc: Global) -> Option<(Board, (BoardSeat, BoardSeat, BoardSeat, BoardSeat))>
-    ensures four { IfSome result (λ r. r.0.book.processes ≡ 4) }
-    ensures zero { IfSome result (λ r. IsNewPlayer r.0 r.1.0 × (r.1.0.knows.first ≡ 0)) }
-    ensures one { IfSome result (λ r. IsNewPlayer r.0 r.1.1 × (r.1.1.knows.first ≡ 1)) }
-    ensures two { IfSome result (λ r. IsNewPlayer r.0 r.1.2 × (r.1.2.knows.first ≡ 2)) }
-    ensures three { IfSome result (λ r. IsNewPlayer r.0 r.1.3 × (r.1.3.knows.first ≡ 3)) }
-{
-    let accounts = [
-        (100, [0, 1, 2, 3].as_slice()),
-        (100, [0].as_slice()),
-        (100, [1].as_slice()),
-        (100, [2].as_slice()),
-        (100, [3].as_slice()),
-    ];
-    let book = book_of(alloc, 4, 65, accounts.as_slice())?;
-    let Ok((board, mut seats)) = Board::new(alloc, &book) else {
-        return None;
-    };
-    if board.book().processes() != 4 {
-        return None;
-    }
-    match players_of(&board, &mut seats) {
-        Some(players) => Some((board, players)),
+    match new_four(alloc, 65, 4, ACCOUNTS) {
+        Some(four) => {
+            if may_all_play(four.board.book()) {
+                Some(four)
+            } else {
+                None
+            }
+        }
         None => None,
     }
-}
-
-/// Closes a board with its four seats.
-pub fn close_four(
-    board: Board,
-    alloc: Global,
-    zero: BoardSeat,
-    one: BoardSeat,
-    two: BoardSeat,
-    three: BoardSeat,
-) -> Option<BoardEnd>
-    requires four { board.book.processes ≡ 4 }
-    requires zero { IsIdle board zero × (zero.knows.first ≡ 0) }
-    requires one { IsIdle board one × (one.knows.first ≡ 1) }
-    requires two { IsIdle board two × (two.knows.first ≡ 2) }
-    requires three { IsIdle board three × (three.knows.first ≡ 3) }
-    ensures { IfSome result (λ e. e.book ≡ board.book) }
-{
-    let Ok(seats) = Vec::from_array(alloc, [zero, one, two, three]) else {
-        return None;
-    };
-    Some(board.close(seats))
 }

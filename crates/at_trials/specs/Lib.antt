@@ -1,4 +1,3 @@
 pub mod SmallFold
 pub mod SmallScan
 pub mod SmallShared
-pub mod SmallCrowd

@@ -2,23 +2,21 @@
 
 ghost use Rattle.std.specs.Prelude.{◌≡◌, ◌<◌, IfSome, IsTrue, length};
 ghost use Rattle.at_board.specs.Ends.Closing.{IsFreeSeat};
-ghost use Rattle.at_players.specs.SmallBoard.{AreLeft, IsIdle};
-ghost use Rattle.at_shared.specs.Helpings.{HasAllSettled};
+ghost use Rattle.at_players.specs.SmallBoard.{IsIdle, IsNewFour};
 ghost use Rattle.at_single.specs.Standing.{IsOnlyOwner};
-ghost use Rattle.at_trials.specs.SmallCrowd.{HoldsNoCell, IsCaller, IsSharer};
+ghost use Rattle.at_trials.specs.SmallShared.{HoldsNoCell, MayCall};
 
 use crate::fold_trials::new_totals;
+use crate::shared_trials::{begins_sharing, pay_from_shared};
 use at_base::{Decision, Head, unpack_decision, unpack_head};
 use at_board::{Board, BoardEnd, BoardSeat};
 use at_fold::Totals;
-use at_ledger::{Book, Call, Draft, DraftAccount, Reply, Targets};
+use at_ledger::{Book, Call, Reply, Targets};
 use at_log::{At, Receipt};
-use at_players::boards::{last_seat, slot_on};
+use at_players::boards::{Account, Four, new_four};
 use at_players::crowd::wait_for_all;
-use at_shared::pay_shared;
 use at_single::{pay_single, read_account};
 use std::alloc::Global;
-use std::process::Abort;
 use std::sync::atomic::AtomicU64;
 use std::thread::{Threads, join_mut};
 
@@ -32,58 +30,41 @@ const SHARED: u64 = 100;
 const SINGLE: u64 = 300;
 
 /// The accounts: processes 0 and 1 share account 0, nobody owns account 1, and process 2 owns account 2 alone.
-const ACCOUNTS: [(u64, &[u64]); 3] = [(SHARED, &[0, 1]), (0, &[]), (SINGLE, &[2])];
+const ACCOUNTS: &[Account] = &[(SHARED, &[0, 1]), (0, &[]), (SINGLE, &[2])];
 
-/// What a thread answers: its receipts, or none where a call couldn't be made.
-pub(crate) type Receipts = Option<Vec<Receipt>>;
-
-/// A book of four processes with these accounts.
-pub(crate) fn crowd_book(alloc: Global) -> Option<Book> {
-    let mut accounts = Vec::new(alloc);
-    for (opening, owners) in ACCOUNTS.as_slice() {
-        let owners = owners.to_vec(alloc).ok()?;
-        let opening = *opening;
-        accounts.push(DraftAccount { opening, owners }).ok()?;
-    }
-    let draft = Draft {
-        processes: 4,
-        own_room: 4096,
-        request_room: 1024,
-        accounts,
-    };
-    Book::new(alloc, &draft).ok()
+/// The receipts of a thread, up to a call that couldn't be made. What holds them has a call where it drops them.
+pub(crate) struct Receipts {
+    pub(crate) list: Vec<Receipt>,
 }
 
-/// Whether the seat's process shares account 0, and has asked for nothing there.
-pub(crate) fn begins_sharing(board: &Board, seat: &BoardSeat) -> bool
-    requires { IsIdle board.now seat.now }
-    ensures { IsTrue result → HasAllSettled board.now.book seat.now.knows 0 }
-{
-    slot_on(board.book(), 0, seat.process()).is_some() && board.announced(seat, 0) == 0
+impl Drop for Receipts {
+    fn drop(self) {
+        let Receipts { list: _ } = self;
+    }
 }
 
-/// Pays 1 from account 0 to account 1, if the seat's process has room for a request there.
-fn pay_from_shared(board: &Board, seat: &mut BoardSeat, totals: &mut Totals) -> Option<Receipt>
-    requires sharer { IsSharer board.now seat.old totals.old }
-    ensures sharer { IfSome result (λ _. IsSharer board.now seat.new totals.new) }
+impl Receipts {
+    /// No receipts yet.
+    fn new(alloc: Global) -> Receipts {
+        Receipts {
+            list: Vec::new(alloc),
+        }
+    }
+
+    /// Keeps one more receipt, if there is one and there is memory for it. Whether it was kept.
+    fn keep(&mut self, receipt: Option<Receipt>) -> bool {
+        match receipt {
+            Some(receipt) => self.list.push(receipt).is_ok(),
+            None => false,
+        }
+    }
+}
+
+/// A new board of four processes with these accounts.
+pub(crate) fn crowd(alloc: Global) -> Option<Four>
+    ensures { IfSome result IsNewFour }
 {
-    // A process with a slot may ask there.
-    let _slot = slot_on(board.book(), 0, seat.process())?;
-    let number = board.announced(seat, 0);
-    if board.book().request_room() <= number || board.book().accounts() < 2 {
-        return None;
-    }
-    let call = Call::Transfer {
-        from: 0,
-        to: 1,
-        amount: 1,
-    };
-    let receipt = pay_shared(board, seat, totals, 0, &call);
-    if board.announced(seat, 0) == number + 1 {
-        Some(receipt)
-    } else {
-        None
-    }
+    new_four(alloc, 4096, 1024, ACCOUNTS)
 }
 
 /// Whether a process owns account 2 alone.
@@ -99,8 +80,8 @@ fn owns_alone(book: &Book, process: u32) -> bool
 
 /// Pays 1 from account 2 to account 0, if the seat's process owns it alone and has room for a record.
 fn pay_own(board: &Board, seat: &mut BoardSeat, totals: &mut Totals) -> Option<Receipt>
-    requires caller { IsCaller board.now seat.old totals.old }
-    ensures caller { IfSome result (λ _. IsCaller board.now seat.new totals.new) }
+    requires caller { MayCall board.now seat.old totals.old }
+    ensures caller { MayCall board.now seat.new totals.new }
 {
     if !owns_alone(board.book(), seat.process()) {
         return None;
@@ -116,8 +97,8 @@ fn pay_own(board: &Board, seat: &mut BoardSeat, totals: &mut Totals) -> Option<R
 
 /// Reads an account, if there is one of this number.
 fn read(board: &Board, seat: &mut BoardSeat, totals: &mut Totals, account: u32) -> Option<Receipt>
-    requires caller { IsCaller board.now seat.old totals.old }
-    ensures caller { IfSome result (λ _. IsCaller board.now seat.new totals.new) }
+    requires caller { MayCall board.now seat.old totals.old }
+    ensures caller { MayCall board.now seat.new totals.new }
 {
     if board.book().accounts() <= account {
         return None;
@@ -126,55 +107,93 @@ fn read(board: &Board, seat: &mut BoardSeat, totals: &mut Totals, account: u32) 
     Some(read_account(board, seat, totals, account))
 }
 
-/// Pays from the shared account beside the other threads.
-pub(crate) fn pay_shared_often(board: &Board, alloc: Global, seat: &mut BoardSeat) -> Receipts
-    requires idle { IsIdle board.now seat.old }
-    ensures rest { IfSome result (λ _. HoldsNoCell board.now seat.new) }
+/// Pays from the shared account again and again, and keeps the receipts.
+fn share_calls(board: &Board, seat: &mut BoardSeat, totals: &mut Totals, receipts: &mut Receipts)
+    requires caller { MayCall board.now seat.old totals.old }
+    ensures rest { HoldsNoCell board.now seat.new }
 {
-    let mut totals = new_totals(alloc, board)?;
     if !begins_sharing(board, seat) {
-        return None;
+        return;
     }
-    let mut receipts = Vec::new(alloc);
     for _call in 0..CALLS {
-        let receipt = pay_from_shared(board, seat, &mut totals)?;
-        receipts.push(receipt).ok()?;
+        if !receipts.keep(pay_from_shared(board, seat, totals, 1)) {
+            return;
+        }
     }
-    Some(receipts)
+}
+
+/// Pays from the single account again and again, and keeps the receipts.
+fn own_calls(board: &Board, seat: &mut BoardSeat, totals: &mut Totals, receipts: &mut Receipts)
+    requires caller { MayCall board.now seat.old totals.old }
+    ensures rest { HoldsNoCell board.now seat.new }
+{
+    for _call in 0..CALLS {
+        if !receipts.keep(pay_own(board, seat, totals)) {
+            return;
+        }
+    }
+}
+
+/// Reads one account after another, and keeps the receipts.
+fn read_calls(board: &Board, seat: &mut BoardSeat, totals: &mut Totals, receipts: &mut Receipts)
+    requires caller { MayCall board.now seat.old totals.old }
+    ensures rest { HoldsNoCell board.now seat.new }
+{
+    for call in 0..CALLS {
+        if !receipts.keep(read(board, seat, totals, call % 3)) {
+            return;
+        }
+    }
+}
+
+/// Pays from the shared account beside the other threads.
+fn pay_shared_often(board: &Board, alloc: Global, seat: &mut BoardSeat) -> Receipts
+    requires idle { IsIdle board.now seat.old }
+    ensures rest { HoldsNoCell board.now seat.new }
+{
+    let mut receipts = Receipts::new(alloc);
+    match new_totals(alloc, board) {
+        Some(mut totals) => share_calls(board, seat, &mut totals, &mut receipts),
+        None => {}
+    }
+    receipts
 }
 
 /// Pays from the single account beside the other threads.
-pub(crate) fn pay_own_often(board: &Board, alloc: Global, seat: &mut BoardSeat) -> Receipts
+fn pay_own_often(board: &Board, alloc: Global, seat: &mut BoardSeat) -> Receipts
     requires idle { IsIdle board.now seat.old }
-    ensures rest { IfSome result (λ _. HoldsNoCell board.now seat.new) }
+    ensures rest { HoldsNoCell board.now seat.new }
 {
-    let mut totals = new_totals(alloc, board)?;
-    let mut receipts = Vec::new(alloc);
-    for _call in 0..CALLS {
-        let receipt = pay_own(board, seat, &mut totals)?;
-        receipts.push(receipt).ok()?;
+    let mut receipts = Receipts::new(alloc);
+    match new_totals(alloc, board) {
+        Some(mut totals) => own_calls(board, seat, &mut totals, &mut receipts),
+        None => {}
     }
-    Some(receipts)
+    receipts
 }
 
 /// Reads one account after another beside the other threads.
-pub(crate) fn read_often(board: &Board, alloc: Global, seat: &mut BoardSeat) -> Receipts
+fn read_often(board: &Board, alloc: Global, seat: &mut BoardSeat) -> Receipts
     requires idle { IsIdle board.now seat.old }
-    ensures rest { IfSome result (λ _. HoldsNoCell board.now seat.new) }
+    ensures rest { HoldsNoCell board.now seat.new }
 {
-    let mut totals = new_totals(alloc, board)?;
-    let mut receipts = Vec::new(alloc);
-    for call in 0..CALLS {
-        let receipt = read(board, seat, &mut totals, call % 3)?;
-        receipts.push(receipt).ok()?;
+    let mut receipts = Receipts::new(alloc);
+    match new_totals(alloc, board) {
+        Some(mut totals) => read_calls(board, seat, &mut totals, &mut receipts),
+        None => {}
     }
-    Some(receipts)
+    receipts
 }
 
 /// Pays from the shared account once all threads are there.
-fn share_alone(board: &Board, alloc: Global, gate: &AtomicU64, seat: &mut BoardSeat) -> Receipts
+pub(crate) fn share_alone(
+    board: &Board,
+    alloc: Global,
+    gate: &AtomicU64,
+    seat: &mut BoardSeat,
+) -> Receipts
     requires idle { IsIdle board.now seat.old }
-    ensures rest { IfSome result (λ _. HoldsNoCell board.now seat.new) }
+    ensures rest { HoldsNoCell board.now seat.new }
 {
     wait_for_all(gate);
     pay_shared_often(board, alloc, seat)
@@ -183,7 +202,7 @@ fn share_alone(board: &Board, alloc: Global, gate: &AtomicU64, seat: &mut BoardS
 /// Pays from the single account once all threads are there.
 fn own_alone(board: &Board, alloc: Global, gate: &AtomicU64, seat: &mut BoardSeat) -> Receipts
     requires idle { IsIdle board.now seat.old }
-    ensures rest { IfSome result (λ _. HoldsNoCell board.now seat.new) }
+    ensures rest { HoldsNoCell board.now seat.new }
 {
     wait_for_all(gate);
     pay_own_often(board, alloc, seat)
@@ -192,7 +211,7 @@ fn own_alone(board: &Board, alloc: Global, gate: &AtomicU64, seat: &mut BoardSea
 /// Reads once all threads are there.
 fn read_alone(board: &Board, alloc: Global, gate: &AtomicU64, seat: &mut BoardSeat) -> Receipts
     requires idle { IsIdle board.now seat.old }
-    ensures rest { IfSome result (λ _. HoldsNoCell board.now seat.new) }
+    ensures rest { HoldsNoCell board.now seat.new }
 {
     wait_for_all(gate);
     read_often(board, alloc, seat)
@@ -209,8 +228,8 @@ fn share_both<R: Threads>(
 ) -> (Receipts, Receipts)
     requires one { IsIdle board.now one.old }
     requires other { IsIdle board.now other.old }
-    ensures one { IfSome result.0 (λ _. HoldsNoCell board.now one.new) }
-    ensures other { IfSome result.1 (λ _. HoldsNoCell board.now other.new) }
+    ensures one { HoldsNoCell board.now one.new }
+    ensures other { HoldsNoCell board.now other.new }
 {
     join_mut(
         rt,
@@ -220,7 +239,7 @@ fn share_both<R: Threads>(
 }
 
 /// A thread pays from the single account, and another reads.
-fn pay_and_read<R: Threads>(
+pub(crate) fn pay_and_read<R: Threads>(
     rt: &R,
     board: &Board,
     alloc: Global,
@@ -230,8 +249,8 @@ fn pay_and_read<R: Threads>(
 ) -> (Receipts, Receipts)
     requires one { IsIdle board.now one.old }
     requires other { IsIdle board.now other.old }
-    ensures one { IfSome result.0 (λ _. HoldsNoCell board.now one.new) }
-    ensures other { IfSome result.1 (λ _. HoldsNoCell board.now other.new) }
+    ensures one { HoldsNoCell board.now one.new }
+    ensures other { HoldsNoCell board.now other.new }
 {
     join_mut(
         rt,
@@ -254,10 +273,10 @@ fn call_all<R: Threads + Sync>(
     requires one { IsIdle board.now one.old }
     requires two { IsIdle board.now two.old }
     requires three { IsIdle board.now three.old }
-    ensures zero { IfSome result.0.0 (λ _. HoldsNoCell board.now zero.new) }
-    ensures one { IfSome result.0.1 (λ _. HoldsNoCell board.now one.new) }
-    ensures two { IfSome result.1.0 (λ _. HoldsNoCell board.now two.new) }
-    ensures three { IfSome result.1.1 (λ _. HoldsNoCell board.now three.new) }
+    ensures zero { HoldsNoCell board.now zero.new }
+    ensures one { HoldsNoCell board.now one.new }
+    ensures two { HoldsNoCell board.now two.new }
+    ensures three { HoldsNoCell board.now three.new }
 {
     let gate = &AtomicU64::new(0);
     join_mut(
@@ -267,109 +286,96 @@ fn call_all<R: Threads + Sync>(
     )
 }
 
-/// The four seats of a new board.
-pub(crate) fn seats_of(
-    board: &Board,
-    seats: &mut Vec<BoardSeat>,
-) -> Option<(BoardSeat, BoardSeat, BoardSeat, BoardSeat)>
-    requires new { AreLeft board.now seats.old.items }
-    ensures zero { IfSome result (λ r. IsIdle board.now r.0) }
-    ensures one { IfSome result (λ r. IsIdle board.now r.1) }
-    ensures two { IfSome result (λ r. IsIdle board.now r.2) }
-    ensures three { IfSome result (λ r. IsIdle board.now r.3) }
+/// Whether the seats are those of processes 0 to 3 in order.
+fn are_in_order(four: &Four) -> bool
+    requires zero { HoldsNoCell four.now.board four.now.zero }
+    requires one { HoldsNoCell four.now.board four.now.one }
+    requires two { HoldsNoCell four.now.board four.now.two }
+    requires three { HoldsNoCell four.now.board four.now.three }
+    ensures zero { IsTrue result → IsFreeSeat four.now.board 0 four.now.zero }
+    ensures one { IsTrue result → IsFreeSeat four.now.board 1 four.now.one }
+    ensures two { IsTrue result → IsFreeSeat four.now.board 2 four.now.two }
+    ensures three { IsTrue result → IsFreeSeat four.now.board 3 four.now.three }
 {
-    let three = last_seat(board, seats)?;
-    let two = last_seat(board, seats)?;
-    let one = last_seat(board, seats)?;
-    let zero = last_seat(board, seats)?;
-    Some((zero, one, two, three))
+    four.zero.process() == 0
+        && four.one.process() == 1
+        && four.two.process() == 2
+        && four.three.process() == 3
 }
 
-/// Closes a board with its four seats.
-fn close_free(
-    board: Board,
-    alloc: Global,
-    zero: BoardSeat,
-    one: BoardSeat,
-    two: BoardSeat,
-    three: BoardSeat,
-) -> Option<BoardEnd>
-    requires four { board.book.processes ≡ 4 }
-    requires zero { IsFreeSeat board 0 zero }
-    requires one { IsFreeSeat board 1 one }
-    requires two { IsFreeSeat board 2 two }
-    requires three { IsFreeSeat board 3 three }
-    ensures { IfSome result (λ e. e.book ≡ board.book) }
-{
-    let Ok(seats) = Vec::from_array(alloc, [zero, one, two, three]) else {
-        return None;
-    };
-    Some(board.close(seats))
-}
-
-/// Closes a board with its seats, if they are those of processes 0 to 3, and there are no others.
-fn close_rested(
-    board: Board,
-    alloc: Global,
-    zero: BoardSeat,
-    one: BoardSeat,
-    two: BoardSeat,
-    three: BoardSeat,
-) -> Option<BoardEnd>
-    requires zero { HoldsNoCell board zero }
-    requires one { HoldsNoCell board one }
-    requires two { HoldsNoCell board two }
-    requires three { HoldsNoCell board three }
+/// Closes a board with its seats, if they are those of processes 0 to 3.
+fn close_rested(alloc: Global, four: Four) -> Option<BoardEnd>
+    requires four { four.board.book.processes ≡ 4 }
+    requires zero { HoldsNoCell four.board four.zero }
+    requires one { HoldsNoCell four.board four.one }
+    requires two { HoldsNoCell four.board four.two }
+    requires three { HoldsNoCell four.board four.three }
     ensures { IfSome result (λ e. e.book.processes ≡ 4) }
 {
-    if board.book().processes() != 4 || zero.process() != 0 || one.process() != 1 {
-        return None;
+    if are_in_order(&four) {
+        four.close(alloc)
+    } else {
+        None
     }
-    if two.process() != 2 || three.process() != 3 {
-        return None;
-    }
-    close_free(board, alloc, zero, one, two, three)
 }
 
-/// What a record of a closed board says of its source and of its decision.
-fn said_in(end: &BoardEnd, p: u32, i: u32) -> Option<(Head, Option<Decision>)>
+/// What a record of a closed board says of its source, and the word of its decision.
+fn said_in(end: &BoardEnd, p: u32, i: u32) -> Option<(Head, u64)>
     requires process { p < end.now.book.processes }
 {
     if end.length(p) <= i {
         return None;
     }
-    let decision = unpack_decision(end.record_word(p, i, 2));
-    Some((unpack_head(end.record_word(p, i, 0)), decision))
+    let word = end.record_word(p, i, 2);
+    Some((unpack_head(end.record_word(p, i, 0)), word))
 }
 
-/// Whether a round has this decision, which is kept where it has none yet.
-fn keeps_decision(rounds: &mut Vec<Option<Decision>>, round: u32, decision: Decision) -> bool {
+/// Whether a round has the decision of this word, which is kept where it has none yet.
+fn keeps_decision(rounds: &mut [u64], round: u32, word: u64) -> bool {
     let round = round as usize;
-    if rounds.len() <= round {
+    if rounds.len() <= round || unpack_decision(word).is_none() {
         return false;
     }
-    match rounds[round] {
-        Some(before) => before == decision,
-        None => {
-            rounds[round] = Some(decision);
-            true
+    if rounds[round] == 0 {
+        rounds[round] = word;
+    }
+    rounds[round] == word
+}
+
+/// Whether a record of a process is of a round of account 0, whose decision is kept.
+fn keeps_round(end: &BoardEnd, p: u32, i: u32, rounds: &mut [u64]) -> bool
+    requires process { p < end.now.book.processes }
+{
+    match said_in(end, p, i) {
+        Some((head, word)) => {
+            head.kind == 1 && head.from == 0 && keeps_decision(rounds, head.round, word)
         }
+        None => false,
     }
 }
 
 /// Whether all records of a process are of rounds of account 0, each with one decision, which are kept.
-fn keeps_rounds(end: &BoardEnd, p: u32, rounds: &mut Vec<Option<Decision>>) -> bool
+fn keeps_rounds(end: &BoardEnd, p: u32, rounds: &mut [u64]) -> bool
     requires process { p < end.now.book.processes }
 {
     for i in 0..end.length(p) {
-        let Some((head, Some(decision))) = said_in(end, p, i) else {
-            return false;
-        };
-        if head.kind != 1 || head.from != 0 || !keeps_decision(rounds, head.round, decision) {
+        if !keeps_round(end, p, i, rounds) {
             return false;
         }
     }
     true
+}
+
+/// Whether a record of a process is an own one from account 2.
+fn is_own(end: &BoardEnd, p: u32, i: u32) -> bool
+    requires process { p < end.now.book.processes }
+{
+    match said_in(end, p, i) {
+        Some((head, word)) => {
+            head.kind == 0 && head.from == 2 && unpack_decision(word).is_none()
+        }
+        None => false,
+    }
 }
 
 /// Whether a process has just so many records, which are all own ones from account 2.
@@ -377,9 +383,8 @@ fn has_own(end: &BoardEnd, p: u32, count: u64) -> bool
     requires process { p < end.now.book.processes }
 {
     for i in 0..end.length(p) {
-        match said_in(end, p, i) {
-            Some((head, None)) if head.kind == 0 && head.from == 2 => {}
-            _ => return false,
+        if !is_own(end, p, i) {
+            return false;
         }
     }
     u64::from(end.length(p)) == count
@@ -406,26 +411,40 @@ fn decision_told(receipt: &Receipt, slot: u32, number: u32) -> Option<(u32, Deci
     ))
 }
 
+/// The round after that of a receipt of a slot, if that isn't before the next one, and the receipt is done or short as that round
+/// decided its request.
+fn round_after(
+    receipt: &Receipt,
+    slot: u32,
+    number: u32,
+    rounds: &[u64],
+    next: u64,
+) -> Option<u64> {
+    let (round, decision) = decision_told(receipt, slot, number)?;
+    let word = rounds.get(round as usize)?;
+    if u64::from(round) < next || unpack_decision(*word) != Some(decision) {
+        return None;
+    }
+    Some(u64::from(round) + 1)
+}
+
 /// Whether the receipts of a slot stand in rounds that rise, each done or short as that round decided its request.
-fn stand_in_rounds(receipts: &Vec<Receipt>, slot: u32, rounds: &Vec<Option<Decision>>) -> bool {
+fn stand_in_rounds(receipts: &[Receipt], slot: u32, rounds: &[u64]) -> bool {
+    if receipts.len() != CALLS as usize {
+        return false;
+    }
     let mut next = 0;
     for i in 0..CALLS {
-        let Some(receipt) = receipts.get(i as usize) else {
-            return false;
-        };
-        let Some((round, decision)) = decision_told(receipt, slot, i) else {
-            return false;
-        };
-        if u64::from(round) < next || rounds.get(round as usize) != Some(&Some(decision)) {
-            return false;
+        match round_after(&receipts[i as usize], slot, i, rounds, next) {
+            Some(after) => next = after,
+            None => return false,
         }
-        next = u64::from(round) + 1;
     }
-    receipts.len() == CALLS as usize
+    true
 }
 
 /// How many of the receipts are done.
-fn done_of(receipts: &Vec<Receipt>) -> u64 {
+fn done_of(receipts: &[Receipt]) -> u64 {
     receipts
         .iter()
         .filter(|receipt| receipt.reply == Reply::Done)
@@ -434,7 +453,7 @@ fn done_of(receipts: &Vec<Receipt>) -> u64 {
 
 /// Whether the receipts of the single account's owner are done at one own record after another while the account covers them, and
 /// then short.
-fn stand_at_own(receipts: &Vec<Receipt>) -> bool {
+fn stand_at_own(receipts: &[Receipt]) -> bool {
     for i in 0..CALLS {
         match receipts.get(i as usize) {
             Some(receipt) if is_own_or_short(receipt, i) => {}
@@ -478,107 +497,109 @@ fn stands_after(receipt: &Receipt, before: &Receipt) -> bool {
     }
 }
 
+/// Whether a read stands at a front that is not before that of the read before it, with a possible balance.
+fn is_read_in_turn(receipts: &[Receipt], i: u32) -> bool
+    requires { i < length receipts.now }
+{
+    let receipt = &receipts[i as usize];
+    let before = &receipts[i.saturating_sub(1) as usize];
+    is_possible(receipt, i % 3) && stands_after(receipt, before)
+}
+
 /// Whether the reads stand at fronts that don't fall, with possible balances.
-fn are_reads(receipts: &Vec<Receipt>) -> bool {
+fn are_reads(receipts: &[Receipt]) -> bool {
+    if receipts.len() != CALLS as usize {
+        return false;
+    }
     for i in 0..CALLS {
-        let Some(receipt) = receipts.get(i as usize) else {
-            return false;
-        };
-        let Some(before) = receipts.get(i.saturating_sub(1) as usize) else {
-            return false;
-        };
-        if !is_possible(receipt, i % 3) || !stands_after(receipt, before) {
+        if !is_read_in_turn(receipts, i) {
             return false;
         }
     }
-    receipts.len() == CALLS as usize
+    true
 }
 
-/// The decisions of the rounds of account 0 in a closed board, if all records of processes 0 and 1 are of such rounds.
-fn rounds_in(end: &BoardEnd, alloc: Global) -> Option<Vec<Option<Decision>>>
+/// Whether all records of processes 0 and 1 in a closed board are of rounds of account 0, each with one decision, which are kept.
+fn keep_rounds(end: &BoardEnd, rounds: &mut [u64]) -> bool
     requires four { end.now.book.processes ≡ 4 }
 {
-    let mut rounds = Vec::new(alloc);
-    for _request in 0..2 * CALLS {
-        rounds.push(None).ok()?;
-    }
-    if keeps_rounds(end, 0, &mut rounds) && keeps_rounds(end, 1, &mut rounds) {
-        Some(rounds)
-    } else {
-        None
+    keeps_rounds(end, 0, rounds) && keeps_rounds(end, 1, rounds)
+}
+
+/// Whether the receipts of both slots of account 0 stand in these rounds. A round names one slot, so none is told to both.
+fn stand_in(rounds: &[u64], zero: &[Receipt], one: &[Receipt]) -> bool {
+    stand_in_rounds(zero, 0, rounds) && stand_in_rounds(one, 1, rounds)
+}
+
+/// What the four threads have told.
+type Told = ((Receipts, Receipts), (Receipts, Receipts));
+
+/// Whether a closed board agrees with the receipts of both payers from the shared account.
+fn agrees_with(end: &BoardEnd, alloc: Global, zero: &[Receipt], one: &[Receipt]) -> bool
+    requires four { end.now.book.processes ≡ 4 }
+{
+    match vec![in alloc; 0u64; 2 * CALLS as usize] {
+        Ok(mut rounds) => {
+            keep_rounds(end, rounds.as_mut_slice()) && stand_in(rounds.as_slice(), zero, one)
+        }
+        Err(_) => false,
     }
 }
 
-/// Whether a closed board agrees with the receipts of all four processes. A round names one slot, so none is told to both owners.
-fn has_all(
-    end: &BoardEnd,
-    alloc: Global,
-    zero: &Vec<Receipt>,
-    one: &Vec<Receipt>,
-    two: &Vec<Receipt>,
-    three: &Vec<Receipt>,
-) -> bool
+/// Whether it does, and they use up the account's opening and no more than its credits.
+fn has_shared(end: &BoardEnd, alloc: Global, zero: &[Receipt], one: &[Receipt]) -> bool
     requires four { end.now.book.processes ≡ 4 }
 {
-    let Some(rounds) = rounds_in(end, alloc) else {
-        return false;
-    };
-    let shared = stand_in_rounds(zero, 0, &rounds) && stand_in_rounds(one, 1, &rounds);
-    let own = stand_at_own(two) && has_own(end, 2, done_of(two)) && has_own(end, 3, 0);
-    let (first, second) = (done_of(zero), done_of(one));
-    let paid = u128::from(first) + u128::from(second);
-    shared
-        && own
-        && are_reads(three)
+    let paid = u128::from(done_of(zero)) + u128::from(done_of(one));
+    agrees_with(end, alloc, zero, one)
         && u128::from(SHARED) <= paid
         && paid <= u128::from(SHARED + SINGLE)
 }
 
-/// Four threads call on a board, which is then closed. Whether it agrees with their receipts.
-fn calls_agree<R: Threads + Sync>(
-    rt: &R,
-    alloc: Global,
-    board: Board,
-    mut zero: BoardSeat,
-    mut one: BoardSeat,
-    mut two: BoardSeat,
-    mut three: BoardSeat,
-) -> bool
-    requires zero { IsIdle board zero }
-    requires one { IsIdle board one }
-    requires two { IsIdle board two }
-    requires three { IsIdle board three }
+/// Whether a closed board agrees with the receipts of the single account's owner, and the reader has published nothing.
+fn has_single(end: &BoardEnd, two: &[Receipt]) -> bool
+    requires four { end.now.book.processes ≡ 4 }
 {
-    let ((first, second), (third, fourth)) = call_all(
-        rt, &board, alloc, &mut zero, &mut one, &mut two, &mut three,
-    );
-    let Some(first) = first else {
-        return false;
-    };
-    let Some(second) = second else {
-        return false;
-    };
-    let Some(third) = third else {
-        return false;
-    };
-    let Some(fourth) = fourth else {
-        return false;
-    };
-    match close_rested(board, alloc, zero, one, two, three) {
-        Some(end) => has_all(&end, alloc, &first, &second, &third, &fourth),
+    stand_at_own(two) && has_own(end, 2, done_of(two)) && has_own(end, 3, 0)
+}
+
+/// Whether a closed board agrees with the receipts of all four processes.
+fn has_all(end: Option<BoardEnd>, alloc: Global, told: &Told) -> bool
+    requires four { IfSome end (λ end. end.book.processes ≡ 4) }
+{
+    let ((zero, one), (two, three)) = told;
+    match end {
+        Some(end) => {
+            has_shared(&end, alloc, zero.list.as_slice(), one.list.as_slice())
+                && has_single(&end, two.list.as_slice())
+                && are_reads(three.list.as_slice())
+        }
         None => false,
     }
 }
 
-/// Four threads call at once on a new board. It is then closed.
-fn calls<R: Threads + Sync + Abort>(rt: &R, alloc: Global) {
-    let book = crowd_book(alloc).expect(rt, "a book");
-    let (board, mut seats) = Board::new(alloc, &book).expect(rt, "a board");
-    let (zero, one, two, three) = seats_of(&board, &mut seats).expect(rt, "seats");
-    assert!(rt; calls_agree(rt, alloc, board, zero, one, two, three));
+/// Four threads call on a board, which is then closed. Whether it agrees with their receipts.
+fn calls_agree<R: Threads + Sync>(rt: &R, alloc: Global, mut four: Four) -> bool
+    requires { IsNewFour four }
+{
+    let told = call_all(
+        rt,
+        &four.board,
+        alloc,
+        &mut four.zero,
+        &mut four.one,
+        &mut four.two,
+        &mut four.three,
+    );
+    has_all(close_rested(alloc, four), alloc, &told)
 }
 
+/// Four threads call at once on a new board. It is then closed.
 #[test]
 fn four_threads_call(rt: HostRuntime) {
-    calls(&rt, rt.alloc());
+    let is_right = match crowd(rt.alloc()) {
+        Some(four) => calls_agree(&rt, rt.alloc(), four),
+        None => false,
+    };
+    assert!(rt; is_right);
 }

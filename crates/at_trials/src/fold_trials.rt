@@ -6,7 +6,7 @@ ghost use Rattle.at_board.specs.Ends.Opening.{starting_seat};
 ghost use Rattle.at_board.specs.Knowledge.Seats.{IsOf};
 ghost use Rattle.at_fold.specs.HasCounted.{HasCounted};
 ghost use Rattle.at_history.specs.Sound.{IsSoundOwn};
-ghost use Rattle.at_players.specs.SmallBoard.{AreNewPair, new_seat};
+ghost use Rattle.at_players.specs.SmallBoard.{IsNewPair, IsNewSingle, new_seat};
 ghost use Rattle.at_trials.specs.SmallFold.{CountsAll, HasOnlyFirst, HasOnlyRecord, IsNewTotals};
 
 use crate::payers::{may_pay, pay};
@@ -15,11 +15,22 @@ use at_board::{Board, BoardSeat, pack_targets};
 use at_fold::Totals;
 use at_ledger::Targets;
 use at_log::Entry;
-use at_players::boards::{new_pair, new_single, slot_on};
+use at_players::boards::{Account, Pair, Single, new_pair, new_single, slot_on};
 use at_players::crowd::look;
 use at_players::rounds::settle;
 use std::alloc::Global;
-use std::process::Abort;
+
+/// Account 0 of the only process, and two of nobody.
+const PAID_OUT: &[Account] = &[(100, &[0]), (0, &[]), (0, &[])];
+
+/// An account of each process.
+const OWN: &[Account] = &[(100, &[0]), (0, &[1])];
+
+/// Account 0 of process 0, and account 1 of both.
+const ONE_SHARED: &[Account] = &[(100, &[0]), (0, &[0, 1])];
+
+/// Account 0 of both processes, and account 1 of nobody.
+const SHARED: &[Account] = &[(100, &[0, 1]), (0, &[])];
 
 /// Totals for the board that have counted nothing.
 pub(crate) fn new_totals(alloc: Global, board: &Board) -> Option<Totals>
@@ -29,6 +40,28 @@ pub(crate) fn new_totals(alloc: Global, board: &Board) -> Option<Totals>
         Ok(totals) => Some(totals),
         Err(_) => None,
     }
+}
+
+/// Totals of two processes.
+pub(crate) struct TwoTotals {
+    pub(crate) zero: Totals,
+    pub(crate) one: Totals,
+}
+
+impl Drop for TwoTotals {
+    fn drop(self) {
+        let TwoTotals { zero: _, one: _ } = self;
+    }
+}
+
+/// Totals of two processes for the board, which have counted nothing.
+pub(crate) fn two_totals(alloc: Global, board: &Board) -> Option<TwoTotals>
+    ensures zero { IfSome result (λ totals. IsNewTotals totals.zero board.now.book) }
+    ensures one { IfSome result (λ totals. IsNewTotals totals.one board.now.book) }
+{
+    let zero = new_totals(alloc, board)?;
+    let one = new_totals(alloc, board)?;
+    Some(TwoTotals { zero, one })
 }
 
 /// The only process pays, in nine steps.
@@ -150,6 +183,22 @@ fn sixty_and_forty() -> Targets
     targets
 }
 
+/// Whether the record of the only process has the words of this payment, and totals that catch up tell the balances.
+fn has_paid_out(board: &Board, seat: &mut BoardSeat, totals: &mut Totals, word: u64) -> bool
+    requires board { IsOf seat.old board.now }
+    requires alone { board.now.book.processes ≡ 1 }
+    requires one { HasOnlyFirst board.now.book seat.old.knows.seen }
+    requires new { IsNewTotals totals.old board.now.book }
+    requires accounts { 2 < length board.now.book.accounts }
+{
+    let words = first_words(board, seat);
+    catches_up(board, seat, totals);
+    words == [0, word, 0, 60, 40, 0, 0, 0]
+        && balance(totals, board, seat, 0) == 0
+        && balance(totals, board, seat, 1) == 60
+        && balance(totals, board, seat, 2) == 40
+}
+
 /// Whether the only process pays 60 and 40, its record has these words, and totals that catch up tell the balances.
 fn counts_a_pay_out(board: &Board, seat: &mut BoardSeat, totals: &mut Totals) -> bool
     requires alone { board.now.book.processes ≡ 1 }
@@ -162,29 +211,26 @@ fn counts_a_pay_out(board: &Board, seat: &mut BoardSeat, totals: &mut Totals) ->
         return false;
     }
     pays_alone(board, seat, targets);
-    let words = first_words(board, seat);
-    catches_up(board, seat, totals);
-    words == [0, word, 0, 60, 40, 0, 0, 0]
-        && balance(totals, board, seat, 0) == 0
-        && balance(totals, board, seat, 1) == 60
-        && balance(totals, board, seat, 2) == 40
+    has_paid_out(board, seat, totals, word)
 }
 
 /// The only process of a board pays two targets, and new totals catch up.
-fn pays_out<R: Abort>(rt: &R, alloc: Global) {
-    let accounts = [
-        (100, [0].as_slice()),
-        (0, [].as_slice()),
-        (0, [].as_slice()),
-    ];
-    let (board, mut seat) = new_single(alloc, 4, accounts.as_slice()).expect(rt, "a board");
-    let mut totals = new_totals(alloc, &board).expect(rt, "totals");
-    assert!(rt; counts_a_pay_out(&board, &mut seat, &mut totals));
+fn pays_out_on(alloc: Global, single: &mut Single) -> bool
+    requires { IsNewSingle single.old }
+{
+    match new_totals(alloc, &single.board) {
+        Some(mut totals) => counts_a_pay_out(&single.board, &mut single.seat, &mut totals),
+        None => false,
+    }
 }
 
 #[test]
 fn a_pay_out_is_counted(rt: HostRuntime) {
-    pays_out(&rt, rt.alloc());
+    let is_right = match new_single(rt.alloc(), 4, PAID_OUT) {
+        Some(mut single) => pays_out_on(rt.alloc(), &mut single),
+        None => false,
+    };
+    assert!(rt; is_right);
 }
 
 /// Whether totals have counted one record of process 0, and none of process 1.
@@ -200,7 +246,9 @@ fn counts_what_was_told(
     other: &mut BoardSeat,
     totals: &mut Totals,
 ) -> bool
-    requires pair { AreNewPair board.now seat.old other.old }
+    requires two { board.now.book.processes ≡ 2 }
+    requires seat { seat.old ≡ new_seat board.now 0 }
+    requires other { other.old ≡ new_seat board.now 1 }
     requires new { IsNewTotals totals.old board.now.book }
 {
     let targets = Targets::one(1, 40);
@@ -217,18 +265,24 @@ fn counts_what_was_told(
 }
 
 /// One process pays, and new totals of the other catch up.
-fn tells<R: Abort>(rt: &R, alloc: Global) {
-    let accounts = [(100, [0].as_slice()), (0, [1].as_slice())];
-    let (board, mut seat, mut other) = new_pair(alloc, 4, accounts.as_slice()).expect(
-        rt, "a board",
-    );
-    let mut totals = new_totals(alloc, &board).expect(rt, "totals");
-    assert!(rt; counts_what_was_told(&board, &mut seat, &mut other, &mut totals));
+fn tells_on(alloc: Global, pair: &mut Pair) -> bool
+    requires { IsNewPair pair.old }
+{
+    match new_totals(alloc, &pair.board) {
+        Some(mut totals) => {
+            counts_what_was_told(&pair.board, &mut pair.zero, &mut pair.one, &mut totals)
+        }
+        None => false,
+    }
 }
 
 #[test]
 fn a_told_record_is_counted(rt: HostRuntime) {
-    tells(&rt, rt.alloc());
+    let is_right = match new_pair(rt.alloc(), 4, OWN) {
+        Some(mut pair) => tells_on(rt.alloc(), &mut pair),
+        None => false,
+    };
+    assert!(rt; is_right);
 }
 
 /// Whether process 0 counts its own record as it publishes it, and has no round of account 1, which it shares.
@@ -246,16 +300,22 @@ fn counts_own(board: &Board, seat: &mut BoardSeat, totals: &mut Totals) -> bool
 }
 
 /// A process counts its own record.
-fn counts<R: Abort>(rt: &R, alloc: Global) {
-    let accounts = [(100, [0].as_slice()), (0, [0, 1].as_slice())];
-    let (board, mut seat, _) = new_pair(alloc, 4, accounts.as_slice()).expect(rt, "a board");
-    let mut totals = new_totals(alloc, &board).expect(rt, "totals");
-    assert!(rt; counts_own(&board, &mut seat, &mut totals));
+fn counts_on(alloc: Global, pair: &mut Pair) -> bool
+    requires { IsNewPair pair.old }
+{
+    match new_totals(alloc, &pair.board) {
+        Some(mut totals) => counts_own(&pair.board, &mut pair.zero, &mut totals),
+        None => false,
+    }
 }
 
 #[test]
 fn an_own_record_is_counted(rt: HostRuntime) {
-    counts(&rt, rt.alloc());
+    let is_right = match new_pair(rt.alloc(), 4, ONE_SHARED) {
+        Some(mut pair) => counts_on(rt.alloc(), &mut pair),
+        None => false,
+    };
+    assert!(rt; is_right);
 }
 
 /// The decision that process 0's first request succeeds, before anything is published.
@@ -304,14 +364,20 @@ fn counts_a_round(board: &Board, seat: &mut BoardSeat, totals: &mut Totals) -> b
 }
 
 /// A round is decided and published on the account that two processes share, and new totals catch up.
-fn decides<R: Abort>(rt: &R, alloc: Global) {
-    let accounts = [(100, [0, 1].as_slice()), (0, [].as_slice())];
-    let (board, mut seat, _) = new_pair(alloc, 4, accounts.as_slice()).expect(rt, "a board");
-    let mut totals = new_totals(alloc, &board).expect(rt, "totals");
-    assert!(rt; counts_a_round(&board, &mut seat, &mut totals));
+fn decides_on(alloc: Global, pair: &mut Pair) -> bool
+    requires { IsNewPair pair.old }
+{
+    match new_totals(alloc, &pair.board) {
+        Some(mut totals) => counts_a_round(&pair.board, &mut pair.zero, &mut totals),
+        None => false,
+    }
 }
 
 #[test]
 fn a_published_round_is_counted(rt: HostRuntime) {
-    decides(&rt, rt.alloc());
+    let is_right = match new_pair(rt.alloc(), 4, SHARED) {
+        Some(mut pair) => decides_on(rt.alloc(), &mut pair),
+        None => false,
+    };
+    assert!(rt; is_right);
 }

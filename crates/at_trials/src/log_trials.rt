@@ -1,21 +1,24 @@
 //! A record is appended on a small board, and another process loads it through a note.
 
-ghost use Rattle.std.specs.Prelude.{◌≡◌, ◌+◌, ◌<◌, [], IsTrue};
+ghost use Rattle.std.specs.Prelude.{◌≡◌, ◌+◌, ◌<◌, [], ◌∷◌};
 ghost use Rattle.at_board.specs.Counting.{exchanged, raised};
 ghost use Rattle.at_board.specs.Ends.Opening.{starting_seat};
 ghost use Rattle.at_board.specs.Knowledge.Seats.{IsOf};
 ghost use Rattle.at_history.specs.Publications.{count_of};
 ghost use Rattle.at_history.specs.Sound.{IsSoundOwn};
-ghost use Rattle.at_players.specs.SmallBoard.{AreNewPair, new_seat};
+ghost use Rattle.at_players.specs.SmallBoard.{IsNewPair, IsNewSingle};
 
 use crate::payers::{may_pay, pay};
-use at_base::Counts;
 use at_board::{Board, BoardSeat};
-use at_ledger::{Call, Reply, Targets};
-use at_log::{At, Closing, Entry, Receipt, Record, load_entry, load_view, room};
-use at_players::boards::{new_pair, new_single};
-use std::alloc::Global;
-use std::process::Abort;
+use at_ledger::Targets;
+use at_log::{Entry, Record, load_entry, load_view, room};
+use at_players::boards::{Account, Pair, Single, new_pair, new_single};
+
+/// Account 0 of the only process, and two of nobody.
+const PAID_OUT: &[Account] = &[(100, &[0]), (0, &[]), (0, &[])];
+
+/// An account of each process.
+const OWN: &[Account] = &[(100, &[0]), (100, &[1])];
 
 /// The only process pays, in nine steps.
 fn pays_alone(board: &Board, seat: &mut BoardSeat, targets: Targets)
@@ -48,46 +51,50 @@ fn told_record(board: &Board, seat: &mut BoardSeat, other: &mut BoardSeat) -> Re
     Record { entry, view }
 }
 
-/// Whether the only process pays 60 and 40, and has room for three more records then.
-fn appends(board: &Board, seat: &mut BoardSeat) -> bool
-    requires alone { board.now.book.processes ≡ 1 }
-    requires seat { seat.old ≡ new_seat board.now 0 }
+/// 60 to account 1 and 40 to account 2.
+fn sixty_and_forty() -> Targets
+    ensures { result ≡ (1, 60) ∷ (2, 40) ∷ [] }
 {
     let mut targets = Targets::one(1, 60);
     targets.push(2, 40);
-    if room(board, seat) != 4 || !may_pay(board.book(), seat.process(), 3, &targets) {
+    targets
+}
+
+/// Whether the only process pays 60 and 40, and has room for three more records then.
+fn appends(single: &mut Single) -> bool
+    requires { IsNewSingle single.old }
+{
+    let targets = sixty_and_forty();
+    if room(&single.board, &single.seat) != 4 {
         return false;
     }
-    pays_alone(board, seat, targets);
-    seat.published() == 1 && room(board, seat) == 3
+    if !may_pay(single.board.book(), single.seat.process(), 3, &targets) {
+        return false;
+    }
+    pays_alone(&single.board, &mut single.seat, targets);
+    single.seat.published() == 1 && room(&single.board, &single.seat) == 3
 }
 
 /// The only process of a board pays two targets.
-fn appends_alone<R: Abort>(rt: &R, alloc: Global) {
-    let accounts = [
-        (100, [0].as_slice()),
-        (0, [].as_slice()),
-        (0, [].as_slice()),
-    ];
-    let (board, mut seat) = new_single(alloc, 4, accounts.as_slice()).expect(rt, "a board");
-    assert!(rt; appends(&board, &mut seat));
-}
-
 #[test]
 fn a_record_is_appended(rt: HostRuntime) {
-    appends_alone(&rt, rt.alloc());
+    let is_right = match new_single(rt.alloc(), 4, PAID_OUT) {
+        Some(mut single) => appends(&mut single),
+        None => false,
+    };
+    assert!(rt; is_right);
 }
 
 /// The record by which process 0 pays 1 to account 1, as process 1 loads it after a note.
-fn pays_and_tells(board: &Board, seat: &mut BoardSeat, other: &mut BoardSeat) -> Option<Record>
-    requires { AreNewPair board.now seat.old other.old }
+fn pays_and_tells(pair: &mut Pair) -> Option<Record>
+    requires { IsNewPair pair.old }
 {
     let targets = Targets::one(1, 1);
-    if !may_pay(board.book(), seat.process(), 2, &targets) {
+    if !may_pay(pair.board.book(), pair.zero.process(), 2, &targets) {
         return None;
     }
-    let _entry = pay(board, seat, targets);
-    Some(told_record(board, seat, other))
+    let _entry = pay(&pair.board, &mut pair.zero, targets);
+    Some(told_record(&pair.board, &mut pair.zero, &mut pair.one))
 }
 
 /// Whether a record pays 1 from account 0 to account 1, and its view counts nothing.
@@ -112,56 +119,11 @@ fn is_payment(told: &Option<Record>) -> bool {
 }
 
 /// One process pays 1 to account 1, and the other loads the record, through a note alone.
-fn tells<R: Abort>(rt: &R, alloc: Global) {
-    let accounts = [(100, [0].as_slice()), (100, [1].as_slice())];
-    let (board, mut seat, mut other) = new_pair(alloc, 4, accounts.as_slice()).expect(
-        rt, "a board",
-    );
-    let told = pays_and_tells(&board, &mut seat, &mut other);
-    assert!(rt; is_payment(&told));
-}
-
 #[test]
 fn a_record_is_told(rt: HostRuntime) {
-    tells(&rt, rt.alloc());
-}
-
-/// A closing says its processes, its records and its receipts.
-#[test]
-fn a_closing_of_one_process(rt: HostRuntime) {
-    let record = Record {
-        entry: Entry::Own {
-            from: 0,
-            targets: Targets::one(1, 30),
-        },
-        view: Counts::zeros(1),
+    let is_right = match new_pair(rt.alloc(), 4, OWN) {
+        Some(mut pair) => is_payment(&pays_and_tells(&mut pair)),
+        None => false,
     };
-    let receipt = Receipt {
-        call: Call::Transfer {
-            from: 0,
-            to: 1,
-            amount: 30,
-        },
-        reply: Reply::Done,
-        at: At::Own(0),
-    };
-    let Ok(log) = Vec::from_array(rt.alloc(), [record]) else {
-        assert!(rt; false);
-        return;
-    };
-    let Ok(receipts) = Vec::from_array(rt.alloc(), [receipt]) else {
-        assert!(rt; false);
-        return;
-    };
-    let (Ok(logs), Ok(lists)) = (
-        Vec::from_array(rt.alloc(), [log]),
-        Vec::from_array(rt.alloc(), [receipts]),
-    ) else {
-        assert!(rt; false);
-        return;
-    };
-    let closing = Closing::new(logs, lists);
-    assert_eq!(rt; closing.processes(), 1);
-    assert_eq!(rt; closing.log(0).len(), 1);
-    assert!(rt; matches!(closing.receipts(0)[0].at, At::Own(0)));
+    assert!(rt; is_right);
 }

@@ -3,17 +3,17 @@
 ghost use Rattle.std.specs.Prelude.{◌≡◌, ◌<◌, [], ◌∷◌, IsTrue};
 ghost use Rattle.at_board.specs.Ends.Opening.{starting_seat};
 ghost use Rattle.at_board.specs.Knowledge.Seats.{IsOf};
-ghost use Rattle.at_players.specs.SmallBoard.{new_seat};
+ghost use Rattle.at_players.specs.SmallBoard.{IsNewThree};
+ghost use Rattle.at_snapshot.specs.Scans.{IsScanOf};
 ghost use Rattle.at_trials.specs.SmallScan.{HasPaid, MayPayTwice, one_from_1};
 
 use at_base::Counts;
 use at_board::{Board, BoardSeat};
 use at_ledger::{Book, Targets};
 use at_log::{Entry, Record, append};
-use at_players::boards::new_three;
+use at_players::boards::{Account, Three, new_three};
 use at_snapshot::{Scan, Turn, snapshot};
 use std::alloc::Global;
-use std::process::Abort;
 
 /// The counts of three processes.
 fn three(counts: &Counts) -> Option<(u32, u32, u32)> {
@@ -31,9 +31,14 @@ fn clean(turn: &Turn) -> Option<(u32, u32, u32)> {
     }
 }
 
-/// Whether the scan goes on.
-fn is_again(turn: &Turn) -> bool {
-    matches!(turn, Turn::Again)
+/// Whether a turn of a scan answers that it goes on.
+fn goes_on(scan: &mut Scan, board: &Board, seat: &mut BoardSeat) -> bool
+    requires board { IsOf seat.old board.now }
+    requires scan { IsScanOf board.now.book scan.old seat.old.knows }
+    ensures scan { IsScanOf board.now.book scan.new seat.new.knows }
+    ensures board { IsOf seat.new board.now }
+{
+    matches!(scan.turn(board, seat), Turn::Again)
 }
 
 /// The counts of a turn that borrows a view.
@@ -113,89 +118,72 @@ fn pay_again(board: &Board, seat: &mut BoardSeat) -> bool
 }
 
 /// An account that opens with 10 for each of three processes.
-const ACCOUNTS: [(u64, &[u64]); 3] = [(10, &[0]), (10, &[1]), (10, &[2])];
+const ACCOUNTS: &[Account] = &[(10, &[0]), (10, &[1]), (10, &[2])];
 
-/// Whether the second collect equals the first, where nobody publishes, and a snapshot counts nothing.
-fn scans_alone(board: &Board, seat: &mut BoardSeat) -> bool
-    requires { seat.old ≡ new_seat board.now 2 }
+/// Whether the second collect of process 2 equals the first, where nobody publishes, and a snapshot counts nothing.
+fn scans_alone(three_seats: &mut Three) -> bool
+    requires { IsNewThree three_seats.old }
 {
+    let (board, seat) = (&three_seats.board, &mut three_seats.two);
     let mut scan = Scan::start(seat);
-    let first = scan.turn(board, seat);
-    let second = scan.turn(board, seat);
-    let counts = snapshot(board, seat);
-    is_again(&first) && clean(&second) == Some((0, 0, 0)) && three(&counts) == Some((0, 0, 0))
+    let is_again = goes_on(&mut scan, board, seat);
+    let second = clean(&scan.turn(board, seat));
+    let counts = three(&snapshot(board, seat));
+    is_again && second == Some((0, 0, 0)) && counts == Some((0, 0, 0))
 }
 
-/// What a scan answers in its third turn, where another process publishes once after the first collect, and maybe again after the
-/// second. None where it is not turned away twice before.
-fn scans_beside(
-    board: &Board,
-    seat: &mut BoardSeat,
-    other: &mut BoardSeat,
-    again: bool,
-) -> Option<Turn>
-    requires seat { seat.old ≡ new_seat board.now 0 }
-    requires other { other.old ≡ new_seat board.now 1 }
+/// What a scan of process 0 answers in its third turn, its own or borrowed, where process 1 publishes once after the first collect,
+/// and maybe again after the second. None where it is not turned away twice before.
+fn scans_beside(three_seats: &mut Three, again: bool) -> Option<(u32, u32, u32)>
+    requires { IsNewThree three_seats.old }
 {
+    let (board, seat, other) = (
+        &three_seats.board,
+        &mut three_seats.zero,
+        &mut three_seats.one,
+    );
     if !may_pay_twice(board.book(), other.process()) {
         return None;
     }
     let mut scan = Scan::start(seat);
-    let first = scan.turn(board, seat);
+    let first = goes_on(&mut scan, board, seat);
     pay(board, other);
-    let second = scan.turn(board, seat);
-    if again && !pay_again(board, other) {
+    let second = goes_on(&mut scan, board, seat);
+    if !first || !second || again && !pay_again(board, other) {
         return None;
     }
     let third = scan.turn(board, seat);
-    if is_again(&first) && is_again(&second) {
-        Some(third)
+    if again {
+        borrowed(&third)
     } else {
-        None
+        clean(&third)
     }
 }
 
-/// Nobody publishes.
-fn scans<R: Abort>(rt: &R, alloc: Global) {
-    let (board, (_, _, mut seat)) = new_three(alloc, 4, ACCOUNTS.as_slice()).expect(rt, "a board");
-    assert!(rt; scans_alone(&board, &mut seat));
-}
-
-/// Another process publishes, once or twice. Whether the scan answers these counts, its own or borrowed.
-fn meets<R: Abort>(rt: &R, alloc: Global, again: bool) {
-    let (board, (mut seat, mut other, _)) = new_three(alloc, 4, ACCOUNTS.as_slice()).expect(
-        rt, "a board",
-    );
-    let third = scans_beside(&board, &mut seat, &mut other, again);
-    assert!(rt; counts_one(&third, again));
-}
-
-/// Whether a scan answered the counts 0, 1 and 0, borrowed or its own.
-fn counts_one(third: &Option<Turn>, is_borrowed: bool) -> bool {
-    match third {
-        Some(turn) => {
-            let answer = if is_borrowed {
-                borrowed(turn)
-            } else {
-                clean(turn)
-            };
-            answer == Some((0, 1, 0))
-        }
+/// Whether the scan of process 0 answers the counts 0, 1 and 0, its own or borrowed, where another process publishes once or twice.
+fn meets(alloc: Global, again: bool) -> bool {
+    match new_three(alloc, 4, ACCOUNTS) {
+        Some(mut seats) => scans_beside(&mut seats, again) == Some((0, 1, 0)),
         None => false,
     }
 }
 
+/// Nobody publishes.
 #[test]
 fn a_scan_ends(rt: HostRuntime) {
-    scans(&rt, rt.alloc());
+    let is_right = match new_three(rt.alloc(), 4, ACCOUNTS) {
+        Some(mut seats) => scans_alone(&mut seats),
+        None => false,
+    };
+    assert!(rt; is_right);
 }
 
 #[test]
 fn a_scan_meets_a_record(rt: HostRuntime) {
-    meets(&rt, rt.alloc(), false);
+    assert!(rt; meets(rt.alloc(), false));
 }
 
 #[test]
 fn a_scan_borrows_a_view(rt: HostRuntime) {
-    meets(&rt, rt.alloc(), true);
+    assert!(rt; meets(rt.alloc(), true));
 }

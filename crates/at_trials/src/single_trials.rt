@@ -1,19 +1,21 @@
 //! A payment from a single account, a read after it, and a read by a process that was told of it by a note alone.
 
 ghost use Rattle.std.specs.Prelude.{◌≡◌, ◌<◌, IsTrue, length};
-ghost use Rattle.at_players.specs.SmallBoard.{AreNewPair};
+ghost use Rattle.at_players.specs.SmallBoard.{IsNewPair, new_seat};
 ghost use Rattle.at_single.specs.Standing.{IsOnlyOwner};
 ghost use Rattle.at_trials.specs.SmallFold.{IsNewTotals};
 
-use crate::fold_trials::new_totals;
+use crate::fold_trials::two_totals;
 use at_board::{Board, BoardSeat};
 use at_fold::Totals;
 use at_ledger::{Book, Reply, Targets};
 use at_log::{At, Receipt};
-use at_players::boards::new_pair;
+use at_players::boards::{Account, Pair, new_pair};
 use at_single::{pay_single, read_account};
 use std::alloc::Global;
-use std::process::Abort;
+
+/// An account of each process.
+const OWN: &[Account] = &[(100, &[0]), (0, &[1])];
 
 /// Whether process 0 owns account 0 alone, and there is an account 1.
 fn owns_alone(book: &Book) -> bool
@@ -49,7 +51,8 @@ fn pays_and_reads(
     totals: &mut Totals,
     others: &mut Totals,
 ) -> bool
-    requires pair { AreNewPair board.now seat.old other.old }
+    requires seat { seat.old ≡ new_seat board.now 0 }
+    requires other { other.old ≡ new_seat board.now 1 }
     requires totals { IsNewTotals totals.old board.now.book }
     requires others { IsNewTotals others.old board.now.book }
 {
@@ -67,18 +70,30 @@ fn pays_and_reads(
         && read_at(&there) == Some((40, 1, 0))
 }
 
-/// Two processes of a new board.
-fn pays<R: Abort>(rt: &R, alloc: Global) {
-    let accounts = [(100, [0].as_slice()), (0, [1].as_slice())];
-    let (board, mut seat, mut other) = new_pair(alloc, 4, accounts.as_slice()).expect(
-        rt, "a board",
-    );
-    let mut totals = new_totals(alloc, &board).expect(rt, "totals");
-    let mut others = new_totals(alloc, &board).expect(rt, "totals");
-    assert!(rt; pays_and_reads(&board, &mut seat, &mut other, &mut totals, &mut others));
+/// Two processes of a new board do so.
+fn pays_on(alloc: Global, pair: &mut Pair) -> bool
+    requires { IsNewPair pair.old }
+{
+    match two_totals(alloc, &pair.board) {
+        Some(mut totals) => {
+            pays_and_reads(
+                &pair.board,
+                &mut pair.zero,
+                &mut pair.one,
+                &mut totals.zero,
+                &mut totals.one,
+            )
+        }
+        None => false,
+    }
 }
 
+/// Two processes of a new board do so.
 #[test]
 fn a_payment_is_read_by_both(rt: HostRuntime) {
-    pays(&rt, rt.alloc());
+    let is_right = match new_pair(rt.alloc(), 4, OWN) {
+        Some(mut pair) => pays_on(rt.alloc(), &mut pair),
+        None => false,
+    };
+    assert!(rt; is_right);
 }

@@ -1,9 +1,9 @@
 //! Scans under traffic: three threads publish, and one scans again and again.
 
-ghost use Rattle.std.specs.Prelude.{◌≡◌, ◌<◌, IfSome, IsTrue};
+ghost use Rattle.std.specs.Prelude.{◌≡◌, ◌<◌, IsTrue, length};
 ghost use Rattle.at_board.specs.Knowledge.Parts.{own_part};
 ghost use Rattle.at_board.specs.Knowledge.Seats.{IsOf};
-ghost use Rattle.at_players.specs.SmallBoard.{AreLeft, HasOwnAccount};
+ghost use Rattle.at_players.specs.SmallBoard.{HasOwnAccount, IsNewFour};
 ghost use Rattle.at_trials.specs.SmallScan.{HasSeen, IsPublisher};
 
 use crate::crowd_trials::rises;
@@ -11,25 +11,30 @@ use at_base::Counts;
 use at_board::{Board, BoardSeat};
 use at_ledger::{Book, Targets};
 use at_log::{Entry, Record, append, load_view};
-use at_players::boards::{book_of, last_seat};
+use at_players::boards::{Account, Four, new_four};
 use at_players::crowd::{RECORDS, wait_for_all};
 use at_snapshot::snapshot;
-use std::alloc::{AllocError, Global};
-use std::process::Abort;
+use std::alloc::Global;
 use std::sync::atomic::AtomicU64;
 use std::thread::{Threads, join_mut};
 
 /// How often the fourth scans.
 const SCANS: u32 = 64;
 
-/// A book of four processes, of which each owns the account after that of its number alone.
-const ACCOUNTS: [(u64, &[u64]); 5] = [(10, &[0]), (10, &[0]), (10, &[1]), (10, &[2]), (10, &[3])];
+/// Accounts of four processes, of which each owns the account after that of its number alone.
+const ACCOUNTS: &[Account] = &[(10, &[0]), (10, &[0]), (10, &[1]), (10, &[2]), (10, &[3])];
 
-/// What a thread answers that publishes: the views of its records.
-type Views = Result<Vec<Counts>, AllocError>;
+/// What a thread answers: the views of the records that it published, or the counts of its scans, up to one that couldn't be made or
+/// with which a last record disagreed. What holds them has a call where it drops them.
+struct Views {
+    list: Vec<Counts>,
+}
 
-/// What the thread answers that scans: the counts, or none where a last record disagreed with them.
-type Scans = Result<Option<Vec<Counts>>, AllocError>;
+impl Drop for Views {
+    fn drop(self) {
+        let Views { list: _ } = self;
+    }
+}
 
 /// Whether a process owns the account after that of its number alone.
 fn has_own_account(book: &Book, process: u32) -> bool
@@ -43,18 +48,13 @@ fn has_own_account(book: &Book, process: u32) -> bool
     book.slot_of(account, process).is_some()
 }
 
-/// The last of the seats that are left, if it is that of this process, which has an account.
-fn last_publisher(board: &Board, seats: &mut Vec<BoardSeat>, process: u32) -> Option<BoardSeat>
-    requires process { process < 16 }
-    requires new { AreLeft board.now seats.old.items }
-    ensures publisher { IfSome result (λ seat. IsPublisher board.now seat) }
-    ensures rest { AreLeft board.now seats.new.items }
+/// Whether processes 1, 2 and 3 do.
+fn are_publishers(book: &Book) -> bool
+    ensures one { IsTrue result → HasOwnAccount book.now 1 }
+    ensures two { IsTrue result → HasOwnAccount book.now 2 }
+    ensures three { IsTrue result → HasOwnAccount book.now 3 }
 {
-    let seat = last_seat(board, seats)?;
-    if seat.process() != process || !has_own_account(board.book(), process) {
-        return None;
-    }
-    Some(seat)
+    has_own_account(book, 1) && has_own_account(book, 2) && has_own_account(book, 3)
 }
 
 /// Moves 0 from the process's own account to account 0 with the view of a snapshot, and answers the view.
@@ -75,18 +75,38 @@ fn move_nothing(board: &Board, seat: &mut BoardSeat) -> Counts
     record.view
 }
 
-/// Publishes records beside the other threads, and answers their views.
-fn publish_all(board: &Board, alloc: Global, seat: &mut BoardSeat) -> Views
+/// Publishes a record, and keeps its view. False where there is no room or no memory for it.
+fn publish_once(board: &Board, seat: &mut BoardSeat, views: &mut Vec<Counts>) -> bool
+    requires publisher { IsPublisher board.now seat.old }
+    ensures publisher { IsPublisher board.now seat.new }
+{
+    board.book().own_room() > seat.published() && views.push(move_nothing(board, seat)).is_ok()
+}
+
+/// Publishes records beside the other threads, and keeps their views.
+fn publish_often(board: &Board, seat: &mut BoardSeat, views: &mut Vec<Counts>)
     requires publisher { IsPublisher board.now seat.old }
 {
-    let mut views = Vec::new(alloc);
     for _record in 0..RECORDS {
-        if board.book().own_room() <= seat.published() {
-            break;
+        if !publish_once(board, seat, views) {
+            return;
         }
-        views.push(move_nothing(board, seat))?;
     }
-    Ok(views)
+}
+
+/// Whether these counts count the last record of a process together with all that its view counts.
+fn counts_last_view(board: &Board, seat: &mut BoardSeat, counts: &Counts, p: u32) -> bool
+    requires board { IsOf seat.old board.now }
+    requires seen { HasSeen seat.old counts.now }
+    requires process { p < length counts.now }
+    ensures board { IsOf seat.new board.now }
+    ensures knows { seat.new.knows ≡ seat.old.knows }
+{
+    let Some(last) = counts.get(p).checked_sub(1) else {
+        return true;
+    };
+    let view = load_view(board, seat, p, last);
+    view.len() == counts.len() && view.get(p) == last && counts.covers(&view)
 }
 
 /// Whether these counts count each last record together with all that its view counts.
@@ -94,33 +114,33 @@ fn counts_last_views(board: &Board, seat: &mut BoardSeat, counts: &Counts) -> bo
     requires board { IsOf seat.old board.now }
     requires seen { HasSeen seat.old counts.now }
     ensures board { IsOf seat.new board.now }
-    ensures knows { seat.new.knows ≡ seat.old.knows }
 {
     for p in 0..counts.len() {
-        let Some(last) = counts.get(p).checked_sub(1) else {
-            continue;
-        };
-        let view = load_view(board, seat, p, last);
-        if view.len() != counts.len() || view.get(p) != last || !counts.covers(&view) {
+        if !counts_last_view(board, seat, counts, p) {
             return false;
         }
     }
     true
 }
 
-/// Scans beside the other threads, and answers the counts, or none where a last record disagrees with them.
-fn scan_all(board: &Board, alloc: Global, seat: &mut BoardSeat) -> Scans
+/// Scans, and keeps the counts. False where a last record disagrees with them, or there is no memory for them.
+fn scan_once(board: &Board, seat: &mut BoardSeat, scans: &mut Vec<Counts>) -> bool
+    requires board { IsOf seat.old board.now }
+    ensures board { IsOf seat.new board.now }
+{
+    let counts = snapshot(board, seat);
+    counts_last_views(board, seat, &counts) && scans.push(counts).is_ok()
+}
+
+/// Scans beside the other threads, and keeps the counts.
+fn scan_often(board: &Board, seat: &mut BoardSeat, scans: &mut Vec<Counts>)
     requires board { IsOf seat.old board.now }
 {
-    let mut answers = Vec::new(alloc);
     for _scan in 0..SCANS {
-        let counts = snapshot(board, seat);
-        if !counts_last_views(board, seat, &counts) {
-            return Ok(None);
+        if !scan_once(board, seat, scans) {
+            return;
         }
-        answers.push(counts)?;
     }
-    Ok(Some(answers))
 }
 
 /// Publishes once all threads are there.
@@ -128,15 +148,19 @@ fn publish_alone(board: &Board, alloc: Global, gate: &AtomicU64, seat: &mut Boar
     requires { IsPublisher board.now seat.old }
 {
     wait_for_all(gate);
-    publish_all(board, alloc, seat)
+    let mut list = Vec::new(alloc);
+    publish_often(board, seat, &mut list);
+    Views { list }
 }
 
 /// Scans once all threads are there.
-fn scan_alone(board: &Board, alloc: Global, gate: &AtomicU64, seat: &mut BoardSeat) -> Scans
+fn scan_alone(board: &Board, alloc: Global, gate: &AtomicU64, seat: &mut BoardSeat) -> Views
     requires { IsOf seat.old board.now }
 {
     wait_for_all(gate);
-    scan_all(board, alloc, seat)
+    let mut list = Vec::new(alloc);
+    scan_often(board, seat, &mut list);
+    Views { list }
 }
 
 /// Two threads publish.
@@ -166,7 +190,7 @@ fn publish_and_scan<R: Threads>(
     gate: &AtomicU64,
     one: &mut BoardSeat,
     scanner: &mut BoardSeat,
-) -> (Views, Scans)
+) -> (Views, Views)
     requires one { IsPublisher board.now one.old }
     requires scanner { IsOf scanner.old board.now }
 {
@@ -178,7 +202,7 @@ fn publish_and_scan<R: Threads>(
 }
 
 /// Whether these are as many records of a process as it was to publish, of which each counts those before it.
-fn are_records(process: u32, views: &Vec<Counts>) -> bool {
+fn are_records(process: u32, views: &[Counts]) -> bool {
     for i in 0..RECORDS {
         match views.get(i as usize) {
             Some(view) if process < view.len() && view.get(process) == i => {}
@@ -193,32 +217,41 @@ fn is_in_order(view: &Counts, counts: &Counts) -> bool {
     view.len() == counts.len() && (view.covers(counts) || counts.covers(view))
 }
 
+/// Whether a view is in order with each list of counts.
+fn is_in_order_with_all(view: &Counts, lists: &[Counts]) -> bool {
+    for counts in lists {
+        if !is_in_order(view, counts) {
+            return false;
+        }
+    }
+    true
+}
+
 /// Whether each view is in order with each list of counts.
-fn are_in_order(views: &Vec<Counts>, lists: &Vec<Counts>) -> bool {
-    views.iter().all(|view| lists.iter().all(|counts| is_in_order(view, counts)))
+fn are_in_order(views: &[Counts], lists: &[Counts]) -> bool {
+    for view in views {
+        if !is_in_order_with_all(view, lists) {
+            return false;
+        }
+    }
+    true
 }
 
 /// Whether a process published all its records, of which each counts those before it and is in order with each list of counts.
-fn has_published(p: u32, views: &Views, answers: &Vec<Counts>) -> bool {
-    match views {
-        Ok(views) => are_records(p, views) && rises(views) && are_in_order(views, answers),
-        Err(_) => false,
-    }
+fn has_published(p: u32, views: &Views, answers: &[Counts]) -> bool {
+    let views = views.list.as_slice();
+    are_records(p, views) && rises(views) && are_in_order(views, answers)
 }
 
 /// Whether the scans are fronts, one after another, of what three threads published.
-fn are_fronts(told: &((Views, Views), (Views, Scans))) -> bool {
+fn are_fronts(told: &((Views, Views), (Views, Views))) -> bool {
     let ((one, two), (three, scans)) = told;
-    match scans {
-        Ok(Some(answers)) => {
-            answers.len() == SCANS as usize
-                && rises(answers)
-                && has_published(1, one, answers)
-                && has_published(2, two, answers)
-                && has_published(3, three, answers)
-        }
-        _ => false,
-    }
+    let answers = scans.list.as_slice();
+    answers.len() == SCANS as usize
+        && rises(answers)
+        && has_published(1, one, answers)
+        && has_published(2, two, answers)
+        && has_published(3, three, answers)
 }
 
 /// Three threads publish while another scans.
@@ -230,7 +263,7 @@ fn publish_and_scan_all<R: Threads + Sync>(
     one: &mut BoardSeat,
     two: &mut BoardSeat,
     three: &mut BoardSeat,
-) -> ((Views, Views), (Views, Scans))
+) -> ((Views, Views), (Views, Views))
     requires zero { IsOf zero.old board.now }
     requires one { IsPublisher board.now one.old }
     requires two { IsPublisher board.now two.old }
@@ -244,52 +277,31 @@ fn publish_and_scan_all<R: Threads + Sync>(
     )
 }
 
-/// The four seats of a new board, of which the last three are publishers'.
-fn seats_of(
-    board: &Board,
-    seats: &mut Vec<BoardSeat>,
-) -> Option<(BoardSeat, BoardSeat, BoardSeat, BoardSeat)>
-    requires new { AreLeft board.now seats.old.items }
-    ensures zero { IfSome result (λ r. IsOf r.0 board.now) }
-    ensures one { IfSome result (λ r. IsPublisher board.now r.1) }
-    ensures two { IfSome result (λ r. IsPublisher board.now r.2) }
-    ensures three { IfSome result (λ r. IsPublisher board.now r.3) }
-{
-    let three = last_publisher(board, seats, 3)?;
-    let two = last_publisher(board, seats, 2)?;
-    let one = last_publisher(board, seats, 1)?;
-    let zero = last_seat(board, seats)?;
-    Some((zero, one, two, three))
-}
-
 /// Whether what the scanner is told are fronts, one after another, of what the others published.
-fn scans_traffic<R: Threads + Sync>(
-    rt: &R,
-    board: &Board,
-    alloc: Global,
-    seats: &mut Vec<BoardSeat>,
-) -> bool
-    requires { AreLeft board.now seats.old.items }
+fn scans_traffic<R: Threads + Sync>(rt: &R, alloc: Global, four: &mut Four) -> bool
+    requires { IsNewFour four.old }
 {
-    match seats_of(board, seats) {
-        Some((mut zero, mut one, mut two, mut three)) => {
-            let told = publish_and_scan_all(
-                rt, board, alloc, &mut zero, &mut one, &mut two, &mut three,
-            );
-            are_fronts(&told)
-        }
-        None => false,
+    if !are_publishers(four.board.book()) {
+        return false;
     }
+    let told = publish_and_scan_all(
+        rt,
+        &four.board,
+        alloc,
+        &mut four.zero,
+        &mut four.one,
+        &mut four.two,
+        &mut four.three,
+    );
+    are_fronts(&told)
 }
 
-/// Three threads publish while another scans: what it is told are fronts of what they published.
-fn meets_traffic<R: Threads + Sync + Abort>(rt: &R, alloc: Global) {
-    let book = book_of(alloc, 4, u64::from(RECORDS), ACCOUNTS.as_slice()).expect(rt, "a book");
-    let (board, mut seats) = Board::new(alloc, &book).expect(rt, "a board");
-    assert!(rt; scans_traffic(rt, &board, alloc, &mut seats));
-}
-
+/// Three threads publish on a new board while another scans: what it is told are fronts of what they published.
 #[test]
 fn scans_meet_traffic(rt: HostRuntime) {
-    meets_traffic(&rt, rt.alloc());
+    let is_right = match new_four(rt.alloc(), u64::from(RECORDS), 4, ACCOUNTS) {
+        Some(mut four) => scans_traffic(&rt, rt.alloc(), &mut four),
+        None => false,
+    };
+    assert!(rt; is_right);
 }

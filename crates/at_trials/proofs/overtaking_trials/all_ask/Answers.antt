@@ -5,8 +5,8 @@ use Rattle.at_trials.specs.declared.overtaking_trials.Caller.{Caller}
 use Rattle.at_trials.specs.declared.overtaking_trials.Waiter.{Waiter}
 use Rattle.at_trials.proofs.overtaking_trials.all_ask.Goals as goal
 
-pub asks_first-requires : goal.asks_first-requires
-asks_first-requires c =
+pub ask-requires : goal.ask-requires
+ask-requires c =
     (All-pop (λ (t : Caller). MayCall c.args.board.now t.seat t.totals) c.loop-owner.callers.items c.pop.new.self.items (Some c.in_ok-caller.caller)
     c.in_ok-caller.ensures.items c.loop-owner.invariant.ready).1
 

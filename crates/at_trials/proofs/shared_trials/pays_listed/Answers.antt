@@ -3,8 +3,8 @@ use Rattle.at_ledger.specs.Call.{AreTargetsOn}
 use Rattle.at_trials.proofs.OneTarget.{AreTargetsOn-one}
 use Rattle.at_trials.proofs.shared_trials.pays_listed.Goals as goal
 
-pub pay_shared-receipt-requires-clause-call : goal.pay_shared-receipt-requires-clause-call
-pay_shared-receipt-requires-clause-call c = record {
+pub pay_shared-requires-clause-call : goal.pay_shared-requires-clause-call
+pay_shared-requires-clause-call c = record {
   targets = c.one-targets.result;
   payout = refl;
   accounts =

@@ -10,7 +10,7 @@ pub pay_single-reply-requires-clause-room : goal.pay_single-reply-requires-claus
 pay_single-reply-requires-clause-room c =
     omega (
       arith,
-      ap (λ (s : SeatTerms). owns_of s.knows.first s.knows.seen) c.requires.pair.zero,
+      ap (λ (s : SeatTerms). owns_of s.knows.first s.knows.seen) c.requires.seat,
       (c.requires.totals.counted c.args.seat.now.knows.seen).book.begun.some_own_room,
     )
 
