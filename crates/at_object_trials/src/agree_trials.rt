@@ -25,23 +25,55 @@ const ONE: u64 = 200;
 /// How often a process looks whether the other is there before it goes on without it.
 const LOOKS: u32 = 1_000_000;
 
+/// A voice. What holds one has a call where it drops it, and not the drop of each field; so it is of a `Session`.
+struct Speaker {
+    voice: Voice,
+}
+
+impl Drop for Speaker {
+    fn drop(self) {
+        let Speaker { voice: _ } = self;
+    }
+}
+
+/// A council with its voices.
+struct Session {
+    council: Council,
+    voices: Vec<Voice>,
+}
+
+impl Drop for Session {
+    fn drop(self) {
+        let Session {
+            council: _,
+            voices: _,
+        } = self;
+    }
+}
+
 /// A new council of this size, and its voices.
 #[tactic(auto, using(at_agree::proofs::NewVoices::new_may_propose))]
-fn new_council(alloc: Global, size: u32) -> Option<(Council, Vec<Voice>)>
+fn new_session(alloc: Global, size: u32) -> Option<Session>
     requires { IsSize size }
-    ensures { IfSome result (λ r. All (MayProposeValue r.0) r.1.items) }
+    ensures { IfSome result (λ r. All (MayProposeValue r.council) r.voices.items) }
 {
-    Council::new(alloc, size).ok()
+    match Council::new(alloc, size) {
+        Ok((council, voices)) => Some(Session { council, voices }),
+        Err(_) => None,
+    }
 }
 
 /// The last of the voices that are left.
-fn last_voice(council: &Council, voices: &mut Vec<Voice>) -> Option<Voice>
+fn last_voice(council: &Council, voices: &mut Vec<Voice>) -> Option<Speaker>
     requires { All (MayProposeValue council.now) voices.old.items }
     ensures left { All (MayProposeValue council.now) voices.new.items }
-    ensures voice { IfSome result (MayProposeValue council.now) }
+    ensures voice { IfSome result (λ s. MayProposeValue council.now s.voice) }
 {
     let _ = council;
-    voices.pop()
+    match voices.pop() {
+        Some(voice) => Some(Speaker { voice }),
+        None => None,
+    }
 }
 
 /// What the last of the voices that are left answers when it proposes a value.
@@ -51,7 +83,7 @@ fn last_answer(council: &Council, voices: &mut Vec<Voice>, value: u64) -> Option
     ensures { All (MayProposeValue council.now) voices.new.items }
 {
     match last_voice(council, voices) {
-        Some(mut voice) => Some(council.propose(&mut voice, value)),
+        Some(mut speaker) => Some(council.propose(&mut speaker.voice, value)),
         None => None,
     }
 }
@@ -62,7 +94,7 @@ fn others_answer_nine(council: &Council, voices: &mut Vec<Voice>) -> bool
 {
     match last_voice(council, voices) {
         Some(mut one) => {
-            last_answer(council, voices, 7) == Some(9) && council.propose(&mut one, 8) == 9
+            last_answer(council, voices, 7) == Some(9) && council.propose(&mut one.voice, 8) == 9
         }
         None => false,
     }
@@ -116,15 +148,20 @@ fn race(council: &Council, gate: &AtomicU64, voice: &mut Voice, value: u64) -> u
 }
 
 /// Two processes propose at once. The value of the first one, if both get one answer.
-fn race_both<R: Threads>(rt: &R, council: &Council, mut zero: Voice, mut one: Voice) -> Option<u64>
-    requires zero { MayProposeValue council.now zero }
-    requires one { MayProposeValue council.now one }
+fn race_both<R: Threads>(
+    rt: &R,
+    council: &Council,
+    zero: &mut Voice,
+    one: &mut Voice,
+) -> Option<u64>
+    requires zero { MayProposeValue council.now zero.old }
+    requires one { MayProposeValue council.now one.old }
 {
     let gate = &AtomicU64::new(0);
     let (a, b) = join_mut(
         rt,
-        &mut || race(council, gate, &mut zero, ZERO),
-        &mut || race(council, gate, &mut one, ONE),
+        &mut || race(council, gate, zero, ZERO),
+        &mut || race(council, gate, one, ONE),
     );
     (a == b).then_some(a)
 }
@@ -134,8 +171,8 @@ fn race_last<R: Threads>(rt: &R, council: &Council, voices: &mut Vec<Voice>) -> 
     requires { All (MayProposeValue council.now) voices.old.items }
 {
     match last_voice(council, voices) {
-        Some(one) => match last_voice(council, voices) {
-            Some(zero) => race_both(rt, council, zero, one),
+        Some(mut one) => match last_voice(council, voices) {
+            Some(mut zero) => race_both(rt, council, &mut zero.voice, &mut one.voice),
             None => None,
         },
         None => None,
@@ -144,8 +181,8 @@ fn race_last<R: Threads>(rt: &R, council: &Council, voices: &mut Vec<Voice>) -> 
 
 /// Two processes of a new council propose at once.
 fn winner<R: Threads>(rt: &R, alloc: Global) -> Option<u64> {
-    match new_council(alloc, 2) {
-        Some((council, mut voices)) => race_last(rt, &council, &mut voices),
+    match new_session(alloc, 2) {
+        Some(mut session) => race_last(rt, &session.council, &mut session.voices),
         None => None,
     }
 }
@@ -165,8 +202,8 @@ fn winners<R: Threads>(rt: &R, alloc: Global) -> Option<(bool, bool)> {
 
 #[test]
 fn three_voices_in_turn(rt: HostRuntime) {
-    let answered = match new_council(rt.alloc(), 3) {
-        Some((council, mut voices)) => { all_answer_nine(&council, &mut voices) }
+    let answered = match new_session(rt.alloc(), 3) {
+        Some(mut session) => all_answer_nine(&session.council, &mut session.voices),
         None => false,
     };
     assert!(rt; answered);

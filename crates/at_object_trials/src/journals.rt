@@ -46,12 +46,21 @@ pub(crate) fn is_run(alloc: Global, book: &Book, lines: &[Line]) -> Option<bool>
     }
 }
 
+/// Whether a line is of this process with this number and reply.
+fn is_line(line: &Line, wanted: &(u32, u32, Reply)) -> bool {
+    let (process, number, reply) = wanted;
+    line.process == *process && line.number == *number && line.reply == *reply
+}
+
 /// Whether the lines are of these processes with these numbers and replies.
 pub(crate) fn are_lines(lines: &[Line], wanted: &[(u32, u32, Reply)]) -> bool {
-    for (line, (process, number, reply)) in lines.iter().zip(wanted) {
-        if line.process != *process || line.number != *number || line.reply != *reply {
+    if lines.len() != wanted.len() {
+        return false;
+    }
+    for i in 0..lines.len() {
+        if !is_line(&lines[i], &wanted[i]) {
             return false;
         }
     }
-    lines.len() == wanted.len()
+    true
 }

@@ -15,11 +15,19 @@ use std::marker::Model;
 /// How many calls a player makes at most.
 pub(crate) const MOST_CALLS: usize = 1 << 20;
 
-/// A process's pass, with the receipts of all its calls.
-#[derive(Drop)]
+/// A process's pass, with the receipts of all its calls. What holds one has a call where it drops it, and not the drop of each field.
 pub(crate) struct Player {
     pass: Pass,
     receipts: Vec<Receipt>,
+}
+
+impl Drop for Player {
+    fn drop(self) {
+        let Player {
+            pass: _,
+            receipts: _,
+        } = self;
+    }
 }
 
 impl Model for Player {
@@ -108,7 +116,7 @@ impl Player {
     }
 }
 
-/// A ledger and its players. What holds one has a call where it drops it, and not the drop of each field.
+/// A ledger and its players.
 pub(crate) struct Game {
     pub(crate) ledger: Ledger,
     pub(crate) players: Vec<Player>,

@@ -142,6 +142,35 @@ fn has_told(player: &Player, reply: Reply, place: &Place) -> bool {
     }
 }
 
+/// Makes a deed of a process, and answers whether the reply and the place are right.
+fn does(
+    ledger: &Ledger,
+    players: &mut [Player],
+    process: usize,
+    deed: &Deed,
+    told: (Reply, &Place),
+) -> Option<bool>
+    requires process { process < length players.old }
+    requires players { All (PlaysOn ledger.now) players.old }
+    ensures { All (PlaysOn ledger.now) players.new }
+{
+    let (reply, place) = told;
+    let call = call_of(deed)?;
+    players[process].make(ledger, &call)?;
+    Some(has_told(&players[process], reply, place))
+}
+
+/// A process tells another what it has seen.
+fn tells(ledger: &Ledger, players: &mut [Player], process: usize, other: usize)
+    requires process { process < length players.old }
+    requires other { other < length players.old }
+    requires players { All (PlaysOn ledger.now) players.old }
+    ensures { All (PlaysOn ledger.now) players.new }
+{
+    let note = players[process].note(ledger);
+    players[other].learn(ledger, note);
+}
+
 /// Does what a row says, and answers whether the reply and the place are right.
 fn plays_row(ledger: &Ledger, players: &mut [Player], row: &Row) -> Option<bool>
     requires { All (PlaysOn ledger.now) players.old }
@@ -153,16 +182,14 @@ fn plays_row(ledger: &Ledger, players: &mut [Player], row: &Row) -> Option<bool>
             if players.len() <= process {
                 return None;
             }
-            players[process].make(ledger, &call_of(deed)?)?;
-            Some(has_told(&players[process], *reply, place))
+            does(ledger, players, process, deed, (*reply, place))
         }
         Row::Tells(process, other) => {
             let (process, other) = (*process as usize, *other as usize);
             if players.len() <= process || players.len() <= other {
                 return None;
             }
-            let note = players[process].note(ledger);
-            players[other].learn(ledger, note);
+            tells(ledger, players, process, other);
             Some(true)
         }
         Row::HasMade(process, steps, exchanges) => {

@@ -1,6 +1,6 @@
 //! Processes whose calls are made at once.
 
-ghost use Rattle.std.specs.Prelude.{◌≡◌, ◌<◌, [], All, IfSome, length};
+ghost use Rattle.std.specs.Prelude.{◌≡◌, ◌<◌, [], All, IfSome, IsTrue, length};
 ghost use Rattle.at_ledger.specs.Call.{AreTargetsOn, IsCallOn};
 ghost use Rattle.at_object.specs.Passes.{AreNewPasses, IsPassOf, Stands};
 ghost use Rattle.at_workers.specs.Jobs.{IsReady};
@@ -153,6 +153,21 @@ fn job_of(alloc: Global, ledger: &Ledger, pass: Pass) -> Option<Job>
     Job::new(alloc, pass, calls).ok()
 }
 
+/// Adds the job of a new pass of a ledger with two accounts. Whether there was memory for it.
+fn add_job(alloc: Global, ledger: &Ledger, pass: Pass, jobs: &mut Vec<Job>) -> bool
+    requires pass { IsPassOf pass ledger.now }
+    requires stands { Stands pass [] }
+    requires uncounted { pass.calls ≡ 0 }
+    requires accounts { length ledger.now.book.accounts ≡ 2 }
+    requires jobs { All (IsReady ledger.now) jobs.old.items }
+    ensures { IsTrue result → All (IsReady ledger.now) jobs.new.items }
+{
+    match job_of(alloc, ledger, pass) {
+        Some(job) => jobs.push(job).is_ok(),
+        None => false,
+    }
+}
+
 /// A job for each process of a new ledger with two accounts.
 fn jobs_of(alloc: Global, ledger: &Ledger, passes: Vec<Pass>) -> Option<Vec<Job>>
     requires { AreNewPasses ledger.now passes.items }
@@ -163,7 +178,9 @@ fn jobs_of(alloc: Global, ledger: &Ledger, passes: Vec<Pass>) -> Option<Vec<Job>
     }
     let mut jobs = Vec::new(alloc);
     for pass in passes {
-        jobs.push(job_of(alloc, ledger, pass)?).ok()?;
+        if !add_job(alloc, ledger, pass, &mut jobs) {
+            return None;
+        }
     }
     Some(jobs)
 }
