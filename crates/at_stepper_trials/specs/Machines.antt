@@ -1,9 +1,12 @@
 -- State machines in the tests.
 use Rattle.std.specs.Prelude.{◌≡◌, ℕ, ◌<◌, ◌≤◌, List, length, slice_index}
 use Rattle.at_history.specs.Publications.{count_of}
+use Rattle.at_history.specs.declared.publication.Publication.{Publication}
 use Rattle.at_board.specs.Knowledge.Seats.{BoardTerms, IsOf, SeatTerms}
 use Rattle.at_board.specs.Words.Addresses.{record_width}
+use Rattle.at_fold.specs.HasCounted.{HasCounted}
 use Rattle.at_fold.specs.Sums.{TotalSums}
+use Rattle.at_ledger.specs.Book.{BookTerms}
 use Rattle.at_calling.specs.PayingAlone.{PayingAloneTerms, pay_turns_left}
 use Rattle.at_calling.specs.PayingShared.{PayingSharedTerms, share_turns_left}
 use Rattle.at_machines.specs.Snapping.{SnappingTerms}
@@ -31,3 +34,7 @@ pub record IsSharing (board : BoardTerms) (seat : SeatTerms) (totals : TotalSums
   pub mark : seat.knows ≡ paying.mark
   pub totals_are : totals ≡ paying.totals
   pub left : 0 < share_turns_left board.book paying
+
+-- totals that have counted nothing
+pub record CountsNothing (t : TotalSums) (b : BookTerms) : Type 0 where
+  pub counted : (seen : List Publication) → HasCounted t b seen

@@ -3,22 +3,27 @@
 ghost use Rattle.std.specs.Prelude.{◌≡◌, ◌<◌};
 ghost use Rattle.at_board.specs.Knowledge.Seats.{IsOf};
 ghost use Rattle.at_fold.specs.HasCounted.{HasCounted};
+ghost use Rattle.at_players.specs.SmallBoard.{IsNewPair};
+ghost use Rattle.at_stepper_trials.specs.Machines.{CountsNothing};
 
-use crate::callers::{pays, reads};
+use crate::callers::{TwoTotals, pays, reads, two_totals};
 use at_board::{Board, BoardSeat};
 use at_fold::Totals;
 use at_ledger::Reply;
 use at_log::{At, Receipt};
-use at_players::boards::new_pair;
+use at_players::boards::{Account, Pair, new_pair};
 use std::alloc::Global;
-use std::process::Abort;
 
 /// Account 1 of process 0 and account 2 of process 1.
-const ACCOUNTS: &[(u64, &[u64])] = &[(0, &[]), (10, &[0]), (10, &[1])];
+const ACCOUNTS: &[Account] = &[(0, &[]), (10, &[0]), (10, &[1])];
 
-/// Whether a receipt stands at its process's first record, done.
-fn is_done_first(receipt: &Receipt) -> bool {
-    receipt.reply == Reply::Done && matches!(&receipt.at, At::Own(0))
+/// Whether a receipt stands at its process's first record, done, or where it wasn't covered at a front, short.
+fn is_answered(receipt: &Receipt, covered: bool) -> bool {
+    match &receipt.at {
+        At::Own(0) => covered && receipt.reply == Reply::Done,
+        At::Front(_) => !covered && receipt.reply == Reply::Short,
+        _ => false,
+    }
 }
 
 /// Whether a payment of so much ends in so many turns, done with the first record or short at a front.
@@ -33,10 +38,7 @@ fn is_paid(
 {
     let (amount, covered, turns) = payment;
     match pays(board, seat, totals, amount) {
-        Some((receipt, taken)) if covered => taken == turns && is_done_first(&receipt),
-        Some((receipt, taken)) => {
-            taken == turns && receipt.reply == Reply::Short && matches!(&receipt.at, At::Front(_))
-        }
+        Some((receipt, taken)) => taken == turns && is_answered(&receipt, covered),
         None => false,
     }
 }
@@ -62,26 +64,49 @@ fn has_made(seat: &BoardSeat, steps: u32) -> bool {
     seat.steps() == u64::from(steps) && seat.exchanges() == 0
 }
 
-/// Process 0 pays, and process 1 reads account 0 then.
-fn pays_and_reads<R: Abort>(rt: &R, alloc: Global, payment: (u64, bool, u32), read: (u64, u32)) {
-    let (board, mut seat, mut other) = new_pair(alloc, 4, ACCOUNTS).expect(rt, "a board");
-    let mut totals = Totals::new(alloc, board.book()).expect(rt, "totals");
-    let mut others = Totals::new(alloc, board.book()).expect(rt, "totals of the other");
+/// Whether process 0 pays so, and process 1 reads account 0 then.
+fn pays_and_reads(
+    pair: &mut Pair,
+    totals: &mut TwoTotals,
+    payment: (u64, bool, u32),
+    read: (u64, u32),
+) -> bool
+    requires pair { IsNewPair pair.old }
+    requires zero { CountsNothing totals.old.zero pair.old.board.book }
+    requires one { CountsNothing totals.old.one pair.old.board.book }
+{
     let (balance, turns) = read;
-    let paid = is_paid(&board, &mut seat, &mut totals, payment);
-    let told = is_read(&board, &mut other, &mut others, balance, turns);
-    assert!(rt; paid && told);
-    assert!(rt; has_made(&seat, payment.2) && has_made(&other, turns));
+    let paid = is_paid(&pair.board, &mut pair.zero, &mut totals.zero, payment);
+    let told = is_read(&pair.board, &mut pair.one, &mut totals.one, balance, turns);
+    paid && told && has_made(&pair.zero, payment.2) && has_made(&pair.one, turns)
+}
+
+/// Whether they do on this new board.
+fn are_made_on(alloc: Global, pair: &mut Pair, payment: (u64, bool, u32), read: (u64, u32)) -> bool
+    requires { IsNewPair pair.old }
+{
+    match two_totals(alloc, &pair.board) {
+        Some(mut totals) => pays_and_reads(pair, &mut totals, payment, read),
+        None => false,
+    }
+}
+
+/// Whether they do on a new board.
+fn are_made(alloc: Global, payment: (u64, bool, u32), read: (u64, u32)) -> bool {
+    match new_pair(alloc, 4, ACCOUNTS) {
+        Some(mut pair) => are_made_on(alloc, &mut pair, payment, read),
+        None => false,
+    }
 }
 
 /// Two collects of two loads and ten stores; and for the read two collects and the seven words of the record.
 #[test]
 fn a_payment_is_read(rt: HostRuntime) {
-    pays_and_reads(&rt, rt.alloc(), (3, true, 14), (3, 11));
+    assert!(rt; are_made(rt.alloc(), (3, true, 14), (3, 11)));
 }
 
 /// Two collects, and nothing is stored; so the read has two collects too.
 #[test]
 fn a_payment_is_short(rt: HostRuntime) {
-    pays_and_reads(&rt, rt.alloc(), (11, false, 4), (0, 4));
+    assert!(rt; are_made(rt.alloc(), (11, false, 4), (0, 4)));
 }

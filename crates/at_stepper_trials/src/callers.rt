@@ -1,9 +1,9 @@
 //! Whole calls by state machines to their end.
 
-ghost use Rattle.std.specs.Prelude.{◌<◌, length};
+ghost use Rattle.std.specs.Prelude.{◌<◌, IfSome, length};
 ghost use Rattle.at_board.specs.Knowledge.Seats.{IsOf};
 ghost use Rattle.at_fold.specs.HasCounted.{HasCounted};
-ghost use Rattle.at_stepper_trials.specs.Machines.{IsPaying};
+ghost use Rattle.at_stepper_trials.specs.Machines.{CountsNothing, IsPaying};
 
 use crate::movers::has_own_account;
 use at_board::{Board, BoardSeat};
@@ -11,6 +11,39 @@ use at_calling::{PayingAlone, Reading};
 use at_fold::Totals;
 use at_ledger::{Call, Targets};
 use at_log::Receipt;
+use std::alloc::Global;
+
+/// Totals of two processes. What holds them has a call where it drops them, and not the drop of each field.
+pub(crate) struct TwoTotals {
+    pub(crate) zero: Totals,
+    pub(crate) one: Totals,
+}
+
+impl Drop for TwoTotals {
+    fn drop(self) {
+        let TwoTotals { zero: _, one: _ } = self;
+    }
+}
+
+/// Totals for the board that have counted nothing.
+fn new_totals(alloc: Global, board: &Board) -> Option<Totals>
+    ensures { IfSome result (λ totals. CountsNothing totals board.now.book) }
+{
+    match Totals::new(alloc, board.book()) {
+        Ok(totals) => Some(totals),
+        Err(_) => None,
+    }
+}
+
+/// Totals of two processes for the board, which have counted nothing.
+pub(crate) fn two_totals(alloc: Global, board: &Board) -> Option<TwoTotals>
+    ensures zero { IfSome result (λ totals. CountsNothing totals.zero board.now.book) }
+    ensures one { IfSome result (λ totals. CountsNothing totals.one board.now.book) }
+{
+    let zero = new_totals(alloc, board)?;
+    let one = new_totals(alloc, board)?;
+    Some(TwoTotals { zero, one })
+}
 
 /// The receipt of a payment to account 0 from the process's own account, where there is room, and how many turns it took.
 pub(crate) fn pays(
@@ -35,18 +68,18 @@ pub(crate) fn pays(
         amount,
     };
     let targets = Targets::one(0, amount);
-    let paying = PayingAlone::start(board, seat, totals, call, from, targets);
-    Some(ends_paying(paying, board, seat, totals))
+    let mut paying = PayingAlone::start(board, seat, totals, call, from, targets);
+    Some(ends_paying(&mut paying, board, seat, totals))
 }
 
 /// The receipt of a payment that isn't ended, and in how many more turns it ends.
 fn ends_paying(
-    mut paying: PayingAlone,
+    paying: &mut PayingAlone,
     board: &Board,
     seat: &mut BoardSeat,
     totals: &mut Totals,
 ) -> (Receipt, u32)
-    requires { IsPaying board.now seat.old totals.old paying }
+    requires { IsPaying board.now seat.old totals.old paying.old }
 {
     let mut turns: u32 = 1;
     loop {

@@ -61,14 +61,23 @@ pub(crate) fn are_in(files: &[Vec<Call>], lines: &[Line]) -> bool {
     true
 }
 
+/// Whether a line is of this process with this number and reply.
+fn is_line(line: &Line, wanted: &(u32, u32, Reply)) -> bool {
+    let (process, number, reply) = wanted;
+    line.process == *process && line.number == *number && line.reply == *reply
+}
+
 /// Whether the lines are of these processes with these numbers and replies.
 pub(crate) fn are_lines(lines: &[Line], wanted: &[(u32, u32, Reply)]) -> bool {
-    for (line, (process, number, reply)) in lines.iter().zip(wanted) {
-        if line.process != *process || line.number != *number || line.reply != *reply {
+    if lines.len() != wanted.len() {
+        return false;
+    }
+    for i in 0..lines.len() {
+        if !is_line(&lines[i], &wanted[i]) {
             return false;
         }
     }
-    lines.len() == wanted.len()
+    true
 }
 
 /// Whether two lines are the same.
@@ -81,12 +90,15 @@ fn is_same_line(line: &Line, other: &Line) -> bool {
 
 /// Whether two journals are the same.
 pub(crate) fn are_same(lines: &[Line], others: &[Line]) -> bool {
-    for (line, other) in lines.iter().zip(others) {
-        if !is_same_line(line, other) {
+    if lines.len() != others.len() {
+        return false;
+    }
+    for i in 0..lines.len() {
+        if !is_same_line(&lines[i], &others[i]) {
             return false;
         }
     }
-    lines.len() == others.len()
+    true
 }
 
 /// Whether the sequential ledger answers a call as its line says.

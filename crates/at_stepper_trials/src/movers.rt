@@ -35,10 +35,10 @@ pub(crate) fn goes_on(snapping: &mut Snapping, board: &Board, seat: &mut BoardSe
 }
 
 /// The counts of a snapshot, and in how many more turns it ends.
-pub(crate) fn ends(mut snapping: Snapping, board: &Board, seat: &mut BoardSeat) -> (Counts, u32)
-    requires { IsStillSnapping board.now seat.old snapping }
-    ensures snapshot { IsSnapshot board.now.book snapping.start seat.new.knows result.0 }
-    ensures loads { HasLoaded board.now.book snapping.start seat.new.knows }
+pub(crate) fn ends(snapping: &mut Snapping, board: &Board, seat: &mut BoardSeat) -> (Counts, u32)
+    requires { IsStillSnapping board.now seat.old snapping.old }
+    ensures snapshot { IsSnapshot board.now.book snapping.old.start seat.new.knows result.0 }
+    ensures loads { HasLoaded board.now.book snapping.old.start seat.new.knows }
     ensures board { IsOf seat.new board.now }
 {
     let mut turns: u32 = 1;
@@ -75,7 +75,8 @@ pub(crate) fn moves(board: &Board, seat: &mut BoardSeat) -> Option<(u32, u32)>
     if !has_own_account(board.book(), process) || board.book().own_room() <= seat.published() {
         return None;
     }
-    let (view, loads) = ends(Snapping::start(board, seat), board, seat);
+    let mut snapping = Snapping::start(board, seat);
+    let (view, loads) = ends(&mut snapping, board, seat);
     let record = Record {
         entry: Entry::Own {
             from: process + 1,

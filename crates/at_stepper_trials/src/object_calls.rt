@@ -7,12 +7,29 @@ ghost use Rattle.at_object.specs.Passes.{IsPassOf, Stands, one_more_call};
 ghost use Rattle.at_stepper_trials.specs.ObjectCalls.{HaveMadeCalls};
 
 use crate::journals::is_on;
-use crate::small_files::{small_book, small_files};
+use crate::small_files::small_files;
 use at_journal::journal;
 use at_ledger::{Book, Call, Line};
 use at_log::Receipt;
 use at_object::{Ledger, Pass};
 use std::alloc::Global;
+
+/// A ledger with its passes and the receipts of all calls. What holds it has a call where it drops it, and not the drop of each field.
+struct Object {
+    ledger: Ledger,
+    passes: Vec<Pass>,
+    receipts: Vec<Vec<Receipt>>,
+}
+
+impl Drop for Object {
+    fn drop(self) {
+        let Object {
+            ledger: _,
+            passes: _,
+            receipts: _,
+        } = self;
+    }
+}
 
 /// How many calls are made by a pass at most.
 const MOST_CALLS: usize = 64;
@@ -75,43 +92,61 @@ fn make_all(
 }
 
 /// A new ledger of two processes with its passes, and their receipts, of which there are none.
-fn new_ledger(alloc: Global, book: &Book) -> Option<(Ledger, Vec<Pass>, Vec<Vec<Receipt>>)>
+fn new_object(alloc: Global, book: &Book) -> Option<Object>
     requires { book.now.processes ≡ 2 }
-    ensures { IfSome result (λ r. HaveMadeCalls r.0 r.1.items r.2.items) }
+    ensures { IfSome result (λ o. HaveMadeCalls o.ledger o.passes.items o.receipts.items) }
 {
-    let Ok((ledger, passes)) = Ledger::new(alloc, book) else {
-        return None;
-    };
     let Ok(receipts) = vec![in alloc; Vec::new(alloc), Vec::new(alloc)] else {
         return None;
     };
-    Some((ledger, passes, receipts))
+    match Ledger::new(alloc, book) {
+        Ok((ledger, passes)) => Some(Object {
+            ledger,
+            passes,
+            receipts,
+        }),
+        Err(_) => None,
+    }
 }
 
-/// The journal of calls that were made.
-fn journal_of(
-    alloc: Global,
-    ledger: Ledger,
-    passes: Vec<Pass>,
-    receipts: Vec<Vec<Receipt>>,
-) -> Option<Vec<Line>>
-    requires { HaveMadeCalls ledger passes.items receipts.items }
+impl Object {
+    /// The journal of the calls that were made.
+    fn journal(self, alloc: Global) -> Option<Vec<Line>>
+        requires { HaveMadeCalls self.ledger self.passes.items self.receipts.items }
+    {
+        let Object {
+            ledger,
+            passes,
+            receipts,
+        } = self;
+        match ledger.close(alloc, passes, receipts) {
+            Ok(closed) => journal(alloc, closed.book(), closed.closing()).ok(),
+            Err(_) => None,
+        }
+    }
+}
+
+/// The journal of these files where a new object makes their calls in this order of processes.
+fn journal_of(alloc: Global, book: &Book, files: &[Vec<Call>], order: &[u32]) -> Option<Vec<Line>>
+    requires { book.now.processes ≡ 2 }
 {
-    let closed = ledger.close(alloc, passes, receipts).ok()?;
-    journal(alloc, closed.book(), closed.closing()).ok()
+    let mut object = new_object(alloc, book)?;
+    make_all(
+        &object.ledger,
+        object.passes.as_mut_slice(),
+        object.receipts.as_mut_slice(),
+        files,
+        order,
+    )?;
+    object.journal(alloc)
 }
 
 /// The journal of the small files where the object makes their calls in this order of processes.
-pub(crate) fn journal_by_calls(alloc: Global, order: &[u32]) -> Option<Vec<Line>> {
-    let book = small_book(alloc)?;
-    let files = small_files(alloc).ok()?;
-    let (ledger, mut passes, mut receipts) = new_ledger(alloc, &book)?;
-    make_all(
-        &ledger,
-        passes.as_mut_slice(),
-        receipts.as_mut_slice(),
-        files.as_slice(),
-        order,
-    )?;
-    journal_of(alloc, ledger, passes, receipts)
+pub(crate) fn journal_by_calls(alloc: Global, book: &Book, order: &[u32]) -> Option<Vec<Line>>
+    requires { book.now.processes ≡ 2 }
+{
+    match small_files(alloc) {
+        Some(files) => journal_of(alloc, book, files.as_slice(), order),
+        None => None,
+    }
 }

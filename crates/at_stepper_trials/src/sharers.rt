@@ -30,17 +30,28 @@ fn may_ask_first(board: &Board, seat: &BoardSeat) -> bool
     1 < board.book().accounts() && asked == 0 && asked < board.book().request_room()
 }
 
+/// A payment. What holds it has a call where it drops it, and not the drop of each field.
+pub(crate) struct Sharing {
+    pub(crate) paying: PayingShared,
+}
+
+impl Drop for Sharing {
+    fn drop(self) {
+        let Sharing { paying: _ } = self;
+    }
+}
+
 /// A payment from account 0 to account 1 that isn't ended, where the seat's process has asked for nothing yet.
 pub(crate) fn begins(
     board: &Board,
     seat: &BoardSeat,
     totals: &Totals,
     amount: u64,
-) -> Option<PayingShared>
+) -> Option<Sharing>
     requires board { IsOf seat.now board.now }
     requires totals { HasCounted totals.now board.now.book seat.now.knows.seen }
     requires free { (own_part seat.now.knows).held ≡ None }
-    ensures { IfSome result (IsSharing board.now seat.now totals.now) }
+    ensures { IfSome result (λ s. IsSharing board.now seat.now totals.now s.paying) }
 {
     if !may_ask_first(board, seat) {
         return None;
@@ -50,7 +61,9 @@ pub(crate) fn begins(
         to: 1,
         amount,
     };
-    Some(PayingShared::start(board, seat, totals, 0, call))
+    Some(Sharing {
+        paying: PayingShared::start(board, seat, totals, 0, call),
+    })
 }
 
 /// Whether so many turns don't end a payment.
@@ -74,12 +87,12 @@ pub(crate) fn goes_on_sharing(
 
 /// The receipt of a payment that isn't ended, and in how many more turns it ends.
 pub(crate) fn ends_sharing(
-    mut paying: PayingShared,
+    paying: &mut PayingShared,
     board: &Board,
     seat: &mut BoardSeat,
     totals: &mut Totals,
 ) -> (Receipt, u32)
-    requires { IsSharing board.now seat.old totals.old paying }
+    requires { IsSharing board.now seat.old totals.old paying.old }
 {
     let mut turns: u32 = 1;
     loop {

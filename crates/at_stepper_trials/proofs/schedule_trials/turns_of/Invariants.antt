@@ -1,9 +1,6 @@
 use Rattle.std.proofs.Common.{◌<◌, All}
-use Rattle.at_stepper_trials.proofs.schedule_trials.schedule_of.Given as goal
+use Rattle.at_stepper_trials.proofs.schedule_trials.turns_of.Given as goal
 
 -- so far all are processes
 abbrev pub invariant-loop-process : goal.invariant-loop-process
 invariant-loop-process l = All (λ process. process < 2) l.schedule.items
-
-abbrev pub invariant-loop-turn : goal.invariant-loop-turn
-invariant-loop-turn l = All (λ process. process < 2) l.schedule.items
