@@ -3,19 +3,19 @@
 ghost use Rattle.std.specs.Prelude.{◌≡◌, ◌<◌, IfSome, IsTrue, length};
 ghost use Rattle.at_board.specs.Ends.Closing.{IsFreeSeat};
 ghost use Rattle.at_players.specs.SmallBoard.{IsIdle, IsNewFour};
-ghost use Rattle.at_single.specs.Standing.{IsOnlyOwner};
 ghost use Rattle.at_trials.specs.SmallShared.{HoldsNoCell, MayCall};
 
 use crate::fold_trials::new_totals;
-use crate::shared_trials::{begins_sharing, pay_from_shared};
+use crate::payers::owns_alone;
+use crate::shared_trials::{begins_sharing, pay_from_shared, read};
 use at_base::{Decision, Head, unpack_decision, unpack_head};
 use at_board::{Board, BoardEnd, BoardSeat};
 use at_fold::Totals;
-use at_ledger::{Book, Call, Reply, Targets};
+use at_ledger::{Call, Reply, Targets};
 use at_log::{At, Receipt};
 use at_players::boards::{Account, Four, new_four};
 use at_players::crowd::wait_for_all;
-use at_single::{pay_single, read_account};
+use at_single::pay_single;
 use std::alloc::Global;
 use std::sync::atomic::AtomicU64;
 use std::thread::{Threads, join_mut};
@@ -67,23 +67,12 @@ pub(crate) fn crowd(alloc: Global) -> Option<Four>
     new_four(alloc, 4096, 1024, ACCOUNTS)
 }
 
-/// Whether a process owns account 2 alone.
-fn owns_alone(book: &Book, process: u32) -> bool
-    ensures accounts { IsTrue result → 2 < length book.now.accounts }
-    ensures owner { IsTrue result → IsOnlyOwner book.now process 2 }
-{
-    if book.accounts() < 3 {
-        return false;
-    }
-    book.owner_count(2) == 1 && book.slot_of(2, process).is_some()
-}
-
 /// Pays 1 from account 2 to account 0, if the seat's process owns it alone and has room for a record.
 fn pay_own(board: &Board, seat: &mut BoardSeat, totals: &mut Totals) -> Option<Receipt>
     requires caller { MayCall board.now seat.old totals.old }
     ensures caller { MayCall board.now seat.new totals.new }
 {
-    if !owns_alone(board.book(), seat.process()) {
+    if !owns_alone(board.book(), seat.process(), 2) {
         return None;
     }
     if board.book().own_room() <= seat.published() {
@@ -93,18 +82,6 @@ fn pay_own(board: &Board, seat: &mut BoardSeat, totals: &mut Totals) -> Option<R
     let (reply, at) = pay_single(board, seat, totals, 2, &targets);
     let call = Call::Pay { from: 2, targets };
     Some(Receipt { call, reply, at })
-}
-
-/// Reads an account, if there is one of this number.
-fn read(board: &Board, seat: &mut BoardSeat, totals: &mut Totals, account: u32) -> Option<Receipt>
-    requires caller { MayCall board.now seat.old totals.old }
-    ensures caller { MayCall board.now seat.new totals.new }
-{
-    if board.book().accounts() <= account {
-        return None;
-    }
-    seat.known();
-    Some(read_account(board, seat, totals, account))
 }
 
 /// Pays from the shared account again and again, and keeps the receipts.

@@ -7,12 +7,24 @@ ghost use Rattle.at_board.specs.Knowledge.Seats.{IsOf};
 ghost use Rattle.at_history.specs.Publications.{count_of};
 ghost use Rattle.at_history.specs.Sound.{IsSoundOwn};
 ghost use Rattle.at_ledger.specs.Call.{AreTargetsOn};
+ghost use Rattle.at_single.specs.Standing.{IsOnlyOwner};
 ghost use Rattle.at_trials.specs.SmallFold.{HasOnlyRecord};
 
 use at_base::Counts;
 use at_board::{Board, BoardSeat};
 use at_ledger::{Book, Targets};
 use at_log::{Entry, Record, append};
+
+/// Whether there is an account of this number, which a process owns alone.
+pub(crate) fn owns_alone(book: &Book, process: u32, account: u32) -> bool
+    ensures account { IsTrue result → account < length book.now.accounts }
+    ensures owner { IsTrue result → IsOnlyOwner book.now process account }
+{
+    if book.accounts() <= account || book.owner_count(account) != 1 {
+        return false;
+    }
+    book.slot_of(account, process).is_some()
+}
 
 /// Whether a process may pay these targets, which are among the first accounts, from account 0 when nothing is published.
 #[tactic(auto, unfolding(at_history::specs::Rounds::firsts))]

@@ -129,8 +129,13 @@ const FIRST: Decision = Decision {
     place: 0,
 };
 
-/// What the process reads of an account of the board.
-fn reads(board: &Board, seat: &mut BoardSeat, totals: &mut Totals, account: u32) -> Option<Reply>
+/// The receipt of a read of an account, if there is one of this number.
+pub(crate) fn read(
+    board: &Board,
+    seat: &mut BoardSeat,
+    totals: &mut Totals,
+    account: u32,
+) -> Option<Receipt>
     requires ready { MayCall board.now seat.old totals.old }
     ensures ready { MayCall board.now seat.new totals.new }
     ensures process { seat.new.knows.first ≡ seat.old.knows.first }
@@ -139,8 +144,19 @@ fn reads(board: &Board, seat: &mut BoardSeat, totals: &mut Totals, account: u32)
         return None;
     }
     seat.known();
-    let receipt = read_account(board, seat, totals, account);
-    Some(receipt.reply)
+    Some(read_account(board, seat, totals, account))
+}
+
+/// What a read of an account answers.
+fn reads(board: &Board, seat: &mut BoardSeat, totals: &mut Totals, account: u32) -> Option<Reply>
+    requires ready { MayCall board.now seat.old totals.old }
+    ensures ready { MayCall board.now seat.new totals.new }
+    ensures process { seat.new.knows.first ≡ seat.old.knows.first }
+{
+    match read(board, seat, totals, account) {
+        Some(receipt) => Some(receipt.reply),
+        None => None,
+    }
 }
 
 /// Whether the process reads 10 and 90, and its totals say that three requests of the first owner are decided in three rounds, how

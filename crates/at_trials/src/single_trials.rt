@@ -1,14 +1,14 @@
 //! A payment from a single account, a read after it, and a read by a process that was told of it by a note alone.
 
-ghost use Rattle.std.specs.Prelude.{◌≡◌, ◌<◌, IsTrue, length};
+ghost use Rattle.std.specs.Prelude.{◌≡◌};
 ghost use Rattle.at_players.specs.SmallBoard.{IsNewPair, new_seat};
-ghost use Rattle.at_single.specs.Standing.{IsOnlyOwner};
 ghost use Rattle.at_trials.specs.SmallFold.{IsNewTotals};
 
 use crate::fold_trials::two_totals;
+use crate::payers::owns_alone;
 use at_board::{Board, BoardSeat};
 use at_fold::Totals;
-use at_ledger::{Book, Reply, Targets};
+use at_ledger::{Reply, Targets};
 use at_log::{At, Receipt};
 use at_players::boards::{Account, Pair, new_pair};
 use at_single::{pay_single, read_account};
@@ -16,17 +16,6 @@ use std::alloc::Global;
 
 /// An account of each process.
 const OWN: &[Account] = &[(100, &[0]), (0, &[1])];
-
-/// Whether process 0 owns account 0 alone, and there is an account 1.
-fn owns_alone(book: &Book) -> bool
-    ensures accounts { IsTrue result → 1 < length book.now.accounts }
-    ensures owner { IsTrue result → IsOnlyOwner book.now 0 0 }
-{
-    if book.accounts() < 2 {
-        return false;
-    }
-    book.owner_count(0) == 1 && book.slot_of(0, 0).is_some()
-}
 
 /// The balance that a receipt tells, and the counts of the first two processes at its front.
 fn read_at(receipt: &Receipt) -> Option<(u64, u32, u32)> {
@@ -56,7 +45,7 @@ fn pays_and_reads(
     requires totals { IsNewTotals totals.old board.now.book }
     requires others { IsNewTotals others.old board.now.book }
 {
-    if !owns_alone(board.book()) {
+    if !owns_alone(board.book(), 0, 0) || board.book().accounts() < 2 {
         return false;
     }
     let targets = Targets::one(1, 40);

@@ -7,6 +7,7 @@ ghost use Rattle.at_players.specs.SmallBoard.{HasOwnAccount, IsNewFour};
 ghost use Rattle.at_trials.specs.SmallScan.{HasSeen, IsPublisher};
 
 use crate::crowd_trials::rises;
+use crate::payers::owns_alone;
 use at_base::Counts;
 use at_board::{Board, BoardSeat};
 use at_ledger::{Book, Targets};
@@ -41,11 +42,7 @@ fn has_own_account(book: &Book, process: u32) -> bool
     requires { process < 16 }
     ensures { IsTrue result → HasOwnAccount book.now process }
 {
-    let account = process + 1;
-    if book.accounts() <= account || book.owner_count(account) != 1 {
-        return false;
-    }
-    book.slot_of(account, process).is_some()
+    owns_alone(book, process, process + 1)
 }
 
 /// Whether processes 1, 2 and 3 do.
