@@ -1,9 +1,8 @@
 -- Votes of all voices: before they are made, and after.
-use Rattle.std.proofs.Common.{◌≡◌, ℕ, ◌^◌, ◌<◌, List, [], ◌∷◌, ◌++◌, All, length, map, get_or, take, refl, sym, ap, subst, ◌∙◌, arith, length-append}
+use Rattle.std.proofs.Common.{◌≡◌, ℕ, suc, ◌^◌, ◌<◌, List, [], ◌∷◌, ◌++◌, All, length, map, get_or, take, refl, sym, ap, subst, ◌∙◌, arith, length-append}
 use Rattle.std.specs.Prelude.{Contains}
-use Rattle.std.specs.List.{AllZip}
 use Rattle.std.proofs.lemmas.List.{append-nil, get_or-map, length-map, length-take}
-use Rattle.std.proofs.lemmas.List.Elements.{AllZip-get_or, Contains-get_or, length_all_zip}
+use Rattle.std.proofs.lemmas.List.Elements.{Contains-get_or}
 use Rattle.at_board.specs.Knowledge.Seats.{BoardTerms}
 use Rattle.at_ledger.specs.Book.{BookTerms, IsBegun}
 use Rattle.at_log.specs.ClosingTerms.{receipts_of}
@@ -73,39 +72,42 @@ AllMayVote-all council values voices rest votes new same small are drawn =
           ap process_of (sym (here p d within)) ∙ (new.each p d.voice known).pass.process_is;
     }
 
+-- each vote is made
+abbrev pub AreAllCast : BoardTerms → List Vote → List Vote → Type 0
+AreAllCast council before after = (p : ℕ) (d : Vote) → p < length before → IsCast council (get_or before p d) (get_or after p d)
+
 -- all of them are made, with the same values
-values_of-made : (council : BoardTerms) (before after : List Vote) → AllZip (IsCast council) before after → values_of after ≡ values_of before
-values_of-made council [] [] made = refl
-values_of-made council [] (y ∷ ys) made = absurd made
-values_of-made council (x ∷ xs) [] made = absurd made
-values_of-made council (x ∷ xs) (y ∷ ys) made = λ t. made.0.value_is t ∷ values_of-made council xs ys made.1 t
+values_of-made : (council : BoardTerms) (before after : List Vote) → length after ≡ length before → AreAllCast council before after
+    → values_of after ≡ values_of before
+values_of-made council [] [] same made = refl
+values_of-made council [] (y ∷ ys) same made = absurd (omega arith)
+values_of-made council (x ∷ xs) [] same made = absurd (omega arith)
+values_of-made council (x ∷ xs) (y ∷ ys) same made = λ t.
+    (made 0 x (omega arith)).value_is t ∷ values_of-made council xs ys (omega arith) (λ p d within. made (suc p) d (omega arith)) t
 
 pub AreCast-all : (council : BoardTerms) (values : List ℕ) (before after : List Vote) → AllMayVote council values before
-    → AllZip (IsCast council) before after → AreCast council after × (values_of after ≡ values)
-AreCast-all council values before after ready made =
-    let same : length before ≡ length after = length_all_zip (IsCast council) before after made in
-    let at : (p : ℕ) (d : Vote) → p < length before → IsCast council (get_or before p d) (get_or after p d) =
-    λ p d within. AllZip-get_or (IsCast council) before after p d d made within in (
-      record {
-        count = sym same ∙ ready.count;
-        small = λ p d within.
-            let one = at p d (omega (arith, within, same)) in
-            omega (arith, one.value_is, (ready.ready p d (omega (arith, within, same))).small);
-        each = λ p d known.
-            let one = at p d (omega (arith, known, ready.count)) in
-            let process = ready.processes p d known in
-            let x : Vote = get_or before p d in
-            let y : Vote = get_or after p d in
-            let voted : HasVoted (size_of council) p x.value y.answer y.voice.receipts =
-            subst (λ q. HasVoted (size_of council) q x.value y.answer y.voice.receipts) process one.voted in
-            record {
-              process_is = one.process_is ∙ process;
-              of_council = one.of_council;
-              voted = subst (λ v. HasVoted (size_of council) p v y.answer y.voice.receipts) (sym one.value_is) voted;
-            };
-      },
-      values_of-made council before after made ∙ ready.values_are,
-    )
+    → length after ≡ length before → AreAllCast council before after → AreCast council after × (values_of after ≡ values)
+AreCast-all council values before after ready same made = (
+  record {
+    count = same ∙ ready.count;
+    small = λ p d within.
+        let one = made p d (omega (arith, within, same)) in
+        omega (arith, one.value_is, (ready.ready p d (omega (arith, within, same))).small);
+    each = λ p d known.
+        let one = made p d (omega (arith, known, ready.count)) in
+        let process = ready.processes p d known in
+        let x : Vote = get_or before p d in
+        let y : Vote = get_or after p d in
+        let voted : HasVoted (size_of council) p x.value y.answer y.voice.receipts =
+        subst (λ q. HasVoted (size_of council) q x.value y.answer y.voice.receipts) process one.voted in
+        record {
+          process_is = one.process_is ∙ process;
+          of_council = one.of_council;
+          voted = subst (λ v. HasVoted (size_of council) p v y.answer y.voice.receipts) (sym one.value_is) voted;
+        };
+  },
+  values_of-made council before after same made ∙ ready.values_are,
+)
 
 -- the passes and receipts of all that are made are those with which the ledger is closed
 pub AreAccountedFor-made : (council : BoardTerms) (votes : List Vote) (passes : List PassTerms) (receipts : List (List Receipt))

@@ -1,18 +1,17 @@
 //! The agreement of all voices of one council.
 
-ghost use Rattle.std.specs.Prelude.{◌≡◌, ◌<◌, ◌^◌, All, IfOk, length, map};
-ghost use Rattle.std.specs.List.{AllZip};
+ghost use Rattle.std.specs.Prelude.{◌≡◌, ℕ, ◌<◌, ◌^◌, All, IfOk, length, map, slice_index_or};
 ghost use Rattle.at_agree.specs.Agreement.{AreCast, IsAgreement, IsCast, MayVote, StandsByItself, values_of};
 ghost use Rattle.at_agree.specs.Council.{IsSize};
+ghost use Rattle.at_agree.specs.declared.votes.Vote.{Vote};
 
 use crate::NoMemory;
 use crate::council::Council;
-use crate::halves::propose_all;
-use crate::votes::{Vote, votes_of};
+use crate::votes::{Vote, propose_one, votes_of};
 use at_log::Receipt;
 use at_object::{Closed, Pass};
 use std::alloc::{AllocError, Global};
-use std::thread::Threads;
+use std::thread::{Threads, for_each_mut};
 
 /// The value that all processes agreed on, and what is left of their ledger, in which each of their calls stands.
 #[derive(Drop)]
@@ -21,8 +20,8 @@ pub struct Agreed {
     pub closed: Closed,
 }
 
-/// Each value is proposed by a process of its own, by threads: the voices are halved until each branch has one. All processes get
-/// one answer, which is one of the values. The closed ledger shows it, whatever the threads' steps were.
+/// Each value is proposed by a process of its own, in a thread of its own. All processes get one answer, which is one of the values.
+/// The closed ledger shows it, whatever the threads' steps were.
 pub fn agree<R: Threads + Sync>(rt: &R, alloc: Global, values: &[u64]) -> Result<Agreed, NoMemory>
     requires size { IsSize (length values.now) }
     requires small { All (λ v. v < 2 ^ 32) values.now }
@@ -30,16 +29,27 @@ pub fn agree<R: Threads + Sync>(rt: &R, alloc: Global, values: &[u64]) -> Result
 {
     let (council, voices) = Council::new(alloc, values.len() as u32)?;
     let mut votes = votes_of(alloc, &council, voices, values)?;
-    propose_list(rt, &council, &mut votes);
+    propose_all(rt, &council, &mut votes);
     close(alloc, council, votes)
 }
 
-/// Makes all votes, by threads.
-fn propose_list<R: Threads + Sync>(rt: &R, council: &Council, votes: &mut Vec<Vote>)
+/// Makes all votes, each by a thread of its own.
+fn propose_all<R: Threads + Sync>(rt: &R, council: &Council, votes: &mut Vec<Vote>)
     requires { All (MayVote council.now) votes.old.items }
-    ensures { AllZip (IsCast council.now) votes.old.items votes.new.items }
+    ensures count { length votes.new.items ≡ length votes.old.items }
+    ensures cast { (p : ℕ) (d : Vote) → p < length votes.old.items → IsCast council.now
+        (slice_index_or votes.old.items p d) (slice_index_or votes.new.items p d) }
 {
-    propose_all(rt, council, votes.as_mut_slice());
+    let threads = votes.len().max(1);
+    for_each_mut(
+        rt,
+        votes.as_mut_slice(),
+        threads,
+        &|_process: usize, vote: &mut Vote|
+            requires { MayVote council.now vote.old }
+            ensures { IsCast council.entry.now vote.old vote.new }
+        { propose_one(council, vote) },
+    );
 }
 
 /// Closes the council's ledger with all passes and receipts. The answer is that of process 0, and of all others.

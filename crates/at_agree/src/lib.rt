@@ -12,7 +12,6 @@ mod agreement;
 mod book;
 mod council;
 mod crossing;
-mod halves;
 mod voice;
 mod votes;
 

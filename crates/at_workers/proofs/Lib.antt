@@ -1,2 +1,4 @@
 -- a job whose first calls were made, and one call more
 pub mod Played
+-- two lists that are related place by place
+pub mod Zipped

@@ -6,10 +6,10 @@
 
 mod crossing;
 mod gate;
-mod halves;
 mod job;
 mod play;
+mod running;
 
 pub use crate::gate::{Gate, OpenGate};
-pub use crate::halves::run_all;
 pub use crate::job::{Job, JobRefused};
+pub use crate::running::run_all;
