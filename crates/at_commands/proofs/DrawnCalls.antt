@@ -7,6 +7,7 @@ use Rattle.std.proofs.lemmas.List.Elements.{All-cons, All-head, All-map, All-nil
 use Rattle.std.proofs.lemmas.List.FromFn.{get_or-map-range_with_len, length-map-range_with_len}
 use Rattle.std.proofs.lemmas.List.Sums.{length-filter, sum_by-cons, sum_by-le}
 use Rattle.std.proofs.lemmas.Nat.{mod_below}
+use Rattle.at_files.specs.Files.{IsPlayable}
 use Rattle.at_ledger.specs.Call.{IsCallOn}
 use Rattle.at_ledger.specs.Run.{Whole, lines_of}
 use Rattle.at_ledger.specs.declared.call.Call.{Call}
@@ -14,7 +15,6 @@ use Rattle.at_ledger.specs.declared.call.Call.TheVariants.{Transfer, Read, Pay}
 use Rattle.at_ledger.specs.declared.call.Line.{Line}
 use Rattle.at_loading.specs.Limits.{MayMake}
 use Rattle.at_commands.specs.Generator.{account_drawn, amount_drawn, call_drawn, calls_drawn, drawn, files_made, kind_drawn, next_state, source_drawn, state_after_calls}
-use Rattle.at_verify.specs.Right.{IsPlayable}
 use Rattle.at_commands.specs.Made.{call_debit, over_files}
 use Rattle.at_commands.proofs.LineSums.{sum_by-Whole}
 use Rattle.at_commands.proofs.SettledRuns.{debits_in, lines_by}

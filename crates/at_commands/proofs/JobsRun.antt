@@ -7,16 +7,20 @@ use Rattle.std.proofs.lemmas.List.{get_or-map, length-map}
 use Rattle.std.proofs.lemmas.List.Elements.{AllZip-get_or}
 use Rattle.std.proofs.lemmas.Slice.Zip.{AllZip-long}
 use Rattle.std.specs.List.{AllZip}
+use Rattle.at_files.specs.Files.{IsPlayable}
 use Rattle.at_board.specs.Knowledge.Seats.{BoardTerms}
 use Rattle.at_journal.specs.Calls.{calls_in}
+use Rattle.at_ledger.specs.Book.{BookTerms}
+use Rattle.at_ledger.specs.Run.{Legal, Whole}
 use Rattle.at_ledger.specs.declared.call.Call.{Call}
+use Rattle.at_ledger.specs.declared.call.Line.{Line}
 use Rattle.at_log.specs.ClosingTerms.{ClosingTerms}
 use Rattle.at_log.specs.declared.receipt.Receipt.{Receipt}
-use Rattle.at_object.specs.Closings.{AreAccountedFor, IsAccountedFor}
+use Rattle.at_object.specs.Closings.{AreAccountedFor, ClosedTerms, IsAccountedFor}
 use Rattle.at_object.specs.Passes.{PassTerms}
-use Rattle.at_commands.specs.Running.{AreJobsFor}
+use Rattle.at_commands.specs.Running.{AreJobsFor, IsClosedAfter, IsPlayed, journal_of}
 use Rattle.at_commands.proofs.JobsMade.{files_of, passes_in}
-use Rattle.at_verify.specs.Right.{IsPlayable}
+use Rattle.at_commands.proofs.Laws.RunTotals.{IsLineOn-Whole, sum-last_state}
 use Rattle.at_workers.specs.Jobs.{JobTerms, Ran, calls_of}
 
 -- the receipts of jobs
@@ -81,3 +85,19 @@ few-calls_in accounts c known = λ p d within.
     let file : get_or (calls_in c) p [] ≡ calls_of (get_or c.receipts p d) = get_or-map calls_of c.receipts p d [] within in
     let few = (known p [] (omega (arith, within, count))).few in
     omega (arith, few, ap (λ (calls : List Call). length calls) file, length-map (get_or c.receipts p d) (λ (r : Receipt). r.call))
+
+-- the journal of a closed ledger on which files were run
+pub IsPlayed-journal : (b : BookTerms) (files : List (List Call)) (closed : ClosedTerms) (lines : List Line) → IsClosedAfter b files closed
+    → length files ≡ b.processes → All (IsPlayable (length b.accounts)) files → lines ≡ journal_of closed → Whole (calls_in closed.closing) lines
+    → Legal closed.book lines → IsPlayed b files closed lines
+IsPlayed-journal b files closed lines run count known are whole legal =
+    let whole_of : Whole files lines = rw run.calls_are at whole in
+    let on = IsLineOn-Whole (length b.accounts) b.processes files lines whole_of count (λ p d within. (known p d within).known) in
+    record {
+      run = run;
+      lines_are = are;
+      whole = whole_of;
+      legal = rw run.book_is at legal;
+      on = on;
+      total = sum-last_state b b.processes lines on;
+    }

@@ -11,13 +11,14 @@ use Rattle.at_broadcast.specs.declared.message.Message.{Message}
 use Rattle.at_broadcast.proofs.MessageLaws.{message_of-new, message_of-other}
 use Rattle.at_broadcast.proofs.NodeLaws.{IsClosed-IsNode, ShowsBalances-IsNode}
 use Rattle.at_broadcast.proofs.StartLaws.{none-start}
+use Rattle.at_files.specs.Files.{contents_of}
 use Rattle.at_files.specs.Deliveries.{IsDelivery}
 use Rattle.at_files.specs.Limits.{most_messages}
 use Rattle.at_files.specs.declared.deliveries.Delivery.{Delivery}
 use Rattle.at_files.proofs.FieldLaws.{both_tests}
+use Rattle.at_files.proofs.FileLists.{get_or-contents_of, length-contents_of}
 use Rattle.at_ledger.specs.Book.{BookTerms}
-use Rattle.at_loading.specs.Loading.{LoadedOf, contents_of}
-use Rattle.at_loading.proofs.Laws.FilesLoaded.{length-contents_of}
+use Rattle.at_loading.specs.Loading.{LoadedOf}
 use Rattle.at_commands.specs.Nodes.{AreNodesOf, AreSent, IsNodeOf, all_sent, counts_of, gives, message_given}
 
 -- the sender of a delivery has a file, and the file has the message
@@ -29,12 +30,6 @@ node_within l d is = omega (arith, is.node, length-map l.files (length {A = Mess
 
 pub number_within : (l : LoadedOf Message) (d : Delivery) → IsDelivery (counts_of l) d → d.number < length (get_or l.files d.sender [])
 number_within l d is = omega (arith, is.number, get_or-map (length {A = Message}) l.files d.sender [] 0 (sender_within l d is))
-
--- what a file of the program holds
-pub get_or-contents_of : (files : List (Vec Message Global)) (i : ℕ) (file : Vec Message Global) → i < length files → file ≡ get_or files i file
-    → get_or (contents_of files) i [] ≡ file.items
-get_or-contents_of files i file within is =
-    get_or-map (λ (v : Vec Message Global). v.items) files i file [] within ∙ ap (λ (v : Vec Message Global). v.items) (sym is)
 
 -- the message of a sender and number that it has
 message_of-sent : (l : LoadedOf Message) (p k : ℕ) (m : Message) → p < length l.files → k < length (get_or l.files p []) → m ≡ get_or (get_or l.files p []) k m

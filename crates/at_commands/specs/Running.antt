@@ -1,8 +1,10 @@
 -- Closed ledgers on which files were run.
-use Rattle.std.specs.Prelude.{◌≡◌, ℕ, ◌<◌, List, length, map, slice_index_or, All}
+use Rattle.std.specs.Prelude.{◌≡◌, ℕ, ◌<◌, List, length, map, slice_index_or, sum, All}
 use Rattle.at_board.specs.Knowledge.Seats.{BoardTerms}
 use Rattle.at_journal.specs.Calls.{calls_in}
-use Rattle.at_ledger.specs.Book.{BookTerms}
+use Rattle.at_ledger.specs.Book.{BookTerms, total_of}
+use Rattle.at_ledger.specs.Call.{IsLineOn}
+use Rattle.at_ledger.specs.Run.{Legal, Whole, last_state}
 use Rattle.at_ledger.specs.declared.call.Call.{Call}
 use Rattle.at_ledger.specs.declared.call.Line.{Line}
 use Rattle.at_log.specs.Coherent.{Coherent}
@@ -20,6 +22,15 @@ pub record IsClosedAfter (b : BookTerms) (files : List (List Call)) (closed : Cl
 -- the lines of its journal
 abbrev pub journal_of : ClosedTerms → List Line
 journal_of closed = journal_lines closed.closing
+
+-- these are the lines of its journal: one legal run of the files' calls, each on the book, which changes no total
+pub record IsPlayed (b : BookTerms) (files : List (List Call)) (closed : ClosedTerms) (lines : List Line) : Type 0 where
+  pub run : IsClosedAfter b files closed
+  pub lines_are : lines ≡ journal_of closed
+  pub whole : Whole files lines
+  pub legal : Legal b lines
+  pub on : All (IsLineOn b.processes (length b.accounts)) lines
+  pub total : sum (last_state b lines).balances ≡ total_of b
 
 -- a job for each process, in order, with the calls of its file to make on the ledger
 pub record AreJobsFor (ledger : BoardTerms) (files : List (List Call)) (jobs : List JobTerms) : Type 0 where

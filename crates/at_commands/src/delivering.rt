@@ -1,6 +1,7 @@
 //! What `deliver` prints of a broadcast.
 
 ghost use Rattle.std.specs.Prelude.{◌≡◌, ◌≢◌, ◌+◌, ◌^◌, ◌<◌, ◌≤◌, ℕ, All, length, map, true, None, Ok, Err, IfOk, IfErr, OnOk};
+ghost use Rattle.at_files.specs.Files.{contents_of};
 ghost use Rattle.at_files.specs.Deliveries.{IsDelivery};
 ghost use Rattle.at_files.specs.Limits.{most_messages};
 ghost use Rattle.at_io.specs.Faults.{Rose};
@@ -8,7 +9,7 @@ ghost use Rattle.at_io.specs.Shelf.{SameFiles};
 ghost use Rattle.at_commands.specs.Answered.{AnsweredDeliver};
 ghost use Rattle.at_commands.specs.Delivering.{DeliversLoaded, DeliversSpelled, MayReachBroadcast, SpellsOrder, broadcast, order_beside, order_loaded};
 ghost use Rattle.at_loading.specs.Faults.{HasFurtherNumbers, Kind, MayRefuseOf};
-ghost use Rattle.at_loading.specs.Loading.{all_shown, contents_of};
+ghost use Rattle.at_loading.specs.Loading.{loaded_shown};
 ghost use Rattle.at_commands.specs.Nodes.{AreSent, PrintsNodes, counts_of};
 ghost use Rattle.at_loading.specs.Words.{delivering_shown};
 
@@ -86,10 +87,10 @@ fn delivered_text(
 ) -> Result<Vec<u8>, AllocError>
     requires count { length sent.now.files.items ≡ sent.now.book.processes }
     requires sent { All (AreSent sent.now.book) (contents_of sent.now.files.items) }
-    requires deliveries { All (IsDelivery (counts_of (all_shown sent.now))) deliveries.now }
+    requires deliveries { All (IsDelivery (counts_of (loaded_shown sent.now))) deliveries.now }
     ensures { IfOk result
         (λ text. PrintsNodes
-        (record { sent = all_shown sent.now; deliveries = deliveries.now }) text.items) }
+        (record { sent = loaded_shown sent.now; deliveries = deliveries.now }) text.items) }
 {
     let nodes = nodes_given(alloc, sent, deliveries)?;
     nodes_text(alloc, &sent.book, nodes.as_slice())
@@ -110,10 +111,10 @@ fn ordered_text<F: Shelf>(
     ensures kept { OnOk result (F.faults shelf.new ≡ F.faults shelf.old) }
     ensures printed { F.tells shelf.old ≡ true
         → IfOk result
-        (λ text. DeliversLoaded (F.file shelf.old) (all_shown sent.now) name.now text.items) }
+        (λ text. DeliversLoaded (F.file shelf.old) (loaded_shown sent.now) name.now text.items) }
     ensures err { IfErr result
         (λ refusal. MayRefuseOf Kind.messages (F.tells shelf.old)
-        (order_beside (F.file shelf.old) (all_shown sent.now) name.now) (F.faults shelf.old)
+        (order_beside (F.file shelf.old) (loaded_shown sent.now) name.now) (F.faults shelf.old)
         (F.faults shelf.new) refusal) }
     ensures file { (file : ℕ) → result ≡ Err (Status.ReadFault file)
         → file ≡ sent.now.book.processes + 1 }

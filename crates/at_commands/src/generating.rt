@@ -1,11 +1,11 @@
 //! The book and the calls that a number gives.
 
 ghost use Rattle.std.specs.Prelude.{◌≡◌, ◌+◌, ◌*◌, ◌<◌, ◌≤◌, None, length, All, IfOk, OnOk};
+ghost use Rattle.at_files.specs.Files.{IsPlayable, contents_of};
 ghost use Rattle.at_loading.specs.Limits.{MayMake, most_made_processes};
 ghost use Rattle.std.specs.List.{range_with_len};
 ghost use Rattle.at_ledger.specs.Book.{IsBook};
 ghost use Rattle.at_ledger.specs.Draft.{account_fault, terms_with, with_account};
-ghost use Rattle.at_verify.specs.Right.{IsPlayable, files_in};
 ghost use Rattle.at_commands.specs.Generator.{book_of_own_accounts, book_made, call_drawn, calls_drawn, drawn, files_made, next_state, state_after_call, state_after_calls};
 ghost use Rattle.at_commands.specs.Made.{AllDone, AllSum, made};
 
@@ -144,7 +144,7 @@ fn draw_files(
     calls: u32,
 ) -> Result<Vec<Vec<Call>>, AllocError>
     requires { processes ≤ most_made_processes }
-    ensures { IfOk result (λ files. files_in files.items ≡ files_made first processes calls) }
+    ensures { IfOk result (λ files. contents_of files.items ≡ files_made first processes calls) }
 {
     let mut draws = Draws { state: first };
     let mut files = Vec::new(alloc);
@@ -160,13 +160,13 @@ fn draw_files(
 pub fn generate(alloc: Global, first: u64, processes: u32, calls: u32) -> Result<Made, AllocError>
     requires { MayMake processes calls }
     ensures book { IfOk result (λ m. m.book ≡ book_made processes calls) }
-    ensures files { IfOk result (λ m. files_in m.files.items ≡ files_made first processes calls) }
+    ensures files { IfOk result (λ m. contents_of m.files.items ≡ files_made first processes calls) }
     ensures count { IfOk result (λ m. length m.files.items ≡ m.book.processes) }
     ensures known { IfOk result
-        (λ m. All (IsPlayable (length m.book.accounts)) (files_in m.files.items)) }
-    ensures all_done { IfOk result (λ m. AllDone m.book (files_in m.files.items)) }
+        (λ m. All (IsPlayable (length m.book.accounts)) (contents_of m.files.items)) }
+    ensures all_done { IfOk result (λ m. AllDone m.book (contents_of m.files.items)) }
     ensures all_sum { IfOk result
-        (λ m. AllSum m.book (files_in m.files.items) first calls (made first processes calls)) }
+        (λ m. AllSum m.book (contents_of m.files.items) first calls (made first processes calls)) }
 {
     let book = make_book(alloc, processes, calls)?;
     let files = draw_files(alloc, first, processes, calls)?;

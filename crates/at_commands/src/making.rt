@@ -1,48 +1,21 @@
 //! What `make` answers.
 
-ghost use Rattle.std.specs.Prelude.{◌≡◌, ◌≢◌, ◌≤◌, All, length, None, IfOk};
+ghost use Rattle.std.specs.Prelude.{◌≡◌, ◌≢◌, ◌≤◌, None, IfOk};
 ghost use Rattle.at_commands.specs.Answered.{AnsweredMake};
 ghost use Rattle.at_commands.specs.Made.{IsMade, SummarizesRun, made};
-ghost use Rattle.at_commands.specs.Running.{journal_of};
 ghost use Rattle.at_io.specs.Faults.{Rose};
-ghost use Rattle.at_journal.specs.Calls.{calls_in};
-ghost use Rattle.at_ledger.specs.Run.{Legal, Whole};
 ghost use Rattle.at_loading.specs.Limits.{MayMake};
-ghost use Rattle.at_report.specs.Summary.{summary_text};
-ghost use Rattle.at_verify.specs.Right.{IsPlayable};
 
 use crate::ending::{Printed, end_keeping};
 use crate::generating::{Made, generate};
-use crate::playing::{journal_of, play};
+use crate::playing::play;
 use at_io::Sink;
-use at_ledger::Book;
 use at_loading::Making;
 use at_object::Closed;
 use at_report::{Status, summary};
 use at_workers::Gate;
 use std::alloc::{AllocError, Global};
 use std::thread::Threads;
-
-/// The summary of the journal of a closed ledger on which such calls were run.
-fn run_summary(
-    alloc: Global,
-    book: &Book,
-    closed: &Closed,
-    first: u64,
-    calls: u32,
-) -> Result<Vec<u8>, AllocError>
-    requires book { closed.now.book ≡ book.now }
-    requires count { length (calls_in closed.now.closing) ≡ closed.now.book.processes }
-    requires known { All (IsPlayable (length closed.now.book.accounts))
-        (calls_in closed.now.closing) }
-    ensures text { IfOk result
-        (λ text. text.items ≡ summary_text book.now (journal_of closed.now) first calls) }
-    ensures whole { IfOk result (λ _. Whole (calls_in closed.now.closing) (journal_of closed.now)) }
-    ensures legal { IfOk result (λ _. Legal closed.now.book (journal_of closed.now)) }
-{
-    let lines = journal_of(alloc, closed)?;
-    summary(alloc, book, lines.as_slice(), first, calls)
-}
 
 /// The summary of a run of the calls that a number gives, all processes at once.
 fn made_text<R: Threads + Sync, G: Gate + Sync>(
@@ -59,8 +32,8 @@ fn made_text<R: Threads + Sync, G: Gate + Sync>(
     ensures ran { IfOk result (λ p. SummarizesRun making p.closed) }
 {
     let Made { book, files } = generate(alloc, making.first, making.processes, making.calls)?;
-    let closed = play(rt, alloc, &book, files, gate)?;
-    let text = run_summary(alloc, &book, &closed, making.first, making.calls)?;
+    let (closed, lines) = play(rt, alloc, &book, files, gate)?;
+    let text = summary(alloc, &book, lines.as_slice(), making.first, making.calls)?;
     Ok(Printed {
         text,
         closed: Some(closed),

@@ -2,9 +2,10 @@
 
 ghost use Rattle.std.specs.Prelude.{◌≡◌, ◌^◌, ◌<◌, ◌≤◌, ◌++◌, [], ◌∷◌, length, replicate, map, All, List, Ok, IfOk, OnOk};
 ghost use Rattle.at_broadcast.specs.Node.{IsNode, starting_state};
+ghost use Rattle.at_files.specs.Files.{contents_of};
 ghost use Rattle.at_files.specs.Deliveries.{IsDelivery};
 ghost use Rattle.at_files.specs.declared.deliveries.Delivery.{Delivery};
-ghost use Rattle.at_loading.specs.Loading.{all_shown, contents_of};
+ghost use Rattle.at_loading.specs.Loading.{loaded_shown};
 ghost use Rattle.at_commands.specs.Nodes.{AreNodesOf, AreSent, IsNodeOf, counts_of};
 
 use at_broadcast::{Message, Node};
@@ -36,12 +37,12 @@ fn deliver_one(
 ) -> Result<(), AllocError>
     requires count { length sent.now.files.items ≡ sent.now.book.processes }
     requires sent { All (AreSent sent.now.book) (contents_of sent.now.files.items) }
-    requires delivery { IsDelivery (counts_of (all_shown sent.now)) delivery.now }
+    requires delivery { IsDelivery (counts_of (loaded_shown sent.now)) delivery.now }
     requires book { node.old.book ≡ sent.now.book }
     ensures { (done : List Delivery)
-        → IsNodeOf (all_shown sent.now) done delivery.now.node node.old
+        → IsNodeOf (loaded_shown sent.now) done delivery.now.node node.old
         → OnOk result
-        (IsNodeOf (all_shown sent.now) (done ++ delivery.now ∷ []) delivery.now.node node.new) }
+        (IsNodeOf (loaded_shown sent.now) (done ++ delivery.now ∷ []) delivery.now.node node.new) }
 {
     let message = &sent.files[delivery.sender as usize][delivery.number as usize];
     let Ok(_) = node.deliver(delivery.sender, delivery.number, message) else {
@@ -59,12 +60,12 @@ fn deliver_all(
 ) -> Result<(), AllocError>
     requires count { length sent.now.files.items ≡ sent.now.book.processes }
     requires sent { All (AreSent sent.now.book) (contents_of sent.now.files.items) }
-    requires deliveries { All (IsDelivery (counts_of (all_shown sent.now))) deliveries.now }
+    requires deliveries { All (IsDelivery (counts_of (loaded_shown sent.now))) deliveries.now }
     requires each { length nodes.old.items ≡ sent.now.book.processes }
-    requires fresh { AreNodesOf (all_shown sent.now) [] nodes.old.items }
+    requires fresh { AreNodesOf (loaded_shown sent.now) [] nodes.old.items }
     ensures count { OnOk result (length nodes.new.items ≡ sent.now.book.processes) }
     ensures nodes { OnOk result
-        (AreNodesOf (all_shown sent.now) deliveries.now nodes.new.items) }
+        (AreNodesOf (loaded_shown sent.now) deliveries.now nodes.new.items) }
 {
     for delivery in deliveries {
         deliver_one(&mut nodes[delivery.node as usize], sent, delivery)?;
@@ -81,10 +82,10 @@ pub fn nodes_given(
 ) -> Result<Vec<Node>, AllocError>
     requires count { length sent.now.files.items ≡ sent.now.book.processes }
     requires sent { All (AreSent sent.now.book) (contents_of sent.now.files.items) }
-    requires deliveries { All (IsDelivery (counts_of (all_shown sent.now))) deliveries.now }
+    requires deliveries { All (IsDelivery (counts_of (loaded_shown sent.now))) deliveries.now }
     ensures count { IfOk result (λ nodes. length nodes.items ≡ sent.now.book.processes) }
     ensures nodes { IfOk result
-        (λ nodes. AreNodesOf (all_shown sent.now) deliveries.now nodes.items) }
+        (λ nodes. AreNodesOf (loaded_shown sent.now) deliveries.now nodes.items) }
 {
     let mut nodes = new_nodes(alloc, &sent.book)?;
     deliver_all(&mut nodes, sent, deliveries)?;

@@ -1,16 +1,11 @@
-//! Making the calls of the files on a new ledger, at once, and closing it.
+//! Making the calls of the files on a new ledger, at once, and closing it with its journal.
 
-ghost use Rattle.std.specs.Prelude.{◌≡◌, ◌^◌, ◌<◌, length, map, sum, All, IfOk};
-ghost use Rattle.std.specs.List.{AllZip};
-ghost use Rattle.at_journal.specs.Calls.{calls_in};
-ghost use Rattle.at_ledger.specs.Book.{total_of};
-ghost use Rattle.at_ledger.specs.Call.{IsLineOn};
-ghost use Rattle.at_ledger.specs.Run.{Legal, Whole, last_state};
+ghost use Rattle.std.specs.Prelude.{◌≡◌, length, map, All, IfOk};
+ghost use Rattle.at_files.specs.Files.{IsPlayable, contents_of};
 ghost use Rattle.at_object.specs.Closings.{AreAccountedFor};
 ghost use Rattle.at_object.specs.Passes.{AreNewPasses};
-ghost use Rattle.at_commands.specs.Running.{AreJobsFor, IsClosedAfter, journal_of};
-ghost use Rattle.at_verify.specs.Right.{IsPlayable, files_in};
-ghost use Rattle.at_workers.specs.Jobs.{IsReady, JobTerms, Ran, calls_of};
+ghost use Rattle.at_commands.specs.Running.{AreJobsFor, IsPlayed};
+ghost use Rattle.at_workers.specs.Jobs.{JobTerms, calls_of};
 
 use at_journal::journal;
 use at_ledger::{Book, Call, Line};
@@ -29,8 +24,8 @@ fn jobs_for(
 ) -> Result<Vec<Job>, NoMemory>
     requires passes { AreNewPasses ledger.now passes.items }
     requires count { length files.items ≡ ledger.now.book.processes }
-    requires known { All (IsPlayable (length ledger.now.book.accounts)) (files_in files.items) }
-    ensures { IfOk result (λ jobs. AreJobsFor ledger.now (files_in files.items) jobs.items) }
+    requires known { All (IsPlayable (length ledger.now.book.accounts)) (contents_of files.items) }
+    ensures { IfOk result (λ jobs. AreJobsFor ledger.now (contents_of files.items) jobs.items) }
 {
     let mut jobs = Vec::with_capacity(alloc, ledger.book().processes() as usize)?;
     let mut others = passes.into_iter();
@@ -45,19 +40,6 @@ fn jobs_for(
         jobs.push(job)?;
     }
     Ok(jobs)
-}
-
-/// Makes the calls of all jobs, each job's by a thread of its own.
-fn run_jobs<R: Threads + Sync, G: Gate + Sync>(
-    rt: &R,
-    ledger: &Ledger,
-    jobs: &mut Vec<Job>,
-    gate: &G,
-)
-    requires { All (IsReady ledger.now) jobs.old.items }
-    ensures { AllZip (Ran ledger.now) jobs.old.items jobs.new.items }
-{
-    run_all(rt, ledger, jobs.as_mut_slice(), gate);
 }
 
 /// The passes of the jobs, and their receipts.
@@ -89,52 +71,35 @@ fn make_calls<R: Threads + Sync, G: Gate + Sync>(
 ) -> Result<(Vec<Pass>, Vec<Vec<Receipt>>), NoMemory>
     requires passes { AreNewPasses ledger.now passes.items }
     requires count { length files.items ≡ ledger.now.book.processes }
-    requires known { All (IsPlayable (length ledger.now.book.accounts)) (files_in files.items) }
+    requires known { All (IsPlayable (length ledger.now.book.accounts)) (contents_of files.items) }
     ensures accounted { IfOk result
         (λ r. AreAccountedFor ledger.now r.0.items (map (λ list. list.items) r.1.items)) }
     ensures calls { IfOk result
-        (λ r. map calls_of (map (λ list. list.items) r.1.items) ≡ files_in files.items) }
+        (λ r. map calls_of (map (λ list. list.items) r.1.items) ≡ contents_of files.items) }
 {
     let mut jobs = jobs_for(alloc, ledger, passes, files)?;
-    run_jobs(rt, ledger, &mut jobs, gate);
+    run_all(rt, ledger, jobs.as_mut_slice(), gate);
     taken_apart(alloc, jobs)
 }
 
-/// Makes the calls of each file on a new ledger of the book, each process's by a thread of its own, and closes the ledger. The work
-/// grows with the calls.
+/// Makes the calls of each file on a new ledger of the book, each process's by a thread of its own. What is left are the closed ledger
+/// and the lines of its journal. The work grows with the calls.
 pub fn play<R: Threads + Sync, G: Gate + Sync>(
     rt: &R,
     alloc: Global,
     book: &Book,
     files: Vec<Vec<Call>>,
     gate: &G,
-) -> Result<Closed, NoMemory>
+) -> Result<(Closed, Vec<Line>), NoMemory>
     requires count { length files.items ≡ book.now.processes }
-    requires known { All (IsPlayable (length book.now.accounts)) (files_in files.items) }
-    ensures { IfOk result (IsClosedAfter book.now (files_in files.items)) }
+    requires known { All (IsPlayable (length book.now.accounts)) (contents_of files.items) }
+    ensures { IfOk result (λ r. IsPlayed book.now (contents_of files.items) r.0 r.1.items) }
 {
     let (ledger, passes) = Ledger::new(alloc, book)?;
     let (passes, receipts) = make_calls(rt, alloc, &ledger, passes, files, gate)?;
-    match ledger.close(alloc, passes, receipts) {
-        Ok(closed) => Ok(closed),
-        Err(_refused) => Err(AllocError),
-    }
-}
-
-/// The journal of a closed ledger on which files were run.
-pub fn journal_of(alloc: Global, closed: &Closed) -> Result<Vec<Line>, NoMemory>
-    requires count { length (calls_in closed.now.closing) ≡ closed.now.book.processes }
-    requires known { All (IsPlayable (length closed.now.book.accounts))
-        (calls_in closed.now.closing) }
-    ensures lines { IfOk result (λ lines. lines.items ≡ journal_of closed.now) }
-    ensures whole { IfOk result (λ _. Whole (calls_in closed.now.closing) (journal_of closed.now)) }
-    ensures legal { IfOk result (λ _. Legal closed.now.book (journal_of closed.now)) }
-    ensures on { IfOk result
-        (λ _. All (IsLineOn closed.now.book.processes (length closed.now.book.accounts))
-        (journal_of closed.now)) }
-    ensures total { IfOk result
-        (λ _. sum (last_state closed.now.book (journal_of closed.now)).balances
-        ≡ total_of closed.now.book) }
-{
-    journal(alloc, closed.book(), closed.closing())
+    let Ok(closed) = ledger.close(alloc, passes, receipts) else {
+        return Err(AllocError);
+    };
+    let lines = journal(alloc, closed.book(), closed.closing())?;
+    Ok((closed, lines))
 }

@@ -1,10 +1,10 @@
 //! What `replay` prints of a run by a schedule.
 
 ghost use Rattle.std.specs.Prelude.{◌≡◌, ◌≢◌, ◌+◌, ◌<◌, ◌≤◌, ℕ, All, length, true, None, Ok, Err, IfOk, IfErr, OnOk};
+ghost use Rattle.at_files.specs.Files.{IsPlayable, contents_of};
 ghost use Rattle.at_files.specs.Names.{AreNamesOf};
 ghost use Rattle.at_io.specs.Faults.{Rose};
 ghost use Rattle.at_io.specs.Shelf.{SameFiles};
-ghost use Rattle.at_verify.specs.Right.{IsPlayable, files_in};
 ghost use Rattle.at_loading.specs.Faults.{HasFurtherNumbers, Kind, MayRefuseOf};
 ghost use Rattle.at_loading.specs.Loading.{loaded_shown};
 ghost use Rattle.at_commands.specs.Answered.{AnsweredReplay};
@@ -70,11 +70,11 @@ fn replay_report(
 ) -> Result<Vec<u8>, AllocError>
     requires names { AreNamesOf book.now names.now }
     requires count { length files.items ≡ book.now.processes }
-    requires known { All (IsPlayable (length book.now.accounts)) (files_in files.items) }
+    requires known { All (IsPlayable (length book.now.accounts)) (contents_of files.items) }
     requires schedule { All (λ process. process < book.now.processes) schedule.now }
     ensures { IfOk result
         (λ text. ReportsReplay
-        (record { book = book.now; names = names.now; files = files_in files.items })
+        (record { book = book.now; names = names.now; files = contents_of files.items })
         text.items) }
 {
     let replayed = replay(alloc, book, files, schedule)?;
@@ -90,7 +90,7 @@ fn replayed_text(
 ) -> Result<Vec<u8>, AllocError>
     requires names { AreNamesOf loaded.book loaded.names }
     requires count { length loaded.files.items ≡ loaded.book.processes }
-    requires known { All (IsPlayable (length loaded.book.accounts)) (files_in loaded.files.items) }
+    requires known { All (IsPlayable (length loaded.book.accounts)) (contents_of loaded.files.items) }
     requires schedule { All (λ process. process < loaded.book.processes) schedule.now }
     ensures { IfOk result (λ text. ReportsReplay (loaded_shown loaded) text.items) }
 {

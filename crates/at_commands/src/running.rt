@@ -3,6 +3,7 @@
 ghost use Rattle.std.specs.Prelude.{◌≡◌, ◌≢◌, ◌≤◌, ℕ, All, length, sum_by, true, None, Err, IfOk, IfErr, OnOk};
 ghost use Rattle.at_commands.specs.Answer.{Prints, PrintsSpelled};
 ghost use Rattle.at_commands.specs.Answered.{AnsweredFiles};
+ghost use Rattle.at_files.specs.Files.{IsPlayable, contents_of};
 ghost use Rattle.at_files.specs.Names.{AreNamesOf};
 ghost use Rattle.at_io.specs.Faults.{Rose};
 ghost use Rattle.at_io.specs.Shelf.{SameFiles};
@@ -10,17 +11,15 @@ ghost use Rattle.at_loading.specs.Faults.{HasFileNumbers, MayRefuse};
 ghost use Rattle.at_loading.specs.Loading.{Loaded, MayReach, loaded};
 ghost use Rattle.at_loading.specs.Words.{form_shown};
 ghost use Rattle.at_report.specs.Report.{checked_line};
-ghost use Rattle.at_verify.specs.Right.{IsPlayable, files_in};
 
 use crate::ending::{Printed, end_keeping};
-use crate::playing::{journal_of, play};
-use at_files::Names;
+use crate::playing::play;
+use at_files::{Names, count_calls};
 use at_io::{Shelf, Sink};
 use at_ledger::{Book, Call};
 use at_loading::{Command, Form, load};
 use at_object::Closed;
 use at_report::{Status, checked_text, report};
-use at_verify::count_calls;
 use at_workers::Gate;
 use std::alloc::{AllocError, Global};
 use std::thread::Threads;
@@ -36,13 +35,12 @@ fn run_text<R: Threads + Sync, G: Gate + Sync>(
 ) -> Result<Printed, AllocError>
     requires names { AreNamesOf book.now names.now }
     requires count { length files.items ≡ book.now.processes }
-    requires known { All (IsPlayable (length book.now.accounts)) (files_in files.items) }
+    requires known { All (IsPlayable (length book.now.accounts)) (contents_of files.items) }
     ensures { IfOk result (λ p. Prints Command.Run
-        (record { book = book.now; names = names.now; files = files_in files.items })
+        (record { book = book.now; names = names.now; files = contents_of files.items })
         p.closed p.text.items) }
 {
-    let closed = play(rt, alloc, book, files, gate)?;
-    let lines = journal_of(alloc, &closed)?;
+    let (closed, lines) = play(rt, alloc, book, files, gate)?;
     let text = report(alloc, book, names, lines.as_slice())?;
     Ok(Printed {
         text,
@@ -53,10 +51,10 @@ fn run_text<R: Threads + Sync, G: Gate + Sync>(
 /// The line of how many calls the files have.
 fn check_text(alloc: Global, book: &Book, files: &[Vec<Call>]) -> Result<Printed, AllocError>
     requires count { length files.now ≡ book.now.processes }
-    requires known { All (IsPlayable (length book.now.accounts)) (files_in files.now) }
+    requires known { All (IsPlayable (length book.now.accounts)) (contents_of files.now) }
     ensures none { IfOk result (λ p. p.closed ≡ None) }
     ensures text { IfOk result
-        (λ p. p.text.items ≡ checked_line book.now (sum_by length (files_in files.now))) }
+        (λ p. p.text.items ≡ checked_line book.now (sum_by length (contents_of files.now))) }
 {
     let _known = book.accounts();
     let text = checked_text(alloc, book, count_calls(files))?;
@@ -75,9 +73,9 @@ fn text_of<R: Threads + Sync, G: Gate + Sync>(
 ) -> Result<Printed, AllocError>
     requires names { AreNamesOf book.now names.now }
     requires count { length files.items ≡ book.now.processes }
-    requires known { All (IsPlayable (length book.now.accounts)) (files_in files.items) }
+    requires known { All (IsPlayable (length book.now.accounts)) (contents_of files.items) }
     ensures { IfOk result (λ p. Prints command
-        (record { book = book.now; names = names.now; files = files_in files.items })
+        (record { book = book.now; names = names.now; files = contents_of files.items })
         p.closed p.text.items) }
 {
     match command {

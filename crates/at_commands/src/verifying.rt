@@ -1,22 +1,23 @@
 //! What `verify` says of a report.
 
 ghost use Rattle.std.specs.Prelude.{◌≡◌, ◌≢◌, ◌≤◌, ℕ, All, length, true, None, Err, IfOk, IfErr, OnOk};
+ghost use Rattle.at_files.specs.Files.{IsPlayable, contents_of};
 ghost use Rattle.at_files.specs.Names.{AreNamesOf};
 ghost use Rattle.at_io.specs.Faults.{Rose};
 ghost use Rattle.at_io.specs.Limits.{most_file_bytes};
 ghost use Rattle.at_io.specs.Shelf.{SameFiles};
-ghost use Rattle.at_verify.specs.Right.{IsPlayable, files_in};
 ghost use Rattle.at_loading.specs.Faults.{HasFurtherNumbers};
 ghost use Rattle.at_commands.specs.Answered.{AnsweredVerify};
 ghost use Rattle.at_commands.specs.Claims.{MayReachClaim, MayRefuseClaim, RefusesClaim, Verifies, VerifiesSpelled, claim_shown, claimed};
 ghost use Rattle.at_loading.specs.Words.{verifying_shown};
 
 use crate::ending::end;
+use at_files::count_calls;
 use at_io::{Shelf, Sink};
 use at_ledger::Call;
 use at_loading::{Loaded, Verifying, fetch_file, load};
 use at_report::{Status, verified_text};
-use at_verify::{Verdict, count_calls, verify};
+use at_verify::{Verdict, verify};
 use std::alloc::Global;
 
 /// What is printed of a report of a run of the files, or its first wrong line.
@@ -24,7 +25,7 @@ fn verdict_text(alloc: Global, loaded: &Loaded<Call>, report: &[u8]) -> Result<V
     requires names { AreNamesOf loaded.now.book loaded.now.names }
     requires count { length loaded.now.files.items ≡ loaded.now.book.processes }
     requires known { All (IsPlayable (length loaded.now.book.accounts))
-        (files_in loaded.now.files.items) }
+        (contents_of loaded.now.files.items) }
     requires size { length report.now ≤ most_file_bytes }
     ensures verifies { IfOk result (λ text. Verifies
         (claim_shown loaded.now report.now) text.items) }

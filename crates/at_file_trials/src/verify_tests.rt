@@ -1,8 +1,8 @@
 //! Reports, right ones and forged ones, with what is said of them.
 
 ghost use Rattle.std.specs.Prelude.{◌≡◌, All, IfSome, length};
+ghost use Rattle.at_files.specs.Files.{IsPlayable, contents_of};
 ghost use Rattle.at_files.specs.Names.{AreNamesOf};
-ghost use Rattle.at_verify.specs.Right.{IsPlayable, files_in};
 
 use crate::test_files::{BookFile, NAMED, ONE_PROCESS, book_of};
 use at_files::{Names, read_payments};
@@ -42,7 +42,7 @@ fn files_of(
     requires { AreNamesOf book.now names.now }
     ensures processes { IfSome result (λ files. length files.items ≡ book.now.processes) }
     ensures files { IfSome result (λ files. All (IsPlayable (length book.now.accounts))
-        (files_in files.items)) }
+        (contents_of files.items)) }
 {
     let mut files = Vec::new(alloc);
     for process in 0..book.processes() {
@@ -62,7 +62,7 @@ fn files_of(
 fn verdict_of(alloc: Global, file: &BookFile, files: &[Vec<Call>], report: &[u8]) -> Option<Verdict>
     requires names { AreNamesOf file.now.book file.now.names }
     requires processes { length files.now ≡ file.now.book.processes }
-    requires files { All (IsPlayable (length file.now.book.accounts)) (files_in files.now) }
+    requires files { All (IsPlayable (length file.now.book.accounts)) (contents_of files.now) }
 {
     if report.len() > TEXT_MAX {
         return None;

@@ -21,3 +21,4 @@ pub mod SpelledLaws
 pub mod DeliveryLaws
 pub mod ScheduleLaws
 pub mod MessageLaws
+pub mod FileLists

@@ -9,6 +9,7 @@ mod book_fault;
 mod calls;
 mod deliveries;
 mod fields;
+mod files;
 mod first_records;
 mod messages;
 mod name_set;
@@ -26,6 +27,7 @@ pub use crate::book_fault::{BadBook, BookWhy, ReadBookFault};
 pub use crate::deliveries::{
     BadOrder, DELIVERIES_MAX, Delivery, OrderWhy, ReadOrderFault, read_deliveries,
 };
+pub use crate::files::count_calls;
 pub use crate::messages::{BadMessages, MessagesWhy, ReadMessagesFault, read_messages};
 pub use crate::names::Names;
 pub use crate::payments::read_payments;

@@ -1,9 +1,9 @@
 -- What the files that the words name give, or why they are refused.
-use Rattle.std.specs.Prelude.{◌≡◌, ℕ, ◌+◌, Bool, true, ◌<◌, ◌≤◌, ◌==◌, ⊤, List, [], ◌∷◌, zero, suc, length, map, take, nat_lt, slice_index_or, Option, Some, None, Result, Ok, Err, if◌then◌else◌, Vec}
-use Rattle.std.specs.Global.{Global}
+use Rattle.std.specs.Prelude.{◌≡◌, ℕ, ◌+◌, Bool, true, ◌<◌, ◌≤◌, ◌==◌, ⊤, List, [], ◌∷◌, zero, suc, length, take, nat_lt, slice_index_or, Option, Some, None, Result, Ok, Err, if◌then◌else◌}
 use Rattle.at_broadcast.specs.declared.message.Message.{Message}
 use Rattle.at_ledger.specs.Book.{BookTerms}
 use Rattle.at_ledger.specs.declared.call.Call.{Call}
+use Rattle.at_files.specs.Files.{contents_of}
 use Rattle.at_files.specs.Records.{file_records}
 use Rattle.at_files.specs.Results.{and_then}
 use Rattle.at_files.specs.Names.{NameList}
@@ -21,7 +21,6 @@ use Rattle.at_report.specs.declared.status.Status.{Status}
 use Rattle.at_report.specs.declared.status.Status.TheVariants as status
 use Rattle.at_report.specs.declared.status.UsageFault.TheVariants as usage
 use Rattle.at_report.specs.Lines.{Word}
-use Rattle.at_verify.specs.Right.{files_in}
 use Rattle.at_loading.specs.Words.{Form}
 use Rattle.at_loading.specs.declared.loading.Loaded as program
 
@@ -202,14 +201,6 @@ pub record SpelledOf {T : Type 0} (spells : Spelling T) (held : Files) (name : W
 abbrev pub Spelled : Files → Form → Loaded → Type 0
 Spelled files form l = SpelledOf PaysBytes files form.book form.payments l
 
--- what each file gave, as the program holds it
-abbrev pub contents_of : {T : Type 0} → List (Vec T Global) → List (List T)
-contents_of files = map (λ file. file.items) files
-
 -- what was loaded, as the program holds it
-abbrev pub all_shown : {T : Type 0} → program.Loaded T → LoadedOf T
-all_shown l = record { book = l.book; names = l.names; files = contents_of l.files.items }
-
--- the same of calls
-abbrev pub loaded_shown : program.Loaded Call → Loaded
-loaded_shown l = record { book = l.book; names = l.names; files = files_in l.files.items }
+abbrev pub loaded_shown : {T : Type 0} → program.Loaded T → LoadedOf T
+loaded_shown l = record { book = l.book; names = l.names; files = contents_of l.files.items }

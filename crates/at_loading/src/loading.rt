@@ -2,13 +2,13 @@
 
 ghost use Rattle.std.specs.Prelude.{◌≡◌, ℕ, ◌+◌, ◌^◌, ◌<◌, ◌≤◌, true, length, All, IfOk, IfErr, OnOk, Ok, Err};
 ghost use Rattle.at_io.specs.Shelf.{SameFiles};
+ghost use Rattle.at_files.specs.Files.{IsPlayable, contents_of};
 ghost use Rattle.at_files.specs.BookRecords.{NamedBook};
 ghost use Rattle.at_files.specs.Names.{AreNamesOf};
 ghost use Rattle.at_io.specs.Limits.{most_file_bytes};
 ghost use Rattle.at_loading.specs.Words.{words_of, form_shown};
 ghost use Rattle.at_loading.specs.Faults.{HasFileNumbers, IsUnfetched, Kind, MayRefuse, MayRefuseOf};
-ghost use Rattle.at_verify.specs.Right.{IsPlayable, files_in};
-ghost use Rattle.at_loading.specs.Loading.{EachSpells, HoldsFile, IsFileReached, IsSpelled, MayReach, MayReachOf, Spelled, SpelledOf, SpellsBook, SpellsFile, all_loaded, all_shown, book_loaded, contents_of, fetched, file_loaded, files_loaded, loaded, loaded_shown, named_book};
+ghost use Rattle.at_loading.specs.Loading.{EachSpells, HoldsFile, IsFileReached, IsSpelled, MayReach, MayReachOf, Spelled, SpelledOf, SpellsBook, SpellsFile, all_loaded, loaded_shown, book_loaded, fetched, file_loaded, files_loaded, loaded, named_book};
 
 use crate::file_forms::{FileForm, Payments};
 use crate::words::Form;
@@ -197,11 +197,11 @@ pub fn load_all<F: Shelf, P: FileForm>(
     ensures ok { F.tells shelf.old ≡ true
         → IfOk result
         (λ l. all_loaded P.given (F.file shelf.old) name.now (words_of words.now) ≡ Ok
-        (all_shown l)) }
+        (loaded_shown l)) }
     ensures spelled { F.tells shelf.old ≡ true
         → IfOk result
         (λ l. SpelledOf P.spells (F.file shelf.old) name.now (words_of words.now)
-        (all_shown l)) }
+        (loaded_shown l)) }
     ensures names { IfOk result (λ l. AreNamesOf l.book l.names) }
     ensures known { IfOk result
         (λ l. All (IsSpelled (P.spells (named_book l.book l.names)))
@@ -244,7 +244,7 @@ pub fn load<F: Shelf>(alloc: Global, shelf: &mut F, form: &Form<'_>) -> Result<L
         → IfOk result (λ l. Spelled (F.file shelf.old) (form_shown form.now) (loaded_shown l)) }
     ensures names { IfOk result (λ l. AreNamesOf l.book l.names) }
     ensures known { IfOk result
-        (λ l. All (IsPlayable (length l.book.accounts)) (files_in l.files.items)) }
+        (λ l. All (IsPlayable (length l.book.accounts)) (contents_of l.files.items)) }
     ensures count { IfOk result (λ l. length l.files.items ≡ l.book.processes) }
     ensures given { IfOk result (λ l. length form.now.payments.now ≡ l.book.processes) }
     ensures err { IfErr result

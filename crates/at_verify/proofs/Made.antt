@@ -1,39 +1,15 @@
--- How many calls each process has made, and how many the files have.
-use Rattle.std.proofs.Common.{◌≡◌, ℕ, zero, suc, ◌+◌, ◌<◌, ◌≤◌, ◌==◌, Bool, true, false, ◌⊎◌, ⊎_elim, List, [], ◌∷◌, length, take, get_or, sum, sum_by, All, Vec, refl, sym, ap, subst, ◌∙◌, arith}
-use Rattle.std.specs.Global.{Global}
-use Rattle.std.proofs.lemmas.List.{get_or-map, get_or-set_other, get_or-set_same, length-map, length-set}
-use Rattle.std.proofs.lemmas.List.Sums.{sum_by-cons, sum_by-set, sum_by_more}
+-- How many calls each process has made.
+use Rattle.std.proofs.Common.{◌≡◌, ℕ, zero, suc, ◌+◌, ◌<◌, ◌≤◌, ◌==◌, Bool, true, false, ◌⊎◌, ⊎_elim, List, [], ◌∷◌, length, get_or, sum, sum_by, All, refl, sym, subst, ◌∙◌, arith}
+use Rattle.std.proofs.lemmas.List.{get_or-set_other, get_or-set_same, length-set}
+use Rattle.std.proofs.lemmas.List.Sums.{sum_by-cons, sum_by-set}
 use Rattle.std.proofs.lemmas.Bool.Decides.{Decides-eqb}
 use Rattle.std.proofs.lemmas.Option.{get_or_from_slice_get, slice_get_within}
+use Rattle.at_files.specs.Files.{IsPlayable}
 use Rattle.at_ledger.specs.Call.{IsCallOn}
 use Rattle.at_ledger.specs.declared.call.Call.{Call}
 use Rattle.at_ledger.specs.declared.call.Line.{Line}
 use Rattle.at_ledger.specs.State.{LedgerState}
-use Rattle.at_verify.specs.Right.{IsPlayable, files_in}
 use Rattle.at_verify.specs.Walk.{AreWithinFiles, IsNextOfProcess, with_made}
-
--- a file as the program holds it
-pub get_or-files_in : (files : List (Vec Call Global)) (i : ℕ) (file : Vec Call Global) → i < length files → file ≡ get_or files i file
-    → file.items ≡ get_or (files_in files) i []
-get_or-files_in files i file within is =
-    ap (λ (f : Vec Call Global). f.items) is ∙ sym (get_or-map (λ (f : Vec Call Global). f.items) files i file [] within)
-
-pub length-files_in : (files : List (Vec Call Global)) → length (files_in files) ≡ length files
-length-files_in files = rw length-map refl
-
--- a file has not too many calls
-pub few_calls : (files : List (Vec Call Global)) (i : ℕ) (file : Vec Call Global) → i < length files → file ≡ get_or files i file
-    → All (λ (calls : List Call). length calls ≤ 16384) (files_in files) → length file.items ≤ 16384
-few_calls files i file within is few =
-    let inside : i < length (files_in files) = rw length-map within in
-    rw (get_or-files_in files i file within is) (few i [] inside)
-
-pub sum_by-files_in_more : (files : List (Vec Call Global)) (i : ℕ) (file : Vec Call Global) → i < length files → file ≡ get_or files i file
-    → sum_by (length {A = Call}) (take i (files_in files)) + length file.items ≡ sum_by (length {A = Call}) (take (i + 1) (files_in files))
-sum_by-files_in_more files i file within is =
-    let inside : i < length (files_in files) = rw length-map within in
-    ap (λ (n : ℕ). sum_by (length {A = Call}) (take i (files_in files)) + n) (ap (length {A = Call}) (get_or-files_in files i file within is))
-    ∙ sym (sum_by_more (length {A = Call}) (files_in files) i [] inside)
 
 -- the first file, and the others
 AreWithinFiles-tail : (file : List Call) (files : List (List Call)) (n : ℕ) (made : List ℕ) → AreWithinFiles (file ∷ files) (n ∷ made) → AreWithinFiles files made

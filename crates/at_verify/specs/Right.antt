@@ -1,24 +1,12 @@
 -- Which texts are reports of a run of some files, and up to which line another text is right.
-use Rattle.std.specs.Prelude.{◌≡◌, ℕ, zero, suc, ◌<◌, ◌≤◌, ◌==◌, List, [], ◌++◌, length, count_by, map, All, Vec}
-use Rattle.std.specs.Global.{Global}
+use Rattle.std.specs.Prelude.{◌≡◌, ℕ, zero, suc, ◌<◌, ◌==◌, List, [], ◌++◌, length, count_by}
 use Rattle.std.specs.Io.BufRead.{drop_through, take_through}
 use Rattle.at_ledger.specs.Book.{BookTerms}
-use Rattle.at_ledger.specs.Call.{IsCallOn}
 use Rattle.at_ledger.specs.Run.{Legal, Whole}
 use Rattle.at_ledger.specs.declared.call.Call.{Call}
 use Rattle.at_ledger.specs.declared.call.Line.{Line}
-use Rattle.at_files.specs.Limits.{most_calls}
 use Rattle.at_files.specs.Names.{NameList}
 use Rattle.at_report.specs.Report.{report_text}
-
--- the calls of each file, as the program holds them
-abbrev pub files_in : List (Vec Call Global) → List (List Call)
-files_in files = map (λ (file : Vec Call Global). file.items) files
-
--- the calls of a file name accounts that are there, and are not too many
-pub record IsPlayable (accounts : ℕ) (calls : List Call) : Type 0 where
-  pub known : All (IsCallOn accounts) calls
-  pub few : length calls ≤ most_calls
 
 -- the first lines of a text: a line is its bytes up to and with a newline, and the bytes after the last one are a line too
 unfoldable pub first_lines : ℕ → List ℕ → List ℕ

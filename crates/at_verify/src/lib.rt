@@ -8,6 +8,5 @@ mod comparing;
 mod stepping;
 mod verifying;
 
-pub use crate::stepping::count_calls;
 pub use crate::verifying::{TEXT_MAX, Verdict, verify};
 pub use at_base::NoMemory;

@@ -1,30 +1,17 @@
-//! The calls of the files, and the line of the journal that can come next.
+//! The line of the journal that can come next.
 
 ghost use Rattle.std.specs.Prelude.{◌≡◌, ℕ, ◌<◌, ◌≤◌, All, IfSome, Some, length, sum_by};
 ghost use Rattle.at_ledger.specs.State.{step};
 ghost use Rattle.at_ledger.specs.declared.call.Line.{Line};
+ghost use Rattle.at_files.specs.Files.{IsPlayable, contents_of};
 ghost use Rattle.at_files.specs.Names.{AreNamesOf, process_name};
 ghost use Rattle.at_report.specs.Lines.{IsFirstWord, IsWord};
-ghost use Rattle.at_verify.specs.Right.{IsPlayable, files_in};
 ghost use Rattle.at_verify.specs.Walk.{AreWithinFiles, IsNextOfProcess, with_made};
 
 use at_base::Counts;
 use at_files::Names;
 use at_ledger::{Book, Call, Line, State};
 use at_report::process_of;
-
-/// How many calls the files have together.
-pub fn count_calls(files: &[Vec<Call>]) -> u32
-    requires processes { length files.now ≤ 16 }
-    requires calls { All (λ calls. length calls ≤ 16384) (files_in files.now) }
-    ensures { result ≡ sum_by length (files_in files.now) }
-{
-    let mut calls = 0;
-    for file in files {
-        calls += file.len() as u32;
-    }
-    calls
-}
 
 /// The next line of the process that the text names first, if it has a call left. The call is made, and counted.
 pub(crate) fn next_line(
@@ -37,13 +24,13 @@ pub(crate) fn next_line(
 ) -> Option<Line>
     requires names { AreNamesOf book.now names.now }
     requires processes { length files.now ≡ book.now.processes }
-    requires files { All (IsPlayable (length book.now.accounts)) (files_in files.now) }
+    requires files { All (IsPlayable (length book.now.accounts)) (contents_of files.now) }
     requires book { state.old.book ≡ book.now }
-    requires made { AreWithinFiles (files_in files.now) made.old }
-    ensures next { IfSome result (λ l. IsNextOfProcess (files_in files.now) state.old made.old l) }
+    requires made { AreWithinFiles (contents_of files.now) made.old }
+    ensures next { IfSome result (λ l. IsNextOfProcess (contents_of files.now) state.old made.old l) }
     ensures state { IfSome result (λ l. state.new ≡ (step state.old l.process l.call).ledger) }
     ensures made { IfSome result (λ l. made.new ≡ with_made made.old l.process) }
-    ensures only { (l : Line) → IsNextOfProcess (files_in files.now) state.old made.old l
+    ensures only { (l : Line) → IsNextOfProcess (contents_of files.now) state.old made.old l
         → IsFirstWord (process_name names.now l.process) text.now → result ≡ Some l }
     ensures words { (p : ℕ) → p < length files.now → IsWord (process_name names.now p) }
     ensures book { state.new.book ≡ book.now }

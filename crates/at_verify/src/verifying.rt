@@ -1,15 +1,16 @@
 //! Whether a text is the report of a run.
 
 ghost use Rattle.std.specs.Prelude.{◌≡◌, ◌≤◌, ℕ, All, IfOk, Ok, Some, None, length, sum_by};
+ghost use Rattle.at_files.specs.Files.{IsPlayable, contents_of};
 ghost use Rattle.at_files.specs.Names.{AreNamesOf};
-ghost use Rattle.at_verify.specs.Right.{IsFirstWrong, IsPlayable, IsReport, IsReportOf, files_in};
+ghost use Rattle.at_verify.specs.Right.{IsFirstWrong, IsReport, IsReportOf};
 ghost use Rattle.at_verify.specs.Walk.{AreWithinFiles, PartsAt};
 
 use crate::NoMemory;
 use crate::comparing::{common, newlines};
-use crate::stepping::{count_calls, next_line};
+use crate::stepping::next_line;
 use at_base::Counts;
-use at_files::Names;
+use at_files::{Names, count_calls};
 use at_ledger::{Book, Call, State};
 use at_report::{push_audit, push_heading, push_line};
 use std::alloc::Global;
@@ -37,10 +38,10 @@ fn parting(
 ) -> Result<Option<usize>, NoMemory>
     requires names { AreNamesOf book.now names.now }
     requires processes { length files.now ≡ book.now.processes }
-    requires files { All (IsPlayable (length book.now.accounts)) (files_in files.now) }
-    ensures report { result ≡ Ok None → IsReport book.now names.now (files_in files.now) text.now }
+    requires files { All (IsPlayable (length book.now.accounts)) (contents_of files.now) }
+    ensures report { result ≡ Ok None → IsReport book.now names.now (contents_of files.now) text.now }
     ensures parts { (n : ℕ) → result ≡ Ok (Some n)
-        → PartsAt book.now names.now (files_in files.now) text.now n }
+        → PartsAt book.now names.now (contents_of files.now) text.now n }
 {
     let mut state = State::new(alloc, book)?;
     let mut made = Counts::zeros(book.processes());
@@ -85,17 +86,17 @@ pub fn verify(
 ) -> Result<Verdict, NoMemory>
     requires names { AreNamesOf book.now names.now }
     requires processes { length files.now ≡ book.now.processes }
-    requires files { All (IsPlayable (length book.now.accounts)) (files_in files.now) }
+    requires files { All (IsPlayable (length book.now.accounts)) (contents_of files.now) }
     requires size { length text.now ≤ TEXT_MAX }
     ensures sound { result ≡ Ok Verdict.Yes
-        → IsReport book.now names.now (files_in files.now) text.now }
+        → IsReport book.now names.now (contents_of files.now) text.now }
     ensures lines { result ≡ Ok Verdict.Yes
-        → IsReportOf book.now names.now (files_in files.now) (sum_by length (files_in files.now))
+        → IsReportOf book.now names.now (contents_of files.now) (sum_by length (contents_of files.now))
         text.now }
-    ensures complete { IsReport book.now names.now (files_in files.now) text.now → (line : ℕ)
+    ensures complete { IsReport book.now names.now (contents_of files.now) text.now → (line : ℕ)
         → result ≡ Ok (Verdict.No line) → ⊥ }
     ensures first { (line : ℕ) → result ≡ Ok (Verdict.No line)
-        → IsFirstWrong book.now names.now (files_in files.now) text.now line }
+        → IsFirstWrong book.now names.now (contents_of files.now) text.now line }
 {
     let parts = parting(alloc, book, names, files, text)?;
     match parts {

@@ -1,5 +1,6 @@
 -- What the files of `replay` hold, one after another.
 use Rattle.std.proofs.Common.{◌≡◌, ℕ, ◌≤◌, ◌^◌, List, length, All, Ok, Err, refl, arith}
+use Rattle.at_files.specs.Files.{IsPlayable}
 use Rattle.at_files.specs.BookRecords.{NamedBook}
 use Rattle.at_files.specs.Records.{file_records}
 use Rattle.at_files.proofs.ScheduleLaws.{schedule_of-Schedules}
@@ -10,7 +11,6 @@ use Rattle.at_ledger.specs.declared.call.Call.{Call}
 use Rattle.at_ledger.specs.declared.call.Line.{Line}
 use Rattle.at_report.specs.Report.{report_text}
 use Rattle.at_report.specs.declared.status.Status.{Status}
-use Rattle.at_verify.specs.Right.{IsPlayable}
 use Rattle.at_loading.specs.Loading.{Files, IsSpelled, Loaded, PaysReplayBytes, replay_calls_given}
 use Rattle.at_commands.specs.Replaying.{Replay, ReportsReplay, SpellsReplay, calls_loaded, replay_loaded, schedule_loaded, schedule_number}
 use Rattle.at_loading.specs.Words.{Replaying}

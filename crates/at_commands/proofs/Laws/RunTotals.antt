@@ -1,14 +1,10 @@
 -- Runs of calls that name accounts of the book: the lines of whole files are such a run, and no call changes the total.
-use Rattle.std.proofs.Common.{◌≡◌, ℕ, ◌-◌, ◌<◌, ◌≤◌, ◌==◌, not, ltb, Bool, true, false, cond, List, [], ◌∷◌, length, set, map, sum, All, refl, sym, ap, subst, ◌∙◌, arith, eq-eqb, Ok, Err, Result, Vec}
-use Rattle.std.specs.Global.{Global}
-use Rattle.std.specs.declared.alloc.AllocError.{AllocError}
-use Rattle.std.specs.Result.{IfOk}
+use Rattle.std.proofs.Common.{◌≡◌, ℕ, ◌-◌, ◌<◌, ◌≤◌, ◌==◌, not, ltb, Bool, true, false, cond, List, [], ◌∷◌, length, set, map, sum, All, refl, sym, subst, ◌∙◌, arith, eq-eqb}
 use Rattle.std.proofs.lemmas.Bool.{ltb-false}
 use Rattle.std.proofs.lemmas.List.{length-map, length-set}
 use Rattle.std.proofs.lemmas.List.Elements.{All-cons, All-head, All-nil, All-tail}
 use Rattle.std.proofs.lemmas.List.Sums.{sum-map, sum_by-set}
 use Rattle.at_history.proofs.Laws.Payments.{length-credited, sum-credited}
-use Rattle.at_journal.specs.Calls.{calls_in}
 use Rattle.at_ledger.specs.Account.{is_shared}
 use Rattle.at_ledger.specs.Book.{BookTerms, account_of, is_owner, total_of}
 use Rattle.at_ledger.specs.Call.{AreTargetsOn, IsCallOn, IsLineOn, TargetPair, amount_of}
@@ -18,11 +14,6 @@ use Rattle.at_ledger.specs.declared.call.Call.{Call}
 use Rattle.at_ledger.specs.declared.call.Call.TheVariants.{Pay, Read, Transfer}
 use Rattle.at_ledger.specs.declared.call.Line.{Line}
 use Rattle.at_ledger.specs.declared.call.Reply.TheVariants.{Done, Full, NotOwner, Short}
-use Rattle.at_log.specs.ClosingTerms.{ClosingTerms}
-use Rattle.at_log.specs.JournalOrder.{journal_lines}
-use Rattle.at_object.specs.Closings.{ClosedTerms}
-use Rattle.at_commands.specs.Running.{journal_of}
-use Rattle.at_verify.specs.Right.{IsPlayable}
 
 -- the lines of a whole list name accounts of the book, where all calls of the files do
 
@@ -122,29 +113,3 @@ pub sum-last_state : (b : BookTerms) (processes : ℕ) (lines : List Line) → A
 sum-last_state b processes lines known =
     (IsSummed-lines b processes (opening_state b) lines
     (record { book = refl; accounts = length-map b.accounts (λ t. t.opening); total = sum-map (λ t. t.opening) b.accounts }) known).total
-
--- the lines of a closed ledger's journal, where there is memory for it
-
-IsLineOn-journal_of : (closed : ClosedTerms) (closing : ClosingTerms) (lines : List Line) → closing ≡ closed.closing
-    → length (calls_in closed.closing) ≡ closed.book.processes → All (IsPlayable (length closed.book.accounts)) (calls_in closed.closing)
-    → lines ≡ journal_lines closing → Whole (calls_in closing) lines → All (IsLineOn closed.book.processes (length closed.book.accounts)) (journal_of closed)
-IsLineOn-journal_of closed closing lines is count known lines_are whole =
-    let here : lines ≡ journal_of closed = lines_are ∙ ap journal_lines is in
-    IsLineOn-Whole (length closed.book.accounts) closed.book.processes (calls_in closed.closing) (journal_of closed)
-    (subst (Whole (calls_in closed.closing)) here (subst (λ (c : ClosingTerms). Whole (calls_in c) lines) is whole)) count
-    (λ p d within. (known p d within).known)
-
-pub IsLineOn-journal : (result : Result (Vec Line Global) AllocError) (closed : ClosedTerms) (closing : ClosingTerms) → closing ≡ closed.closing
-    → length (calls_in closed.closing) ≡ closed.book.processes → All (IsPlayable (length closed.book.accounts)) (calls_in closed.closing)
-    → IfOk result (λ lines. lines.items ≡ journal_lines closing) → IfOk result (λ lines. Whole (calls_in closing) lines.items)
-    → IfOk result (λ _. All (IsLineOn closed.book.processes (length closed.book.accounts)) (journal_of closed))
-IsLineOn-journal (Ok lines) closed closing is count known lines_are whole = IsLineOn-journal_of closed closing lines.items is count known lines_are whole
-IsLineOn-journal (Err error) closed closing is count known lines_are whole = tt
-
-pub sum-journal : (result : Result (Vec Line Global) AllocError) (closed : ClosedTerms) (closing : ClosingTerms) → closing ≡ closed.closing
-    → length (calls_in closed.closing) ≡ closed.book.processes → All (IsPlayable (length closed.book.accounts)) (calls_in closed.closing)
-    → IfOk result (λ lines. lines.items ≡ journal_lines closing) → IfOk result (λ lines. Whole (calls_in closing) lines.items)
-    → IfOk result (λ _. sum (last_state closed.book (journal_of closed)).balances ≡ total_of closed.book)
-sum-journal (Ok lines) closed closing is count known lines_are whole =
-    sum-last_state closed.book closed.book.processes (journal_of closed) (IsLineOn-journal_of closed closing lines.items is count known lines_are whole)
-sum-journal (Err error) closed closing is count known lines_are whole = tt

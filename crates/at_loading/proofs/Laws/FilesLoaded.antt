@@ -1,8 +1,8 @@
 -- Files loaded one after another.
-use Rattle.std.proofs.Common.{◌≡◌, ℕ, ◌+◌, ◌<◌, List, [], ◌∷◌, ◌++◌, length, take, drop, get_or, Result, Ok, Err, Bool, true, false, ◌==◌, eq-eqb, refl, sym, ap, ◌∙◌, arith, suc, ◌⊎◌, inl, inr, length-append, String, string_bytes, Vec}
+use Rattle.std.proofs.Common.{◌≡◌, ℕ, ◌+◌, ◌<◌, List, [], ◌∷◌, ◌++◌, length, take, drop, get_or, Result, Ok, Err, Bool, true, false, ◌==◌, eq-eqb, refl, sym, ap, ◌∙◌, arith, suc, ◌⊎◌, inl, inr, length-append, String, string_bytes}
 use Rattle.std.specs.Global.{Global}
 use Rattle.std.proofs.lemmas.Bool.Decides.{nat_tests}
-use Rattle.std.proofs.lemmas.List.{take_more, take-append-drop, length-map, length-take-le, get_or-map, map-append}
+use Rattle.std.proofs.lemmas.List.{take_more, take-append-drop, length-take-le, get_or-map}
 use Rattle.std.proofs.Math.Seq.{drop-cons, get_or-append_seam}
 use Rattle.std.proofs.Math.ListN.{get_or-append}
 use Rattle.std.proofs.Math.Nat.{eq-or-lt_of_le}
@@ -13,7 +13,7 @@ use Rattle.at_report.specs.declared.status.Status.TheVariants as status
 use Rattle.at_report.specs.declared.status.UsageFault.TheVariants as usage
 use Rattle.at_report.specs.Lines.{Word}
 use Rattle.at_loading.specs.Words.{words_of}
-use Rattle.at_loading.specs.Loading.{EachSpells, Files, Giving, IsFileReached, MayReachOf, SpellsFile, all_loaded, book_loaded, contents_of, file_first, file_loaded, files_loaded}
+use Rattle.at_loading.specs.Loading.{EachSpells, Files, Giving, IsFileReached, MayReachOf, SpellsFile, all_loaded, book_loaded, file_first, file_loaded, files_loaded}
 
 -- what files that were loaded come of: the first, and the others
 record AreParts {T : Type 0} (r : Result (List T) Status) (rest : Result (List (List T)) Status) (loaded : List (List T)) : Type 0 where
@@ -115,21 +115,6 @@ get_or-words_of payments i name within is = get_or-map string_bytes payments i n
 -- equal lists are as long
 pub same_length : {T : Type 0} (xs ys : List T) → xs ≡ ys → length xs ≡ length ys
 same_length {T} xs ys same = ap (λ (list : List T). length list) same
-
--- what no file gave
-pub contents_of-nil : {T : Type 0} (files : List (Vec T Global)) → files ≡ [] → contents_of files ≡ []
-contents_of-nil files none = rw none refl
-
-pub length-contents_of : {T : Type 0} (files : List (Vec T Global)) → length (contents_of files) ≡ length files
-length-contents_of {T} files = length-map files (λ (f : Vec T Global). f.items)
-
--- what one more file gave
-pub contents_of-push : {T : Type 0} (files : List (Vec T Global)) (file : Vec T Global) → contents_of (files ++ file ∷ []) ≡ contents_of files ++ file.items ∷ []
-contents_of-push {T} files file = map-append (λ (f : Vec T Global). f.items) files (file ∷ [])
-
--- what all files gave, after one more of them
-pub contents_of-pushed : {T : Type 0} (files before : List (Vec T Global)) (file : Vec T Global) → files ≡ before ++ file ∷ [] → contents_of files ≡ contents_of before ++ file.items ∷ []
-contents_of-pushed files before file is = rw is (contents_of-push before file)
 
 -- what stands before a process's file that was reached is good
 pub MayReach-file : {T : Type 0} (given : NamedBook → Giving T) (tells : Bool) (files : Files) (name : Word) (words : List Word) (b : NamedBook) (file : ℕ)

@@ -3,6 +3,7 @@ use Rattle.std.proofs.Common.{◌≡◌, ℕ, ◌+◌, ◌<◌, List, [], ◌∷
 use Rattle.std.proofs.lemmas.Bool.Decides.{nat_tests}
 use Rattle.at_ledger.specs.Book.{BookTerms, IsBook}
 use Rattle.at_ledger.specs.declared.call.Call.{Call}
+use Rattle.at_files.specs.Files.{IsPlayable, contents_of}
 use Rattle.at_files.specs.BookRecords.{NamedBook}
 use Rattle.at_files.specs.Messages.{messages_spelled}
 use Rattle.at_files.specs.Names.{AreNamesOf, NameList}
@@ -18,8 +19,7 @@ use Rattle.at_io.specs.Limits.{most_file_bytes}
 use Rattle.at_report.specs.Lines.{Word}
 use Rattle.at_loading.specs.Words.{Form}
 use Rattle.at_loading.specs.declared.loading.Loaded as program
-use Rattle.at_verify.specs.Right.{IsPlayable, files_in}
-use Rattle.at_loading.specs.Loading.{Files, Giving, HoldsFile, IsSpelled, Loaded, LoadedOf, PaysBytes, PaysReplayBytes, SendsBytes, Spelled, SpelledOf, Spelling, SpellsBook, SpellsFile, all_loaded, book_loaded, calls_given, contents_of, fetched, files_loaded, loaded, messages_given, named_book, replay_calls_given}
+use Rattle.at_loading.specs.Loading.{Files, Giving, HoldsFile, IsSpelled, Loaded, LoadedOf, PaysBytes, PaysReplayBytes, SendsBytes, Spelled, SpelledOf, Spelling, SpellsBook, SpellsFile, all_loaded, book_loaded, calls_given, fetched, files_loaded, loaded, messages_given, named_book, replay_calls_given}
 
 -- a file that is there and not too long is fetched
 pub fetched-HoldsFile : (files : Files) (name : Word) (bytes : List ℕ) (number : ℕ) → HoldsFile files name bytes → fetched (files name) number ≡ Ok bytes
@@ -86,7 +86,7 @@ loaded-Spelled files form l is = all_loaded-SpelledOf PaysBytes calls_given file
 
 -- calls that payment files spell can be played
 pub IsPlayable-spelled : {E : Type 0} (r : Result (program.Loaded Call) E) → IfOk r (λ l. All (IsSpelled (PaysBytes (named_book l.book l.names))) (contents_of l.files.items))
-    → IfOk r (λ l. All (IsPlayable (length l.book.accounts)) (files_in l.files.items))
+    → IfOk r (λ l. All (IsPlayable (length l.book.accounts)) (contents_of l.files.items))
 IsPlayable-spelled (Ok l) spelled = λ k d below.
     let pays = (spelled k d below).1 in
     record { known = pays.known; few = pays.few }

@@ -1,8 +1,9 @@
 use Rattle.std.proofs.Common.{◌≡◌, ◌∙◌, ◌+◌, length, string_bytes, inr, arith}
 use Rattle.std.proofs.lemmas.List.{length-map}
+use Rattle.at_files.specs.Files.{contents_of}
 use Rattle.at_commands.specs.Delivering.{broadcast, order_beside, order_number}
 use Rattle.at_loading.specs.Faults.Kind.{messages}
-use Rattle.at_loading.specs.Loading.{all_shown, contents_of, named_book}
+use Rattle.at_loading.specs.Loading.{loaded_shown, named_book}
 use Rattle.at_loading.specs.Words.{delivering_shown}
 use Rattle.at_commands.proofs.Laws.Deliveries.{AreSent-spelled, broadcast-beside}
 use Rattle.at_commands.proofs.LoadedTexts.{IfErr-whole, IfOk-delivers, OnOk-kept}
@@ -20,7 +21,7 @@ returns-clause-printed g c told =
     let loads = c.in-Ok.ensures in
     let words = length-map c.args.asked.now.messages.now string_bytes in
     let last : c.in-Ok.sent.book.processes + 1 ≡ order_number (delivering_shown c.args.asked.now) = omega (arith, loads.given, words) in
-    IfOk-delivers (g.F.Shelf.file c.args.shelf.now) (delivering_shown c.args.asked.now) (all_shown c.in-Ok.sent) c.ordered_text.result last (loads.ok told) (loads.spelled told)
+    IfOk-delivers (g.F.Shelf.file c.args.shelf.now) (delivering_shown c.args.asked.now) (loaded_shown c.in-Ok.sent) c.ordered_text.result last (loads.ok told) (loads.spelled told)
     (rw loads.files.files at (c.ordered_text.ensures.printed (loads.files.as_told ∙ told)))
 
 pub returns-clause-err : goal.returns-clause-err
@@ -30,8 +31,8 @@ returns-clause-err g c =
     let asked = delivering_shown c.args.asked.now in
     let words = length-map c.args.asked.now.messages.now string_bytes in
     let last : c.in-Ok.sent.book.processes + 1 ≡ order_number asked = omega (arith, loads.given, words) in
-    IfErr-whole messages _ (order_beside files (all_shown c.in-Ok.sent) asked.order) (broadcast files asked) _ _ c.ordered_text.result
-    (λ refusal told refused. broadcast-beside files asked (all_shown c.in-Ok.sent) refusal last (loads.ok told) refused)
+    IfErr-whole messages _ (order_beside files (loaded_shown c.in-Ok.sent) asked.order) (broadcast files asked) _ _ c.ordered_text.result
+    (λ refusal told refused. broadcast-beside files asked (loaded_shown c.in-Ok.sent) refusal last (loads.ok told) refused)
     (rw (loads.files.as_told, loads.files.files, loads.kept) at c.ordered_text.ensures.err)
 
 pub returns-clause-reached : goal.returns-clause-reached
@@ -40,7 +41,7 @@ returns-clause-reached g c file is =
     let number = c.ordered_text.ensures.file file is in
     let words = length-map c.args.asked.now.messages.now string_bytes in
     let last : file ≡ order_number (delivering_shown c.args.asked.now) = omega (arith, number, loads.given, words) in
-    inr (record { named = last; reached = λ told. (all_shown c.in-Ok.sent, loads.ok told) })
+    inr (record { named = last; reached = λ told. (loaded_shown c.in-Ok.sent, loads.ok told) })
 
 pub returns-clause-numbered : goal.returns-clause-numbered
 returns-clause-numbered g c =

@@ -1,9 +1,9 @@
 use Rattle.std.proofs.Common.{◌≡◌, ◌∙◌, ◌<◌, [], get_or, length, arith}
 use Rattle.std.proofs.lemmas.List.{length-set}
-use Rattle.at_loading.specs.Loading.{contents_of}
+use Rattle.at_files.specs.Files.{contents_of}
+use Rattle.at_files.proofs.FileLists.{get_or-contents_of, length-contents_of}
 use Rattle.at_commands.proofs.Laws.Deliveries.{counted_all, counted_next}
-use Rattle.at_loading.proofs.Laws.FilesLoaded.{length-contents_of, same_length}
-use Rattle.at_commands.proofs.NodesGiven.{get_or-contents_of}
+use Rattle.at_loading.proofs.Laws.FilesLoaded.{same_length}
 use Rattle.at_commands.proofs.delivering.counts_of.Goals as goal
 
 pub overflow_cast-len : goal.overflow_cast-len

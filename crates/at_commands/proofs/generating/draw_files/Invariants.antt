@@ -1,12 +1,12 @@
 use Rattle.std.proofs.Common.{◌≡◌, ◌*◌, map}
 use Rattle.std.specs.List.{range_with_len}
-use Rattle.at_verify.specs.Right.{files_in}
+use Rattle.at_files.specs.Files.{contents_of}
 use Rattle.at_commands.specs.Generator.{calls_drawn, state_after_calls}
 use Rattle.at_commands.proofs.generating.draw_files.Given as goal
 
 abbrev pub invariant-loop-process : goal.invariant-loop-process
 invariant-loop-process l = record {
-  files : files_in l.files.items
+  files : contents_of l.files.items
       ≡ map (λ p. calls_drawn l.processes p l.calls (state_after_calls l.first (p * l.calls))) (range_with_len 0 l.process);
   state : l.draws.state ≡ state_after_calls l.first (l.process * l.calls);
 }

@@ -1,9 +1,9 @@
 use Rattle.std.proofs.Common.{◌∙◌, List, Vec, ap, length, sym}
 use Rattle.std.specs.Global.{Global}
 use Rattle.std.proofs.lemmas.List.{length-map}
+use Rattle.at_files.specs.Files.{contents_of}
 use Rattle.at_ledger.specs.Book.{BookTerms}
 use Rattle.at_ledger.specs.declared.call.Call.{Call}
-use Rattle.at_verify.specs.Right.{files_in}
 use Rattle.at_commands.proofs.DrawnCalls.{IsPlayable-files_made, length-files_made}
 use Rattle.at_commands.proofs.GeneratedRuns.{AllDone-made, AllSum-made, length-book_made}
 use Rattle.at_commands.proofs.generating.generate.Goals as goal
@@ -20,10 +20,10 @@ returns-clause-known c =
 
 pub returns-clause-all_done : goal.returns-clause-all_done
 returns-clause-all_done c =
-    AllDone-made c.args.first c.args.processes c.args.calls c.in_ok-book.book (files_in c.in_ok-files.files.items)
+    AllDone-made c.args.first c.args.processes c.args.calls c.in_ok-book.book (contents_of c.in_ok-files.files.items)
     c.in_ok-book.ensures.book c.in_ok-files.ensures c.in_ok-book.ensures.checked.begun
 
 pub returns-clause-all_sum : goal.returns-clause-all_sum
 returns-clause-all_sum c =
-    AllSum-made c.args.first c.args.processes c.args.calls c.in_ok-book.book (files_in c.in_ok-files.files.items)
+    AllSum-made c.args.first c.args.processes c.args.calls c.in_ok-book.book (contents_of c.in_ok-files.files.items)
     c.in_ok-book.ensures.book c.in_ok-files.ensures c.in_ok-book.ensures.checked.begun

@@ -1,15 +1,15 @@
 use Rattle.std.proofs.Common.{◌∙◌, ◌<◌, get_or, length, take, sym, subst, arith}
 use Rattle.std.proofs.lemmas.List.{length-set}
 use Rattle.at_files.specs.declared.deliveries.Delivery.{Delivery}
-use Rattle.at_loading.specs.Loading.{all_shown}
+use Rattle.at_files.proofs.FileLists.{length-contents_of}
+use Rattle.at_loading.specs.Loading.{loaded_shown}
 use Rattle.at_commands.specs.Nodes.{IsNodeOf}
-use Rattle.at_loading.proofs.Laws.FilesLoaded.{length-contents_of}
 use Rattle.at_commands.proofs.NodesGiven.{AreNodesOf-next, node_within}
 use Rattle.at_commands.proofs.nodes.deliver_all.Goals as goal
 
 pub loop-delivery-preserved : goal.loop-delivery-preserved
 loop-delivery-preserved c =
-    let l = all_shown c.args.sent.now in
+    let l = loaded_shown c.args.sent.now in
     let i = c.loop-delivery.delivery-index in
     let nodes = c.loop-delivery.nodes.items in
     let e : Delivery = record { node = 0; sender = 0; number = 0 } in

@@ -1,10 +1,10 @@
 use Rattle.std.proofs.Common.{◌≡◌, length, take}
-use Rattle.at_loading.specs.Loading.{all_shown}
+use Rattle.at_loading.specs.Loading.{loaded_shown}
 use Rattle.at_commands.specs.Nodes.{AreNodesOf}
 use Rattle.at_commands.proofs.nodes.deliver_all.Given as goal
 
 abbrev pub invariant-loop-delivery : goal.invariant-loop-delivery
 invariant-loop-delivery l = record {
   each : length l.nodes.items ≡ l.sent.book.processes;
-  nodes : AreNodesOf (all_shown l.sent) (take l.delivery-index l.deliveries) l.nodes.items;
+  nodes : AreNodesOf (loaded_shown l.sent) (take l.delivery-index l.deliveries) l.nodes.items;
 }

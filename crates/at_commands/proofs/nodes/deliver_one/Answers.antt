@@ -1,22 +1,23 @@
 use Rattle.std.proofs.Common.{◌≡◌, ◌∙◌, Ok, get_or, [], ap, refl, arith}
-use Rattle.at_loading.specs.Loading.{all_shown}
-use Rattle.at_loading.proofs.Laws.FilesLoaded.{length-contents_of, same_length}
+use Rattle.at_files.proofs.FileLists.{length-contents_of}
+use Rattle.at_loading.specs.Loading.{loaded_shown}
+use Rattle.at_loading.proofs.Laws.FilesLoaded.{same_length}
 use Rattle.at_commands.proofs.NodesGiven.{IsNodeOf-deliver, file_of, message_known, number_small, number_within}
 use Rattle.at_commands.proofs.nodes.deliver_one.Goals as goal
 
 pub index-message-requires : goal.index-message-requires
 index-message-requires c =
-    let l = all_shown c.args.sent.now in
+    let l = loaded_shown c.args.sent.now in
     let d = c.args.delivery.now in
     let file = file_of l c.args.sent.now.files.items d c.index.result.now refl c.requires.delivery c.index.ensures in
     omega (arith, number_within l d c.requires.delivery, same_length _ _ file, c.index.result.now.ok)
 
 pub deliver-requires-clause-number_in : goal.deliver-requires-clause-number_in
-deliver-requires-clause-number_in c = number_small (all_shown c.args.sent.now) c.args.delivery.now c.requires.sent c.requires.delivery
+deliver-requires-clause-number_in c = number_small (loaded_shown c.args.sent.now) c.args.delivery.now c.requires.sent c.requires.delivery
 
 pub deliver-requires-clause-message_in : goal.deliver-requires-clause-message_in
 deliver-requires-clause-message_in c =
-    let l = all_shown c.args.sent.now in
+    let l = loaded_shown c.args.sent.now in
     let d = c.args.delivery.now in
     let m = c.index-message.result.now in
     let file = file_of l c.args.sent.now.files.items d c.index.result.now refl c.requires.delivery c.index.ensures in
@@ -25,7 +26,7 @@ deliver-requires-clause-message_in c =
 
 pub returns : goal.returns
 returns c done before =
-    let l = all_shown c.args.sent.now in
+    let l = loaded_shown c.args.sent.now in
     let d = c.args.delivery.now in
     let m = c.index-message.result.now in
     let file = file_of l c.args.sent.now.files.items d c.index.result.now refl c.requires.delivery c.index.ensures in

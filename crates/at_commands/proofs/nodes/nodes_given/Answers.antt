@@ -1,7 +1,7 @@
-use Rattle.at_loading.specs.Loading.{all_shown}
+use Rattle.at_loading.specs.Loading.{loaded_shown}
 use Rattle.at_commands.proofs.NodesGiven.{AreNodesOf-new}
 use Rattle.at_commands.proofs.nodes.nodes_given.Goals as goal
 
 pub deliver_all-requires-clause-fresh : goal.deliver_all-requires-clause-fresh
 deliver_all-requires-clause-fresh c =
-    AreNodesOf-new (all_shown c.args.sent.now) c.in_ok-nodes.nodes.items c.in_ok-nodes.ensures.nodes c.in_ok-nodes.ensures.steady
+    AreNodesOf-new (loaded_shown c.args.sent.now) c.in_ok-nodes.nodes.items c.in_ok-nodes.ensures.nodes c.in_ok-nodes.ensures.steady

@@ -3,11 +3,11 @@ use Rattle.std.specs.Global.{Global}
 use Rattle.std.proofs.lemmas.Grind.{common_steps}
 use Rattle.std.proofs.lemmas.List.{length-map, map-append}
 use Rattle.std.proofs.lemmas.List.Elements.{All-push}
+use Rattle.at_files.specs.Files.{IsPlayable, contents_of}
 use Rattle.at_ledger.specs.declared.call.Call.{Call}
 use Rattle.at_object.specs.Passes.{PassTerms}
 use Rattle.at_commands.proofs.JobsMade.{All-seam, AreJobsFor-all, AreUnmade, IsNewPass-next, files_of, passes_in}
 use Rattle.at_commands.proofs.playing.jobs_for.Goals as goal
-use Rattle.at_verify.specs.Right.{IsPlayable, files_in}
 use Rattle.at_workers.specs.Jobs.{JobTerms}
 
 -- the pass of the next process
@@ -31,18 +31,18 @@ new-requires-clause-accounts c =
     c.loop-calls.invariant.passes ∙ ap (λ l. passes_in c.loop-calls.jobs.items ++ l) c.in-Some-next.ensures.items in
     let pass = IsNewPass-next c.args.ledger.now c.args.passes.items c.loop-calls.jobs.items c.in-Some-next.pass
     c.next-in-loop-calls.new.self.rest.items c.requires.passes parts in
-    let files : files_in c.args.files.items ≡ files_of c.loop-calls.jobs.items ++ c.in-Some.calls.items ∷ files_in c.next.new.self.rest.items =
-    c.loop-calls.invariant.files ∙ ap (λ l. files_of c.loop-calls.jobs.items ++ files_in l) c.in-Some.ensures.steps.0 in
-    let playable = All-seam (IsPlayable (length c.args.ledger.now.book.accounts)) (files_in c.args.files.items) (files_of c.loop-calls.jobs.items)
-    (files_in c.next.new.self.rest.items) c.in-Some.calls.items c.requires.known files in
+    let files : contents_of c.args.files.items ≡ files_of c.loop-calls.jobs.items ++ c.in-Some.calls.items ∷ contents_of c.next.new.self.rest.items =
+    c.loop-calls.invariant.files ∙ ap (λ l. files_of c.loop-calls.jobs.items ++ contents_of l) c.in-Some.ensures.steps.0 in
+    let playable = All-seam (IsPlayable (length c.args.ledger.now.book.accounts)) (contents_of c.args.files.items) (files_of c.loop-calls.jobs.items)
+    (contents_of c.next.new.self.rest.items) c.in-Some.calls.items c.requires.known files in
     rw pass.of_ledger.book playable.known
 
 pub new-requires-clause-few : goal.new-requires-clause-few
 new-requires-clause-few c =
-    let files : files_in c.args.files.items ≡ files_of c.loop-calls.jobs.items ++ c.in-Some.calls.items ∷ files_in c.next.new.self.rest.items =
-    c.loop-calls.invariant.files ∙ ap (λ l. files_of c.loop-calls.jobs.items ++ files_in l) c.in-Some.ensures.steps.0 in
-    let playable = All-seam (IsPlayable (length c.args.ledger.now.book.accounts)) (files_in c.args.files.items) (files_of c.loop-calls.jobs.items)
-    (files_in c.next.new.self.rest.items) c.in-Some.calls.items c.requires.known files in
+    let files : contents_of c.args.files.items ≡ files_of c.loop-calls.jobs.items ++ c.in-Some.calls.items ∷ contents_of c.next.new.self.rest.items =
+    c.loop-calls.invariant.files ∙ ap (λ l. files_of c.loop-calls.jobs.items ++ contents_of l) c.in-Some.ensures.steps.0 in
+    let playable = All-seam (IsPlayable (length c.args.ledger.now.book.accounts)) (contents_of c.args.files.items) (files_of c.loop-calls.jobs.items)
+    (contents_of c.next.new.self.rest.items) c.in-Some.calls.items c.requires.known files in
     omega (arith, playable.few)
 
 pub loop-calls-preserved : goal.loop-calls-preserved
@@ -62,15 +62,15 @@ loop-calls-preserved c =
           (sym (ap passes_in more ∙ map-append (λ (j : JobTerms). j.pass) jobs (job ∷ [])))));
       files =
           kept.files
-          ∙ (ap (λ l. files_of jobs ++ files_in l) c.in-Some.ensures.steps.0
-          ∙ (sym (append_assoc (files_of jobs) (job.calls ∷ []) (files_in c.next.new.self.rest.items))
-          ∙ ap (λ (fs : List (List Call)). fs ++ files_in c.next.new.self.rest.items)
+          ∙ (ap (λ l. files_of jobs ++ contents_of l) c.in-Some.ensures.steps.0
+          ∙ (sym (append_assoc (files_of jobs) (job.calls ∷ []) (contents_of c.next.new.self.rest.items))
+          ∙ ap (λ (fs : List (List Call)). fs ++ contents_of c.next.new.self.rest.items)
           (sym (ap files_of more ∙ map-append (λ (j : JobTerms). j.calls) jobs (job ∷ [])))));
       unmade = subst AreUnmade (sym more) (All-push (λ (j : JobTerms). j.receipts ≡ []) jobs job kept.unmade refl);
     }
 
 pub returns : goal.returns
 returns c =
-    let all : files_in c.args.files.items ≡ files_of c.loop-calls.jobs.items = grind (arith, common_steps) in
-    AreJobsFor-all c.args.ledger.now c.args.passes.items c.loop-calls.others.rest.items (files_in c.args.files.items) c.loop-calls.jobs.items
+    let all : contents_of c.args.files.items ≡ files_of c.loop-calls.jobs.items = grind (arith, common_steps) in
+    AreJobsFor-all c.args.ledger.now c.args.passes.items c.loop-calls.others.rest.items (contents_of c.args.files.items) c.loop-calls.jobs.items
     c.requires.passes (length-map c.args.files.items (λ (file : Vec Call Global). file.items) ∙ c.requires.count) c.loop-calls.invariant.passes all c.loop-calls.invariant.unmade

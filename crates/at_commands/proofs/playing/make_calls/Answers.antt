@@ -1,17 +1,28 @@
-use Rattle.std.proofs.Common.{◌∙◌}
+use Rattle.std.proofs.Common.{◌≡◌, ◌∙◌, ℕ, List, ◌++◌, drop, length, subst, take}
+use Rattle.std.proofs.Math.Seq.{take-append_seam}
+use Rattle.at_files.specs.Files.{contents_of}
 use Rattle.at_commands.proofs.JobsRun.{AreAccountedFor-ran, IfOk-accounted, IfOk-receipts, files_of-ran}
 use Rattle.at_commands.proofs.playing.make_calls.Goals as goal
-use Rattle.at_verify.specs.Right.{files_in}
+use Rattle.at_workers.specs.Jobs.{JobTerms}
+
+-- a list that was changed as a slice, in each of its places
+written : (n : ℕ) (before after : List JobTerms) → length after ≡ n → take n (after ++ drop (length after) before) ≡ after
+written n before after same =
+    subst (λ k. take k (after ++ drop (length after) before) ≡ after) same (take-append_seam after (drop (length after) before))
 
 pub returns-clause-accounted : goal.returns-clause-accounted
 returns-clause-accounted g c =
     let ledger = c.args.ledger.now in
-    IfOk-accounted ledger c.run_jobs.new.jobs.items c.taken_apart.result
-    (AreAccountedFor-ran ledger (files_in c.args.files.items) c.in_ok-jobs.jobs.items c.run_jobs.new.jobs.items c.in_ok-jobs.ensures c.run_jobs.ensures)
-    c.taken_apart.ensures.passes c.taken_apart.ensures.receipts
+    let ran = rw c.as_mut_slice.ensures.value at c.run_all.ensures in
+    let all = written c.in_ok-jobs.jobs.len c.in_ok-jobs.jobs.items c.run_all.new.jobs (c.run_all.auto.jobs ∙ c.as_mut_slice.ensures.len) in
+    IfOk-accounted ledger c.run_all.new.jobs c.taken_apart.result
+    (AreAccountedFor-ran ledger (contents_of c.args.files.items) c.in_ok-jobs.jobs.items c.run_all.new.jobs c.in_ok-jobs.ensures ran)
+    (rw all at c.taken_apart.ensures.passes) (rw all at c.taken_apart.ensures.receipts)
 
 pub returns-clause-calls : goal.returns-clause-calls
 returns-clause-calls g c =
-    IfOk-receipts c.run_jobs.new.jobs.items (files_in c.args.files.items) c.taken_apart.result
-    (files_of-ran c.args.ledger.now c.in_ok-jobs.jobs.items c.run_jobs.new.jobs.items c.run_jobs.ensures ∙ c.in_ok-jobs.ensures.calls)
-    c.taken_apart.ensures.receipts
+    let ran = rw c.as_mut_slice.ensures.value at c.run_all.ensures in
+    let all = written c.in_ok-jobs.jobs.len c.in_ok-jobs.jobs.items c.run_all.new.jobs (c.run_all.auto.jobs ∙ c.as_mut_slice.ensures.len) in
+    IfOk-receipts c.run_all.new.jobs (contents_of c.args.files.items) c.taken_apart.result
+    (files_of-ran c.args.ledger.now c.in_ok-jobs.jobs.items c.run_all.new.jobs ran ∙ c.in_ok-jobs.ensures.calls)
+    (rw all at c.taken_apart.ensures.receipts)

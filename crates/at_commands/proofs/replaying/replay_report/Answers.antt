@@ -1,9 +1,9 @@
 use Rattle.std.proofs.Common.{◌∙◌, arith, Vec}
 use Rattle.std.specs.Global.{Global}
 use Rattle.std.proofs.lemmas.List.{length-map}
+use Rattle.at_files.specs.Files.{contents_of}
 use Rattle.at_ledger.specs.declared.call.Call.{Call}
 use Rattle.at_loading.specs.Loading.{Loaded}
-use Rattle.at_verify.specs.Right.{files_in}
 use Rattle.at_commands.proofs.Laws.Replays.{IsLineOn-played, ReportsReplay-lines}
 use Rattle.at_commands.proofs.replaying.replay_report.Goals as goal
 
@@ -16,12 +16,12 @@ replay-requires-clause-known c k d below =
 pub report-requires-clause-lines : goal.report-requires-clause-lines
 report-requires-clause-lines c =
     rw c.as_slice.ensures.value
-    (IsLineOn-played c.args.book.now (files_in c.args.files.items) c.in_ok-replayed.replayed.lines.items c.in_ok-replayed.ensures.whole
+    (IsLineOn-played c.args.book.now (contents_of c.args.files.items) c.in_ok-replayed.replayed.lines.items c.in_ok-replayed.ensures.whole
     (length-map c.args.files.items (λ (file : Vec Call Global). file.items) ∙ c.requires.count) c.requires.known)
 
 pub returns : goal.returns
 returns c =
-    let what : Loaded = record { book = c.args.book.now; names = c.args.names.now; files = files_in c.args.files.items } in
+    let what : Loaded = record { book = c.args.book.now; names = c.args.names.now; files = contents_of c.args.files.items } in
     ReportsReplay-lines what c.in_ok-replayed.replayed.lines.items c.in_ok-text.text.items c.in_ok-replayed.ensures.whole
     c.in_ok-replayed.ensures.legal (length-map c.args.files.items (λ (file : Vec Call Global). file.items) ∙ c.requires.count) c.requires.known
     (rw c.as_slice.ensures.value at c.in_ok-text.ensures.text)

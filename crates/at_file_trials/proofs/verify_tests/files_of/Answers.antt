@@ -2,15 +2,15 @@ use Rattle.std.proofs.Common.{ℕ, List, [], ◌∷◌, ◌++◌, Vec, All, leng
 use Rattle.std.specs.Global.{Global}
 use Rattle.std.proofs.lemmas.List.{length-append, map-append}
 use Rattle.std.proofs.lemmas.List.Elements.{All-append, All-cons, All-nil}
+use Rattle.at_files.specs.Files.{IsPlayable, contents_of}
 use Rattle.at_ledger.specs.declared.call.Call.{Call}
-use Rattle.at_verify.specs.Right.{IsPlayable, files_in}
 use Rattle.at_file_trials.proofs.verify_tests.files_of.Goals as goal
 
 -- one more file
-playable-push : (accounts : ℕ) (files : List (Vec Call Global)) (file : Vec Call Global) → All (IsPlayable accounts) (files_in files) → IsPlayable accounts file.items
-    → All (IsPlayable accounts) (files_in (files ++ file ∷ []))
+playable-push : (accounts : ℕ) (files : List (Vec Call Global)) (file : Vec Call Global) → All (IsPlayable accounts) (contents_of files) → IsPlayable accounts file.items
+    → All (IsPlayable accounts) (contents_of (files ++ file ∷ []))
 playable-push accounts files file playable one =
-    rw map-append (All-append (IsPlayable accounts) (files_in files) (file.items ∷ []) playable (All-cons (IsPlayable accounts) file.items [] one (All-nil (IsPlayable accounts))))
+    rw map-append (All-append (IsPlayable accounts) (contents_of files) (file.items ∷ []) playable (All-cons (IsPlayable accounts) file.items [] one (All-nil (IsPlayable accounts))))
 
 pub loop-process-preserved : goal.loop-process-preserved
 loop-process-preserved c =

@@ -1,7 +1,8 @@
 use Rattle.std.proofs.Common.{◌≡◌, true, Ok, take, length, All}
+use Rattle.at_files.specs.Files.{contents_of}
 use Rattle.at_io.specs.Shelf.{SameFiles}
 use Rattle.at_loading.specs.Words.{words_of}
-use Rattle.at_loading.specs.Loading.{EachSpells, IsSpelled, contents_of, files_loaded, named_book}
+use Rattle.at_loading.specs.Loading.{EachSpells, IsSpelled, files_loaded, named_book}
 use Rattle.at_loading.proofs.loading.load_files.Given as goal
 
 abbrev pub invariant-loop-process : goal.invariant-loop-process

@@ -2,29 +2,29 @@ use Rattle.std.proofs.Common.{◌≡◌, ℕ, ◌+◌, ◌<◌, true, nat_lt, []
 use Rattle.std.specs.Prelude.{slice_get}
 use Rattle.std.proofs.lemmas.Bool.Decides.{nat_tests}
 use Rattle.std.proofs.lemmas.Option.{slice_get-get_or, slice_get_within}
-use Rattle.at_verify.specs.Right.{files_in}
-use Rattle.at_verify.proofs.Made.{get_or-files_in, length-files_in}
+use Rattle.at_files.specs.Files.{contents_of}
+use Rattle.at_files.proofs.FileLists.{get_or-contents_of, length-contents_of}
 use Rattle.at_verify.proofs.Walking.{next_line-only}
 use Rattle.at_verify.proofs.stepping.next_line.Goals as goal
 
 pub returns-in_err-process-clause-only : goal.returns-in_err-process-clause-only
 returns-in_err-process-clause-only c l next first =
-    let count : length (files_in c.args.files.now) ≡ length c.args.files.now = length-files_in c.args.files.now in
+    let count : length (contents_of c.args.files.now) ≡ length c.args.files.now = length-contents_of c.args.files.now in
     let within : l.process < c.args.book.now.processes = let h = next.process in omega arith in
     let found = (c.in_err-process.ensures.exact l.process within).1 first in
     absurd (cc)
 
 pub returns-in_err-call-clause-only : goal.returns-in_err-call-clause-only
 returns-in_err-call-clause-only c l next first =
-    let count : length (files_in c.args.files.now) ≡ length c.args.files.now = length-files_in c.args.files.now in
+    let count : length (contents_of c.args.files.now) ≡ length c.args.files.now = length-contents_of c.args.files.now in
     let within : l.process < c.args.book.now.processes = let h = next.process in omega arith in
     let found = (c.in_ok-process.ensures.exact l.process within).1 first in
     let same : c.in_ok-process.process ≡ l.process = cc in
-    let file : c.index-files-process.result.items ≡ get_or (files_in c.args.files.now) c.in_ok-process.process [] =
-    get_or-files_in c.args.files.now c.in_ok-process.process c.index-files-process.result (omega arith) c.index-files-process.is in
-    let here = slice_get_within (get_or (files_in c.args.files.now) l.process []) (get_or c.args.made.now l.process 0) l.call next.call in
+    let file : c.index-files-process.result.items ≡ get_or (contents_of c.args.files.now) c.in_ok-process.process [] =
+    sym (get_or-contents_of c.args.files.now c.in_ok-process.process c.index-files-process.result (omega arith) c.index-files-process.is) in
+    let here = slice_get_within (get_or (contents_of c.args.files.now) l.process []) (get_or c.args.made.now l.process 0) l.call next.call in
     let value = c.deref.ensures.value in
-    let text : c.deref.result.now ≡ get_or (files_in c.args.files.now) l.process [] = value ∙ file ∙ ap (λ (p : ℕ). get_or (files_in c.args.files.now) p []) same in
+    let text : c.deref.result.now ≡ get_or (contents_of c.args.files.now) l.process [] = value ∙ file ∙ ap (λ (p : ℕ). get_or (contents_of c.args.files.now) p []) same in
     let before : c.get-before.result ≡ get_or c.args.made.now l.process 0 = c.get-before.ensures ∙ ap (λ (p : ℕ). get_or c.args.made.now p 0) same in
     let past = c.in_err-call.ensures.lookup.0 in
     let inside : c.get-before.result < length c.deref.result.now = rw (text, before) here in
@@ -33,16 +33,16 @@ returns-in_err-call-clause-only c l next first =
 pub returns-clause-next : goal.returns-clause-next
 returns-clause-next c =
     let inside : c.in_ok-process.process < c.args.book.now.processes = c.in_ok-process.ensures.within in
-    let count : length (files_in c.args.files.now) ≡ length c.args.files.now = length-files_in c.args.files.now in
-    let file : c.index-files-process.result.items ≡ get_or (files_in c.args.files.now) c.in_ok-process.process [] =
-    get_or-files_in c.args.files.now c.in_ok-process.process c.index-files-process.result (omega arith) c.index-files-process.is in
+    let count : length (contents_of c.args.files.now) ≡ length c.args.files.now = length-contents_of c.args.files.now in
+    let file : c.index-files-process.result.items ≡ get_or (contents_of c.args.files.now) c.in_ok-process.process [] =
+    sym (get_or-contents_of c.args.files.now c.in_ok-process.process c.index-files-process.result (omega arith) c.index-files-process.is) in
     let value = c.deref.ensures.value in
     let before : c.get-before.result ≡ get_or c.args.made.now c.in_ok-process.process 0 = c.get-before.ensures in
     let lookup = c.in_ok-call.ensures.lookup.3 in
     let here : slice_get c.deref.result.now c.get-before.result ≡ Some c.in_ok-call.call.now =
     slice_get-get_or c.deref.result.now c.get-before.result c.in_ok-call.call.now lookup.0 ∙ ap Some (sym (lookup.1 c.in_ok-call.call.now)) in
     let copied = c.copy.ensures in
-    let known : c.in_ok-process.process < length (files_in c.args.files.now) = omega arith in
+    let known : c.in_ok-process.process < length (contents_of c.args.files.now) = omega arith in
     record {
       process = known;
       number = ap (λ (n : ℕ). n + 1) before;
@@ -52,8 +52,8 @@ returns-clause-next c =
 
 pub returns-clause-only : goal.returns-clause-only
 returns-clause-only c l next first =
-    let count : length (files_in c.args.files.now) ≡ length c.args.files.now = length-files_in c.args.files.now in
+    let count : length (contents_of c.args.files.now) ≡ length c.args.files.now = length-contents_of c.args.files.now in
     let within : l.process < c.args.book.now.processes = let h = next.process in omega arith in
     let found = (c.in_ok-process.ensures.exact l.process within).1 first in
     let same : c.in_ok-process.process ≡ l.process = cc in
-    ap Some (next_line-only (files_in c.args.files.now) c.args.state.now c.args.made.now _ l (returns-clause-next c) next same)
+    ap Some (next_line-only (contents_of c.args.files.now) c.args.state.now c.args.made.now _ l (returns-clause-next c) next same)

@@ -1,11 +1,11 @@
 use Rattle.std.proofs.Common.{◌≡◌, sum}
-use Rattle.at_verify.specs.Right.{files_in}
+use Rattle.at_files.specs.Files.{contents_of}
 use Rattle.at_verify.proofs.Walking.{IsWalked}
 use Rattle.at_verify.proofs.verifying.parting.Given as goal
 
 abbrev pub invariant-loop-turn : goal.invariant-loop-turn
 invariant-loop-turn l = record {
-  walked : IsWalked l.book l.names (files_in l.files) l.text l.at l.state l.made;
+  walked : IsWalked l.book l.names (contents_of l.files) l.text l.at l.state l.made;
   count : sum l.made ≡ l._turn;
   book : l.state.book ≡ l.book;
 }

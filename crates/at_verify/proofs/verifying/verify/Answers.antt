@@ -1,6 +1,6 @@
 use Rattle.std.proofs.Common.{◌≡◌, ℕ, ◌+◌, Ok, sym, ap, ◌∙◌}
 use Rattle.std.proofs.lemmas.List.{length-take-le}
-use Rattle.at_verify.specs.Right.{files_in}
+use Rattle.at_files.specs.Files.{contents_of}
 use Rattle.at_verify.proofs.Walking.{first_wrong, length-report, not_report}
 use Rattle.at_verify.proofs.verifying.verify.Goals as goal
 
@@ -10,14 +10,14 @@ slice_bounds-newlines-end c = let parts = c.in_ok-parts.ensures.parts c.in-Some.
 pub returns-in-None-clause-lines : goal.returns-in-None-clause-lines
 returns-in-None-clause-lines c is_yes =
     let is = c.in_ok-parts.ensures.report (ap Ok c.in-None.is) in
-    record { is = is; lines = length-report c.args.book.now c.args.names.now (files_in c.args.files.now) c.args.text.now is }
+    record { is = is; lines = length-report c.args.book.now c.args.names.now (contents_of c.args.files.now) c.args.text.now is }
 
 pub returns-in-Some-clause-complete : goal.returns-in-Some-clause-complete
 returns-in-Some-clause-complete c report line is =
-    not_report c.args.book.now c.args.names.now (files_in c.args.files.now) c.args.text.now c.in-Some.at (c.in_ok-parts.ensures.parts c.in-Some.at (ap Ok c.in-Some.is)) report
+    not_report c.args.book.now c.args.names.now (contents_of c.args.files.now) c.args.text.now c.in-Some.at (c.in_ok-parts.ensures.parts c.in-Some.at (ap Ok c.in-Some.is)) report
 
 pub returns-in-Some-clause-first : goal.returns-in-Some-clause-first
 returns-in-Some-clause-first c line is =
     let same : c.newlines.result + 1 ≡ line = cc in
-    first_wrong c.args.book.now c.args.names.now (files_in c.args.files.now) c.args.text.now c.in-Some.at line (c.in_ok-parts.ensures.parts c.in-Some.at (ap Ok c.in-Some.is))
+    first_wrong c.args.book.now c.args.names.now (contents_of c.args.files.now) c.args.text.now c.in-Some.at line (c.in_ok-parts.ensures.parts c.in-Some.at (ap Ok c.in-Some.is))
     (sym same ∙ ap (λ (n : ℕ). n + 1) c.newlines.ensures)

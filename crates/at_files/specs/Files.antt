@@ -1,0 +1,15 @@
+-- The files of all processes, as the program holds them.
+use Rattle.std.specs.Prelude.{ℕ, ◌≤◌, List, length, map, All, Vec}
+use Rattle.std.specs.Global.{Global}
+use Rattle.at_ledger.specs.Call.{IsCallOn}
+use Rattle.at_ledger.specs.declared.call.Call.{Call}
+use Rattle.at_files.specs.Limits.{most_calls}
+
+-- what each file gave
+abbrev pub contents_of : {T : Type 0} → List (Vec T Global) → List (List T)
+contents_of files = map (λ file. file.items) files
+
+-- the calls of a file name accounts that are there, and are not too many
+pub record IsPlayable (accounts : ℕ) (calls : List Call) : Type 0 where
+  pub known : All (IsCallOn accounts) calls
+  pub few : length calls ≤ most_calls
