@@ -1,10 +1,12 @@
--- Words are refused exactly where they ask for nothing.
-use Rattle.std.proofs.Common.{◌≡◌, ◌↔◌, Option, Some, None, refl, inl, inr}
+-- Words are refused exactly where they ask for nothing, and which of them leave no ledger.
+use Rattle.std.proofs.Common.{◌≡◌, ◌≢◌, ◌↔◌, ℕ, List, Option, Some, None, refl, inl, inr}
 use Rattle.at_report.specs.declared.status.Status.TheVariants.{Usage}
 use Rattle.at_report.specs.declared.status.UsageFault.TheVariants.{Words}
-use Rattle.at_loading.specs.Words.{Wanted}
+use Rattle.at_loading.specs.Words.{Form, Wanted}
 use Rattle.at_loading.specs.Words.Wanted.{Agree, Deliver, Files, Make, Replay, Verify}
-use Rattle.at_commands.specs.Answered.{Leaves}
+use Rattle.at_loading.specs.declared.numbers.Making.{Making}
+use Rattle.at_loading.specs.declared.words.Command.TheVariants.{Check}
+use Rattle.at_commands.specs.Answered.{Leaves, LeavesNoLedger}
 use Rattle.at_commands.specs.Outcome.{Found, Outcome}
 
 pub Leaves-formless : (wanted : Option Wanted) (s : Found) (o : Outcome) → Leaves wanted s o → (o.answer ≡ Usage Words) ↔ (wanted ≡ None)
@@ -29,3 +31,14 @@ Leaves-formless (Some (Agree values)) s o left = (
   λ none. absurd (cc),
 )
 Leaves-formless None s o left = (λ is. refl, λ none. left)
+
+-- words that ask for no run, no `make` and no `agree` leave no ledger
+pub LeavesNoLedger-others : (wanted : Option Wanted) → ((form : Form) → wanted ≡ Some (Files form) → form.command ≡ Check)
+    → ((m : Making) → wanted ≢ Some (Make m)) → ((values : List ℕ) → wanted ≢ Some (Agree values)) → LeavesNoLedger wanted
+LeavesNoLedger-others (Some (Files form)) checks makes agrees = checks form refl
+LeavesNoLedger-others (Some (Verify asked)) checks makes agrees = tt
+LeavesNoLedger-others (Some (Deliver asked)) checks makes agrees = tt
+LeavesNoLedger-others (Some (Replay asked)) checks makes agrees = tt
+LeavesNoLedger-others (Some (Make m)) checks makes agrees = absurd (makes m refl)
+LeavesNoLedger-others (Some (Agree values)) checks makes agrees = absurd (agrees values refl)
+LeavesNoLedger-others None checks makes agrees = tt

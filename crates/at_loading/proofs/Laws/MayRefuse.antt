@@ -1,5 +1,5 @@
 -- When a refusal of a part is one of the whole.
-use Rattle.std.proofs.Common.{◌≡◌, ◌≢◌, ◌+◌, arith, refl, ℕ, Bool, true, Result, Ok, Err, ◌⊎◌, inl, inr}
+use Rattle.std.proofs.Common.{◌≡◌, ◌≢◌, ◌+◌, ◌-◌, ◌^◌, ◌<◌, arith, refl, ℕ, Bool, true, Result, Ok, Err, ◌⊎◌, inl, inr}
 use Rattle.at_report.specs.declared.status.Status.{Status}
 use Rattle.at_report.specs.declared.status.Status.TheVariants.{Done, Usage, BadBook, BadPayments, ReadFault, WriteFault, NoMemory, TooLong, BadSchedule, BadOrder, BadMessages, NotLegal}
 use Rattle.at_report.specs.declared.status.UsageFault.TheVariants as usage
@@ -77,6 +77,10 @@ pub HasFurtherNumbers-unfetched : (files number : ℕ) (refusal : Status) → nu
 HasFurtherNumbers-unfetched files number refusal is (inl read) = rw read (omega arith)
 HasFurtherNumbers-unfetched files number refusal is (inr (inl long)) = rw long (omega arith)
 HasFurtherNumbers-unfetched files number refusal is (inr (inr none)) = rw none tt
+
+-- no fault is counted where the count stands as it was, below its last value
+pub IsFaultless-kept : (before now : ℕ) → now ≡ before → now < 2 ^ 64 - 1 → IsFaultless before now
+IsFaultless-kept before now kept below = record { kept = kept; below = λ last. omega (arith, below, last) }
 
 -- a count that rose isn't faultless
 pub Rose-IsFaultless : (before now : ℕ) → IsFaultless before now → Rose before now → ⊥
