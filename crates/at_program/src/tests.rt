@@ -97,27 +97,75 @@ fn first_wrong<R: Threads + Sync>(
     Ok(None)
 }
 
-/// The tables of cases.
-const TABLES: &[&[Case]] = &[
-    RUNS,
-    RUNS_OF_MORE_PROCESSES,
-    REFUSED_BOOKS,
-    REFUSED_PAYMENTS,
-    REFUSED_FILES,
-    WORDS,
-    VERIFIES,
-    REFUSED_TO_VERIFY,
-    DELIVERS,
-    REFUSED_TO_DELIVER,
-    REPLAYS,
-    REFUSED_TO_REPLAY,
-];
+#[test]
+fn runs_of_one_process(rt: HostRuntime) -> Result<(), Fail> {
+    assert_eq!(rt; first_wrong(&rt, rt.alloc(), RUNS)?, None);
+    Ok(())
+}
 
 #[test]
-fn each_case_is_answered(rt: HostRuntime) -> Result<(), Fail> {
-    for cases in TABLES {
-        assert_eq!(rt; first_wrong(&rt, rt.alloc(), cases)?, None);
-    }
+fn runs_of_more_processes(rt: HostRuntime) -> Result<(), Fail> {
+    assert_eq!(rt; first_wrong(&rt, rt.alloc(), RUNS_OF_MORE_PROCESSES)?, None);
+    Ok(())
+}
+
+#[test]
+fn refused_books(rt: HostRuntime) -> Result<(), Fail> {
+    assert_eq!(rt; first_wrong(&rt, rt.alloc(), REFUSED_BOOKS)?, None);
+    Ok(())
+}
+
+#[test]
+fn refused_payments(rt: HostRuntime) -> Result<(), Fail> {
+    assert_eq!(rt; first_wrong(&rt, rt.alloc(), REFUSED_PAYMENTS)?, None);
+    Ok(())
+}
+
+#[test]
+fn refused_files(rt: HostRuntime) -> Result<(), Fail> {
+    assert_eq!(rt; first_wrong(&rt, rt.alloc(), REFUSED_FILES)?, None);
+    Ok(())
+}
+
+#[test]
+fn words(rt: HostRuntime) -> Result<(), Fail> {
+    assert_eq!(rt; first_wrong(&rt, rt.alloc(), WORDS)?, None);
+    Ok(())
+}
+
+#[test]
+fn reports(rt: HostRuntime) -> Result<(), Fail> {
+    assert_eq!(rt; first_wrong(&rt, rt.alloc(), VERIFIES)?, None);
+    Ok(())
+}
+
+#[test]
+fn refused_to_verify(rt: HostRuntime) -> Result<(), Fail> {
+    assert_eq!(rt; first_wrong(&rt, rt.alloc(), REFUSED_TO_VERIFY)?, None);
+    Ok(())
+}
+
+#[test]
+fn deliveries(rt: HostRuntime) -> Result<(), Fail> {
+    assert_eq!(rt; first_wrong(&rt, rt.alloc(), DELIVERS)?, None);
+    Ok(())
+}
+
+#[test]
+fn refused_to_deliver(rt: HostRuntime) -> Result<(), Fail> {
+    assert_eq!(rt; first_wrong(&rt, rt.alloc(), REFUSED_TO_DELIVER)?, None);
+    Ok(())
+}
+
+#[test]
+fn replays(rt: HostRuntime) -> Result<(), Fail> {
+    assert_eq!(rt; first_wrong(&rt, rt.alloc(), REPLAYS)?, None);
+    Ok(())
+}
+
+#[test]
+fn refused_to_replay(rt: HostRuntime) -> Result<(), Fail> {
+    assert_eq!(rt; first_wrong(&rt, rt.alloc(), REFUSED_TO_REPLAY)?, None);
     Ok(())
 }
 
