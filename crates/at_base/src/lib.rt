@@ -8,8 +8,6 @@ mod counts;
 mod decision;
 mod head;
 mod numbers;
-#[cfg(test)]
-mod tests;
 
 /// What a call answers that found no memory.
 pub type NoMemory = std::alloc::AllocError;

@@ -1,7 +1,9 @@
-//! Tests of the ledger, of the message-passing form, of shelves and sinks, and of the crates that read files, print
-//! texts and judge reports, by their public names. There is nothing else here.
+//! Tests of numbers and packed words, of the ledger, of the message-passing form, of shelves and sinks, and of the crates that
+//! read files, print texts and judge reports, by their public names. There is nothing else here.
 #![tactic(auto)]
 
+#[cfg(test)]
+mod base_tests;
 #[cfg(test)]
 mod broadcast_tests;
 #[cfg(test)]

@@ -1,4 +1,4 @@
-use crate::{
+use at_base::{
     Counts, Decision, Head, pack_decision, pack_head, parse_number, push_number, unpack_decision,
     unpack_head,
 };
