@@ -3,7 +3,7 @@ use Rattle.std.proofs.Common.{◌≡◌, ℕ, ◌+◌, ◌-◌, ◌*◌, ◌<◌
 use Rattle.std.specs.List.{sum}
 use Rattle.at_ledger.specs.Account.{is_shared}
 use Rattle.at_ledger.specs.Book.{BookTerms, account_of}
-use Rattle.at_ledger.specs.Call.{IsCallOn}
+use Rattle.at_ledger.specs.Call.{IsCallOn, TargetPair}
 use Rattle.at_ledger.specs.declared.call.Call.{Call}
 use Rattle.at_ledger.specs.declared.call.Reply.{Reply}
 use Rattle.at_history.specs.Fronts.{places_max}
@@ -26,7 +26,7 @@ use Rattle.at_object.specs.Parted.{IsOfOnePass, pass_of}
 use Rattle.at_object.specs.Passes.{PassTerms, Stands, one_more_call}
 use Rattle.at_object.specs.Payments.{IsRefused, sent_after}
 use Rattle.at_object.specs.declared.parts.Rest.{Rest}
-use Rattle.at_shared.specs.Helpings.{IsPayoutFrom, decides_made}
+use Rattle.at_shared.specs.Helpings.{decides_made}
 use Rattle.at_calling.proofs.CallingLaws.{CallMade-PaysAlone, CallMade-PaysInRound, IsOfOnePass-IsReadOf, IsOfOnePass-PaysAlone, IsOfOnePass-PaysInRound, MakesWithin, ReadMade-IsReadOf, StaysWithin-MakesWithin, MakesWithin-IsReadOf, MakesWithin-PaysAlone, MakesWithin-PaysInRound, payment_steps-shared, payment_steps-single, refusal_in-payout, small-refusal_of, source-IsCallOn}
 use Rattle.at_object.proofs.Laws.Calls.{placed-CallMade, stands-CallMade}
 use Rattle.at_object.proofs.Laws.Within.{call_steps-payout}
@@ -176,7 +176,7 @@ module _ (board : BoardTerms) (t : CallingTerms) (so : IsCallingSo t) (seat : Se
       pub small-alone : t.was.sent < 4096
       small-alone =
           small-refusal_of board.book t.start t.was p.from so.kept book-IsCallingSo so.pass
-          (sym (refusal_in-payout board.book p.from p.targets (pass_before t) t.call way-alone.0) ∙ way-alone.2) way-alone.3
+          (sym (refusal_in-payout board.book p.from p.targets (pass_before t) t.call way-alone.0) ∙ way-alone.1) way-alone.2
 
       pub few-alone : (records turns : ℕ) → IsPayWithin board.book.processes p.was records turns
           → turns ≤ call_steps board.book t.call + RECORD_WORDS * (records - sum t.was.totals.upto)
@@ -187,29 +187,28 @@ module _ (board : BoardTerms) (t : CallingTerms) (so : IsCallingSo t) (seat : Se
             arith,
             few_on,
             call_steps-payout board.book p.from p.targets t.call way-alone.0,
-            payment_steps-single board.book p.from way-alone.3,
+            payment_steps-single board.book p.from way-alone.2,
           )
 
       pub Leaves-alone : (rest : Rest) (turns : ℕ) (receipt : Receipt) → IsKept after.knows
-          → PaysAlone board.book p.start after.knows p.from p.targets p.call receipt
+          → PaysAlone board.book p.start after.knows p.from p.targets t.call receipt
           → LeavesTotals board.book p.start after.knows p.was rest.totals (append_steps (record_width board.book) receipt.reply) turns
           → StaysCounted rest.totals board.book after.knows.seen → rest.sent ≡ sent_after t.rest.sent receipt.reply
           → rest.calls ≡ with_one_call t.was.calls → Leaves board.book t after rest turns 0 receipt
       Leaves-alone rest turns receipt keeps paid leaves stays sent calls =
           let v : Knowledge = t.start.knows in
           let more = append_steps (record_width board.book) receipt.reply in
-          let paid_on = subst (λ (k : Call). PaysAlone board.book v after.knows p.from p.targets k receipt) way-alone.1
-          (subst (λ (u : Knowledge). PaysAlone board.book u after.knows p.from p.targets p.call receipt) still-alone.start_is paid) in
+          let paid_on = subst (λ (u : Knowledge). PaysAlone board.book u after.knows p.from p.targets t.call receipt) still-alone.start_is paid in
           let leaves_on = subst (λ (s : TotalSums). LeavesTotals board.book v after.knows s rest.totals more turns) still-alone.was_is
           (subst (λ (u : Knowledge). LeavesTotals board.book u after.knows p.was rest.totals more turns) still-alone.start_is leaves) in
           let source_in = source-IsCallOn (length board.book.accounts) p.from p.targets t.call way-alone.0 known in
           record {
             made = CallMade-PaysAlone board.book t.start t.was after rest so.kept keeps book-IsCallingSo of_after.book board_is so.pass more turns leaves_on p.from p.targets
-                t.call receipt paid_on way-alone.0 way-alone.3 way-alone.2 source_in;
+                t.call receipt paid_on way-alone.0 way-alone.2 way-alone.1 source_in;
             kept = IsOfOnePass-PaysAlone board.book t.start t.was after rest so.kept keeps book-IsCallingSo of_after.book board_is so.pass more turns leaves_on p.from p.targets
-                t.call receipt paid_on way-alone.0 way-alone.3 way-alone.2 source_in stays (sent ∙ ap (λ (n : ℕ). sent_after n receipt.reply) still-alone.sent_is) calls;
+                t.call receipt paid_on way-alone.0 way-alone.2 way-alone.1 source_in stays (sent ∙ ap (λ (n : ℕ). sent_after n receipt.reply) still-alone.sent_is) calls;
             within = MakesWithin-PaysAlone board.book t.start t.was after rest so.kept keeps book-IsCallingSo of_after.book board_is so.pass more turns leaves_on p.from p.targets
-                t.call receipt paid_on way-alone.0 way-alone.3 way-alone.2 refl;
+                t.call receipt paid_on way-alone.0 way-alone.2 way-alone.1 refl;
           }
 
     -- of a payment from a shared account
@@ -230,22 +229,21 @@ module _ (board : BoardTerms) (t : CallingTerms) (so : IsCallingSo t) (seat : Se
           omega (
             arith,
             few_on,
-            call_steps-payout board.book p.account way-shared.0.targets t.call way-shared.0.payout,
-            payment_steps-shared board.book p.account way-shared.3,
+            call_steps-payout board.book p.account p.targets t.call way-shared.0,
+            payment_steps-shared board.book p.account way-shared.2,
           )
 
-      pub IsCallingSo-shared : (q : PayingSharedTerms) (rest : Rest) → q.call ≡ p.call → q.account ≡ p.account
+      pub IsCallingSo-shared : (q : PayingSharedTerms) (rest : Rest) → q.account ≡ p.account → q.targets ≡ p.targets
           → q.start ≡ p.start → q.mark ≡ after.knows → q.was ≡ p.was
           → (0 < share_turns_left board.book q → (q.totals ≡ rest.totals) × (rest.sent ≡ t.rest.sent) × (rest.calls ≡ t.rest.calls))
           → after.steps ≡ raised t.start.steps q.turns → after.exchanges ≡ raised t.start.exchanges (share_exchanges_made q)
           → IsCallingSo (calling_next t (PayShared q) after rest)
-      IsCallingSo-shared q rest call account start mark was others steps exchanges =
+      IsCallingSo-shared q rest account targets start mark was others steps exchanges =
           next_so (PayShared q) rest
           (subst (λ (b : BookTerms). IsWay b (pass_before t) t.call (PayShared q)) (sym book-IsCallingSo) (
-            subst (λ (a : ℕ). IsPayoutFrom board.book a t.call) (sym account) way-shared.0,
-            call ∙ way-shared.1,
-            way-shared.2,
-            ap (λ (a : ℕ). is_shared (account_of board.book a)) account ∙ way-shared.3,
+            way-shared.0 ∙ (ap (λ (a : ℕ). Some (a, p.targets)) (sym account) ∙ ap (λ (xs : List TargetPair). Some (q.account, xs)) (sym targets)),
+            way-shared.1,
+            ap (λ (a : ℕ). is_shared (account_of board.book a)) account ∙ way-shared.2,
           ))
           steps exchanges
           (λ more.
@@ -260,7 +258,7 @@ module _ (board : BoardTerms) (t : CallingTerms) (so : IsCallingSo t) (seat : Se
           })
 
       pub Leaves-shared : (rest : Rest) (turns exchanges : ℕ) (receipt : Receipt) → IsKept after.knows
-          → PaysInRound board.book p.start after.knows p.account p.call receipt
+          → PaysInRound board.book p.start after.knows p.account t.call receipt
           → LeavesTotals board.book p.start after.knows p.was rest.totals (settling_steps board.book p.account) turns
           → HasCounted rest.totals board.book after.knows.seen → DecidesFew board.book p.start after.knows p.account
           → exchanges ≡ decides_made p.account p.start after.knows → rest.sent ≡ t.rest.sent → rest.calls ≡ with_one_call t.was.calls
@@ -268,22 +266,19 @@ module _ (board : BoardTerms) (t : CallingTerms) (so : IsCallingSo t) (seat : Se
       Leaves-shared rest turns exchanges receipt keeps paid leaves counted few decided sent calls =
           let v : Knowledge = t.start.knows in
           let more = settling_steps board.book p.account in
-          let targets = way-shared.0.targets in
-          let payout = way-shared.0.payout in
-          let paid_on = subst (λ (k : Call). PaysInRound board.book v after.knows p.account k receipt) way-shared.1
-          (subst (λ (u : Knowledge). PaysInRound board.book u after.knows p.account p.call receipt) still-shared.start_is paid) in
+          let paid_on = subst (λ (u : Knowledge). PaysInRound board.book u after.knows p.account t.call receipt) still-shared.start_is paid in
           let leaves_on = subst (λ (s : TotalSums). LeavesTotals board.book v after.knows s rest.totals more turns) still-shared.was_is
           (subst (λ (u : Knowledge). LeavesTotals board.book u after.knows p.was rest.totals more turns) still-shared.start_is leaves) in
           let few_on = subst (λ (u : Knowledge). DecidesFew board.book u after.knows p.account) still-shared.start_is few in
           let decided_on = subst (λ (u : Knowledge). exchanges ≡ decides_made p.account u after.knows) still-shared.start_is decided in
-          let source_in = source-IsCallOn (length board.book.accounts) p.account targets t.call payout known in
+          let source_in = source-IsCallOn (length board.book.accounts) p.account p.targets t.call way-shared.0 known in
           record {
             made = CallMade-PaysInRound board.book t.start t.was after rest so.kept keeps book-IsCallingSo of_after.book board_is so.pass more turns leaves_on p.account
-                targets t.call receipt paid_on payout way-shared.3 way-shared.2 source_in;
+                p.targets t.call receipt paid_on way-shared.0 way-shared.2 way-shared.1 source_in;
             kept = IsOfOnePass-PaysInRound board.book t.start t.was after rest so.kept keeps book-IsCallingSo of_after.book board_is so.pass more turns leaves_on p.account
-                targets t.call receipt paid_on payout way-shared.3 way-shared.2 source_in counted (sent ∙ still-shared.sent_is) calls;
+                p.targets t.call receipt paid_on way-shared.0 way-shared.2 way-shared.1 source_in counted (sent ∙ still-shared.sent_is) calls;
             within = MakesWithin-PaysInRound board.book t.start t.was after rest so.kept keeps book-IsCallingSo of_after.book board_is so.pass more turns leaves_on p.account
-                targets t.call receipt paid_on payout way-shared.3 way-shared.2 source_in exchanges refl few_on decided_on;
+                p.targets t.call receipt paid_on way-shared.0 way-shared.2 way-shared.1 source_in exchanges refl few_on decided_on;
           }
 
 -- the exchanges that were made, once the request is settled

@@ -1,11 +1,10 @@
 -- What a look, and a record after it, let the receipt of a payment be.
-use Rattle.std.proofs.Common.{◌≡◌, ℕ, ◌+◌, ◌<◌, ◌≤◌, ◌*◌, ◌-◌, List, [], ◌∷◌, ◌++◌, Some, get_or, length, set, refl, sym, ap, subst, ◌∙◌, arith}
+use Rattle.std.proofs.Common.{◌≡◌, ℕ, ◌+◌, ◌<◌, ◌≤◌, ◌*◌, ◌-◌, List, [], ◌∷◌, ◌++◌, get_or, length, set, refl, sym, ap, subst, ◌∙◌, arith}
 use Rattle.std.proofs.lemmas.List.{get_or-set_same, length-append}
 use Rattle.std.proofs.lemmas.List.Sums.{sum_by-set}
 use Rattle.std.specs.List.{sum}
 use Rattle.at_ledger.specs.Book.{BookTerms}
 use Rattle.at_ledger.specs.Call.{TargetPair, amount_of}
-use Rattle.at_ledger.specs.declared.call.Call.{Call}
 use Rattle.at_ledger.specs.declared.call.Reply.TheVariants.{Done, Short}
 use Rattle.at_history.proofs.Laws.Fronts.{length-IsFront, place-IsFront-le}
 use Rattle.at_history.proofs.Laws.Histories.{ArePublishedBy-IsHistory}
@@ -22,10 +21,8 @@ use Rattle.at_board.specs.declared.knowledge.Part.{Part}
 use Rattle.at_board.specs.declared.words.TheConstants.{RECORD_WORDS}
 use Rattle.at_fold.specs.HasCounted.{HasCounted}
 use Rattle.at_fold.specs.Sums.{TotalSums}
-use Rattle.at_log.specs.Receipts.{payout_of}
 use Rattle.at_log.specs.declared.receipt.At.TheVariants.{Front, Own}
 use Rattle.at_object.proofs.Laws.Looked.{own_part-HasLoaded}
-use Rattle.at_object.specs.Paid.{PaysAlone}
 use Rattle.at_single.proofs.Laws.Looks.{first-HasLoaded}
 use Rattle.at_single.proofs.Laws.OwnRecords.{owns_of-IsPrefix-take}
 use Rattle.at_single.proofs.Laws.Paid.{IsPaid, IsSnapshot-IsPaid, begins-IsPaid, first-IsPaid, front_behind-IsPaid, more-IsPaid, number-IsPaid, place-IsPaid, prefix_of-IsPaid, record-IsPaid, within-IsPaid}
@@ -37,7 +34,7 @@ use Rattle.at_snapshot.specs.Snapshots.{IsSnapshot, snapshot_steps}
 use Rattle.at_machines.specs.Appending.{starting_appending}
 use Rattle.at_calling.specs.KeptPayingAlone.{IsPayingAloneSo}
 use Rattle.at_machines.specs.Looking.{IsWithin}
-use Rattle.at_calling.specs.PayingAlone.{HasSameAsking, PayingAloneTerms, append_steps}
+use Rattle.at_calling.specs.PayingAlone.{AnswersAlone, HasSameAsking, PayingAloneTerms, append_steps}
 use Rattle.at_calling.specs.Reading.{LeavesTotals}
 use Rattle.at_calling.specs.declared.pay_stage.PayStage.{PayStage}
 use Rattle.at_calling.specs.declared.pay_stage.PayStage.TheVariants.{Append}
@@ -75,7 +72,6 @@ sum-HasLooked-le b v w was now front looked =
 -- the payment that goes on with this stage, after so many turns of its look, with what its seat knows and its totals have counted
 abbrev pub paying_next : PayingAloneTerms → PayStage → ℕ → Knowledge → TotalSums → PayingAloneTerms
 paying_next s stage looked x now = record {
-  call = s.call;
   from = s.from;
   targets = s.targets;
   stage = stage;
@@ -98,7 +94,6 @@ IsPayingAloneSo-append s x now front turns so book looked enough within = record
   kept = so.kept;
   book = book;
   asks = HasSameAsking-HasLoaded s.start.book s.start x (omega (arith, so.kept.one_part)) looked.loads;
-  payout = so.payout;
   owner = so.owner;
   account_in = so.account_in;
   targets_in = so.targets_in;
@@ -113,13 +108,13 @@ IsPayingAloneSo-append s x now front turns so book looked enough within = record
   };
 }
 
-module _ (b : BookTerms) (v w : Knowledge) (was now : TotalSums) (front : List ℕ) (from : ℕ) (targets : List TargetPair) (call : Call)
-    (looked : HasLooked b v w was now front) (payout : payout_of call ≡ Some (from, targets)) (owner : IsOnlyOwner b v.first from)
+module _ (b : BookTerms) (v w : Knowledge) (was now : TotalSums) (front : List ℕ) (from : ℕ) (targets : List TargetPair)
+    (looked : HasLooked b v w was now front) (owner : IsOnlyOwner b v.first from)
     (room : owns_of v.first v.seen < b.own_room) where
   -- the balance at the front doesn't cover the payment
-  pub PaysAlone-short : balance_after b (prefix_of front w.seen) from < amount_of targets
-      → PaysAlone b v w from targets call (record { call = call; reply = Short; at = Front front })
-  PaysAlone-short less = record {
+  pub AnswersAlone-short : balance_after b (prefix_of front w.seen) from < amount_of targets
+      → AnswersAlone b v w from targets (Short, Front front)
+  AnswersAlone-short less call payout = record {
     call_is = refl;
     reply = payment_reply-short b (prefix_of front w.seen) from targets less;
     placed = λ earlier owns.
@@ -132,9 +127,9 @@ module _ (b : BookTerms) (v w : Knowledge) (was now : TotalSums) (front : List �
 
   -- the record that the front covers is published
   module _ (x : Knowledge) (paid : IsPaid b v w x front from targets) where
-    pub PaysAlone-done : amount_of targets ≤ balance_after b (prefix_of front w.seen) from
-        → PaysAlone b v x from targets call (record { call = call; reply = Done; at = Own (own_part v).published })
-    PaysAlone-done enough =
+    pub AnswersAlone-done : amount_of targets ≤ balance_after b (prefix_of front w.seen) from
+        → AnswersAlone b v x from targets (Done, Own (own_part v).published)
+    AnswersAlone-done enough call payout =
         let number : ℕ = (own_part v).published in
         let behind : front_behind x (Own number) ≡ front = front_behind-IsPaid b v w x front from targets paid in
         record {

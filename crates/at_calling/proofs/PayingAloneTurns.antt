@@ -7,12 +7,12 @@ use Rattle.at_board.specs.Words.Addresses.{record_width}
 use Rattle.at_board.specs.declared.knowledge.Knowledge.{Knowledge}
 use Rattle.at_fold.specs.HasCounted.{StaysCounted}
 use Rattle.at_fold.specs.Sums.{TotalSums}
-use Rattle.at_log.specs.declared.receipt.Receipt.{Receipt}
-use Rattle.at_object.specs.Paid.{PaysAlone}
+use Rattle.at_ledger.specs.declared.call.Reply.{Reply}
+use Rattle.at_log.specs.declared.receipt.At.{At}
 use Rattle.at_snapshot.specs.Collected.{HasLoaded}
 use Rattle.at_calling.proofs.PayingAloneLaws.{HasSameAsking-HasLoaded, paying_next}
 use Rattle.at_calling.specs.KeptPayingAlone.{IsAppendingThen, IsLookingFirst, IsPayStageSo, IsPayingAloneSo, TakesPayTurn}
-use Rattle.at_calling.specs.PayingAlone.{HasSameAsking, IsPayWithin, MakesPayStep, PayingAloneTerms, append_steps, pay_turns_left, turns_in}
+use Rattle.at_calling.specs.PayingAlone.{AnswersAlone, HasSameAsking, IsPayWithin, MakesPayStep, PayingAloneTerms, append_steps, pay_turns_left, turns_in}
 use Rattle.at_calling.specs.Reading.{LeavesTotals}
 use Rattle.at_calling.specs.declared.pay_stage.PayStage.{PayStage}
 use Rattle.at_calling.specs.declared.pay_stage.PayStage.TheVariants.{Append, Look}
@@ -37,14 +37,13 @@ module _ (b : BookTerms) (t : PayingAloneTerms) (so : IsPayingAloneSo t) (book :
         subst (λ (s : TotalSums). IsWithin b.processes s (length after.knows.seen) turns) looks.was_is so_far in
         omega arith
 
-    pub TakesPayTurn-look : (stage : PayStage) (answer : Option Receipt) → turns_in turns stage ≡ turns
+    pub TakesPayTurn-look : (stage : PayStage) (answer : Option (Reply × At)) → turns_in turns stage ≡ turns
         → pay_turns_left (record_width b) stage < pay_turns_left (record_width b) (Look l)
-        → (IsSome answer ↔ (pay_turns_left (record_width b) stage ≡ 0)) → IfSome answer (PaysAlone b t.start after.knows t.from t.targets t.call)
+        → (IsSome answer ↔ (pay_turns_left (record_width b) stage ≡ 0)) → IfSome answer (AnswersAlone b t.start after.knows t.from t.targets)
         → IfSome answer (λ r. StaysCounted now b after.knows.seen)
-        → IfSome answer (λ r. LeavesTotals b t.start after.knows t.was now (append_steps (record_width b) r.reply) turns)
+        → IfSome answer (λ r. LeavesTotals b t.start after.knows t.was now (append_steps (record_width b) r.0) turns)
         → TakesPayTurn b t (paying_next t stage turns mark totals) before after now answer
     TakesPayTurn-look stage answer same left ends pays counted leaves = record {
-      call_is = refl;
       from_is = refl;
       targets_are = refl;
       start_is = refl;
@@ -59,7 +58,7 @@ module _ (b : BookTerms) (t : PayingAloneTerms) (so : IsPayingAloneSo t) (book :
       asks = HasSameAsking-HasLoaded t.start.book t.start after.knows (omega (arith, so.kept.one_part)) loads_on;
       pays = pays;
       counted = counted;
-      leaves = subst (λ n. IfSome answer (λ r. LeavesTotals b t.start after.knows t.was now (append_steps (record_width b) r.reply) n)) (sym same) leaves;
+      leaves = subst (λ n. IfSome answer (λ r. LeavesTotals b t.start after.knows t.was now (append_steps (record_width b) r.0) n)) (sym same) leaves;
     }
 
   -- a turn of the append
@@ -77,13 +76,12 @@ module _ (b : BookTerms) (t : PayingAloneTerms) (so : IsPayingAloneSo t) (book :
         subst (λ (k : BookTerms). IsWithin k.processes t.was (sum a.rec.view) t.looked) book appends.few in
         omega (arith, looked, stored, few, more, appends.seen)
 
-    pub TakesPayTurn-append : (answer : Option Receipt) → length t.mark.seen ≤ length after.knows.seen
+    pub TakesPayTurn-append : (answer : Option (Reply × At)) → length t.mark.seen ≤ length after.knows.seen
         → (IsSome answer ↔ (a.stored ≡ record_width b)) → HasSameAsking t.mark after.knows
-        → IfSome answer (PaysAlone b t.start after.knows t.from t.targets t.call) → IfSome answer (λ r. StaysCounted now b after.knows.seen)
-        → IfSome answer (λ r. LeavesTotals b t.start after.knows t.was now (append_steps (record_width b) r.reply) (t.looked + next.stored))
+        → IfSome answer (AnswersAlone b t.start after.knows t.from t.targets) → IfSome answer (λ r. StaysCounted now b after.knows.seen)
+        → IfSome answer (λ r. LeavesTotals b t.start after.knows t.was now (append_steps (record_width b) r.0) (t.looked + next.stored))
         → TakesPayTurn b t (paying_next t (Append next) t.looked mark totals) before after now answer
     TakesPayTurn-append answer more ends asks pays counted leaves = record {
-      call_is = refl;
       from_is = refl;
       targets_are = refl;
       start_is = refl;

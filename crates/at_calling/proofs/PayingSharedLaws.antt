@@ -1,11 +1,12 @@
 -- A payment from a shared account from one turn of helping to the next, and what it answers.
-use Rattle.std.proofs.Common.{◌≡◌, ℕ, ◌≢◌, ◌+◌, ◌-◌, ◌*◌, ◌^◌, ◌<◌, ◌≤◌, suc, true, cond, List, [], ◌∷◌, length, sum, sym, ap, subst, ◌∙◌, arith, inl, inr}
+use Rattle.std.proofs.Common.{◌≡◌, ℕ, ◌≢◌, ◌+◌, ◌-◌, ◌*◌, ◌^◌, ◌<◌, ◌≤◌, suc, true, cond, List, [], ◌∷◌, length, sum, Some, refl, sym, ap, subst, ◌∙◌, arith, inl, inr}
 use Rattle.std.proofs.lemmas.Bool.{cases_Bool}
 use Rattle.std.proofs.lemmas.Nat.{mul-le}
 use Rattle.at_ledger.specs.Account.{is_shared, no_account, slots_of}
 use Rattle.at_ledger.specs.Book.{BookTerms, HasSlot, IsBegun, account_of}
 use Rattle.at_ledger.specs.Limits.{most_owners}
-use Rattle.at_ledger.specs.declared.call.Call.{Call}
+use Rattle.at_ledger.specs.Call.{TargetPair}
+use Rattle.at_ledger.specs.declared.call.Reply.{Reply}
 use Rattle.at_history.proofs.Laws.Counts.{length-counts, sum-counts}
 use Rattle.at_history.proofs.Laws.Fronts.{sum-Covers-le}
 use Rattle.at_history.proofs.Laws.Histories.{ArePublishedBy-IsHistory}
@@ -22,15 +23,15 @@ use Rattle.at_board.specs.declared.knowledge.Knowledge.{Knowledge}
 use Rattle.at_board.specs.declared.words.TheConstants.{RECORD_WORDS}
 use Rattle.at_fold.specs.HasCounted.{HasCounted}
 use Rattle.at_fold.specs.Sums.{TotalSums}
-use Rattle.at_log.specs.Receipts.{asks_in}
+use Rattle.at_log.specs.Receipts.{asks_in, payout_of}
+use Rattle.at_log.specs.declared.receipt.At.{At}
 use Rattle.at_log.specs.declared.receipt.Receipt.{Receipt}
-use Rattle.at_object.specs.Paid.{PaysInRound}
 use Rattle.at_rows.proofs.Laws.Accounts.{HasAccount, HasAccount-IsSeat}
 use Rattle.at_rows.specs.OpenRequests.{request_of}
 use Rattle.at_shared.proofs.Laws.Asked.{StandsAfterSnapshot-SettlesInTurns}
 use Rattle.at_shared.proofs.Laws.Added.{Adds, Adds-HasLoaded, Adds-HasStarted, Adds-trans, HasAccount-Adds}
 use Rattle.at_shared.proofs.Laws.Counting.{steps_after}
-use Rattle.at_shared.proofs.Laws.Turning.{Adds-HelpAnswers, settled-HelpAnswers}
+use Rattle.at_shared.proofs.Laws.Turning.{Adds-HelpAnswers, settled-SettlesOwn}
 use Rattle.at_shared.proofs.Laws.Turns.{Adds-HasTurned, AsksOnce-Adds}
 use Rattle.at_shared.specs.HelpingTerms.{HelpingTerms}
 use Rattle.at_shared.specs.Helpings.{HasAllSettled, HasStarted, decides_made, decides_on, heard_on}
@@ -43,7 +44,7 @@ use Rattle.at_snapshot.specs.Scans.{SeesOwnRecords}
 use Rattle.at_snapshot.specs.Snapshots.{snapshot_steps}
 use Rattle.at_machines.proofs.Laws.Snapshots.{snapshot_steps-le}
 use Rattle.at_calling.specs.KeptPayingShared.{HasCountedSo, HasHelped, IsHelpingThen}
-use Rattle.at_calling.specs.PayingShared.{DecidesFew, PayingSharedTerms, settling_steps, share_turns_most}
+use Rattle.at_calling.specs.PayingShared.{AnswersInRound, DecidesFew, PayingSharedTerms, settling_steps, share_turns_most}
 use Rattle.at_calling.specs.Reading.{LeavesTotals}
 use Rattle.at_calling.specs.Starting.{IsStartOf}
 use Rattle.at_calling.specs.Turning.{IsHelpOf, IsHelpWithin, LeavesSeat, TurningTerms, WaitsOn, help_turns_left, help_turns_made}
@@ -92,11 +93,11 @@ steps-more b a before turns d k made n m all once within so turned counted =
     )
 
 -- where it has started, no turn of helping was made
-module _ (b : BookTerms) (v u : Knowledge) (a : ℕ) (call : Call) (h : HelpingTerms) (start : IsStartOf b v u a call h) where
+module _ (b : BookTerms) (v u : Knowledge) (a : ℕ) (targets : List TargetPair) (h : HelpingTerms) (start : IsStartOf b v u a targets h) where
   pub decides_made-IsStartOf : decides_made a v u ≡ 0
   decides_made-IsStartOf = omega (arith, start.decides a)
 
-  pub HasHelped-start : SeesOwnRecords u → HasHelped b v u a call h
+  pub HasHelped-start : SeesOwnRecords u → HasHelped b v u a targets h
   HasHelped-start own = record {
     started = u;
     start = start;
@@ -133,13 +134,13 @@ module _ (b : BookTerms) (v u : Knowledge) (a : ℕ) (call : Call) (h : HelpingT
 -- a turn of helping begins, where others were made before it
 pub IsHelpingThen-begun : (t : PayingSharedTerms) (h : HelpingTerms) (u : TurningTerms) → u.helping ≡ h → u.start ≡ t.mark → u.mark ≡ t.mark → u.was ≡ t.totals
     → u.totals ≡ t.totals → help_turns_made u ≡ 0 → 0 < help_turns_left t.start.book.processes u.stage
-    → HasHelped t.start.book t.start t.mark t.account t.call h → HasCountedSo t.start.book t.start t.mark t.was t.totals t.account t.turns → IsHelpingThen t h u
+    → HasHelped t.start.book t.start t.mark t.account t.targets h → HasCountedSo t.start.book t.start t.mark t.was t.totals t.account t.turns → IsHelpingThen t h u
 IsHelpingThen-begun t h u helping start mark was totals turns left helped counted = record {
   helping_is = helping;
   mark_is = mark;
   totals_are = totals;
   left = left;
-  helped = subst (λ (v : Knowledge). HasHelped t.start.book t.start v t.account t.call h) (sym start) helped;
+  helped = subst (λ (v : Knowledge). HasHelped t.start.book t.start v t.account t.targets h) (sym start) helped;
   decides = omega (arith, ap (λ (v : Knowledge). decides_on v t.account) start, ap (λ (v : Knowledge). decides_on v t.account) mark);
   before = t.turns;
   counted = subst (λ (v : Knowledge). HasCountedSo t.start.book t.start v t.was u.was t.account t.turns) (sym start)
@@ -148,7 +149,7 @@ IsHelpingThen-begun t h u helping start mark was totals turns left helped counte
 }
 
 -- a turn of helping goes on after others
-module _ (b : BookTerms) (v y z : Knowledge) (a : ℕ) (call : Call) (h : HelpingTerms) (helped : HasHelped b v y a call h) where
+module _ (b : BookTerms) (v y z : Knowledge) (a : ℕ) (targets : List TargetPair) (h : HelpingTerms) (helped : HasHelped b v y a targets h) where
   abbrev account : h.account ≡ a
   account = helped.start.account_is
 
@@ -185,7 +186,7 @@ module _ (b : BookTerms) (v y z : Knowledge) (a : ℕ) (call : Call) (h : Helpin
       decides_made-more : decides_made a v z ≡ suc (decides_made a v y)
       decides_made-more = omega (arith, helped.decides, waits.decides_more, on_y, on_z)
 
-      pub HasHelped-more : IsHelpOf b y z h More → HasHelped b v z a call h
+      pub HasHelped-more : IsHelpOf b y z h More → HasHelped b v z a targets h
       HasHelped-more help =
           let heard_y = ap (heard_on y) account in
           let rounds_y = ap (λ t. rounds t y.seen) account in
@@ -253,12 +254,12 @@ module _ (b : BookTerms) (v y z : Knowledge) (a : ℕ) (call : Call) (h : Helpin
       );
     }
 
-    module _ (r : Receipt) (help : IsHelpOf b y z h (Settled r)) where
-      abbrev pub SettlesInTurns-settled : SettlesInTurns b v z a r
+    module _ (r : Reply × At) (help : IsHelpOf b y z h (Settled r)) where
+      abbrev pub SettlesInTurns-settled : SettlesInTurns b v z a targets
       SettlesInTurns-settled = record {
         helping = h;
-        call = sym help.call;
         account = account;
+        targets_are = helped.start.targets_are;
         started = helped.started;
         starts = helped.start.started;
         turns = decides_made a v y;
@@ -310,7 +311,7 @@ module _ (b : BookTerms) (v y z : Knowledge) (a : ℕ) (call : Call) (h : Helpin
 
         settled_own : is_settled a h.own.slot h.own.number z.seen ≡ true
         settled_own =
-            subst (λ t. is_settled t h.own.slot h.own.number z.seen ≡ true) account (settled-HelpAnswers b y z h has_turned help.answers)
+            subst (λ t. is_settled t h.own.slot h.own.number z.seen ≡ true) account (settled-SettlesOwn b y z h has_turned help.answers)
 
         slot_own : HasSlot b v.first a h.own.slot
         slot_own =
@@ -322,15 +323,20 @@ module _ (b : BookTerms) (v y z : Knowledge) (a : ℕ) (call : Call) (h : Helpin
             AsksOnce-Adds b v z a h.own (Adds-trans b v started.looked z a [] row adds_look adds_since) kept.own settled slot_own helped.start.number
             helped.start.since settled_own
 
-        pub PaysInRound-settled : HasAllSettled b v a → PaysInRound b v z a call r
-        PaysInRound-settled settled = record {
-          call_is = help.call ∙ helped.start.call_is;
-          in_round = help.in_round;
-          placed = λ earlier asks. help.placed earlier (ap (λ t. asks_in t earlier) account ∙ (asks ∙ sym helped.start.number));
-          after_start = λ previous. omega (arith, help.after_start previous, helped.start.since);
-          after_snapshot = StandsAfterSnapshot-SettlesInTurns b v z a r SettlesInTurns-settled has_account helped.own help.after_start;
-          asked = asks_once settled;
-          free = seat.free;
-          begins = begins;
-          process_is = seat.process ∙ helped.process;
-        }
+        pub AnswersInRound-settled : HasAllSettled b v a → AnswersInRound b v z a targets r
+        AnswersInRound-settled settled call payout =
+            let there : payout_of call ≡ Some (h.account, h.own.targets) =
+            payout ∙ (ap (λ n. Some (n, targets)) (sym account) ∙ ap (λ (ts : List TargetPair). Some (h.account, ts)) (sym helped.start.targets_are)) in
+            let receipt : Receipt = record { call = call; reply = r.0; at = r.1 } in
+            record {
+              call_is = refl;
+              in_round = help.in_round;
+              placed = λ earlier asks. help.placed call there earlier (ap (λ t. asks_in t earlier) account ∙ (asks ∙ sym helped.start.number));
+              after_start = λ previous. omega (arith, help.after_start call there previous, helped.start.since);
+              after_snapshot = StandsAfterSnapshot-SettlesInTurns b v z a targets SettlesInTurns-settled receipt has_account helped.own
+                  (help.after_start call there);
+              asked = asks_once settled;
+              free = seat.free;
+              begins = begins;
+              process_is = seat.process ∙ helped.process;
+            }

@@ -7,12 +7,12 @@ use Rattle.at_board.specs.Knowledge.Seats.{SeatTerms}
 use Rattle.at_board.specs.declared.knowledge.Knowledge.{Knowledge}
 use Rattle.at_fold.specs.HasCounted.{HasCounted}
 use Rattle.at_fold.specs.Sums.{TotalSums}
-use Rattle.at_log.specs.declared.receipt.Receipt.{Receipt}
-use Rattle.at_object.specs.Paid.{PaysInRound}
+use Rattle.at_ledger.specs.declared.call.Reply.{Reply}
+use Rattle.at_log.specs.declared.receipt.At.{At}
 use Rattle.at_shared.specs.Helpings.{decides_made}
 use Rattle.at_shared.specs.PaymentTurns.{SettlesInTurns}
 use Rattle.at_calling.specs.KeptPayingShared.{TakesShareTurn}
-use Rattle.at_calling.specs.PayingShared.{DecidesFew, MakesShareStep, PayingSharedTerms, settling_steps, share_exchanges_at, share_exchanges_made, share_turns_left, share_turns_most, unless_settled, unless_starting}
+use Rattle.at_calling.specs.PayingShared.{AnswersInRound, DecidesFew, MakesShareStep, PayingSharedTerms, settling_steps, share_exchanges_at, share_exchanges_made, share_turns_left, share_turns_most, unless_settled, unless_starting}
 use Rattle.at_calling.specs.Reading.{LeavesTotals}
 use Rattle.at_calling.specs.declared.share_stage.ShareStage.{ShareStage}
 use Rattle.at_calling.specs.declared.share_stage.ShareStage.TheVariants.{Ended, Help, Start}
@@ -57,8 +57,8 @@ module _ (b : BookTerms) (t : PayingSharedTerms) (before after : SeatTerms) (now
       → unless_starting (decides_made t.account t.start mark) stage ≡ share_exchanges_made t + share_exchanges_at t.stage
       → TakesShareTurn b t (share_next t stage mark totals) before after now None
   TakesShareTurn-on stage goes few decides = record {
-    call_is = refl;
     account_is = refl;
+    targets_are = refl;
     start_is = refl;
     mark_is = mark_is;
     was_is = refl;
@@ -80,14 +80,15 @@ module _ (b : BookTerms) (t : PayingSharedTerms) (before after : SeatTerms) (now
   }
 
   -- the request is settled
-  pub TakesShareTurn-settled : (r : Receipt) → PaysInRound b t.start after.knows t.account t.call r → SettlesInTurns b t.start after.knows t.account r
+  pub TakesShareTurn-settled : (r : Reply × At) → AnswersInRound b t.start after.knows t.account t.targets r
+      → SettlesInTurns b t.start after.knows t.account t.targets
       → DecidesFew b t.start after.knows t.account → HasCounted now b after.knows.seen
       → LeavesTotals b t.start after.knows t.was now (settling_steps b t.account) (t.turns + 1)
       → decides_made t.account t.start mark ≡ share_exchanges_made t + share_exchanges_at t.stage
       → TakesShareTurn b t (share_next t Ended mark totals) before after now (Some r)
   TakesShareTurn-settled r pays settles few counted leaves decides = record {
-    call_is = refl;
     account_is = refl;
+    targets_are = refl;
     start_is = refl;
     mark_is = mark_is;
     was_is = refl;

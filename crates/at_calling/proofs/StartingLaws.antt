@@ -16,7 +16,6 @@ use Rattle.at_board.specs.declared.words.TheConstants.{REQUEST_WORDS}
 use Rattle.at_fold.proofs.Laws.MorePublished.{StaysCounted-HasCounted}
 use Rattle.at_fold.specs.HasCounted.{StaysCounted}
 use Rattle.at_fold.specs.Sums.{TotalSums}
-use Rattle.at_log.specs.Receipts.{payout_of}
 use Rattle.at_rows.proofs.Laws.Accounts.{HasAccount, HasAccount-IsSeat}
 use Rattle.at_rows.specs.Asks.{HasAsked, HasLoadedNothing, MayAskFor, asked_for, opened}
 use Rattle.at_rows.specs.Rows.{AreCandidates, CollectsRows}
@@ -80,13 +79,13 @@ module _ (t : StartingTerms) (so : IsStartingSo t) where
     MayAskFor-HasLooked targets are =
         MayAskFor-IsSnapshot t.start.book t.start w t.account slot_of_start targets front has looked.snapshot looked.loads so.asks.1 so.settled are
 
-    pub IsStartingSo-ask : (targets : List TargetPair) (turns : ℕ) → payout_of t.call ≡ Some (t.account, targets)
+    pub IsStartingSo-ask : (targets : List TargetPair) (turns : ℕ) → targets ≡ t.targets
         → IsWithin t.start.book.processes t.was (sum front) turns
         → IsStartingSo (start_after_look t (Ask (starting_to_ask w t.account targets (place front))) w now turns)
-    IsStartingSo-ask targets turns payout few = record {
+    IsStartingSo-ask targets turns same few = record {
       kept = so.kept;
       book = ap (λ (k : Knowledge). k.book) looked.loads.same;
-      payout = so.payout;
+      targets_in = so.targets_in;
       asks = so.asks;
       settled = so.settled;
       free = so.free;
@@ -95,7 +94,7 @@ module _ (t : StartingTerms) (so : IsStartingSo t) where
         left = omega arith;
         to_ask = record {
           account_is = refl;
-          payout = payout;
+          targets_are = same;
           front = front;
           looked_at = looked;
           since_is = refl;
@@ -128,7 +127,7 @@ module _ (t : StartingTerms) (so : IsStartingSo t) where
     pub HasLookedToAsk-more : (stage : StartStage) → HasLookedToAsk (start_after t stage w) looked account targets since
     HasLookedToAsk-more stage = record {
       account_is = to_ask.account_is;
-      payout = to_ask.payout;
+      targets_are = to_ask.targets_are;
       front = to_ask.front;
       looked_at = to_ask.looked_at;
       since_is = to_ask.since_is;
@@ -142,7 +141,7 @@ module _ (t : StartingTerms) (so : IsStartingSo t) where
   IsStartingSo-stage stage w book stage_so = record {
     kept = so.kept;
     book = book;
-    payout = so.payout;
+    targets_in = so.targets_in;
     asks = so.asks;
     settled = so.settled;
     free = so.free;
@@ -245,19 +244,18 @@ module _ (t : StartingTerms) (so : IsStartingSo t) where
       has_there : HasAccount t.start c.account
       has_there = subst (HasAccount t.start) (sym is.to_ask.account_is) has
 
-      pub IsStartOf-CollectsRows : IsStartOf t.start.book t.start w t.account t.call (helping_of t.call t.account c.own asked)
+      pub IsStartOf-CollectsRows : IsStartOf t.start.book t.start w t.account t.targets (helping_of t.account c.own asked)
       IsStartOf-CollectsRows =
           let b : BookTerms = t.start.book in
           let kept = Keeps-StartsBy b t.start w c.account c.own asked parts has_there in
           let number = number-StartsBy b t.start w c.account c.own asked parts has_there in
           let room : c.own.number < b.request_room =
           omega (arith, number, so.asks.1.room, ap (λ n. length (asking_on (own_part t.start) n).announced) is.to_ask.account_is) in
-          let payout = subst (λ n. payout_of t.call ≡ Some (n, c.own.targets)) (sym is.to_ask.account_is) is.to_ask.payout in
-          let here : IsStartOf b t.start w c.account t.call (helping_of t.call c.account c.own asked) = record {
-            call_is = refl;
+          let here : IsStartOf b t.start w c.account t.targets (helping_of c.account c.own asked) = record {
             account_is = refl;
-            started = HasStarted-StartsBy b t.start w c.account c.own asked parts has_there t.call;
-            helping = IsHelping-StartsBy b t.start w c.account c.own asked parts has_there t.call payout room so.free;
+            targets_are = is.to_ask.targets_are;
+            started = HasStarted-StartsBy b t.start w c.account c.own asked parts has_there;
+            helping = IsHelping-StartsBy b t.start w c.account c.own asked parts has_there room so.free;
             number = number;
             since = since-StartsBy b t.start w c.account c.own asked parts has_there;
             begins = kept.more;
@@ -265,7 +263,7 @@ module _ (t : StartingTerms) (so : IsStartingSo t) where
             decides = kept.decides;
             published = kept.published;
           } in
-          subst (λ n. IsStartOf b t.start w n t.call (helping_of t.call n c.own asked)) is.to_ask.account_is here
+          subst (λ n. IsStartOf b t.start w n t.targets (helping_of n c.own asked)) is.to_ask.account_is here
 
       pub LeavesTotals-CollectsRows : (turns steps : ℕ) → turns ≤ t.looked + steps
           → LeavesTotals t.start.book t.start w t.was t.totals steps turns

@@ -60,8 +60,8 @@ module _ (b : BookTerms) (t : StartingTerms) (so : IsStartingSo t) (book : t.sta
         → start_turns_after most stage < start_turns_after most (Look l)
         → TakesStartTurn b t (start_after_look t stage mark totals turns) before after now None
     TakesStartTurn-look stage same some left = record {
-      call_is = refl;
       account_is = refl;
+      targets_are = refl;
       start_is = refl;
       mark_is = mark_is;
       was_is = refl;
@@ -86,8 +86,8 @@ module _ (b : BookTerms) (t : StartingTerms) (so : IsStartingSo t) (book : t.sta
         → start_turns_after most stage < start_turns_after most (Ask a)
         → TakesStartTurn b t (start_after t stage mark) before after t.totals None
     TakesStartTurn-ask stage same step some left = record {
-      call_is = refl;
       account_is = refl;
+      targets_are = refl;
       start_is = refl;
       mark_is = mark_is;
       was_is = refl;
@@ -128,12 +128,12 @@ module _ (b : BookTerms) (t : StartingTerms) (so : IsStartingSo t) (book : t.sta
         )
 
     pub TakesStartTurn-collect : (answer : Option HelpingTerms) → MakesStartStep b (Collect c) before after t.totals
-        → (IsSome answer ↔ (next.next ≡ nothing)) → IfSome answer (IsStartOf b t.start after.knows t.account t.call)
+        → (IsSome answer ↔ (next.next ≡ nothing)) → IfSome answer (IsStartOf b t.start after.knows t.account t.targets)
         → IfSome answer (λ h. LeavesTotals b t.start after.knows t.was t.totals most (start_turns_in t.looked (Collect next)))
         → TakesStartTurn b t (start_after t (Collect next) mark) before after t.totals answer
     TakesStartTurn-collect answer step ends starts leaves = record {
-      call_is = refl;
       account_is = refl;
+      targets_are = refl;
       start_is = refl;
       mark_is = mark_is;
       was_is = refl;

@@ -7,7 +7,6 @@ use Rattle.at_base.specs.Decision.{word_of}
 use Rattle.at_base.specs.declared.decision.Decision.{Decision}
 use Rattle.at_ledger.specs.Book.{BookTerms}
 use Rattle.at_ledger.specs.declared.call.Reply.{Reply}
-use Rattle.at_ledger.specs.declared.call.Reply.TheVariants.{Done, Short}
 use Rattle.at_history.proofs.Laws.Fronts.{length-IsFront}
 use Rattle.at_history.proofs.Laws.Prefixes.{IsPrefix-length}
 use Rattle.at_history.specs.Fronts.{prefix_of}
@@ -27,14 +26,14 @@ use Rattle.at_fold.proofs.Laws.LoadedRecords.{sum-caught}
 use Rattle.at_fold.specs.Counted.{IsDecidedIn}
 use Rattle.at_fold.specs.Sums.{TotalSums}
 use Rattle.at_log.specs.declared.receipt.At.{At}
-use Rattle.at_log.specs.declared.receipt.Receipt.{Receipt}
 use Rattle.at_rows.proofs.Laws.Accounts.{HasAccount, asking_on-with_asking}
 use Rattle.at_shared.proofs.Laws.After.{IsAfter, IsAfter-Decides, IsAfter-Publishes}
+use Rattle.at_shared.proofs.Laws.Placing.{StandsInRound-IsDecidedSo}
 use Rattle.at_shared.proofs.Laws.Turned.{FindsSettled-turn, HelpsDecide-turn, IsHelping-turn, IsPlaced-turn-found, IsPlaced-turn-own, StandsAfter-turn-found, StandsAfter-turn-own, begins-turn, decides-turn, decides_elsewhere-turn, free-turn, heard-turn, overtaken-turn, process-turn, published-turn, rounds-turn}
-use Rattle.at_shared.specs.HelpTurns.{DecidesNext, NamesOwn}
+use Rattle.at_shared.specs.HelpTurns.{DecidesNext, IsDecidedSo, NamesOwn}
 use Rattle.at_shared.specs.HelpingTerms.{HelpingTerms}
 use Rattle.at_shared.specs.Helpings.{IsHelping, decides_made, decides_on}
-use Rattle.at_shared.specs.Settling.{StandsInRound, round_steps}
+use Rattle.at_shared.specs.Settling.{round_steps}
 use Rattle.at_shared.specs.declared.helping.HelpTurn.TheVariants.{Settled, More}
 use Rattle.at_single.specs.Looks.{HasLooked}
 use Rattle.at_snapshot.specs.Snapshots.{snapshot_steps}
@@ -45,15 +44,6 @@ use Rattle.at_machines.specs.Looking.{IsWithin}
 use Rattle.at_calling.specs.Reading.{LeavesTotals}
 use Rattle.at_calling.specs.Turning.{IsHelpOf, IsHelpWithin, LeavesSeat, TurningTerms, WaitsOn}
 use Rattle.at_calling.specs.declared.turn_stage.TurnStage.TheVariants.{Decide}
-
--- a decision's reply is one of two
-reply_in : (ok : Bool) (reply : Reply) → reply ≡ cond ok Done Short → (reply ≡ Done) ⊎ (reply ≡ Short)
-reply_in true reply is = inl is
-reply_in false reply is = inr is
-
--- the receipt of a decision stands in its round
-StandsInRound-receipt : (r : ℕ) (d : Decision) (receipt : Receipt) → receipt.reply ≡ cond d.ok Done Short → receipt.at ≡ At.Round r d.place → StandsInRound receipt
-StandsInRound-receipt r d receipt reply at = record { round = r; place = d.place; at = at; reply = reply_in d.ok receipt.reply reply }
 
 -- a round has so many steps, and its exchange is the first
 pub left_of_round-le : (n : ℕ) (next : NextOfRound) → left_of_round n next ≤ round_steps n
@@ -194,15 +184,13 @@ module _ (b : BookTerms) (t : TurningTerms) (d e : DecidingTerms) (w : Knowledge
 module _ (b : BookTerms) (v w : Knowledge) (was now : TotalSums) (front : List ℕ) (h : HelpingTerms) (has : HasAccount v h.account)
     (looked : HasLooked b v w was now front) (is : IsHelping b v h) where
   -- the request is decided in the front's records
-  pub IsHelpOf-found : (r : ℕ) (d : Decision) (receipt : Receipt) → AgreesWithSeen w
-      → IsDecidedIn (prefix_of front w.seen) h.account h.own.slot h.own.number r d → receipt.call ≡ h.call → receipt.reply ≡ cond d.ok Done Short
-      → receipt.at ≡ At.Round r d.place → IsHelpOf b v w h (Settled receipt)
-  IsHelpOf-found r d receipt agrees found call reply at = record {
+  pub IsHelpOf-found : (r : ℕ) (d : Decision) (answer : Reply × At) → AgreesWithSeen w
+      → IsDecidedIn (prefix_of front w.seen) h.account h.own.slot h.own.number r d → IsDecidedSo r d answer → IsHelpOf b v w h (Settled answer)
+  IsHelpOf-found r d answer agrees found so = record {
     answers = inl (FindsSettled-turn b v w h front has looked.snapshot looked.loads is r d found);
-    call = call;
-    in_round = StandsInRound-receipt r d receipt reply at;
-    placed = IsPlaced-turn-found b v w h front has looked.snapshot looked.loads is r d receipt agrees found call reply at;
-    after_start = StandsAfter-turn-found b v w h front has looked.snapshot looked.loads is r d receipt agrees found call at;
+    in_round = StandsInRound-IsDecidedSo r d answer so;
+    placed = IsPlaced-turn-found b v w h front has looked.snapshot looked.loads is r d answer agrees found so;
+    after_start = StandsAfter-turn-found b v w h front has looked.snapshot looked.loads is r d answer agrees found so;
   }
 
   -- the round at the front is decided and published
@@ -210,20 +198,18 @@ module _ (b : BookTerms) (v w : Knowledge) (was now : TotalSums) (front : List �
     decides_made-decided : decides_made h.account v x ≡ 1
     decides_made-decided = omega (arith, decides-turn b v w h front has looked.snapshot looked.loads is x d next)
 
-    pub IsHelpOf-own : (r : ℕ) (receipt : Receipt) → AgreesWithSeen x → r ≡ rounds h.account (prefix_of front w.seen) → NamesOwn h d
-        → receipt.call ≡ h.call → receipt.reply ≡ cond d.ok Done Short → receipt.at ≡ At.Round r d.place → IsHelpOf b v x h (Settled receipt)
-    IsHelpOf-own r receipt agrees round names call reply at = record {
+    pub IsHelpOf-own : (r : ℕ) (answer : Reply × At) → AgreesWithSeen x → r ≡ rounds h.account (prefix_of front w.seen) → NamesOwn h d
+        → IsDecidedSo r d answer → IsHelpOf b v x h (Settled answer)
+    IsHelpOf-own r answer agrees round names so = record {
       answers = inr (d, HelpsDecide-turn b v w h front has looked.snapshot looked.loads is x d next, names);
-      call = call;
-      in_round = StandsInRound-receipt r d receipt reply at;
-      placed = IsPlaced-turn-own b v w h front has looked.snapshot looked.loads is x d next r receipt agrees round names call reply at;
-      after_start = StandsAfter-turn-own b v w h front has looked.snapshot looked.loads is x d next r receipt agrees round names call at;
+      in_round = StandsInRound-IsDecidedSo r d answer so;
+      placed = IsPlaced-turn-own b v w h front has looked.snapshot looked.loads is x d next r answer agrees round names so;
+      after_start = StandsAfter-turn-own b v w h front has looked.snapshot looked.loads is x d next r answer agrees round names so;
     }
 
     pub IsHelpOf-other : ¬ NamesOwn h d → IsHelpOf b v x h More
     IsHelpOf-other other = record {
       answers = (d, HelpsDecide-turn b v w h front has looked.snapshot looked.loads is x d next, other);
-      call = tt;
       in_round = tt;
       placed = tt;
       after_start = tt;

@@ -16,7 +16,6 @@ use Rattle.at_object.specs.Parted.{pass_of}
 use Rattle.at_object.specs.Passes.{PassTerms, one_more_call}
 use Rattle.at_object.specs.Payments.{refusal_of}
 use Rattle.at_object.specs.declared.parts.Rest.{Rest}
-use Rattle.at_shared.specs.Helpings.{IsPayoutFrom}
 use Rattle.at_machines.specs.Looking.{MakesLookLoad, look_turns_left}
 use Rattle.at_calling.specs.PayingAlone.{MakesPayStep, pay_turns_left, turns_made}
 use Rattle.at_calling.specs.PayingShared.{MakesShareStep, share_exchanges_at, share_exchanges_made, share_turns_left}
@@ -53,9 +52,9 @@ IsWay b before call (Refuse reply) = refusal_in b before call ≡ Some reply
 IsWay b before call Refused = refusal_in b before call ≢ None
 IsWay b before call (Read r) = call ≡ Call.Read r.account
 IsWay b before call (PayAlone p) =
-    (payout_of call ≡ Some (p.from, p.targets)) × (p.call ≡ call) × (refusal_in b before call ≡ None) × (is_single (account_of b p.from) ≡ true)
+    (payout_of call ≡ Some (p.from, p.targets)) × (refusal_in b before call ≡ None) × (is_single (account_of b p.from) ≡ true)
 IsWay b before call (PayShared p) =
-    IsPayoutFrom b p.account call × (p.call ≡ call) × (refusal_in b before call ≡ None) × (is_shared (account_of b p.account) ≡ true)
+    (payout_of call ≡ Some (p.account, p.targets)) × (refusal_in b before call ≡ None) × (is_shared (account_of b p.account) ≡ true)
 
 -- what begins with what its seat knows and its totals have counted
 pub record BeginsWith (v : Knowledge) (counted : TotalSums) (start mark : Knowledge) (was totals : TotalSums) : Type 0 where

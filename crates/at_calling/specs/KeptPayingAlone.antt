@@ -1,5 +1,5 @@
 -- What the type of a payment in the making keeps of its fields, which no caller sees.
-use Rattle.std.specs.Prelude.{◌≡◌, ◌+◌, ◌<◌, ◌≤◌, ◌↔◌, IfSome, IsSome, Option, Some, length, sum}
+use Rattle.std.specs.Prelude.{◌≡◌, ◌+◌, ◌<◌, ◌≤◌, ◌↔◌, IfSome, IsSome, Option, length, sum}
 use Rattle.at_ledger.specs.Book.{BookTerms}
 use Rattle.at_ledger.specs.Call.{amount_of}
 use Rattle.at_history.specs.Balances.{balance_after}
@@ -11,14 +11,13 @@ use Rattle.at_board.specs.Knowledge.Seats.{IsKept, SeatTerms}
 use Rattle.at_board.specs.Words.Addresses.{record_width}
 use Rattle.at_fold.specs.HasCounted.{StaysCounted}
 use Rattle.at_fold.specs.Sums.{TotalSums}
-use Rattle.at_log.specs.Receipts.{payout_of}
-use Rattle.at_log.specs.declared.receipt.Receipt.{Receipt}
-use Rattle.at_object.specs.Paid.{PaysAlone}
+use Rattle.at_ledger.specs.declared.call.Reply.{Reply}
+use Rattle.at_log.specs.declared.receipt.At.{At}
 use Rattle.at_single.specs.Looks.{HasLooked}
 use Rattle.at_single.specs.Standing.{IsOnlyOwner}
 use Rattle.at_machines.specs.Appending.{AppendingTerms}
 use Rattle.at_machines.specs.Looking.{IsWithin, LookingTerms, look_turns_left}
-use Rattle.at_calling.specs.PayingAlone.{HasSameAsking, IsPayWithin, MakesPayStep, PayingAloneTerms, append_steps, pay_turns_left, turns_made}
+use Rattle.at_calling.specs.PayingAlone.{AnswersAlone, HasSameAsking, IsPayWithin, MakesPayStep, PayingAloneTerms, append_steps, pay_turns_left, turns_made}
 use Rattle.at_calling.specs.Reading.{LeavesTotals}
 use Rattle.at_calling.specs.declared.pay_stage.PayStage.{PayStage}
 use Rattle.at_calling.specs.declared.pay_stage.PayStage.TheVariants.{Append, Look, Short}
@@ -50,7 +49,6 @@ pub record IsPayingAloneSo (t : PayingAloneTerms) : Type 0 where
   pub kept : IsKept t.start
   pub book : t.mark.book ≡ t.start.book
   pub asks : HasSameAsking t.start t.mark
-  pub payout : payout_of t.call ≡ Some (t.from, t.targets)
   pub owner : IsOnlyOwner t.start.book t.start.first t.from
   pub account_in : t.from < length t.start.book.accounts
   pub targets_in : AreTargets t.start.book t.targets
@@ -59,8 +57,7 @@ pub record IsPayingAloneSo (t : PayingAloneTerms) : Type 0 where
 
 -- what a turn leaves of the payment, in whichever stage it was: all but the stage, and what the seat knows and the totals have counted, is
 -- as it was
-pub record TakesPayTurn (b : BookTerms) (t u : PayingAloneTerms) (before after : SeatTerms) (now : TotalSums) (answer : Option Receipt) : Type 0 where
-  pub call_is : u.call ≡ t.call
+pub record TakesPayTurn (b : BookTerms) (t u : PayingAloneTerms) (before after : SeatTerms) (now : TotalSums) (answer : Option (Reply × At)) : Type 0 where
   pub from_is : u.from ≡ t.from
   pub targets_are : u.targets ≡ t.targets
   pub start_is : u.start ≡ t.start
@@ -73,6 +70,6 @@ pub record TakesPayTurn (b : BookTerms) (t u : PayingAloneTerms) (before after :
   pub ends : IsSome answer ↔ (pay_turns_left (record_width b) u.stage ≡ 0)
   pub so_far : IsPayWithin b.processes t.was (length after.knows.seen) (turns_made u)
   pub asks : HasSameAsking t.start after.knows
-  pub pays : IfSome answer (PaysAlone b t.start after.knows t.from t.targets t.call)
+  pub pays : IfSome answer (AnswersAlone b t.start after.knows t.from t.targets)
   pub counted : IfSome answer (λ r. StaysCounted now b after.knows.seen)
-  pub leaves : IfSome answer (λ r. LeavesTotals b t.start after.knows t.was now (append_steps (record_width b) r.reply) (turns_made u))
+  pub leaves : IfSome answer (λ r. LeavesTotals b t.start after.knows t.was now (append_steps (record_width b) r.0) (turns_made u))

@@ -1,8 +1,9 @@
 -- What the type of a payment in the making keeps of its fields, which no caller sees.
-use Rattle.std.specs.Prelude.{◌≡◌, ◌≢◌, ℕ, ◌+◌, ◌*◌, ◌<◌, ◌≤◌, ◌↔◌, IfSome, IsSome, Option, length, sum}
+use Rattle.std.specs.Prelude.{◌≡◌, ◌≢◌, ℕ, ◌+◌, ◌*◌, ◌<◌, ◌≤◌, ◌↔◌, IfSome, IsSome, List, Option, length, sum}
 use Rattle.at_ledger.specs.Account.{slots_of}
 use Rattle.at_ledger.specs.Book.{BookTerms, HasSlot, account_of}
-use Rattle.at_ledger.specs.declared.call.Call.{Call}
+use Rattle.at_ledger.specs.Call.{TargetPair}
+use Rattle.at_ledger.specs.declared.call.Reply.{Reply}
 use Rattle.at_history.specs.Publications.{IsPrefix}
 use Rattle.at_history.specs.Rounds.{rounds}
 use Rattle.at_board.specs.Knowledge.Parts.{own_part}
@@ -11,8 +12,7 @@ use Rattle.at_board.specs.declared.knowledge.Knowledge.{Knowledge}
 use Rattle.at_board.specs.declared.words.TheConstants.{RECORD_WORDS}
 use Rattle.at_fold.specs.HasCounted.{HasCounted}
 use Rattle.at_fold.specs.Sums.{TotalSums}
-use Rattle.at_log.specs.declared.receipt.Receipt.{Receipt}
-use Rattle.at_object.specs.Paid.{PaysInRound}
+use Rattle.at_log.specs.declared.receipt.At.{At}
 use Rattle.at_shared.specs.HelpingTerms.{HelpingTerms}
 use Rattle.at_shared.specs.Helpings.{HasAllSettled, decides_made, decides_on, heard_on}
 use Rattle.at_shared.specs.PaymentTurns.{HasTurned, SettlesInTurns}
@@ -20,7 +20,7 @@ use Rattle.at_shared.specs.Settling.{asking_steps, round_steps}
 use Rattle.at_single.specs.Standing.{newly_counted}
 use Rattle.at_snapshot.specs.Scans.{SeesOwnRecords}
 use Rattle.at_snapshot.specs.Snapshots.{snapshot_steps}
-use Rattle.at_calling.specs.PayingShared.{DecidesFew, IsShareWithin, MakesShareStep, PayingSharedTerms, settling_steps, share_exchanges_at, share_exchanges_made, share_turns_left}
+use Rattle.at_calling.specs.PayingShared.{AnswersInRound, DecidesFew, IsShareWithin, MakesShareStep, PayingSharedTerms, settling_steps, share_exchanges_at, share_exchanges_made, share_turns_left}
 use Rattle.at_calling.specs.Reading.{LeavesTotals}
 use Rattle.at_calling.specs.Starting.{IsStartOf, StartingTerms, start_turns_left, start_turns_made}
 use Rattle.at_calling.specs.Turning.{TurningTerms, help_turns_left, help_turns_made}
@@ -29,8 +29,8 @@ use Rattle.at_calling.specs.declared.share_stage.ShareStage.TheVariants.{Ended, 
 
 -- the start goes on
 pub record IsStartingFirst (t : PayingSharedTerms) (s : StartingTerms) : Type 0 where
-  pub call_is : s.call ≡ t.call
   pub account_is : s.account ≡ t.account
+  pub targets_are : s.targets ≡ t.targets
   pub start_is : s.start ≡ t.start
   pub mark_is : s.mark ≡ t.mark
   pub was_is : s.was ≡ t.was
@@ -40,9 +40,9 @@ pub record IsStartingFirst (t : PayingSharedTerms) (s : StartingTerms) : Type 0 
 
 -- a payment has started, and each turn of helping so far has made one exchange and published a round, of which fewer are left than the
 -- account has owners
-pub record HasHelped (b : BookTerms) (before now : Knowledge) (a : ℕ) (call : Call) (h : HelpingTerms) : Type 0 where
+pub record HasHelped (b : BookTerms) (before now : Knowledge) (a : ℕ) (targets : List TargetPair) (h : HelpingTerms) : Type 0 where
   pub started : Knowledge
-  pub start : IsStartOf b before started a call h
+  pub start : IsStartOf b before started a targets h
   pub own : SeesOwnRecords started
   pub turned : HasTurned b h started (decides_made a before now) now
   pub few : decides_made a before now + 1 ≤ slots_of (account_of b a)
@@ -66,7 +66,7 @@ pub record IsHelpingThen (t : PayingSharedTerms) (h : HelpingTerms) (u : Turning
   pub mark_is : u.mark ≡ t.mark
   pub totals_are : u.totals ≡ t.totals
   pub left : 0 < help_turns_left t.start.book.processes u.stage
-  pub helped : HasHelped t.start.book t.start u.start t.account t.call h
+  pub helped : HasHelped t.start.book t.start u.start t.account t.targets h
   pub decides : decides_on u.start t.account ≤ decides_on u.mark t.account
   pub before : ℕ
   pub counted : HasCountedSo t.start.book t.start u.start t.was u.was t.account before
@@ -88,9 +88,9 @@ pub record IsPayingSharedSo (t : PayingSharedTerms) : Type 0 where
 
 -- what a turn leaves of the payment, in whichever stage it was: all but the stage and the count of turns, and what the seat knows and the
 -- totals have counted, is as it was
-pub record TakesShareTurn (b : BookTerms) (t u : PayingSharedTerms) (before after : SeatTerms) (now : TotalSums) (answer : Option Receipt) : Type 0 where
-  pub call_is : u.call ≡ t.call
+pub record TakesShareTurn (b : BookTerms) (t u : PayingSharedTerms) (before after : SeatTerms) (now : TotalSums) (answer : Option (Reply × At)) : Type 0 where
   pub account_is : u.account ≡ t.account
+  pub targets_are : u.targets ≡ t.targets
   pub start_is : u.start ≡ t.start
   pub mark_is : u.mark ≡ after.knows
   pub was_is : u.was ≡ t.was
@@ -100,8 +100,8 @@ pub record TakesShareTurn (b : BookTerms) (t u : PayingSharedTerms) (before afte
   pub left : share_turns_left b u < share_turns_left b t
   pub so_far : IsShareWithin b u (length after.knows.seen)
   pub ends : IsSome answer ↔ (share_turns_left b u ≡ 0)
-  pub pays : IfSome answer (PaysInRound b t.start after.knows t.account t.call)
-  pub settles : IfSome answer (SettlesInTurns b t.start after.knows t.account)
+  pub pays : IfSome answer (AnswersInRound b t.start after.knows t.account t.targets)
+  pub settles : IfSome answer (λ r. SettlesInTurns b t.start after.knows t.account t.targets)
   pub few : IfSome answer (λ r. DecidesFew b t.start after.knows t.account)
   pub counted : IfSome answer (λ r. HasCounted now b after.knows.seen)
   pub leaves : IfSome answer (λ r. LeavesTotals b t.start after.knows t.was now (settling_steps b t.account) u.turns)

@@ -1,9 +1,10 @@
 -- What the type of a start in the making keeps of its fields, which no caller sees.
-use Rattle.std.specs.Prelude.{◌≡◌, ℕ, ◌+◌, ◌<◌, ◌≤◌, ◌↔◌, List, IfSome, IsSome, Option, None, Some, length, sum}
+use Rattle.std.specs.Prelude.{◌≡◌, ℕ, ◌+◌, ◌<◌, ◌≤◌, ◌↔◌, List, IfSome, IsSome, Option, None, length, sum}
 use Rattle.at_ledger.specs.Book.{BookTerms}
 use Rattle.at_ledger.specs.Call.{TargetPair}
 use Rattle.at_history.specs.Fronts.{place}
 use Rattle.at_history.specs.Publications.{IsPrefix}
+use Rattle.at_history.specs.Sound.{AreTargets}
 use Rattle.at_board.specs.Knowledge.Parts.{asking_on, own_part}
 use Rattle.at_board.specs.Knowledge.Seats.{IsKept, SeatTerms}
 use Rattle.at_board.specs.Steps.Announce.{Announces}
@@ -12,11 +13,10 @@ use Rattle.at_board.specs.declared.knowledge.Knowledge.{Knowledge}
 use Rattle.at_board.specs.declared.words.TheConstants.{REQUEST_WORDS}
 use Rattle.at_fold.specs.HasCounted.{StaysCounted}
 use Rattle.at_fold.specs.Sums.{TotalSums}
-use Rattle.at_log.specs.Receipts.{payout_of}
 use Rattle.at_rows.specs.Asks.{HasLoadedNothing}
 use Rattle.at_rows.specs.OpenRequests.{request_of}
 use Rattle.at_shared.specs.HelpingTerms.{HelpingTerms}
-use Rattle.at_shared.specs.Helpings.{HasAllSettled, IsPayoutFrom}
+use Rattle.at_shared.specs.Helpings.{HasAllSettled}
 use Rattle.at_single.specs.Looks.{HasLooked}
 use Rattle.at_machines.specs.Asking.{AskingTerms}
 use Rattle.at_machines.specs.CollectingRows.{CollectingRowsTerms}
@@ -34,10 +34,10 @@ pub record IsLookingToAsk (t : StartingTerms) (l : LookingTerms) : Type 0 where
   pub totals_are : l.totals ≡ t.totals
   pub left : 0 < look_turns_left l.stage
 
--- the look has ended at this moment, and a request for these targets with the place of its front pays as the call does
+-- the look has ended at this moment, and the request has the targets and the place of its front
 pub record HasLookedToAsk (t : StartingTerms) (looked : Knowledge) (account : ℕ) (targets : List TargetPair) (since : ℕ) : Type 0 where
   pub account_is : account ≡ t.account
-  pub payout : payout_of t.call ≡ Some (t.account, targets)
+  pub targets_are : targets ≡ t.targets
   pub front : List ℕ
   pub looked_at : HasLooked t.start.book t.start looked t.was t.totals front
   pub since_is : since ≡ place front
@@ -69,7 +69,7 @@ IsStartStageSo t (Collect c) = IsCollectingThen t c
 pub record IsStartingSo (t : StartingTerms) : Type 0 where
   pub kept : IsKept t.start
   pub book : t.mark.book ≡ t.start.book
-  pub payout : IsPayoutFrom t.start.book t.account t.call
+  pub targets_in : AreTargets t.start.book t.targets
   pub asks : (slot : ℕ) × MayStoreRequest t.start.book t.start t.account slot
   pub settled : HasAllSettled t.start.book t.start t.account
   pub free : (own_part t.start).held ≡ None
@@ -78,8 +78,8 @@ pub record IsStartingSo (t : StartingTerms) : Type 0 where
 -- what a turn leaves of the start, in whichever stage it was: all but the stage, and what the seat knows and the totals have counted, is as it
 -- was
 pub record TakesStartTurn (b : BookTerms) (t u : StartingTerms) (before after : SeatTerms) (now : TotalSums) (answer : Option HelpingTerms) : Type 0 where
-  pub call_is : u.call ≡ t.call
   pub account_is : u.account ≡ t.account
+  pub targets_are : u.targets ≡ t.targets
   pub start_is : u.start ≡ t.start
   pub mark_is : u.mark ≡ after.knows
   pub was_is : u.was ≡ t.was
@@ -90,5 +90,5 @@ pub record TakesStartTurn (b : BookTerms) (t u : StartingTerms) (before after : 
   pub left : start_turns_left b u < start_turns_left b t
   pub so_far : IsStartWithin b u (length after.knows.seen)
   pub ends : IsSome answer ↔ (start_turns_left b u ≡ 0)
-  pub starts : IfSome answer (IsStartOf b t.start after.knows t.account t.call)
+  pub starts : IfSome answer (IsStartOf b t.start after.knows t.account t.targets)
   pub leaves : IfSome answer (λ h. LeavesTotals b t.start after.knows t.was now (asking_steps_of b t) (start_turns_made u))

@@ -2,7 +2,6 @@
 use Rattle.std.specs.Prelude.{◌≡◌, ℕ, ◌+◌, ◌-◌, ◌*◌, ◌<◌, ◌≤◌, List, sum}
 use Rattle.at_ledger.specs.Book.{BookTerms}
 use Rattle.at_ledger.specs.Call.{TargetPair}
-use Rattle.at_ledger.specs.declared.call.Call.{Call}
 use Rattle.at_ledger.specs.declared.call.Reply.{Reply}
 use Rattle.at_ledger.specs.declared.call.Reply.TheVariants.{Balance, Done, Full, NotOwner}
 use Rattle.at_board.specs.Knowledge.Parts.{asking_on, own_part}
@@ -12,16 +11,18 @@ use Rattle.at_board.specs.Words.Addresses.{record_width}
 use Rattle.at_board.specs.declared.knowledge.Knowledge.{Knowledge}
 use Rattle.at_board.specs.declared.words.TheConstants.{RECORD_WORDS}
 use Rattle.at_fold.specs.Sums.{TotalSums}
+use Rattle.at_log.specs.declared.receipt.At.{At}
+use Rattle.at_object.specs.Paid.{PaysAlone}
 use Rattle.at_object.specs.Payments.{single_steps}
+use Rattle.at_shared.specs.Settling.{OnReceipts}
 use Rattle.at_machines.specs.Appending.{StoresNextWord, publication_of}
 use Rattle.at_machines.specs.Looking.{MakesLookLoad, look_turns_left}
 use Rattle.at_calling.specs.declared.pay_stage.PayStage.{PayStage}
 use Rattle.at_calling.specs.declared.pay_stage.PayStage.TheVariants.{Append, Look, Short}
 
--- a payment by its call, its source and its targets, by what the next turn goes on with, by how many turns its look had once it has ended,
+-- a payment by its source and its targets, by what the next turn goes on with, by how many turns its look had once it has ended,
 -- and by what its seat knew and its totals had counted at the start and after the last turn
 pub record PayingAloneTerms : Type 0 where
-  pub call : Call
   pub from : ℕ
   pub targets : List TargetPair
   pub stage : PayStage
@@ -61,6 +62,10 @@ append_steps width Reply.Short = 0
 append_steps width NotOwner = 0
 append_steps width Full = 0
 append_steps width (Balance amount) = 0
+
+-- the receipt of each call with this payout says that it was decided at the front of its snapshot
+abbrev pub AnswersAlone : BookTerms → Knowledge → Knowledge → ℕ → List TargetPair → Reply × At → Type 0
+AnswersAlone b before after from targets answer = OnReceipts from targets answer (λ r. PaysAlone b before after from targets r.call r)
 
 -- so many turns are at most those of a snapshot and of an append, and of the loads of the records that are among so many and weren't
 -- counted before

@@ -1,16 +1,19 @@
 -- Payments from shared accounts that are made one step a turn.
-use Rattle.std.specs.Prelude.{◌≡◌, ◌≢◌, ℕ, ◌+◌, ◌-◌, ◌*◌, ◌≤◌, sum}
+use Rattle.std.specs.Prelude.{◌≡◌, ◌≢◌, ℕ, ◌+◌, ◌-◌, ◌*◌, ◌≤◌, List, sum}
 use Rattle.at_ledger.specs.Account.{slots_of}
 use Rattle.at_ledger.specs.Book.{BookTerms, account_of}
-use Rattle.at_ledger.specs.declared.call.Call.{Call}
+use Rattle.at_ledger.specs.Call.{TargetPair}
+use Rattle.at_ledger.specs.declared.call.Reply.{Reply}
 use Rattle.at_history.specs.Fronts.{places_max}
 use Rattle.at_board.specs.Knowledge.Seats.{SeatTerms}
 use Rattle.at_board.specs.declared.knowledge.Knowledge.{Knowledge}
 use Rattle.at_board.specs.declared.words.TheConstants.{RECORD_WORDS}
 use Rattle.at_fold.specs.Sums.{TotalSums}
+use Rattle.at_log.specs.declared.receipt.At.{At}
+use Rattle.at_object.specs.Paid.{PaysInRound}
 use Rattle.at_object.specs.Payments.{shared_steps}
 use Rattle.at_shared.specs.Helpings.{decides_made, decides_on}
-use Rattle.at_shared.specs.Settling.{asking_steps, round_steps}
+use Rattle.at_shared.specs.Settling.{OnReceipts, asking_steps, round_steps}
 use Rattle.at_snapshot.specs.Snapshots.{snapshot_steps}
 use Rattle.at_calling.specs.Starting.{MakesStartStep}
 use Rattle.at_calling.specs.Turning.{MakesTurnStep, exchanges_at}
@@ -18,11 +21,11 @@ use Rattle.at_calling.specs.declared.share_stage.ShareStage.{ShareStage}
 use Rattle.at_calling.specs.declared.share_stage.ShareStage.TheVariants.{Ended, Help, Start}
 use Rattle.at_calling.specs.declared.turn_stage.TurnStage.{TurnStage}
 
--- a payment by its call and the account that it pays from, by what the next turn goes on with, by how many turns were made, and by what its
+-- a payment by the account that it pays from and its targets, by what the next turn goes on with, by how many turns were made, and by what its
 -- seat knew and its totals had counted at the start and after the last turn
 pub record PayingSharedTerms : Type 0 where
-  pub call : Call
   pub account : ℕ
+  pub targets : List TargetPair
   pub stage : ShareStage
   pub turns : ℕ
   pub start : Knowledge
@@ -72,6 +75,10 @@ unless_starting made Ended = made
 
 abbrev pub share_exchanges_made : PayingSharedTerms → ℕ
 share_exchanges_made t = unless_starting (decides_made t.account t.start t.mark) t.stage
+
+-- the receipt of each call with this payout says that it was decided in a round
+abbrev pub AnswersInRound : BookTerms → Knowledge → Knowledge → ℕ → List TargetPair → Reply × At → Type 0
+AnswersInRound b before after a targets answer = OnReceipts a targets answer (λ r. PaysInRound b before after a r.call r)
 
 -- at most so many exchanges were made on the account as it has owners, and none elsewhere
 pub record DecidesFew (b : BookTerms) (before after : Knowledge) (a : ℕ) : Type 0 where

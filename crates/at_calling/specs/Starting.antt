@@ -1,8 +1,8 @@
 -- Payments from shared accounts that are started one step a turn.
-use Rattle.std.specs.Prelude.{◌≡◌, ℕ, ◌+◌, ◌-◌, ◌*◌, ◌<◌, ◌≤◌, length, sum}
+use Rattle.std.specs.Prelude.{◌≡◌, ℕ, ◌+◌, ◌-◌, ◌*◌, ◌<◌, ◌≤◌, List, length, sum}
 use Rattle.at_ledger.specs.Account.{slots_of}
 use Rattle.at_ledger.specs.Book.{BookTerms, HasSlot, account_of}
-use Rattle.at_ledger.specs.declared.call.Call.{Call}
+use Rattle.at_ledger.specs.Call.{TargetPair}
 use Rattle.at_history.specs.Publications.{IsPrefix}
 use Rattle.at_board.specs.Knowledge.Parts.{asking_on, own_part}
 use Rattle.at_board.specs.Knowledge.Seats.{SeatTerms}
@@ -22,11 +22,11 @@ use Rattle.at_machines.specs.Looking.{MakesLookLoad, look_turns_left}
 use Rattle.at_calling.specs.declared.start_stage.StartStage.{StartStage}
 use Rattle.at_calling.specs.declared.start_stage.StartStage.TheVariants.{Ask, Collect, Look}
 
--- a start by its call and the account that it pays from, by what the next turn goes on with, by how many turns its look had once it
+-- a start by the account that it pays from and its targets, by what the next turn goes on with, by how many turns its look had once it
 -- has ended, and by what its seat knew and its totals had counted at the start and after the last turn
 pub record StartingTerms : Type 0 where
-  pub call : Call
   pub account : ℕ
+  pub targets : List TargetPair
   pub stage : StartStage
   pub looked : ℕ
   pub start : Knowledge
@@ -80,11 +80,11 @@ MakesStartStep b (Ask a) before after now =
     × (a.stored ≡ REQUEST_WORDS → (slot : ℕ) → HasSlot b a.start.first a.account slot → Announces b a.start after.knows a.account slot (request_asked a))
 MakesStartStep b (Collect c) before after now = MakesRowsLoad b c after.knows
 
--- the request that waits for this call from the account, whose first turn came after what was known before. It has published,
+-- the request that waits for these targets on the account, whose first turn came after what was known before. It has published,
 -- held and decided nothing
-pub record IsStartOf (b : BookTerms) (before after : Knowledge) (a : ℕ) (call : Call) (h : HelpingTerms) : Type 0 where
-  pub call_is : h.call ≡ call
+pub record IsStartOf (b : BookTerms) (before after : Knowledge) (a : ℕ) (targets : List TargetPair) (h : HelpingTerms) : Type 0 where
   pub account_is : h.account ≡ a
+  pub targets_are : h.own.targets ≡ targets
   pub started : HasStarted b before after h
   pub helping : IsHelping b after h
   pub number : h.own.number ≡ length (asking_on (own_part before) a).announced

@@ -12,7 +12,7 @@ use Rattle.at_fold.specs.Sums.{TotalSums}
 use Rattle.at_log.specs.Placed.{IsPlaced}
 use Rattle.at_log.specs.Receipts.{asks_in}
 use Rattle.at_log.specs.declared.receipt.Receipt.{Receipt}
-use Rattle.at_shared.specs.HelpTurns.{HelpAnswers, OnSettled}
+use Rattle.at_shared.specs.HelpTurns.{HelpAnswers, OnSettled, OnSettledCalls}
 use Rattle.at_shared.specs.HelpingTerms.{HelpingTerms}
 use Rattle.at_shared.specs.Helpings.{IsHelping, decides_on, heard_on}
 use Rattle.at_shared.specs.Settling.{StandsAfter, StandsInRound, round_steps}
@@ -68,15 +68,14 @@ exchanges_at Found = 0
 abbrev pub IsHelpWithin : ℕ → ℕ → TotalSums → ℕ → ℕ → Type 0
 IsHelpWithin n decided was records turns = turns ≤ snapshot_steps n + round_steps n * decided + RECORD_WORDS * (records - sum was.upto)
 
--- the answer of a turn of helping whose first step came after what was known before. The receipt of a settled request is right, and stands
--- at or after the request's `since`
+-- the answer of a turn of helping whose first step came after what was known before. The receipts of a settled request are right, and
+-- stand at or after the request's `since`
 pub record IsHelpOf (b : BookTerms) (before after : Knowledge) (h : HelpingTerms) (answer : HelpTurn) : Type 0 where
   pub answers : HelpAnswers b before after h answer
-  pub call : OnSettled answer (λ r. r.call ≡ h.call)
   pub in_round : OnSettled answer StandsInRound
-  pub placed : OnSettled answer (λ r. (earlier : List Receipt) → asks_in h.account earlier ≡ h.own.number
+  pub placed : OnSettledCalls h answer (λ r. (earlier : List Receipt) → asks_in h.account earlier ≡ h.own.number
       → IsPlaced b after.first after.seen earlier r)
-  pub after_start : OnSettled answer (StandsAfter h.own.since after)
+  pub after_start : OnSettledCalls h answer (StandsAfter h.own.since after)
 
 -- another request was decided: the helping waits still, one round more at least is published, and of the rounds that may be decided before
 -- the request one is left at least

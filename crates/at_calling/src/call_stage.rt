@@ -8,7 +8,6 @@ ghost use Rattle.at_ledger.specs.Call.{AreTargetsOn, IsCallOn};
 ghost use Rattle.at_log.specs.Receipts.{payout_of};
 ghost use Rattle.at_object.specs.Parted.{IsOfOnePass, pass_of};
 ghost use Rattle.at_object.specs.Payments.{refusal_of};
-ghost use Rattle.at_shared.specs.Helpings.{IsPayoutFrom};
 ghost use Rattle.at_calling.specs.Calling.{IsWay, StartsFrom, call_turns_left, exchanges_made, steps_made};
 
 use crate::paying_alone::PayingAlone;
@@ -58,13 +57,13 @@ impl CallStage {
         match call {
             Call::Transfer { from, to, amount } => {
                 let targets = Targets::one(*to, *amount);
-                CallStage::payment(board, seat, rest, call.copy(), *from, targets)
+                CallStage::payment(board, seat, rest, call, *from, targets)
             }
             Call::Read { account } => {
                 CallStage::Read(Reading::start(board, seat, &rest.totals, *account))
             }
             Call::Pay { from, targets } => {
-                CallStage::payment(board, seat, rest, call.copy(), *from, targets.copy())
+                CallStage::payment(board, seat, rest, call, *from, targets.copy())
             }
         }
     }
@@ -74,16 +73,16 @@ impl CallStage {
         board: &Board,
         seat: &BoardSeat,
         rest: &Rest,
-        call: Call,
+        call: &Call,
         from: u32,
         targets: Targets,
     ) -> CallStage
         requires board { IsOf seat.now board.now }
         requires pass { IsOfOnePass seat.now rest.now }
-        requires payout { payout_of call ≡ Some (from, targets) }
+        requires payout { payout_of call.now ≡ Some (from, targets) }
         requires from { from < length board.now.book.accounts }
         requires targets { AreTargetsOn (length board.now.book.accounts) targets }
-        ensures way { IsWay board.now.book (pass_of seat.now rest.now) call result }
+        ensures way { IsWay board.now.book (pass_of seat.now rest.now) call.now result }
         ensures starts { StartsFrom seat.now.knows rest.now.totals result }
         ensures turns { steps_made result ≡ 0 }
         ensures exchanges { exchanges_made result ≡ 0 }
@@ -95,7 +94,7 @@ impl CallStage {
             None if board.book().owner_count(from) == 1 => {
                 CallStage::alone(board, seat, rest, call, from, targets)
             }
-            None => CallStage::shared(board, seat, rest, call, from),
+            None => CallStage::shared(board, seat, rest, call, from, targets),
         }
     }
 
@@ -104,44 +103,52 @@ impl CallStage {
         board: &Board,
         seat: &BoardSeat,
         rest: &Rest,
-        call: Call,
+        call: &Call,
         from: u32,
         targets: Targets,
     ) -> CallStage
         requires board { IsOf seat.now board.now }
         requires pass { IsOfOnePass seat.now rest.now }
-        requires payout { payout_of call ≡ Some (from, targets) }
+        requires payout { payout_of call.now ≡ Some (from, targets) }
         requires from { from < length board.now.book.accounts }
         requires targets { AreTargetsOn (length board.now.book.accounts) targets }
         requires may { refusal_of board.now.book (pass_of seat.now rest.now) from ≡ None }
         requires single { is_single (account_of board.now.book from) ≡ true }
-        ensures way { IsWay board.now.book (pass_of seat.now rest.now) call result }
+        ensures way { IsWay board.now.book (pass_of seat.now rest.now) call.now result }
         ensures starts { StartsFrom seat.now.knows rest.now.totals result }
         ensures turns { steps_made result ≡ 0 }
         ensures exchanges { exchanges_made result ≡ 0 }
         ensures left { 0 < call_turns_left board.now.book result }
     {
         seat.known();
-        let paying = PayingAlone::start(board, seat, &rest.totals, call, from, targets);
+        let paying = PayingAlone::start(board, seat, &rest.totals, from, targets);
         CallStage::PayAlone(paying)
     }
 
     /// A payment by one of the account's owners.
-    fn shared(board: &Board, seat: &BoardSeat, rest: &Rest, call: Call, from: u32) -> CallStage
+    fn shared(
+        board: &Board,
+        seat: &BoardSeat,
+        rest: &Rest,
+        call: &Call,
+        from: u32,
+        targets: Targets,
+    ) -> CallStage
         requires board { IsOf seat.now board.now }
         requires pass { IsOfOnePass seat.now rest.now }
-        requires payout { IsPayoutFrom board.now.book from call }
+        requires payout { payout_of call.now ≡ Some (from, targets) }
         requires from { from < length board.now.book.accounts }
+        requires targets { AreTargetsOn (length board.now.book.accounts) targets }
         requires may { refusal_of board.now.book (pass_of seat.now rest.now) from ≡ None }
         requires shared { is_shared (account_of board.now.book from) ≡ true }
-        ensures way { IsWay board.now.book (pass_of seat.now rest.now) call result }
+        ensures way { IsWay board.now.book (pass_of seat.now rest.now) call.now result }
         ensures starts { StartsFrom seat.now.knows rest.now.totals result }
         ensures turns { steps_made result ≡ 0 }
         ensures exchanges { exchanges_made result ≡ 0 }
         ensures left { 0 < call_turns_left board.now.book result }
     {
         seat.known();
-        let paying = PayingShared::start(board, seat, &rest.totals, from, call);
+        let paying = PayingShared::start(board, seat, &rest.totals, from, targets);
         CallStage::PayShared(paying)
     }
 }

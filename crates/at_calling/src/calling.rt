@@ -162,7 +162,7 @@ impl Calling {
         self.stage.become_next(CallStage::Refused);
         rest.calls.count_one();
         self.rest = Snapshot::of(rest);
-        refused(&self.call, reply)
+        receipt_of(&self.call, (reply, At::Previous))
     }
 
     /// Makes the next step of the read. The last one answers its receipt.
@@ -216,11 +216,11 @@ impl Calling {
         seat.known();
         self.mark = Snapshot::of(seat);
         self.rest = Snapshot::of(rest);
-        let receipt = paid?;
-        rest.sent = sent_after(rest.sent, &receipt.reply);
+        let answer = paid?;
+        rest.sent = sent_after(rest.sent, &answer.0);
         rest.calls.count_one();
         self.rest = Snapshot::of(rest);
-        Some(receipt)
+        Some(receipt_of(&self.call, answer))
     }
 
     /// Makes the next step of the payment by one of the account's owners. The last one answers its receipt.
@@ -249,21 +249,22 @@ impl Calling {
         seat.known();
         self.mark = Snapshot::of(seat);
         self.rest = Snapshot::of(rest);
-        let receipt = paid?;
+        let answer = paid?;
         rest.calls.count_one();
         self.rest = Snapshot::of(rest);
-        Some(receipt)
+        Some(receipt_of(&self.call, answer))
     }
 }
 
-/// The receipt of a call that is refused.
-fn refused(call: &Call, reply: Reply) -> Receipt
-    ensures { result ≡ record { call = call.now; reply = reply; at = At.Previous } }
+/// The receipt of a call with this reply, where it stands.
+fn receipt_of(call: &Call, answer: (Reply, At)) -> Receipt
+    ensures { result ≡ record { call = call.now; reply = answer.0; at = answer.1 } }
 {
+    let (reply, at) = answer;
     Receipt {
         call: call.copy(),
         reply,
-        at: At::Previous,
+        at,
     }
 }
 

@@ -1,39 +1,33 @@
 //! A payment from a single account, a step a turn.
 
-ghost use Rattle.std.specs.Prelude.{◌≡◌, ◌+◌, ◌<◌, ◌↔◌, IfSome, IsSome, IsTrue, List, Some, length};
+ghost use Rattle.std.specs.Prelude.{◌≡◌, ◌+◌, ◌<◌, ◌↔◌, IfSome, IsSome, length};
 ghost use Rattle.at_board.specs.Counting.{raised};
 ghost use Rattle.at_board.specs.Knowledge.Seats.{IsOf};
 ghost use Rattle.at_board.specs.Words.Addresses.{record_width};
-ghost use Rattle.at_fold.specs.HasCounted.{CountsAccount, CountsFront, HasCounted, StaysCounted};
-ghost use Rattle.at_history.specs.Balances.{balance_after};
-ghost use Rattle.at_history.specs.Fronts.{prefix_of};
+ghost use Rattle.at_fold.specs.HasCounted.{HasCounted, StaysCounted};
 ghost use Rattle.at_history.specs.Rounds.{owns_of};
-ghost use Rattle.at_history.specs.declared.publication.Publication.{Publication};
-ghost use Rattle.at_ledger.specs.Book.{BookTerms};
-ghost use Rattle.at_ledger.specs.Call.{AreTargetsOn, amount_of};
-ghost use Rattle.at_log.specs.Receipts.{payout_of};
+ghost use Rattle.at_ledger.specs.Call.{AreTargetsOn};
 ghost use Rattle.at_machines.specs.Appending.{AppendingTerms};
 ghost use Rattle.at_machines.specs.Looking.{LookingTerms};
-ghost use Rattle.at_object.specs.Paid.{PaysAlone};
 ghost use Rattle.at_single.specs.Standing.{IsOnlyOwner};
 ghost use Rattle.at_calling.specs.KeptPayingAlone.{TakesPayTurn};
-ghost use Rattle.at_calling.specs.PayingAlone.{HasSameAsking, IsPayWithin, MakesPayStep, append_steps, pay_turns_left, turns_made};
+ghost use Rattle.at_calling.specs.PayingAlone.{AnswersAlone, HasSameAsking, IsPayWithin, MakesPayStep, append_steps, pay_turns_left, turns_made};
 ghost use Rattle.at_calling.specs.Reading.{LeavesTotals};
 
 use crate::pay_stage::PayStage;
 use at_base::Counts;
 use at_board::{Board, BoardSeat, Entry};
 use at_fold::Totals;
-use at_ledger::{Call, Reply, Targets};
-use at_log::{At, Receipt, Record};
+use at_ledger::{Reply, Targets};
+use at_log::{At, Record};
 use at_machines::{Appending, Looking};
+use at_single::covers;
 use std::marker::Model;
 use std::snapshot::Snapshot;
 
 /// A payment in the making: a look, and where the balance at its front covers the payment, the append of its record.
 #[derive(Drop)]
 pub struct PayingAlone {
-    call: Call,
     from: u32,
     targets: Targets,
     stage: PayStage,
@@ -56,7 +50,6 @@ impl Model for PayingAlone {
     ghost Value = { PayingAloneTerms };
 
     ghost view = { λ p. record {
-      call = p.call;
       from = p.from;
       targets = p.targets;
       stage = p.stage;
@@ -68,7 +61,6 @@ impl Model for PayingAlone {
     } };
 
     ghost invariant = { λ p. IsPayingAloneSo (record {
-      call = p.call;
       from = p.from;
       targets = p.targets;
       stage = p.stage;
@@ -86,18 +78,15 @@ impl PayingAlone {
         board: &Board,
         seat: &BoardSeat,
         totals: &Totals,
-        call: Call,
         from: u32,
         targets: Targets,
     ) -> PayingAlone
         requires board { IsOf seat.now board.now }
         requires counted { HasCounted totals.now board.now.book seat.now.knows.seen }
-        requires payout { payout_of call ≡ Some (from, targets) }
         requires from { from < length board.now.book.accounts }
         requires targets { AreTargetsOn (length board.now.book.accounts) targets }
         requires owner { IsOnlyOwner board.now.book seat.now.knows.first from }
         requires room { owns_of seat.now.knows.first seat.now.knows.seen < board.now.book.own_room }
-        ensures call { result.call ≡ call }
         ensures from { result.from ≡ from }
         ensures targets { result.targets ≡ targets }
         ensures start { result.start ≡ seat.now.knows }
@@ -111,7 +100,6 @@ impl PayingAlone {
         // There are one to four targets, as their type keeps.
         let _count = targets.len();
         PayingAlone {
-            call,
             from,
             targets,
             stage: PayStage::Look(Looking::start(board, seat, totals)),
@@ -130,12 +118,11 @@ impl PayingAlone {
         board: &Board,
         seat: &mut BoardSeat,
         totals: &mut Totals,
-    ) -> Option<Receipt>
+    ) -> Option<(Reply, At)>
         requires board { IsOf seat.old board.now }
         requires mark { seat.old.knows ≡ self.old.mark }
         requires totals { totals.old ≡ self.old.totals }
         requires left { 0 < pay_turns_left (record_width board.now.book) self.old.stage }
-        ensures call { self.new.call ≡ self.old.call }
         ensures from { self.new.from ≡ self.old.from }
         ensures targets { self.new.targets ≡ self.old.targets }
         ensures start { self.new.start ≡ self.old.start }
@@ -151,13 +138,13 @@ impl PayingAlone {
         ensures so_far { IsPayWithin board.now.book.processes self.old.was
             (length seat.new.knows.seen) (turns_made self.new) }
         ensures asks { HasSameAsking self.old.start seat.new.knows }
-        ensures answer { IfSome result (PaysAlone board.now.book self.old.start seat.new.knows
-            self.old.from self.old.targets self.old.call) }
+        ensures answer { IfSome result (AnswersAlone board.now.book self.old.start seat.new.knows
+            self.old.from self.old.targets) }
         ensures counted { IfSome result (λ r. StaysCounted totals.new board.now.book
             seat.new.knows.seen) }
         ensures leaves { IfSome result (λ r. LeavesTotals board.now.book self.old.start
             seat.new.knows self.old.was totals.new
-            (append_steps (record_width board.now.book) r.reply) (turns_made self.new)) }
+            (append_steps (record_width board.now.book) r.0) (turns_made self.new)) }
         ensures board { IsOf seat.new board.now }
         ensures steps { seat.new.steps ≡ raised seat.old.steps 1 }
         ensures exchanges { seat.new.exchanges ≡ seat.old.exchanges }
@@ -176,7 +163,7 @@ impl PayingAlone {
         board: &Board,
         seat: &mut BoardSeat,
         totals: &mut Totals,
-    ) -> Option<Receipt>
+    ) -> Option<(Reply, At)>
         requires board { IsOf seat.old board.now }
         requires mark { seat.old.knows ≡ self.old.mark }
         requires totals { totals.old ≡ self.old.totals }
@@ -197,9 +184,9 @@ impl PayingAlone {
         self.totals = Snapshot::of(totals);
         let front = looked?;
         seat.known();
-        if is_short(totals, self.from, &self.targets) {
+        if !covers(totals, self.from, &self.targets) {
             self.stage.become_next(PayStage::Short);
-            return Some(short(&self.call, front));
+            return Some((Reply::Short, At::Front(front)));
         }
         // The front stays one, and what it covers stays covered, whatever others publish before this record.
         let rec = record_of(self.from, &self.targets, front);
@@ -214,7 +201,7 @@ impl PayingAlone {
         board: &Board,
         seat: &mut BoardSeat,
         totals: &mut Totals,
-    ) -> Option<Receipt>
+    ) -> Option<(Reply, At)>
         requires board { IsOf seat.old board.now }
         requires mark { seat.old.knows ≡ self.old.mark }
         requires totals { totals.old ≡ self.old.totals }
@@ -239,19 +226,8 @@ impl PayingAlone {
         totals.count_own(seat, appending.entry());
         self.totals = Snapshot::of(totals);
         let at = At::Own(seat.published() - 1);
-        Some(receipt_of(&self.call, Reply::Done, at))
+        Some((Reply::Done, at))
     }
-}
-
-/// Whether the account's balance at the front that is counted is below the sum of the amounts.
-fn is_short(totals: &Totals, from: u32, targets: &Targets) -> bool
-    requires { (b : BookTerms) × (seen : List Publication)
-        × CountsAccount totals.now b seen from × CountsFront totals.now b seen }
-    ensures { (b : BookTerms) (seen : List Publication) → CountsAccount totals.now b seen from
-        → CountsFront totals.now b seen → IsTrue result
-        ↔ (balance_after b (prefix_of totals.now.upto seen) from < amount_of targets.now) }
-{
-    u128::from(totals.balance(from)) < targets.sum()
 }
 
 /// The record of a payment, with a front as its view.
@@ -263,22 +239,4 @@ fn record_of(from: u32, targets: &Targets, view: Counts) -> Record
         targets: targets.copy(),
     };
     Record { entry, view }
-}
-
-/// The receipt of a call that the balance at this front doesn't cover.
-fn short(call: &Call, front: Counts) -> Receipt
-    ensures { result ≡ record { call = call.now; reply = Reply.Short; at = At.Front front } }
-{
-    receipt_of(call, Reply::Short, At::Front(front))
-}
-
-/// The receipt of a call with this reply, where it stands.
-fn receipt_of(call: &Call, reply: Reply, at: At) -> Receipt
-    ensures { result ≡ record { call = call.now; reply = reply; at = at } }
-{
-    Receipt {
-        call: call.copy(),
-        reply,
-        at,
-    }
 }

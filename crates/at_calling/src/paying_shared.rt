@@ -6,12 +6,12 @@ ghost use Rattle.at_board.specs.Knowledge.Parts.{own_part};
 ghost use Rattle.at_board.specs.Knowledge.Seats.{IsOf};
 ghost use Rattle.at_board.specs.Steps.StoreRequestWord.{MayStoreRequest};
 ghost use Rattle.at_fold.specs.HasCounted.{HasCounted};
-ghost use Rattle.at_object.specs.Paid.{PaysInRound};
+ghost use Rattle.at_ledger.specs.Call.{AreTargetsOn};
 ghost use Rattle.at_shared.specs.HelpingTerms.{HelpingTerms};
-ghost use Rattle.at_shared.specs.Helpings.{HasAllSettled, IsPayoutFrom};
+ghost use Rattle.at_shared.specs.Helpings.{HasAllSettled};
 ghost use Rattle.at_shared.specs.PaymentTurns.{SettlesInTurns};
 ghost use Rattle.at_calling.specs.KeptPayingShared.{TakesShareTurn};
-ghost use Rattle.at_calling.specs.PayingShared.{DecidesFew, IsShareWithin, MakesShareStep, settling_steps, share_exchanges_at, share_exchanges_made, share_turns_left};
+ghost use Rattle.at_calling.specs.PayingShared.{AnswersInRound, DecidesFew, IsShareWithin, MakesShareStep, settling_steps, share_exchanges_at, share_exchanges_made, share_turns_left};
 ghost use Rattle.at_calling.specs.Reading.{LeavesTotals};
 ghost use Rattle.at_calling.specs.Starting.{StartingTerms};
 ghost use Rattle.at_calling.specs.Turning.{TurningTerms};
@@ -21,8 +21,8 @@ use crate::starting::Starting;
 use crate::turning::Turning;
 use at_board::{Board, BoardSeat};
 use at_fold::Totals;
-use at_ledger::Call;
-use at_log::Receipt;
+use at_ledger::{Reply, Targets};
+use at_log::At;
 use at_shared::HelpTurn;
 use std::marker::Model;
 use std::snapshot::Snapshot;
@@ -31,12 +31,13 @@ use std::snapshot::Snapshot;
 /// has owners.
 #[derive(Drop)]
 pub struct PayingShared {
-    call: Call,
     account: u32,
     stage: ShareStage,
     /// How many turns were made.
     turns: u64,
-    /// The seat at the start, for contracts alone.
+    /// The targets, for contracts alone.
+    targets: Snapshot<Targets>,
+    /// The seat at the start.
     start: Snapshot<BoardSeat>,
     /// The seat after the last turn.
     mark: Snapshot<BoardSeat>,
@@ -53,8 +54,8 @@ impl Model for PayingShared {
     ghost Value = { PayingSharedTerms };
 
     ghost view = { λ p. record {
-      call = p.call;
       account = p.account;
+      targets = p.targets.value;
       stage = p.stage;
       turns = p.turns;
       start = p.start.value.knows;
@@ -64,8 +65,8 @@ impl Model for PayingShared {
     } };
 
     ghost invariant = { λ p. IsPayingSharedSo (record {
-      call = p.call;
       account = p.account;
+      targets = p.targets.value;
       stage = p.stage;
       turns = p.turns;
       start = p.start.value.knows;
@@ -82,16 +83,16 @@ impl PayingShared {
         seat: &BoardSeat,
         totals: &Totals,
         account: u32,
-        call: Call,
+        targets: Targets,
     ) -> PayingShared
         requires board { IsOf seat.now board.now }
         requires counted { HasCounted totals.now board.now.book seat.now.knows.seen }
-        requires payout { IsPayoutFrom board.now.book account call }
+        requires targets { AreTargetsOn (length board.now.book.accounts) targets }
         requires asks { (slot : ℕ) × MayStoreRequest board.now.book seat.now.knows account slot }
         requires settled { HasAllSettled board.now.book seat.now.knows account }
         requires free { (own_part seat.now.knows).held ≡ None }
-        ensures call { result.call ≡ call }
         ensures account { result.account ≡ account }
+        ensures targets { result.targets ≡ targets }
         ensures start { result.start ≡ seat.now.knows }
         ensures mark { result.mark ≡ seat.now.knows }
         ensures was { result.was ≡ totals.now }
@@ -101,10 +102,11 @@ impl PayingShared {
         ensures exchanges { share_exchanges_made result ≡ 0 }
     {
         seat.known();
+        let paid = Snapshot::of(&targets);
         PayingShared {
-            stage: ShareStage::Start(Starting::start(board, seat, totals, account, call.copy())),
-            call,
             account,
+            stage: ShareStage::Start(Starting::start(board, seat, totals, account, targets)),
+            targets: paid,
             turns: 0,
             start: Snapshot::of(seat),
             mark: Snapshot::of(seat),
@@ -120,13 +122,13 @@ impl PayingShared {
         board: &Board,
         seat: &mut BoardSeat,
         totals: &mut Totals,
-    ) -> Option<Receipt>
+    ) -> Option<(Reply, At)>
         requires board { IsOf seat.old board.now }
         requires mark { seat.old.knows ≡ self.old.mark }
         requires totals { totals.old ≡ self.old.totals }
         requires left { 0 < share_turns_left board.now.book self.old }
-        ensures call { self.new.call ≡ self.old.call }
         ensures account { self.new.account ≡ self.old.account }
+        ensures targets { self.new.targets ≡ self.old.targets }
         ensures start { self.new.start ≡ self.old.start }
         ensures mark { self.new.mark ≡ seat.new.knows }
         ensures was { self.new.was ≡ self.old.was }
@@ -137,10 +139,10 @@ impl PayingShared {
             < share_turns_left board.now.book self.old }
         ensures so_far { IsShareWithin board.now.book self.new (length seat.new.knows.seen) }
         ensures ends { IsSome result ↔ (share_turns_left board.now.book self.new ≡ 0) }
-        ensures answer { IfSome result (PaysInRound board.now.book self.old.start seat.new.knows
-            self.old.account self.old.call) }
-        ensures settles { IfSome result (SettlesInTurns board.now.book self.old.start
-            seat.new.knows self.old.account) }
+        ensures answer { IfSome result (AnswersInRound board.now.book self.old.start
+            seat.new.knows self.old.account self.old.targets) }
+        ensures settles { IfSome result (λ r. SettlesInTurns board.now.book self.old.start
+            seat.new.knows self.old.account self.old.targets) }
         ensures few { IfSome result (λ r. DecidesFew board.now.book self.old.start
             seat.new.knows self.old.account) }
         ensures counted { IfSome result (λ r. HasCounted totals.new board.now.book
@@ -170,7 +172,7 @@ impl PayingShared {
         board: &Board,
         seat: &mut BoardSeat,
         totals: &mut Totals,
-    ) -> Option<Receipt>
+    ) -> Option<(Reply, At)>
         requires board { IsOf seat.old board.now }
         requires mark { seat.old.knows ≡ self.old.mark }
         requires totals { totals.old ≡ self.old.totals }
@@ -203,7 +205,7 @@ impl PayingShared {
         board: &Board,
         seat: &mut BoardSeat,
         totals: &mut Totals,
-    ) -> Option<Receipt>
+    ) -> Option<(Reply, At)>
         requires board { IsOf seat.old board.now }
         requires mark { seat.old.knows ≡ self.old.mark }
         requires totals { totals.old ≡ self.old.totals }
@@ -226,9 +228,9 @@ impl PayingShared {
         self.mark = Snapshot::of(seat);
         self.totals = Snapshot::of(totals);
         seat.known();
-        if let HelpTurn::Settled(receipt) = helped? {
+        if let HelpTurn::Settled(answer) = helped? {
             self.stage.become_next(ShareStage::Ended);
-            return Some(receipt);
+            return Some(answer);
         }
         // The round of another request was published, and few are decided before this one: the next turn of helping begins.
         turning.become_next(Turning::start(board, seat, totals, helping));

@@ -7,11 +7,12 @@ ghost use Rattle.at_board.specs.Knowledge.Seats.{IsOf};
 ghost use Rattle.at_board.specs.Steps.StoreRequestWord.{MayStoreRequest};
 ghost use Rattle.at_fold.specs.HasCounted.{HasCounted, StaysCounted};
 ghost use Rattle.at_history.specs.Fronts.{place};
+ghost use Rattle.at_ledger.specs.Call.{AreTargetsOn};
 ghost use Rattle.at_machines.specs.Asking.{AskingTerms, starting_to_ask};
 ghost use Rattle.at_machines.specs.CollectingRows.{CollectingRowsTerms};
 ghost use Rattle.at_machines.specs.Looking.{LookingTerms};
 ghost use Rattle.at_rows.specs.Asks.{MayAskFor, asked_for};
-ghost use Rattle.at_shared.specs.Helpings.{HasAllSettled, IsPayoutFrom};
+ghost use Rattle.at_shared.specs.Helpings.{HasAllSettled};
 ghost use Rattle.at_calling.specs.KeptStarting.{TakesStartTurn};
 ghost use Rattle.at_calling.specs.Reading.{LeavesTotals};
 ghost use Rattle.at_calling.specs.Starting.{IsStartOf, IsStartWithin, MakesStartStep, asking_steps_of, start_turns_left, start_turns_made};
@@ -20,17 +21,17 @@ use crate::start_stage::StartStage;
 use at_base::Counts;
 use at_board::{Board, BoardSeat};
 use at_fold::Totals;
-use at_ledger::{Call, Targets};
+use at_ledger::Targets;
 use at_machines::{Asking, CollectingRows, Looking};
-use at_shared::{Helping, targets_of};
+use at_shared::Helping;
 use std::marker::Model;
 use std::snapshot::Snapshot;
 
 /// A start in the making: a look, the stores of the request with the place of its front as the `since`, and the loads of the rows.
 #[derive(Drop)]
 pub struct Starting {
-    call: Call,
     account: u32,
+    targets: Targets,
     stage: StartStage,
     /// How many turns the look had, once it has ended.
     looked: u64,
@@ -51,8 +52,8 @@ impl Model for Starting {
     ghost Value = { StartingTerms };
 
     ghost view = { λ s. record {
-      call = s.call;
       account = s.account;
+      targets = s.targets;
       stage = s.stage;
       looked = s.looked;
       start = s.start.value.knows;
@@ -62,8 +63,8 @@ impl Model for Starting {
     } };
 
     ghost invariant = { λ s. IsStartingSo (record {
-      call = s.call;
       account = s.account;
+      targets = s.targets;
       stage = s.stage;
       looked = s.looked;
       start = s.start.value.knows;
@@ -80,16 +81,16 @@ impl Starting {
         seat: &BoardSeat,
         totals: &Totals,
         account: u32,
-        call: Call,
+        targets: Targets,
     ) -> Starting
         requires board { IsOf seat.now board.now }
         requires counted { HasCounted totals.now board.now.book seat.now.knows.seen }
-        requires payout { IsPayoutFrom board.now.book account call }
+        requires targets { AreTargetsOn (length board.now.book.accounts) targets }
         requires asks { (slot : ℕ) × MayStoreRequest board.now.book seat.now.knows account slot }
         requires settled { HasAllSettled board.now.book seat.now.knows account }
         requires free { (own_part seat.now.knows).held ≡ None }
-        ensures call { result.call ≡ call }
         ensures account { result.account ≡ account }
+        ensures targets { result.targets ≡ targets }
         ensures start { result.start ≡ seat.now.knows }
         ensures mark { result.mark ≡ seat.now.knows }
         ensures was { result.was ≡ totals.now }
@@ -98,9 +99,11 @@ impl Starting {
         ensures left { 0 < start_turns_left board.now.book result }
     {
         seat.known();
+        // There are one to four targets, as their type keeps.
+        let _count = targets.len();
         Starting {
-            call,
             account,
+            targets,
             stage: StartStage::Look(Looking::start(board, seat, totals)),
             looked: 0,
             start: Snapshot::of(seat),
@@ -121,8 +124,8 @@ impl Starting {
         requires mark { seat.old.knows ≡ self.old.mark }
         requires totals { totals.old ≡ self.old.totals }
         requires left { 0 < start_turns_left board.now.book self.old }
-        ensures call { self.new.call ≡ self.old.call }
         ensures account { self.new.account ≡ self.old.account }
+        ensures targets { self.new.targets ≡ self.old.targets }
         ensures start { self.new.start ≡ self.old.start }
         ensures mark { self.new.mark ≡ seat.new.knows }
         ensures was { self.new.was ≡ self.old.was }
@@ -135,7 +138,7 @@ impl Starting {
         ensures so_far { IsStartWithin board.now.book self.new (length seat.new.knows.seen) }
         ensures ends { IsSome result ↔ (start_turns_left board.now.book self.new ≡ 0) }
         ensures answer { IfSome result (IsStartOf board.now.book self.old.start seat.new.knows
-            self.old.account self.old.call) }
+            self.old.account self.old.targets) }
         ensures leaves { IfSome result (λ h. LeavesTotals board.now.book self.old.start
             seat.new.knows self.old.was totals.new (asking_steps_of board.now.book self.old)
             (start_turns_made self.new)) }
@@ -176,9 +179,7 @@ impl Starting {
         self.mark = Snapshot::of(seat);
         self.totals = Snapshot::of(totals);
         let front = looked?;
-        let targets = targets_of(&self.call);
-        // There are one to four targets, as their type keeps.
-        let _count = targets.len();
+        let targets = self.targets.copy();
         // What is settled at the front stays so, whatever others publish before the request is announced.
         let asking = asking_at(seat, self.account, targets, &front);
         self.stage.become_next(StartStage::Ask(asking));
@@ -230,7 +231,7 @@ impl Starting {
         let collected = collecting.turn(board, seat);
         self.mark = Snapshot::of(seat);
         let asked = collected?;
-        Some(Helping::of(self.call.copy(), self.account, collecting.own(), asked))
+        Some(Helping::of(self.account, collecting.own(), asked))
     }
 }
 

@@ -18,7 +18,7 @@ use at_base::Decision;
 use at_board::{Board, BoardSeat};
 use at_fold::Totals;
 use at_machines::{Deciding, Looking};
-use at_shared::{HelpTurn, Helping};
+use at_shared::{HelpTurn, Helping, answer_in};
 use std::marker::Model;
 use std::mem::{drop, replace};
 use std::snapshot::Snapshot;
@@ -196,7 +196,7 @@ impl Turning {
         seat.known();
         if let Some((round, decision)) = helping.settled(totals) {
             self.stage.become_next(TurnStage::Found);
-            return Some(HelpTurn::Settled(helping.receipt(round, &decision)));
+            return Some(HelpTurn::Settled(answer_in(round, &decision)));
         }
         // What is proposed is fixed here. Others may publish and decide before the exchange, and the front stays one.
         let deciding = Deciding::start(board, seat, totals, helping, front);

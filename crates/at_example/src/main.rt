@@ -40,7 +40,7 @@ fn deal(ledger: &Ledger, zero: &mut Pass, one: &mut Pass) -> ([Receipt; 3], [Rec
     let rest = ledger.read(one, 2);
     let mut targets = Targets::one(0, 10);
     targets.push(3, 5);
-    let paid_out = ledger.pay(one, 1, &targets);
+    let paid_out = ledger.pay(one, 1, targets);
     let paid_in = ledger.read(zero, 3);
     ([paid, short, paid_in], [agreed, rest, paid_out])
 }

@@ -31,7 +31,7 @@ pub record PaysAlone (book : BookTerms) (before after : Knowledge) (source : ℕ
 -- a payment from a shared account was decided in a round
 pub record PaysInRound (book : BookTerms) (before after : Knowledge) (source : ℕ) (call : Call) (receipt : Receipt) : Type 0 where
   pub call_is : receipt.call ≡ call
-  pub in_round : StandsInRound receipt
+  pub in_round : StandsInRound (receipt.reply, receipt.at)
   pub placed : (earlier : List Receipt) → asks_in source earlier ≡ length (asking_on (own_part before) source).announced →
       IsPlaced book after.first after.seen earlier receipt
   pub after_start : StandsAfter (length before.seen) after receipt

@@ -14,23 +14,19 @@ use at_log::Receipt;
 impl Ledger {
     /// Makes a call: `transfer`, `pay` and `read` are its three cases. What it leaves of the pass, and what it may take, is said by
     /// the two records of the first two clauses. Takes no memory.
-    pub fn call(&self, pass: &mut Pass, call: &Call) -> Receipt
+    pub fn call(&self, pass: &mut Pass, call: Call) -> Receipt
         requires pass { IsPassOf pass.old self.now }
-        requires accounts { IsCallOn (length self.now.book.accounts) call.now }
-        ensures made { CallMade self.now.book pass.old pass.new call.now result }
-        ensures within { StaysWithin self.now.book pass.old pass.new call.now result }
+        requires accounts { IsCallOn (length self.now.book.accounts) call }
+        ensures made { CallMade self.now.book pass.old pass.new call result }
+        ensures within { StaysWithin self.now.book pass.old pass.new call result }
         ensures runs { AreRuns self.now.book pass.new.knows.seen }
         ensures pass { IsPassOf pass.new self.now }
         ensures calls { pass.new.calls ≡ one_more_call pass.old.calls }
     {
         match call {
-            Call::Transfer {
-                from,
-                to: _,
-                amount: _,
-            } => self.pay_by_call(pass, *from, call),
-            Call::Read { account } => self.read(pass, *account),
-            Call::Pay { from, targets: _ } => self.pay_by_call(pass, *from, call),
+            Call::Transfer { from, to, amount } => self.transfer(pass, from, to, amount),
+            Call::Read { account } => self.read(pass, account),
+            Call::Pay { from, targets } => self.pay(pass, from, targets),
         }
     }
 }

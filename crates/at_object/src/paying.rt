@@ -1,48 +1,35 @@
 //! What a transfer and a pay-out do alike.
 
-ghost use Rattle.std.specs.Prelude.{◌≡◌, ◌≢◌, ℕ, ◌+◌, ◌*◌, ◌++◌, ◌<◌, ◌≤◌, List, [], ◌∷◌, length, slice_index, sum, true, false, Some, None, if◌then◌else◌, None};
+ghost use Rattle.std.specs.Prelude.{◌≡◌, ◌≢◌, ℕ, ◌+◌, ◌*◌, ◌<◌, ◌≤◌, length, true, false};
 ghost use Rattle.at_board.specs.Counting.{raised};
-ghost use Rattle.at_board.specs.Knowledge.Fresh.{IsFresh};
-ghost use Rattle.at_board.specs.Knowledge.Parts.{own_part};
-ghost use Rattle.at_board.specs.Knowledge.Seats.{IsOf};
-ghost use Rattle.at_board.specs.Steps.StoreRequestWord.{MayStoreRequest};
 ghost use Rattle.at_board.specs.declared.words.TheConstants.{RECORD_WORDS};
-ghost use Rattle.at_fold.specs.HasCounted.{HasCounted};
 ghost use Rattle.at_history.specs.Moves.{AreRuns};
-ghost use Rattle.at_history.specs.Rounds.{owns_of};
 ghost use Rattle.at_ledger.specs.Account.{is_shared, is_single, slots_of};
 ghost use Rattle.at_ledger.specs.Book.{account_of, is_owner};
-ghost use Rattle.at_ledger.specs.Call.{TargetPair};
-ghost use Rattle.at_ledger.specs.declared.call.Reply.{Reply};
-ghost use Rattle.at_log.specs.Placed.{IsPlaced};
-ghost use Rattle.at_log.specs.Receipts.{payout_of};
+ghost use Rattle.at_ledger.specs.Call.{AreTargetsOn};
 ghost use Rattle.at_log.specs.declared.receipt.At.{At};
-ghost use Rattle.at_log.specs.declared.receipt.Receipt.{Receipt};
 ghost use Rattle.at_object.specs.Calls.{PaymentMade};
-ghost use Rattle.at_object.specs.Paid.{PaysAlone};
-ghost use Rattle.at_object.specs.Passes.{IsPassOf, Stands, asked_by, counted_anew, one_more_call, sent_by};
-ghost use Rattle.at_object.specs.Payments.{IsDecidedByBalance, IsRefused, has_used_up, payment_steps, refusal_of, sent_after, shared_steps, single_steps};
-ghost use Rattle.at_shared.specs.Helpings.{HasAllSettled, IsPayoutFrom, decides_made, decides_on};
-ghost use Rattle.at_single.specs.Standing.{IsOnlyOwner, front_behind};
-ghost use Rattle.at_single.specs.Standing as single;
+ghost use Rattle.at_object.specs.Passes.{IsPassOf, counted_anew, one_more_call};
+ghost use Rattle.at_object.specs.Payments.{has_used_up, payment_steps, refusal_of, sent_after, shared_steps, single_steps};
+ghost use Rattle.at_shared.specs.Helpings.{decides_made, decides_on};
+ghost use Rattle.at_shared.specs.Settling.{OnReceipts};
+ghost use Rattle.at_single.specs.Standing.{IsOnlyOwner};
 
 use crate::ledger::Ledger;
 use crate::pass::Pass;
-use at_board::{Board, BoardSeat};
-use at_fold::Totals;
-use at_ledger::{Call, Reply};
-use at_log::{At, Receipt};
-use at_shared::{pay_shared, targets_of};
+use at_ledger::{Reply, Targets};
+use at_log::At;
+use at_shared::pay_shared;
 use at_single::pay_single;
 
 impl Ledger {
-    /// Makes a payment, by whichever call.
-    pub(crate) fn pay_by_call(&self, pass: &mut Pass, source: u32, call: &Call) -> Receipt
+    /// Makes a payment, whichever call it is of: the reply, and where the call stands.
+    pub(crate) fn pay_out(&self, pass: &mut Pass, source: u32, targets: &Targets) -> (Reply, At)
         requires pass { IsPassOf pass.old self.now }
-        requires call { IsPayoutFrom self.now.book source call.now }
         requires source { source < length self.now.book.accounts }
-        ensures made { (targets : List TargetPair) → payout_of call.now ≡ Some (source, targets)
-            → PaymentMade self.now.book pass.old pass.new source targets call.now result }
+        requires targets { AreTargetsOn (length self.now.book.accounts) targets.now }
+        ensures made { OnReceipts source targets.now result (λ r. PaymentMade self.now.book pass.old
+            pass.new source targets.now r.call r) }
         ensures runs { AreRuns self.now.book pass.new.knows.seen }
         ensures pass { IsPassOf pass.new self.now }
         ensures calls { pass.new.calls ≡ one_more_call pass.old.calls }
@@ -59,11 +46,11 @@ impl Ledger {
     {
         pass.seat.known();
         match self.refusal(pass, source) {
-            Some(reply) => refuse(pass, call, reply),
+            Some(reply) => refuse(pass, reply),
             None if self.book().owner_count(source) == 1 => {
-                self.pay_from_single(pass, source, call)
+                self.pay_from_single(pass, source, targets)
             }
-            None => self.pay_from_shared(pass, source, call),
+            None => self.pay_from_shared(pass, source, targets),
         }
     }
 
@@ -86,15 +73,14 @@ impl Ledger {
     }
 
     /// A payment from an account of one owner.
-    fn pay_from_single(&self, pass: &mut Pass, source: u32, call: &Call) -> Receipt
+    fn pay_from_single(&self, pass: &mut Pass, source: u32, targets: &Targets) -> (Reply, At)
         requires pass { IsPassOf pass.old self.now }
-        requires call { IsPayoutFrom self.now.book source call.now }
         requires source { source < length self.now.book.accounts }
+        requires targets { AreTargetsOn (length self.now.book.accounts) targets.now }
         requires owner { IsOnlyOwner self.now.book pass.old.knows.first source }
         requires room { has_used_up self.now.book pass.old source ≡ false }
-        ensures made { (targets : List TargetPair) → payout_of call.now ≡ Some (source, targets)
-            → PaymentMade self.now.book pass.old pass.new source targets call.now result }
-        ensures decided { IsDecidedByBalance result }
+        ensures made { OnReceipts source targets.now result (λ r. PaymentMade self.now.book pass.old
+            pass.new source targets.now r.call r) }
         ensures runs { AreRuns self.now.book pass.new.knows.seen }
         ensures pass { IsPassOf pass.new self.now }
         ensures calls { pass.new.calls ≡ one_more_call pass.old.calls }
@@ -104,24 +90,29 @@ impl Ledger {
         ensures decides { (a : ℕ) → decides_on pass.new.knows a ≡ decides_on pass.old.knows a }
     {
         pass.seat.known();
-        let receipt = pay_alone(&self.board, &mut pass.seat, &mut pass.totals, source, call);
+        let paid = pay_single(
+            &self.board,
+            &mut pass.seat,
+            &mut pass.totals,
+            source,
+            targets,
+        );
         pass.seat.known();
-        pass.sent = sent_after(pass.sent, &receipt.reply);
+        pass.sent = sent_after(pass.sent, &paid.0);
         pass.calls = pass.calls.saturating_add(1);
-        receipt
+        paid
     }
 
     /// A payment from a shared account.
-    fn pay_from_shared(&self, pass: &mut Pass, source: u32, call: &Call) -> Receipt
+    fn pay_from_shared(&self, pass: &mut Pass, source: u32, targets: &Targets) -> (Reply, At)
         requires pass { IsPassOf pass.old self.now }
-        requires call { IsPayoutFrom self.now.book source call.now }
         requires source { source < length self.now.book.accounts }
+        requires targets { AreTargetsOn (length self.now.book.accounts) targets.now }
         requires shared { is_shared (account_of self.now.book source) ≡ true }
         requires owner { is_owner self.now.book pass.old.knows.first source ≡ true }
         requires room { has_used_up self.now.book pass.old source ≡ false }
-        ensures made { (targets : List TargetPair) → payout_of call.now ≡ Some (source, targets)
-            → PaymentMade self.now.book pass.old pass.new source targets call.now result }
-        ensures decided { IsDecidedByBalance result }
+        ensures made { OnReceipts source targets.now result (λ r. PaymentMade self.now.book pass.old
+            pass.new source targets.now r.call r) }
         ensures runs { AreRuns self.now.book pass.new.knows.seen }
         ensures pass { IsPassOf pass.new self.now }
         ensures calls { pass.new.calls ≡ one_more_call pass.old.calls }
@@ -136,26 +127,27 @@ impl Ledger {
             → decides_on pass.new.knows a ≡ decides_on pass.old.knows a }
     {
         pass.seat.known();
-        let receipt = pay_shared(&self.board, &mut pass.seat, &mut pass.totals, source, call);
+        let paid = pay_shared(
+            &self.board,
+            &mut pass.seat,
+            &mut pass.totals,
+            source,
+            targets,
+        );
         pass.seat.known();
         pass.calls = pass.calls.saturating_add(1);
-        receipt
+        paid
     }
 }
 
 /// A call that is refused changes nothing but the pass's count of calls.
-fn refuse(pass: &mut Pass, call: &Call, reply: Reply) -> Receipt
-    ensures call { result.call ≡ call.now }
-    ensures reply { result.reply ≡ reply }
-    ensures at { result.at ≡ At.Previous }
+fn refuse(pass: &mut Pass, reply: Reply) -> (Reply, At)
+    ensures reply { result.0 ≡ reply }
+    ensures at { result.1 ≡ At.Previous }
     ensures pass { pass.new ≡ record pass.old { calls = one_more_call pass.old.calls } }
 {
     pass.calls = pass.calls.saturating_add(1);
-    Receipt {
-        call: call.copy(),
-        reply,
-        at: At::Previous,
-    }
+    (reply, At::Previous)
 }
 
 /// How many payments from single accounts have succeeded after one more.
@@ -166,40 +158,5 @@ fn sent_after(sent: u32, reply: &Reply) -> u32
     match reply {
         Reply::Done => sent + 1,
         _ => sent,
-    }
-}
-
-/// A payment by the seat of the account's one owner.
-fn pay_alone(
-    board: &Board,
-    seat: &mut BoardSeat,
-    totals: &mut Totals,
-    source: u32,
-    call: &Call,
-) -> Receipt
-    requires seat { IsOf seat.old board.now }
-    requires totals { HasCounted totals.old board.now.book seat.old.knows.seen }
-    requires call { IsPayoutFrom board.now.book source call.now }
-    requires source { source < length board.now.book.accounts }
-    requires owner { IsOnlyOwner board.now.book seat.old.knows.first source }
-    requires room { owns_of seat.old.knows.first seat.old.knows.seen < board.now.book.own_room }
-    ensures pays { (targets : List TargetPair) → payout_of call.now ≡ Some (source, targets)
-        → PaysAlone board.now.book seat.old.knows seat.new.knows source targets call.now result }
-    ensures counted { HasCounted totals.new board.now.book seat.new.knows.seen }
-    ensures own_counted { slice_index totals.new.upto seat.new.knows.first
-        ≡ (own_part seat.new.knows).published }
-    ensures more { sum totals.old.upto + (own_part seat.new.knows).published
-        ≤ sum totals.new.upto + (own_part seat.old.knows).published }
-    ensures board { IsOf seat.new board.now }
-    ensures steps { seat.new.steps ≤ seat.old.steps + single_steps board.now.book.processes
-        + RECORD_WORDS * single.newly_counted seat.old.knows seat.new.knows totals.old totals.new }
-    ensures exchanges { seat.new.exchanges ≡ seat.old.exchanges }
-{
-    let targets = targets_of(call);
-    let (reply, at) = pay_single(board, seat, totals, source, &targets);
-    Receipt {
-        call: call.copy(),
-        reply,
-        at,
     }
 }

@@ -26,29 +26,28 @@ impl Ledger {
         ensures pass { IsPassOf pass.new self.now }
         ensures calls { pass.new.calls ≡ one_more_call pass.old.calls }
     {
+        let (reply, at) = self.pay_out(pass, from, &Targets::one(to, amount));
         let call = Call::Transfer { from, to, amount };
-        self.pay_by_call(pass, from, &call)
+        Receipt { call, reply, at }
     }
 
     /// Moves each amount from one account to its target, or none of them. The answer is not-owner where the process doesn't own the
     /// account, full where it has used up its room there, short where the balance doesn't cover the sum, and else done. A short
     /// payment from a shared account uses room too. Takes no memory.
-    pub fn pay(&self, pass: &mut Pass, from: u32, targets: &Targets) -> Receipt
+    pub fn pay(&self, pass: &mut Pass, from: u32, targets: Targets) -> Receipt
         requires pass { IsPassOf pass.old self.now }
         requires from { from < length self.now.book.accounts }
-        requires targets { AreTargetsOn (length self.now.book.accounts) targets.now }
-        ensures made { PaymentMade self.now.book pass.old pass.new from targets.now
-            (Call.Pay from targets.now) result }
-        ensures within { StaysWithin self.now.book pass.old pass.new (Call.Pay from targets.now)
+        requires targets { AreTargetsOn (length self.now.book.accounts) targets }
+        ensures made { PaymentMade self.now.book pass.old pass.new from targets
+            (Call.Pay from targets) result }
+        ensures within { StaysWithin self.now.book pass.old pass.new (Call.Pay from targets)
             result }
         ensures runs { AreRuns self.now.book pass.new.knows.seen }
         ensures pass { IsPassOf pass.new self.now }
         ensures calls { pass.new.calls ≡ one_more_call pass.old.calls }
     {
-        let call = Call::Pay {
-            from,
-            targets: targets.copy(),
-        };
-        self.pay_by_call(pass, from, &call)
+        let (reply, at) = self.pay_out(pass, from, &targets);
+        let call = Call::Pay { from, targets };
+        Receipt { call, reply, at }
     }
 }

@@ -45,5 +45,5 @@ pub(crate) fn call_by(ledger: &Ledger, pass: &mut Pass, call: &Call) -> Receipt
     ensures pass { IsPassOf pass.new ledger.now }
     ensures calls { pass.new.calls ≡ one_more_call pass.old.calls }
 {
-    ledger.call(pass, call)
+    ledger.call(pass, call.copy())
 }

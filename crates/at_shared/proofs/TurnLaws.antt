@@ -1,10 +1,9 @@
 -- What a turn leaves of what its seat knows, by what it answers.
-use Rattle.std.proofs.Common.{◌≡◌, ◌≢◌, ℕ, ◌+◌, ◌≤◌, ◌⊎◌, Bool, true, false, cond, List, [], None, refl, ap, ◌∙◌, arith, inl, inr}
+use Rattle.std.proofs.Common.{◌≡◌, ◌≢◌, ℕ, ◌+◌, ◌≤◌, List, [], None, refl, ap, ◌∙◌, arith, inl, inr}
 use Rattle.at_base.specs.declared.decision.Decision.{Decision}
 use Rattle.at_ledger.specs.Account.{slots_of}
 use Rattle.at_ledger.specs.Book.{BookTerms, account_of}
 use Rattle.at_ledger.specs.declared.call.Reply.{Reply}
-use Rattle.at_ledger.specs.declared.call.Reply.TheVariants.{Done, Short}
 use Rattle.at_history.specs.Fronts.{prefix_of}
 use Rattle.at_history.specs.Publications.{IsPrefix}
 use Rattle.at_history.specs.Rounds.{rounds}
@@ -17,11 +16,13 @@ use Rattle.at_board.specs.declared.knowledge.Part.{Part}
 use Rattle.at_fold.specs.Counted.{IsDecidedIn}
 use Rattle.at_log.specs.Placed.{IsPlaced}
 use Rattle.at_log.specs.Receipts.{asks_in}
+use Rattle.at_log.specs.declared.receipt.At.{At}
 use Rattle.at_log.specs.declared.receipt.Receipt.{Receipt}
 use Rattle.at_rows.proofs.Laws.Accounts.{HasAccount}
 use Rattle.at_shared.proofs.Laws.After.{IsAfter, IsAfter-HasLoaded, own_part-HasLoaded}
+use Rattle.at_shared.proofs.Laws.Placing.{StandsInRound-IsDecidedSo}
 use Rattle.at_shared.proofs.Laws.Turned.{FindsSettled-turn, HelpsDecide-turn, IsHelping-turn, IsPlaced-turn-found, IsPlaced-turn-own, StandsAfter-turn-found, StandsAfter-turn-own, begins-turn, decides-turn, decides_elsewhere-turn, free-turn, heard-turn, overtaken-turn, process-turn, published-turn, rounds-turn}
-use Rattle.at_shared.specs.HelpTurns.{AnswersRound, DecidesNext, HelpAnswers, IsReceiptOf, OnSettled}
+use Rattle.at_shared.specs.HelpTurns.{AnswersRound, DecidesNext, HelpAnswers, IsDecidedSo, OnSettled, OnSettledCalls}
 use Rattle.at_shared.specs.HelpingTerms.{HelpingTerms}
 use Rattle.at_shared.specs.Helpings.{IsHelping, decides_on, heard_on}
 use Rattle.at_shared.specs.Settling.{StandsAfter, StandsInRound}
@@ -33,10 +34,9 @@ use Rattle.at_snapshot.specs.Snapshots.{IsSnapshot}
 -- a turn for a helping has answered so, with so many exchanges on its account and as many records published
 pub record IsTurned (b : BookTerms) (v z : Knowledge) (h : HelpingTerms) (turn : HelpTurn) (n : ℕ) : Type 0 where
   pub answers : HelpAnswers b v z h turn
-  pub call : OnSettled turn (λ r. r.call ≡ h.call)
   pub in_round : OnSettled turn StandsInRound
-  pub placed : OnSettled turn (λ r. (earlier : List Receipt) → asks_in h.account earlier ≡ h.own.number → IsPlaced b z.first z.seen earlier r)
-  pub after_start : OnSettled turn (StandsAfter h.own.since z)
+  pub placed : OnSettledCalls h turn (λ r. (earlier : List Receipt) → asks_in h.account earlier ≡ h.own.number → IsPlaced b z.first z.seen earlier r)
+  pub after_start : OnSettledCalls h turn (StandsAfter h.own.since z)
   pub helping : turn ≡ More → IsHelping b z h
   pub rounds_more : turn ≡ More → rounds h.account v.seen + 1 ≤ rounds h.account z.seen
   pub overtaken : turn ≡ More → rounds h.account v.seen + 2 ≤ heard_on v h.account + slots_of (account_of b h.account)
@@ -48,33 +48,20 @@ pub record IsTurned (b : BookTerms) (v z : Knowledge) (h : HelpingTerms) (turn :
   pub elsewhere : (a : ℕ) → a ≢ h.account → decides_on z a ≡ decides_on v a
   pub published : (own_part z).published ≡ (own_part v).published + n
 
-done_or_short : (ok : Bool) (reply : Reply) → reply ≡ cond ok Done Short → (reply ≡ Done) ⊎ (reply ≡ Short)
-done_or_short true reply is = inl is
-done_or_short false reply is = inr is
-
-StandsInRound-IsReceiptOf : (h : HelpingTerms) (r : ℕ) (d : Decision) (receipt : Receipt) → IsReceiptOf h r d receipt → StandsInRound receipt
-StandsInRound-IsReceiptOf h r d receipt is = record {
-  round = r;
-  place = d.place;
-  at = is.at;
-  reply = done_or_short d.ok receipt.reply is.reply;
-}
-
 module _ (b : BookTerms) (v w : Knowledge) (h : HelpingTerms) (front : List ℕ) (has : HasAccount v h.account) (snapshot : IsSnapshot b v w front)
     (loads : HasLoaded b v w) (is : IsHelping b v h) where
   -- the request was settled at the front
-  pub IsTurned-found : (r : ℕ) (d : Decision) (receipt : Receipt) → AgreesWithSeen w
-      → IsDecidedIn (prefix_of front w.seen) h.account h.own.slot h.own.number r d → IsReceiptOf h r d receipt → IsTurned b v w h (Settled receipt) 0
-  IsTurned-found r d receipt agrees found told =
+  pub IsTurned-found : (r : ℕ) (d : Decision) (answer : Reply × At) → AgreesWithSeen w
+      → IsDecidedIn (prefix_of front w.seen) h.account h.own.slot h.own.number r d → IsDecidedSo r d answer → IsTurned b v w h (Settled answer) 0
+  IsTurned-found r d answer agrees found so =
       let after : IsAfter v w h.account 0 [] = IsAfter-HasLoaded b v w h.account has.part loads in
       let own = own_part-HasLoaded b v w has.part loads in
       let published : (own_part w).published ≡ (own_part v).published = ap (λ (q : Part). q.published) own in
       record {
         answers = inl (FindsSettled-turn b v w h front has snapshot loads is r d found);
-        call = told.call;
-        in_round = StandsInRound-IsReceiptOf h r d receipt told;
-        placed = IsPlaced-turn-found b v w h front has snapshot loads is r d receipt agrees found told.call told.reply told.at;
-        after_start = StandsAfter-turn-found b v w h front has snapshot loads is r d receipt agrees found told.call told.at;
+        in_round = StandsInRound-IsDecidedSo r d answer so;
+        placed = IsPlaced-turn-found b v w h front has snapshot loads is r d answer agrees found so;
+        after_start = StandsAfter-turn-found b v w h front has snapshot loads is r d answer agrees found so;
         helping = λ more. absurd (cc more);
         rounds_more = λ more. absurd (cc more);
         overtaken = λ more. absurd (cc more);
@@ -93,37 +80,30 @@ module _ (b : BookTerms) (v w : Knowledge) (h : HelpingTerms) (front : List ℕ)
     round = rounds h.account (prefix_of front w.seen)
 
     answers-decided : (turn : HelpTurn) → AnswersRound h round d turn → HelpAnswers b v z h turn
-    answers-decided (Settled receipt) (own, told) = inr (d, HelpsDecide-turn b v w h front has snapshot loads is z d next, own)
+    answers-decided (Settled answer) (own, so) = inr (d, HelpsDecide-turn b v w h front has snapshot loads is z d next, own)
     answers-decided More other = (d, HelpsDecide-turn b v w h front has snapshot loads is z d next, other)
 
-    call-decided : (turn : HelpTurn) → AnswersRound h round d turn → OnSettled turn (λ r. r.call ≡ h.call)
-    call-decided (Settled receipt) (own, told) = told.call
-    call-decided More other = tt
-
     in_round-decided : (turn : HelpTurn) → AnswersRound h round d turn → OnSettled turn StandsInRound
-    in_round-decided (Settled receipt) (own, told) = StandsInRound-IsReceiptOf h round d receipt told
+    in_round-decided (Settled answer) (own, so) = StandsInRound-IsDecidedSo round d answer so
     in_round-decided More other = tt
 
     placed-decided : (turn : HelpTurn) → AnswersRound h round d turn
-        → OnSettled turn (λ r. (earlier : List Receipt) → asks_in h.account earlier ≡ h.own.number → IsPlaced b z.first z.seen earlier r)
-    placed-decided (Settled receipt) (own, told) =
-        IsPlaced-turn-own b v w h front has snapshot loads is z d next round receipt kept.agrees refl own told.call told.reply told.at
+        → OnSettledCalls h turn (λ r. (earlier : List Receipt) → asks_in h.account earlier ≡ h.own.number → IsPlaced b z.first z.seen earlier r)
+    placed-decided (Settled answer) (own, so) = IsPlaced-turn-own b v w h front has snapshot loads is z d next round answer kept.agrees refl own so
     placed-decided More other = tt
 
-    after_start-decided : (turn : HelpTurn) → AnswersRound h round d turn → OnSettled turn (StandsAfter h.own.since z)
-    after_start-decided (Settled receipt) (own, told) =
-        StandsAfter-turn-own b v w h front has snapshot loads is z d next round receipt kept.agrees refl own told.call told.at
+    after_start-decided : (turn : HelpTurn) → AnswersRound h round d turn → OnSettledCalls h turn (StandsAfter h.own.since z)
+    after_start-decided (Settled answer) (own, so) = StandsAfter-turn-own b v w h front has snapshot loads is z d next round answer kept.agrees refl own so
     after_start-decided More other = tt
 
     overtaken-decided : (turn : HelpTurn) → AnswersRound h round d turn → turn ≡ More
         → rounds h.account v.seen + 2 ≤ heard_on v h.account + slots_of (account_of b h.account)
-    overtaken-decided (Settled receipt) told more = absurd (cc more)
+    overtaken-decided (Settled answer) told more = absurd (cc more)
     overtaken-decided More other more = overtaken-turn b v w h front has snapshot loads is z d next kept book other
 
     pub IsTurned-decided : (turn : HelpTurn) → AnswersRound h round d turn → IsTurned b v z h turn 1
     IsTurned-decided turn told = record {
       answers = answers-decided turn told;
-      call = call-decided turn told;
       in_round = in_round-decided turn told;
       placed = placed-decided turn told;
       after_start = after_start-decided turn told;

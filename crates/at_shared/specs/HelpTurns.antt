@@ -3,6 +3,7 @@ use Rattle.std.specs.Prelude.{◌≡◌, ℕ, ◌⊎◌, true, false, List, if�
 use Rattle.at_base.specs.declared.decision.Decision.{Decision}
 use Rattle.at_ledger.specs.Book.{BookTerms}
 use Rattle.at_ledger.specs.Call.{TargetPair}
+use Rattle.at_ledger.specs.declared.call.Reply.{Reply}
 use Rattle.at_ledger.specs.declared.call.Reply.TheVariants.{Done, Short}
 use Rattle.at_history.specs.Fronts.{place, prefix_of}
 use Rattle.at_history.specs.Rounds.{is_settled, rounds}
@@ -18,6 +19,7 @@ use Rattle.at_rounds.specs.Answers.{DecidesAs}
 use Rattle.at_rows.specs.Loads.{LoadsRequest}
 use Rattle.at_rows.specs.declared.open_request.OpenRequest.{OpenRequest}
 use Rattle.at_shared.specs.HelpingTerms.{HelpingTerms}
+use Rattle.at_shared.specs.Settling.{OnReceipts}
 use Rattle.at_shared.specs.declared.helping.HelpTurn.{HelpTurn}
 use Rattle.at_shared.specs.declared.helping.HelpTurn.TheVariants.{Settled, More}
 use Rattle.at_snapshot.specs.Collected.{HasLoaded}
@@ -65,25 +67,32 @@ pub record FindsSettled (b : BookTerms) (before after : Knowledge) (h : HelpingT
 abbrev pub NamesOwn : HelpingTerms → Decision → Type 0
 NamesOwn h d = (d.slot ≡ h.own.slot) × (d.number ≡ h.own.number)
 
--- the call's receipt, where a round has decided its request so
-pub record IsReceiptOf (h : HelpingTerms) (round : ℕ) (d : Decision) (r : Receipt) : Type 0 where
-  pub call : r.call ≡ h.call
-  pub reply : r.reply ≡ (if d.ok then Done else Short)
-  pub at : r.at ≡ At.Round round d.place
+-- the reply and the place where a round has decided the request so
+pub record IsDecidedSo (round : ℕ) (d : Decision) (answer : Reply × At) : Type 0 where
+  pub reply : answer.0 ≡ (if d.ok then Done else Short)
+  pub at : answer.1 ≡ At.Round round d.place
 
--- what is answered by a round: the receipt where that has decided the own request, and else more
+-- what is answered by a round: settled where that has decided the own request, and else more
 abbrev pub AnswersRound : HelpingTerms → ℕ → Decision → HelpTurn → Type 0
-AnswersRound h round d (Settled receipt) = NamesOwn h d × IsReceiptOf h round d receipt
+AnswersRound h round d (Settled answer) = NamesOwn h d × IsDecidedSo round d answer
 AnswersRound h round d More = ¬ NamesOwn h d
 
--- settled exactly where the request is settled at the turn's front or the turn's own round decides it; and else more
-abbrev pub HelpAnswers : BookTerms → Knowledge → Knowledge → HelpingTerms → HelpTurn → Type 0
-HelpAnswers b before after h (Settled receipt) =
+-- the request is settled at the turn's front, or the turn's own round decides it
+abbrev pub SettlesOwn : BookTerms → Knowledge → Knowledge → HelpingTerms → Type 0
+SettlesOwn b before after h =
     FindsSettled b before after h ⊎ ((d : Decision) × HelpsDecide b before after h d × NamesOwn h d)
+
+-- settled exactly there; and else more
+abbrev pub HelpAnswers : BookTerms → Knowledge → Knowledge → HelpingTerms → HelpTurn → Type 0
+HelpAnswers b before after h (Settled answer) = SettlesOwn b before after h
 HelpAnswers b before after h More =
     (d : Decision) × HelpsDecide b before after h d × ¬ NamesOwn h d
 
--- what holds of the receipt of an answer
-abbrev pub OnSettled : HelpTurn → (Receipt → Type 0) → Type 0
-OnSettled (Settled receipt) holds = holds receipt
+-- what holds of the reply and the place of an answer
+abbrev pub OnSettled : HelpTurn → (Reply × At → Type 0) → Type 0
+OnSettled (Settled answer) holds = holds answer
 OnSettled More holds = Unit {0}
+
+-- what holds of the receipt of each call that asks for what the helping does
+abbrev pub OnSettledCalls : HelpingTerms → HelpTurn → (Receipt → Type 0) → Type 0
+OnSettledCalls h turn holds = OnSettled turn (λ answer. OnReceipts h.account h.own.targets answer holds)

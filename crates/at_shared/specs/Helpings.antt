@@ -1,9 +1,7 @@
 -- What a helping has to do with its owner's seat.
-use Rattle.std.specs.Prelude.{◌≡◌, ℕ, ◌-◌, ◌<◌, ◌≤◌, ◌⊎◌, true, List, length, All, Contains, Some, None}
+use Rattle.std.specs.Prelude.{◌≡◌, ℕ, ◌-◌, ◌<◌, ◌≤◌, ◌⊎◌, true, List, length, All, Contains, None}
 use Rattle.at_ledger.specs.Account.{slots_of}
 use Rattle.at_ledger.specs.Book.{BookTerms, HasSlot, account_of}
-use Rattle.at_ledger.specs.Call.{AreTargetsOn, TargetPair}
-use Rattle.at_ledger.specs.declared.call.Call.{Call}
 use Rattle.at_history.specs.Fronts.{place}
 use Rattle.at_history.specs.Rounds.{is_settled, rounds}
 use Rattle.at_history.specs.declared.publication.Publication.{Publication}
@@ -14,7 +12,6 @@ use Rattle.at_board.specs.Steps.Announce.{Announces}
 use Rattle.at_board.specs.declared.knowledge.Knowledge.{Knowledge}
 use Rattle.at_board.specs.declared.knowledge.LoadedWord.{LoadedWord}
 use Rattle.at_board.specs.declared.knowledge.Loads.{Loads}
-use Rattle.at_log.specs.Receipts.{payout_of}
 use Rattle.at_rows.specs.Asks.{HasAsked}
 use Rattle.at_rows.specs.OpenRequests.{IsAmong, request_of, seen_of}
 use Rattle.at_rows.specs.Rows.{LoadsOnly}
@@ -38,22 +35,15 @@ loads_asked v a = (asking_on (own_part v) a).loads
 abbrev pub decides_made : ℕ → Knowledge → Knowledge → ℕ
 decides_made a before after = decides_on after a - decides_on before a
 
--- the call is a pay-out from the account to accounts of the book
-pub record IsPayoutFrom (b : BookTerms) (a : ℕ) (call : Call) : Type 0 where
-  pub targets : List TargetPair
-  pub payout : payout_of call ≡ Some (a, targets)
-  pub accounts : AreTargetsOn (length b.accounts) targets
-
 -- each request of the seat's process on the account is settled in what the seat has seen
 abbrev pub HasAllSettled : BookTerms → Knowledge → ℕ → Type 0
 HasAllSettled b v a = (slot number : ℕ) → HasSlot b v.first a slot → number < length (asking_on (own_part v) a).announced →
     is_settled a slot number v.seen ≡ true
 
--- the request stands for its call, and is the last that the seat's process has announced on the account. The process has loaded the
--- others' rows since then, holds no cell, and has seen each request that was collected: these are the ones that it may propose,
--- but for those that are settled in the list
+-- the request is the last that the seat's process has announced on the account. The process has loaded the others' rows since then,
+-- holds no cell, and has seen each request that was collected: these are the ones that it may propose, but for those that are
+-- settled in the list
 pub record IsHelpingAt (b : BookTerms) (v : Knowledge) (list : List Publication) (h : HelpingTerms) : Type 0 where
-  pub payout : payout_of h.call ≡ Some (h.account, h.own.targets)
   pub asked : HasAsked b v h.account h.own
   pub room : h.own.number < b.request_room
   pub since : h.own.since ≤ length list

@@ -1,6 +1,9 @@
 -- Where the receipt of a settled request stands, and the bounds of the calls.
-use Rattle.std.specs.Prelude.{◌≡◌, ◌≢◌, ℕ, ◌+◌, ◌*◌, ◌<◌, ◌≤◌, ◌⊎◌, ◌++◌, List, [], ◌∷◌, length, Contains}
+use Rattle.std.specs.Prelude.{◌≡◌, ◌≢◌, ℕ, ◌+◌, ◌*◌, ◌<◌, ◌≤◌, ◌⊎◌, ◌++◌, List, [], ◌∷◌, length, Contains, Some}
 use Rattle.at_ledger.specs.Book.{BookTerms}
+use Rattle.at_ledger.specs.Call.{TargetPair}
+use Rattle.at_ledger.specs.declared.call.Call.{Call}
+use Rattle.at_ledger.specs.declared.call.Reply.{Reply}
 use Rattle.at_ledger.specs.declared.call.Reply.TheVariants.{Done, Short}
 use Rattle.at_history.specs.Fronts.{place}
 use Rattle.at_history.specs.Rounds.{owns_of}
@@ -9,18 +12,24 @@ use Rattle.at_board.specs.Knowledge.Parts.{asking_on, loads_of, own_part, with_p
 use Rattle.at_board.specs.declared.knowledge.Knowledge.{Knowledge}
 use Rattle.at_board.specs.declared.knowledge.SeenRequest.{SeenRequest}
 use Rattle.at_board.specs.declared.words.TheConstants.{RECORD_WORDS, REQUEST_WORDS}
+use Rattle.at_log.specs.Receipts.{payout_of}
 use Rattle.at_log.specs.Told.{key_of}
 use Rattle.at_log.specs.declared.receipt.At.{At}
 use Rattle.at_log.specs.declared.receipt.Receipt.{Receipt}
 use Rattle.at_shared.specs.Helpings.{HasAllSettled, loads_asked}
 use Rattle.at_snapshot.specs.Snapshots.{IsSnapshot}
 
--- the call was done or short, in a round
-pub record StandsInRound (r : Receipt) : Type 0 where
+-- what holds of the receipt of each call with this payout, where it has this reply and place
+abbrev pub OnReceipts : ℕ → List TargetPair → Reply × At → (Receipt → Type 0) → Type 0
+OnReceipts a targets answer holds =
+    (call : Call) → payout_of call ≡ Some (a, targets) → holds (record { call = call; reply = answer.0; at = answer.1 })
+
+-- the payment was done or short, in a round
+pub record StandsInRound (answer : Reply × At) : Type 0 where
   pub round : ℕ
   pub place : ℕ
-  pub at : r.at ≡ At.Round round place
-  pub reply : (r.reply ≡ Done) ⊎ (r.reply ≡ Short)
+  pub at : answer.1 ≡ At.Round round place
+  pub reply : (answer.0 ≡ Done) ⊎ (answer.0 ≡ Short)
 
 -- the receipt stands at or after this place in the order of the calls, whatever stands before
 abbrev pub StandsAfter : ℕ → Knowledge → Receipt → Type 0

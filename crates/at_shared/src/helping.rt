@@ -1,6 +1,6 @@
 //! A request that waits, and the turns by which it is settled.
 
-ghost use Rattle.std.specs.Prelude.{◌≡◌, ◌≢◌, ◌↔◌, ℕ, ◌+◌, ◌*◌, ◌<◌, ◌≤◌, true, List, length, slice_index, sum, None, Some, if◌then◌else◌};
+ghost use Rattle.std.specs.Prelude.{◌≡◌, ◌≢◌, ◌↔◌, ℕ, ◌+◌, ◌*◌, ◌<◌, ◌≤◌, true, List, length, slice_index, sum, None, if◌then◌else◌};
 ghost use Rattle.at_base.specs.declared.decision.Decision.{Decision};
 ghost use Rattle.at_board.specs.Counting.{raised};
 ghost use Rattle.at_board.specs.Knowledge.Parts.{asking_on, own_part};
@@ -15,14 +15,14 @@ ghost use Rattle.at_history.specs.Rounds.{rounds};
 ghost use Rattle.at_history.specs.declared.publication.Publication.{Publication};
 ghost use Rattle.at_ledger.specs.Account.{slots_of};
 ghost use Rattle.at_ledger.specs.Book.{BookTerms, account_of};
-ghost use Rattle.at_ledger.specs.Call.{TargetPair};
+ghost use Rattle.at_ledger.specs.Call.{AreTargetsOn};
 ghost use Rattle.at_log.specs.Placed.{IsPlaced};
-ghost use Rattle.at_log.specs.Receipts.{asks_in, payout_of};
+ghost use Rattle.at_log.specs.Receipts.{asks_in};
 ghost use Rattle.at_log.specs.declared.receipt.At.{At};
 ghost use Rattle.at_log.specs.declared.receipt.Receipt.{Receipt};
-ghost use Rattle.at_shared.specs.HelpTurns.{AnswersRound, HelpAnswers, NamesOwn, OnSettled};
+ghost use Rattle.at_shared.specs.HelpTurns.{AnswersRound, HelpAnswers, NamesOwn, OnSettled, OnSettledCalls};
 ghost use Rattle.at_shared.specs.HelpingTerms.{helping_of};
-ghost use Rattle.at_shared.specs.Helpings.{HasAllSettled, HasStarted, IsHelping, IsPayoutFrom, decides_made, decides_on, heard_on};
+ghost use Rattle.at_shared.specs.Helpings.{HasAllSettled, HasStarted, IsHelping, decides_made, decides_on, heard_on};
 ghost use Rattle.at_shared.specs.Settling.{StandsAfter, StandsInRound, asking_steps, round_steps};
 ghost use Rattle.at_single.specs.Standing.{newly_counted};
 ghost use Rattle.at_snapshot.specs.Snapshots.{snapshot_steps};
@@ -30,8 +30,8 @@ ghost use Rattle.at_snapshot.specs.Snapshots.{snapshot_steps};
 use at_base::Decision;
 use at_board::{Board, BoardSeat};
 use at_fold::Totals;
-use at_ledger::{Call, Reply, Targets};
-use at_log::{At, Receipt};
+use at_ledger::{Reply, Targets};
+use at_log::At;
 use at_rows::{Asked, OpenRequest, ask, collect_rows};
 use at_single::look;
 use std::marker::Model;
@@ -39,8 +39,8 @@ use std::marker::Model;
 /// What a turn of helping answers.
 #[derive(Drop)]
 pub enum HelpTurn {
-    /// The request is settled: this is the call's receipt.
-    Settled(Receipt),
+    /// The request is settled: this is the reply, and where the call stands.
+    Settled((Reply, At)),
     /// Another request was decided in this turn's round.
     More,
 }
@@ -48,7 +48,6 @@ pub enum HelpTurn {
 /// A request of a shared account that its owner waits for, and the requests of the other owners that it found. It takes no memory.
 #[derive(Drop)]
 pub struct Helping {
-    pub(crate) call: Call,
     pub(crate) account: u32,
     pub(crate) own: OpenRequest,
     pub(crate) asked: Asked,
@@ -60,7 +59,6 @@ impl Model for Helping {
     ghost Value = { HelpingTerms };
 
     ghost view = { λ h. record {
-      call = h.call;
       account = h.account;
       own = h.own;
       asked = h.asked;
@@ -69,18 +67,17 @@ impl Model for Helping {
 
 impl Helping {
     /// A request that waits, of its parts.
-    pub fn of(call: Call, account: u32, own: OpenRequest, asked: Asked) -> Helping
-        ensures { result ≡ helping_of call account own asked }
+    pub fn of(account: u32, own: OpenRequest, asked: Asked) -> Helping
+        ensures { result ≡ helping_of account own asked }
     {
         Helping {
-            call,
             account,
             own,
             asked,
         }
     }
 
-    /// The account that the call pays from.
+    /// The account that is paid from.
     pub fn account(&self) -> u32
         ensures { result ≡ self.now.account }
     {
@@ -115,16 +112,16 @@ impl Helping {
         seat: &mut BoardSeat,
         totals: &mut Totals,
         account: u32,
-        call: &Call,
+        targets: &Targets,
     ) -> Helping
         requires seat { IsOf seat.old board.now }
         requires totals { HasCounted totals.old board.now.book seat.old.knows.seen }
-        requires call { IsPayoutFrom board.now.book account call.now }
+        requires targets { AreTargetsOn (length board.now.book.accounts) targets.now }
         requires asks { (slot : ℕ) × MayStoreRequest board.now.book seat.old.knows account slot }
         requires settled { HasAllSettled board.now.book seat.old.knows account }
         requires free { (own_part seat.old.knows).held ≡ None }
-        ensures call { result.call ≡ call.now }
         ensures account { result.account ≡ account }
+        ensures targets { result.own.targets ≡ targets.now }
         ensures started { HasStarted board.now.book seat.old.knows seat.new.knows result }
         ensures helping { IsHelping board.now.book seat.new.knows result }
         ensures number { result.own.number
@@ -148,7 +145,7 @@ impl Helping {
         seat.known();
         board.book().known();
         let front = look(board, seat, totals);
-        let targets = targets_of(call);
+        let targets = targets.copy();
         // There are one to four targets, as their type keeps.
         let _count = targets.len();
         let slot = board.book().slot_of(account, seat.process()).unwrap();
@@ -163,10 +160,10 @@ impl Helping {
         // Others may ask at once after each load here. Whoever isn't found asked after this request was announced, and waits less
         // long.
         let asked = collect_rows(board, seat, account, &own);
-        Helping::of(call.copy(), account, own, asked)
+        Helping::of(account, own, asked)
     }
 
-    /// Takes a snapshot. Where the request is settled there, the call is answered. Else the oldest unsettled request is proposed to
+    /// Takes a snapshot. Where the request is settled there, that is the answer. Else the oldest unsettled request is proposed to
     /// the next round, and what was decided there is published; it is settled exactly where that is the own request.
     pub fn turn(&mut self, board: &Board, seat: &mut BoardSeat, totals: &mut Totals) -> HelpTurn
         requires seat { IsOf seat.old board.now }
@@ -174,12 +171,12 @@ impl Helping {
         requires helping { IsHelping board.now.book seat.old.knows self.old }
         ensures same { self.new ≡ self.old }
         ensures answers { HelpAnswers board.now.book seat.old.knows seat.new.knows self.old result }
-        ensures call { OnSettled result (λ r. r.call ≡ self.old.call) }
         ensures in_round { OnSettled result StandsInRound }
-        ensures placed { OnSettled result (λ r. (earlier : List Receipt)
+        ensures placed { OnSettledCalls self.old result (λ r. (earlier : List Receipt)
             → asks_in self.old.account earlier ≡ self.old.own.number
             → IsPlaced board.now.book seat.new.knows.first seat.new.knows.seen earlier r) }
-        ensures after_start { OnSettled result (StandsAfter self.old.own.since seat.new.knows) }
+        ensures after_start { OnSettledCalls self.old result
+            (StandsAfter self.old.own.since seat.new.knows) }
         ensures helping { result ≡ HelpTurn.More
             → IsHelping board.now.book seat.new.knows self.old }
         ensures decides_more { result ≡ HelpTurn.More
@@ -223,59 +220,35 @@ impl Helping {
         let front = look(board, seat, totals);
         seat.known();
         if let Some((round, decision)) = self.settled(totals) {
-            return HelpTurn::Settled(self.receipt(round, &decision));
+            return HelpTurn::Settled(answer_in(round, &decision));
         }
         let turn = self.decide_next(board, seat, totals, &front);
         seat.known();
         turn
     }
 
-    /// What a turn answers whose round was decided so: the receipt of the request that waits, or that more is left.
+    /// What a turn answers whose round was decided so: that the request is settled, or that more is left.
     pub fn answer(&self, round: u32, decision: &Decision) -> HelpTurn
         ensures { AnswersRound self.now round decision.now result }
     {
         if self.is_own(decision) {
-            HelpTurn::Settled(self.receipt(round, decision))
+            HelpTurn::Settled(answer_in(round, decision))
         } else {
             HelpTurn::More
         }
     }
-
-    /// The receipt of the call, where a round has decided its request so.
-    pub fn receipt(&self, round: u32, decision: &Decision) -> Receipt
-        ensures call { result.call ≡ self.now.call }
-        ensures reply { result.reply ≡ (if decision.now.ok then Reply.Done else Reply.Short) }
-        ensures at { result.at ≡ At.Round round decision.now.place }
-    {
-        Receipt {
-            call: self.call.copy(),
-            reply: if decision.ok {
-                Reply::Done
-            } else {
-                Reply::Short
-            },
-            at: At::Round {
-                round,
-                place: decision.place,
-            },
-        }
-    }
 }
 
-/// The targets of a pay-out.
-pub fn targets_of(call: &Call) -> Targets
-    requires payout { (a : ℕ) × (targets : List TargetPair)
-        × (payout_of call.now ≡ Some (a, targets)) }
-    ensures { (a : ℕ) (targets : List TargetPair) → payout_of call.now ≡ Some (a, targets)
-        → result ≡ targets }
+/// The reply and the place of a payment whose request a round has decided so.
+pub fn answer_in(round: u32, decision: &Decision) -> (Reply, At)
+    ensures reply { result.0 ≡ (if decision.now.ok then Reply.Done else Reply.Short) }
+    ensures at { result.1 ≡ At.Round round decision.now.place }
 {
-    match call {
-        Call::Transfer {
-            from: _,
-            to,
-            amount,
-        } => Targets::one(*to, *amount),
-        Call::Read { account: _ } => unreachable!(),
-        Call::Pay { from: _, targets } => targets.copy(),
-    }
+    let reply = if decision.ok {
+        Reply::Done
+    } else {
+        Reply::Short
+    };
+    let place = decision.place;
+    (reply, At::Round { round, place })
 }

@@ -8,13 +8,13 @@
 //! Cryptocurrency" (PODC 2019), with the helping of wait-free objects.
 //!
 //! The definitions read best in this order: `HelpingTerms` and `Helpings`, a request that waits; `HelpTurns`, what a turn does;
-//! `PaymentTurns`, how a payment turns; `Settling`, where its receipt stands.
+//! `PaymentTurns`, how a payment turns; `Settling`, where the receipts of its calls stand.
 #![tactic(auto)]
 
 mod helping;
 mod payments;
 mod rounds;
 
-pub use crate::helping::{HelpTurn, Helping, targets_of};
+pub use crate::helping::{HelpTurn, Helping, answer_in};
 pub use crate::payments::pay_shared;
 pub use crate::rounds::record_of_round;

@@ -10,47 +10,49 @@ ghost use Rattle.at_fold.specs.HasCounted.{HasCounted};
 ghost use Rattle.at_history.specs.Publications.{IsPrefix};
 ghost use Rattle.at_ledger.specs.Account.{slots_of};
 ghost use Rattle.at_ledger.specs.Book.{account_of};
+ghost use Rattle.at_ledger.specs.Call.{AreTargetsOn};
 ghost use Rattle.at_log.specs.Placed.{IsPlaced};
 ghost use Rattle.at_log.specs.Receipts.{asks_in};
 ghost use Rattle.at_log.specs.declared.receipt.Receipt.{Receipt};
-ghost use Rattle.at_shared.specs.Helpings.{HasAllSettled, IsPayoutFrom, decides_made, decides_on};
+ghost use Rattle.at_shared.specs.Helpings.{HasAllSettled, decides_made, decides_on};
 ghost use Rattle.at_shared.specs.PaymentTurns.{SettlesInTurns};
-ghost use Rattle.at_shared.specs.Settling.{AsksOnce, StandsAfter, StandsAfterSnapshot, StandsInRound, asking_steps, round_steps};
+ghost use Rattle.at_shared.specs.Settling.{AsksOnce, OnReceipts, StandsAfter, StandsAfterSnapshot, StandsInRound, asking_steps, round_steps};
 ghost use Rattle.at_single.specs.Standing.{newly_counted};
 ghost use Rattle.at_snapshot.specs.Snapshots.{snapshot_steps};
 
 use crate::helping::{HelpTurn, Helping};
 use at_board::{Board, BoardSeat};
 use at_fold::Totals;
-use at_ledger::Call;
-use at_log::Receipt;
+use at_ledger::{Reply, Targets};
+use at_log::At;
 
-/// Makes the call's pay-out from an account that the seat's process shares, all of it if the account covers the sum when the
-/// request's turn comes, and else none. Asks, and turns until the request is settled. Short uses one request of room too. The call
-/// may publish rounds in which others' requests are decided. Takes no memory.
+/// Moves each amount to its target from an account that the seat's process shares, all of them if the account covers their sum when
+/// the request's turn comes, and else none: the reply, and where the call stands. Asks, and turns until the request is settled.
+/// Short uses one request of room too. The call may publish rounds in which others' requests are decided. Takes no memory.
 pub fn pay_shared(
     board: &Board,
     seat: &mut BoardSeat,
     totals: &mut Totals,
     account: u32,
-    call: &Call,
-) -> Receipt
+    targets: &Targets,
+) -> (Reply, At)
     requires seat { IsOf seat.old board.now }
     requires totals { HasCounted totals.old board.now.book seat.old.knows.seen }
-    requires call { IsPayoutFrom board.now.book account call.now }
+    requires targets { AreTargetsOn (length board.now.book.accounts) targets.now }
     requires asks { (slot : ℕ) × MayStoreRequest board.now.book seat.old.knows account slot }
     requires settled { HasAllSettled board.now.book seat.old.knows account }
     requires free { (own_part seat.old.knows).held ≡ None }
-    ensures call { result.call ≡ call.now }
     ensures in_round { StandsInRound result }
-    ensures placed { (earlier : List Receipt) → asks_in account earlier
-        ≡ length (asking_on (own_part seat.old.knows) account).announced
-        → IsPlaced board.now.book seat.new.knows.first seat.new.knows.seen earlier result }
-    ensures after_start { StandsAfter (length seat.old.knows.seen) seat.new.knows result }
-    ensures after_snapshot { StandsAfterSnapshot board.now.book seat.old.knows seat.new.knows
-        account result }
+    ensures placed { OnReceipts account targets.now result (λ r. (earlier : List Receipt)
+        → asks_in account earlier ≡ length (asking_on (own_part seat.old.knows) account).announced
+        → IsPlaced board.now.book seat.new.knows.first seat.new.knows.seen earlier r) }
+    ensures after_start { OnReceipts account targets.now result
+        (StandsAfter (length seat.old.knows.seen) seat.new.knows) }
+    ensures after_snapshot { OnReceipts account targets.now result
+        (StandsAfterSnapshot board.now.book seat.old.knows seat.new.knows account) }
     ensures asked { AsksOnce board.now.book seat.old.knows seat.new.knows account }
-    ensures turns { SettlesInTurns board.now.book seat.old.knows seat.new.knows account result }
+    ensures turns { SettlesInTurns board.now.book seat.old.knows seat.new.knows account
+        targets.now }
     ensures free { (own_part seat.new.knows).held ≡ None }
     ensures begins { IsPrefix seat.old.knows.seen seat.new.knows.seen }
     ensures process { seat.new.knows.first ≡ seat.old.knows.first }
@@ -73,12 +75,12 @@ pub fn pay_shared(
         ≡ raised seat.old.exchanges (decides_made account seat.old.knows seat.new.knows) }
 {
     seat.known();
-    let mut helping = Helping::start(board, seat, totals, account, call);
+    let mut helping = Helping::start(board, seat, totals, account, targets);
     seat.known();
     loop {
         // Each turn that answers more has published one round that was decided before the request, and they are few.
-        if let HelpTurn::Settled(receipt) = helping.turn(board, seat, totals) {
-            return receipt;
+        if let HelpTurn::Settled(answer) = helping.turn(board, seat, totals) {
+            return answer;
         }
     }
 }

@@ -1,23 +1,20 @@
 //! One round: a proposal for the front of a turn, and the record of what was decided.
 
-ghost use Rattle.std.specs.Prelude.{◌≡◌, ◌↔◌, ◌+◌, ◌<◌, ◌≤◌, true, false, List, length, slice_index, slice_set};
+ghost use Rattle.std.specs.Prelude.{◌≡◌, ◌+◌, ◌<◌, ◌≤◌, false, length, slice_index, slice_set};
 ghost use Rattle.at_base.specs.declared.decision.Decision.{Decision};
 ghost use Rattle.at_board.specs.Counting.{raised};
 ghost use Rattle.at_board.specs.Knowledge.Parts.{SeesDecision, own_part};
 ghost use Rattle.at_board.specs.Knowledge.Seats.{IsOf};
 ghost use Rattle.at_board.specs.Steps.Decide.{MayPropose};
 ghost use Rattle.at_board.specs.declared.words.TheConstants.{RECORD_WORDS, REQUEST_WORDS};
-ghost use Rattle.at_fold.specs.HasCounted.{CountsAccount, CountsFront, HasCounted};
-ghost use Rattle.at_history.specs.Balances.{balance_after};
+ghost use Rattle.at_fold.specs.HasCounted.{CountsFront, HasCounted};
 ghost use Rattle.at_history.specs.Fronts.{IsFront, place, prefix_of};
 ghost use Rattle.at_history.specs.Rounds.{is_settled, rounds};
 ghost use Rattle.at_history.specs.Sound.{IsSoundRound};
 ghost use Rattle.at_history.specs.declared.publication.Entry.{Entry};
-ghost use Rattle.at_history.specs.declared.publication.Publication.{Publication};
 ghost use Rattle.at_history.specs.declared.request.Request.{Request};
 ghost use Rattle.at_ledger.specs.Account.{slots_of};
-ghost use Rattle.at_ledger.specs.Book.{BookTerms, account_of};
-ghost use Rattle.at_ledger.specs.Call.{amount_of};
+ghost use Rattle.at_ledger.specs.Book.{account_of};
 ghost use Rattle.at_ledger.specs.Limits.{most_owners};
 ghost use Rattle.at_shared.specs.HelpTurns.{AnswersRound, DecidesNext, PublishesRound};
 ghost use Rattle.at_shared.specs.Helpings.{IsHelpingAt};
@@ -32,6 +29,7 @@ use at_ledger::Targets;
 use at_log::{Record, append};
 use at_rounds::propose;
 use at_rows::{OpenRequest, load_request, oldest};
+use at_single::covers;
 
 impl Helping {
     /// Has the next round at the front decided, publishes it with that front as the view, and answers by it.
@@ -201,15 +199,4 @@ pub fn record_of_round(
         },
         view: front.copy(),
     }
-}
-
-/// Does the balance at the front that the totals have counted cover the amounts of these targets?
-fn covers(totals: &Totals, account: u32, targets: &Targets) -> bool
-    requires { (b : BookTerms) × (seen : List Publication) × CountsAccount totals.now b seen account
-        × CountsFront totals.now b seen }
-    ensures { (b : BookTerms) (seen : List Publication) → CountsAccount totals.now b seen account
-        → CountsFront totals.now b seen → (result ≡ true)
-        ↔ (amount_of targets.now ≤ balance_after b (prefix_of totals.now.upto seen) account) }
-{
-    targets.sum() <= u128::from(totals.balance(account))
 }

@@ -12,6 +12,6 @@ mod looks;
 mod payments;
 mod reads;
 
-pub use crate::looks::look;
+pub use crate::looks::{covers, look};
 pub use crate::payments::pay_single;
 pub use crate::reads::read_account;

@@ -15,7 +15,7 @@ ghost use Rattle.at_log.specs.declared.receipt.Receipt.{Receipt};
 ghost use Rattle.at_single.specs.Standing.{IsOnlyOwner, StandsAfterFront, StandsAtFront, StandsAtOwn, front_behind, newly_counted, payment_reply};
 ghost use Rattle.at_snapshot.specs.Snapshots.{IsSnapshot, snapshot_steps};
 
-use crate::looks::look;
+use crate::looks::{covers, look};
 use at_board::{Board, BoardSeat, Entry};
 use at_fold::Totals;
 use at_ledger::{Reply, Targets};
@@ -70,7 +70,7 @@ pub fn pay_single(
     // There are one to four targets, as their type keeps.
     let _count = targets.len();
     let view = look(board, seat, totals);
-    if u128::from(totals.balance(from)) < targets.sum() {
+    if !covers(totals, from, targets) {
         return (Reply::Short, At::Front(view));
     }
     let number = seat.published();

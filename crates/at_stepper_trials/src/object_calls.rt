@@ -44,7 +44,7 @@ fn call_by(ledger: &Ledger, pass: &mut Pass, call: &Call) -> Receipt
         → Stands pass.new (earlier ++ result ∷ []) }
     ensures calls { pass.new.calls ≡ one_more_call pass.old.calls }
 {
-    ledger.call(pass, call)
+    ledger.call(pass, call.copy())
 }
 
 /// Makes the next call of a process's file, and keeps its receipt.

@@ -3,7 +3,7 @@
 ghost use Rattle.std.specs.Prelude.{◌≡◌, ◌<◌, IfSome, IsTrue, length};
 ghost use Rattle.at_board.specs.Ends.Closing.{IsFreeSeat};
 ghost use Rattle.at_players.specs.SmallBoard.{IsIdle, IsNewFour};
-ghost use Rattle.at_trials.specs.SmallShared.{HoldsNoCell, MayCall};
+ghost use Rattle.at_trials.specs.SmallShared.{HoldsNoCell, IsSharer, MayCall};
 
 use crate::fold_trials::new_totals;
 use crate::payers::owns_alone;
@@ -84,6 +84,20 @@ fn pay_own(board: &Board, seat: &mut BoardSeat, totals: &mut Totals) -> Option<R
     Some(Receipt { call, reply, at })
 }
 
+/// Pays 1 from the shared account to account 1, if the seat's process may ask for it.
+fn pay_in_round(board: &Board, seat: &mut BoardSeat, totals: &mut Totals) -> Option<Receipt>
+    requires sharer { IsSharer board.now seat.old totals.old }
+    ensures sharer { IsSharer board.now seat.new totals.new }
+{
+    let (reply, at) = pay_from_shared(board, seat, totals, 1)?;
+    let call = Call::Transfer {
+        from: 0,
+        to: 1,
+        amount: 1,
+    };
+    Some(Receipt { call, reply, at })
+}
+
 /// Pays from the shared account again and again, and keeps the receipts.
 fn share_calls(board: &Board, seat: &mut BoardSeat, totals: &mut Totals, receipts: &mut Receipts)
     requires caller { MayCall board.now seat.old totals.old }
@@ -93,7 +107,7 @@ fn share_calls(board: &Board, seat: &mut BoardSeat, totals: &mut Totals, receipt
         return;
     }
     for _call in 0..CALLS {
-        if !receipts.keep(pay_from_shared(board, seat, totals, 1)) {
+        if !receipts.keep(pay_in_round(board, seat, totals)) {
             return;
         }
     }

@@ -225,11 +225,11 @@ fn finds_settled(
 {
     seat.known();
     let published = seat.published();
-    let HelpTurn::Settled(receipt) = helping.turn(board, seat, totals) else {
+    let HelpTurn::Settled(answer) = helping.turn(board, seat, totals) else {
         return None;
     };
     if seat.published() == published {
-        in_round(&receipt)
+        in_round(&answer)
     } else {
         None
     }

@@ -14,7 +14,7 @@ use crate::fold_trials::{TwoTotals, said_of_shared, two_totals};
 use at_base::{Decision, Head, pack_decision, pack_head};
 use at_board::{Board, BoardEnd, BoardSeat, pack_targets};
 use at_fold::Totals;
-use at_ledger::{Call, Reply, Targets};
+use at_ledger::{Reply, Targets};
 use at_log::{At, Receipt};
 use at_players::boards::{Account, Pair, has_record, new_pair, slot_on};
 use at_shared::{HelpTurn, Helping, pay_shared};
@@ -27,10 +27,10 @@ const SHARED: &[Account] = &[(100, &[0, 1]), (0, &[])];
 /// What a call answers, and its round and place.
 pub(crate) type InRound = Option<(Reply, u32, u32)>;
 
-/// What a receipt answers, and its round and place.
-pub(crate) fn in_round(receipt: &Receipt) -> InRound {
-    match &receipt.at {
-        At::Round { round, place } => Some((receipt.reply, *round, *place)),
+/// What a call answers that stands in a round.
+pub(crate) fn in_round(answer: &(Reply, At)) -> InRound {
+    match &answer.1 {
+        At::Round { round, place } => Some((answer.0, *round, *place)),
         _ => None,
     }
 }
@@ -56,13 +56,13 @@ fn may_ask(board: &Board, seat: &BoardSeat) -> bool
     2 <= board.book().accounts() && board.announced(seat, 0) < board.book().request_room()
 }
 
-/// The receipt of a payment from account 0 to account 1, if the seat's process may ask for it.
+/// The reply and the place of a payment from account 0 to account 1, if the seat's process may ask for it.
 pub(crate) fn pay_from_shared(
     board: &Board,
     seat: &mut BoardSeat,
     totals: &mut Totals,
     amount: u64,
-) -> Option<Receipt>
+) -> Option<(Reply, At)>
     requires sharer { IsSharer board.now seat.old totals.old }
     ensures sharer { IsSharer board.now seat.new totals.new }
     ensures process { seat.new.knows.first ≡ seat.old.knows.first }
@@ -70,12 +70,8 @@ pub(crate) fn pay_from_shared(
     if !may_ask(board, seat) {
         return None;
     }
-    let call = Call::Transfer {
-        from: 0,
-        to: 1,
-        amount,
-    };
-    Some(pay_shared(board, seat, totals, 0, &call))
+    let targets = Targets::one(1, amount);
+    Some(pay_shared(board, seat, totals, 0, &targets))
 }
 
 /// What such a payment answers.
@@ -85,23 +81,9 @@ fn pays(board: &Board, seat: &mut BoardSeat, totals: &mut Totals, amount: u64) -
     ensures process { seat.new.knows.first ≡ seat.old.knows.first }
 {
     match pay_from_shared(board, seat, totals, amount) {
-        Some(receipt) => in_round(&receipt),
+        Some(answer) => in_round(&answer),
         None => None,
     }
-}
-
-/// What the same payment answers as a list of one target.
-fn pays_listed(board: &Board, seat: &mut BoardSeat, totals: &mut Totals, amount: u64) -> InRound
-    requires sharer { IsSharer board.now seat.old totals.old }
-    ensures sharer { IsSharer board.now seat.new totals.new }
-    ensures process { seat.new.knows.first ≡ seat.old.knows.first }
-{
-    if !may_ask(board, seat) {
-        return None;
-    }
-    let targets = Targets::one(1, amount);
-    let call = Call::Pay { from: 0, targets };
-    in_round(&pay_shared(board, seat, totals, 0, &call))
 }
 
 /// Whether payments of 60 and 30 are done in the first rounds, and one more of 30 is short in the next.
@@ -114,7 +96,7 @@ fn pays_until_short(board: &Board, seat: &mut BoardSeat, totals: &mut Totals) ->
         return false;
     }
     let first = pays(board, seat, totals, 60);
-    let second = pays_listed(board, seat, totals, 30);
+    let second = pays(board, seat, totals, 30);
     let third = pays(board, seat, totals, 30);
     first == Some((Reply::Done, 0, 0))
         && second == Some((Reply::Done, 1, 1))
@@ -293,12 +275,8 @@ pub(crate) fn asks(board: &Board, seat: &mut BoardSeat, totals: &mut Totals) -> 
     if !begins_sharing(board, seat) || !may_ask(board, seat) {
         return None;
     }
-    let call = Call::Transfer {
-        from: 0,
-        to: 1,
-        amount: 10,
-    };
-    Some(Helping::start(board, seat, totals, 0, &call))
+    let targets = Targets::one(1, 10);
+    Some(Helping::start(board, seat, totals, 0, &targets))
 }
 
 /// What a turn answers where it settles the request, and its round and place.
@@ -315,7 +293,7 @@ pub(crate) fn turns(
     ensures board { IsOf seat.new board.now }
 {
     match helping.turn(board, seat, totals) {
-        HelpTurn::Settled(receipt) => in_round(&receipt),
+        HelpTurn::Settled(answer) => in_round(&answer),
         HelpTurn::More => None,
     }
 }

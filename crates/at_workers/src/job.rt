@@ -117,7 +117,7 @@ impl Job {
         let line = index as u32 + 1;
         let call = self.calls[index].copy();
         gate.pass(process, line);
-        let receipt = ledger.call(&mut self.pass, &call);
+        let receipt = ledger.call(&mut self.pass, call);
         gate.answered(process, line, &receipt.reply);
         self.receipts.push_reserved(receipt);
     }

@@ -57,7 +57,7 @@ asks_in-asking_receipts source (suc n) =
 
 -- a receipt that stands in a round is placed at a record of that round
 IsAtRound-IsPlaced : (b : BookTerms) (p : ℕ) (list : List Publication) (earlier : List Receipt) (r : Receipt) (source : ℕ) (targets : List TargetPair)
-    → IsPlaced b p list earlier r → StandsInRound r → payout_of r.call ≡ Some (source, targets) → IsAtRound b p list earlier source targets r
+    → IsPlaced b p list earlier r → StandsInRound (r.reply, r.at) → payout_of r.call ≡ Some (source, targets) → IsAtRound b p list earlier source targets r
 IsAtRound-IsPlaced b p list earlier r source targets (read account balance call reply at) stands payout =
     let both : Front at.view ≡ Round stands.round stands.place = sym at.at ∙ stands.at in absurd (cc both)
 IsAtRound-IsPlaced b p list earlier r source targets (not_owner a ts call owner reply at) stands payout =

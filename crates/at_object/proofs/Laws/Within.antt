@@ -37,13 +37,9 @@ may_exchange-payout b source targets (Read account) is = absurd (cc is)
 may_exchange-payout b source targets (Pay from amounts) is =
     ap (λ a. is_shared (account_of b a)) (first_account-payout source targets (Pay from amounts) is)
 
--- what a payment has left, whatever its targets
-abbrev pub PaysOut : BookTerms → PassTerms → PassTerms → ℕ → Call → Receipt → Type 0
-PaysOut b before after source call r = (targets : List TargetPair) → payout_of call ≡ Some (source, targets) → PaymentMade b before after source targets call r
-
 -- a payment, whichever call it was
 pub StaysWithin-payment : (b : BookTerms) (before after : PassTerms) (source : ℕ) (targets : List TargetPair) (call : Call) (r : Receipt)
-    → payout_of call ≡ Some (source, targets) → PaysOut b before after source call r
+    → payout_of call ≡ Some (source, targets) → PaymentMade b before after source targets call r
     → after.steps ≤ before.steps + payment_steps b source + RECORD_WORDS * counted_anew before after
     → after.exchanges ≡ raised before.exchanges (decides_made source before.knows after.knows)
     → (is_shared (account_of b source) ≡ false → after.exchanges ≡ before.exchanges)
@@ -54,7 +50,7 @@ StaysWithin-payment b before after source targets call r payout made few decided
     let first : first_account call ≡ source = first_account-payout source targets call payout in
     record {
       few = omega (arith, few, call_steps-payout b source targets call payout);
-      refused = λ refused. ap (λ (t : PassTerms). t.steps) ((made targets payout).refused refused);
+      refused = λ refused. ap (λ (t : PassTerms). t.steps) (made.refused refused);
       decided = subst (λ a. after.exchanges ≡ raised before.exchanges (decides_made a before.knows after.knows)) (sym first) decided;
       none = λ no. none (sym (may_exchange-payout b source targets call payout) ∙ no);
       few_decided = subst (λ a. decides_made a before.knows after.knows ≤ slots_of (account_of b a)) (sym first) most;

@@ -1,6 +1,7 @@
 -- What was loaded before a call's request was announced stays known, and so does the snapshot that was taken by then.
 use Rattle.std.proofs.Common.{◌≡◌, ℕ, ◌<◌, List, [], ◌∷◌, length, get_or, map, refl, sym, ap, subst, ◌∙◌, arith, inl, inr}
 use Rattle.std.proofs.lemmas.List.{get_or-set_same, get_or_append_left}
+use Rattle.at_ledger.specs.Call.{TargetPair}
 use Rattle.at_ledger.specs.Book.{BookTerms}
 use Rattle.at_history.proofs.Laws.Fronts.{IsFront-IsPrefix, prefix_of-IsPrefix}
 use Rattle.at_history.proofs.Laws.Histories.{ArePublishedBy-IsHistory}
@@ -83,8 +84,8 @@ loads-HelpsDecide b v z h d has helps =
 
 pub loads-HelpAnswers : (b : BookTerms) (v z : Knowledge) (h : HelpingTerms) (answer : HelpTurn) → HasAccount v h.account → HelpAnswers b v z h answer
     → loads_asked z h.account ≡ loads_asked v h.account
-loads-HelpAnswers b v z h (Settled receipt) has (inl finds) = ap (λ (t : Asking). t.loads) (asking_on-HasLoaded b v z h.account has.part finds.loads)
-loads-HelpAnswers b v z h (Settled receipt) has (inr (d, helps, own)) = loads-HelpsDecide b v z h d has helps
+loads-HelpAnswers b v z h (Settled answer) has (inl finds) = ap (λ (t : Asking). t.loads) (asking_on-HasLoaded b v z h.account has.part finds.loads)
+loads-HelpAnswers b v z h (Settled answer) has (inr (d, helps, own)) = loads-HelpsDecide b v z h d has helps
 loads-HelpAnswers b v z h More has (d, helps, other) = loads-HelpsDecide b v z h d has helps
 
 loads-HasTurned : (b : BookTerms) (h : HelpingTerms) (u w : Knowledge) (turns : ℕ) → HasAccount u h.account → HasTurned b h u turns w
@@ -175,9 +176,9 @@ module _ (b : BookTerms) (v u y z : Knowledge) (h : HelpingTerms) (starts : HasS
         after_front = λ previous. omega (arith, after previous, starts.since);
       }
 
-pub StandsAfterSnapshot-SettlesInTurns : (b : BookTerms) (v z : Knowledge) (a : ℕ) (r : Receipt) (by : SettlesInTurns b v z a r) → HasAccount v a
+pub StandsAfterSnapshot-SettlesInTurns : (b : BookTerms) (v z : Knowledge) (a : ℕ) (targets : List TargetPair) (by : SettlesInTurns b v z a targets) (r : Receipt) → HasAccount v a
     → SeesOwnRecords by.started → StandsAfter by.helping.own.since z r → StandsAfterSnapshot b v z a r
-StandsAfterSnapshot-SettlesInTurns b v z a r by has sees after =
+StandsAfterSnapshot-SettlesInTurns b v z a targets by r has sees after =
     let h : HelpingTerms = by.helping in
     subst (λ c. StandsAfterSnapshot b v z c r) by.account
-    (StandsAfterSnapshot-turns b v by.started by.last z h by.starts by.turns by.turned (Settled r) by.settles (subst (HasAccount v) (sym by.account) has) sees r after)
+    (StandsAfterSnapshot-turns b v by.started by.last z h by.starts by.turns by.turned (Settled (r.reply, r.at)) by.settles (subst (HasAccount v) (sym by.account) has) sees r after)

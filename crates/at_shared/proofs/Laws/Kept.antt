@@ -61,7 +61,6 @@ IsHelpingAt-IsAfter b v w list all h n words after free longer known is =
     let back = sym after.asking in
     let announced : (asking_on (own_part w) a).announced ≡ old.announced = ap (λ (t : Asking). t.announced) after.asking in
     record {
-      payout = is.payout;
       asked = record {
         slot_in = subst (λ p. HasSlot b p a h.own.slot) (sym after.first) is.asked.slot_in;
         last = subst (λ (row : List Request). IsLastRequest row h.own.number) (sym announced) is.asked.last;

@@ -1,4 +1,4 @@
--- Where the receipt of a settled request stands, and why it is right there.
+-- Where the receipts of a settled request stand, and why they are right there.
 use Rattle.std.proofs.Common.{◌≡◌, ◌⊎◌, ℕ, ◌+◌, ◌*◌, ◌<◌, ◌≤◌, ◌==◌, ◌&&◌, ◌||◌, Bool, true, false, cond, List, length, take, Some, is_some, refl, sym, ap, subst, ◌∙◌, arith, inl, inr}
 use Rattle.std.proofs.lemmas.Bool.{and_from, cases_Bool, cases_lt, eq-eqb, ne_eqb}
 use Rattle.std.proofs.lemmas.List.{get_or-take, get_or_default, length-take}
@@ -7,6 +7,7 @@ use Rattle.at_base.specs.declared.decision.Decision.{Decision}
 use Rattle.at_ledger.specs.Account.{AccountTerms, is_shared}
 use Rattle.at_ledger.specs.Book.{BookTerms, HasSlot, account_of, is_owner}
 use Rattle.at_ledger.specs.Call.{TargetPair}
+use Rattle.at_ledger.specs.declared.call.Reply.{Reply}
 use Rattle.at_ledger.specs.declared.call.Reply.TheVariants.{Done, Short}
 use Rattle.at_history.proofs.Laws.Runs.{is_single-shared}
 use Rattle.at_history.proofs.Laws.Settled.{round-below}
@@ -25,14 +26,15 @@ use Rattle.at_log.proofs.Laws.FirstRecords.{is_round-true}
 use Rattle.at_log.proofs.Laws.Positions.{round_position-at}
 use Rattle.at_log.proofs.Laws.Replies.{first_account-payout}
 use Rattle.at_log.specs.Placed.{IsPlaced, has_no_room, round}
-use Rattle.at_log.specs.Receipts.{asks_in, is_success, owns_in, payout_of}
+use Rattle.at_log.specs.Receipts.{asks_in, is_success, owns_in}
 use Rattle.at_log.specs.Told.{first_account, key_at, round_position}
 use Rattle.at_log.specs.declared.receipt.At.{At}
 use Rattle.at_log.specs.declared.receipt.Receipt.{Receipt}
 use Rattle.at_rows.specs.OpenRequests.{request_of}
+use Rattle.at_shared.specs.HelpTurns.{IsDecidedSo}
 use Rattle.at_shared.specs.HelpingTerms.{HelpingTerms}
 use Rattle.at_shared.specs.Helpings.{IsHelpingAt}
-use Rattle.at_shared.specs.Settling.{StandsAfter, StandsInRound}
+use Rattle.at_shared.specs.Settling.{OnReceipts, StandsAfter, StandsInRound}
 
 -- an owner with a slot shares the account
 pub is_shared-HasSlot : (b : BookTerms) (p a slot : ℕ) → HasSlot b p a slot → is_shared (account_of b a) ≡ true
@@ -121,13 +123,13 @@ module _ (b : BookTerms) (z : Knowledge) (list : List Publication) (h : HelpingT
       (is_single-shared b h.account shared)
       ∙ (ap (λ t. t && (asks_in h.account earlier == b.request_room)) shared ∙ less)
 
-  -- the receipt of that round is right
-  pub IsPlaced-IsSettledBy : (receipt : Receipt) → receipt.call ≡ h.call → receipt.reply ≡ cond d.ok Done Short → receipt.at ≡ At.Round r d.place
-      → (earlier : List Receipt) → asks_in h.account earlier ≡ h.own.number → IsPlaced b z.first z.seen earlier receipt
-  IsPlaced-IsSettledBy receipt call reply at earlier asks =
+  -- the receipts of that round are right
+  pub IsPlaced-IsSettledBy : (answer : Reply × At) → IsDecidedSo r d answer → OnReceipts h.account h.own.targets answer
+      (λ receipt. (earlier : List Receipt) → asks_in h.account earlier ≡ h.own.number → IsPlaced b z.first z.seen earlier receipt)
+  IsPlaced-IsSettledBy answer so call payout earlier asks =
       round h.account h.own.targets
       (record {
-        call = ap payout_of call ∙ is.payout;
+        call = payout;
         owner = is_owner-HasSlot b z.first h.account h.own.slot is.asked.slot_in;
         room = has_room earlier asks;
       })
@@ -137,11 +139,11 @@ module _ (b : BookTerms) (z : Knowledge) (list : List Publication) (h : HelpingT
         decision = d;
         position = by.position;
         within = by.within;
-        at = at;
+        at = so.at;
         entry = by.entry ∙ ap (Round h.account r d) (sym targets_are);
         slot = is.asked.slot_in.owner ∙ ap Some (sym by.slot_is);
         next = by.number_is ∙ sym asks;
-        reply = reply;
+        reply = so.reply;
       })
 
   -- the first record of its round stands at or after the place of the decision
@@ -159,27 +161,27 @@ module _ (b : BookTerms) (z : Knowledge) (list : List Publication) (h : HelpingT
       ]
 
   -- so it stands at or after the request's `since`
-  pub StandsAfter-IsSettledBy : (receipt : Receipt) → receipt.call ≡ h.call → receipt.at ≡ At.Round r d.place → StandsAfter h.own.since z receipt
-  StandsAfter-IsSettledBy receipt call at previous =
-      let moved : Bool = is_success receipt.reply in
-      let key = ap (key_at z.first z.seen previous receipt.call moved) at in
-      let account : first_account receipt.call ≡ h.account = first_account-payout h.account h.own.targets receipt.call (ap payout_of call ∙ is.payout) in
-      let pos : round_position (first_account receipt.call) r z.seen ≡ round_position h.account r z.seen = ap (λ a. round_position a r z.seen) account in
-      let choice = λ (t : Bool). cond t (2 * round_position (first_account receipt.call) r z.seen + 1) (2 * d.place) in
-      elim (cases_Bool moved) as (λ _. 2 * h.own.since ≤ key_at z.first z.seen previous receipt.call moved receipt.at) [
+  pub StandsAfter-IsSettledBy : (answer : Reply × At) → IsDecidedSo r d answer
+      → OnReceipts h.account h.own.targets answer (StandsAfter h.own.since z)
+  StandsAfter-IsSettledBy answer so call payout previous =
+      let moved : Bool = is_success answer.0 in
+      let key = ap (key_at z.first z.seen previous call moved) so.at in
+      let account : first_account call ≡ h.account = first_account-payout h.account h.own.targets call payout in
+      let pos : round_position (first_account call) r z.seen ≡ round_position h.account r z.seen = ap (λ a. round_position a r z.seen) account in
+      let choice = λ (t : Bool). cond t (2 * round_position (first_account call) r z.seen + 1) (2 * d.place) in
+      elim (cases_Bool moved) as (λ _. 2 * h.own.since ≤ key_at z.first z.seen previous call moved answer.1) [
         | inl on ↦ omega (arith, since_before, place_before, pos, key, ap choice on)
         | inr off ↦ omega (arith, since_before, key, ap choice off)
       ]
 
 -- it stands in that round, done or short
-pub StandsInRound-receipt : (receipt : Receipt) (r : ℕ) (d : Decision) → receipt.reply ≡ cond d.ok Done Short → receipt.at ≡ At.Round r d.place
-    → StandsInRound receipt
-StandsInRound-receipt receipt r d reply at = record {
+pub StandsInRound-IsDecidedSo : (r : ℕ) (d : Decision) (answer : Reply × At) → IsDecidedSo r d answer → StandsInRound answer
+StandsInRound-IsDecidedSo r d answer so = record {
   round = r;
   place = d.place;
-  at = at;
-  reply = elim (cases_Bool d.ok) as (λ _. (receipt.reply ≡ Done) ⊎ (receipt.reply ≡ Short)) [
-    | inl on ↦ inl (reply ∙ ap (λ t. cond t Done Short) on)
-    | inr off ↦ inr (reply ∙ ap (λ t. cond t Done Short) off)
+  at = so.at;
+  reply = elim (cases_Bool d.ok) as (λ _. (answer.0 ≡ Done) ⊎ (answer.0 ≡ Short)) [
+    | inl on ↦ inl (so.reply ∙ ap (λ t. cond t Done Short) on)
+    | inr off ↦ inr (so.reply ∙ ap (λ t. cond t Done Short) off)
   ];
 }

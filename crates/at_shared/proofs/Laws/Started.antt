@@ -1,10 +1,9 @@
 -- A start of its parts: a snapshot, a request with its place, and the rows.
-use Rattle.std.proofs.Common.{◌≡◌, ℕ, ◌<◌, ◌≤◌, List, length, get_or, Some, None, refl, sym, ap, subst, ◌∙◌, arith, inl, inr}
+use Rattle.std.proofs.Common.{◌≡◌, ℕ, ◌<◌, ◌≤◌, List, length, get_or, None, refl, sym, ap, subst, ◌∙◌, arith, inl, inr}
 use Rattle.std.proofs.lemmas.List.{get_or_default, length-take}
 use Rattle.std.specs.List.{Contains}
 use Rattle.at_ledger.specs.Book.{BookTerms, HasSlot}
 use Rattle.at_ledger.specs.Call.{TargetPair}
-use Rattle.at_ledger.specs.declared.call.Call.{Call}
 use Rattle.at_history.proofs.Laws.Fronts.{place-IsFront-le}
 use Rattle.at_history.proofs.Laws.Histories.{ArePublishedBy-IsHistory}
 use Rattle.at_history.proofs.Laws.Prefixes.{IsPrefix-length}
@@ -17,7 +16,6 @@ use Rattle.at_board.specs.declared.knowledge.Asking.{Asking}
 use Rattle.at_board.specs.declared.knowledge.Knowledge.{Knowledge}
 use Rattle.at_board.specs.declared.knowledge.LoadedWord.{LoadedWord}
 use Rattle.at_board.specs.declared.knowledge.Part.{Part}
-use Rattle.at_log.specs.Receipts.{payout_of}
 use Rattle.at_rows.proofs.Laws.Accounts.{HasAccount}
 use Rattle.at_rows.specs.Asks.{MayAskFor, asked_for}
 use Rattle.at_rows.specs.OpenRequests.{request_of, seen_of}
@@ -92,8 +90,8 @@ module _ (b : BookTerms) (v z : Knowledge) (a : ℕ) (own : OpenRequest) (list :
         by.since,
       )
 
-  pub HasStarted-StartsBy : (call : Call) → HasStarted b v z (helping_of call a own list)
-  HasStarted-StartsBy call = record {
+  pub HasStarted-StartsBy : HasStarted b v z (helping_of a own list)
+  HasStarted-StartsBy = record {
     front = by.front;
     looked = by.looked;
     snapshot = by.snapshot;
@@ -112,10 +110,8 @@ module _ (b : BookTerms) (v z : Knowledge) (a : ℕ) (own : OpenRequest) (list :
   own_counted-StartsBy = ap (λ p. get_or by.front p 0) Keeps-StartsBy.first ∙ (by.snapshot.own ∙ sym Keeps-StartsBy.published)
 
   -- the request is waited for
-  pub IsHelping-StartsBy : (call : Call) → payout_of call ≡ Some (a, own.targets) → own.number < b.request_room → (own_part v).held ≡ None
-      → IsHelping b z (helping_of call a own list)
-  IsHelping-StartsBy call payout room free = record {
-    payout = payout;
+  pub IsHelping-StartsBy : own.number < b.request_room → (own_part v).held ≡ None → IsHelping b z (helping_of a own list)
+  IsHelping-StartsBy room free = record {
     asked = by.last;
     room = room;
     since = omega (

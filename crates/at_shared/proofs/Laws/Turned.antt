@@ -1,9 +1,9 @@
 -- A turn of its parts: a snapshot, and where the own request is unsettled at its front one round.
-use Rattle.std.proofs.Common.{◌≡◌, ◌≢◌, ℕ, ◌+◌, ◌≤◌, cond, List, [], ◌++◌, None, sym, ap, subst, ◌∙◌, arith}
+use Rattle.std.proofs.Common.{◌≡◌, ◌≢◌, ℕ, ◌+◌, ◌≤◌, List, [], ◌++◌, None, sym, ap, subst, ◌∙◌, arith}
 use Rattle.at_base.specs.declared.decision.Decision.{Decision}
 use Rattle.at_ledger.specs.Account.{slots_of}
 use Rattle.at_ledger.specs.Book.{BookTerms, account_of}
-use Rattle.at_ledger.specs.declared.call.Reply.TheVariants.{Done, Short}
+use Rattle.at_ledger.specs.declared.call.Reply.{Reply}
 use Rattle.at_history.proofs.Laws.Rounds.{rounds-IsPrefix}
 use Rattle.at_history.specs.Fronts.{place, prefix_of}
 use Rattle.at_history.specs.Publications.{IsPrefix}
@@ -28,10 +28,10 @@ use Rattle.at_shared.proofs.Laws.Kept.{IsHelpingAt-IsAfter}
 use Rattle.at_shared.proofs.Laws.Placing.{IsPlaced-IsSettledBy, IsSettledBy, IsSettledBy-IsDecidedIn, StandsAfter-IsSettledBy, is_settled-IsDecidedIn}
 use Rattle.at_shared.proofs.Laws.Started.{place-IsSnapshot-le}
 use Rattle.at_shared.proofs.Laws.Turning.{IsAfter-DecidesNext, IsHelping-DecidesNext, IsSettledBy-DecidesNext, free-DecidesNext, overtaken-DecidesNext, published-DecidesNext, rounds-DecidesNext}
-use Rattle.at_shared.specs.HelpTurns.{DecidesNext, FindsSettled, HelpsDecide, NamesOwn}
+use Rattle.at_shared.specs.HelpTurns.{DecidesNext, FindsSettled, HelpsDecide, IsDecidedSo, NamesOwn}
 use Rattle.at_shared.specs.HelpingTerms.{HelpingTerms}
 use Rattle.at_shared.specs.Helpings.{IsHelping, IsHelpingAt, decides_on, heard_on}
-use Rattle.at_shared.specs.Settling.{StandsAfter}
+use Rattle.at_shared.specs.Settling.{OnReceipts, StandsAfter}
 use Rattle.at_snapshot.specs.Collected.{HasLoaded}
 use Rattle.at_snapshot.specs.Snapshots.{IsSnapshot}
 
@@ -58,20 +58,19 @@ module _ (b : BookTerms) (v w : Knowledge) (h : HelpingTerms) (front : List ℕ)
     settled = is_settled-IsDecidedIn (prefix_of front w.seen) h.account h.own.slot h.own.number r d found;
   }
 
-  -- and that round's receipt is right, and stands at or after the request's `since`
-  pub IsPlaced-turn-found : (r : ℕ) (d : Decision) (receipt : Receipt) → AgreesWithSeen w
-      → IsDecidedIn (prefix_of front w.seen) h.account h.own.slot h.own.number r d → receipt.call ≡ h.call → receipt.reply ≡ cond d.ok Done Short
-      → receipt.at ≡ At.Round r d.place → (earlier : List Receipt) → asks_in h.account earlier ≡ h.own.number → IsPlaced b w.first w.seen earlier receipt
-  IsPlaced-turn-found r d receipt agrees found call reply at =
-      IsPlaced-IsSettledBy b w (prefix_of front w.seen) h r d loads.history agrees IsHelpingAt-turn (IsSettledBy-IsDecidedIn w h r (place front) d found) receipt
-      call reply at
+  -- and that round's receipts are right, and stand at or after the request's `since`
+  module _ (r : ℕ) (d : Decision) (answer : Reply × At) (agrees : AgreesWithSeen w)
+      (found : IsDecidedIn (prefix_of front w.seen) h.account h.own.slot h.own.number r d) (so : IsDecidedSo r d answer) where
+    pub IsPlaced-turn-found : OnReceipts h.account h.own.targets answer
+        (λ receipt. (earlier : List Receipt) → asks_in h.account earlier ≡ h.own.number → IsPlaced b w.first w.seen earlier receipt)
+    IsPlaced-turn-found =
+        IsPlaced-IsSettledBy b w (prefix_of front w.seen) h r d loads.history agrees IsHelpingAt-turn
+        (IsSettledBy-IsDecidedIn w h r (place front) d found) answer so
 
-  pub StandsAfter-turn-found : (r : ℕ) (d : Decision) (receipt : Receipt) → AgreesWithSeen w
-      → IsDecidedIn (prefix_of front w.seen) h.account h.own.slot h.own.number r d → receipt.call ≡ h.call → receipt.at ≡ At.Round r d.place
-      → StandsAfter h.own.since w receipt
-  StandsAfter-turn-found r d receipt agrees found call at =
-      StandsAfter-IsSettledBy b w (prefix_of front w.seen) h r d loads.history agrees IsHelpingAt-turn (IsSettledBy-IsDecidedIn w h r (place front) d found) receipt
-      call at
+    pub StandsAfter-turn-found : OnReceipts h.account h.own.targets answer (StandsAfter h.own.since w)
+    StandsAfter-turn-found =
+        StandsAfter-IsSettledBy b w (prefix_of front w.seen) h r d loads.history agrees IsHelpingAt-turn
+        (IsSettledBy-IsDecidedIn w h r (place front) d found) answer so
 
   -- else it decides and publishes one round
   module _ (z : Knowledge) (d : Decision) (next : DecidesNext b w z h front d) where
@@ -131,17 +130,15 @@ module _ (b : BookTerms) (v w : Knowledge) (h : HelpingTerms) (front : List ℕ)
           heard-turn,
         )
 
-    -- where the own request was, the receipt of that round is right, and stands at or after the request's `since`
-    settled_by : (r : ℕ) → r ≡ rounds h.account (prefix_of front w.seen) → NamesOwn h d → IsSettledBy z h r d
-    settled_by r round own = subst (λ k. IsSettledBy z h k d) (sym round) (IsSettledBy-DecidesNext b w z h front d next HasAccount-turn own)
+    -- where the own request was, the receipts of that round are right, and stand at or after the request's `since`
+    module _ (r : ℕ) (answer : Reply × At) (agrees : AgreesWithSeen z) (round : r ≡ rounds h.account (prefix_of front w.seen)) (own : NamesOwn h d)
+        (so : IsDecidedSo r d answer) where
+      settled_by : IsSettledBy z h r d
+      settled_by = subst (λ k. IsSettledBy z h k d) (sym round) (IsSettledBy-DecidesNext b w z h front d next HasAccount-turn own)
 
-    pub IsPlaced-turn-own : (r : ℕ) (receipt : Receipt) → AgreesWithSeen z → r ≡ rounds h.account (prefix_of front w.seen) → NamesOwn h d
-        → receipt.call ≡ h.call → receipt.reply ≡ cond d.ok Done Short → receipt.at ≡ At.Round r d.place
-        → (earlier : List Receipt) → asks_in h.account earlier ≡ h.own.number → IsPlaced b z.first z.seen earlier receipt
-    IsPlaced-turn-own r receipt agrees round own call reply at =
-        IsPlaced-IsSettledBy b z z.seen h r d next.publishes.published.history agrees IsHelping-turn (settled_by r round own) receipt call reply at
+      pub IsPlaced-turn-own : OnReceipts h.account h.own.targets answer
+          (λ receipt. (earlier : List Receipt) → asks_in h.account earlier ≡ h.own.number → IsPlaced b z.first z.seen earlier receipt)
+      IsPlaced-turn-own = IsPlaced-IsSettledBy b z z.seen h r d next.publishes.published.history agrees IsHelping-turn settled_by answer so
 
-    pub StandsAfter-turn-own : (r : ℕ) (receipt : Receipt) → AgreesWithSeen z → r ≡ rounds h.account (prefix_of front w.seen) → NamesOwn h d
-        → receipt.call ≡ h.call → receipt.at ≡ At.Round r d.place → StandsAfter h.own.since z receipt
-    StandsAfter-turn-own r receipt agrees round own call at =
-        StandsAfter-IsSettledBy b z z.seen h r d next.publishes.published.history agrees IsHelping-turn (settled_by r round own) receipt call at
+      pub StandsAfter-turn-own : OnReceipts h.account h.own.targets answer (StandsAfter h.own.since z)
+      StandsAfter-turn-own = StandsAfter-IsSettledBy b z z.seen h r d next.publishes.published.history agrees IsHelping-turn settled_by answer so

@@ -1,5 +1,5 @@
 -- What one round leaves of what a seat knows, and what a turn knows of the request that it waits for.
-use Rattle.std.proofs.Common.{◌≡◌, ℕ, ◌+◌, ◌<◌, ◌≤◌, ◌⊎◌, ◌==◌, ◌&&◌, ◌||◌, Bool, true, false, cond, List, [], ◌∷◌, ◌++◌, length, take, Some, None, refl, sym, ap, subst, ◌∙◌, arith, inl, inr}
+use Rattle.std.proofs.Common.{◌≡◌, ℕ, ◌+◌, ◌<◌, ◌≤◌, ◌==◌, ◌&&◌, ◌||◌, Bool, true, false, cond, List, [], ◌∷◌, ◌++◌, length, take, Some, None, refl, sym, ap, subst, ◌∙◌, arith, inl, inr}
 use Rattle.std.proofs.lemmas.Bool.{and_from, cases_lt, eq-eqb, or_right}
 use Rattle.std.proofs.lemmas.List.{append-nil, get_or_push, length_push}
 use Rattle.std.proofs.lemmas.List.Folds.{list_any-append}
@@ -35,7 +35,7 @@ use Rattle.at_shared.proofs.Laws.Added.{Adds, Adds-Decides, Adds-LoadsRequest, A
 use Rattle.at_shared.proofs.Laws.After.{HasAccount-IsAfter, IsAfter, IsAfter-Decides, IsAfter-LoadsRequest, IsAfter-Publishes, IsAfter-trans, own_part-Decides, own_part-LoadsRequest, own_part-Publishes}
 use Rattle.at_shared.proofs.Laws.Kept.{AreKnownWords, IsHelpingAt-IsAfter, is_settled-IsPrefix}
 use Rattle.at_shared.proofs.Laws.Placing.{IsSettledBy, settles-round}
-use Rattle.at_shared.specs.HelpTurns.{DecidesNext, FindsSettled, HelpAnswers, HelpsDecide, NamesOwn, round_record}
+use Rattle.at_shared.specs.HelpTurns.{DecidesNext, HelpAnswers, HelpsDecide, NamesOwn, SettlesOwn, round_record}
 use Rattle.at_shared.specs.HelpingTerms.{HelpingTerms}
 use Rattle.at_shared.specs.Helpings.{IsHelping, IsHelpingAt, heard_on}
 use Rattle.at_shared.specs.declared.helping.HelpTurn.{HelpTurn}
@@ -216,16 +216,16 @@ Adds-HelpsDecide b v z h d has helps =
 
 pub Adds-HelpAnswers : (b : BookTerms) (v z : Knowledge) (h : HelpingTerms) (answer : HelpTurn) → HasAccount v h.account → HelpAnswers b v z h answer
     → Adds b v z h.account []
-Adds-HelpAnswers b v z h (Settled receipt) has (inl finds) = Adds-HasLoaded b v z h.account finds.front has.part finds.loads finds.snapshot
-Adds-HelpAnswers b v z h (Settled receipt) has (inr (d, helps, own)) = Adds-HelpsDecide b v z h d has helps
+Adds-HelpAnswers b v z h (Settled answer) has (inl finds) = Adds-HasLoaded b v z h.account finds.front has.part finds.loads finds.snapshot
+Adds-HelpAnswers b v z h (Settled answer) has (inr (d, helps, own)) = Adds-HelpsDecide b v z h d has helps
 Adds-HelpAnswers b v z h More has (d, helps, other) = Adds-HelpsDecide b v z h d has helps
 
 -- where it answers that the own request is settled, that is so
-pub settled-HelpAnswers : (b : BookTerms) (v z : Knowledge) (h : HelpingTerms) → HasAccount v h.account
-    → FindsSettled b v z h ⊎ ((d : Decision) × HelpsDecide b v z h d × NamesOwn h d) → is_settled h.account h.own.slot h.own.number z.seen ≡ true
-settled-HelpAnswers b v z h has (inl finds) =
+pub settled-SettlesOwn : (b : BookTerms) (v z : Knowledge) (h : HelpingTerms) → HasAccount v h.account
+    → SettlesOwn b v z h → is_settled h.account h.own.slot h.own.number z.seen ≡ true
+settled-SettlesOwn b v z h has (inl finds) =
     is_settled-IsPrefix h.account h.own.slot h.own.number (prefix_of finds.front z.seen) z.seen (IsPrefix-take (place finds.front) z.seen) finds.settled
-settled-HelpAnswers b v z h has (inr (d, helps, own)) =
+settled-SettlesOwn b v z h has (inr (d, helps, own)) =
     let w : Knowledge = helps.looked in
     let looks = Adds-HasLoaded b v w h.account helps.front has.part helps.loads helps.snapshot in
     settled-DecidesNext b w z h helps.front d helps.next (HasAccount-Adds b v w h.account h.account [] looks has) own

@@ -3,4 +3,4 @@ use Rattle.at_object_trials.proofs.calls.call_by.Goals as goal
 
 pub returns-clause-stands : goal.returns-clause-stands
 returns-clause-stands c =
-    stands-CallMade c.args.ledger.now.book c.args.pass.now c.call.new.pass c.args.call.now c.call.result c.call.ensures.made
+    stands-CallMade c.args.ledger.now.book c.args.pass.now c.call.new.pass c.copy.result c.call.result c.call.ensures.made

@@ -17,8 +17,8 @@ use Rattle.at_snapshot.specs.Snapshots.{snapshot_steps}
 use Rattle.at_shared.proofs.payments.pay_shared.Given as goal
 
 -- each turn so far has made one exchange and published a round, of which fewer are left than the account has owners
-abbrev pub invariant-loop-receipt : goal.invariant-loop-receipt
-invariant-loop-receipt l = record {
+abbrev pub invariant-loop-answer : goal.invariant-loop-answer
+invariant-loop-answer l = record {
   same : l.helping ≡ l.initial.helping;
   board : IsOf l.seat l.board;
   helping : IsHelping l.board.book l.seat.knows l.helping;
@@ -40,6 +40,6 @@ invariant-loop-receipt l = record {
 }
 
 -- the rounds that may still be decided before the request
-abbrev pub decreases-loop-receipt : goal.decreases-loop-receipt
-decreases-loop-receipt l =
+abbrev pub decreases-loop-answer : goal.decreases-loop-answer
+decreases-loop-answer l =
     heard_on l.seat.knows l.account + slots_of (account_of l.board.book l.account) - rounds l.account l.seat.knows.seen

@@ -1,5 +1,7 @@
-use Rattle.std.proofs.Common.{◌≡◌, ◌<◌, sym, ap, subst, ◌∙◌, arith}
+use Rattle.std.proofs.Common.{◌≡◌, ◌↔◌, ℕ, ◌<◌, ◌≤◌, false, true, sym, ap, subst, ◌∙◌, arith, inl, inr}
+use Rattle.std.proofs.lemmas.Bool.{cases_lt}
 use Rattle.at_ledger.specs.Book.{BookTerms}
+use Rattle.at_ledger.specs.Call.{amount_of}
 use Rattle.at_ledger.specs.declared.call.Reply.TheVariants.{Done}
 use Rattle.at_history.specs.Balances.{balance_after}
 use Rattle.at_history.specs.Fronts.{place, prefix_of}
@@ -15,18 +17,17 @@ use Rattle.at_log.specs.LastRecord.{IsLast}
 use Rattle.at_log.specs.Placed.{IsPlaced}
 use Rattle.at_log.specs.Told.{own_position}
 use Rattle.at_log.specs.declared.receipt.At.TheVariants.{Own}
-use Rattle.at_single.proofs.Laws.Looks.{CountsAccount-HasLooked, CountsFront-HasLooked, HasCounted-HasLooked, balance-HasLooked}
+use Rattle.at_single.proofs.Laws.Looks.{CountsAccount-HasLooked, CountsFront-HasLooked, HasCounted-HasLooked}
 use Rattle.at_single.proofs.Laws.OwnRecords.{owns_of-IsPrefix-take}
 use Rattle.at_single.proofs.Laws.Paid.{IsPaid, IsSnapshot-IsPaid, begins-IsPaid, front_behind-IsPaid, more-IsPaid, number-IsPaid, place-IsPaid, prefix_of-IsPaid, record-IsPaid, within-IsPaid}
 use Rattle.at_single.proofs.Laws.Placed.{IsPlaced-done, IsPlaced-short, MayAppend-IsSnapshot, payment_reply-done, payment_reply-short}
 use Rattle.at_single.specs.Standing.{front_behind, own_record, payment_reply}
 use Rattle.at_snapshot.specs.Snapshots.{IsSnapshot}
-use Rattle.at_single.proofs.payments.pay_single.Given as given
-use Rattle.at_single.proofs.payments.pay_single.Goals.{After-balance, After-append}
+use Rattle.at_single.proofs.payments.pay_single.Goals.{After-append, After-covers}
 use Rattle.at_single.proofs.payments.pay_single.Goals as goal
 
-pub balance-requires : goal.balance-requires
-balance-requires c =
+pub covers-requires : goal.covers-requires
+covers-requires c =
     let b : BookTerms = c.args.board.now.book in
     let v : Knowledge = c.args.seat.now.knows in
     let w : Knowledge = c.look-view.new.seat.knows in
@@ -40,29 +41,47 @@ balance-requires c =
       CountsFront-HasLooked b v w was now front looked,
     )
 
--- what was read is the balance of the front
-balance : (c : After-balance)
-    → c.balance.result ≡ balance_after c.args.board.now.book (prefix_of c.look-view.result c.look-view.new.seat.knows.seen) c.args.from
-balance c =
-    balance-HasLooked c.args.board.now.book c.args.seat.now.knows c.look-view.new.seat.knows c.args.totals.now c.look-view.new.totals c.look-view.result
-    c.args.from c.balance.result c.look-view.ensures.looked c.requires.from c.balance.ensures
+-- the balance of the front
+abbrev here : After-covers → ℕ
+here c = balance_after c.args.board.now.book (prefix_of c.look-view.result c.look-view.new.seat.knows.seen) c.args.from
 
-pub returns-then-from-sum-clause-reply : goal.returns-then-from-sum-clause-reply
-returns-then-from-sum-clause-reply c =
-    let here = balance (goal.at.returns-then-from-sum-clause-reply c).After-balance in
+-- the test is of that
+tested : (c : After-covers) → (c.covers.result ≡ true) ↔ (amount_of c.args.targets.now ≤ here c)
+tested c =
+    let b : BookTerms = c.args.board.now.book in
+    let v : Knowledge = c.args.seat.now.knows in
+    let w : Knowledge = c.look-view.new.seat.knows in
+    let was : TotalSums = c.args.totals.now in
+    let now : TotalSums = c.look-view.new.totals in
+    let front = c.look-view.result in
+    let looked = c.look-view.ensures.looked in
+    subst (λ f. (c.covers.result ≡ true) ↔ (amount_of c.args.targets.now ≤ balance_after b (prefix_of f w.seen) c.args.from)) looked.upto
+    (c.covers.ensures b w.seen (CountsAccount-HasLooked b v w was now front c.args.from looked c.requires.from)
+    (CountsFront-HasLooked b v w was now front looked))
+
+less : (c : After-covers) → c.covers.result ≡ false → here c < amount_of c.args.targets.now
+less c off =
+    elim (cases_lt (here c) (amount_of c.args.targets.now)) [
+      | inl below ↦ below
+      | inr enough ↦ let wrong : true ≡ false = sym ((tested c).1 enough) ∙ off in absurd (cc wrong)
+    ]
+
+pub returns-then-not-covers-clause-reply : goal.returns-then-not-covers-clause-reply
+returns-then-not-covers-clause-reply c =
+    let before : After-covers = (goal.at.returns-then-not-covers-clause-reply c).After-covers in
     payment_reply-short c.args.board.now.book (prefix_of c.look-view.result c.look-view.new.seat.knows.seen) c.args.from c.args.targets.now
-    (omega (arith, here, c.from.ensures, c.sum.ensures.sum, c.if-from-sum.true))
+    (less before c.if-not-covers.true)
 
-pub returns-then-from-sum-clause-placed : goal.returns-then-from-sum-clause-placed
-returns-then-from-sum-clause-placed c = λ call payout earlier owns.
-    let here = balance (goal.at.returns-then-from-sum-clause-placed c).After-balance in
+pub returns-then-not-covers-clause-placed : goal.returns-then-not-covers-clause-placed
+returns-then-not-covers-clause-placed c = λ call payout earlier owns.
+    let before : After-covers = (goal.at.returns-then-not-covers-clause-placed c).After-covers in
     let v : Knowledge = c.args.seat.now.knows in
     IsPlaced-short c.args.board.now.book v.first c.look-view.new.seat.knows.seen earlier call c.args.from c.args.targets.now c.look-view.result payout
     c.requires.owner (omega (arith, owns, c.requires.room)) c.look-view.ensures.looked.snapshot.front
-    (omega (arith, here, c.from.ensures, c.sum.ensures.sum, c.if-from-sum.true))
+    (less before c.if-not-covers.true)
 
-pub returns-then-from-sum-clause-counted : goal.returns-then-from-sum-clause-counted
-returns-then-from-sum-clause-counted c =
+pub returns-then-not-covers-clause-counted : goal.returns-then-not-covers-clause-counted
+returns-then-not-covers-clause-counted c =
     HasCounted-HasLooked c.args.board.now.book c.args.seat.now.knows c.look-view.new.seat.knows c.args.totals.now c.look-view.new.totals c.look-view.result
     c.look-view.ensures.looked
 
@@ -72,13 +91,13 @@ append-requires-clause-record c =
     let v : Knowledge = c.args.seat.now.knows in
     let w : Knowledge = c.look-view.new.seat.knows in
     let looked = c.look-view.ensures.looked in
-    let here = balance (goal.at.append-requires-clause-record c).After-balance in
+    let before : After-covers = (goal.at.append-requires-clause-record c).After-covers in
     let known : v.first < b.processes = omega (arith, c.known.ensures.seat.known, ap (λ (t : BookTerms). t.processes) c.requires.seat.book) in
     subst (λ targets. MayAppend b w (record { entry = Entry.Own c.args.from targets; view = c.look-view.result })) (sym c.copy.ensures)
     (MayAppend-IsSnapshot b v w c.look-view.result c.args.from c.args.targets.now looked.snapshot looked.loads known c.known.ensures.seat.own c.requires.owner
     c.requires.from
     (record { some = c.len-count.ensures.some; few = c.len-count.ensures.few; accounts = c.requires.targets }) c.requires.room
-    (omega (arith, here, c.from.ensures, c.sum.ensures.sum, c.if-from-sum.false)))
+    ((tested before).0 c.if-not-covers.false))
 
 -- the record was published after the snapshot
 paid : (c : After-append)
@@ -127,10 +146,10 @@ returns-clause-reply c =
     let w : Knowledge = c.look-view.new.seat.knows in
     let x : Knowledge = c.append.new.seat.knows in
     let before : After-append = (goal.at.returns-clause-reply c).After-append in
-    let here = balance (goal.at.returns-clause-reply c).After-balance in
+    let at_test : After-covers = (goal.at.returns-clause-reply c).After-covers in
     let prefix = ap (λ f. prefix_of f x.seen) (behind before) ∙ prefix_of-IsPaid b v w x c.look-view.result c.args.from c.args.targets.now (paid before) in
     payment_reply-done b (prefix_of c.look-view.result w.seen) c.args.from c.args.targets.now
-    (omega (arith, here, c.from.ensures, c.sum.ensures.sum, c.if-from-sum.false))
+    ((tested at_test).0 c.if-not-covers.false)
     ∙ ap (λ xs. payment_reply b xs c.args.from c.args.targets.now) (sym prefix)
 
 pub returns-clause-placed : goal.returns-clause-placed

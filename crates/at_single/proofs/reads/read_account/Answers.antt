@@ -7,7 +7,6 @@ use Rattle.at_board.specs.declared.knowledge.Knowledge.{Knowledge}
 use Rattle.at_fold.specs.Sums.{TotalSums}
 use Rattle.at_log.specs.Placed.{read}
 use Rattle.at_single.proofs.Laws.Looks.{CountsAccount-HasLooked, CountsFront-HasLooked, HasCounted-HasLooked, balance-HasLooked}
-use Rattle.at_single.proofs.reads.read_account.Given as given
 use Rattle.at_single.proofs.reads.read_account.Goals.{After-balance-balance}
 use Rattle.at_single.proofs.reads.read_account.Goals as goal
 

@@ -3,8 +3,8 @@ use Rattle.at_stepper_trials.proofs.object_calls.call_by.Goals as goal
 
 pub returns-clause-process : goal.returns-clause-process
 returns-clause-process c =
-    process-CallMade c.args.ledger.now.book c.args.pass.now c.call.new.pass c.args.call.now c.call.result c.call.ensures.made
+    process-CallMade c.args.ledger.now.book c.args.pass.now c.call.new.pass c.copy.result c.call.result c.call.ensures.made
 
 pub returns-clause-stands : goal.returns-clause-stands
 returns-clause-stands c =
-    stands-CallMade c.args.ledger.now.book c.args.pass.now c.call.new.pass c.args.call.now c.call.result c.call.ensures.made
+    stands-CallMade c.args.ledger.now.book c.args.pass.now c.call.new.pass c.copy.result c.call.result c.call.ensures.made

@@ -25,7 +25,6 @@ returns-clause-way c =
     let told = c.start-paying.ensures in (
       c.requires.payout
           ∙ (ap (λ (a : ℕ). Some (a, c.args.targets)) (sym told.from) ∙ ap (λ (xs : List TargetPair). Some (p.from, xs)) (sym told.targets)),
-      told.call,
-      refusal_in-payout b c.args.from c.args.targets (pass_of c.args.seat.now c.args.rest.now) c.args.call c.requires.payout ∙ c.requires.may,
+      refusal_in-payout b c.args.from c.args.targets (pass_of c.args.seat.now c.args.rest.now) c.args.call.now c.requires.payout ∙ c.requires.may,
       ap (λ (a : ℕ). is_single (account_of b a)) told.from ∙ c.requires.single,
     )

@@ -1,8 +1,9 @@
-use Rattle.std.proofs.Common.{ℕ, sym, ap, subst, ◌∙◌}
+use Rattle.std.proofs.Common.{ℕ, List, Some, sym, ap, ◌∙◌}
 use Rattle.at_ledger.specs.Account.{is_shared}
 use Rattle.at_ledger.specs.Book.{BookTerms, account_of}
+use Rattle.at_ledger.specs.Call.{TargetPair}
 use Rattle.at_object.specs.Parted.{pass_of}
-use Rattle.at_shared.specs.Helpings.{IsPayoutFrom}
+use Rattle.at_calling.specs.PayingShared.{PayingSharedTerms}
 use Rattle.at_calling.proofs.CallingLaws.{asks-refusal_of, refusal_in-payout, settled-refusal_of}
 use Rattle.at_calling.proofs.call_stage.CallStage.shared.Goals as goal
 
@@ -18,9 +19,10 @@ start-paying-requires-clause-settled c =
 pub returns-clause-way : goal.returns-clause-way
 returns-clause-way c =
     let b : BookTerms = c.args.board.now.book in
+    let p : PayingSharedTerms = c.start-paying.result in
     let told = c.start-paying.ensures in (
-      subst (λ (a : ℕ). IsPayoutFrom b a c.args.call) (sym told.account) c.requires.payout,
-      told.call,
-      refusal_in-payout b c.args.from c.requires.payout.targets (pass_of c.args.seat.now c.args.rest.now) c.args.call c.requires.payout.payout ∙ c.requires.may,
+      c.requires.payout
+          ∙ (ap (λ (a : ℕ). Some (a, c.args.targets)) (sym told.account) ∙ ap (λ (xs : List TargetPair). Some (p.account, xs)) (sym told.targets)),
+      refusal_in-payout b c.args.from c.args.targets (pass_of c.args.seat.now c.args.rest.now) c.args.call.now c.requires.payout ∙ c.requires.may,
       ap (λ (a : ℕ). is_shared (account_of b a)) told.account ∙ c.requires.shared,
     )

@@ -4,6 +4,7 @@ use Rattle.at_history.specs.Moves.{AreRuns}
 use Rattle.at_board.specs.Counting.{raised}
 use Rattle.at_board.specs.Knowledge.Seats.{SeatTerms}
 use Rattle.at_fold.specs.Sums.{TotalSums}
+use Rattle.at_log.specs.Receipts.{payout_of}
 use Rattle.at_log.specs.declared.receipt.Receipt.{Receipt}
 use Rattle.at_object.specs.Payments.{sent_after}
 use Rattle.at_object.specs.declared.parts.Rest.{Rest}
@@ -12,7 +13,7 @@ use Rattle.at_calling.specs.KeptCalling.{IsCallingSo, TakesCallTurn}
 use Rattle.at_calling.specs.PayingAlone.{PayingAloneTerms, turns_made}
 use Rattle.at_calling.specs.declared.call_stage.CallStage.{CallStage}
 use Rattle.at_calling.specs.declared.call_stage.CallStage.TheVariants.{PayAlone}
-use Rattle.at_calling.proofs.CallingTurns.{Leaves, TakesCallTurn-stages, calling_next, Leaves-alone, few-alone, small-alone, still-alone}
+use Rattle.at_calling.proofs.CallingTurns.{Leaves, TakesCallTurn-stages, calling_next, Leaves-alone, few-alone, small-alone, still-alone, way-alone}
 use Rattle.at_calling.proofs.calling.Calling.pay_alone_on.Goals.{After-known, After-count_one, After-self}
 use Rattle.at_calling.proofs.calling.Calling.pay_alone_on.Goals as goal
 
@@ -69,9 +70,9 @@ turned c mark mark_is now totals_are rest rest_is answer ends leaves calls =
     (few-alone c.args.board.now t (so first) c.args.seat.now c.requires.mark c.requires.board after told.board p (stage_is c) (left c)
     (length after.knows.seen) (turns_made c.turn-paid.new.self) told.so_far) ends (runs c) refl leaves calls (steps c) (exchanges c))
 
-pub returns-in_err-receipt-clause-turned : goal.returns-in_err-receipt-clause-turned
-returns-in_err-receipt-clause-turned c =
-    let known = (goal.at.returns-in_err-receipt-clause-turned c).After-known in
+pub returns-in_err-answer-clause-turned : goal.returns-in_err-answer-clause-turned
+returns-in_err-answer-clause-turned c =
+    let known = (goal.at.returns-in_err-answer-clause-turned c).After-known in
     let now : Rest = record c.args.rest.now { totals = c.turn-paid.new.totals } in
     subst (TakesCallTurn c.args.board.now.book c.args.self.now (calling_next (record {
       call = c.self.inside.call;
@@ -84,7 +85,7 @@ returns-in_err-receipt-clause-turned c =
     (PayAlone c.turn-paid.new.self) c.of.result.value c.of-2.result.value) c.args.seat.now c.turn-paid.new.seat now) (sym c.from_residual.ensures)
     (turned known c.of.result.value c.of.ensures now refl c.of-2.result.value c.of-2.ensures None (
       λ some. let wrong : false ≡ true = some in absurd (cc wrong),
-      λ none. let wrong : false ≡ true = c.in_err-receipt.ensures.ends.1 none in absurd (cc wrong),
+      λ none. let wrong : false ≡ true = c.in_err-answer.ensures.ends.1 none in absurd (cc wrong),
     ) tt tt)
 
 pub sent_after-rest-requires : goal.sent_after-rest-requires
@@ -102,6 +103,10 @@ sent_after-rest-requires c =
       ap (λ (q : Rest). q.sent) c.requires.rest,
     )
 
+-- the receipt of the call
+abbrev receipt : After-count_one → Receipt
+receipt c = record { call = c.args.self.now.call; reply = c.in_ok-answer.answer.0; at = c.in_ok-answer.answer.1 }
+
 abbrev rest_after : After-count_one → Rest
 rest_after c = record { totals = c.turn-paid.new.totals; sent = c.sent_after-rest.result; calls = c.count_one.new.self }
 
@@ -114,20 +119,40 @@ calls_after c =
     ∙ ap with_one_call (still-alone c.args.board.now c.args.self.now (so first) c.args.seat.now c.requires.mark c.requires.board c.turn-paid.new.seat c.turn-paid.ensures.board
     c.in-PayAlone.paying (stage_is known) (left known)).calls_are)
 
+-- it is one of the payment
+way : (c : After-count_one) → let p = c.in-PayAlone.paying in payout_of c.args.self.now.call ≡ Some (p.from, p.targets)
+way c =
+    let known = (goal.at.After-count_one c).After-known in
+    (way-alone c.args.board.now c.args.self.now (so (goal.at.After-known known).After-self) c.args.seat.now c.requires.mark c.requires.board c.turn-paid.new.seat
+    c.turn-paid.ensures.board c.in-PayAlone.paying (stage_is known) (left known)).0
+
 leaves : (c : After-count_one)
-    → Leaves c.args.board.now.book c.args.self.now c.turn-paid.new.seat (rest_after c) (turns_made c.turn-paid.new.self) 0 c.in_ok-receipt.receipt
+    → Leaves c.args.board.now.book c.args.self.now c.turn-paid.new.seat (rest_after c) (turns_made c.turn-paid.new.self) 0 (receipt c)
 leaves c =
     let known = (goal.at.After-count_one c).After-known in
     let first = (goal.at.After-known known).After-self in
-    let told = c.in_ok-receipt.ensures in
+    let told = c.in_ok-answer.ensures in
     Leaves-alone c.args.board.now c.args.self.now (so first) c.args.seat.now c.requires.mark c.requires.board c.turn-paid.new.seat c.turn-paid.ensures.board
     c.in-PayAlone.paying (stage_is known) (left known) (rest_after c) (turns_made c.turn-paid.new.self)
-    c.in_ok-receipt.receipt c.known.ensures.seat told.answer told.leaves told.counted
-    (c.sent_after-rest.ensures ∙ ap (λ (q : Rest). sent_after q.sent c.in_ok-receipt.receipt.reply) c.requires.rest) (calls_after c)
+    (receipt c) c.known.ensures.seat (told.answer c.args.self.now.call (way c)) told.leaves told.counted
+    (c.sent_after-rest.ensures ∙ ap (λ (q : Rest). sent_after q.sent c.in_ok-answer.answer.0) c.requires.rest) (calls_after c)
 
 pub returns-clause-turned : goal.returns-clause-turned
 returns-clause-turned c =
     let ended = (goal.at.returns-clause-turned c).After-count_one in
     let known = (goal.at.After-count_one ended).After-known in
-    turned known c.of.result.value c.of.ensures (rest_after ended) refl c.of-3.result.value c.of-3.ensures (Some c.in_ok-receipt.receipt)
-    (λ some. c.in_ok-receipt.ensures.ends.0 refl, λ none. refl) (leaves ended) (calls_after ended)
+    let b : BookTerms = c.args.board.now.book in
+    let next : CallingTerms = calling_next (record {
+      call = c.self.inside.call;
+      stage = c.self.inside.stage;
+      start = c.self.inside.start.value;
+      was = c.self.inside.was.value;
+      mark = c.self.inside.mark.value;
+      rest = c.self.inside.rest.value;
+    }) (PayAlone c.turn-paid.new.self) c.of.result.value c.of-3.result.value in
+    let same : c.receipt_of.result ≡ receipt ended =
+    c.receipt_of.ensures
+    ∙ ap (λ (s : CallingTerms). let r : Receipt = record { call = s.call; reply = c.in_ok-answer.answer.0; at = c.in_ok-answer.answer.1 } in r) c.self.view_is in
+    subst (λ (r : Receipt). TakesCallTurn b c.args.self.now next c.args.seat.now c.turn-paid.new.seat (rest_after ended) (Some r)) (sym same)
+    (turned known c.of.result.value c.of.ensures (rest_after ended) refl c.of-3.result.value c.of-3.ensures (Some (receipt ended))
+    (λ some. c.in_ok-answer.ensures.ends.0 refl, λ none. refl) (leaves ended) (calls_after ended))

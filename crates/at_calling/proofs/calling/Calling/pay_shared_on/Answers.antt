@@ -6,6 +6,7 @@ use Rattle.at_board.specs.Counting.{raised}
 use Rattle.at_board.specs.Knowledge.Seats.{SeatTerms}
 use Rattle.at_board.specs.declared.knowledge.Knowledge.{Knowledge}
 use Rattle.at_fold.specs.Sums.{TotalSums}
+use Rattle.at_log.specs.Receipts.{payout_of}
 use Rattle.at_log.specs.declared.receipt.Receipt.{Receipt}
 use Rattle.at_object.specs.declared.parts.Rest.{Rest}
 use Rattle.at_shared.specs.Helpings.{decides_made}
@@ -14,7 +15,7 @@ use Rattle.at_calling.specs.KeptCalling.{IsCallingSo, TakesCallTurn}
 use Rattle.at_calling.specs.PayingShared.{PayingSharedTerms, share_exchanges_made, share_turns_left, share_turns_most}
 use Rattle.at_calling.specs.declared.call_stage.CallStage.{CallStage}
 use Rattle.at_calling.specs.declared.call_stage.CallStage.TheVariants.{PayShared}
-use Rattle.at_calling.proofs.CallingTurns.{Leaves, TakesCallTurn-stages, calling_next, IsCallingSo-shared, Leaves-shared, few-shared, share_exchanges_made-ended, still-shared}
+use Rattle.at_calling.proofs.CallingTurns.{Leaves, TakesCallTurn-stages, calling_next, IsCallingSo-shared, Leaves-shared, few-shared, share_exchanges_made-ended, still-shared, way-shared}
 use Rattle.at_calling.proofs.calling.Calling.pay_shared_on.Goals.{After-known, After-count_one, After-self}
 use Rattle.at_calling.proofs.calling.Calling.pay_shared_on.Goals as goal
 
@@ -83,9 +84,9 @@ turned c mark mark_is now totals_are rest rest_is answer ends leaves calls =
     (few-shared c.args.board.now t (so first) c.args.seat.now c.requires.mark c.requires.board after told.board p (stage_is c) (left c)
     (length after.knows.seen) c.turn-paid.new.self.turns (few c)) ends (runs c) told.decides leaves calls (steps c) (exchanges c))
 
-pub returns-in_err-receipt-clause-turned : goal.returns-in_err-receipt-clause-turned
-returns-in_err-receipt-clause-turned c =
-    let known = (goal.at.returns-in_err-receipt-clause-turned c).After-known in
+pub returns-in_err-answer-clause-turned : goal.returns-in_err-answer-clause-turned
+returns-in_err-answer-clause-turned c =
+    let known = (goal.at.returns-in_err-answer-clause-turned c).After-known in
     let now : Rest = record c.args.rest.now { totals = c.turn-paid.new.totals } in
     subst (TakesCallTurn c.args.board.now.book c.args.self.now (calling_next (record {
       call = c.self.inside.call;
@@ -98,7 +99,7 @@ returns-in_err-receipt-clause-turned c =
     (PayShared c.turn-paid.new.self) c.of.result.value c.of-2.result.value) c.args.seat.now c.turn-paid.new.seat now) (sym c.from_residual.ensures)
     (turned known c.of.result.value c.of.ensures now refl c.of-2.result.value c.of-2.ensures None (
       λ some. let wrong : false ≡ true = some in absurd (cc wrong),
-      λ none. let wrong : false ≡ true = c.in_err-receipt.ensures.ends.1 none in absurd (cc wrong),
+      λ none. let wrong : false ≡ true = c.in_err-answer.ensures.ends.1 none in absurd (cc wrong),
     ) tt tt)
 
 decided : (c : After-count_one)
@@ -108,9 +109,13 @@ decided c =
     let p : PayingSharedTerms = c.in-PayShared.paying in
     let q : PayingSharedTerms = c.turn-paid.new.self in
     let w : Knowledge = c.turn-paid.new.seat.knows in
-    share_exchanges_made-ended c.args.board.now.book q (length w.seen) told.so_far c.known.ensures.seat.history.few (c.in_ok-receipt.ensures.ends.0 refl)
+    share_exchanges_made-ended c.args.board.now.book q (length w.seen) told.so_far c.known.ensures.seat.history.few (c.in_ok-answer.ensures.ends.0 refl)
     ∙ (ap (λ (v : Knowledge). decides_made q.account q.start v) told.mark
     ∙ (ap (λ (v : Knowledge). decides_made q.account v w) told.start ∙ ap (λ (a : ℕ). decides_made a p.start w) told.account))
+
+-- the receipt of the call
+abbrev receipt : After-count_one → Receipt
+receipt c = record { call = c.args.self.now.call; reply = c.in_ok-answer.answer.0; at = c.in_ok-answer.answer.1 }
 
 abbrev rest_after : After-count_one → Rest
 rest_after c = record { totals = c.turn-paid.new.totals; sent = c.args.rest.now.sent; calls = c.count_one.new.self }
@@ -124,15 +129,22 @@ calls_after c =
     ∙ ap with_one_call (still-shared c.args.board.now c.args.self.now (so first) c.args.seat.now c.requires.mark c.requires.board c.turn-paid.new.seat c.turn-paid.ensures.board
     c.in-PayShared.paying (stage_is known) (left known)).calls_are)
 
+-- it is one of the payment
+way : (c : After-count_one) → let p = c.in-PayShared.paying in payout_of c.args.self.now.call ≡ Some (p.account, p.targets)
+way c =
+    let known = (goal.at.After-count_one c).After-known in
+    (way-shared c.args.board.now c.args.self.now (so (goal.at.After-known known).After-self) c.args.seat.now c.requires.mark c.requires.board c.turn-paid.new.seat
+    c.turn-paid.ensures.board c.in-PayShared.paying (stage_is known) (left known)).0
+
 leaves : (c : After-count_one)
-    → Leaves c.args.board.now.book c.args.self.now c.turn-paid.new.seat (rest_after c) c.turn-paid.new.self.turns (share_exchanges_made c.turn-paid.new.self) c.in_ok-receipt.receipt
+    → Leaves c.args.board.now.book c.args.self.now c.turn-paid.new.seat (rest_after c) c.turn-paid.new.self.turns (share_exchanges_made c.turn-paid.new.self) (receipt c)
 leaves c =
     let known = (goal.at.After-count_one c).After-known in
     let first = (goal.at.After-known known).After-self in
-    let told = c.in_ok-receipt.ensures in
+    let told = c.in_ok-answer.ensures in
     Leaves-shared c.args.board.now c.args.self.now (so first) c.args.seat.now c.requires.mark c.requires.board c.turn-paid.new.seat c.turn-paid.ensures.board
     c.in-PayShared.paying (stage_is known) (left known) (rest_after c) c.turn-paid.new.self.turns
-    (share_exchanges_made c.turn-paid.new.self) c.in_ok-receipt.receipt c.known.ensures.seat told.answer told.leaves told.counted told.few (decided c)
+    (share_exchanges_made c.turn-paid.new.self) (receipt c) c.known.ensures.seat (told.answer c.args.self.now.call (way c)) told.leaves told.counted told.few (decided c)
     (ap (λ (q : Rest). q.sent) c.requires.rest) (calls_after c)
 
 -- the call is answered
@@ -145,10 +157,10 @@ invariant_of-self-2 c =
     let q : PayingSharedTerms = c.turn-paid.new.self in
     let told = c.turn-paid.ensures in
     let rest : Rest = c.of-3.result.value in
-    let none : share_turns_left c.args.board.now.book q ≡ 0 = c.in_ok-receipt.ensures.ends.0 refl in
+    let none : share_turns_left c.args.board.now.book q ≡ 0 = c.in_ok-answer.ensures.ends.0 refl in
     let next : IsCallingSo (calling_next t (PayShared q) c.turn-paid.new.seat rest) =
     IsCallingSo-shared c.args.board.now t (so first) c.args.seat.now c.requires.mark c.requires.board c.turn-paid.new.seat told.board c.in-PayShared.paying
-    (stage_is known) (left known) q rest told.call told.account told.start told.mark told.was (λ more. absurd (omega (arith, more, none)))
+    (stage_is known) (left known) q rest told.account told.targets told.start told.mark told.was (λ more. absurd (omega (arith, more, none)))
     (steps known) (exchanges known) in
     subst (λ (s : CallingTerms). IsCallingSo (calling_next s (PayShared q) c.of.result.value rest)) (sym c.self.view_is)
     (subst (λ (m : SeatTerms). IsCallingSo (calling_next t (PayShared q) m rest)) (sym c.of.ensures) next)
@@ -157,5 +169,18 @@ pub returns-clause-turned : goal.returns-clause-turned
 returns-clause-turned c =
     let ended = (goal.at.returns-clause-turned c).After-count_one in
     let known = (goal.at.After-count_one ended).After-known in
-    turned known c.of.result.value c.of.ensures (rest_after ended) refl c.of-3.result.value c.of-3.ensures (Some c.in_ok-receipt.receipt)
-    (λ some. c.in_ok-receipt.ensures.ends.0 refl, λ none. refl) (leaves ended) (calls_after ended)
+    let b : BookTerms = c.args.board.now.book in
+    let next : CallingTerms = calling_next (record {
+      call = c.self.inside.call;
+      stage = c.self.inside.stage;
+      start = c.self.inside.start.value;
+      was = c.self.inside.was.value;
+      mark = c.self.inside.mark.value;
+      rest = c.self.inside.rest.value;
+    }) (PayShared c.turn-paid.new.self) c.of.result.value c.of-3.result.value in
+    let same : c.receipt_of.result ≡ receipt ended =
+    c.receipt_of.ensures
+    ∙ ap (λ (s : CallingTerms). let r : Receipt = record { call = s.call; reply = c.in_ok-answer.answer.0; at = c.in_ok-answer.answer.1 } in r) c.self.view_is in
+    subst (λ (r : Receipt). TakesCallTurn b c.args.self.now next c.args.seat.now c.turn-paid.new.seat (rest_after ended) (Some r)) (sym same)
+    (turned known c.of.result.value c.of.ensures (rest_after ended) refl c.of-3.result.value c.of-3.ensures (Some (receipt ended))
+    (λ some. c.in_ok-answer.ensures.ends.0 refl, λ none. refl) (leaves ended) (calls_after ended))

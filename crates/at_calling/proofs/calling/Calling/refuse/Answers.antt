@@ -25,8 +25,8 @@ returns c =
     ap (λ (n : CallCountTerms). record c.args.rest.now { calls = n }) c.count_one.ensures
     ∙ ap (λ (q : Rest). record q { calls = with_one_call q.calls }) c.requires.rest in
     let r : Receipt = record { call = t.call; reply = c.args.reply; at = Previous } in
-    let receipt : c.refused.result ≡ r =
-    c.refused.ensures ∙ ap (λ (s : CallingTerms). record { call = s.call; reply = c.args.reply; at = Previous }) c.self.view_is in
+    let receipt : c.receipt_of.result ≡ r =
+    c.receipt_of.ensures ∙ ap (λ (s : CallingTerms). record { call = s.call; reply = c.args.reply; at = Previous }) c.self.view_is in
     let leaves : Leaves b t seat now 0 0 r =
     subst (λ (q : Rest). Leaves b t seat q 0 0 r) (sym now_is)
     (Leaves-refused c.args.board.now t so seat c.requires.mark c.requires.board c.args.reply c.requires.stage r refl refl refl) in

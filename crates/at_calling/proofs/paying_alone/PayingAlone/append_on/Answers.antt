@@ -1,6 +1,7 @@
 use Rattle.std.proofs.Common.{◌≡◌, IsTrue, ℕ, ◌+◌, ◌-◌, ◌<◌, ◌≤◌, ◌≢◌, ◌↔◌, List, Option, IfSome, IsSome, None, Some, length, set, false, true, refl, sym, ap, subst, ◌∙◌, arith}
 use Rattle.std.specs.Prelude.{slice_index, sum}
 use Rattle.at_ledger.specs.Book.{BookTerms}
+use Rattle.at_ledger.specs.declared.call.Reply.{Reply}
 use Rattle.at_ledger.specs.declared.call.Reply.TheVariants.{Done}
 use Rattle.at_history.specs.Rounds.{owns_of}
 use Rattle.at_history.specs.declared.publication.Entry.{Entry}
@@ -15,16 +16,15 @@ use Rattle.at_board.specs.declared.knowledge.Knowledge.{Knowledge}
 use Rattle.at_fold.specs.HasCounted.{HasCounted, StaysCounted}
 use Rattle.at_fold.specs.Sums.{TotalSums}
 use Rattle.at_log.specs.LastRecord.{IsLast}
+use Rattle.at_log.specs.declared.receipt.At.{At}
 use Rattle.at_log.specs.declared.receipt.At.TheVariants.{Own}
-use Rattle.at_log.specs.declared.receipt.Receipt.{Receipt}
-use Rattle.at_object.specs.Paid.{PaysAlone}
 use Rattle.at_single.proofs.Laws.Paid.{IsPaid}
 use Rattle.at_single.specs.Looks.{HasLooked}
 use Rattle.at_single.specs.Standing.{IsOnlyOwner}
-use Rattle.at_calling.proofs.PayingAloneLaws.{HasCounted-IsPaid, HasSameAsking-Publishes, HasSameAsking-StoresWord, LeavesTotals-IsPaid, PaysAlone-done, length-Publishes-le, paying_next, published-IsPaid}
+use Rattle.at_calling.proofs.PayingAloneLaws.{HasCounted-IsPaid, HasSameAsking-Publishes, HasSameAsking-StoresWord, LeavesTotals-IsPaid, AnswersAlone-done, length-Publishes-le, paying_next, published-IsPaid}
 use Rattle.at_calling.proofs.PayingAloneTurns.{TakesPayTurn-append}
 use Rattle.at_calling.specs.KeptPayingAlone.{IsAppendingThen, IsPayStageSo, TakesPayTurn}
-use Rattle.at_calling.specs.PayingAlone.{HasSameAsking, MakesPayStep, PayingAloneTerms, append_steps, pay_turns_left}
+use Rattle.at_calling.specs.PayingAlone.{AnswersAlone, HasSameAsking, MakesPayStep, PayingAloneTerms, append_steps, pay_turns_left}
 use Rattle.at_calling.specs.Reading.{LeavesTotals}
 use Rattle.at_calling.specs.contracts.paying_alone.PayingAlone.{the_view}
 use Rattle.at_calling.specs.declared.pay_stage.PayStage.TheVariants.{Append}
@@ -63,16 +63,15 @@ parts c = subst (λ (v : Knowledge). 0 < length v.parts) (known c) (omega (arith
 
 -- what the turn leaves
 turned : (c : After-turn-is_published) (now : TotalSums) (mark : SeatTerms) → mark ≡ c.turn-is_published.new.seat → (totals : TotalSums)
-    → totals ≡ now → (answer : Option Receipt)
+    → totals ≡ now → (answer : Option (Reply × At))
     → MakesPayStep c.args.board.now.book (Append c.in-Append.appending) c.args.seat.now c.turn-is_published.new.seat now
     → length (the_view c.self.inside).mark.seen ≤ length c.turn-is_published.new.seat.knows.seen
     → (IsSome answer ↔ (c.in-Append.appending.stored ≡ record_width c.args.board.now.book))
     → HasSameAsking (the_view c.self.inside).mark c.turn-is_published.new.seat.knows
-    → IfSome answer (PaysAlone c.args.board.now.book (the_view c.self.inside).start c.turn-is_published.new.seat.knows c.self.inside.from c.self.inside.targets
-    c.self.inside.call)
+    → IfSome answer (AnswersAlone c.args.board.now.book (the_view c.self.inside).start c.turn-is_published.new.seat.knows c.self.inside.from c.self.inside.targets)
     → IfSome answer (λ r. StaysCounted now c.args.board.now.book c.turn-is_published.new.seat.knows.seen)
     → IfSome answer (λ r. LeavesTotals c.args.board.now.book (the_view c.self.inside).start c.turn-is_published.new.seat.knows (the_view c.self.inside).was now
-    (append_steps (record_width c.args.board.now.book) r.reply) (c.self.inside.looked + c.turn-is_published.new.self.stored))
+    (append_steps (record_width c.args.board.now.book) r.0) (c.self.inside.looked + c.turn-is_published.new.self.stored))
     → TakesPayTurn c.args.board.now.book c.args.self.now
     (paying_next (the_view c.self.inside) (Append c.turn-is_published.new.self) c.self.inside.looked mark.knows totals) c.args.seat.now
     c.turn-is_published.new.seat now answer
@@ -134,7 +133,7 @@ count_own-requires-clause-counted c =
     let a : AppendingTerms = c.in-Append.appending in
     let x : Knowledge = c.turn-is_published.new.seat.knows in
     let so = c.self.invariant in
-    let here = HasCounted-IsPaid t.start.book t.start a.start t.was t.totals a.rec.view t.from t.targets t.call (appends at).looked_at so.payout so.owner so.room x
+    let here = HasCounted-IsPaid t.start.book t.start a.start t.was t.totals a.rec.view t.from t.targets (appends at).looked_at so.owner so.room x
     (paid at c.if-not-is_published.false) in
     subst (λ (b : BookTerms). HasCounted c.args.totals.now b x.seen) (same ∙ sym c.turn-is_published.ensures.board.book)
     (subst (λ (s : TotalSums). HasCounted s t.start.book x.seen) (ap (λ (s : PayingAloneTerms). s.totals) c.self.view_is ∙ sym c.requires.totals) here)
@@ -159,20 +158,20 @@ returns-clause-turned c =
     omega (
       arith,
       c.published.ensures,
-      published-IsPaid t.start.book t.start a.start t.was t.totals front t.from t.targets t.call looked_at so.payout so.owner so.room x has_paid,
+      published-IsPaid t.start.book t.start a.start t.was t.totals front t.from t.targets looked_at so.owner so.room x has_paid,
     ) in
-    let r : Receipt = record { call = t.call; reply = Done; at = Own (c.published.result - 1) } in
-    let pays : PaysAlone b t.start x t.from t.targets t.call r =
-    subst (λ (k : BookTerms). PaysAlone k t.start x t.from t.targets t.call r) same
-    (subst (λ (k : ℕ). PaysAlone t.start.book t.start x t.from t.targets t.call (record { call = t.call; reply = Done; at = Own k })) number
-    (PaysAlone-done t.start.book t.start a.start t.was t.totals front t.from t.targets t.call looked_at so.payout so.owner so.room x has_paid (appends at).enough)) in
+    let r : Reply × At = (Done, Own (c.published.result - 1)) in
+    let pays : AnswersAlone b t.start x t.from t.targets r =
+    subst (λ (k : BookTerms). AnswersAlone k t.start x t.from t.targets r) same
+    (subst (λ (k : ℕ). AnswersAlone t.start.book t.start x t.from t.targets (Done, Own k)) number
+    (AnswersAlone-done t.start.book t.start a.start t.was t.totals front t.from t.targets looked_at so.owner so.room x has_paid (appends at).enough)) in
     let next : now.upto ≡ set t.totals.upto x.first (own_part x).published =
     c.count_own.ensures.upto
     ∙ ap (λ (s : TotalSums). set s.upto x.first (own_part x).published) (c.requires.totals ∙ sym (ap (λ (s : PayingAloneTerms). s.totals) c.self.view_is)) in
     let stored : c.turn-is_published.new.self.stored ≡ record_width b + 1 =
     omega (arith, all, ap (λ (n : AppendingTerms). n.stored) told.after) in
-    let leaves = LeavesTotals-IsPaid b t.start a.start t.was t.totals front t.from t.targets t.call
-    (subst (λ (k : BookTerms). HasLooked k t.start a.start t.was t.totals front) same looked_at) so.payout
+    let leaves = LeavesTotals-IsPaid b t.start a.start t.was t.totals front t.from t.targets
+    (subst (λ (k : BookTerms). HasLooked k t.start a.start t.was t.totals front) same looked_at)
     (subst (λ (k : BookTerms). IsOnlyOwner k t.start.first t.from) same so.owner)
     (subst (λ (k : BookTerms). owns_of t.start.first t.start.seen < k.own_room) same so.room) x
     (subst (λ (k : BookTerms). IsPaid k t.start a.start x front t.from t.targets) same has_paid) now next (record_width b) t.looked
@@ -180,12 +179,9 @@ returns-clause-turned c =
     (omega (arith, so.kept.known, ap (λ (k : BookTerms). k.processes) same)) in
     let publishes : Publishes b t.mark x (publication_of a) =
     subst (λ (v : Knowledge). Publishes b v x (publication_of a)) (appends at).mark_is (told.publishes done) in
-    subst (λ (k : Receipt). TakesPayTurn b c.args.self.now
-    (paying_next t (Append c.turn-is_published.new.self) t.looked c.of.result.value.knows c.of-2.result.value) c.args.seat.now
-    c.turn-is_published.new.seat now (Some k)) (sym c.receipt_of.ensures)
-    (turned at now c.of.result.value c.of.ensures c.of-2.result.value c.of-2.ensures (Some r)
+    turned at now c.of.result.value c.of.ensures c.of-2.result.value c.of-2.ensures (Some r)
     (λ inside. absurd (omega (arith, inside, all)), λ full. told.published done)
     (length-Publishes-le b t.mark x (publication_of a) publishes)
     (λ some. all, λ full. refl)
     (HasSameAsking-Publishes b t.mark x (publication_of a) (parts at) publishes) pays
-    (subst (λ (k : BookTerms). StaysCounted now k x.seen) told.board.book c.count_own.ensures.stays) leaves)
+    (subst (λ (k : BookTerms). StaysCounted now k x.seen) told.board.book c.count_own.ensures.stays) leaves

@@ -3,6 +3,7 @@ use Rattle.std.proofs.lemmas.Bool.{cases_lt}
 use Rattle.std.specs.List.{sum}
 use Rattle.at_ledger.specs.Book.{BookTerms}
 use Rattle.at_ledger.specs.Call.{amount_of}
+use Rattle.at_ledger.specs.declared.call.Reply.{Reply}
 use Rattle.at_ledger.specs.declared.call.Reply.TheVariants.{Short}
 use Rattle.at_history.specs.Balances.{balance_after}
 use Rattle.at_history.specs.Fronts.{prefix_of}
@@ -13,24 +14,23 @@ use Rattle.at_board.specs.Words.Addresses.{record_width}
 use Rattle.at_fold.specs.HasCounted.{CountsAccount, CountsFront, StaysCounted}
 use Rattle.at_fold.specs.Sums.{TotalSums}
 use Rattle.at_log.specs.Appending.{MayAppend}
+use Rattle.at_log.specs.declared.receipt.At.{At}
 use Rattle.at_log.specs.declared.receipt.At.TheVariants.{Front}
-use Rattle.at_log.specs.declared.receipt.Receipt.{Receipt}
-use Rattle.at_object.specs.Paid.{PaysAlone}
 use Rattle.at_single.proofs.Laws.Looks.{CountsAccount-HasLooked, CountsFront-HasLooked}
 use Rattle.at_single.proofs.Laws.Placed.{MayAppend-IsSnapshot}
 use Rattle.at_single.specs.Looks.{HasLooked}
-use Rattle.at_calling.proofs.PayingAloneLaws.{IsPayingAloneSo-append, PaysAlone-short, next_append, paying_next}
+use Rattle.at_calling.proofs.PayingAloneLaws.{AnswersAlone-short, IsPayingAloneSo-append, next_append, paying_next}
 use Rattle.at_calling.proofs.PayingAloneTurns.{TakesPayTurn-look}
 use Rattle.at_calling.proofs.ReadingLaws.{LeavesTotals-HasLooked}
 use Rattle.at_calling.specs.KeptPayingAlone.{IsLookingFirst, IsPayStageSo, IsPayingAloneSo, TakesPayTurn}
-use Rattle.at_calling.specs.PayingAlone.{PayingAloneTerms, append_steps, pay_turns_left, turns_in}
+use Rattle.at_calling.specs.PayingAlone.{AnswersAlone, PayingAloneTerms, append_steps, pay_turns_left, turns_in}
 use Rattle.at_calling.specs.Reading.{LeavesTotals}
 use Rattle.at_calling.specs.contracts.paying_alone.PayingAlone.{the_view}
 use Rattle.at_calling.specs.declared.pay_stage.PayStage.{PayStage}
 use Rattle.at_calling.specs.declared.pay_stage.PayStage.TheVariants.{Append, Look}
 use Rattle.at_machines.specs.Appending.{AppendingTerms, starting_appending}
 use Rattle.at_machines.specs.Looking.{IsWithin}
-use Rattle.at_calling.proofs.paying_alone.PayingAlone.look_on.Goals.{After-is_short, After-known, After-self, After-start, After-turn-looked}
+use Rattle.at_calling.proofs.paying_alone.PayingAlone.look_on.Goals.{After-covers, After-known, After-self, After-start, After-turn-looked}
 use Rattle.at_calling.proofs.paying_alone.PayingAlone.look_on.Goals as goal
 
 -- the book is the board's
@@ -45,14 +45,13 @@ looks c = subst (IsPayStageSo (the_view c.self.inside)) c.in-Look.is c.self.inva
 
 -- what the turn leaves, with whichever stage next
 turned : (c : After-turn-looked) (turns : ℕ) → turns ≡ c.turn-looked.new.self.turns → (mark : SeatTerms) → mark ≡ c.turn-looked.new.seat
-    → (totals : TotalSums) → totals ≡ c.turn-looked.new.totals → (stage : PayStage) (answer : Option Receipt) → turns_in turns stage ≡ turns
+    → (totals : TotalSums) → totals ≡ c.turn-looked.new.totals → (stage : PayStage) (answer : Option (Reply × At)) → turns_in turns stage ≡ turns
     → pay_turns_left (record_width c.args.board.now.book) stage < pay_turns_left (record_width c.args.board.now.book) (Look c.in-Look.looking)
     → (IsSome answer ↔ (pay_turns_left (record_width c.args.board.now.book) stage ≡ 0))
-    → IfSome answer (PaysAlone c.args.board.now.book (the_view c.self.inside).start c.turn-looked.new.seat.knows c.self.inside.from c.self.inside.targets
-    c.self.inside.call)
+    → IfSome answer (AnswersAlone c.args.board.now.book (the_view c.self.inside).start c.turn-looked.new.seat.knows c.self.inside.from c.self.inside.targets)
     → IfSome answer (λ r. StaysCounted c.turn-looked.new.totals c.args.board.now.book c.turn-looked.new.seat.knows.seen)
     → IfSome answer (λ r. LeavesTotals c.args.board.now.book (the_view c.self.inside).start c.turn-looked.new.seat.knows (the_view c.self.inside).was
-    c.turn-looked.new.totals (append_steps (record_width c.args.board.now.book) r.reply) turns)
+    c.turn-looked.new.totals (append_steps (record_width c.args.board.now.book) r.0) turns)
     → TakesPayTurn c.args.board.now.book c.args.self.now (paying_next (the_view c.self.inside) stage turns mark.knows totals) c.args.seat.now
     c.turn-looked.new.seat c.turn-looked.new.totals answer
 turned c turns turns_are mark mark_is totals totals_are stage answer same left ends pays counted leaves =
@@ -107,26 +106,37 @@ counts_front c =
     let t : PayingAloneTerms = the_view c.self.inside in
     CountsFront-HasLooked t.start.book t.start c.turn-looked.new.seat.knows t.was c.turn-looked.new.totals c.in_ok-front.front (looked c)
 
-pub is_short-requires : goal.is_short-requires
-is_short-requires c =
-    let at = (goal.at.is_short-requires c).After-known in
+pub covers-requires : goal.covers-requires
+covers-requires c =
+    let at = (goal.at.covers-requires c).After-known in
     ((the_view c.self.inside).start.book, c.turn-looked.new.seat.knows.seen, counts_account at, counts_front at)
 
--- it is short exactly where the balance of the front is
-is_short : (c : After-is_short)
-    → IsTrue c.is_short.result ↔ (balance_after (the_view c.self.inside).start.book (prefix_of c.in_ok-front.front c.turn-looked.new.seat.knows.seen)
-    c.self.inside.from < amount_of c.self.inside.targets)
-is_short c =
-    let at = (goal.at.After-is_short c).After-known in
+-- the test is of the balance of the front
+tested : (c : After-covers)
+    → (c.covers.result ≡ true) ↔ (amount_of c.self.inside.targets
+    ≤ balance_after (the_view c.self.inside).start.book (prefix_of c.in_ok-front.front c.turn-looked.new.seat.knows.seen) c.self.inside.from)
+tested c =
+    let at = (goal.at.After-covers c).After-known in
     let t : PayingAloneTerms = the_view c.self.inside in
     let seen = c.turn-looked.new.seat.knows.seen in
-    subst (λ (front : List ℕ). IsTrue c.is_short.result ↔ (balance_after t.start.book (prefix_of front seen) t.from < amount_of t.targets))
-    (looked at).upto (c.is_short.ensures t.start.book seen (counts_account at) (counts_front at))
+    subst (λ (front : List ℕ). (c.covers.result ≡ true) ↔ (amount_of t.targets ≤ balance_after t.start.book (prefix_of front seen) t.from))
+    (looked at).upto (c.covers.ensures t.start.book seen (counts_account at) (counts_front at))
 
-pub returns-then-is_short-clause-turned : goal.returns-then-is_short-clause-turned
-returns-then-is_short-clause-turned c =
-    let short_is = (goal.at.returns-then-is_short-clause-turned c).After-is_short in
-    let known = (goal.at.After-is_short short_is).After-known in
+less : (c : After-covers) → c.covers.result ≡ false
+    → balance_after (the_view c.self.inside).start.book (prefix_of c.in_ok-front.front c.turn-looked.new.seat.knows.seen) c.self.inside.from
+    < amount_of c.self.inside.targets
+less c off =
+    let t : PayingAloneTerms = the_view c.self.inside in
+    let balance : ℕ = balance_after t.start.book (prefix_of c.in_ok-front.front c.turn-looked.new.seat.knows.seen) t.from in
+    elim (cases_lt balance (amount_of t.targets)) as (λ _. balance < amount_of t.targets) [
+      | inl below ↦ below
+      | inr all ↦ let wrong : true ≡ false = sym ((tested c).1 all) ∙ off in absurd (cc wrong)
+    ]
+
+pub returns-then-not-covers-clause-turned : goal.returns-then-not-covers-clause-turned
+returns-then-not-covers-clause-turned c =
+    let short_is = (goal.at.returns-then-not-covers-clause-turned c).After-covers in
+    let known = (goal.at.After-covers short_is).After-known in
     let at = (goal.at.After-known known).After-turn-looked in
     let b : BookTerms = c.args.board.now.book in
     let t : PayingAloneTerms = the_view c.self.inside in
@@ -135,39 +145,24 @@ returns-then-is_short-clause-turned c =
     let front : List ℕ = c.in_ok-front.front in
     let so = c.self.invariant in
     let same = book (goal.at.After-turn-looked at).After-self in
-    let r : Receipt = record { call = t.call; reply = Short; at = Front front } in
-    let here = PaysAlone-short t.start.book t.start w t.was now front t.from t.targets t.call (looked known) so.payout so.owner so.room
-    ((is_short short_is).0 c.if-is_short.true) in
+    let r : Reply × At = (Short, Front front) in
+    let here = AnswersAlone-short t.start.book t.start w t.was now front t.from t.targets (looked known) so.owner so.room (less short_is c.if-not-covers.true) in
     let looked_on : HasLooked b t.start w t.was now front = subst (λ (k : BookTerms). HasLooked k t.start w t.was now front) same (looked known) in
     let few : IsWithin b.processes t.was (sum front) c.turn-looked.new.self.turns =
     subst (λ (s : TotalSums). IsWithin b.processes s (sum front) c.turn-looked.new.self.turns) (looks at).was_is c.in_ok-front.ensures.within in
     subst (λ (k : PayStage). TakesPayTurn b c.args.self.now (paying_next t k c.turns-self-inside.result c.of.result.value.knows c.of-2.result.value) c.args.seat.now
-    c.turn-looked.new.seat now (Some c.short.result)) (sym c.become_next.ensures)
-    (subst (λ (x : Receipt). TakesPayTurn b c.args.self.now (paying_next t PayStage.Short c.turns-self-inside.result c.of.result.value.knows c.of-2.result.value)
-    c.args.seat.now c.turn-looked.new.seat now (Some x)) (sym c.short.ensures)
+    c.turn-looked.new.seat now (Some r)) (sym c.become_next.ensures)
     (turned at c.turns-self-inside.result c.turns-self-inside.ensures c.of.result.value c.of.ensures c.of-2.result.value c.of-2.ensures PayStage.Short (Some r) refl
     (omega arith) (λ some. refl, λ none. refl)
-    (subst (λ (k : BookTerms). PaysAlone k t.start w t.from t.targets t.call r) same here)
+    (subst (λ (k : BookTerms). AnswersAlone k t.start w t.from t.targets r) same here)
     looked_on.counted
     (LeavesTotals-HasLooked b t.start w t.was now front looked_on c.turns-self-inside.result (omega (arith, so.kept.one_part))
-    (omega (arith, few, c.turns-self-inside.ensures)))))
-
--- and else it is covered
-enough : (c : After-is_short) → c.is_short.result ≡ false
-    → amount_of c.self.inside.targets ≤ balance_after (the_view c.self.inside).start.book (prefix_of c.in_ok-front.front c.turn-looked.new.seat.knows.seen)
-    c.self.inside.from
-enough c covered =
-    let t : PayingAloneTerms = the_view c.self.inside in
-    let balance : ℕ = balance_after t.start.book (prefix_of c.in_ok-front.front c.turn-looked.new.seat.knows.seen) t.from in
-    elim (cases_lt balance (amount_of t.targets)) as (λ _. amount_of t.targets ≤ balance) [
-      | inl less ↦ let wrong : true ≡ false = sym ((is_short c).1 less) ∙ covered in absurd (cc wrong)
-      | inr all ↦ all
-    ]
+    (omega (arith, few, c.turns-self-inside.ensures))))
 
 pub start-requires : goal.start-requires
 start-requires c =
-    let short_is = (goal.at.start-requires c).After-is_short in
-    let known = (goal.at.After-is_short short_is).After-known in
+    let short_is = (goal.at.start-requires c).After-covers in
+    let known = (goal.at.After-covers short_is).After-known in
     let at = (goal.at.After-known known).After-turn-looked in
     let t : PayingAloneTerms = the_view c.self.inside in
     let w : Knowledge = c.turn-looked.new.seat.knows in
@@ -175,7 +170,7 @@ start-requires c =
     let so = c.self.invariant in
     let done = looked known in
     let here = MayAppend-IsSnapshot t.start.book t.start w front t.from t.targets done.snapshot done.loads so.kept.known so.kept.own so.owner so.account_in
-    so.targets_in so.room (enough short_is c.if-is_short.false) in
+    so.targets_in so.room ((tested short_is).0 c.if-not-covers.false) in
     subst (λ (b : BookTerms). MayAppend b w c.record_of-rec.result) (book (goal.at.After-turn-looked at).After-self ∙ sym c.turn-looked.ensures.board.book)
     (subst (MayAppend t.start.book w) (sym c.record_of-rec.ensures) here)
 
@@ -187,8 +182,8 @@ appends c = c.start.ensures ∙ ap (starting_appending c.turn-looked.new.seat.kn
 pub invariant_of-self-2 : goal.invariant_of-self-2
 invariant_of-self-2 c =
     let start = (goal.at.invariant_of-self-2 c).After-start in
-    let short_is = (goal.at.After-start start).After-is_short in
-    let known = (goal.at.After-is_short short_is).After-known in
+    let short_is = (goal.at.After-start start).After-covers in
+    let known = (goal.at.After-covers short_is).After-known in
     let at = (goal.at.After-known known).After-turn-looked in
     let t : PayingAloneTerms = the_view c.self.inside in
     let w : Knowledge = c.turn-looked.new.seat.knows in
@@ -201,7 +196,7 @@ invariant_of-self-2 c =
     (subst (λ (s : TotalSums). IsWithin c.args.board.now.book.processes s (sum front) turns) (looks at).was_is c.in_ok-front.ensures.within) in
     let here : IsPayingAloneSo (paying_next t (next_append t w front) turns w now) =
     IsPayingAloneSo-append t w now front turns c.self.invariant (c.turn-looked.ensures.board.book ∙ sym same) (looked known)
-    (enough short_is c.if-is_short.false) within in
+    ((tested short_is).0 c.if-not-covers.false) within in
     subst (λ (k : PayStage). IsPayingAloneSo (paying_next t k c.turns-self-inside.result c.of.result.value.knows c.of-2.result.value))
     (sym (c.become_next-2.ensures ∙ ap (λ (a : AppendingTerms). Append a) (appends start)))
     (subst (λ (n : ℕ). IsPayingAloneSo (paying_next t (next_append t w front) n c.of.result.value.knows c.of-2.result.value)) (sym c.turns-self-inside.ensures)
@@ -211,8 +206,8 @@ invariant_of-self-2 c =
 pub returns-clause-turned : goal.returns-clause-turned
 returns-clause-turned c =
     let start = (goal.at.returns-clause-turned c).After-start in
-    let short_is = (goal.at.After-start start).After-is_short in
-    let known = (goal.at.After-is_short short_is).After-known in
+    let short_is = (goal.at.After-start start).After-covers in
+    let known = (goal.at.After-covers short_is).After-known in
     let at = (goal.at.After-known known).After-turn-looked in
     let t : PayingAloneTerms = the_view c.self.inside in
     let next : PayStage = next_append t c.turn-looked.new.seat.knows c.in_ok-front.front in

@@ -7,17 +7,17 @@ use Rattle.at_board.specs.Knowledge.Seats.{SeatTerms}
 use Rattle.at_board.specs.declared.knowledge.Knowledge.{Knowledge}
 use Rattle.at_fold.specs.HasCounted.{HasCounted}
 use Rattle.at_fold.specs.Sums.{TotalSums}
-use Rattle.at_log.specs.declared.receipt.Receipt.{Receipt}
-use Rattle.at_object.specs.Paid.{PaysInRound}
+use Rattle.at_ledger.specs.declared.call.Reply.{Reply}
+use Rattle.at_log.specs.declared.receipt.At.{At}
 use Rattle.at_shared.specs.HelpingTerms.{HelpingTerms}
 use Rattle.at_shared.specs.Helpings.{decides_made, decides_on}
 use Rattle.at_shared.specs.Settling.{round_steps}
 use Rattle.at_shared.specs.declared.helping.HelpTurn.{HelpTurn}
 use Rattle.at_shared.specs.declared.helping.HelpTurn.TheVariants.{More, Settled}
-use Rattle.at_calling.proofs.PayingSharedLaws.{SettlesInTurns-settled, DecidesFew-settled, HasCountedSo-more, HasHelped-more, IsHelpingThen-begun, LeavesTotals-settled, PaysInRound-settled, few-so_far, share_turns_most-le}
+use Rattle.at_calling.proofs.PayingSharedLaws.{SettlesInTurns-settled, DecidesFew-settled, HasCountedSo-more, HasHelped-more, IsHelpingThen-begun, LeavesTotals-settled, AnswersInRound-settled, few-so_far, share_turns_most-le}
 use Rattle.at_calling.proofs.PayingSharedTurns.{share_next, TakesShareTurn-on, TakesShareTurn-settled}
 use Rattle.at_calling.specs.KeptPayingShared.{TakesShareTurn, HasCountedSo, IsHelpingThen, IsPayingSharedSo, IsShareStageSo}
-use Rattle.at_calling.specs.PayingShared.{DecidesFew, MakesShareStep, PayingSharedTerms, settling_steps, share_exchanges_at, share_exchanges_made, share_turns_left, share_turns_most, unless_settled, unless_starting}
+use Rattle.at_calling.specs.PayingShared.{AnswersInRound, DecidesFew, MakesShareStep, PayingSharedTerms, settling_steps, share_exchanges_at, share_exchanges_made, share_turns_left, share_turns_most, unless_settled, unless_starting}
 use Rattle.at_calling.specs.Reading.{LeavesTotals}
 use Rattle.at_calling.specs.Turning.{IsHelpOf, IsHelpWithin, LeavesSeat, TurningTerms, WaitsOn, help_turns_left, help_turns_made}
 use Rattle.at_calling.specs.contracts.paying_shared.PayingShared.{the_view}
@@ -79,7 +79,7 @@ within c =
     let once : decides_made h.account u.start w ≤ 1 = subst (λ (x : HelpingTerms). decides_made x.account u.start w ≤ 1) so.helping_is told.once in
     omega (
       arith,
-      few-so_far v.book v u.start w t.account t.call h so.helped t.was u.was so.before turns so.counted once told.seen so_far,
+      few-so_far v.book v u.start w t.account t.targets h so.helped t.was u.was so.before turns so.counted once told.seen so_far,
       turns_now c,
       ap (λ (k : BookTerms). share_turns_most k i.account (length w.seen - sum i.was.value.upto)) same,
     )
@@ -164,12 +164,12 @@ invariant_of-self-2 c =
     let turns : ℕ = help_turns_made c.turn-helped.new.self in
     let next : TurningTerms = c.start.result in
     let so = helps at in
-    let told = c.in_ok-receipt.ensures in
+    let told = c.in_ok-answer.ensures in
     let begun = c.start.ensures in
     let more = c.in_default-2.is in
     let seat = seat_of at told.seat in
     let help : IsHelpOf v.book u.start w h More =
-    subst (IsHelpOf v.book u.start w h) more (help_of at c.in_ok-receipt.field-0 told.answer) in
+    subst (IsHelpOf v.book u.start w h) more (help_of at c.in_ok-answer.field-0 told.answer) in
     let waits : WaitsOn v.book u.start w h =
     subst (λ (k : BookTerms). WaitsOn k u.start w h) same (subst (λ (x : HelpingTerms). WaitsOn b u.start w x) so.helping_is (told.waits more)) in
     let book_now : w.book ≡ v.book = c.turn-helped.ensures.board.book ∙ same in
@@ -177,7 +177,7 @@ invariant_of-self-2 c =
     let counted : HasCounted now v.book w.seen = subst (λ (k : BookTerms). HasCounted now k w.seen) same told.counted in
     let counted_so : HasCountedSo v.book v w t.was now t.account (i.turns + 1) =
     subst (HasCountedSo v.book v w t.was now t.account) (turns_now at)
-    (HasCountedSo-more v.book v u.start w t.account t.call h so.helped seat waits t.was u.was now so.before turns so.counted (totals_of at told.leaves) counted history) in
+    (HasCountedSo-more v.book v u.start w t.account t.targets h so.helped seat waits t.was u.was now so.before turns so.counted (totals_of at told.leaves) counted history) in
     let stage : ShareStage = Help h next in
     let here : IsPayingSharedSo (record t { stage = stage; turns = i.turns + 1; mark = w; totals = now }) = record {
       kept = c.self.invariant.kept;
@@ -187,7 +187,7 @@ invariant_of-self-2 c =
       slot_in = c.self.invariant.slot_in;
       stage_so = IsHelpingThen-begun (record t { stage = stage; turns = i.turns + 1; mark = w; totals = now }) h next begun.helping begun.start begun.mark begun.was
           begun.totals begun.turns (subst (λ (k : BookTerms). 0 < help_turns_left k.processes next.stage) same begun.left)
-          (HasHelped-more v.book v u.start w t.account t.call h so.helped seat waits help) counted_so;
+          (HasHelped-more v.book v u.start w t.account t.targets h so.helped seat waits help) counted_so;
     } in
     subst (λ (x : TurningTerms). IsPayingSharedSo (record t { stage = Help h x; turns = i.turns + 1; mark = c.of.result.value.knows; totals = c.of-2.result.value }))
     (sym c.become_next-2.ensures)
@@ -222,12 +222,12 @@ goes_on c mark mark_is totals totals_are u =
     (TakesShareTurn-on b t before after now mark.knows (ap (λ (m : SeatTerms). m.knows) mark_is) totals totals_are (some at) (step at) (within at)
     stage (λ n. refl) (within_all c) (ap (λ (m : SeatTerms). decides_made t.account t.start m.knows) mark_is ∙ made at))
 
-pub returns-in_err-receipt-clause-turned : goal.returns-in_err-receipt-clause-turned
-returns-in_err-receipt-clause-turned c =
+pub returns-in_err-answer-clause-turned : goal.returns-in_err-answer-clause-turned
+returns-in_err-answer-clause-turned c =
     subst (TakesShareTurn c.args.board.now.book c.args.self.now
     (share_next (the_view c.self.inside) (Help c.in-Help.helping c.turn-helped.new.self) c.of.result.value.knows c.of-2.result.value) c.args.seat.now
     c.turn-helped.new.seat c.turn-helped.new.totals) (sym c.from_residual.ensures)
-    (goes_on (goal.at.returns-in_err-receipt-clause-turned c).After-known c.of.result.value c.of.ensures c.of-2.result.value c.of-2.ensures
+    (goes_on (goal.at.returns-in_err-answer-clause-turned c).After-known c.of.result.value c.of.ensures c.of-2.result.value c.of-2.ensures
     c.turn-helped.new.self)
 
 pub returns-clause-turned : goal.returns-clause-turned
@@ -250,25 +250,25 @@ returns-in-Settled-clause-turned c =
     let now : TotalSums = c.turn-helped.new.totals in
     let mark : Knowledge = c.of.result.value.knows in
     let totals : TotalSums = c.of-2.result.value in
-    let r : Receipt = c.in-Settled.receipt in
+    let r : Reply × At = c.in-Settled.answer in
     let so = helps at in
-    let told = c.in_ok-receipt.ensures in
+    let told = c.in_ok-answer.ensures in
     let seat = seat_of at told.seat in
     let help : IsHelpOf v.book u.start w h (Settled r) =
-    subst (IsHelpOf v.book u.start w h) c.in-Settled.is (help_of at c.in_ok-receipt.field-0 told.answer) in
-    let pays : PaysInRound v.book v w t.account t.call r =
-    PaysInRound-settled v.book v u.start w t.account t.call h so.helped seat r help c.self.invariant.kept refl c.self.invariant.settled in
-    let settles : SettlesInTurns v.book v w t.account r = SettlesInTurns-settled v.book v u.start w t.account t.call h so.helped seat r help in
-    let few : DecidesFew v.book v w t.account = DecidesFew-settled v.book v u.start w t.account t.call h so.helped seat in
+    subst (IsHelpOf v.book u.start w h) c.in-Settled.is (help_of at c.in_ok-answer.field-0 told.answer) in
+    let pays : AnswersInRound v.book v w t.account t.targets r =
+    AnswersInRound-settled v.book v u.start w t.account t.targets h so.helped seat r help c.self.invariant.kept refl c.self.invariant.settled in
+    let settles : SettlesInTurns v.book v w t.account t.targets = SettlesInTurns-settled v.book v u.start w t.account t.targets h so.helped seat r help in
+    let few : DecidesFew v.book v w t.account = DecidesFew-settled v.book v u.start w t.account t.targets h so.helped seat in
     let leaves : LeavesTotals v.book v w t.was now (settling_steps v.book t.account) (t.turns + 1) =
     subst (LeavesTotals v.book v w t.was now (settling_steps v.book t.account)) (turns_now at)
-    (LeavesTotals-settled v.book v u.start w t.account t.call h so.helped seat t.was u.was now so.before (help_turns_made c.turn-helped.new.self) so.counted
+    (LeavesTotals-settled v.book v u.start w t.account t.targets h so.helped seat t.was u.was now so.before (help_turns_made c.turn-helped.new.self) so.counted
     (totals_of at told.leaves)) in
     subst (λ (k : ShareStage). TakesShareTurn b c.args.self.now (share_next t k mark totals) before after now (Some r)) (sym c.become_next.ensures)
     (subst (λ (x : PayingSharedTerms). TakesShareTurn b x (share_next t Ended mark totals) before after now (Some r)) c.self.view_is
     (TakesShareTurn-settled b t before after now mark (ap (λ (m : SeatTerms). m.knows) c.of.ensures) totals c.of-2.ensures (some at) (step at) (within at) r
-    (subst (λ (k : BookTerms). PaysInRound k v w t.account t.call r) (sym same) pays)
-    (subst (λ (k : BookTerms). SettlesInTurns k v w t.account r) (sym same) settles)
+    (subst (λ (k : BookTerms). AnswersInRound k v w t.account t.targets r) (sym same) pays)
+    (subst (λ (k : BookTerms). SettlesInTurns k v w t.account t.targets) (sym same) settles)
     (subst (λ (k : BookTerms). DecidesFew k v w t.account) (sym same) few) told.counted
     (subst (λ (k : BookTerms). LeavesTotals k v w t.was now (settling_steps k t.account) (t.turns + 1)) (sym same) leaves)
     (ap (λ (m : SeatTerms). decides_made t.account t.start m.knows) c.of.ensures ∙ made at)))

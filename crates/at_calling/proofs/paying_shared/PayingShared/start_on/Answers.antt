@@ -1,7 +1,7 @@
-use Rattle.std.proofs.Common.{None, ◌≡◌, ℕ, ◌+◌, ◌-◌, ◌*◌, ◌<◌, ◌≤◌, length, sum, refl, sym, ap, subst, ◌∙◌, arith}
+use Rattle.std.proofs.Common.{None, ◌≡◌, ℕ, ◌+◌, ◌-◌, ◌*◌, ◌<◌, ◌≤◌, List, length, sum, refl, sym, ap, subst, ◌∙◌, arith}
 use Rattle.at_ledger.specs.Account.{slots_of}
 use Rattle.at_ledger.specs.Book.{BookTerms, account_of}
-use Rattle.at_ledger.specs.declared.call.Call.{Call}
+use Rattle.at_ledger.specs.Call.{TargetPair}
 use Rattle.at_history.proofs.Laws.Prefixes.{IsPrefix-refl}
 use Rattle.at_snapshot.specs.Snapshots.{snapshot_steps}
 use Rattle.at_board.specs.declared.words.TheConstants.{RECORD_WORDS}
@@ -36,9 +36,9 @@ book c =
 starts : (c : After-turn-started) → IsStartingFirst (the_view c.self.inside) c.in-Start.starting
 starts c = subst (IsShareStageSo (the_view c.self.inside)) c.in-Start.is c.self.invariant.stage_so
 
--- the request that waits now is the call's
+-- the request that waits now is the payment's
 waits : (c : After-start-turning)
-    → IsStartOf c.self.inside.start.value.knows.book c.self.inside.start.value.knows c.turn-started.new.seat.knows c.self.inside.account c.self.inside.call
+    → IsStartOf c.self.inside.start.value.knows.book c.self.inside.start.value.knows c.turn-started.new.seat.knows c.self.inside.account c.self.inside.targets.value
     c.in_ok-helping.helping
 waits c =
     let at = (goal.at.After-start-turning c).After-turn-started in
@@ -48,10 +48,10 @@ waits c =
     let w : Knowledge = c.turn-started.new.seat.knows in
     let h : HelpingTerms = c.in_ok-helping.helping in
     let so = starts at in
-    subst (λ (k : BookTerms). IsStartOf k t.start w t.account t.call h) (book (goal.at.After-turn-started at).After-self)
-    (subst (λ (p : Knowledge). IsStartOf b p w t.account t.call h) so.start_is
-    (subst (λ n. IsStartOf b s.start w n t.call h) so.account_is
-    (subst (λ (x : Call). IsStartOf b s.start w s.account x h) so.call_is c.in_ok-helping.ensures.answer)))
+    subst (λ (k : BookTerms). IsStartOf k t.start w t.account t.targets h) (book (goal.at.After-turn-started at).After-self)
+    (subst (λ (p : Knowledge). IsStartOf b p w t.account t.targets h) so.start_is
+    (subst (λ n. IsStartOf b s.start w n t.targets h) so.account_is
+    (subst (λ (x : List TargetPair). IsStartOf b s.start w s.account x h) so.targets_are c.in_ok-helping.ensures.answer)))
 
 pub start-turning-requires-clause-counted : goal.start-turning-requires-clause-counted
 start-turning-requires-clause-counted c =
@@ -75,7 +75,7 @@ invariant_of-self-2 c =
     let told = c.in_ok-helping.ensures in
     let begun = c.start-turning.ensures in
     let steps : BookTerms → ℕ → ℕ = λ k a. asking_steps (slots_of (account_of k a)) in
-    let start : IsStartOf v.book v w t.account t.call h = waits (goal.at.invariant_of-self-2 c).After-start-turning in
+    let start : IsStartOf v.book v w t.account t.targets h = waits (goal.at.invariant_of-self-2 c).After-start-turning in
     let leaves : LeavesTotals v.book v w t.was now (steps v.book t.account) turns =
     subst (λ (k : BookTerms). LeavesTotals k v w t.was now (steps k t.account) turns) same
     (subst (λ (p : Knowledge). LeavesTotals b p w t.was now (steps b t.account) turns) so.start_is
@@ -88,7 +88,7 @@ invariant_of-self-2 c =
     let all : turns ≡ i.turns + 1 = omega (arith, so.turns_are, c.turn-started.ensures.turns) in
     let counted_so : HasCountedSo v.book v w t.was now t.account (i.turns + 1) =
     subst (HasCountedSo v.book v w t.was now t.account) all
-    (HasCountedSo-start v.book v w t.account t.call h start t.was now turns counted history leaves) in
+    (HasCountedSo-start v.book v w t.account t.targets h start t.was now turns counted history leaves) in
     let stage : ShareStage = Help h u in
     let here : IsPayingSharedSo (record t { stage = stage; turns = i.turns + 1; mark = w; totals = now }) = record {
       kept = c.self.invariant.kept;
@@ -98,7 +98,7 @@ invariant_of-self-2 c =
       slot_in = c.self.invariant.slot_in;
       stage_so = IsHelpingThen-begun (record t { stage = stage; turns = i.turns + 1; mark = w; totals = now }) h u begun.helping begun.start begun.mark begun.was
           begun.totals begun.turns (subst (λ (k : BookTerms). 0 < help_turns_left k.processes u.stage) same begun.left)
-          (HasHelped-start v.book v w t.account t.call h start c.known.ensures.seat.own) counted_so;
+          (HasHelped-start v.book v w t.account t.targets h start c.known.ensures.seat.own) counted_so;
     } in
     subst (λ (x : ShareStage). IsPayingSharedSo (record t { stage = x; turns = i.turns + 1; mark = c.of.result.value.knows; totals = c.of-2.result.value }))
     (sym c.become_next.ensures)
@@ -163,4 +163,4 @@ returns-clause-turned c =
     c.args.seat.now c.turn-started.new.seat c.turn-started.new.totals None) (sym c.become_next.ensures)
     (turned known c.of.result.value c.of.ensures c.of-2.result.value c.of-2.ensures (Help h c.start-turning.result) (λ n. refl)
     (ap (λ (m : SeatTerms). decides_made t.account t.start m.knows) c.of.ensures
-    ∙ decides_made-IsStartOf t.start.book t.start w t.account t.call h (waits start)))
+    ∙ decides_made-IsStartOf t.start.book t.start w t.account t.targets h (waits start)))

@@ -1,7 +1,6 @@
 use Rattle.std.proofs.Common.{◌↔◌, IfSome, Option, None, ◌≡◌, ℕ, ◌+◌, ◌-◌, ◌*◌, ◌≤◌, ◌≢◌, IsSome, Some, List, sym, ap, subst, ◌∙◌, arith}
 use Rattle.at_ledger.specs.Account.{slots_of}
 use Rattle.at_ledger.specs.Book.{BookTerms, account_of}
-use Rattle.at_ledger.specs.declared.call.Call.{Call}
 use Rattle.at_history.specs.Publications.{IsPrefix}
 use Rattle.at_board.specs.Knowledge.Candidates.{HasLoadedRows}
 use Rattle.at_board.specs.Knowledge.Seats.{SeatTerms}
@@ -91,7 +90,7 @@ goes c ended =
 -- what the turn leaves
 turned : (c : After-turn-collected) (mark : SeatTerms) → mark ≡ c.turn-collected.new.seat → (answer : Option HelpingTerms)
     → (IsSome answer ↔ (c.turn-collected.new.self.next ≡ nothing))
-    → IfSome answer (IsStartOf c.args.board.now.book c.self.inside.start.value.knows c.turn-collected.new.seat.knows c.self.inside.account c.self.inside.call)
+    → IfSome answer (IsStartOf c.args.board.now.book c.self.inside.start.value.knows c.turn-collected.new.seat.knows c.self.inside.account c.self.inside.targets)
     → IfSome answer (λ h. LeavesTotals c.args.board.now.book c.self.inside.start.value.knows c.turn-collected.new.seat.knows c.self.inside.was.value
     c.self.inside.totals.value (asking_steps_of c.args.board.now.book (the_view c.self.inside))
     (start_turns_in c.self.inside.looked (Collect c.turn-collected.new.self)))
@@ -130,17 +129,15 @@ returns-clause-turned c =
     let collected = subst (λ (k : BookTerms). HasLoadedRows k w r.account r.own.slot) same told.collected in
     let last = subst (λ (k : BookTerms). HasAsked k w r.account r.own) same told.own in
     let own : c.own.result ≡ r.own = c.own.ensures ∙ ap (λ (x : CollectingRowsTerms). x.own) c.turn-collected.ensures.after in
-    let helping : c.of-2.result ≡ helping_of t.call t.account r.own asked =
-    c.of-2.ensures
-    ∙ (ap (λ (x : Call). helping_of x t.account c.own.result asked) c.copy.ensures
-    ∙ ap (λ (x : OpenRequest). helping_of t.call t.account x asked) own) in
-    let starts : IsStartOf t.start.book t.start w t.account t.call c.of-2.result =
-    subst (IsStartOf t.start.book t.start w t.account t.call) (sym helping)
+    let helping : c.of-2.result ≡ helping_of t.account r.own asked =
+    c.of-2.ensures ∙ ap (λ (x : OpenRequest). helping_of t.account x asked) own in
+    let starts : IsStartOf t.start.book t.start w t.account t.targets c.of-2.result =
+    subst (IsStartOf t.start.book t.start w t.account t.targets) (sym helping)
     (IsStartOf-CollectsRows t c.self.invariant r (collects at) w asked rows told.candidates collected last) in
     let turns : ℕ = start_turns_in t.looked (Collect c.turn-collected.new.self) in
     let leaves : LeavesTotals t.start.book t.start w t.was t.totals (asking_steps_of t.start.book t) turns =
     LeavesTotals-CollectsRows t c.self.invariant r (collects at) w asked rows told.candidates collected last turns (asking_steps_of t.start.book t)
     (few_rows at) in
     turned at c.of.result.value c.of.ensures (Some c.of-2.result) told.ends
-    (subst (λ (k : BookTerms). IsStartOf k t.start w t.account t.call c.of-2.result) (sym same) starts)
+    (subst (λ (k : BookTerms). IsStartOf k t.start w t.account t.targets c.of-2.result) (sym same) starts)
     (subst (λ (k : BookTerms). LeavesTotals k t.start w t.was t.totals (asking_steps_of k t) turns) (sym same) leaves)

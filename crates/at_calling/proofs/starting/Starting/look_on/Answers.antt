@@ -1,13 +1,12 @@
 use Rattle.std.proofs.Common.{None, ◌≡◌, ℕ, ◌<◌, Some, List, length, sym, ap, subst, ◌∙◌, arith}
 use Rattle.std.specs.List.{sum}
 use Rattle.at_ledger.specs.Book.{BookTerms}
-use Rattle.at_ledger.specs.Call.{AreTargetsOn, TargetPair}
+use Rattle.at_ledger.specs.Call.{TargetPair}
 use Rattle.at_history.specs.Fronts.{place}
 use Rattle.at_history.specs.Sound.{AreTargets}
 use Rattle.at_board.specs.Knowledge.Seats.{SeatTerms}
 use Rattle.at_board.specs.declared.knowledge.Knowledge.{Knowledge}
 use Rattle.at_fold.specs.Sums.{TotalSums}
-use Rattle.at_log.specs.Receipts.{payout_of}
 use Rattle.at_rows.specs.Asks.{MayAskFor, asked_for}
 use Rattle.at_single.specs.Looks.{HasLooked}
 use Rattle.at_calling.proofs.StartingLaws.{IsStartingSo-ask, MayAskFor-HasLooked, place-HasLooked-few, slot_of_start, start_after_look}
@@ -19,7 +18,7 @@ use Rattle.at_calling.specs.Starting.{StartingTerms, asking_steps_of, start_turn
 use Rattle.at_calling.specs.contracts.starting.Starting.{the_view}
 use Rattle.at_calling.specs.declared.start_stage.StartStage.{StartStage}
 use Rattle.at_calling.specs.declared.start_stage.StartStage.TheVariants.{Ask, Look}
-use Rattle.at_calling.proofs.starting.Starting.look_on.Goals.{After-self, After-targets_of-targets, After-turn-looked}
+use Rattle.at_calling.proofs.starting.Starting.look_on.Goals.{After-self, After-copy-targets, After-turn-looked}
 use Rattle.at_calling.proofs.starting.Starting.look_on.Goals as goal
 
 -- what the seat knew is what the last turn left
@@ -31,11 +30,11 @@ book : (c : After-self) → c.args.board.now.book ≡ c.self.inside.start.value.
 book c = sym c.requires.board.book ∙ (ap (λ (v : Knowledge). v.book) (known_before c) ∙ c.self.invariant.book)
 
 -- the look has ended
-looked : (c : After-targets_of-targets)
+looked : (c : After-copy-targets)
     → HasLooked c.self.inside.start.value.knows.book c.self.inside.start.value.knows c.turn-looked.new.seat.knows c.self.inside.was.value c.turn-looked.new.totals
     c.in_ok-front.front
 looked c =
-    let at = (goal.at.After-targets_of-targets c).After-self in
+    let at = (goal.at.After-copy-targets c).After-self in
     let t : StartingTerms = the_view c.self.inside in
     let w : Knowledge = c.turn-looked.new.seat.knows in
     let now : TotalSums = c.turn-looked.new.totals in
@@ -47,35 +46,23 @@ looked c =
 
 pub asking_at-asking-requires-clause-place : goal.asking_at-asking-requires-clause-place
 asking_at-asking-requires-clause-place c =
-    let at = (goal.at.asking_at-asking-requires-clause-place c).After-targets_of-targets in
+    let at = (goal.at.asking_at-asking-requires-clause-place c).After-copy-targets in
     omega (
       arith,
       place-HasLooked-few (the_view c.self.inside) c.self.invariant c.turn-looked.new.seat.knows c.turn-looked.new.totals c.in_ok-front.front (looked at),
     )
 
--- the targets are those of the call
-targets : (c : After-targets_of-targets) → payout_of c.self.inside.call ≡ Some (c.self.inside.account, c.targets_of-targets.result)
-targets c =
-    let payout = c.self.invariant.payout in
-    payout.payout
-    ∙ ap (λ (ts : List TargetPair). Some (c.self.inside.account, ts)) (sym (c.targets_of-targets.ensures c.self.inside.account payout.targets payout.payout))
-
 pub asking_at-asking-requires-clause-may : goal.asking_at-asking-requires-clause-may
 asking_at-asking-requires-clause-may c =
-    let at = (goal.at.asking_at-asking-requires-clause-may c).After-targets_of-targets in
+    let at = (goal.at.asking_at-asking-requires-clause-may c).After-copy-targets in
     let t : StartingTerms = the_view c.self.inside in
     let so : IsStartingSo t = c.self.invariant in
     let w : Knowledge = c.turn-looked.new.seat.knows in
     let front : List ℕ = c.in_ok-front.front in
-    let ts : List TargetPair = c.targets_of-targets.result in
+    let ts : List TargetPair = c.copy-targets.result in
     let slot = slot_of_start t so in
     let has_looked = looked at in
-    let same : ts ≡ so.payout.targets = c.targets_of-targets.ensures t.account so.payout.targets so.payout.payout in
-    let are : AreTargets t.start.book ts = record {
-      some = c.len-count.ensures.some;
-      few = c.len-count.ensures.few;
-      accounts = subst (AreTargetsOn (length t.start.book.accounts)) (sym same) so.payout.accounts;
-    } in
+    let are : AreTargets t.start.book ts = subst (AreTargets t.start.book) (sym c.copy-targets.ensures) so.targets_in in
     let here : MayAskFor t.start.book w t.account slot (asked_for ts (place front)) =
     MayAskFor-HasLooked t so w c.turn-looked.new.totals front has_looked ts are in (
       slot,
@@ -84,13 +71,13 @@ asking_at-asking-requires-clause-may c =
 
 pub invariant_of-self-2 : goal.invariant_of-self-2
 invariant_of-self-2 c =
-    let at = (goal.at.invariant_of-self-2 c).After-targets_of-targets in
-    let first = (goal.at.After-targets_of-targets at).After-self in
+    let at = (goal.at.invariant_of-self-2 c).After-copy-targets in
+    let first = (goal.at.After-copy-targets at).After-self in
     let t : StartingTerms = the_view c.self.inside in
     let w : Knowledge = c.turn-looked.new.seat.knows in
     let now : TotalSums = c.turn-looked.new.totals in
     let front : List ℕ = c.in_ok-front.front in
-    let ts : List TargetPair = c.targets_of-targets.result in
+    let ts : List TargetPair = c.copy-targets.result in
     let turns : ℕ = c.turn-looked.new.self.turns in
     let so : IsLookingToAsk t c.in-Look.looking = subst (IsStartStageSo t) c.in-Look.is c.self.invariant.stage_so in
     let stage : StartStage = Ask (starting_to_ask w t.account ts (place front)) in
@@ -100,7 +87,7 @@ invariant_of-self-2 c =
     subst (λ (b : BookTerms). IsWithin b.processes t.was (sum front) turns) (book first)
     (subst (λ (s : TotalSums). IsWithin c.args.board.now.book.processes s (sum front) turns) so.was_is c.in_ok-front.ensures.within) in
     let here : IsStartingSo (start_after_look t stage w now turns) =
-    IsStartingSo-ask t c.self.invariant w now front (looked at) ts turns (targets at) few in
+    IsStartingSo-ask t c.self.invariant w now front (looked at) ts turns c.copy-targets.ensures few in
     subst (λ (s : StartStage). IsStartingSo (start_after_look t s c.of.result.value.knows c.of-2.result.value c.turns-self-inside.result)) (sym stage_is)
     (subst (λ n. IsStartingSo (start_after_look t stage c.of.result.value.knows c.of-2.result.value n)) (sym c.turns-self-inside.ensures)
     (subst (λ (s : SeatTerms). IsStartingSo (start_after_look t stage s.knows c.of-2.result.value turns)) (sym c.of.ensures)

@@ -147,8 +147,7 @@ module _ (b : BookTerms) (v w x : Knowledge) (was now : TotalSums) (front : List
     (looked_at : HasLooked b v w was now front) (waiting : IsHelping b v h) (d : Decision) (next : DecidesNext b w x h front d) (kept : IsKept x)
     (same : x.book ≡ b) where
   helps : (round : ℕ) (answer : HelpTurn) → round ≡ rounds h.account (prefix_of front w.seen) → AnswersRound h round d answer → IsHelpOf b v x h answer
-  helps round (Settled r) is (own, receipt) =
-      IsHelpOf-own b v w was now front h has looked_at waiting x d next round r kept.agrees is own receipt.call receipt.reply receipt.at
+  helps round (Settled r) is (own, so) = IsHelpOf-own b v w was now front h has looked_at waiting x d next round r kept.agrees is own so
   helps round More is other = IsHelpOf-other b v w was now front h has looked_at waiting x d next other
 
   waits_on : (round : ℕ) (answer : HelpTurn) → AnswersRound h round d answer → answer ≡ More → WaitsOn b v x h

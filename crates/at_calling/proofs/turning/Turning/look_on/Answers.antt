@@ -15,7 +15,6 @@ use Rattle.at_shared.proofs.Laws.Turned.{IsHelpingAt-turn}
 use Rattle.at_shared.specs.HelpingTerms.{HelpingTerms}
 use Rattle.at_shared.specs.Helpings.{IsHelping, decides_made}
 use Rattle.at_shared.specs.Settling.{round_steps}
-use Rattle.at_log.specs.declared.receipt.Receipt.{Receipt}
 use Rattle.at_calling.proofs.PayingAloneLaws.{HasSameAsking-HasLoaded}
 use Rattle.at_calling.proofs.ReadingLaws.{LeavesTotals-HasLooked}
 use Rattle.at_calling.proofs.TurningSteps.{LeavesSeat-HasLoaded, TakesHelpStep-look}
@@ -33,7 +32,7 @@ use Rattle.at_calling.specs.Reading.{LeavesTotals}
 use Rattle.at_calling.specs.Turning.{IsHelpOf, LeavesSeat, TurningTerms, WaitsOn, help_turns_in, help_turns_left}
 use Rattle.at_calling.specs.contracts.turning.Turning.{the_view}
 use Rattle.at_calling.specs.declared.turn_stage.TurnStage.TheVariants.{Decide, Found, Look}
-use Rattle.at_calling.proofs.turning.Turning.look_on.Goals.{After-known, After-self, After-receipt, After-start-deciding, After-turn-looked}
+use Rattle.at_calling.proofs.turning.Turning.look_on.Goals.{After-known, After-self, After-answer_in, After-start-deciding, After-turn-looked}
 use Rattle.at_calling.proofs.turning.Turning.look_on.Goals as goal
 
 -- the board's book is that of the start
@@ -108,15 +107,15 @@ settled-requires c = (
 )
 
 -- what was found was decided at the front
-found : (c : After-receipt) → IsDecidedIn (prefix_of c.in_ok-front.front c.turn-looked.new.seat.knows.seen)
+found : (c : After-answer_in) → IsDecidedIn (prefix_of c.in_ok-front.front c.turn-looked.new.seat.knows.seen)
     c.args.helping.now.account c.args.helping.now.own.slot c.args.helping.now.own.number c.in-Some.round c.in-Some.decision
 found c =
-    let at = (goal.at.After-receipt c).After-known in
+    let at = (goal.at.After-answer_in c).After-known in
     let h : HelpingTerms = c.args.helping.now in
     let b : BookTerms = c.args.board.now.book in
     let seen = c.turn-looked.new.seat.knows.seen in
     subst (λ f. IsDecidedIn (prefix_of f seen) h.account h.own.slot h.own.number c.in-Some.round c.in-Some.decision) (looked at).upto
-    (c.in-Some.ensures.front b seen (counts_slot at) (waits (goal.at.After-receipt c).After-self).room (counts_front at))
+    (c.in-Some.ensures.front b seen (counts_slot at) (waits (goal.at.After-answer_in c).After-self).room (counts_front at))
 
 -- what the step leaves, with whichever stage next
 stepped : (c : After-turn-looked) (turns : ℕ) → turns ≡ c.turn-looked.new.self.turns → (mark : SeatTerms) → mark ≡ c.turn-looked.new.seat
@@ -178,8 +177,8 @@ leaves_found c =
 
 pub returns-in-Some-clause-stepped : goal.returns-in-Some-clause-stepped
 returns-in-Some-clause-stepped c =
-    let by = (goal.at.returns-in-Some-clause-stepped c).After-receipt in
-    let known = (goal.at.After-receipt by).After-known in
+    let by = (goal.at.returns-in-Some-clause-stepped c).After-answer_in in
+    let known = (goal.at.After-answer_in by).After-known in
     let at = (goal.at.After-known known).After-turn-looked in
     let start = (goal.at.After-turn-looked at).After-self in
     let b : BookTerms = c.args.board.now.book in
@@ -188,10 +187,10 @@ returns-in-Some-clause-stepped c =
     let now : TotalSums = c.turn-looked.new.totals in
     let front : List ℕ = c.in_ok-front.front in
     let h : HelpingTerms = c.args.helping.now in
-    let r : Receipt = c.receipt.result in
+    let r = c.answer_in.result in
     let help : IsHelpOf b t.start w h (Settled r) =
     IsHelpOf-found b t.start w t.was now front h (has_account start) (looked known) (waits start) c.in-Some.round c.in-Some.decision r
-    c.known.ensures.seat.agrees (found by) c.receipt.ensures.call c.receipt.ensures.reply c.receipt.ensures.at in
+    c.known.ensures.seat.agrees (found by) (record { reply = c.answer_in.ensures.reply; at = c.answer_in.ensures.at }) in
     subst (λ (k : TurnStage). TakesHelpStep b c.args.self.now
     (record t { stage = k; looked = c.turns-self-inside.result; mark = c.of.result.value.knows; totals = c.of-2.result.value }) c.args.seat.now c.turn-looked.new.seat
     now (Some (Settled r))) (sym c.become_next.ensures)

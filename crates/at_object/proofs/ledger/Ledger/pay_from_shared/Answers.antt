@@ -1,11 +1,14 @@
-use Rattle.std.proofs.Common.{◌≡◌, ℕ, false, true, sym, ap, subst, ◌∙◌}
+use Rattle.std.proofs.Common.{◌≡◌, ℕ, false, true, Some, refl, sym, ap, subst, ◌∙◌}
 use Rattle.at_ledger.specs.Account.{is_shared}
 use Rattle.at_ledger.specs.Book.{BookTerms, HasSlot, account_of, is_owner}
+use Rattle.at_ledger.specs.declared.call.Call.{Call}
+use Rattle.at_ledger.specs.declared.call.Call.TheVariants.{Pay}
 use Rattle.at_history.specs.Histories.{IsHistory}
 use Rattle.at_history.specs.Moves.{AreRuns}
 use Rattle.at_board.specs.Knowledge.Seats.{BoardTerms}
 use Rattle.at_board.specs.declared.knowledge.Knowledge.{Knowledge}
 use Rattle.at_log.specs.Receipts.{payout_of}
+use Rattle.at_log.specs.declared.receipt.Receipt.{Receipt}
 use Rattle.at_object.proofs.Laws.InRound.{IsPass-round}
 use Rattle.at_object.proofs.Laws.Made.{PaymentMade-round, others-le, seated_pass}
 use Rattle.at_object.proofs.Laws.Looked.{between-IsPass}
@@ -30,8 +33,8 @@ slot c =
     (subst (λ (t : PassTerms). (s : ℕ) × HasSlot c.args.self.now.book t.knows.first c.args.source s) (sym c.pass.view_is)
     (HasSlot-is_owner c.args.self.now.book c.args.pass.now.knows.first c.args.source c.requires.source c.requires.shared c.requires.owner))
 
-pub pay_shared-receipt-requires-clause-asks : goal.pay_shared-receipt-requires-clause-asks
-pay_shared-receipt-requires-clause-asks c =
+pub pay_shared-paid-requires-clause-asks : goal.pay_shared-paid-requires-clause-asks
+pay_shared-paid-requires-clause-asks c =
     let b : BookTerms = c.self.inside.board.book in
     let v : Knowledge = c.pass.inside.seat.knows in
     let before : PassTerms =
@@ -52,17 +55,21 @@ pay_shared-receipt-requires-clause-asks c =
           (between-IsPass b v c.pass.inside.totals c.pass.inside.sent same_book c.pass.invariant) here.1 shared room,
     )
 
--- it was paid
-paid : (c : After-pass-1) → PaysInRound c.self.inside.board.book c.pass.inside.seat.knows c.pay_shared-receipt.new.seat.knows c.args.source c.args.call.now
-    c.pay_shared-receipt.result
-paid c =
-    let told = c.pay_shared-receipt.ensures in
+-- the receipt of a call
+abbrev receipt_of : After-pass-1 → Call → Receipt
+receipt_of c call = record { call = call; reply = c.pay_shared-paid.result.0; at = c.pay_shared-paid.result.1 }
+
+-- it was paid, whichever call it was
+paid : (c : After-pass-1) (call : Call) → payout_of call ≡ Some (c.args.source, c.args.targets.now)
+    → PaysInRound c.self.inside.board.book c.pass.inside.seat.knows c.pay_shared-paid.new.seat.knows c.args.source call (receipt_of c call)
+paid c call payout =
+    let told = c.pay_shared-paid.ensures in
     record {
-      call_is = told.call;
+      call_is = refl;
       in_round = told.in_round;
-      placed = told.placed;
-      after_start = told.after_start;
-      after_snapshot = told.after_snapshot;
+      placed = told.placed call payout;
+      after_start = told.after_start call payout;
+      after_snapshot = told.after_snapshot call payout;
       asked = told.asked;
       free = told.free;
       begins = told.begins;
@@ -71,24 +78,25 @@ paid c =
 
 pub invariant_of-pass : goal.invariant_of-pass
 invariant_of-pass c =
-    let told = c.pay_shared-receipt.ensures in
+    let told = c.pay_shared-paid.ensures in
     let here = slot c in
-    IsPass-round c.self.inside.board.book c.pass.inside.seat.knows c.pay_shared-receipt.new.seat.knows c.known.ensures.seat c.known-2.ensures.seat (book c)
-    told.board.book c.pass.inside.totals c.pass.inside.sent c.pass.invariant c.args.source here.0 here.1 c.args.call.now c.pay_shared-receipt.result
-    (paid c) c.pay_shared-receipt.new.totals told.counted told.own_counted
+    let call = Pay c.args.source c.args.targets.now in
+    IsPass-round c.self.inside.board.book c.pass.inside.seat.knows c.pay_shared-paid.new.seat.knows c.known.ensures.seat c.known-2.ensures.seat (book c)
+    told.board.book c.pass.inside.totals c.pass.inside.sent c.pass.invariant c.args.source here.0 here.1 call (receipt_of c call) (paid c call refl)
+    c.pay_shared-paid.new.totals told.counted told.own_counted
 
 pub returns-clause-made : goal.returns-clause-made
-returns-clause-made c = λ targets payout.
-    let told = c.pay_shared-receipt.ensures in
+returns-clause-made c = λ call payout.
+    let told = c.pay_shared-paid.ensures in
     let b : BookTerms = c.self.inside.board.book in
     let v : Knowledge = c.pass.inside.seat.knows in
-    let w : Knowledge = c.pay_shared-receipt.new.seat.knows in
-    let r = c.pay_shared-receipt.result in
+    let targets = c.args.targets.now in
+    let r : Receipt = receipt_of (goal.at.returns-clause-made c).After-pass-1 call in
     let was = c.pass.inside.totals in
-    let now = c.pay_shared-receipt.new.totals in
+    let now = c.pay_shared-paid.new.totals in
     let before : PassTerms = seated_pass c.pass.inside.seat was.upto c.pass.inside.calls in
     let after : PassTerms =
-    seated_pass c.pay_shared-receipt.new.seat now.upto c.saturating_add-pass-inside.result in
+    seated_pass c.pay_shared-paid.new.seat now.upto c.saturating_add-pass-inside.result in
     let here = slot c in
     let shared : is_shared (account_of b c.args.source) ≡ true =
     ap (λ (t : BoardTerms). is_shared (account_of t.book c.args.source)) c.self.view_is ∙ c.requires.shared in
@@ -98,18 +106,18 @@ returns-clause-made c = λ targets payout.
     let room : has_used_up b before c.args.source ≡ false =
     subst (λ (t : BoardTerms). has_used_up t.book before c.args.source ≡ false) (sym c.self.view_is)
     (subst (λ (t : PassTerms). has_used_up c.args.self.now.book t c.args.source ≡ false) (sym c.pass.view_is) c.requires.room) in
-    subst (λ (t : BoardTerms). PaymentMade t.book c.args.pass.now after c.args.source targets c.args.call.now r) c.self.view_is
-    (subst (λ (t : PassTerms). PaymentMade b t after c.args.source targets c.args.call.now r) c.pass.view_is
-    (PaymentMade-round b before after c.args.source targets c.args.call.now r c.known.ensures.seat c.known-2.ensures.seat
+    subst (λ (t : BoardTerms). PaymentMade t.book c.args.pass.now after c.args.source targets call r) c.self.view_is
+    (subst (λ (t : PassTerms). PaymentMade b t after c.args.source targets call r) c.pass.view_is
+    (PaymentMade-round b before after c.args.source targets call r c.known.ensures.seat c.known-2.ensures.seat
     (book c) told.board.book was c.pass.inside.sent c.pass.invariant room (others-le before after was now c.pass.invariant.own_counted told.own_counted told.more)
-    here.0 here.1 owner shared (paid (goal.at.returns-clause-made c).After-pass-1) (ap payout_of told.call ∙ payout)))
+    here.0 here.1 owner shared (paid (goal.at.returns-clause-made c).After-pass-1 call payout) payout))
 
 pub returns-clause-runs : goal.returns-clause-runs
 returns-clause-runs c =
-    subst (λ (t : BoardTerms). AreRuns t.book c.pay_shared-receipt.new.seat.knows.seen) c.self.view_is
-    (subst (λ (t : BookTerms). AreRuns t c.pay_shared-receipt.new.seat.knows.seen) c.pay_shared-receipt.ensures.board.book
+    subst (λ (t : BoardTerms). AreRuns t.book c.pay_shared-paid.new.seat.knows.seen) c.self.view_is
+    (subst (λ (t : BookTerms). AreRuns t c.pay_shared-paid.new.seat.knows.seen) c.pay_shared-paid.ensures.board.book
     c.known-2.ensures.seat.history.runs)
 
 pub returns-clause-decides_elsewhere : goal.returns-clause-decides_elsewhere
 returns-clause-decides_elsewhere c = λ a apart.
-    c.pay_shared-receipt.ensures.decides_elsewhere a apart ∙ ap (λ (t : PassTerms). decides_on t.knows a) c.pass.view_is
+    c.pay_shared-paid.ensures.decides_elsewhere a apart ∙ ap (λ (t : PassTerms). decides_on t.knows a) c.pass.view_is

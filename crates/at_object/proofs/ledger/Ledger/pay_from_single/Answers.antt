@@ -1,13 +1,15 @@
-use Rattle.std.proofs.Common.{◌≡◌, false, List, Some, length, sym, ap, subst, ◌∙◌, arith}
+use Rattle.std.proofs.Common.{◌≡◌, false, Some, length, refl, sym, ap, subst, ◌∙◌, arith}
 use Rattle.at_ledger.specs.Book.{BookTerms}
-use Rattle.at_ledger.specs.Call.{TargetPair}
+use Rattle.at_ledger.specs.declared.call.Call.{Call}
+use Rattle.at_ledger.specs.declared.call.Call.TheVariants.{Pay}
 use Rattle.at_history.specs.Rounds.{owns_of}
 use Rattle.at_board.specs.Knowledge.Seats.{BoardTerms}
 use Rattle.at_board.specs.Knowledge.Parts.{asking_on, own_part}
 use Rattle.at_board.specs.declared.knowledge.Asking.{Asking}
 use Rattle.at_board.specs.declared.knowledge.Knowledge.{Knowledge}
 use Rattle.at_log.specs.Receipts.{payout_of}
-use Rattle.at_object.proofs.Laws.Alone.{IsPass-alone, asking-alone, decided-alone}
+use Rattle.at_log.specs.declared.receipt.Receipt.{Receipt}
+use Rattle.at_object.proofs.Laws.Alone.{IsPass-alone, asking-alone}
 use Rattle.at_object.proofs.Laws.Made.{PaymentMade-alone, others-le, seated_pass}
 use Rattle.at_object.proofs.Laws.Room.{sent-room}
 use Rattle.at_object.specs.Paid.{PaysAlone}
@@ -23,14 +25,31 @@ book : (c : After-pass-2-1) → c.pass.inside.seat.knows.book ≡ c.self.inside.
 book c =
     ap (λ (t : PassTerms). t.knows.book) c.pass.view_is ∙ (c.requires.pass.book ∙ sym (ap (λ (t : BoardTerms). t.book) c.self.view_is))
 
--- it was paid
-paid : (c : After-pass-2-1) (targets : List TargetPair) → payout_of c.args.call.now ≡ Some (c.args.source, targets)
-    → PaysAlone c.self.inside.board.book c.pass.inside.seat.knows c.pay_alone-receipt.new.seat.knows c.args.source targets c.args.call.now
-    c.pay_alone-receipt.result
-paid c targets payout = c.pay_alone-receipt.ensures.pays targets payout
+-- the receipt of a call
+abbrev receipt_of : After-pass-2-1 → Call → Receipt
+receipt_of c call = record { call = call; reply = c.pay_single-paid.result.0; at = c.pay_single-paid.result.1 }
 
-pub pay_alone-receipt-requires-clause-room : goal.pay_alone-receipt-requires-clause-room
-pay_alone-receipt-requires-clause-room c =
+-- it was paid, whichever call it was
+paid : (c : After-pass-2-1) (call : Call) → payout_of call ≡ Some (c.args.source, c.args.targets.now)
+    → PaysAlone c.self.inside.board.book c.pass.inside.seat.knows c.pay_single-paid.new.seat.knows c.args.source c.args.targets.now call (receipt_of c call)
+paid c call payout =
+    let told = c.pay_single-paid.ensures in
+    record {
+      call_is = refl;
+      reply = told.reply;
+      placed = told.placed call payout;
+      after_front = told.after_front call;
+      snapshot = told.snapshot;
+      short = told.short;
+      done = told.done;
+    }
+
+-- as a pay-out
+abbrev paying : After-pass-2-1 → Call
+paying c = Pay c.args.source c.args.targets.now
+
+pub pay_single-paid-requires-clause-room : goal.pay_single-paid-requires-clause-room
+pay_single-paid-requires-clause-room c =
     let same : c.pass.inside.seat.knows ≡ c.args.pass.now.knows = ap (λ (t : PassTerms). t.knows) c.pass.view_is in
     let few = c.known.ensures.seat.history.own_room c.pass.inside.seat.knows.first in
     omega (
@@ -70,47 +89,39 @@ sent_after-pass-inside-requires c =
 
 pub invariant_of-pass : goal.invariant_of-pass
 invariant_of-pass c =
-    let targets = c.requires.call.targets in
-    let told = c.pay_alone-receipt.ensures in
-    subst (IsPass c.pay_alone-receipt.new.seat.knows c.pay_alone-receipt.new.totals) (sym c.sent_after-pass-inside.ensures)
-    (IsPass-alone c.self.inside.board.book c.pass.inside.seat.knows c.pay_alone-receipt.new.seat.knows c.known.ensures.seat c.known-2.ensures.seat (book c)
-    told.board.book c.pass.inside.totals c.pass.inside.sent c.pass.invariant c.args.source targets c.args.call.now c.pay_alone-receipt.result
-    (paid c targets c.requires.call.payout) c.pay_alone-receipt.new.totals told.counted told.own_counted)
+    let told = c.pay_single-paid.ensures in
+    subst (IsPass c.pay_single-paid.new.seat.knows c.pay_single-paid.new.totals) (sym c.sent_after-pass-inside.ensures)
+    (IsPass-alone c.self.inside.board.book c.pass.inside.seat.knows c.pay_single-paid.new.seat.knows c.known.ensures.seat c.known-2.ensures.seat (book c)
+    told.board.book c.pass.inside.totals c.pass.inside.sent c.pass.invariant c.args.source c.args.targets.now (paying c) (receipt_of c (paying c))
+    (paid c (paying c) refl) c.pay_single-paid.new.totals told.counted told.own_counted)
 
 pub returns-clause-made : goal.returns-clause-made
-returns-clause-made c = λ targets payout.
-    let told = c.pay_alone-receipt.ensures in
+returns-clause-made c = λ call payout.
+    let told = c.pay_single-paid.ensures in
     let b : BookTerms = c.self.inside.board.book in
     let v : Knowledge = c.pass.inside.seat.knows in
-    let w : Knowledge = c.pay_alone-receipt.new.seat.knows in
     let was = c.pass.inside.totals in
-    let now = c.pay_alone-receipt.new.totals in
+    let now = c.pay_single-paid.new.totals in
+    let targets = c.args.targets.now in
+    let r : Receipt = receipt_of c call in
     let before : PassTerms = seated_pass c.pass.inside.seat was.upto c.pass.inside.calls in
-    let after : PassTerms = seated_pass c.pay_alone-receipt.new.seat now.upto c.saturating_add-pass-inside.result in
+    let after : PassTerms = seated_pass c.pay_single-paid.new.seat now.upto c.saturating_add-pass-inside.result in
     let only : IsOnlyOwner b v.first c.args.source =
     subst (λ (t : BoardTerms). IsOnlyOwner t.book v.first c.args.source) (sym c.self.view_is)
     (subst (λ (t : PassTerms). IsOnlyOwner c.args.self.now.book t.knows.first c.args.source) (sym c.pass.view_is) c.requires.owner) in
     let room : has_used_up b before c.args.source ≡ false =
     subst (λ (t : BoardTerms). has_used_up t.book before c.args.source ≡ false) (sym c.self.view_is)
     (subst (λ (t : PassTerms). has_used_up c.args.self.now.book t c.args.source ≡ false) (sym c.pass.view_is) c.requires.room) in
-    subst (λ (t : BoardTerms). PaymentMade t.book c.args.pass.now after c.args.source targets c.args.call.now c.pay_alone-receipt.result) c.self.view_is
-    (subst (λ (t : PassTerms). PaymentMade b t after c.args.source targets c.args.call.now c.pay_alone-receipt.result) c.pass.view_is
-    (PaymentMade-alone b before after c.args.source targets c.args.call.now c.pay_alone-receipt.result c.known.ensures.seat c.known-2.ensures.seat
+    subst (λ (t : BoardTerms). PaymentMade t.book c.args.pass.now after c.args.source targets call r) c.self.view_is
+    (subst (λ (t : PassTerms). PaymentMade b t after c.args.source targets call r) c.pass.view_is
+    (PaymentMade-alone b before after c.args.source targets call r c.known.ensures.seat c.known-2.ensures.seat
     (book c) told.board.book was c.pass.inside.sent c.pass.invariant room (others-le before after was now c.pass.invariant.own_counted told.own_counted told.more)
-    (omega (arith, c.requires.source, ap (λ (t : BoardTerms). length t.book.accounts) c.self.view_is)) only (paid c targets payout)))
-
-pub returns-clause-decided : goal.returns-clause-decided
-returns-clause-decided c =
-    let targets = c.requires.call.targets in
-    decided-alone c.self.inside.board.book c.pass.inside.seat.knows c.pay_alone-receipt.new.seat.knows c.known.ensures.seat c.known-2.ensures.seat (book c)
-    c.pay_alone-receipt.ensures.board.book c.pass.inside.totals c.pass.inside.sent c.pass.invariant c.args.source targets c.args.call.now
-    c.pay_alone-receipt.result (paid c targets c.requires.call.payout)
+    (omega (arith, c.requires.source, ap (λ (t : BoardTerms). length t.book.accounts) c.self.view_is)) only (paid c call payout)))
 
 pub returns-clause-decides : goal.returns-clause-decides
 returns-clause-decides c = λ a.
-    let targets = c.requires.call.targets in
     ap (λ (t : Asking). t.decides)
-    (asking-alone c.self.inside.board.book c.pass.inside.seat.knows c.pay_alone-receipt.new.seat.knows c.known.ensures.seat c.known-2.ensures.seat (book c)
-    c.pay_alone-receipt.ensures.board.book c.pass.inside.totals c.pass.inside.sent c.pass.invariant c.args.source targets c.args.call.now
-    c.pay_alone-receipt.result (paid c targets c.requires.call.payout) a
+    (asking-alone c.self.inside.board.book c.pass.inside.seat.knows c.pay_single-paid.new.seat.knows c.known.ensures.seat c.known-2.ensures.seat (book c)
+    c.pay_single-paid.ensures.board.book c.pass.inside.totals c.pass.inside.sent c.pass.invariant c.args.source c.args.targets.now (paying c)
+    (receipt_of c (paying c)) (paid c (paying c) refl) a
     ∙ ap (λ (t : PassTerms). asking_on (own_part t.knows) a) c.pass.view_is)

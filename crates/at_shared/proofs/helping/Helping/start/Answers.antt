@@ -1,11 +1,10 @@
 use Rattle.std.proofs.Common.{◌≡◌, ℕ, ◌≤◌, List, length, get_or, Some, sum, sym, ap, subst, ◌∙◌, arith}
 use Rattle.at_ledger.specs.Book.{BookTerms, HasSlot, account_of}
 use Rattle.at_ledger.specs.Account.{slot_in}
-use Rattle.at_ledger.specs.Call.{TargetPair, AreTargetsOn}
+use Rattle.at_ledger.specs.Call.{AreTargetsOn}
 use Rattle.at_history.specs.Fronts.{place}
 use Rattle.at_board.specs.Steps.Announce.{Announces}
 use Rattle.at_board.specs.declared.knowledge.Knowledge.{Knowledge}
-use Rattle.at_log.specs.Receipts.{payout_of}
 use Rattle.at_rows.proofs.Laws.Accounts.{HasAccount}
 use Rattle.at_rows.specs.Asks.{MayAskFor, asked_for, opened}
 use Rattle.at_rows.specs.declared.open_request.OpenRequest.{OpenRequest}
@@ -64,12 +63,10 @@ ask-number-requires-clause-request c =
     let a = c.args.account in
     let slot = c.unwrap-slot.result in
     let has = has_slot (goal.at.ask-number-requires-clause-request c).After-unwrap-slot in
-    let call = c.requires.call in
-    let looked = c.look-front.ensures.looked in
-    let targets : c.targets_of-targets.result ≡ call.targets = c.targets_of-targets.ensures a call.targets call.payout in (
+    let looked = c.look-front.ensures.looked in (
       slot,
-      subst (λ k. MayAskFor b w a slot (asked_for c.targets_of-targets.result k)) (sym c.sum-since.ensures)
-          (MayAskFor-IsSnapshot b v w a slot c.targets_of-targets.result c.look-front.result (has_account before) looked.snapshot looked.loads
+      subst (λ k. MayAskFor b w a slot (asked_for c.copy-targets.result k)) (sym c.sum-since.ensures)
+          (MayAskFor-IsSnapshot b v w a slot c.copy-targets.result c.look-front.result (has_account before) looked.snapshot looked.loads
           (record {
             slot_in = subst (λ p. HasSlot b p a slot) (kept_look before).first has;
             room = c.requires.asks.1.room;
@@ -78,7 +75,7 @@ ask-number-requires-clause-request c =
           (record {
             some = c.len-count.ensures.some;
             few = c.len-count.ensures.few;
-            accounts = subst (AreTargetsOn (length b.accounts)) (sym targets) call.accounts;
+            accounts = subst (AreTargetsOn (length b.accounts)) (sym c.copy-targets.ensures) c.requires.targets;
           })),
     )
 
@@ -95,12 +92,12 @@ to_ask c = (goal.at.After-collect_rows-asked c).After-ask-number
 
 -- what asking changes
 told_ask : (c : After-ask-number) → Announces c.args.board.now.book c.look-front.new.seat.knows c.ask-number.new.seat.knows c.args.account
-    c.unwrap-slot.result (asked_for c.targets_of-targets.result c.sum-since.result)
+    c.unwrap-slot.result (asked_for c.copy-targets.result c.sum-since.result)
 told_ask c = c.ask-number.ensures.announced c.unwrap-slot.result (has_slot (goal.at.After-ask-number c).After-unwrap-slot)
 
 -- the own request
 abbrev own_of : After-ask-number → OpenRequest
-own_of c = opened c.unwrap-slot.result c.ask-number.result c.targets_of-targets.result c.sum-since.result
+own_of c = opened c.unwrap-slot.result c.ask-number.result c.copy-targets.result c.sum-since.result
 
 -- the parts of the start
 parts : (c : After-collect_rows-asked) → StartsBy c.args.board.now.book c.args.seat.now.knows c.collect_rows-asked.new.seat.knows
@@ -136,7 +133,7 @@ returns-clause-started c =
     let z : Knowledge = c.collect_rows-asked.new.seat.knows in
     subst (HasStarted b v z) (sym c.of.ensures)
     (HasStarted-StartsBy b v z c.args.account (own_of (to_ask collected)) c.collect_rows-asked.result (parts collected)
-    (has_account (to_look (to_ask collected))) c.copy.result)
+    (has_account (to_look (to_ask collected))))
 
 pub returns-clause-helping : goal.returns-clause-helping
 returns-clause-helping c =
@@ -148,11 +145,8 @@ returns-clause-helping c =
     let own : OpenRequest = own_of (to_ask collected) in
     let by = parts collected in
     let has = has_account (to_look (to_ask collected)) in
-    let call = c.requires.call in
-    let targets : c.targets_of-targets.result ≡ call.targets = c.targets_of-targets.ensures a call.targets call.payout in
     subst (IsHelping b z) (sym c.of.ensures)
-    (IsHelping-StartsBy b v z a own c.collect_rows-asked.result by has c.copy.result
-    (ap payout_of c.copy.ensures ∙ (call.payout ∙ ap (λ (ts : List TargetPair). Some (a, ts)) (sym targets)))
+    (IsHelping-StartsBy b v z a own c.collect_rows-asked.result by has
     (omega (arith, number-StartsBy b v z a own c.collect_rows-asked.result by has, c.requires.asks.1.room)) c.requires.free)
 
 pub returns-clause-number : goal.returns-clause-number

@@ -17,7 +17,7 @@ use Rattle.at_shared.specs.Helpings.{decides_made}
 use Rattle.at_shared.specs.Settling.{round_steps}
 use Rattle.at_shared.specs.declared.helping.HelpTurn.TheVariants.{Settled}
 use Rattle.at_single.proofs.Laws.Looks.{CountsAccount-HasLooked, CountsFront-HasLooked, HasCounted-HasLooked}
-use Rattle.at_shared.proofs.helping.Helping.turn.Goals.{After-known-3, After-look-front, After-receipt}
+use Rattle.at_shared.proofs.helping.Helping.turn.Goals.{After-known-3, After-look-front, After-answer_in}
 use Rattle.at_shared.proofs.helping.Helping.turn.Goals as goal
 
 -- the seat has something on the account
@@ -52,10 +52,10 @@ settled-requires c = (
 )
 
 -- what was found was decided at the front
-found : (c : After-receipt) → IsDecidedIn (prefix_of c.look-front.result c.look-front.new.seat.knows.seen)
+found : (c : After-answer_in) → IsDecidedIn (prefix_of c.look-front.result c.look-front.new.seat.knows.seen)
     c.args.self.now.account c.args.self.now.own.slot c.args.self.now.own.number c.in-Some.round c.in-Some.decision
 found c =
-    let before : After-look-front = (goal.at.After-receipt c).After-look-front in
+    let before : After-look-front = (goal.at.After-answer_in c).After-look-front in
     let h : HelpingTerms = c.args.self.now in
     let b : BookTerms = c.args.board.now.book in
     let seen = c.look-front.new.seat.knows.seen in
@@ -63,20 +63,17 @@ found c =
     (c.in-Some.ensures.front b seen (counts_slot before) c.requires.helping.room (counts_front before))
 
 -- what the turn leaves where it was
-turned_found : (c : After-receipt)
-    → IsTurned c.args.board.now.book c.args.seat.now.knows c.look-front.new.seat.knows c.args.self.now (Settled c.receipt.result) 0
+turned_found : (c : After-answer_in)
+    → IsTurned c.args.board.now.book c.args.seat.now.knows c.look-front.new.seat.knows c.args.self.now (Settled c.answer_in.result) 0
 turned_found c =
-    let before : After-look-front = (goal.at.After-receipt c).After-look-front in
+    let before : After-look-front = (goal.at.After-answer_in c).After-look-front in
     IsTurned-found c.args.board.now.book c.args.seat.now.knows c.look-front.new.seat.knows c.args.self.now c.look-front.result (has_account before)
-    c.look-front.ensures.looked.snapshot c.look-front.ensures.looked.loads c.requires.helping c.in-Some.round c.in-Some.decision c.receipt.result
+    c.look-front.ensures.looked.snapshot c.look-front.ensures.looked.loads c.requires.helping c.in-Some.round c.in-Some.decision c.answer_in.result
     c.known-2.ensures.seat.agrees (found c)
-    (record { call = c.receipt.ensures.call; reply = c.receipt.ensures.reply; at = c.receipt.ensures.at })
+    (record { reply = c.answer_in.ensures.reply; at = c.answer_in.ensures.at })
 
 pub returns-in-Some-clause-answers : goal.returns-in-Some-clause-answers
 returns-in-Some-clause-answers c = (turned_found c).answers
-
-pub returns-in-Some-clause-call : goal.returns-in-Some-clause-call
-returns-in-Some-clause-call c = (turned_found c).call
 
 pub returns-in-Some-clause-in_round : goal.returns-in-Some-clause-in_round
 returns-in-Some-clause-in_round c = (turned_found c).in_round
@@ -185,9 +182,6 @@ turned c =
 
 pub returns-clause-answers : goal.returns-clause-answers
 returns-clause-answers c = (turned c).answers
-
-pub returns-clause-call : goal.returns-clause-call
-returns-clause-call c = (turned c).call
 
 pub returns-clause-in_round : goal.returns-clause-in_round
 returns-clause-in_round c = (turned c).in_round

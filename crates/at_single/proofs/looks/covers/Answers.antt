@@ -1,6 +1,6 @@
 use Rattle.std.proofs.Common.{◌∙◌, arith}
 use Rattle.std.proofs.lemmas.Bool.{le-leb, leb-true}
-use Rattle.at_shared.proofs.rounds.covers.Goals as goal
+use Rattle.at_single.proofs.looks.covers.Goals as goal
 
 pub returns : goal.returns
 returns c = λ b seen counts front.
