@@ -106,13 +106,6 @@ LeavesOf-Ends text prints R M N tells made o ends never no_done no_fault is refu
       formed = Ends-formed text R made o ends never refuses;
     }
 
--- what is printed whether or not the shelf tells its files
-pub Ends-printed : {A : Type 0} (text : A → List ℕ) (prints : List ℕ → Type 0) (R : Status → Type 0) (made : Result A Status) (o : Outcome) → Ends text made o
-    → Refuses R → IfErr made R → IfOk made (λ a. prints (text a)) → IsWritten o.answer → HasText prints
-Ends-printed text prints R made o ends never refuses is answered =
-    let w = Written-Ends text (λ a. prints (text a)) R made o ends never refuses is answered in
-    record { text = text w.made; printed = w.is }
-
 -- a sink's faults where a text was written
 pub Ends-faults : {A : Type 0} (text : A → List ℕ) (R : Status → Type 0) (made : Result A Status) (o : Outcome) → Ends text made o → Refuses R → IfErr made R
     → IsWritten o.answer → (written : List ℕ) × Wrote o.tells written o.before o.after o.faults o.faults_now o.answer

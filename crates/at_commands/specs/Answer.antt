@@ -1,5 +1,5 @@
 -- What a command prints.
-use Rattle.std.specs.Prelude.{◌≡◌, ℕ, List, length, sum, sum_by, Ok, Option, Some, None}
+use Rattle.std.specs.Prelude.{◌≡◌, ℕ, Bool, true, List, length, sum, sum_by, Ok, Option, Some, None}
 use Rattle.at_ledger.specs.Book.{total_of}
 use Rattle.at_ledger.specs.Run.{Legal, Whole, last_state}
 use Rattle.at_object.specs.Closings.{ClosedTerms}
@@ -24,9 +24,11 @@ abbrev pub Prints : Command → Loaded → Option ClosedTerms → List ℕ → T
 Prints Run l kept text = (closed : ClosedTerms) × (kept ≡ Some closed) × ReportsRun l closed text
 Prints Check l kept text = (kept ≡ None) × (text ≡ checked_line l.book (sum_by length l.files))
 
--- the text is the command's for what the files' bytes spell
-pub record PrintsSpelled (files : Files) (form : Form) (kept : Option ClosedTerms) (text : List ℕ) : Type 0 where
+-- the text is the command's for what was read of the words' files: the calls of one file for each of the words. Where the files are
+-- told, their bytes spell it
+pub record PrintsRead (tells : Bool) (files : Files) (form : Form) (kept : Option ClosedTerms) (text : List ℕ) : Type 0 where
   pub what : Loaded
-  pub read : loaded files form ≡ Ok what
-  pub spelled : Spelled files form what
+  pub count : length what.files ≡ length form.payments
+  pub read : tells ≡ true → loaded files form ≡ Ok what
+  pub spelled : tells ≡ true → Spelled files form what
   pub printed : Prints form.command what kept text

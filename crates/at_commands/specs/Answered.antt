@@ -11,7 +11,7 @@ use Rattle.at_loading.specs.Words.Wanted.{Agree, Deliver, Files, Make, Replay, V
 use Rattle.at_loading.specs.declared.numbers.Making.{Making}
 use Rattle.at_loading.specs.declared.words.Command.TheVariants.{Check}
 use Rattle.at_commands.specs.Agreed.{KeepsAgreement, PrintsAgreed}
-use Rattle.at_commands.specs.Answer.{Prints, PrintsSpelled}
+use Rattle.at_commands.specs.Answer.{PrintsRead}
 use Rattle.at_commands.specs.Claims.{AnswersVerify, Claim, IsRight, IsRightClaim, MayReachClaim, MayRefuseClaim, SpellsClaim, VerifiesSpelled, claimed}
 use Rattle.at_commands.specs.Delivering.{DeliversSpelled, MayReachBroadcast, SpellsBroadcast, broadcast}
 use Rattle.at_commands.specs.Made.{IsMade, SummarizesRun, made}
@@ -20,16 +20,15 @@ use Rattle.at_commands.specs.Outcome.{Found, Outcome}
 use Rattle.at_commands.specs.Replaying.{MayReachReplay, Replay as Replayed, ReplaysSpelled, SpellsReplay, replay_loaded}
 use Rattle.at_commands.specs.Writing.{TookAll, TookPrefix}
 
--- `run` and `check`. Under `Done` all bytes that were taken are the text of the command for what the files' bytes spell (`done`). That of
--- `run` is the report of the journal of the closed ledger that is kept, on which just the files' calls were made, and this journal is one
--- legal run of them, however the threads' steps fell. There is such a ledger also where the output (`ran_spelled`) or the shelf (`ran`)
--- tells nothing. A refusal comes only so (`refusal`), and where no fault is counted exactly so, but for want of memory (`exact`)
+-- `run` and `check`. Under `Done` all bytes that were taken are the text of the command for what was read, which is what the files' bytes
+-- spell where the shelf tells them (`done`). That of `run` is the report of the journal of the closed ledger that is kept, on which just
+-- the calls that were read were made, and this journal is one legal run of them, however the threads' steps fell. There is such a ledger
+-- also where the output tells nothing (`ran`). A refusal comes only so (`refusal`), and where no fault is counted exactly so, but for
+-- want of memory (`exact`)
 pub record AnsweredFiles (form : Form) (s : Found) (o : Outcome) : Type 0 where
-  pub done : o.answer ≡ Done → s.tells ≡ true → o.tells ≡ true → TookAll (PrintsSpelled s.files form o.kept) o.before o.after
-  pub prefix : o.answer ≡ WriteFault → s.tells ≡ true → o.tells ≡ true → TookPrefix (PrintsSpelled s.files form o.kept) o.before o.after
-  pub loads : s.tells ≡ true → IsWritten o.answer → (l : Loaded) × (loaded s.files form ≡ Ok l)
-  pub ran_spelled : s.tells ≡ true → IsWritten o.answer → (text : List ℕ) × PrintsSpelled s.files form o.kept text
-  pub ran : IsWritten o.answer → (l : Loaded) × (text : List ℕ) × Prints form.command l o.kept text
+  pub done : o.answer ≡ Done → o.tells ≡ true → TookAll (PrintsRead s.tells s.files form o.kept) o.before o.after
+  pub prefix : o.answer ≡ WriteFault → o.tells ≡ true → TookPrefix (PrintsRead s.tells s.files form o.kept) o.before o.after
+  pub ran : IsWritten o.answer → (text : List ℕ) × PrintsRead s.tells s.files form o.kept text
   pub checks : form.command ≡ Check → o.kept ≡ None
   pub complete : (l : Loaded) → s.tells ≡ true → Spelled s.files form l → IsFaultless s.faults s.faults_now → IsFaultless o.faults o.faults_now
       → (o.answer ≡ Done) ⊎ (o.answer ≡ NoMemory)

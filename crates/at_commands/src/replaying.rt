@@ -12,9 +12,9 @@ ghost use Rattle.at_commands.specs.Replaying.{MayReachReplay, ReplaysSpelled, Re
 ghost use Rattle.at_loading.specs.Words.{replaying_shown};
 
 use crate::ending::end;
-use at_files::{Names, ReadScheduleFault, read_schedule};
+use at_files::{ReadScheduleFault, read_schedule};
 use at_io::{Shelf, Sink};
-use at_ledger::{Book, Call};
+use at_ledger::Call;
 use at_loading::{Loaded, ReplayPayments, Replaying, fetch_file, load_all};
 use at_report::{Status, report};
 use at_stepper::replay;
@@ -60,28 +60,6 @@ fn load_schedule<F: Shelf>(
     }
 }
 
-/// The report of the run of the files by the schedule.
-fn replay_report(
-    alloc: Global,
-    book: &Book,
-    names: &Names,
-    files: Vec<Vec<Call>>,
-    schedule: &[u32],
-) -> Result<Vec<u8>, AllocError>
-    requires names { AreNamesOf book.now names.now }
-    requires count { length files.items ≡ book.now.processes }
-    requires known { All (IsPlayable (length book.now.accounts)) (contents_of files.items) }
-    requires schedule { All (λ process. process < book.now.processes) schedule.now }
-    ensures { IfOk result
-        (λ text. ReportsReplay
-        (record { book = book.now; names = names.now; files = contents_of files.items })
-        text.items) }
-{
-    let replayed = replay(alloc, book, files, schedule)?;
-    let text = report(alloc, book, names, replayed.lines.as_slice())?;
-    Ok(text)
-}
-
 /// The report of the run of what was loaded by the schedule.
 fn replayed_text(
     alloc: Global,
@@ -95,7 +73,9 @@ fn replayed_text(
     ensures { IfOk result (λ text. ReportsReplay (loaded_shown loaded) text.items) }
 {
     let Loaded { book, names, files } = loaded;
-    replay_report(alloc, &book, &names, files, schedule)
+    let replayed = replay(alloc, &book, files, schedule)?;
+    let text = report(alloc, &book, &names, replayed.lines.as_slice())?;
+    Ok(text)
 }
 
 /// What `replay` prints of the files that the words name, or why it prints nothing. The schedule is fetched last.

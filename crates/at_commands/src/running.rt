@@ -1,14 +1,14 @@
 //! What `run` and `check` answer.
 
-ghost use Rattle.std.specs.Prelude.{◌≡◌, ◌≢◌, ◌≤◌, ℕ, All, length, sum_by, true, None, Err, IfOk, IfErr, OnOk};
-ghost use Rattle.at_commands.specs.Answer.{Prints, PrintsSpelled};
+ghost use Rattle.std.specs.Prelude.{◌≡◌, ◌≢◌, ◌≤◌, ℕ, All, length, sum_by, None, Err, IfOk, IfErr, OnOk};
+ghost use Rattle.at_commands.specs.Answer.{Prints, PrintsRead};
 ghost use Rattle.at_commands.specs.Answered.{AnsweredFiles};
 ghost use Rattle.at_files.specs.Files.{IsPlayable, contents_of};
 ghost use Rattle.at_files.specs.Names.{AreNamesOf};
 ghost use Rattle.at_io.specs.Faults.{Rose};
 ghost use Rattle.at_io.specs.Shelf.{SameFiles};
 ghost use Rattle.at_loading.specs.Faults.{HasFileNumbers, MayRefuse};
-ghost use Rattle.at_loading.specs.Loading.{Loaded, MayReach, loaded};
+ghost use Rattle.at_loading.specs.Loading.{MayReach, loaded};
 ghost use Rattle.at_loading.specs.Words.{form_shown};
 ghost use Rattle.at_report.specs.Report.{checked_line};
 
@@ -96,11 +96,9 @@ fn files_text<R: Threads + Sync, F: Shelf, G: Gate + Sync>(
         (F.file shelf.new) }
     ensures later { F.faults shelf.old ≤ F.faults shelf.new }
     ensures kept { OnOk result (F.faults shelf.new ≡ F.faults shelf.old) }
-    ensures printed { F.tells shelf.old ≡ true
-        → IfOk result
-        (λ p. PrintsSpelled (F.file shelf.old) (form_shown form.now) p.closed p.text.items) }
-    ensures prints { IfOk result
-        (λ p. (l : Loaded) × Prints form.now.command l p.closed p.text.items) }
+    ensures printed { IfOk result
+        (λ p. PrintsRead (F.tells shelf.old) (F.file shelf.old) (form_shown form.now)
+        p.closed p.text.items) }
     ensures checks { form.now.command ≡ Command.Check → IfOk result (λ p. p.closed ≡ None) }
     ensures err { IfErr result
         (λ refusal. MayRefuse (F.tells shelf.old) (loaded (F.file shelf.old) (form_shown form.now))

@@ -13,5 +13,3 @@ pub mod Room
 pub mod Covered
 -- the passes of a new ledger
 pub mod NewPasses
--- lists that are related element by element
-pub mod Zipped

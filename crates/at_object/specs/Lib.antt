@@ -5,3 +5,4 @@ pub mod Paid
 pub mod Closings
 pub mod Parted
 pub mod Calls
+pub mod BoundNumbers

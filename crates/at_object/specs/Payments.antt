@@ -1,5 +1,5 @@
 -- What a payment answers, and the bounds of the calls.
-use Rattle.std.specs.Prelude.{◌≡◌, ℕ, ◌+◌, ◌*◌, ◌⊎◌, ◌&&◌, ◌||◌, ◌==◌, Bool, List, take, Option, Some, None, if◌then◌else◌}
+use Rattle.std.specs.Prelude.{◌≡◌, ℕ, ◌+◌, ◌*◌, ◌⊎◌, ◌&&◌, ◌||◌, ◌==◌, Bool, List, take, Option, Some, None, if◌then◌else◌, refl}
 use Rattle.at_ledger.specs.Account.{is_shared, is_single, slots_of}
 use Rattle.at_ledger.specs.Book.{BookTerms, account_of, is_owner}
 use Rattle.at_ledger.specs.Call.{TargetPair}
@@ -72,9 +72,16 @@ sent_after sent (Balance amount) = sent
 abbrev pub single_steps : ℕ → ℕ
 single_steps n = snapshot_steps n + (RECORD_WORDS + n + 1)
 
+-- of three, as a number: whoever changes the bound changes this too
+pub single_steps-3 : single_steps 3 ≡ 26
+single_steps-3 = refl
+
 -- and from an account of k owners
 abbrev pub shared_steps : ℕ → ℕ → ℕ
 shared_steps n k = snapshot_steps n + asking_steps k + k * (snapshot_steps n + round_steps n)
+
+pub shared_steps-3 : shared_steps 3 3 ≡ 136
+shared_steps-3 = refl
 
 -- the most steps of a payment, beside the loads of records that its totals count
 abbrev pub payment_steps : BookTerms → ℕ → ℕ

@@ -60,7 +60,7 @@ pub fn serve<R: Threads + Sync, F: Shelf, O: Sink, E: Sink, G: Gate + Sync>(
 
     // The theorem: what the words' command leaves. For each command it is a record, whose fields are the contract of that command.
     // For `run` and `check` this is `AnsweredFiles`, whose field `done` says that all bytes that were taken are the text of the
-    // command for what the files' bytes spell.
+    // command for what was read, which is what the files' bytes spell where the shelf tells them.
     ensures answered { Leaves (wanted_of (words_of words.now))
         (record {
           tells = F.tells shelf.old;

@@ -1,5 +1,5 @@
 -- Where the receipt of a settled request stands, and the bounds of the calls.
-use Rattle.std.specs.Prelude.{◌≡◌, ◌≢◌, ℕ, ◌+◌, ◌*◌, ◌<◌, ◌≤◌, ◌⊎◌, ◌++◌, List, [], ◌∷◌, length, Contains, Some}
+use Rattle.std.specs.Prelude.{◌≡◌, ◌≢◌, ℕ, ◌+◌, ◌*◌, ◌<◌, ◌≤◌, ◌⊎◌, ◌++◌, List, [], ◌∷◌, length, Contains, Some, refl}
 use Rattle.at_ledger.specs.Book.{BookTerms}
 use Rattle.at_ledger.specs.Call.{TargetPair}
 use Rattle.at_ledger.specs.declared.call.Call.{Call}
@@ -65,6 +65,13 @@ pub record StandsAfterSnapshot (b : BookTerms) (before after : Knowledge) (a : �
 abbrev pub asking_steps : ℕ → ℕ
 asking_steps slots = (REQUEST_WORDS + 1) * slots + 1
 
+-- of three, as a number: whoever changes the bound changes this too
+pub asking_steps-3 : asking_steps 3 ≡ 22
+asking_steps-3 = refl
+
 -- the steps that one round takes of n processes: an exchange, the request, and the record
 abbrev pub round_steps : ℕ → ℕ
 round_steps n = 1 + REQUEST_WORDS + (RECORD_WORDS + n + 1)
+
+pub round_steps-3 : round_steps 3 ≡ 18
+round_steps-3 = refl

@@ -1,5 +1,5 @@
 -- Snapshots: fronts of what a seat has seen that begin with all that it had seen.
-use Rattle.std.specs.Prelude.{◌≡◌, ℕ, ◌+◌, ◌*◌, ◌<◌, ◌≤◌, List, slice_index}
+use Rattle.std.specs.Prelude.{◌≡◌, ℕ, ◌+◌, ◌*◌, ◌<◌, ◌≤◌, List, slice_index, refl}
 use Rattle.at_ledger.specs.Book.{BookTerms}
 use Rattle.at_board.specs.declared.knowledge.Knowledge.{Knowledge}
 use Rattle.at_board.specs.Knowledge.Fresh.{IsFresh}
@@ -30,3 +30,7 @@ HasCollected b before after collects = (p : ℕ) → p < b.processes → (loads_
 -- the most steps of a snapshot of n processes
 abbrev pub snapshot_steps : ℕ → ℕ
 snapshot_steps n = n * n + 2 * n
+
+-- of three, as a number: whoever changes the bound changes this too
+pub snapshot_steps-3 : snapshot_steps 3 ≡ 15
+snapshot_steps-3 = refl

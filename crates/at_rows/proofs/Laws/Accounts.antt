@@ -1,6 +1,6 @@
 -- What a seat has on an account after steps there.
 use Rattle.std.proofs.Common.{◌≡◌, ℕ, ◌<◌, List, length, ap, ◌∙◌, arith}
-use Rattle.std.proofs.lemmas.List.{get_or-set_same, length-set, set-get_or, set-set}
+use Rattle.std.proofs.lemmas.List.{get_or-set_same, set-get_or, set-set}
 use Rattle.at_history.specs.declared.publication.Publication.{Publication}
 use Rattle.at_board.specs.Knowledge.Parts.{asking_on, no_asking, no_part, own_part, part_asking, with_asking, with_part}
 use Rattle.at_board.specs.Knowledge.Seats.{IsSeat}
@@ -20,12 +20,6 @@ own_part-with_asking v a w has = get_or-set_same v.parts 0 (part_asking (own_par
 pub asking_on-with_asking : (v : Knowledge) (a : ℕ) (w : Asking) → HasAccount v a → asking_on (own_part (with_asking v a w)) a ≡ w
 asking_on-with_asking v a w has =
     ap (λ (q : Part). asking_on q a) (own_part-with_asking v a w has) ∙ get_or-set_same (own_part v).asking a w no_asking has.inside
-
-pub HasAccount-with_asking : (v : Knowledge) (a : ℕ) (w : Asking) → HasAccount v a → HasAccount (with_asking v a w) a
-HasAccount-with_asking v a w has =
-    let parts = length-set v.parts 0 (part_asking (own_part v) a w) in
-    let accounts = ap (λ (q : Part). length q.asking) (own_part-with_asking v a w has) ∙ length-set (own_part v).asking a w in
-    record { part = omega (arith, parts, has.part); inside = omega (arith, accounts, has.inside) }
 
 -- what was there, set again
 pub with_asking-self : (v : Knowledge) (a : ℕ) → with_asking v a (asking_on (own_part v) a) ≡ v

@@ -11,7 +11,6 @@ use Rattle.at_history.specs.declared.publication.Publication.{Publication}
 use Rattle.at_history.specs.declared.request.Request.{Request}
 use Rattle.at_history.specs.declared.request.SeenRow.{SeenRow}
 use Rattle.at_board.specs.Knowledge.Parts.{SeesRequest, asking_on, own_part, seen_as, with_asking}
-use Rattle.at_board.specs.Knowledge.Seats.{BoardTerms, IsOf, SeatTerms}
 use Rattle.at_board.specs.Steps.LoadAnnounced.{LoadsAnnounced, all_of, with_row}
 use Rattle.at_board.specs.Steps.LoadRequestWord.{KnowsOf}
 use Rattle.at_board.specs.declared.knowledge.Asking.{Asking}
@@ -19,7 +18,7 @@ use Rattle.at_board.specs.declared.knowledge.Knowledge.{Knowledge}
 use Rattle.at_board.specs.declared.knowledge.LoadedWord.{LoadedWord}
 use Rattle.at_board.specs.declared.knowledge.SeenRequest.{SeenRequest}
 use Rattle.at_board.specs.declared.words.TheConstants.{REQUEST_WORDS}
-use Rattle.at_rows.proofs.Laws.Accounts.{HasAccount, HasAccount-with_asking, asking_on-with_asking, with_asking-again, with_asking-self}
+use Rattle.at_rows.proofs.Laws.Accounts.{HasAccount, asking_on-with_asking, with_asking-again, with_asking-self}
 use Rattle.at_rows.specs.Loads.{LoadsRequest, with_words, loaded_words}
 use Rattle.at_rows.specs.OpenRequests.{request_of, seen_of}
 use Rattle.at_rows.specs.Rows.{LoadsOnly, SeesAsked, LoadsRow, with_loads}
@@ -47,12 +46,6 @@ asking_on-LoadsOnly v u a rows words has told =
     ap (λ t. asking_on (own_part t) a) told.same
     ∙ asking_on-with_asking (record v { seen = u.seen; requests = u.requests }) a (with_loads (asking_on (own_part v) a) rows words)
     (record { part = has.part; inside = has.inside })
-
-pub HasAccount-LoadsOnly : (v u : Knowledge) (a : ℕ) (rows : List SeenRow) (words : List LoadedWord) → HasAccount v a → LoadsOnly v u a rows words → HasAccount u a
-HasAccount-LoadsOnly v u a rows words has told =
-    subst (λ t. HasAccount t a) (sym told.same)
-    (HasAccount-with_asking (record v { seen = u.seen; requests = u.requests }) a (with_loads (asking_on (own_part v) a) rows words)
-    (record { part = has.part; inside = has.inside }))
 
 pub LoadsOnly-trans : (v u w : Knowledge) (a : ℕ) (rows more_rows : List SeenRow) (words more_words : List LoadedWord) → HasAccount v a
     → LoadsOnly v u a rows words → LoadsOnly u w a more_rows more_words → LoadsOnly v w a (rows ++ more_rows) (words ++ more_words)
@@ -112,13 +105,6 @@ first-LoadsOnly v u a rows words told = ap (λ (t : Knowledge). t.first) told.sa
 pub announced-LoadsOnly : (v u : Knowledge) (a : ℕ) (rows : List SeenRow) (words : List LoadedWord) → HasAccount v a → LoadsOnly v u a rows words
     → (asking_on (own_part u) a).announced ≡ (asking_on (own_part v) a).announced
 announced-LoadsOnly v u a rows words has told = ap (λ (t : Asking). t.announced) (asking_on-LoadsOnly v u a rows words has told)
-
-pub IsOf-LoadsOnly : (b : BoardTerms) (before after : SeatTerms) (a : ℕ) (rows : List SeenRow) (words : List LoadedWord) → after.board ≡ before.board → IsOf before b
-    → LoadsOnly before.knows after.knows a rows words → IsOf after b
-IsOf-LoadsOnly b before after a rows words same is told = record {
-  id = same ∙ is.id;
-  book = ap (λ (t : Knowledge). t.book) told.same ∙ is.book;
-}
 
 -- a request of a row
 Contains-all_of : (a slot : ℕ) (row : List Request) (number : ℕ) → number < length row → Contains (all_of a slot row) (seen_as a slot number (request_at row number))

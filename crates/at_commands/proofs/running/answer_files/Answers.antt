@@ -1,4 +1,4 @@
-use Rattle.std.proofs.Common.{◌≡◌, ◌∙◌, ℕ, true, Ok, List, Option, inl, inr, string_bytes, length}
+use Rattle.std.proofs.Common.{◌≡◌, ◌∙◌, ℕ, true, Ok, List, Option, inl, inr, string_bytes, length, refl}
 use Rattle.std.specs.Result.{IfOk}
 use Rattle.std.proofs.lemmas.List.{length-map}
 use Rattle.at_object.specs.Closings.{ClosedTerms}
@@ -9,9 +9,9 @@ use Rattle.at_loading.specs.Words.{form_shown}
 use Rattle.at_loading.proofs.Laws.Exact.{MayRefuse-exact}
 use Rattle.at_loading.proofs.Laws.MayRefuse.{MayRefuse-loaded}
 use Rattle.at_loading.proofs.Laws.SpelledLoaded.{loaded-Spelled}
-use Rattle.at_commands.specs.Answer.{Prints, PrintsSpelled}
+use Rattle.at_commands.specs.Answer.{PrintsRead}
 use Rattle.at_commands.specs.declared.ending.Printed.{Printed}
-use Rattle.at_commands.proofs.Endings.{Ends-faults, Ends-kept, Ends-refusal, LeavesOf-Ends, Refuses-loading, Ends-printed, IfOk-kept, none-kept}
+use Rattle.at_commands.proofs.Endings.{Ends-faults, Ends-kept, Ends-refusal, LeavesOf-Ends, Refuses-loading, IfOk-kept, none-kept}
 use Rattle.at_commands.proofs.running.answer_files.Goals as goal
 
 abbrev text_of : Printed → List ℕ
@@ -29,19 +29,15 @@ returns-clause-answered g c =
     let ends = c.end_keeping.ensures.ends in
     let never = Refuses-loading payments tells (loaded files asked) before now in
     let kept = c.end_keeping.new.kept in
-    let spelled : tells ≡ true → IfOk made (λ p. PrintsSpelled files asked kept p.text.items) = λ told.
-    IfOk-kept (λ (k : Option ClosedTerms) (p : Printed). PrintsSpelled files asked k p.text.items) (λ p. p.closed) made kept c.end_keeping.ensures.kept (does.printed told) in
-    let prints : IfOk made (λ p. (l : Loaded) × Prints asked.command l kept p.text.items) =
-    IfOk-kept (λ (k : Option ClosedTerms) (p : Printed). (l : Loaded) × Prints asked.command l k p.text.items) (λ p. p.closed) made kept c.end_keeping.ensures.kept does.prints in
-    let left = LeavesOf-Ends text_of (λ text. PrintsSpelled files asked kept text) (λ refusal. MayRefuse tells (loaded files asked) before now refusal) (λ file. MayReach tells files asked file) (HasFileNumbers (length asked.payments)) tells made _ ends never tt tt spelled does.err does.reached
+    let printed : IfOk made (λ p. PrintsRead tells files asked kept p.text.items) =
+    IfOk-kept (λ (k : Option ClosedTerms) (p : Printed). PrintsRead tells files asked k p.text.items) (λ p. p.closed) made kept c.end_keeping.ensures.kept does.printed in
+    let left = LeavesOf-Ends text_of (λ text. PrintsRead tells files asked kept text) (λ refusal. MayRefuse tells (loaded files asked) before now refusal) (λ file. MayReach tells files asked file) (HasFileNumbers (length asked.payments)) true made _ ends never tt tt (λ _. printed) does.err does.reached
     (rw (length-map c.args.form.now.payments.now string_bytes) does.numbered) in
-    let loads : tells ≡ true → IsWritten c.end_keeping.result → (l : Loaded) × (loaded files asked ≡ Ok l) = λ told written. let spells = (left.printed told written).printed in (spells.what, spells.read) in
+    let loads : tells ≡ true → IsWritten c.end_keeping.result → (l : Loaded) × (loaded files asked ≡ Ok l) = λ told written. let ran = (left.printed refl written).printed in (ran.what, ran.read told) in
     record {
-      done = left.done;
-      prefix = left.prefix;
-      loads = loads;
-      ran_spelled = λ told written. let p = left.printed told written in (p.text, p.printed);
-      ran = λ written. let p = Ends-printed text_of (λ text. (l : Loaded) × Prints asked.command l kept text) _ made _ ends never does.err prints written in (p.printed.0, p.text, p.printed.1);
+      done = λ is. left.done is refl;
+      prefix = λ is. left.prefix is refl;
+      ran = λ written. let p = left.printed refl written in (p.text, p.printed);
       checks = λ is. none-kept _ (λ p. p.closed) made _ kept c.end_keeping.ensures.kept c.end_keeping.ensures.untouched c.requires (does.checks is);
       complete = λ what told spells shelf out. MayRefuse-loaded payments _ (loaded files asked) what _ _ _ _ _ told (loaded-Spelled files asked what spells) shelf out (λ is. (Ends-faults text_of _ made _ ends never does.err (inr is)).1.fault is) left.refusal;
       refusal = left.refusal;

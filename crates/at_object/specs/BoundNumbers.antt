@@ -1,16 +1,13 @@
--- The bounds on steps and exchanges of the object's calls as numbers, for three processes and an account of three owners. Whoever changes
--- a definition that a bound is made of has to change its number here.
-use Rattle.std.proofs.Common.{◌≡◌, ℕ, ◌+◌, ◌*◌, ◌≤◌, [], ◌∷◌, refl}
+-- What calls may take, as numbers: of three processes, account 0 has all as owners and account 1 has one. Whoever changes what bounds a
+-- call changes these too.
+use Rattle.std.specs.Prelude.{ℕ, ◌+◌, ◌*◌, ◌≤◌, [], ◌∷◌}
 use Rattle.at_ledger.specs.Book.{BookTerms}
 use Rattle.at_ledger.specs.declared.call.Call.TheVariants.{Read, Transfer}
 use Rattle.at_log.specs.declared.receipt.Receipt.{Receipt}
 use Rattle.at_object.specs.Calls.{StaysWithin}
 use Rattle.at_object.specs.Passes.{PassTerms, counted_anew}
-use Rattle.at_object.specs.Payments.{shared_steps, single_steps}
 use Rattle.at_shared.specs.Helpings.{decides_made}
-use Rattle.at_agree.specs.Voices.{propose_steps}
 
--- account 0 has three owners, and account 1 one
 abbrev pub three_processes : BookTerms
 three_processes = record {
   processes = 3;
@@ -19,14 +16,9 @@ three_processes = record {
   accounts = record { opening = 100; owners = 0 ∷ 1 ∷ 2 ∷ [] } ∷ record { opening = 100; owners = 0 ∷ [] } ∷ [];
 }
 
-pub single_steps-3 : single_steps 3 ≡ 26
-single_steps-3 = refl
-
-pub shared_steps-3 : shared_steps 3 3 ≡ 136
-shared_steps-3 = refl
-
-pub propose_steps-3 : propose_steps 3 ≡ 192
-propose_steps-3 = refl
+pub few-read : (before after : PassTerms) (account : ℕ) (r : Receipt) → StaysWithin three_processes before after (Read account) r
+    → after.steps ≤ before.steps + 15 + 7 * counted_anew before after
+few-read before after account r within = within.few
 
 pub few-alone : (before after : PassTerms) (to amount : ℕ) (r : Receipt)
     → StaysWithin three_processes before after (Transfer 1 to amount) r
@@ -37,10 +29,6 @@ pub few-shared : (before after : PassTerms) (to amount : ℕ) (r : Receipt)
     → StaysWithin three_processes before after (Transfer 0 to amount) r
     → after.steps ≤ before.steps + 136 + 7 * counted_anew before after
 few-shared before after to amount r within = within.few
-
-pub few-read : (before after : PassTerms) (account : ℕ) (r : Receipt) → StaysWithin three_processes before after (Read account) r
-    → after.steps ≤ before.steps + 15 + 7 * counted_anew before after
-few-read before after account r within = within.few
 
 pub few_decided-shared : (before after : PassTerms) (to amount : ℕ) (r : Receipt)
     → StaysWithin three_processes before after (Transfer 0 to amount) r → decides_made 0 before.knows after.knows ≤ 3
