@@ -7,11 +7,6 @@ use Rattle.at_fold.specs.Sums.{TotalSums}
 use Rattle.at_shared.specs.HelpingTerms.{HelpingTerms}
 use Rattle.at_shared.specs.Helpings.{HasAllSettled, IsHelping}
 
--- a seat of the board that holds no cell
-pub record HoldsNoCell (board : BoardTerms) (seat : SeatTerms) : Type 0 where
-  pub of_board : IsOf seat board
-  pub free : (own_part seat.knows).held ≡ None
-
 -- the seat of a process that may call, with its totals: it holds no cell
 pub record MayCall (board : BoardTerms) (seat : SeatTerms) (t : TotalSums) : Type 0 where
   pub of_board : IsOf seat board
