@@ -4,43 +4,7 @@
 #
 #   program.sh [PROGRAM]          the program is crates/at_program/out/at_program where none is named
 
-root=$(CDPATH='' cd -- "$(dirname -- "$0")/.." && pwd) || exit 2
-program=${1:-$root/crates/at_program/out/at_program}
-examples=$root/examples
-usual=$examples/usual
-work=$(mktemp -d) || exit 2
-trap 'rm -rf -- "$work"' EXIT
-cd -- "$work" || exit 2
-passed=0
-failed=0
-
-run() {
-    "$program" "$@" >out 2>err
-    status=$?
-}
-
-count() {
-    if [ "$1" = yes ]; then
-        passed=$((passed + 1))
-        echo "ok: $2"
-    else
-        failed=$((failed + 1))
-        echo "FAILED: $2: status $status, $(wc -c <out) bytes on the output, on the error output: $(cat err)"
-    fi
-}
-
-# All was done, and the output is that file.
-printed() {
-    [ "$status" -eq 0 ] && [ ! -s err ] && cmp -s "$2" out && good=yes || good=no
-    count "$good" "$1"
-}
-
-# It was refused with that status and line on the error output, and with nothing on the output.
-refused() {
-    printf '%s\n' "$3" >line
-    [ "$status" -eq "$2" ] && [ ! -s out ] && cmp -s line err && good=yes || good=no
-    count "$good" "$1"
-}
+. "$(dirname -- "$0")/cases.sh"
 
 run run "$usual/book.csv" "$usual/pay0.csv"
 printed 'the example usual' "$usual/usual.report"
@@ -471,5 +435,4 @@ run verify long.csv long.report long1.csv long2.csv long3.csv
 [ "$(wc -c <long.report)" -eq 8388608 ] || status=bytes
 printed 'a right report of the most bytes' verified
 
-echo "$passed passed, $failed failed"
-[ "$failed" -eq 0 ]
+told

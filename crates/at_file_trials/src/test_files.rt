@@ -1,11 +1,11 @@
-//! Books that are read, and texts that are long.
+//! Books that are read.
 
-ghost use Rattle.std.specs.Prelude.{IfOk, IfSome};
+ghost use Rattle.std.specs.Prelude.{IfSome};
 ghost use Rattle.at_files.specs.Names.{AreNamesOf};
 
-use at_files::{Names, ReadBookFault, read_book};
+use at_files::{Names, read_book};
 use at_ledger::Book;
-use std::alloc::{AllocError, Global};
+use std::alloc::Global;
 
 pub(crate) const ONE_PROCESS: &[u8] =
     b"book,1\nprocesses,1\nlimits,4,4\naccount,0,100,0\naccount,1,0,\n";
@@ -30,36 +30,12 @@ impl Drop for BookFile {
     }
 }
 
-/// The book of this text and its names, or why there is none. It says less than the reader, so that a proof above it is short.
-pub(crate) fn read_file(alloc: Global, text: &[u8]) -> Result<BookFile, ReadBookFault>
-    ensures names { IfOk result (λ file. AreNamesOf file.book file.names) }
-{
-    match read_book(alloc, text) {
-        Ok((book, names)) => Ok(BookFile { book, names }),
-        Err(fault) => Err(fault),
-    }
-}
-
 /// The book of this text and its names, if all is good.
 pub(crate) fn book_of(alloc: Global, text: &[u8]) -> Option<BookFile>
     ensures names { IfSome result (λ file. AreNamesOf file.book file.names) }
 {
-    read_file(alloc, text).ok()
-}
-
-/// So many records that are the same.
-pub(crate) fn repeated(alloc: Global, record: &[u8], count: u32) -> Result<Vec<u8>, AllocError> {
-    let mut text = Vec::new(alloc);
-    for _ in 0..count {
-        text.extend_from_slice(record)?;
-    }
-    Ok(text)
-}
-
-/// How many values were read, or why none.
-pub(crate) fn counted<T: Drop, E: Copy>(read: Result<Vec<T>, E>) -> Result<usize, E> {
-    match read {
-        Ok(values) => Ok(values.len()),
-        Err(fault) => Err(fault),
+    match read_book(alloc, text) {
+        Ok((book, names)) => Some(BookFile { book, names }),
+        Err(_) => None,
     }
 }
