@@ -1,0 +1,4 @@
+pub mod Reaching
+pub mod Hearing
+pub mod Walking
+pub mod Seen

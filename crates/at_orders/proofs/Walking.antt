@@ -1,0 +1,301 @@
+-- Stages that are seen, and the replies that are heard at them.
+use Rattle.std.proofs.Common.{◌≡◌, ℕ, ◌+◌, ◌<◌, ◌≤◌, ◌==◌, Bool, true, false, ◌⊎◌, ⊎_elim, inl, inr, List, [], ◌∷◌, ◌++◌, length, get_or, set, map, replicate, All, true≢false, Contains, Some, refl, sym, ap, subst, ◌∙◌, arith}
+use Rattle.std.specs.Prelude.{slice_get}
+use Rattle.std.proofs.lemmas.Bool.Decides.{Decides-eqb}
+use Rattle.std.specs.List.{IsDistinct}
+use Rattle.std.proofs.lemmas.Map.Keys.{apart_from_distinct}
+use Rattle.std.proofs.lemmas.List.{get_or-map, length-map, get_or_append_left, get_or-set_other, get_or-set_same, length-append, length-set, append_assoc, append-nil}
+use Rattle.std.proofs.Math.Seq.{get_or-append_seam}
+use Rattle.std.proofs.lemmas.List.Elements.{All-contains, All-map, All-weaker, Contains-append_left, Contains-push, Contains-push_cases}
+use Rattle.std.proofs.lemmas.Option.{get_or_from_slice_get, slice_get-get_or, slice_get_within}
+use Rattle.at_ledger.specs.Book.{BookTerms}
+use Rattle.at_ledger.specs.State.{LedgerState, opening_state, step}
+use Rattle.at_ledger.specs.declared.call.Call.{Call}
+use Rattle.at_ledger.specs.declared.call.Line.{Line}
+use Rattle.at_ledger.specs.declared.call.Reply.{Reply}
+use Rattle.at_verify.specs.Walk.{IsNextOfProcess, with_made}
+use Rattle.at_verify.proofs.Continuing.{none_made}
+use Rattle.at_orders.specs.Orders.{AreAnswers, Comes}
+use Rattle.at_orders.specs.Replies.{AreJust, no_replies, replies_with}
+use Rattle.at_orders.specs.Stages.{HasMoreStages, IsStage, StageTerms, first_stage, ledger_at, stage_after, stage_at}
+use Rattle.at_orders.specs.Walk.{AreAllHeard, AreAllStages, AreHeard, Grows, HasNext, HasStage, IsHeard, IsLookedAt, IsSeen, IsWalkedUpTo}
+use Rattle.at_orders.specs.declared.replies.Replies.{Replies}
+use Rattle.at_orders.specs.declared.stage.Stage.{Stage}
+use Rattle.at_orders.proofs.Reaching.{Leads, comes-next, leads-cons, leads-nil, order-next, stage-ext, stage-reached}
+use Rattle.at_orders.proofs.Hearing.{More, just-none, just-same, just-with}
+
+-- more stages are seen
+pub grows-refl : (xs : List Stage) → Grows xs xs
+grows-refl xs = record { more = []; is = sym (append-nil xs) }
+
+pub grows-trans : (xs ys zs : List Stage) → Grows xs ys → Grows ys zs → Grows xs zs
+grows-trans xs ys zs a b = record {
+  more = a.more ++ b.more;
+  is = b.is ∙ (ap (λ (ws : List Stage). ws ++ b.more) a.is ∙ append_assoc xs a.more b.more);
+}
+
+pub grows-length : (xs ys : List Stage) → Grows xs ys → length xs ≤ length ys
+grows-length xs ys grows = let same = ap (length {A = Stage}) grows.is in let size = length-append xs grows.more in omega arith
+
+has-grows : (b : BookTerms) (xs ys : List Stage) (t : StageTerms) → Grows xs ys → HasStage b xs t → HasStage b ys t
+has-grows b xs ys t grows has = record {
+  one = has.one;
+  there = subst (λ (ws : List Stage). Contains ws has.one) (sym grows.is) (Contains-append_left xs grows.more has.one has.there);
+  is = has.is;
+}
+
+-- a stage keeps its position
+get-grown : (xs ys : List Stage) (k : ℕ) (s : Stage) → Grows xs ys → k < length xs → slice_get ys k ≡ Some s → slice_get xs k ≡ Some s
+get-grown xs ys k s grows within is =
+    let same : get_or ys k s ≡ s = get_or_from_slice_get ys k s s is in
+    let moved : get_or ys k s ≡ get_or xs k s = ap (λ (ws : List Stage). get_or ws k s) grows.is ∙ get_or_append_left xs grows.more s k within in
+    slice_get-get_or xs k s within ∙ ap Some (sym moved ∙ same)
+
+pub get-grows : (xs ys : List Stage) (k : ℕ) (s : Stage) → Grows xs ys → slice_get xs k ≡ Some s → slice_get ys k ≡ Some s
+get-grows xs ys k s grows is =
+    let within = slice_get_within xs k s is in
+    let longer = grows-length xs ys grows in
+    let same : get_or xs k s ≡ s = get_or_from_slice_get xs k s s is in
+    let moved : get_or ys k s ≡ get_or xs k s = ap (λ (ws : List Stage). get_or ws k s) grows.is ∙ get_or_append_left xs grows.more s k within in
+    slice_get-get_or ys k s (omega arith) ∙ ap Some (moved ∙ same)
+
+pub next-grows : (b : BookTerms) (files : List (List Call)) (xs ys : List Stage) (s : Stage) (p : ℕ) → Grows xs ys → HasNext b files xs s p → HasNext b files ys s p
+next-grows b files xs ys s p grows next call is = has-grows b xs ys (stage_after (stage_at b s) p call) grows (next call is)
+
+pub looked-grows : (b : BookTerms) (files : List (List Call)) (xs ys : List Stage) (at processes : ℕ) → at < length xs → Grows xs ys
+    → IsLookedAt b files xs at processes → IsLookedAt b files ys at processes
+looked-grows b files xs ys at processes within grows looked s is p known =
+    next-grows b files xs ys s p grows (looked s (get-grown xs ys at s grows within is) p known)
+
+-- one more process
+pub looked-more : (b : BookTerms) (files : List (List Call)) (xs ys : List Stage) (at process : ℕ) → at < length xs → Grows xs ys
+    → IsLookedAt b files xs at process → ((s : Stage) → slice_get xs at ≡ Some s → HasNext b files ys s process) → IsLookedAt b files ys at (process + 1)
+looked-more b files xs ys at process within grows looked next s is p known =
+    let here = get-grown xs ys at s grows within is in
+    let cases : (p < process) ⊎ (p ≡ process) = grind arith in
+    ⊎_elim
+    (λ less. next-grows b files xs ys s p grows (looked s here p less))
+    (λ same. subst (λ (q : ℕ). HasNext b files ys s q) (sym same) (next s here))
+    cases
+
+-- one more stage
+pub walked-more : (b : BookTerms) (files : List (List Call)) (xs ys : List Stage) (at : ℕ) → at < length xs → Grows xs ys
+    → All (IsSeen b files) ys → IsWalkedUpTo b files xs at → IsLookedAt b files ys at b.processes → IsWalkedUpTo b files ys (at + 1)
+walked-more b files xs ys at within grows are walked looked = record {
+  are = are;
+  begun = has-grows b xs ys (first_stage b) grows walked.begun;
+  looked = λ k less.
+      let cases : (k < at) ⊎ (k ≡ at) = grind arith in
+      ⊎_elim
+      (λ before. looked-grows b files xs ys k b.processes (omega arith) grows (walked.looked k before))
+      (λ same. subst (λ (n : ℕ). IsLookedAt b files ys n b.processes) (sym same) looked)
+      cases;
+}
+
+-- where every stage that is seen is looked at, lines lead to stages that are seen
+closed : (b : BookTerms) (files : List (List Call)) (seen : List Stage) → length files ≡ b.processes → IsWalkedUpTo b files seen (length seen)
+    → (s : LedgerState) (made : List ℕ) (lines : List Line) (t : StageTerms) → HasStage b seen (record { made = made; ledger = s }) → Leads files s made lines t → HasStage b seen t
+closed b files seen count walked s made [] t has leads =
+    let same = leads-nil files s made t leads in
+    subst (HasStage b seen) (stage-ext (record { made = made; ledger = s }) t same.1 same.0) has
+closed b files seen count walked s made (l ∷ lines) t has leads =
+    let parts = leads-cons files s made l lines t leads in
+    let k : ℕ = has.there.0 in
+    let here : slice_get seen k ≡ Some has.one = slice_get-get_or seen k has.one has.there.1 ∙ ap Some has.there.2 in
+    let known : l.process < b.processes = let h = parts.0.process in omega arith in
+    let counts : has.one.made.items ≡ made = ap (λ (u : StageTerms). u.made) has.is in
+    let next : slice_get (get_or files l.process []) (get_or has.one.made.items l.process 0) ≡ Some l.call =
+    subst (λ (m : List ℕ). slice_get (get_or files l.process []) (get_or m l.process 0) ≡ Some l.call) (sym counts) parts.0.call in
+    let after = walked.looked k has.there.1 has.one here l.process known l.call next in
+    closed b files seen count walked (step s l.process l.call).ledger (with_made made l.process) lines t
+    (subst (λ (u : StageTerms). HasStage b seen (stage_after u l.process l.call)) has.is after) parts.1
+
+-- all stages are seen
+pub walked-all : (b : BookTerms) (files : List (List Call)) (seen : List Stage) → length files ≡ b.processes → IsWalkedUpTo b files seen (length seen) → AreAllStages b files seen
+walked-all b files seen count walked = record {
+  are = walked.are;
+  all = λ t stage.
+      let reached = stage-reached b files t stage in
+      let first : HasStage b seen (record { made = none_made files; ledger = opening_state b }) =
+      subst (λ (n : ℕ). HasStage b seen (record { made = replicate n 0; ledger = opening_state b })) (sym count) walked.begun in
+      closed b files seen count walked (opening_state b) (none_made files) reached.lines t first reached.leads;
+}
+
+-- what is heard at one more stage
+heard-old : (b : BookTerms) (file : List Call) (xs : List Stage) (s : Stage) (p i : ℕ) (y : Reply) → IsHeard b file xs p i y → IsHeard b file (xs ++ s ∷ []) p i y
+heard-old b file xs s p i y heard = record {
+  one = heard.one;
+  there = Contains-append_left xs (s ∷ []) heard.one heard.there;
+  before = heard.before;
+  call = heard.call;
+  next = heard.next;
+  answered = heard.answered;
+}
+
+heard-cases : (b : BookTerms) (file : List Call) (xs : List Stage) (s : Stage) (p i : ℕ) (y : Reply) → IsHeard b file (xs ++ s ∷ []) p i y
+    → IsHeard b file xs p i y ⊎ IsHeard b file (s ∷ []) p i y
+heard-cases b file xs s p i y heard =
+    ⊎_elim
+    (λ old. inl (record { one = heard.one; there = old; before = heard.before; call = heard.call; next = heard.next; answered = heard.answered }))
+    (λ same. inr (record {
+      one = s;
+      there = Contains-push [] s;
+      before = ap (λ (u : Stage). get_or u.made.items p 0) same ∙ heard.before;
+      call = heard.call;
+      next = heard.next;
+      answered = ap (λ (u : Stage). (step (ledger_at b u) p heard.call).reply) same ∙ heard.answered;
+    }))
+    (Contains-push_cases xs s heard.one heard.there)
+
+heard-only : (b : BookTerms) (file : List Call) (s : Stage) (p i : ℕ) (y : Reply) → IsHeard b file (s ∷ []) p i y
+    → (get_or s.made.items p 0 ≡ i) × ((call : Call) → slice_get file i ≡ Some call → y ≡ (step (ledger_at b s) p call).reply)
+heard-only b file s p i y heard =
+    let same : s ≡ heard.one = ⊎_elim (λ (old : Contains {X = Stage} [] heard.one). absurd (let w = old.1 in omega arith)) (λ e. e) (Contains-push_cases [] s heard.one heard.there) in (
+      ap (λ (u : Stage). get_or u.made.items p 0) same ∙ heard.before,
+      λ call is.
+          let calls : heard.call ≡ call = let next = heard.next in cc in
+          sym heard.answered ∙ (ap (λ (c : Call). (step (ledger_at b heard.one) p c).reply) calls ∙ ap (λ (u : Stage). (step (ledger_at b u) p call).reply) (sym same)),
+    )
+
+-- no stage
+pub heard-none : (b : BookTerms) (file : List Call) (p : ℕ) (replies : List Replies) → length replies ≡ length file
+    → ((i : ℕ) (r : Replies) → i < length file → get_or replies i r ≡ no_replies) → AreHeard b file [] p replies
+heard-none b file p replies size none = record {
+  calls = size;
+  each = λ i r within. subst (AreJust (IsHeard b file [] p i)) (sym (none i r within)) (just-none (IsHeard b file [] p i) (λ y heard. let w = heard.there.1 in absurd (omega arith)));
+}
+
+-- a stage before another call, or after the last one
+other-call : (b : BookTerms) (file : List Call) (xs : List Stage) (s : Stage) (p i : ℕ) (r : Replies) → (get_or s.made.items p 0 ≡ i → ⊥)
+    → AreJust (IsHeard b file xs p i) r → AreJust (IsHeard b file (xs ++ s ∷ []) p i) r
+other-call b file xs s p i r other just =
+    just-same (IsHeard b file xs p i) (IsHeard b file (xs ++ s ∷ []) p i) r (λ y heard. heard-old b file xs s p i y heard)
+    (λ y heard. ⊎_elim (λ old. old) (λ only. absurd (other (heard-only b file s p i y only).0)) (heard-cases b file xs s p i y heard)) just
+
+pub heard-skip : (b : BookTerms) (file : List Call) (xs : List Stage) (s : Stage) (p : ℕ) (replies : List Replies) → length file ≤ get_or s.made.items p 0
+    → AreHeard b file xs p replies → AreHeard b file (xs ++ s ∷ []) p replies
+heard-skip b file xs s p replies past heard = record {
+  calls = heard.calls;
+  each = λ i r within. other-call b file xs s p i (get_or replies i r) (λ same. omega arith) (heard.each i r within);
+}
+
+-- a stage before a call
+one-more : (b : BookTerms) (file : List Call) (xs : List Stage) (s : Stage) (p k : ℕ) (call : Call) → get_or s.made.items p 0 ≡ k → slice_get file k ≡ Some call
+    → More (IsHeard b file xs p k) (IsHeard b file (xs ++ s ∷ []) p k) (step (ledger_at b s) p call).reply
+one-more b file xs s p k call before next = record {
+  up = λ y heard. heard-old b file xs s p k y heard;
+  here = record { one = s; there = Contains-push xs s; before = before; call = call; next = next; answered = refl };
+  down = λ y heard. ⊎_elim (λ old. inl old) (λ only. inr ((heard-only b file s p k y only).1 call next)) (heard-cases b file xs s p k y heard);
+}
+
+pub heard-push : (b : BookTerms) (file : List Call) (xs : List Stage) (s : Stage) (p k : ℕ) (replies : List Replies) (call : Call) (r : Replies)
+    → get_or s.made.items p 0 ≡ k → slice_get file k ≡ Some call → AreHeard b file xs p replies
+    → AreHeard b file (xs ++ s ∷ []) p (set replies k (replies_with (get_or replies k r) (step (ledger_at b s) p call).reply))
+heard-push b file xs s p k replies call r before next heard = record {
+  calls = length-set replies k (replies_with (get_or replies k r) (step (ledger_at b s) p call).reply) ∙ heard.calls;
+  each = λ i d within. by i d within (k == i) refl;
+}
+  where
+    by : (i : ℕ) (d : Replies) → i < length file → (t : Bool) → (k == i) ≡ t
+        → AreJust (IsHeard b file (xs ++ s ∷ []) p i) (get_or (set replies k (replies_with (get_or replies k r) (step (ledger_at b s) p call).reply)) i d)
+    by i d within true is =
+        let same : k ≡ i = (Decides-eqb k i).0 is in
+        let size = heard.calls in
+        let inside : k < length replies = omega arith in
+        let x : Reply = (step (ledger_at b s) p call).reply in
+        let v : Replies = replies_with (get_or replies k r) x in
+        let read : get_or (set replies k v) i d ≡ v = ap (λ (n : ℕ). get_or (set replies k v) n d) (sym same) ∙ get_or-set_same replies k v d inside in
+        let just = just-with (IsHeard b file xs p k) (IsHeard b file (xs ++ s ∷ []) p k) (get_or replies k r) x (heard.each k r (omega arith)) (one-more b file xs s p k call before next) in
+        subst (AreJust (IsHeard b file (xs ++ s ∷ []) p i)) (sym read) (subst (λ (n : ℕ). AreJust (IsHeard b file (xs ++ s ∷ []) p n) v) same just)
+    by i d within false is =
+        let x : Reply = (step (ledger_at b s) p call).reply in
+        let v : Replies = replies_with (get_or replies k r) x in
+        let other : k ≡ i → ⊥ = λ same. let wrong = (Decides-eqb k i).1 same in cc in
+        let read : get_or (set replies k v) i d ≡ get_or replies i d = get_or-set_other replies k i v d (λ same. other (sym same)) in
+        subst (AreJust (IsHeard b file (xs ++ s ∷ []) p i)) (sym read)
+        (other-call b file xs s p i (get_or replies i d) (λ same. other (sym before ∙ same)) (heard.each i d within))
+
+-- what is heard at all stages is what comes
+heard-comes : (b : BookTerms) (files : List (List Call)) (seen : List Stage) (p i : ℕ) (y : Reply) → p < length files → AreAllStages b files seen
+    → IsHeard b (get_or files p []) seen p i y → Comes b files p i y
+heard-comes b files seen p i y known all heard =
+    let s : Stage = heard.one in
+    let is = (All-contains (IsSeen b files) seen s all.are heard.there).stage in
+    let l : Line = record { process = p; number = get_or s.made.items p 0 + 1; call = heard.call; reply = (step (ledger_at b s) p heard.call).reply } in
+    let next : IsNextOfProcess files (ledger_at b s) s.made.items l = record {
+      process = known;
+      number = refl;
+      call = subst (λ (n : ℕ). slice_get (get_or files p []) n ≡ Some heard.call) (sym heard.before) heard.next;
+      reply = refl;
+    } in
+    let comes = comes-next b files (stage_at b s) l is next in
+    subst (λ (z : Reply). Comes b files p i z) heard.answered (subst (λ (n : ℕ). Comes b files p n l.reply) heard.before comes)
+
+comes-heard : (b : BookTerms) (files : List (List Call)) (seen : List Stage) (p i : ℕ) (y : Reply) → AreAllStages b files seen
+    → Comes b files p i y → IsHeard b (get_or files p []) seen p i y
+comes-heard b files seen p i y all comes =
+    let l : Line = comes.line in
+    let at = order-next b files comes.lines l comes.order comes.stands in
+    let has = all.all at.stage at.is in
+    let counts : has.one.made.items ≡ at.stage.made = ap (λ (u : StageTerms). u.made) has.is in
+    let ledger : ledger_at b has.one ≡ at.stage.ledger = ap (λ (u : StageTerms). u.ledger) has.is in
+    let by = comes.made_by in
+    let number : get_or at.stage.made l.process 0 ≡ i = let a = at.next.number in let n = comes.number in omega arith in
+    let before : get_or has.one.made.items p 0 ≡ i = ap (λ (m : List ℕ). get_or m p 0) counts ∙ (ap (λ (q : ℕ). get_or at.stage.made q 0) (sym by) ∙ number) in
+    let next : slice_get (get_or files p []) i ≡ Some l.call =
+    subst (λ (q : ℕ). slice_get (get_or files q []) i ≡ Some l.call) by (subst (λ (n : ℕ). slice_get (get_or files l.process []) n ≡ Some l.call) number at.next.call) in
+    record {
+      one = has.one;
+      there = has.there;
+      before = before;
+      call = l.call;
+      next = next;
+      answered =
+          ap (λ (u : LedgerState). (step u p l.call).reply) ledger
+          ∙ (ap (λ (q : ℕ). (step at.stage.ledger q l.call).reply) (sym by) ∙ (sym at.next.reply ∙ comes.answered));
+    }
+
+-- the replies of one more file
+pub all-heard-more : (b : BookTerms) (files : List (List Call)) (stages : List Stage) (answers : List (List Replies)) (p : ℕ) (replies : List Replies)
+    → AreAllHeard b files stages answers p → AreHeard b (get_or files p []) stages p replies → AreAllHeard b files stages (answers ++ replies ∷ []) (p + 1)
+all-heard-more b files stages answers p replies all heard =
+    let count = all.processes in
+    record {
+      processes = let size = length-append answers (replies ∷ []) in omega arith;
+      each = λ q less.
+          let cases : (q < p) ⊎ (p ≡ q) = grind arith in
+          ⊎_elim
+          (λ before. subst (AreHeard b (get_or files q []) stages q) (sym (get_or_append_left answers (replies ∷ []) [] q (omega arith))) (all.each q before))
+          (λ same.
+          let read : get_or (answers ++ replies ∷ []) q [] ≡ replies = ap (λ (n : ℕ). get_or (answers ++ replies ∷ []) n []) (sym (count ∙ same)) ∙ get_or-append_seam answers replies [] [] in
+          subst (AreHeard b (get_or files q []) stages q) (sym read) (subst (λ (n : ℕ). AreHeard b (get_or files n []) stages n replies) same heard))
+          cases;
+    }
+
+-- the answers
+pub answers : (b : BookTerms) (files : List (List Call)) (seen : List Stage) (replies : List (List Replies)) → AreAllStages b files seen
+    → AreAllHeard b files seen replies (length files) → AreAnswers b files replies
+answers b files seen replies all heard = record {
+  processes = heard.processes;
+  calls = λ p known. (heard.each p known).calls;
+  replies = λ p i r known within.
+      just-same (IsHeard b (get_or files p []) seen p i) (Comes b files p i) (get_or (get_or replies p []) i r)
+      (λ y h. heard-comes b files seen p i y known all h) (λ y h. comes-heard b files seen p i y all h)
+      ((heard.each p known).each i r within);
+}
+
+-- stages that are told apart, more than so many
+pub more-stages : (b : BookTerms) (files : List (List Call)) (seen : List Stage) (d : Stage) (eq : Stage → Stage → Bool) (most : ℕ)
+    → ((x y : Stage) → stage_at b x ≡ stage_at b y → eq x y ≡ true) → IsDistinct eq seen → All (IsSeen b files) seen → most < length seen → HasMoreStages b files most
+more-stages b files seen d eq most same distinct are more = record {
+  stages = map (stage_at b) seen;
+  are = All-map (IsStage b files) (stage_at b) seen (All-weaker (IsSeen b files) (λ s. IsStage b files (stage_at b s)) (λ s is. is.stage) seen are);
+  apart = λ i j t less within equal.
+      let size = length-map seen (stage_at b) in
+      let known : j < length seen = omega arith in
+      let here : get_or (map (stage_at b) seen) i t ≡ stage_at b (get_or seen i d) = get_or-map (stage_at b) seen i d t (omega arith) in
+      let there : get_or (map (stage_at b) seen) j t ≡ stage_at b (get_or seen j d) = get_or-map (stage_at b) seen j d t known in
+      let differ = apart_from_distinct eq seen i j d distinct less known in
+      true≢false (sym (same (get_or seen i d) (get_or seen j d) (sym here ∙ (equal ∙ there))) ∙ differ);
+  more = let size = length-map seen (stage_at b) in omega arith;
+}

@@ -1,0 +1,14 @@
+use Rattle.std.proofs.Common.{◌≡◌, ◌⊎◌, Contains, [], List, subst, ◌∙◌}
+use Rattle.at_files.specs.Files.{contents_of}
+use Rattle.at_files.proofs.FileLists.{length-contents_of}
+use Rattle.at_orders.specs.declared.stage.Stage.{Stage}
+use Rattle.at_orders.proofs.Seen.{walked-first}
+use Rattle.at_orders.proofs.walk.begin.Goals as goal
+
+pub returns-clause-walked : goal.returns-clause-walked
+returns-clause-walked c =
+    let s : Stage = c.in_ok-first.field-0 in
+    let only : (x : Stage) → Contains c.add.new.seen.keys x → Contains [] x ⊎ (x ≡ s) =
+    λ x there. subst (λ (ks : List Stage). Contains ks x ⊎ (x ≡ s)) c.new-seen.ensures.empty (c.in_ok-add.ensures.only x there) in
+    walked-first c.args.book.now (contents_of c.args.files.now) c.add.new.seen.keys s (length-contents_of c.args.files.now ∙ c.requires)
+    c.in_ok-first.ensures.stage c.in_ok-first.ensures.ledger only (c.in_ok-add.ensures.has c.args.book.now)

@@ -1,0 +1,4 @@
+pub mod Replies
+pub mod Orders
+pub mod Stages
+pub mod Walk

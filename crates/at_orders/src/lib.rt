@@ -1,0 +1,16 @@
+//! Which replies depend on the order in which the processes' calls come: for each call of the files, the replies that
+//! some order of all their calls gives it.
+//!
+//! No order is tried by itself. `orders` walks the stages that the orders go through, each of them once.
+#![tactic(auto)]
+
+mod answers;
+mod error;
+mod replies;
+mod stage;
+mod walk;
+
+pub use crate::answers::orders;
+pub use crate::error::OrdersError;
+pub use crate::replies::{Range, Replies};
+pub use crate::walk::STAGES_MAX;
