@@ -160,14 +160,5 @@ fn refusal(board: &Board, seat: &BoardSeat, rest: &Rest, source: u32) -> Option<
     requires source { source < length board.now.book.accounts }
     ensures { result ≡ refusal_of board.now.book (pass_of seat.now rest.now) source }
 {
-    let book = board.book();
-    if book.slot_of(source, seat.process()).is_none() {
-        return Some(Reply::NotOwner);
-    }
-    let used_up = if book.owner_count(source) == 1 {
-        rest.sent == book.own_room()
-    } else {
-        seat.announced(source) == book.request_room()
-    };
-    if used_up { Some(Reply::Full) } else { None }
+    at_object::refusal(board, seat, rest.sent, source)
 }

@@ -10,7 +10,7 @@ ghost use Rattle.at_log.specs.declared.receipt.At.{At};
 ghost use Rattle.at_log.specs.declared.receipt.Receipt.{Receipt};
 ghost use Rattle.at_object.specs.Parted.{IsOfOnePass, pass_of};
 ghost use Rattle.at_object.specs.Passes.{Stands};
-ghost use Rattle.at_object.specs.Payments.{IsRefused, sent_after};
+ghost use Rattle.at_object.specs.Payments.{IsRefused};
 ghost use Rattle.at_calling.specs.KeptCalling.{TakesCallTurn};
 ghost use Rattle.at_calling.specs.PayingAlone.{PayingAloneTerms};
 ghost use Rattle.at_calling.specs.PayingShared.{PayingSharedTerms};
@@ -22,7 +22,7 @@ use crate::call_stage::CallStage;
 use at_board::{Board, BoardSeat};
 use at_ledger::{Call, Reply};
 use at_log::{At, Receipt};
-use at_object::Rest;
+use at_object::{Rest, sent_after};
 use std::marker::Model;
 use std::snapshot::Snapshot;
 
@@ -265,16 +265,5 @@ fn receipt_of(call: &Call, answer: (Reply, At)) -> Receipt
         call: call.copy(),
         reply,
         at,
-    }
-}
-
-/// How many payments from single accounts have succeeded after one more.
-fn sent_after(sent: u32, reply: &Reply) -> u32
-    requires { sent < 4096 }
-    ensures { result ≡ sent_after sent reply.now }
-{
-    match reply {
-        Reply::Done => sent + 1,
-        _ => sent,
     }
 }

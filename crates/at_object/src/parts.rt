@@ -1,12 +1,16 @@
-//! Passes taken apart, for whoever makes their calls step by step.
+//! Passes taken apart, for whoever makes their calls step by step, and what both ways to make a call do with the parts.
 
-ghost use Rattle.std.specs.Prelude.{◌≡◌};
+ghost use Rattle.std.specs.Prelude.{◌≡◌, ◌<◌, length};
+ghost use Rattle.at_board.specs.Knowledge.Seats.{IsOf};
+ghost use Rattle.at_history.specs.Rounds.{owns_of};
 ghost use Rattle.at_object.specs.Parted.{IsOfOnePass, pass_of};
-ghost use Rattle.at_object.specs.Passes.{one_more_call};
+ghost use Rattle.at_object.specs.Passes.{PassTerms, one_more_call};
+ghost use Rattle.at_object.specs.Payments.{refusal_of, sent_after};
 
 use crate::pass::Pass;
-use at_board::BoardSeat;
+use at_board::{Board, BoardSeat};
 use at_fold::Totals;
+use at_ledger::Reply;
 use std::marker::Model;
 use std::snapshot::Snapshot;
 
@@ -90,5 +94,38 @@ impl Pass {
             sent,
             calls: calls.count,
         }
+    }
+}
+
+/// Why the seat's process can't pay from the account, whatever the balance, where so many payments from single accounts have
+/// succeeded for it. It makes no step.
+pub fn refusal(board: &Board, seat: &BoardSeat, sent: u32, source: u32) -> Option<Reply>
+    requires board { IsOf seat.now board.now }
+    requires sent { sent ≡ owns_of seat.now.knows.first seat.now.knows.seen }
+    requires source { source < length board.now.book.accounts }
+    ensures { (pass : PassTerms) → pass.knows ≡ seat.now.knows
+        → result ≡ refusal_of board.now.book pass source }
+{
+    seat.known();
+    let book = board.book();
+    if book.slot_of(source, seat.process()).is_none() {
+        return Some(Reply::NotOwner);
+    }
+    let used_up = if book.owner_count(source) == 1 {
+        sent == book.own_room()
+    } else {
+        seat.announced(source) == book.request_room()
+    };
+    if used_up { Some(Reply::Full) } else { None }
+}
+
+/// How many payments from single accounts have succeeded after one more.
+pub fn sent_after(sent: u32, reply: &Reply) -> u32
+    requires { sent < 4096 }
+    ensures { result ≡ sent_after sent reply.now }
+{
+    match reply {
+        Reply::Done => sent + 1,
+        _ => sent,
     }
 }

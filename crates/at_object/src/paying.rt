@@ -10,12 +10,13 @@ ghost use Rattle.at_ledger.specs.Call.{AreTargetsOn};
 ghost use Rattle.at_log.specs.declared.receipt.At.{At};
 ghost use Rattle.at_object.specs.Calls.{PaymentMade};
 ghost use Rattle.at_object.specs.Passes.{IsPassOf, counted_anew, one_more_call};
-ghost use Rattle.at_object.specs.Payments.{has_used_up, payment_steps, refusal_of, sent_after, shared_steps, single_steps};
+ghost use Rattle.at_object.specs.Payments.{has_used_up, payment_steps, refusal_of, shared_steps, single_steps};
 ghost use Rattle.at_shared.specs.Helpings.{decides_made, decides_on};
 ghost use Rattle.at_shared.specs.Settling.{OnReceipts};
 ghost use Rattle.at_single.specs.Standing.{IsOnlyOwner};
 
 use crate::ledger::Ledger;
+use crate::parts::{refusal, sent_after};
 use crate::pass::Pass;
 use at_ledger::{Reply, Targets};
 use at_log::At;
@@ -60,16 +61,7 @@ impl Ledger {
         requires source { source < length self.now.book.accounts }
         ensures { result ≡ refusal_of self.now.book pass.now source }
     {
-        let book = self.book();
-        if book.slot_of(source, pass.process()).is_none() {
-            return Some(Reply::NotOwner);
-        }
-        let used_up = if book.owner_count(source) == 1 {
-            pass.sent() == book.own_room()
-        } else {
-            pass.asked(source) == book.request_room()
-        };
-        if used_up { Some(Reply::Full) } else { None }
+        refusal(&self.board, &pass.seat, pass.sent, source)
     }
 
     /// A payment from an account of one owner.
@@ -148,15 +140,4 @@ fn refuse(pass: &mut Pass, reply: Reply) -> (Reply, At)
 {
     pass.calls = pass.calls.saturating_add(1);
     (reply, At::Previous)
-}
-
-/// How many payments from single accounts have succeeded after one more.
-fn sent_after(sent: u32, reply: &Reply) -> u32
-    requires { sent < 4096 }
-    ensures { result ≡ sent_after sent reply.now }
-{
-    match reply {
-        Reply::Done => sent + 1,
-        _ => sent,
-    }
 }
