@@ -10,18 +10,18 @@ use crate::callers::{TwoTotals, pays, reads, two_totals};
 use at_board::{Board, BoardSeat};
 use at_fold::Totals;
 use at_ledger::Reply;
-use at_log::{At, Receipt};
+use at_log::At;
 use at_players::boards::{Account, Pair, new_pair};
 use std::alloc::Global;
 
 /// Account 1 of process 0 and account 2 of process 1.
 const ACCOUNTS: &[Account] = &[(0, &[]), (10, &[0]), (10, &[1])];
 
-/// Whether a receipt stands at its process's first record, done, or where it wasn't covered at a front, short.
-fn is_answered(receipt: &Receipt, covered: bool) -> bool {
-    match &receipt.at {
-        At::Own(0) => covered && receipt.reply == Reply::Done,
-        At::Front(_) => !covered && receipt.reply == Reply::Short,
+/// Whether a payment stands at its process's first record, done, or where it wasn't covered at a front, short.
+fn is_answered(answer: &(Reply, At), covered: bool) -> bool {
+    match &answer.1 {
+        At::Own(0) => covered && answer.0 == Reply::Done,
+        At::Front(_) => !covered && answer.0 == Reply::Short,
         _ => false,
     }
 }
@@ -38,7 +38,7 @@ fn is_paid(
 {
     let (amount, covered, turns) = payment;
     match pays(board, seat, totals, amount) {
-        Some((receipt, taken)) => taken == turns && is_answered(&receipt, covered),
+        Some((answer, taken)) => taken == turns && is_answered(&answer, covered),
         None => false,
     }
 }

@@ -9,8 +9,8 @@ use crate::movers::has_own_account;
 use at_board::{Board, BoardSeat};
 use at_calling::{PayingAlone, Reading};
 use at_fold::Totals;
-use at_ledger::{Call, Targets};
-use at_log::Receipt;
+use at_ledger::{Reply, Targets};
+use at_log::{At, Receipt};
 use std::alloc::Global;
 
 /// Totals of two processes. What holds them has a call where it drops them, and not the drop of each field.
@@ -45,13 +45,13 @@ pub(crate) fn two_totals(alloc: Global, board: &Board) -> Option<TwoTotals>
     Some(TwoTotals { zero, one })
 }
 
-/// The receipt of a payment to account 0 from the process's own account, where there is room, and how many turns it took.
+/// What a payment to account 0 from the process's own account answers, where there is room, and how many turns it took.
 pub(crate) fn pays(
     board: &Board,
     seat: &mut BoardSeat,
     totals: &mut Totals,
     amount: u64,
-) -> Option<(Receipt, u32)>
+) -> Option<((Reply, At), u32)>
     requires board { IsOf seat.old board.now }
     requires totals { HasCounted totals.old board.now.book seat.old.knows.seen }
 {
@@ -62,29 +62,24 @@ pub(crate) fn pays(
         return None;
     }
     let from = process + 1;
-    let call = Call::Transfer {
-        from,
-        to: 0,
-        amount,
-    };
     let targets = Targets::one(0, amount);
-    let mut paying = PayingAlone::start(board, seat, totals, call, from, targets);
+    let mut paying = PayingAlone::start(board, seat, totals, from, targets);
     Some(ends_paying(&mut paying, board, seat, totals))
 }
 
-/// The receipt of a payment that isn't ended, and in how many more turns it ends.
+/// What a payment that isn't ended answers, and in how many more turns it ends.
 fn ends_paying(
     paying: &mut PayingAlone,
     board: &Board,
     seat: &mut BoardSeat,
     totals: &mut Totals,
-) -> (Receipt, u32)
+) -> ((Reply, At), u32)
     requires { IsPaying board.now seat.old totals.old paying.old }
 {
     let mut turns: u32 = 1;
     loop {
         match paying.turn(board, seat, totals) {
-            Some(receipt) => return (receipt, turns),
+            Some(answer) => return (answer, turns),
             None => turns = turns.saturating_add(1),
         }
     }

@@ -13,7 +13,7 @@ use at_board::{Board, BoardSeat};
 use at_calling::PayingShared;
 use at_fold::Totals;
 use at_ledger::Reply;
-use at_log::{At, Receipt};
+use at_log::At;
 use at_players::boards::{Account, Pair, new_pair};
 use std::alloc::Global;
 
@@ -53,12 +53,10 @@ const SETTLED_BY_ANOTHER: &Payment = &Payment {
     turns: 61,
 };
 
-/// Whether a receipt has this reply and stands in this round.
-fn is_in_round(receipt: &Receipt, reply: Reply, number: u32) -> bool {
-    match &receipt.at {
-        At::Round { round, place } => {
-            receipt.reply == reply && *round == number && *place == number
-        }
+/// Whether a payment has this reply and stands in this round.
+fn is_in_round(answer: &(Reply, At), reply: Reply, number: u32) -> bool {
+    match &answer.1 {
+        At::Round { round, place } => { answer.0 == reply && *round == number && *place == number }
         _ => false,
     }
 }
@@ -71,8 +69,8 @@ fn is_shared(board: &Board, seat: &mut BoardSeat, totals: &mut Totals, payment: 
 {
     match begins(board, seat, totals, payment.amount) {
         Some(mut sharing) => {
-            let (receipt, turns) = ends_sharing(&mut sharing.paying, board, seat, totals);
-            turns == payment.turns && is_in_round(&receipt, payment.reply, payment.round)
+            let (answer, turns) = ends_sharing(&mut sharing.paying, board, seat, totals);
+            turns == payment.turns && is_in_round(&answer, payment.reply, payment.round)
         }
         None => false,
     }
@@ -133,8 +131,8 @@ fn waits_for_another(
         return false;
     }
     let paid = is_shared(board, &mut pair.one, &mut totals.one, payment);
-    let (receipt, turns) = ends_sharing(paying, board, &mut pair.zero, &mut totals.zero);
-    paid && turns == 18 && is_in_round(&receipt, Reply::Done, 0)
+    let (answer, turns) = ends_sharing(paying, board, &mut pair.zero, &mut totals.zero);
+    paid && turns == 18 && is_in_round(&answer, Reply::Done, 0)
 }
 
 /// Whether process 0 asks, process 1 pays so meanwhile, and then process 0 goes on; and how many steps each has made then.

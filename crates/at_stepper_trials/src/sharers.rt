@@ -11,8 +11,8 @@ ghost use Rattle.at_stepper_trials.specs.Machines.{IsSharing};
 use at_board::{Board, BoardSeat};
 use at_calling::PayingShared;
 use at_fold::Totals;
-use at_ledger::Call;
-use at_log::Receipt;
+use at_ledger::{Reply, Targets};
+use at_log::At;
 use at_players::boards::slot_on;
 
 /// Whether the seat's process shares account 0 and has asked for nothing there.
@@ -56,13 +56,9 @@ pub(crate) fn begins(
     if !may_ask_first(board, seat) {
         return None;
     }
-    let call = Call::Transfer {
-        from: 0,
-        to: 1,
-        amount,
-    };
+    let targets = Targets::one(1, amount);
     Some(Sharing {
-        paying: PayingShared::start(board, seat, totals, 0, call),
+        paying: PayingShared::start(board, seat, totals, 0, targets),
     })
 }
 
@@ -85,19 +81,19 @@ pub(crate) fn goes_on_sharing(
     true
 }
 
-/// The receipt of a payment that isn't ended, and in how many more turns it ends.
+/// What a payment that isn't ended answers, and in how many more turns it ends.
 pub(crate) fn ends_sharing(
     paying: &mut PayingShared,
     board: &Board,
     seat: &mut BoardSeat,
     totals: &mut Totals,
-) -> (Receipt, u32)
+) -> ((Reply, At), u32)
     requires { IsSharing board.now seat.old totals.old paying.old }
 {
     let mut turns: u32 = 1;
     loop {
         match paying.turn(board, seat, totals) {
-            Some(receipt) => return (receipt, turns),
+            Some(answer) => return (answer, turns),
             None => turns = turns.saturating_add(1),
         }
     }
