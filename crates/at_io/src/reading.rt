@@ -56,11 +56,13 @@ pub fn fetch<F: Shelf>(shelf: &mut F, name: &str, out: &mut Vec<u8>) -> Result<(
     if shelf.choose(name).is_err() {
         return Err(FetchError::Failed);
     }
-    let read = read_whole(shelf, out);
-    if read.is_err() {
-        out.clear();
+    match read_whole(shelf, out) {
+        Ok(()) => Ok(()),
+        Err(error) => {
+            out.clear();
+            Err(error)
+        }
     }
-    read
 }
 
 /// Reads the chosen file to its end, up to one byte past `FILE_MAX`, and adds its bytes to `out`.
@@ -85,7 +87,8 @@ fn read_whole<F: Shelf>(shelf: &mut F, out: &mut Vec<u8>) -> Result<(), FetchErr
             Ok(count) => count,
             Err(error) => return Err(error),
         };
-        if count == 0 {
+        let ended = count == 0;
+        if ended {
             return Ok(());
         }
     }

@@ -2,6 +2,7 @@
 use Rattle.std.proofs.Common.{◌≡◌, ◌==◌, cond, inl, inr, ℕ, suc, ◌+◌, ◌<◌, ◌≤◌, ◌⊎◌, ⊎_elim, List, [], ◌∷◌, ◌++◌, length, take, drop, get_or, map, sum, sum_by, Some, decimal, refl, sym, ap, subst, ◌∙◌, arith, append_assoc, zero-add}
 use Rattle.std.specs.Prelude.{slice_get}
 use Rattle.std.specs.List.{join_with_byte}
+use Rattle.std.proofs.lemmas.Bool.{cases_lt}
 use Rattle.std.proofs.lemmas.Grind.{flat_map-append}
 use Rattle.std.proofs.lemmas.List.{append_cancel_left, get_or_append_left, length-append, length-drop, length-take-le, take-append-drop, take-append-le, take_all, drop_all}
 use Rattle.std.proofs.lemmas.List.Sums.{sum_by-append}
@@ -16,7 +17,7 @@ use Rattle.at_files.specs.Names.{NameList, process_name}
 use Rattle.at_report.specs.Lines.{IsFirstWord, IsWord, call_words, journal_words, line_text, lines_text, reply_word}
 use Rattle.at_report.specs.Report.{audit_lines, heading_words, report_text}
 use Rattle.at_verify.specs.Right.{IsReport, IsFirstWrong, first_lines, newlines}
-use Rattle.at_verify.specs.Walk.{ArePartedAt, AreWithinFiles, IsNextOfProcess, PartsAt, with_made}
+use Rattle.at_verify.specs.Walk.{ArePartedAt, AreWithinFiles, DifferAt, IsNextOfProcess, PartsAt, with_made}
 use Rattle.at_verify.proofs.Continuing.{AreWithinFiles-none, Continues, completes, continues-cons, continues-from_cons, continues-from_nil, continues-whole, length-continues, none_made, sum-none, whole-continues}
 use Rattle.at_verify.proofs.FirstLines.{first_byte, first_lines-after, first_lines-fewer, first_lines-within, first_word}
 use Rattle.at_verify.proofs.Made.{AreWithinFiles-next, all_made}
@@ -109,6 +110,14 @@ record GoesOn (c rest : List ℕ) (n : ℕ) (other : List ℕ) : Type 0 where
 
 goes_on-parted : (c rest after other : List ℕ) (n : ℕ) → other ≡ c ++ after → ArePartedAt rest after n → (n < length rest) ⊎ (n < length after) → GoesOn c rest n other
 goes_on-parted c rest after other n is are some = record { after = after; is = is; same = sym are.same; differ = parted rest after n are some }
+
+-- where texts differ, one of them goes on
+in_one : (x y : List ℕ) (n : ℕ) → DifferAt x y n → (n < length x) ⊎ (n < length y)
+in_one x y n differ =
+    elim (cases_lt n (length x)) as (λ _. (n < length x) ⊎ (n < length y)) [
+      | inl below ↦ inl below
+      | inr past ↦ inr (let more = differ.more in omega arith)
+    ]
 
 -- bytes, some more, and then the others
 after_more : (c rest after other : List ℕ) (n : ℕ) → other ≡ c ++ after → take n after ≡ take n rest → other ≡ (c ++ take n rest) ++ drop n after
@@ -389,25 +398,24 @@ audit_only names files s made c other audit are all audit_is (l ∷ more) contin
 
 pub audit-parts : (b : BookTerms) (names : NameList) (files : List (List Call)) (text audit : List ℕ) (at n : ℕ) (s : LedgerState) (made : List ℕ)
     → IsWalked b names files text at s made → sum made ≡ sum_by (length {A = Call}) files → audit ≡ lines_text (audit_lines names s)
-    → ArePartedAt (drop at text) audit n → (n < length (drop at text)) ⊎ (n < length audit) → PartsAt b names files text (at + n)
-audit-parts b names files text audit at n s made walked all audit_is are some =
+    → DifferAt (drop at text) audit n → PartsAt b names files text (at + n)
+audit-parts b names files text audit at n s made walked all audit_is differ =
     let continues = continues-from_nil files s made (all_made files made walked.are all) in
     let report : List ℕ = take at text ++ tail_text names s [] in
-    parts b names files text at n walked.within are.left report (walked.reports [] continues)
+    parts b names files text at n walked.within differ.parted.left report (walked.reports [] continues)
     (goes report (audit_only names files s made (take at text) report audit walked.are all audit_is [] continues refl))
     (λ other is same.
     let tail = walked.only other is same in
     goes other (audit_only names files s made (take at text) other audit walked.are all audit_is tail.more tail.continues tail.is))
   where
     goes : (other : List ℕ) → other ≡ take at text ++ audit → GoesOn (take at text) (drop at text) n other
-    goes other is = goes_on-parted (take at text) (drop at text) audit other n is are some
+    goes other is = goes_on-parted (take at text) (drop at text) audit other n is differ.parted (in_one (drop at text) audit n differ)
 
-pub audit-whole : (b : BookTerms) (names : NameList) (files : List (List Call)) (text audit : List ℕ) (at n : ℕ) (s : LedgerState) (made : List ℕ)
+pub audit-whole : (b : BookTerms) (names : NameList) (files : List (List Call)) (text audit : List ℕ) (at : ℕ) (s : LedgerState) (made : List ℕ)
     → IsWalked b names files text at s made → sum made ≡ sum_by (length {A = Call}) files → audit ≡ lines_text (audit_lines names s)
-    → ArePartedAt (drop at text) audit n → length (drop at text) ≤ n → length audit ≤ n → IsReport b names files text
-audit-whole b names files text audit at n s made walked all audit_is are ends ends_audit =
+    → drop at text ≡ audit → IsReport b names files text
+audit-whole b names files text audit at s made walked all audit_is same =
     let continues = continues-from_nil files s made (all_made files made walked.are all) in
-    let same : drop at text ≡ audit = sym (take_all n (drop at text) ends) ∙ are.same ∙ take_all n audit ends_audit in
     let whole : take at text ++ tail_text names s [] ≡ text =
     ap (λ (t : List ℕ). take at text ++ t) (tail-nil names s ∙ sym audit_is ∙ sym same) ∙ take-append-drop at text in
     subst (IsReport b names files) whole (walked.reports [] continues)

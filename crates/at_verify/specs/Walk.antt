@@ -1,5 +1,5 @@
 -- The walk over a text: which line of the journal can come next, and where no report goes on as the text does.
-use Rattle.std.specs.Prelude.{◌≡◌, ℕ, ◌+◌, ◌<◌, ◌≤◌, ◌≢◌, List, [], length, take, Some, slice_get, slice_index, slice_index_or, slice_set}
+use Rattle.std.specs.Prelude.{◌≡◌, ℕ, ◌+◌, ◌<◌, ◌≤◌, ◌≢◌, List, [], length, max, take, Some, slice_get, slice_index, slice_index_or, slice_set}
 use Rattle.at_ledger.specs.Book.{BookTerms}
 use Rattle.at_ledger.specs.State.{LedgerState, step}
 use Rattle.at_ledger.specs.declared.call.Call.{Call}
@@ -29,6 +29,11 @@ pub record ArePartedAt (x y : List ℕ) (n : ℕ) : Type 0 where
   pub right : n ≤ length y
   pub same : take n x ≡ take n y
   pub part : n < length x → n < length y → slice_index x n ≢ slice_index y n
+
+-- the two texts have the first bytes in common, and there they part or the shorter one ends
+pub record DifferAt (x y : List ℕ) (n : ℕ) : Type 0 where
+  pub parted : ArePartedAt x y n
+  pub more : n < max (length x) (length y)
 
 -- some report has the text's first bytes, and each report differs from the text in the line after them
 pub record PartsAt (b : BookTerms) (names : NameList) (files : List (List Call)) (text : List ℕ) (n : ℕ) : Type 0 where

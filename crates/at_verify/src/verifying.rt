@@ -1,13 +1,14 @@
 //! Whether a text is the report of a run.
 
-ghost use Rattle.std.specs.Prelude.{◌≡◌, ◌≤◌, ℕ, All, IfOk, Ok, Some, None, length, sum_by};
+ghost use Rattle.std.specs.Prelude.{◌≡◌, ◌≤◌, ℕ, All, IfOk, Ok, Some, None, [], length, replicate, sum_by};
+ghost use Rattle.at_ledger.specs.State.{opening_state};
 ghost use Rattle.at_files.specs.Files.{IsPlayable, contents_of};
 ghost use Rattle.at_files.specs.Names.{AreNamesOf};
 ghost use Rattle.at_verify.specs.Right.{IsFirstWrong, IsReport, IsReportOf};
 ghost use Rattle.at_verify.specs.Walk.{AreWithinFiles, PartsAt};
 
 use crate::NoMemory;
-use crate::comparing::{common, newlines};
+use crate::comparing::{common, difference, newlines};
 use crate::stepping::next_line;
 use at_base::Counts;
 use at_files::{Names, count_calls};
@@ -28,6 +29,54 @@ pub enum Verdict {
     No { line: u32 },
 }
 
+/// Where no report goes on as the text does, or nothing where the text is a report. No call is made yet, and `expected`
+/// takes each line that can come next.
+fn walk(
+    book: &Book,
+    names: &Names,
+    files: &[Vec<Call>],
+    state: &mut State,
+    made: &mut Counts,
+    expected: &mut Vec<u8>,
+    text: &[u8],
+) -> Result<Option<usize>, NoMemory>
+    requires names { AreNamesOf book.now names.now }
+    requires processes { length files.now ≡ book.now.processes }
+    requires files { All (IsPlayable (length book.now.accounts)) (contents_of files.now) }
+    requires state { state.old ≡ opening_state book.now }
+    requires made { made.old ≡ replicate book.now.processes 0 }
+    requires expected { expected.old.items ≡ [] }
+    ensures report { result ≡ Ok None → IsReport book.now names.now (contents_of files.now) text.now }
+    ensures parts { (n : ℕ) → result ≡ Ok (Some n)
+        → PartsAt book.now names.now (contents_of files.now) text.now n }
+{
+    book.known();
+    let calls = count_calls(files);
+    push_heading(expected, u64::from(calls))?;
+    let mut at = common(text, expected.as_slice());
+    if at < expected.len() {
+        return Ok(Some(at));
+    }
+    for _turn in 0..calls {
+        let Some(line) = next_line(book, names, files, state, made, &text[at..]) else {
+            return Ok(Some(at));
+        };
+        expected.clear();
+        push_line(expected, names, &line)?;
+        let same = common(&text[at..], expected.as_slice());
+        at += same;
+        if same < expected.len() {
+            return Ok(Some(at));
+        }
+    }
+    expected.clear();
+    push_audit(expected, book, names, state)?;
+    match difference(&text[at..], expected.as_slice()) {
+        Some(same) => Ok(Some(at + same)),
+        None => Ok(None),
+    }
+}
+
 /// Where no report goes on as the text does, or nothing where the text is a report.
 fn parting(
     alloc: Global,
@@ -46,32 +95,15 @@ fn parting(
     let mut state = State::new(alloc, book)?;
     let mut made = Counts::zeros(book.processes());
     let mut expected = Vec::new(alloc);
-    let calls = count_calls(files);
-    push_heading(&mut expected, u64::from(calls))?;
-    let mut at = common(text, &expected);
-    if at < expected.len() {
-        return Ok(Some(at));
-    }
-    for _turn in 0..calls {
-        let Some(line) = next_line(book, names, files, &mut state, &mut made, &text[at..]) else {
-            return Ok(Some(at));
-        };
-        expected.clear();
-        push_line(&mut expected, names, &line)?;
-        let same = common(&text[at..], &expected);
-        at += same;
-        if same < expected.len() {
-            return Ok(Some(at));
-        }
-    }
-    expected.clear();
-    push_audit(&mut expected, book, names, &state)?;
-    let same = common(&text[at..], &expected);
-    at += same;
-    if same < expected.len() || at < text.len() {
-        return Ok(Some(at));
-    }
-    Ok(None)
+    walk(
+        book,
+        names,
+        files,
+        &mut state,
+        &mut made,
+        &mut expected,
+        text,
+    )
 }
 
 /// Whether the text is the report of a run of the files, and if it isn't its first wrong line. `names` are the book's,

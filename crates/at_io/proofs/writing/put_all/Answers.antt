@@ -1,12 +1,8 @@
-use Rattle.std.proofs.Common.{◌≡◌, ◌+◌, ◌++◌, take, drop, length, List, ℕ, arith, append_assoc}
+use Rattle.std.proofs.Common.{◌≡◌, ◌+◌, ◌++◌, take, length, List, ℕ, arith, append_assoc}
 use Rattle.std.specs.List.{slice_range}
 use Rattle.std.proofs.Math.Seq.{take-add}
-use Rattle.std.proofs.lemmas.Grind.{common_steps}
+use Rattle.std.proofs.lemmas.List.{take_rest}
 use Rattle.at_io.proofs.writing.put_all.Goals as goal
-
--- a range up to the end is what stands from its start on
-slice_range-length : (xs : List ℕ) (at : ℕ) → slice_range xs at (length xs) ≡ drop at xs
-slice_range-length xs at = grind (arith, common_steps)
 
 -- a prefix, and then a prefix of the rest, are a longer prefix
 take-further : (old mid new bytes : List ℕ) (at n : ℕ) →
@@ -14,7 +10,7 @@ take-further : (old mid new bytes : List ℕ) (at n : ℕ) →
     new ≡ mid ++ take n (slice_range bytes at (length bytes)) →
     new ≡ old ++ take (at + n) bytes
 take-further old mid new bytes at n before piece =
-    rw (take-add, ← append_assoc) (cc (before, piece, slice_range-length bytes at))
+    rw (take-add, ← append_assoc) (cc (before, piece, take_rest bytes at))
 
 pub loop-at-preserved : goal.loop-at-preserved
 loop-at-preserved g c =
@@ -27,3 +23,9 @@ loop-at-preserved g c =
           (c.loop-at.invariant.taken told)
           (c.in-Ok.ensures.prefix (cc (c.loop-at.invariant.as_told, told)));
     }
+
+pub returns-clause-fault : goal.returns-clause-fault
+returns-clause-fault g c = tt
+
+pub returns-clause-prefix : goal.returns-clause-prefix
+returns-clause-prefix g c told = tt

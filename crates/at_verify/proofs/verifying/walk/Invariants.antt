@@ -1,7 +1,7 @@
 use Rattle.std.proofs.Common.{◌≡◌, sum}
 use Rattle.at_files.specs.Files.{contents_of}
 use Rattle.at_verify.proofs.Walking.{IsWalked}
-use Rattle.at_verify.proofs.verifying.parting.Given as goal
+use Rattle.at_verify.proofs.verifying.walk.Given as goal
 
 abbrev pub invariant-loop-turn : goal.invariant-loop-turn
 invariant-loop-turn l = record {

@@ -1,0 +1,48 @@
+use Rattle.std.proofs.Common.{◌≡◌, ◌++◌, [], List, ℕ, length, ◌∙◌, arith, length-take}
+use Rattle.std.proofs.lemmas.Grind.{common_steps}
+use Rattle.at_io.proofs.reading.read_whole.Goals as goal
+
+-- where nothing was left and nothing was added, all was read before
+read-before : (whole read left now rest : List ℕ) →
+    whole ≡ read ++ left →
+    left ≡ [] →
+    read ++ left ≡ now ++ rest →
+    length now ≡ length read →
+    whole ≡ now
+read-before whole read left now rest all none same long = grind (arith, common_steps)
+
+pub returns-then-ended-clause-contents : goal.returns-then-ended-clause-contents
+returns-then-ended-clause-contents g c told =
+    let before : g.F.Shelf.tells c.loop-buffer.shelf ≡ g.F.Shelf.tells c.args.shelf.now = c.loop-buffer.invariant.files.as_told in
+    let none = c.in-Ok.ensures.end (before ∙ told) c.if-ended.true in
+    read-before _ _ _ _ _
+    (c.loop-buffer.invariant.bytes told)
+    none
+    (c.in-Ok.ensures.bytes (before ∙ told))
+    (omega (arith, c.in-Ok.ensures.count))
+
+pub returns-then-ended-clause-size : goal.returns-then-ended-clause-size
+returns-then-ended-clause-size g c = omega (arith, c.in-Ok.ensures.count)
+
+pub returns-then-ended-clause-failed : goal.returns-then-ended-clause-failed
+returns-then-ended-clause-failed g c is = absurd (cc)
+
+pub returns-then-ended-clause-too_long : goal.returns-then-ended-clause-too_long
+returns-then-ended-clause-too_long g c told is = absurd (cc)
+
+pub loop-buffer-smaller : goal.loop-buffer-smaller
+loop-buffer-smaller g c = omega (arith, c.in-Ok.ensures.count)
+
+pub loop-buffer-preserved : goal.loop-buffer-preserved
+loop-buffer-preserved g c =
+    record {
+      files = record {
+        as_told = c.in-Ok.ensures.files.as_told ∙ c.loop-buffer.invariant.files.as_told;
+        files = c.in-Ok.ensures.files.files ∙ c.loop-buffer.invariant.files.files;
+      };
+      kept = c.in-Ok.ensures.kept (λ is. cc) ∙ c.loop-buffer.invariant.kept;
+      size = omega (arith, c.in-Ok.ensures.count, c.in-Ok.ensures.bound, length-take {A = ℕ});
+      bytes = λ told.
+          c.loop-buffer.invariant.bytes told
+          ∙ c.in-Ok.ensures.bytes (c.loop-buffer.invariant.files.as_told ∙ told);
+    }
