@@ -1,6 +1,5 @@
 -- The four calls of a voice, one after another.
-use Rattle.std.proofs.Common.{◌≡◌, ℕ, ◌*◌, ◌^◌, ◌<◌, List, [], ◌∷◌, ◌++◌, cond, length, length-append, map, sym, ap, subst, ◌∙◌, arith}
-use Rattle.std.proofs.lemmas.Bool.{ne_eqb}
+use Rattle.std.proofs.Common.{◌≡◌, ℕ, ◌^◌, ◌<◌, List, [], ◌∷◌, ◌++◌, length, length-append, sym, ap, subst, ◌∙◌, arith}
 use Rattle.std.proofs.lemmas.List.{get_or_append_left}
 use Rattle.at_ledger.specs.Book.{BookTerms}
 use Rattle.at_ledger.specs.declared.call.Call.TheVariants.{Transfer}
@@ -9,13 +8,13 @@ use Rattle.at_history.specs.Histories.{IsHistory}
 use Rattle.at_history.specs.Publications.{IsPrefix, no_publication}
 use Rattle.at_history.specs.declared.publication.Publication.{Publication}
 use Rattle.at_board.specs.Knowledge.Seats.{BoardTerms}
-use Rattle.at_log.specs.Receipts.{asks_in, receipt_at}
+use Rattle.at_log.specs.Receipts.{calls_of, receipt_at}
 use Rattle.at_log.specs.Told.{Told}
 use Rattle.at_log.specs.declared.receipt.Receipt.{Receipt}
 use Rattle.at_object.specs.Passes.{Stands}
 use Rattle.at_agree.proofs.Answered.{answered-chosen}
 use Rattle.at_agree.proofs.HistoryShown.{IsCouncilList-IsHistory, NamesAnew-IsHistory}
-use Rattle.at_agree.proofs.VotedReceipts.{asks_not, stands_as_voted}
+use Rattle.at_agree.proofs.VotedReceipts.{stands_as_voted}
 use Rattle.at_agree.specs.Council.{IsCouncil, IsSize, council_book, shared_account, size_of, spent_account, value_account}
 use Rattle.at_agree.specs.Plan.{HasShareDecided, HasProposed, HasVoted, KeepsPlan, chosen, share_of, named_account}
 use Rattle.at_agree.specs.Voices.{HasMadeOneMore, HasNotProposed, HasRead, IsVoiceOf, VoiceTerms, process_of, seen_by}
@@ -50,17 +49,6 @@ HasShareDecided-IsPrefix k p xs ys before asked =
       winner = asked.winner;
     }
 
--- after the first call nothing is asked for
-pub asks_in-paid : (council : BoardTerms) (v0 v1 : VoiceTerms) (k p value : ℕ) → p < k → HasNotProposed v0
-    → HasMadeOneMore council v0 v1 (Transfer p (value_account k p) value) → (asks_in (shared_account k) v1.receipts ≡ 0) × (length v1.receipts ≡ 1)
-asks_in-paid council v0 v1 k p value known none made =
-    let list_is : v1.receipts ≡ made.receipt ∷ [] = made.receipts ∙ ap (λ (rs : List Receipt). rs ++ made.receipt ∷ []) none in
-    let unasked = asks_not (shared_account k) made.receipt (Transfer p (value_account k p) value) made.call_is
-    (ne_eqb p (2 * k) (λ e. omega (arith, e, known))) in (
-      ap (asks_in (shared_account k)) list_is ∙ omega (arith, ap (λ t. cond {A = ℕ} t 1 0) unasked),
-      ap (λ (rs : List Receipt). length rs) list_is,
-    )
-
 -- the four receipts
 module _ (council : BoardTerms) (v0 v1 v2 v3 v4 : VoiceTerms) (k p value left answer : ℕ) where
   pub HasVoted-made : HasNotProposed v0 → HasMadeOneMore council v0 v1 (Transfer p (value_account k p) value)
@@ -79,7 +67,7 @@ module _ (council : BoardTerms) (v0 v1 v2 v3 v4 : VoiceTerms) (k p value left an
       let four : v4.receipts ≡ r0 ∷ r1 ∷ r2 ∷ r3 ∷ [] = last.made.receipts ∙ ap (push r3) three in
       record {
         left = left;
-        calls = ap (map (λ (r : Receipt). r.call)) four
+        calls = ap calls_of four
             ∙ (λ t. paid.call_is t ∷ asked.call_is t ∷ found.made.call_is t ∷ last.made.call_is t ∷ []);
         found = ap (λ (rs : List Receipt). (receipt_at rs 2).reply) four ∙ found.found;
         answered = ap (λ (rs : List Receipt). (receipt_at rs 3).reply) four ∙ last.found;

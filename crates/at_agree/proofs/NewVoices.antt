@@ -1,5 +1,5 @@
 -- The voices of a new council: one for each pass of its ledger.
-use Rattle.std.proofs.Common.{◌≡◌, ℕ, ◌<◌, ◌≤◌, List, [], ◌∷◌, ◌++◌, All, length, map, get_or, sym, ap, subst, ◌∙◌, arith, length-append}
+use Rattle.std.proofs.Common.{◌≡◌, ℕ, ◌<◌, List, [], ◌∷◌, ◌++◌, All, length, map, get_or, sym, ap, subst, ◌∙◌, arith, length-append}
 use Rattle.std.proofs.Math.Seq.{get_or-append_seam}
 use Rattle.std.proofs.lemmas.List.{get_or-map, length-map}
 use Rattle.at_board.specs.Knowledge.Seats.{BoardTerms}
@@ -20,14 +20,13 @@ IsNewPass-at ledger passes done left pass new parts =
     (within, subst (IsNewPass ledger (length done)) here (new.each (length done) pass within))
 
 -- what the type of a voice keeps, when no call is made yet
-pub IsVoice-new : (ledger : BoardTerms) (p room : ℕ) (pass : PassTerms) (receipts : List Receipt) → p < size_of ledger → IsNewPass ledger p pass
-    → receipts ≡ [] → 4 ≤ room → IsVoice (record { pass = pass; receipts = receipts }) room
-IsVoice-new ledger p room pass receipts known new none fits = record {
+pub IsVoice-new : (ledger : BoardTerms) (p : ℕ) (pass : PassTerms) (receipts : List Receipt) → p < size_of ledger → IsNewPass ledger p pass
+    → receipts ≡ [] → IsVoice (record { pass = pass; receipts = receipts })
+IsVoice-new ledger p pass receipts known new none = record {
   stands = subst (λ (rs : List Receipt). Stands pass rs) (sym none) new.stands;
   counted = new.calls_are ∙ sym (ap (λ (rs : List Receipt). length rs) none);
   known = omega (arith, known, new.process_is, ap (λ (b : BookTerms). b.processes) new.of_ledger.book);
   few = omega (arith, ap (λ (rs : List Receipt). length rs) none);
-  fits = fits;
 }
 
 pub AreNewVoices-all : (ledger : BoardTerms) (passes : List PassTerms) (voices : List VoiceTerms) → AreNewPasses ledger passes

@@ -22,9 +22,9 @@ use Rattle.at_agree.specs.Plan.{HasShareDecided, HasProposed, share_of}
 use Rattle.at_agree.specs.Voices.{IsVoice, IsVoiceOf, VoiceTerms, process_of}
 
 -- the voice's process is one of the council's
-pub known_in : (council : BoardTerms) (voice : VoiceTerms) (room k p : ℕ) → k ≡ size_of council → p ≡ process_of voice
-    → IsVoiceOf voice council → IsVoice voice room → p < k
-known_in council voice room k p size_is process_is of_council kept =
+pub known_in : (council : BoardTerms) (voice : VoiceTerms) (k p : ℕ) → k ≡ size_of council → p ≡ process_of voice
+    → IsVoiceOf voice council → IsVoice voice → p < k
+known_in council voice k p size_is process_is of_council kept =
     omega (arith, size_is, process_is, kept.known, ap (λ (b : BookTerms). b.processes) of_council.book)
 
 -- the numbers of a council's accounts
@@ -34,12 +34,12 @@ in_book council k account is size_is below =
     omega (arith, below, size_is, ap (λ (b : BookTerms). length b.accounts) is.book_is, length-accounts (size_of council))
 
 -- what the type of a voice keeps, when one more call is made
-pub IsVoice-made : (council : BoardTerms) (before after : PassTerms) (earlier receipts : List Receipt) (r : Receipt) (room capacity : ℕ)
-    → IsPassOf before council → IsPassOf after council → IsVoice (record { pass = before; receipts = earlier }) room → length earlier < 4
+pub IsVoice-made : (council : BoardTerms) (before after : PassTerms) (earlier receipts : List Receipt) (r : Receipt)
+    → IsPassOf before council → IsPassOf after council → IsVoice (record { pass = before; receipts = earlier }) → length earlier < 4
     → ((list : List Receipt) → Stands before list → Stands after (list ++ r ∷ [])) → after.calls ≡ one_more_call before.calls
-    → after.knows.first ≡ before.knows.first → receipts ≡ earlier ++ r ∷ [] → capacity ≡ room
-    → IsVoice (record { pass = after; receipts = receipts }) capacity
-IsVoice-made council before after earlier receipts r room capacity was is kept more told counted process made same =
+    → after.knows.first ≡ before.knows.first → receipts ≡ earlier ++ r ∷ []
+    → IsVoice (record { pass = after; receipts = receipts })
+IsVoice-made council before after earlier receipts r was is kept more told counted process made =
     let count : length receipts ≡ length earlier + 1 = omega (arith, ap length made, length-append earlier (r ∷ [])) in
     let processes : ℕ → BookTerms → Type 0 = λ p b. p < b.processes in
     record {
@@ -47,7 +47,6 @@ IsVoice-made council before after earlier receipts r room capacity was is kept m
       counted = omega (arith, counted, count, kept.counted, more);
       known = subst (processes after.knows.first) (was.book ∙ sym is.book) (omega (arith, kept.known, process));
       few = omega (arith, count, more);
-      fits = omega (arith, kept.fits, same);
     }
 
 -- the two payments of process p of k, in what the voice has seen after them

@@ -1,5 +1,5 @@
 -- What the receipts of a process's four calls say of a list in which they stand: where each stands, and in which order.
-use Rattle.std.proofs.Common.{◌≡◌, ℕ, ◌+◌, ◌*◌, ◌^◌, ◌<◌, ◌≤◌, ◌&&◌, Bool, true, false, cond, List, [], ◌∷◌, length, map, take, refl, sym, ap, subst, ◌∙◌, arith}
+use Rattle.std.proofs.Common.{◌≡◌, ℕ, ◌+◌, ◌*◌, ◌^◌, ◌<◌, ◌≤◌, ◌&&◌, Bool, true, false, cond, List, [], ◌∷◌, length, take, refl, sym, ap, subst, ◌∙◌, arith}
 use Rattle.std.specs.Prelude.{None}
 use Rattle.std.proofs.lemmas.Bool.{eq-eqb, ne_eqb}
 use Rattle.std.proofs.lemmas.List.{get_or_default}
@@ -17,7 +17,7 @@ use Rattle.at_history.specs.Rounds.{named, owns_of}
 use Rattle.at_history.specs.declared.publication.Entry.TheVariants.{Round}
 use Rattle.at_history.specs.declared.publication.Publication.{Publication}
 use Rattle.at_log.specs.Placed.{IsPlaced, done, full, not_owner, read, round, short}
-use Rattle.at_log.specs.Receipts.{asks_in, is_at_own, is_at_round, is_payout_from, is_success, owns_in, payout_of, receipt_at}
+use Rattle.at_log.specs.Receipts.{asks_in, calls_of, is_at_own, is_at_round, is_payout_from, is_success, owns_in, payout_of, receipt_at}
 use Rattle.at_log.specs.Told.{Told, key_at, key_of, keys_from, own_position, round_position}
 use Rattle.at_log.specs.declared.receipt.At.{At}
 use Rattle.at_log.specs.declared.receipt.Receipt.{Receipt}
@@ -39,7 +39,7 @@ pub record AreFour (receipts : List Receipt) (c0 c1 c2 c3 : Call) : Type 0 where
   pub call2 : r2.call ≡ c2
   pub call3 : r3.call ≡ c3
 
-pub four_of : (receipts : List Receipt) (c0 c1 c2 c3 : Call) → map (λ r. r.call) receipts ≡ c0 ∷ c1 ∷ c2 ∷ c3 ∷ [] → AreFour receipts c0 c1 c2 c3
+pub four_of : (receipts : List Receipt) (c0 c1 c2 c3 : Call) → calls_of receipts ≡ c0 ∷ c1 ∷ c2 ∷ c3 ∷ [] → AreFour receipts c0 c1 c2 c3
 four_of [] c0 c1 c2 c3 is = absurd (cc is)
 four_of (r0 ∷ []) c0 c1 c2 c3 is = absurd (cc is)
 four_of (r0 ∷ r1 ∷ []) c0 c1 c2 c3 is = absurd (cc is)

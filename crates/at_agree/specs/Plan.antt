@@ -1,5 +1,5 @@
 -- The plan: the four calls of a process, lists of publications in which all processes keep to it, and the value that is chosen.
-use Rattle.std.specs.Prelude.{◌≡◌, ℕ, ◌+◌, ◌-◌, ◌*◌, ◌<◌, ◌≤◌, ◌&&◌, List, [], ◌∷◌, length, map, nat_le, take, if◌then◌else◌}
+use Rattle.std.specs.Prelude.{◌≡◌, ℕ, ◌+◌, ◌-◌, ◌*◌, ◌<◌, ◌≤◌, ◌&&◌, List, [], ◌∷◌, length, nat_le, take, if◌then◌else◌}
 use Rattle.at_base.specs.declared.decision.Decision.{Decision}
 use Rattle.at_history.specs.BoardState.{publication_at}
 use Rattle.at_history.specs.Moves.{decided_owner}
@@ -11,7 +11,7 @@ use Rattle.at_ledger.specs.Call.{TargetPair}
 use Rattle.at_ledger.specs.declared.call.Call.{Call}
 use Rattle.at_ledger.specs.declared.call.Call.TheVariants.{Transfer, Read}
 use Rattle.at_ledger.specs.declared.call.Reply.TheVariants.{Balance}
-use Rattle.at_log.specs.Receipts.{receipt_at}
+use Rattle.at_log.specs.Receipts.{calls_of, receipt_at}
 use Rattle.at_log.specs.Told.{round_position}
 use Rattle.at_log.specs.declared.receipt.Receipt.{Receipt}
 use Rattle.at_agree.specs.Council.{council_book, shared_account, spent_account, value_account}
@@ -36,7 +36,7 @@ plan_of k p value left =
 -- the receipts are those of the four calls of process p with this value, and the last one gives the answer
 pub record HasVoted (k p value answer : ℕ) (receipts : List Receipt) : Type 0 where
   pub left : ℕ
-  pub calls : map (λ r. r.call) receipts ≡ plan_of k p value left
+  pub calls : calls_of receipts ≡ plan_of k p value left
   pub found : (receipt_at receipts 2).reply ≡ Balance left
   pub answered : (receipt_at receipts 3).reply ≡ Balance answer
 

@@ -1,5 +1,5 @@
 -- Voices as callers see them, and what their type keeps.
-use Rattle.std.specs.Prelude.{◌≡◌, ℕ, ◌+◌, ◌*◌, ◌<◌, ◌≤◌, ◌++◌, List, [], ◌∷◌, length, slice_index_or}
+use Rattle.std.specs.Prelude.{◌≡◌, ℕ, ◌+◌, ◌*◌, ◌<◌, ◌≤◌, ◌++◌, List, [], ◌∷◌, length, slice_index_or, refl}
 use Rattle.at_board.specs.Knowledge.Seats.{BoardTerms}
 use Rattle.at_history.specs.Publications.{IsPrefix}
 use Rattle.at_history.specs.declared.publication.Publication.{Publication}
@@ -23,13 +23,12 @@ process_of voice = voice.pass.knows.first
 abbrev pub seen_by : VoiceTerms → List Publication
 seen_by voice = voice.pass.knows.seen
 
--- the receipts stand with the pass, which has counted as many calls, and there is room for those of four calls
-pub record IsVoice (voice : VoiceTerms) (room : ℕ) : Type 0 where
+-- the receipts stand with the pass, which has counted as many calls, and are those of at most four
+pub record IsVoice (voice : VoiceTerms) : Type 0 where
   pub stands : Stands voice.pass voice.receipts
   pub counted : voice.pass.calls ≡ length voice.receipts
   pub known : process_of voice < voice.pass.knows.book.processes
   pub few : length voice.receipts ≤ 4
-  pub fits : 4 ≤ room
 
 -- the voice is one of the council's
 abbrev pub IsVoiceOf : VoiceTerms → BoardTerms → Type 0
@@ -72,3 +71,7 @@ pub record HasRead (council : BoardTerms) (before after : VoiceTerms) (account b
 -- the most steps of the four calls of a process among k, beside the loads of records that its totals count
 abbrev pub propose_steps : ℕ → ℕ
 propose_steps k = 4 * snapshot_steps k + 8 * k + 9 + k * (snapshot_steps k + k + 15)
+
+-- of three, as a number: whoever changes the bound changes this too
+pub propose_steps-3 : propose_steps 3 ≡ 192
+propose_steps-3 = refl

@@ -4,6 +4,7 @@ ghost use Rattle.std.specs.Prelude.{◌≡◌, ℕ, ◌<◌, ◌^◌, All, IfOk,
 ghost use Rattle.at_agree.specs.Agreement.{AreCast, IsAgreement, IsCast, MayVote, StandsByItself, values_of};
 ghost use Rattle.at_agree.specs.Council.{IsSize};
 ghost use Rattle.at_agree.specs.declared.votes.Vote.{Vote};
+ghost use Rattle.at_log.specs.Receipts.{lists_in};
 
 use crate::NoMemory;
 use crate::council::Council;
@@ -72,14 +73,14 @@ fn close(alloc: Global, council: Council, votes: Vec<Vote>) -> Result<Agreed, No
 /// The passes and the receipts of all processes.
 fn parted(alloc: Global, votes: Vec<Vote>) -> Result<(Vec<Pass>, Vec<Vec<Receipt>>), NoMemory>
     ensures passes { IfOk result (λ r. r.0.items ≡ map (λ x. x.voice.pass) votes.items) }
-    ensures receipts { IfOk result (λ r. map (λ v. v.items) r.1.items
-        ≡ map (λ x. x.voice.receipts) votes.items) }
+    ensures receipts { IfOk result
+        (λ r. lists_in r.1.items ≡ map (λ x. x.voice.receipts) votes.items) }
     ensures stands { IfOk result (λ r. All StandsByItself votes.items) }
 {
     let mut passes = Vec::with_capacity(alloc, votes.len())?;
     let mut receipts = Vec::with_capacity(alloc, votes.len())?;
     for vote in votes {
-        let (pass, told) = vote.voice.split();
+        let (pass, told) = vote.voice.split(alloc)?;
         passes.push(pass)?;
         receipts.push(told)?;
     }

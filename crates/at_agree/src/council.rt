@@ -11,6 +11,7 @@ ghost use Rattle.at_object.specs.Passes.{AreNewPasses, counted_anew};
 use crate::NoMemory;
 use crate::book::book_for;
 use crate::voice::Voice;
+use arrayvec::ArrayVec;
 use at_object::{Ledger, Pass};
 use std::alloc::Global;
 use std::marker::Model;
@@ -33,7 +34,7 @@ impl Model for Council {
 }
 
 impl Council {
-    /// A council of this size, and one voice for each process, in order. Takes the memory of all later calls.
+    /// A council of this size, and one voice for each process, in order. Takes the memory that proposing needs.
     pub fn new(alloc: Global, size: u32) -> Result<(Council, Vec<Voice>), NoMemory>
         requires { IsSize size }
         ensures book { IfOk result (λ r. r.0.book ≡ council_book size) }
@@ -101,7 +102,7 @@ fn named_account(size: u32, process: u32, left: u64) -> u32
     }
 }
 
-/// A voice for each pass of a new ledger. Takes the memory of their receipts.
+/// A voice for each pass of a new ledger.
 fn voices_for(alloc: Global, ledger: &Ledger, passes: Vec<Pass>) -> Result<Vec<Voice>, NoMemory>
     requires { AreNewPasses ledger.now passes.items }
     ensures { IfOk result (λ voices. AreNewVoices ledger.now voices.items) }
@@ -110,7 +111,7 @@ fn voices_for(alloc: Global, ledger: &Ledger, passes: Vec<Pass>) -> Result<Vec<V
     for pass in passes {
         voices.push(Voice {
             pass,
-            receipts: Vec::with_capacity(alloc, 4)?,
+            receipts: ArrayVec::new(),
         })?;
     }
     Ok(voices)

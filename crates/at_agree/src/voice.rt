@@ -1,6 +1,6 @@
 //! Voices: the right of one process to propose.
 
-ghost use Rattle.std.specs.Prelude.{◌≡◌, ◌+◌, ◌*◌, ◌^◌, ◌<◌, ◌≤◌, length};
+ghost use Rattle.std.specs.Prelude.{◌≡◌, ◌+◌, ◌*◌, ◌^◌, ◌<◌, ◌≤◌, IfOk, length};
 ghost use Rattle.at_agree.specs.Council.{IsCouncil, shared_account, size_of, spent_account, value_account};
 ghost use Rattle.at_agree.specs.Plan.{HasShareDecided, HasProposed, share_of};
 ghost use Rattle.at_agree.specs.Voices.{HasMadeOneMore, HasNotProposed, HasRead, IsVoiceOf, process_of, seen_by};
@@ -12,29 +12,30 @@ ghost use Rattle.at_object.specs.Passes.{Stands, counted_anew};
 ghost use Rattle.at_object.specs.Payments.{shared_steps, single_steps};
 ghost use Rattle.at_snapshot.specs.Snapshots.{snapshot_steps};
 
+use crate::NoMemory;
+use arrayvec::ArrayVec;
 use at_ledger::Reply;
 use at_log::Receipt;
 use at_object::{Ledger, Pass};
+use std::alloc::Global;
 use std::marker::Model;
 
-/// The right of one process of a council to propose a value, once. It has the process's pass, and the memory for the receipts of
-/// its four calls. One thread uses it at a time.
+/// The right of one process of a council to propose a value, once. It has the process's pass, and the receipts of its four calls.
+/// One thread uses it at a time.
 #[derive(Drop)]
 pub struct Voice {
     pub(crate) pass: Pass,
-    pub(crate) receipts: Vec<Receipt>,
+    pub(crate) receipts: ArrayVec<Receipt, 4>,
 }
 
 impl Model for Voice {
-    ghost use Rattle.std.specs.Vec.{vec_capacity};
     ghost use Rattle.at_agree.specs.Voices.{IsVoice, VoiceTerms};
 
     ghost Value = { VoiceTerms };
 
     ghost view = { λ v. record { pass = v.pass; receipts = v.receipts.items } };
 
-    ghost invariant = { λ v. IsVoice (record { pass = v.pass; receipts = v.receipts.items })
-        (vec_capacity v.receipts) };
+    ghost invariant = { λ v. IsVoice (record { pass = v.pass; receipts = v.receipts.items }) };
 }
 
 impl Voice {
@@ -62,7 +63,7 @@ impl Voice {
     {
         let process = self.pass.process();
         let paid = ledger.transfer(&mut self.pass, process, size + process, value);
-        self.receipts.push_reserved(paid);
+        self.receipts.push(paid);
     }
 
     /// The second call: asks for at least half of the shared account.
@@ -82,7 +83,7 @@ impl Voice {
     {
         let share = u64::from(2 * size - (self.pass.process() + 1));
         let asked = ledger.transfer(&mut self.pass, 2 * size, 2 * size + 1, share);
-        self.receipts.push_reserved(asked);
+        self.receipts.push(asked);
     }
 
     /// The third and the fourth call: reads an account.
@@ -104,18 +105,19 @@ impl Voice {
             // A read is answered a balance.
             _ => unreachable!(),
         };
-        self.receipts.push_reserved(found);
+        self.receipts.push(found);
         balance
     }
 
-    /// The pass and the receipts.
-    pub(crate) fn split(self) -> (Pass, Vec<Receipt>)
-        ensures pass { result.0 ≡ self.pass }
-        ensures receipts { result.1.items ≡ self.receipts }
+    /// The pass, and the receipts as a closing takes them.
+    pub(crate) fn split(self, alloc: Global) -> Result<(Pass, Vec<Receipt>), NoMemory>
+        ensures pass { IfOk result (λ r. r.0 ≡ self.pass) }
+        ensures receipts { IfOk result (λ r. r.1.items ≡ self.receipts) }
         ensures stands { Stands self.pass self.receipts }
         ensures counted { self.pass.calls ≡ length self.receipts }
     {
         let Voice { pass, receipts } = self;
-        (pass, receipts)
+        let list = receipts.into_iter().collect(alloc)?;
+        Ok((pass, list))
     }
 }

@@ -15,13 +15,14 @@ use Rattle.at_ledger.specs.Run.{Legal, Whole}
 use Rattle.at_ledger.specs.declared.call.Call.{Call}
 use Rattle.at_ledger.specs.declared.call.Line.{Line}
 use Rattle.at_log.specs.ClosingTerms.{ClosingTerms}
+use Rattle.at_log.specs.Receipts.{calls_of, lists_in}
 use Rattle.at_log.specs.declared.receipt.Receipt.{Receipt}
 use Rattle.at_object.specs.Closings.{AreAccountedFor, ClosedTerms, IsAccountedFor}
 use Rattle.at_object.specs.Passes.{PassTerms}
 use Rattle.at_commands.specs.Running.{AreJobsFor, IsClosedAfter, IsPlayed, journal_of}
 use Rattle.at_commands.proofs.JobsMade.{files_of, passes_in}
 use Rattle.at_commands.proofs.Laws.RunTotals.{IsLineOn-Whole, sum-last_state}
-use Rattle.at_workers.specs.Jobs.{JobTerms, Ran, calls_of}
+use Rattle.at_workers.specs.Jobs.{JobTerms, Ran}
 
 -- the receipts of jobs
 abbrev pub receipts_in : List JobTerms → List (List Receipt)
@@ -67,14 +68,14 @@ abbrev Left : Type 0
 Left = Result (Vec PassTerms Global × Vec (Vec Receipt Global) Global) AllocError
 
 pub IfOk-accounted : (ledger : BoardTerms) (after : List JobTerms) (left : Left) → AreAccountedFor ledger (passes_in after) (receipts_in after)
-    → IfOk left (λ r. r.0.items ≡ passes_in after) → IfOk left (λ r. map (λ (list : Vec Receipt Global). list.items) r.1.items ≡ receipts_in after)
-    → IfOk left (λ r. AreAccountedFor ledger r.0.items (map (λ (list : Vec Receipt Global). list.items) r.1.items))
+    → IfOk left (λ r. r.0.items ≡ passes_in after) → IfOk left (λ r. lists_in r.1.items ≡ receipts_in after)
+    → IfOk left (λ r. AreAccountedFor ledger r.0.items (lists_in r.1.items))
 IfOk-accounted ledger after (Ok left) accounted passes receipts = rw (passes, receipts) accounted
 IfOk-accounted ledger after (Err refusal) accounted passes receipts = tt
 
 pub IfOk-receipts : (after : List JobTerms) (files : List (List Call)) (left : Left) → map calls_of (receipts_in after) ≡ files
-    → IfOk left (λ r. map (λ (list : Vec Receipt Global). list.items) r.1.items ≡ receipts_in after)
-    → IfOk left (λ r. map calls_of (map (λ (list : Vec Receipt Global). list.items) r.1.items) ≡ files)
+    → IfOk left (λ r. lists_in r.1.items ≡ receipts_in after)
+    → IfOk left (λ r. map calls_of (lists_in r.1.items) ≡ files)
 IfOk-receipts after files (Ok left) are receipts = rw receipts are
 IfOk-receipts after files (Err refusal) are receipts = tt
 

@@ -2,10 +2,11 @@
 
 ghost use Rattle.std.specs.Prelude.{◌≡◌, length, map, All, IfOk};
 ghost use Rattle.at_files.specs.Files.{IsPlayable, contents_of};
+ghost use Rattle.at_log.specs.Receipts.{calls_of, lists_in};
 ghost use Rattle.at_object.specs.Closings.{AreAccountedFor};
 ghost use Rattle.at_object.specs.Passes.{AreNewPasses};
 ghost use Rattle.at_commands.specs.Running.{AreJobsFor, IsPlayed};
-ghost use Rattle.at_workers.specs.Jobs.{JobTerms, calls_of};
+ghost use Rattle.at_workers.specs.Jobs.{JobTerms};
 
 use at_journal::journal;
 use at_ledger::{Book, Call, Line};
@@ -46,8 +47,7 @@ fn jobs_for(
 fn taken_apart(alloc: Global, jobs: Vec<Job>) -> Result<(Vec<Pass>, Vec<Vec<Receipt>>), NoMemory>
     ensures passes { IfOk result (λ r. r.0.items ≡ map (λ (job : JobTerms). job.pass) jobs.items) }
     ensures receipts { IfOk result
-        (λ r. map (λ list. list.items) r.1.items
-        ≡ map (λ (job : JobTerms). job.receipts) jobs.items) }
+        (λ r. lists_in r.1.items ≡ map (λ (job : JobTerms). job.receipts) jobs.items) }
 {
     let mut passes = Vec::with_capacity(alloc, jobs.len())?;
     let mut receipts = Vec::with_capacity(alloc, jobs.len())?;
@@ -73,9 +73,9 @@ fn make_calls<R: Threads + Sync, G: Gate + Sync>(
     requires count { length files.items ≡ ledger.now.book.processes }
     requires known { All (IsPlayable (length ledger.now.book.accounts)) (contents_of files.items) }
     ensures accounted { IfOk result
-        (λ r. AreAccountedFor ledger.now r.0.items (map (λ list. list.items) r.1.items)) }
+        (λ r. AreAccountedFor ledger.now r.0.items (lists_in r.1.items)) }
     ensures calls { IfOk result
-        (λ r. map calls_of (map (λ list. list.items) r.1.items) ≡ contents_of files.items) }
+        (λ r. map calls_of (lists_in r.1.items) ≡ contents_of files.items) }
 {
     let mut jobs = jobs_for(alloc, ledger, passes, files)?;
     run_all(rt, ledger, jobs.as_mut_slice(), gate);

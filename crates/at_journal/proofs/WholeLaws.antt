@@ -13,6 +13,7 @@ use Rattle.at_ledger.specs.declared.call.Line.{Line}
 use Rattle.at_log.specs.ClosingTerms.{ClosingTerms, log_lengths, receipts_of}
 use Rattle.at_log.specs.Coherent.{Coherent}
 use Rattle.at_log.specs.JournalOrder.{journal_lines, line_key, process_lines_at}
+use Rattle.at_log.specs.Receipts.{calls_of}
 use Rattle.at_log.proofs.Laws.Buckets.{flat_map-buckets}
 use Rattle.at_log.proofs.Laws.Order.{All-flat_map, filter-first, flat_map-values}
 use Rattle.at_journal.proofs.JournalRuns.{length-journal_order}
@@ -72,7 +73,7 @@ pub Whole-journal_lines : (b : BookTerms) (c : ClosingTerms) → Coherent b c �
 unfolding journal_lines
 Whole-journal_lines b c coherent =
     let files = calls_in c in
-    let size : length files ≡ b.processes = length-map c.receipts (λ receipts. map (λ r. r.call) receipts) ∙ coherent.receipts in
+    let size : length files ≡ b.processes = length-map c.receipts calls_of ∙ coherent.receipts in
     record {
       within =
           let n = length c.receipts in
@@ -88,14 +89,14 @@ Whole-journal_lines b c coherent =
           let count = length R in
           let is = lines_of-journal_lines b c p coherent known in
           ap (map (λ l. l.call)) is
-          ∙ (ext_get_or (Call.Read 0) (map (λ (l : Line). l.call) (map (line c p) (range_with_len 0 count))) (map (λ r. r.call) R)
+          ∙ (ext_get_or (Call.Read 0) (map (λ (l : Line). l.call) (map (line c p) (range_with_len 0 count))) (calls_of R)
           (length-map (map (line c p) (range_with_len 0 count)) (λ (l : Line). l.call) ∙ (length-map-range_with_len (line c p) 0 count ∙ sym (length-map R (λ r. r.call))))
           (λ i inside.
           let here : i < count = omega (arith, inside, length-map (map (line c p) (range_with_len 0 count)) (λ (l : Line). l.call), length-map-range_with_len (line c p) 0 count) in
           get_or-map (λ (l : Line). l.call) (map (line c p) (range_with_len 0 count)) i (line c p 0) (Call.Read 0) (omega (arith, here, length-map-range_with_len (line c p) 0 count))
           ∙ (ap (λ (l : Line). l.call) (get_or-map-range_with_len (line c p) 0 count i i (line c p 0) here (omega arith))
           ∙ sym (get_or-map (λ r. r.call) R i no_receipt (Call.Read 0) here)))
-          ∙ sym (get_or-map (λ receipts. map (λ r. r.call) receipts) c.receipts p [] [] (omega (arith, known, coherent.receipts))));
+          ∙ sym (get_or-map calls_of c.receipts p [] [] (omega (arith, known, coherent.receipts))));
       numbers = λ p within.
           let known : p < b.processes = omega (arith, within, size) in
           let count = length (receipts_of c p) in

@@ -1,5 +1,6 @@
 -- What receipts say together.
-use Rattle.std.specs.Prelude.{ℕ, Bool, true, false, ◌&&◌, ◌==◌, List, [], ◌∷◌, count_by, slice_index_or, Option, Some, None}
+use Rattle.std.specs.Prelude.{ℕ, Bool, true, false, ◌&&◌, ◌==◌, List, [], ◌∷◌, count_by, map, slice_index_or, Option, Some, None, Vec}
+use Rattle.std.specs.Global.{Global}
 use Rattle.at_ledger.specs.Call.{TargetPair}
 use Rattle.at_ledger.specs.declared.call.Call.{Call}
 use Rattle.at_ledger.specs.declared.call.Call.TheVariants.{Transfer, Read, Pay}
@@ -42,6 +43,14 @@ is_success Short = false
 is_success NotOwner = false
 is_success Full = false
 is_success (Balance amount) = false
+
+-- the calls that receipts are of
+abbrev pub calls_of : List Receipt → List Call
+calls_of receipts = map (λ r. r.call) receipts
+
+-- lists of the program, as receipts or calls of each process, each by what it holds
+abbrev pub lists_in : {T : Type 0} → List (Vec T Global) → List (List T)
+lists_in lists = map (λ list. list.items) lists
 
 -- how many successes from single accounts there are
 abbrev pub owns_in : List Receipt → ℕ

@@ -23,3 +23,14 @@ pub struct Receipt {
     pub reply: Reply,
     pub at: At,
 }
+
+impl Default for Receipt {
+    /// What stands in the unused places of a list.
+    fn default() -> Receipt {
+        Receipt {
+            call: Call::Read { account: 0 },
+            reply: Reply::Full,
+            at: At::Previous,
+        }
+    }
+}

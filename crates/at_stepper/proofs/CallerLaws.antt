@@ -11,6 +11,7 @@ use Rattle.at_ledger.specs.declared.call.Reply.{Reply}
 use Rattle.at_ledger.specs.declared.call.Reply.TheVariants.{Balance, Done, Full, NotOwner, Short}
 use Rattle.at_board.specs.Knowledge.Seats.{IsKept, SeatTerms}
 use Rattle.at_board.specs.declared.words.TheConstants.{RECORD_WORDS}
+use Rattle.at_log.specs.Receipts.{calls_of}
 use Rattle.at_log.specs.declared.receipt.Receipt.{Receipt}
 use Rattle.at_object.specs.Parted.{IsOfOnePass, pass_of}
 use Rattle.at_object.specs.CallCounts.{CallCountTerms}
@@ -21,7 +22,7 @@ use Rattle.at_object.proofs.Laws.Calls.{process-CallMade}
 use Rattle.at_stepper.specs.Callers.{CallerTerms, IsAnswered, IsFile, IsStillCalling, caller_turns_left, calls_left_of, is_refused, most_turns, next_call, steps_in}
 use Rattle.at_calling.specs.Calling.{CallingTerms, IsCallWithin, IsWay, call_turns_left, exchanges_made, exchanges_of, pass_before, refusal_in, steps_made, steps_of, with_one_call}
 use Rattle.at_object.specs.Calls.{CallMade, StaysWithin, call_steps}
-use Rattle.at_stepper.specs.KeptCallers.{IsCallBegun, IsCallerOf, IsMakingSo, IsNextInMaking, caller_of, calls_answered, pass_in, stage_in}
+use Rattle.at_stepper.specs.KeptCallers.{IsCallBegun, IsCallerOf, IsMakingSo, IsNextInMaking, caller_of, pass_in, stage_in}
 use Rattle.at_calling.specs.declared.call_stage.CallStage.{CallStage}
 use Rattle.at_calling.specs.declared.call_stage.CallStage.TheVariants.{PayAlone, PayShared, Read as ReadOn, Refuse, Refused}
 use Rattle.at_stepper.specs.declared.turned.Turned.TheVariants.{Answer}
@@ -288,7 +289,7 @@ module _ (b : BookTerms) (seat : SeatTerms) (rest : Rest) (calls : List Call) (r
           counted = ap (λ (p : PassTerms). p.calls) after_pass
               ∙ omega (arith, ap (λ (n : CallCountTerms). n.count) one_more, count, was.caller.counted, was.caller.file.few, next.more);
           made =
-              ap calls_answered pushed
+              ap calls_of pushed
               ∙ (map-append (λ (x : Receipt). x.call) receipts (r ∷ [])
               ∙ (ap (λ (cs : List Call). cs ++ r.call ∷ []) was.caller.made
               ∙ (ap (λ (call : Call). take (length receipts) calls ++ call ∷ [])

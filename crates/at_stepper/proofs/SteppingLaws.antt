@@ -8,14 +8,14 @@ use Rattle.std.specs.Global.{Global}
 use Rattle.std.specs.Prelude.{All}
 use Rattle.at_ledger.specs.declared.call.Call.{Call}
 use Rattle.at_board.specs.Knowledge.Seats.{BoardTerms, IsOf, SeatTerms}
+use Rattle.at_log.specs.Receipts.{calls_of, lists_in}
 use Rattle.at_log.specs.declared.receipt.Receipt.{Receipt}
 use Rattle.at_object.specs.Closings.{AreAccountedFor, IsAccountedFor}
 use Rattle.at_object.specs.Parted.{HasMemoryFor}
 use Rattle.at_object.specs.Passes.{AreNewPasses, IsNewPass, PassTerms, Stands}
 use Rattle.at_stepper.specs.Callers.{CallerTerms, IsFile, IsNewCaller, answers_in, caller_turns_left, calls_left_of}
-use Rattle.at_stepper.specs.KeptCallers.{calls_answered}
 use Rattle.at_stepper.specs.KeptStepping.{AreCallersOn, AreSplit, AreStartsFor, ChangesOne, IsCallerOn, IsSplit, IsTurned, TurnsOne, passes_in}
-use Rattle.at_stepper.specs.Stepping.{AreBegunCallers, IsBegunCaller, calls_handed_in}
+use Rattle.at_stepper.specs.Stepping.{AreBegunCallers, IsBegunCaller}
 use Rattle.at_stepper.specs.declared.caller.Start.{Start}
 use Rattle.at_stepper.specs.declared.turned.Turned.{Turned}
 
@@ -59,46 +59,46 @@ module _ (ledger : BoardTerms) (starts : List Start) (files : List (Vec Call Glo
       ∙ ap (λ (s : Start). s.pass) (get_or_next starts n start others start start_is))
       (new.each n start.pass (omega (arith, within, new.count, length-map starts (λ (s : Start). s.pass))))
 
-  pub file_next : (d : List Call) → get_or (calls_handed_in files) n d ≡ file.items
+  pub file_next : (d : List Call) → get_or (lists_in files) n d ≡ file.items
   file_next d =
       get_or-map (λ (f : Vec Call Global). f.items) files n file d (known_next files n file left file_is)
       ∙ ap (λ (f : Vec Call Global). f.items) (get_or_next files n file left file file_is)
 
-  known_file : n < length (calls_handed_in files)
+  known_file : n < length (lists_in files)
   known_file = omega (arith, known_next files n file left file_is, length-map files (λ (f : Vec Call Global). f.items))
 
-  pub IsFile-next : (accounts : ℕ) → All (IsFile accounts) (calls_handed_in files) → IsFile accounts file.items
+  pub IsFile-next : (accounts : ℕ) → All (IsFile accounts) (lists_in files) → IsFile accounts file.items
   IsFile-next accounts known = subst (IsFile accounts) (file_next []) (known n [] known_file)
 
-  pub HasRoom-next : AreStartsFor (calls_handed_in files) starts → HasMemoryFor start.receipts (length file.items)
+  pub HasRoom-next : AreStartsFor (lists_in files) starts → HasMemoryFor start.receipts (length file.items)
   HasRoom-next rooms =
       subst (λ (calls : List Call). HasMemoryFor start.receipts (length calls)) (file_next [])
-      (subst (λ (s : Start). HasMemoryFor s.receipts (length (get_or (calls_handed_in files) n []))) (get_or_next starts n start others start start_is)
+      (subst (λ (s : Start). HasMemoryFor s.receipts (length (get_or (lists_in files) n []))) (get_or_next starts n start others start start_is)
       (rooms.room n [] start known_file))
 
   -- and the callers with that of this start and file
   module _ (callers : List CallerTerms) (caller : CallerTerms) (count : length callers ≡ n) (is_new : IsNewCaller ledger.book start.pass file.items caller) where
     pub made-next : AreNewPasses ledger (passes_in starts)
-        → ((p : ℕ) (f : List Call) (d : CallerTerms) → p < length callers → IsBegunCaller ledger p (get_or (calls_handed_in files) p f) (get_or callers p d))
+        → ((p : ℕ) (f : List Call) (d : CallerTerms) → p < length callers → IsBegunCaller ledger p (get_or (lists_in files) p f) (get_or callers p d))
         → (p : ℕ) (f : List Call) (d : CallerTerms) → p < length (callers ++ caller ∷ [])
-        → IsBegunCaller ledger p (get_or (calls_handed_in files) p f) (get_or (callers ++ caller ∷ []) p d)
+        → IsBegunCaller ledger p (get_or (lists_in files) p f) (get_or (callers ++ caller ∷ []) p d)
     made-next new made p f d within =
         let last : IsBegunCaller ledger n file.items caller = record {
           pass = subst (IsNewPass ledger n) (sym is_new.pass_is) (IsNewPass-next new);
           is_new = subst (λ (pass : PassTerms). IsNewCaller ledger.book pass file.items caller) (sym is_new.pass_is) is_new;
         } in
-        each_push (λ q c. IsBegunCaller ledger q (get_or (calls_handed_in files) q f) c) callers caller (λ q e inside. made q f e inside)
-        (subst (λ q. IsBegunCaller ledger q (get_or (calls_handed_in files) q f) caller) (sym count)
+        each_push (λ q c. IsBegunCaller ledger q (get_or (lists_in files) q f) c) callers caller (λ q e inside. made q f e inside)
+        (subst (λ q. IsBegunCaller ledger q (get_or (lists_in files) q f) caller) (sym count)
         (subst (λ (calls : List Call). IsBegunCaller ledger n calls caller) (sym (file_next f)) last)) p d within
 
-    pub calls-next : map (λ (c : CallerTerms). c.calls) callers ≡ take (length callers) (calls_handed_in files)
-        → map (λ (c : CallerTerms). c.calls) (callers ++ caller ∷ []) ≡ take (length (callers ++ caller ∷ [])) (calls_handed_in files)
+    pub calls-next : map (λ (c : CallerTerms). c.calls) callers ≡ take (length callers) (lists_in files)
+        → map (λ (c : CallerTerms). c.calls) (callers ++ caller ∷ []) ≡ take (length (callers ++ caller ∷ [])) (lists_in files)
     calls-next were =
         map-append (λ (c : CallerTerms). c.calls) callers (caller ∷ [])
-        ∙ (ap (λ (cs : List (List Call)). cs ++ caller.calls ∷ []) (were ∙ ap (λ k. take k (calls_handed_in files)) count)
-        ∙ (ap (λ (calls : List Call). take n (calls_handed_in files) ++ calls ∷ []) (is_new.calls_are ∙ sym (file_next []))
-        ∙ (sym (take_more (calls_handed_in files) n [] known_file)
-        ∙ ap (λ k. take k (calls_handed_in files)) (ap (λ k. k + 1) (sym count) ∙ sym (length_push callers caller)))))
+        ∙ (ap (λ (cs : List (List Call)). cs ++ caller.calls ∷ []) (were ∙ ap (λ k. take k (lists_in files)) count)
+        ∙ (ap (λ (calls : List Call). take n (lists_in files) ++ calls ∷ []) (is_new.calls_are ∙ sym (file_next []))
+        ∙ (sym (take_more (lists_in files) n [] known_file)
+        ∙ ap (λ k. take k (lists_in files)) (ap (λ k. k + 1) (sym count) ∙ sym (length_push callers caller)))))
 
 -- the callers of all files
 pub AreBegunCallers-all : (ledger : BoardTerms) (files : List (List Call)) (callers : List CallerTerms) → length files ≤ length callers
@@ -116,9 +116,9 @@ AreBegunCallers-all ledger files callers all calls made =
 
 -- room for a receipt of each call of a file that was read
 pub room_of_file : (files : List (Vec Call Global)) (n m calls : ℕ) (file : Vec Call Global) (capacity : ℕ) → n < length files → m ≡ n
-    → file ≡ get_or files m file → calls ≡ file.len → calls ≤ capacity → length (get_or (calls_handed_in files) n []) ≤ capacity
+    → file ≡ get_or files m file → calls ≡ file.len → calls ≤ capacity → length (get_or (lists_in files) n []) ≤ capacity
 room_of_file files n m calls file capacity within same read count fits =
-    let is : get_or (calls_handed_in files) n [] ≡ file.items =
+    let is : get_or (lists_in files) n [] ≡ file.items =
     get_or-map (λ (f : Vec Call Global). f.items) files n file [] within
     ∙ ap (λ (f : Vec Call Global). f.items) (ap (λ k. get_or files k file) (sym same) ∙ sym read) in
     omega (arith, ap (λ (calls : List Call). length calls) is, file.ok.0, count, fits)
@@ -200,11 +200,11 @@ AreCallersOn-begun ledger files callers begun count = record {
 
 -- a caller is split
 pub IsSplit-told : (caller : CallerTerms) (pass : PassTerms) (list : List Receipt) → pass ≡ caller.pass → list ≡ caller.receipts
-    → Stands caller.pass caller.receipts → caller.pass.calls ≡ length caller.receipts → calls_answered caller.receipts ≡ caller.calls
+    → Stands caller.pass caller.receipts → caller.pass.calls ≡ length caller.receipts → calls_of caller.receipts ≡ caller.calls
     → length caller.receipts < 2 ^ 32 → IsSplit caller pass list
 IsSplit-told caller pass list pass_is list_is stands counted made few = record {
   pass_is = pass_is;
-  made = ap calls_answered list_is ∙ made;
+  made = ap calls_of list_is ∙ made;
   stands = subst (λ (p : PassTerms). Stands p list) (sym pass_is) (subst (λ (rs : List Receipt). Stands caller.pass rs) (sym list_is) stands);
   counted = ap (λ (p : PassTerms). p.calls) pass_is ∙ (counted ∙ sym (ap (λ (rs : List Receipt). length rs) list_is));
   few = omega (arith, few, ap (λ (rs : List Receipt). length rs) list_is);
@@ -218,8 +218,8 @@ AreSplit-push callers passes receipts caller pass list were is = record {
   passes_count = length_push passes pass ∙ (ap (λ n. n + 1) were.passes_count ∙ sym (length_push callers caller));
   receipts_count = length_push receipts list ∙ (ap (λ n. n + 1) were.receipts_count ∙ sym (length_push callers caller));
   made =
-      map-append calls_answered receipts (list ∷ [])
-      ∙ (ap (λ (files : List (List Call)). files ++ calls_answered list ∷ []) were.made
+      map-append calls_of receipts (list ∷ [])
+      ∙ (ap (λ (files : List (List Call)). files ++ calls_of list ∷ []) were.made
       ∙ (ap (λ (file : List Call). map (λ (c : CallerTerms). c.calls) callers ++ file ∷ []) is.made
       ∙ sym (map-append (λ (c : CallerTerms). c.calls) callers (caller ∷ []))));
   few = All-push (λ (rs : List Receipt). length rs < 2 ^ 32) receipts list were.few is.few;

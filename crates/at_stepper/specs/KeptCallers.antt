@@ -1,8 +1,9 @@
 -- What the type of a caller keeps of its fields, which no other sees.
-use Rattle.std.specs.Prelude.{◌≡◌, ℕ, ◌<◌, ◌≤◌, List, Option, Some, None, length, map, slice_index_or, take}
+use Rattle.std.specs.Prelude.{◌≡◌, ℕ, ◌<◌, ◌≤◌, List, Option, Some, None, length, slice_index_or, take}
 use Rattle.at_ledger.specs.Book.{BookTerms}
 use Rattle.at_ledger.specs.declared.call.Call.{Call}
 use Rattle.at_board.specs.Knowledge.Seats.{SeatTerms}
+use Rattle.at_log.specs.Receipts.{calls_of}
 use Rattle.at_log.specs.declared.receipt.Receipt.{Receipt}
 use Rattle.at_object.specs.Parted.{IsOfOnePass, pass_of}
 use Rattle.at_object.specs.Passes.{PassTerms, Stands}
@@ -32,10 +33,6 @@ caller_of seat rest calls receipts making = record {
   stage = stage_in making;
 }
 
--- the calls that receipts are of
-abbrev pub calls_answered : List Receipt → List Call
-calls_answered receipts = map (λ r. r.call) receipts
-
 -- the next call was begun with this pass, of this seat and rest after the last turn, and is not ended
 pub record IsNextInMaking (calls : List Call) (made : ℕ) (call : Call) (seat : SeatTerms) (rest : Rest) (c : CallingTerms) : Type 0 where
   pub more : made < length calls
@@ -57,7 +54,7 @@ pub record IsCallerSo (caller : CallerTerms) (room : ℕ) : Type 0 where
   pub file : IsFile (length caller.seat.knows.book.accounts) caller.calls
   pub stands : Stands caller.pass caller.receipts
   pub counted : caller.pass.calls ≡ length caller.receipts
-  pub made : calls_answered caller.receipts ≡ take (length caller.receipts) caller.calls
+  pub made : calls_of caller.receipts ≡ take (length caller.receipts) caller.calls
   pub within : length caller.receipts ≤ length caller.calls
   pub fits : length caller.calls ≤ room
 

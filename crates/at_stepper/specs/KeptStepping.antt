@@ -1,17 +1,16 @@
 -- What the type of a run keeps of its fields, which no caller sees.
-use Rattle.std.specs.Prelude.{◌≡◌, ◌≢◌, ℕ, ◌+◌, ◌^◌, ◌<◌, List, [], All, length, map, slice_index, slice_index_or, Vec}
-use Rattle.std.specs.Global.{Global}
+use Rattle.std.specs.Prelude.{◌≡◌, ◌≢◌, ℕ, ◌+◌, ◌^◌, ◌<◌, List, [], All, length, map, slice_index, slice_index_or}
 use Rattle.at_ledger.specs.Book.{BookTerms}
 use Rattle.at_ledger.specs.declared.call.Call.{Call}
 use Rattle.at_board.specs.Counting.{raised}
 use Rattle.at_board.specs.Knowledge.Seats.{BoardTerms, IsOf}
+use Rattle.at_log.specs.Receipts.{calls_of, lists_in}
 use Rattle.at_log.specs.declared.receipt.Receipt.{Receipt}
 use Rattle.at_object.specs.Closings.{AreAccountedFor}
 use Rattle.at_object.specs.Parted.{HasMemoryFor}
 use Rattle.at_object.specs.Passes.{IsPassOf, PassTerms, Stands}
 use Rattle.at_stepper.specs.Callers.{CallerTerms, LeavesCaller, answers_in, caller_turns_left, calls_left_of, steps_in}
 use Rattle.at_calling.specs.Calling.{MakesCallStep, exchanges_of}
-use Rattle.at_stepper.specs.KeptCallers.{calls_answered}
 use Rattle.at_stepper.specs.Stepping.{IsOver, StepperTerms, all_turns_left, calls_left, files_of}
 use Rattle.at_stepper.specs.declared.caller.Start.{Start}
 use Rattle.at_stepper.specs.declared.progress.EndedRun.{EndedRun}
@@ -24,10 +23,6 @@ use Rattle.at_stepper.specs.declared.turned.Turned.{Turned}
 -- the passes that callers start with
 abbrev pub passes_in : List Start → List PassTerms
 passes_in starts = map (λ (start : Start). start.pass) starts
-
--- the lists of receipts
-abbrev pub receipts_in : List (Vec Receipt Global) → List (List Receipt)
-receipts_in receipts = map (λ (list : Vec Receipt Global). list.items) receipts
 
 -- a run as callers see it
 abbrev pub stepper_terms : Run → StepperTerms
@@ -78,13 +73,13 @@ pub record TurnsOne (process : ℕ) (turned : Turned) (before after : StepperTer
 -- all calls of the run are answered by these receipts
 pub record IsAnsweredBy (run : Run) (receipts : List (List Receipt)) : Type 0 where
   pub over : IsOver (stepper_terms run)
-  pub made : map calls_answered receipts ≡ files_of (stepper_terms run)
+  pub made : map calls_of receipts ≡ files_of (stepper_terms run)
   pub few : All (λ list. length list < 2 ^ 32) receipts
 
 -- what is kept of a run whose passes and receipts are put together
 pub record IsEndedSo (ended : EndedRun) : Type 0 where
-  pub answered : IsAnsweredBy ended.run.value (receipts_in ended.receipts.items)
-  pub accounted : AreAccountedFor ended.ledger ended.passes.items (receipts_in ended.receipts.items)
+  pub answered : IsAnsweredBy ended.run.value (lists_in ended.receipts.items)
+  pub accounted : AreAccountedFor ended.ledger ended.passes.items (lists_in ended.receipts.items)
   pub ledger_is : ended.ledger ≡ ended.run.value.ledger
 
 -- and of one whose ledger is closed
@@ -100,7 +95,7 @@ IsProgressSo (Closed over) = IsClosedSo over
 -- the pass and the receipts of a caller that has answered all its calls
 pub record IsSplit (caller : CallerTerms) (pass : PassTerms) (receipts : List Receipt) : Type 0 where
   pub pass_is : pass ≡ caller.pass
-  pub made : calls_answered receipts ≡ caller.calls
+  pub made : calls_of receipts ≡ caller.calls
   pub stands : Stands pass receipts
   pub counted : pass.calls ≡ length receipts
   pub few : length receipts < 2 ^ 32
@@ -109,7 +104,7 @@ pub record IsSplit (caller : CallerTerms) (pass : PassTerms) (receipts : List Re
 pub record AreSplit (callers : List CallerTerms) (passes : List PassTerms) (receipts : List (List Receipt)) : Type 0 where
   pub passes_count : length passes ≡ length callers
   pub receipts_count : length receipts ≡ length callers
-  pub made : map calls_answered receipts ≡ map (λ (caller : CallerTerms). caller.calls) callers
+  pub made : map calls_of receipts ≡ map (λ (caller : CallerTerms). caller.calls) callers
   pub few : All (λ list. length list < 2 ^ 32) receipts
   pub each : (p : ℕ) (d : CallerTerms) (e : PassTerms) → p < length callers →
       IsSplit (slice_index_or callers p d) (slice_index_or passes p e) (slice_index_or receipts p [])

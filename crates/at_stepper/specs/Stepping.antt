@@ -1,6 +1,5 @@
 -- Runs of the calls of all processes by turns.
-use Rattle.std.specs.Prelude.{◌≡◌, ℕ, ◌<◌, List, length, map, slice_index, slice_index_or, sum_by, Vec}
-use Rattle.std.specs.Global.{Global}
+use Rattle.std.specs.Prelude.{◌≡◌, ℕ, ◌<◌, List, length, map, slice_index, slice_index_or, sum_by}
 use Rattle.at_ledger.specs.Book.{BookTerms}
 use Rattle.at_ledger.specs.declared.call.Call.{Call}
 use Rattle.at_board.specs.Knowledge.Seats.{BoardTerms}
@@ -11,10 +10,6 @@ use Rattle.at_stepper.specs.Callers.{CallerTerms, IsNewCaller, calls_left_of, ca
 pub record StepperTerms : Type 0 where
   pub ledger : BoardTerms
   pub callers : List CallerTerms
-
--- the calls of each file, as they are handed in
-abbrev pub calls_handed_in : List (Vec Call Global) → List (List Call)
-calls_handed_in files = map (λ (file : Vec Call Global). file.items) files
 
 -- the calls of each process
 abbrev pub files_of : StepperTerms → List (List Call)

@@ -1,11 +1,12 @@
 //! The callers that a run starts with.
 
 ghost use Rattle.std.specs.Prelude.{◌≡◌, ℕ, ◌<◌, All, IfOk, length, slice_index_or};
+ghost use Rattle.at_log.specs.Receipts.{lists_in};
 ghost use Rattle.at_object.specs.Parted.{HasMemoryFor};
 ghost use Rattle.at_object.specs.Passes.{AreNewPasses};
 ghost use Rattle.at_stepper.specs.Callers.{IsFile};
 ghost use Rattle.at_stepper.specs.KeptStepping.{AreStartsFor, passes_in};
-ghost use Rattle.at_stepper.specs.Stepping.{AreBegunCallers, calls_handed_in};
+ghost use Rattle.at_stepper.specs.Stepping.{AreBegunCallers};
 
 use crate::caller::{Caller, Start};
 use at_board::Board;
@@ -30,7 +31,7 @@ pub(crate) fn memory_for(
     requires count { length files.now ≡ book.now.processes }
     ensures book { IfOk result (λ m. m.ledger.book ≡ book.now) }
     ensures passes { IfOk result (λ m. AreNewPasses m.ledger (passes_in m.starts.items)) }
-    ensures rooms { IfOk result (λ m. AreStartsFor (calls_handed_in files.now) m.starts.items) }
+    ensures rooms { IfOk result (λ m. AreStartsFor (lists_in files.now) m.starts.items) }
     ensures room { IfOk result (λ m. HasMemoryFor m.callers (length files.now)) }
 {
     let (ledger, passes) = Ledger::new(alloc, book)?;
@@ -45,7 +46,7 @@ pub(crate) fn memory_for(
 fn starts_for(alloc: Global, passes: Vec<Pass>, files: &[Vec<Call>]) -> Result<Vec<Start>, NoMemory>
     requires count { length passes.items ≡ length files.now }
     ensures passes { IfOk result (λ starts. passes_in starts.items ≡ passes.items) }
-    ensures rooms { IfOk result (λ starts. AreStartsFor (calls_handed_in files.now) starts.items) }
+    ensures rooms { IfOk result (λ starts. AreStartsFor (lists_in files.now) starts.items) }
 {
     let mut starts = Vec::with_capacity(alloc, files.len())?;
     for pass in passes {
@@ -66,10 +67,10 @@ pub(crate) fn callers_for(
     mut callers: Vec<Caller>,
 ) -> Vec<Caller>
     requires passes { AreNewPasses board.now (passes_in starts.items) }
-    requires rooms { AreStartsFor (calls_handed_in files.items) starts.items }
-    requires known { All (IsFile (length board.now.book.accounts)) (calls_handed_in files.items) }
+    requires rooms { AreStartsFor (lists_in files.items) starts.items }
+    requires known { All (IsFile (length board.now.book.accounts)) (lists_in files.items) }
     requires room { HasMemoryFor callers (length files.items) }
-    ensures { AreBegunCallers board.now (calls_handed_in files.items) result.items }
+    ensures { AreBegunCallers board.now (lists_in files.items) result.items }
 {
     let mut others = starts.into_iter();
     for calls in files {

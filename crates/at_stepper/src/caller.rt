@@ -6,11 +6,12 @@ ghost use Rattle.at_board.specs.Counting.{raised};
 ghost use Rattle.at_board.specs.Knowledge.Seats.{IsOf};
 ghost use Rattle.at_ledger.specs.Call.{IsCallOn};
 ghost use Rattle.at_ledger.specs.declared.call.Call.{Call};
+ghost use Rattle.at_log.specs.Receipts.{calls_of};
 ghost use Rattle.at_object.specs.Parted.{HasMemoryFor, IsOfOnePass};
 ghost use Rattle.at_object.specs.Passes.{IsPassOf, Stands};
 ghost use Rattle.at_stepper.specs.Callers.{IsFile, IsNewCaller, LeavesCaller, answers_in, caller_turns_left, calls_left_of, steps_in};
 ghost use Rattle.at_calling.specs.Calling.{MakesCallStep, exchanges_of};
-ghost use Rattle.at_stepper.specs.KeptCallers.{IsCallBegun, calls_answered};
+ghost use Rattle.at_stepper.specs.KeptCallers.{IsCallBegun};
 
 use crate::turned::Turned;
 use at_board::{Board, BoardSeat};
@@ -138,7 +139,7 @@ impl Caller {
         ensures receipts { result.1.items ≡ self.receipts }
         ensures stands { Stands self.pass self.receipts }
         ensures counted { self.pass.calls ≡ length self.receipts }
-        ensures made { calls_answered self.receipts ≡ self.calls }
+        ensures made { calls_of self.receipts ≡ self.calls }
         ensures few { length self.receipts < 2 ^ 32 }
     {
         let Caller {

@@ -2,9 +2,10 @@
 
 ghost use Rattle.std.specs.Prelude.{◌≡◌, All, IfErr, IfOk, length};
 ghost use Rattle.at_ledger.specs.Run.{Legal, Whole};
+ghost use Rattle.at_log.specs.Receipts.{lists_in};
 ghost use Rattle.at_object.specs.Parted.{HasMemoryFor};
 ghost use Rattle.at_stepper.specs.Callers.{CallerTerms, calls_left_of};
-ghost use Rattle.at_stepper.specs.KeptStepping.{AreCallersOn, AreSplit, IsClosedSo, IsEndedSo, IsProgressSo, receipts_in, run_in, stepper_terms};
+ghost use Rattle.at_stepper.specs.KeptStepping.{AreCallersOn, AreSplit, IsClosedSo, IsEndedSo, IsProgressSo, run_in, stepper_terms};
 ghost use Rattle.at_stepper.specs.Stepping.{IsOver, files_of};
 
 use crate::caller::Caller;
@@ -125,7 +126,7 @@ fn parts(
     requires idle { All (λ (caller : CallerTerms). calls_left_of caller ≡ 0) callers.items }
     requires passes { HasMemoryFor passes (length callers.items) }
     requires receipts { HasMemoryFor receipts (length callers.items) }
-    ensures { AreSplit callers.items result.0.items (receipts_in result.1.items) }
+    ensures { AreSplit callers.items result.0.items (lists_in result.1.items) }
 {
     for caller in callers {
         let (pass, list) = caller.split();

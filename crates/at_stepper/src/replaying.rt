@@ -3,10 +3,11 @@
 ghost use Rattle.std.specs.Prelude.{◌≡◌, ◌⊎◌, ◌<◌, [], ◌∷◌, All, IfOk, IsTrue, OnOk, length, slice_index};
 ghost use Rattle.std.specs.List.{range_with_len};
 ghost use Rattle.at_ledger.specs.Run.{Legal, Whole};
+ghost use Rattle.at_log.specs.Receipts.{lists_in};
 ghost use Rattle.at_stepper.specs.Callers.{IsFile};
 ghost use Rattle.at_stepper.specs.Replays.{IsSameRun, IsUnturned, TurnBy, TurnInRounds};
 ghost use Rattle.at_stepper.specs.Schedules.{AreTurnsOf};
-ghost use Rattle.at_stepper.specs.Stepping.{IsOver, all_turns_left, calls_handed_in, calls_left, files_of};
+ghost use Rattle.at_stepper.specs.Stepping.{IsOver, all_turns_left, calls_left, files_of};
 
 use crate::stepper::Stepper;
 use at_ledger::{Book, Call, Line};
@@ -37,12 +38,12 @@ pub fn replay(
     schedule: &[u32],
 ) -> Result<Replayed, NoMemory>
     requires count { length files.items ≡ book.now.processes }
-    requires known { All (IsFile (length book.now.accounts)) (calls_handed_in files.items) }
+    requires known { All (IsFile (length book.now.accounts)) (lists_in files.items) }
     requires schedule { All (λ process. process < book.now.processes) schedule.now }
     ensures turns { IfOk result
-        (λ r. AreTurnsOf (calls_handed_in files.items) schedule.now r.turns.items) }
+        (λ r. AreTurnsOf (lists_in files.items) schedule.now r.turns.items) }
     ensures legal { IfOk result (λ r. Legal book.now r.lines.items) }
-    ensures whole { IfOk result (λ r. Whole (calls_handed_in files.items) r.lines.items) }
+    ensures whole { IfOk result (λ r. Whole (lists_in files.items) r.lines.items) }
 {
     let Ok(mut stepper) = Stepper::new(alloc, book, files) else {
         return Err(AllocError);

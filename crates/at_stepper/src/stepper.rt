@@ -2,9 +2,10 @@
 
 ghost use Rattle.std.specs.Prelude.{◌≡◌, ◌≢◌, ℕ, ◌+◌, ◌<◌, ◌==◌, All, IfErr, IfOk, length, slice_index, slice_index_or};
 ghost use Rattle.at_board.specs.Counting.{raised};
+ghost use Rattle.at_log.specs.Receipts.{lists_in};
 ghost use Rattle.at_stepper.specs.Callers.{CallerTerms, IsFile, LeavesCaller, answers_in, steps_in};
 ghost use Rattle.at_calling.specs.Calling.{MakesCallStep, exchanges_of};
-ghost use Rattle.at_stepper.specs.Stepping.{IsNewStepper, all_turns_left, calls_handed_in, calls_left, files_of};
+ghost use Rattle.at_stepper.specs.Stepping.{IsNewStepper, all_turns_left, calls_left, files_of};
 
 use crate::beginning::{Memory, callers_for, memory_for};
 use crate::progress::Progress;
@@ -43,8 +44,8 @@ impl Stepper {
     /// for the receipts of all calls. What it takes grows with the book and the calls.
     pub fn new(alloc: Global, book: &Book, files: Vec<Vec<Call>>) -> Result<Stepper, StepperRefused>
         requires count { length files.items ≡ book.now.processes }
-        requires known { All (IsFile (length book.now.accounts)) (calls_handed_in files.items) }
-        ensures ok { IfOk result (IsNewStepper book.now (calls_handed_in files.items)) }
+        requires known { All (IsFile (length book.now.accounts)) (lists_in files.items) }
+        ensures ok { IfOk result (IsNewStepper book.now (lists_in files.items)) }
         ensures refused { IfErr result (λ r. r.files.items ≡ files.items) }
     {
         let Ok(memory) = memory_for(alloc, book, files.as_slice()) else {

@@ -5,10 +5,11 @@ use Rattle.std.proofs.lemmas.Bool.{cases_eq}
 use Rattle.std.proofs.lemmas.List.{get_or-map, get_or-set_other, get_or-set_same, length-append, length-map, map-set}
 use Rattle.std.proofs.lemmas.List.Elements.{All-set}
 use Rattle.at_board.specs.Knowledge.Seats.{BoardTerms}
+use Rattle.at_log.specs.Receipts.{lists_in}
 use Rattle.at_log.specs.declared.receipt.Receipt.{Receipt}
 use Rattle.at_object.specs.Closings.{AreAccountedFor, IsAccountedFor}
 use Rattle.at_object.specs.Passes.{IsPassOf, PassTerms, Stands, one_more_call}
-use Rattle.at_stepper_trials.specs.ObjectCalls.{HaveMadeCalls, receipts_by_process}
+use Rattle.at_stepper_trials.specs.ObjectCalls.{HaveMadeCalls}
 
 -- one more call was made with a pass
 IsAccountedFor-more : (ledger : BoardTerms) (p : ℕ) (pass after : PassTerms) (list : List Receipt) (r : Receipt) → IsAccountedFor ledger p pass list
@@ -50,7 +51,7 @@ pub HaveMadeCalls-more : (ledger : BoardTerms) (passes : List PassTerms) (receip
     → HaveMadeCalls ledger (set passes p after) (set receipts p list)
 HaveMadeCalls-more ledger passes receipts p d e after list r made within few of_ledger process stands calls list_is =
     let items : Vec Receipt Global → List Receipt = λ v. v.items in
-    let lists : List (List Receipt) = receipts_by_process receipts in
+    let lists : List (List Receipt) = lists_in receipts in
     let old : List Receipt = (get_or receipts p e).items in
     let small : List Receipt → Type 0 = λ rs. length rs < 2 ^ 32 in
     let old_is : get_or lists p [] ≡ old =

@@ -1,8 +1,8 @@
 //! Replays of two files of one call each.
 
 ghost use Rattle.std.specs.Prelude.{◌≡◌, ◌<◌, All, IfSome, length};
+ghost use Rattle.at_log.specs.Receipts.{lists_in};
 ghost use Rattle.at_stepper.specs.Callers.{IsFile};
-ghost use Rattle.at_stepper.specs.Stepping.{calls_handed_in};
 
 use crate::small_files::both_files;
 use at_ledger::{Book, Call, Reply};
@@ -28,7 +28,7 @@ fn file_of(alloc: Global, from: u32, to: u32, amount: u64) -> Option<Vec<Call>>
 /// A payment of each process to the other.
 fn two_files(alloc: Global) -> Option<Vec<Vec<Call>>>
     ensures count { IfSome result (λ files. length files.items ≡ 2) }
-    ensures known { IfSome result (λ files. All (IsFile 2) (calls_handed_in files.items)) }
+    ensures known { IfSome result (λ files. All (IsFile 2) (lists_in files.items)) }
 {
     let zero = file_of(alloc, 0, 1, 30)?;
     let one = file_of(alloc, 1, 0, 20)?;

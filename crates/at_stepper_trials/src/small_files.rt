@@ -1,8 +1,8 @@
 //! Two small files over a book of two processes, and the outcomes that their calls can have.
 
 ghost use Rattle.std.specs.Prelude.{◌≡◌, All, IfSome, length};
+ghost use Rattle.at_log.specs.Receipts.{lists_in};
 ghost use Rattle.at_stepper.specs.Callers.{IsFile};
-ghost use Rattle.at_stepper.specs.Stepping.{calls_handed_in};
 
 use crate::journals::{are_lines, state_after};
 use at_ledger::{Book, Call, Line, Reply};
@@ -78,7 +78,7 @@ pub(crate) fn both_files(alloc: Global, zero: Vec<Call>, one: Vec<Call>) -> Opti
     requires zero { IsFile 2 zero.items }
     requires one { IsFile 2 one.items }
     ensures count { IfSome result (λ files. length files.items ≡ 2) }
-    ensures known { IfSome result (λ files. All (IsFile 2) (calls_handed_in files.items)) }
+    ensures known { IfSome result (λ files. All (IsFile 2) (lists_in files.items)) }
 {
     match Vec::from_array(alloc, [zero, one]) {
         Ok(files) => Some(files),
@@ -119,7 +119,7 @@ fn file_of_one(alloc: Global) -> Option<Vec<Call>>
 /// The files of both processes.
 pub(crate) fn small_files(alloc: Global) -> Option<Vec<Vec<Call>>>
     ensures count { IfSome result (λ files. length files.items ≡ 2) }
-    ensures known { IfSome result (λ files. All (IsFile 2) (calls_handed_in files.items)) }
+    ensures known { IfSome result (λ files. All (IsFile 2) (lists_in files.items)) }
 {
     let zero = file_of_zero(alloc)?;
     let one = file_of_one(alloc)?;

@@ -9,9 +9,10 @@ use Rattle.at_ledger.specs.declared.call.Call.TheVariants.{Read}
 use Rattle.at_history.proofs.Laws.Prefixes.{IsPrefix-refl, IsPrefix-trans}
 use Rattle.at_history.specs.Publications.{IsPrefix}
 use Rattle.at_board.specs.Knowledge.Seats.{BoardTerms}
+use Rattle.at_log.specs.Receipts.{calls_of}
 use Rattle.at_log.specs.declared.receipt.Receipt.{Receipt}
 use Rattle.at_object.specs.Passes.{IsPassOf, PassTerms, Stands, one_more_call}
-use Rattle.at_workers.specs.Jobs.{IsJob, IsReady, JobTerms, Ran, calls_of}
+use Rattle.at_workers.specs.Jobs.{IsJob, IsReady, JobTerms, Ran}
 
 -- the receipts stand with the pass still, with that of one more call
 pub Stands-made : (before after : PassTerms) (earlier receipts : List Receipt) (r : Receipt) → Stands before earlier

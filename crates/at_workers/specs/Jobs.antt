@@ -1,9 +1,10 @@
 -- Jobs as callers see them, what the type of a job keeps, and what running it leaves.
-use Rattle.std.specs.Prelude.{◌≡◌, ℕ, ◌^◌, ◌<◌, ◌≤◌, List, [], length, map, All}
+use Rattle.std.specs.Prelude.{◌≡◌, ℕ, ◌^◌, ◌<◌, ◌≤◌, List, [], length, All}
 use Rattle.at_ledger.specs.Call.{IsCallOn}
 use Rattle.at_ledger.specs.declared.call.Call.{Call}
 use Rattle.at_history.specs.Publications.{IsPrefix}
 use Rattle.at_board.specs.Knowledge.Seats.{BoardTerms}
+use Rattle.at_log.specs.Receipts.{calls_of}
 use Rattle.at_log.specs.declared.receipt.Receipt.{Receipt}
 use Rattle.at_object.specs.Passes.{IsPassOf, PassTerms, Stands}
 
@@ -27,10 +28,6 @@ pub record IsJob (job : JobTerms) (room : ℕ) : Type 0 where
 pub record IsReady (ledger : BoardTerms) (job : JobTerms) : Type 0 where
   pub of_ledger : IsPassOf job.pass ledger
   pub unmade : job.receipts ≡ []
-
--- the calls that the receipts are of
-abbrev pub calls_of : List Receipt → List Call
-calls_of receipts = map (λ r. r.call) receipts
 
 -- the job was run on the ledger: it has one receipt for each of its calls, in order. These stand with its pass, which has counted
 -- as many calls

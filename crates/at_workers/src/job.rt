@@ -4,8 +4,8 @@ ghost use Rattle.std.specs.Prelude.{◌≡◌, ◌+◌, ◌^◌, ◌<◌, ◌++�
 ghost use Rattle.at_history.specs.Publications.{IsPrefix};
 ghost use Rattle.at_ledger.specs.Call.{IsCallOn};
 ghost use Rattle.at_ledger.specs.declared.call.Call.{Call};
+ghost use Rattle.at_log.specs.Receipts.{calls_of};
 ghost use Rattle.at_object.specs.Passes.{IsPassOf, Stands};
-ghost use Rattle.at_workers.specs.Jobs.{calls_of};
 
 use crate::gate::Gate;
 use at_ledger::Call;

@@ -1,7 +1,8 @@
-use Rattle.std.proofs.Common.{◌++◌, List, [], ◌∷◌, Vec, ap, map, sym, ◌∙◌}
+use Rattle.std.proofs.Common.{◌++◌, List, [], ◌∷◌, Vec, ap, sym, ◌∙◌}
 use Rattle.std.specs.Global.{Global}
 use Rattle.std.proofs.lemmas.List.{map-append}
 use Rattle.std.proofs.lemmas.List.Elements.{All-push}
+use Rattle.at_log.specs.Receipts.{lists_in}
 use Rattle.at_log.specs.declared.receipt.Receipt.{Receipt}
 use Rattle.at_object.specs.Passes.{PassTerms}
 use Rattle.at_agree.specs.Agreement.{StandsByItself}
@@ -17,10 +18,10 @@ loop-vote-preserved c =
     let items : Vec Receipt Global → List Receipt = λ v. v.items in
     record {
       passes = c.in_ok-push.ensures.items
-          ∙ ((λ t. c.loop-vote.invariant.passes t ++ c.split-pass.ensures.pass t ∷ []) ∙ sym (map-append pass done (x ∷ [])));
-      receipts = ap (map items) c.in_ok-push-2.ensures.items
-          ∙ (map-append items c.loop-vote.receipts.items (c.split-pass.result.1 ∷ [])
-          ∙ ((λ t. c.loop-vote.invariant.receipts t ++ c.split-pass.ensures.receipts t ∷ []) ∙ sym (map-append told done (x ∷ []))));
+          ∙ ((λ t. c.loop-vote.invariant.passes t ++ c.in_ok-pass.ensures.pass t ∷ []) ∙ sym (map-append pass done (x ∷ [])));
+      receipts = ap lists_in c.in_ok-push-2.ensures.items
+          ∙ (map-append items c.loop-vote.receipts.items (c.in_ok-pass.told ∷ [])
+          ∙ ((λ t. c.loop-vote.invariant.receipts t ++ c.in_ok-pass.ensures.receipts t ∷ []) ∙ sym (map-append told done (x ∷ []))));
       stands = All-push StandsByItself done x c.loop-vote.invariant.stands
-          (record { stands = c.split-pass.ensures.stands; counted = c.split-pass.ensures.counted });
+          (record { stands = c.split.ensures.stands; counted = c.split.ensures.counted });
     }

@@ -1,5 +1,4 @@
-use Rattle.std.proofs.Common.{◌≡◌, ◌≤◌, List, [], ◌∷◌, ◌++◌, All, length, map, ap, arith, subst, sym, ◌∙◌, append_assoc}
-use Rattle.std.specs.Vec.{vec_capacity}
+use Rattle.std.proofs.Common.{◌≡◌, List, [], ◌∷◌, ◌++◌, All, length, map, ap, arith, subst, sym, ◌∙◌, append_assoc}
 use Rattle.std.proofs.lemmas.Grind.{common_steps}
 use Rattle.std.proofs.lemmas.List.{map-append}
 use Rattle.std.proofs.lemmas.List.Elements.{All-push}
@@ -16,9 +15,7 @@ invariant_of-push c =
     let parts : c.args.passes.items ≡ done ++ pass ∷ left =
     c.loop-pass.invariant.passes ∙ ap (λ (ps : List PassTerms). done ++ ps) c.in-Some.ensures.steps.0 in
     let new = IsNewPass-at c.args.ledger.now c.args.passes.items done left pass c.requires parts in
-    let room : 4 ≤ vec_capacity c.in_ok-with_capacity.field-0 = omega (arith, c.in_ok-with_capacity.ensures.capacity) in
-    IsVoice-new c.args.ledger.now (length done) (vec_capacity c.in_ok-with_capacity.field-0) pass c.in_ok-with_capacity.field-0.items
-    new.0 new.1 c.in_ok-with_capacity.ensures.items room
+    IsVoice-new c.args.ledger.now (length done) pass c.new.result.items new.0 new.1 c.new.ensures
 
 pub loop-pass-preserved : goal.loop-pass-preserved
 loop-pass-preserved c =
@@ -26,7 +23,7 @@ loop-pass-preserved c =
     let pass : PassTerms = c.in-Some.pass in
     let left = c.next.new.self.rest.items in
     let voices : List VoiceTerms = c.loop-pass.voices.items in
-    let voice : VoiceTerms = record { pass = pass; receipts = c.in_ok-with_capacity.field-0.items } in
+    let voice : VoiceTerms = record { pass = pass; receipts = c.new.result.items } in
     let parts : c.args.passes.items ≡ done ++ pass ∷ left =
     c.loop-pass.invariant.passes ∙ ap (λ (ps : List PassTerms). done ++ ps) c.in-Some.ensures.steps.0 in
     let more : c.push.new.self.items ≡ voices ++ voice ∷ [] = c.in_ok-push.ensures.items in
@@ -37,7 +34,7 @@ loop-pass-preserved c =
       voices = ap (λ (vs : List VoiceTerms). map (λ (v : VoiceTerms). v.pass) vs) more
           ∙ (map-append (λ (v : VoiceTerms). v.pass) voices (voice ∷ []) ∙ ap (λ (ps : List PassTerms). ps ++ pass ∷ []) c.loop-pass.invariant.voices);
       unproposed = subst (All HasNotProposed) (sym more)
-          (All-push HasNotProposed voices voice c.loop-pass.invariant.unproposed c.in_ok-with_capacity.ensures.items);
+          (All-push HasNotProposed voices voice c.loop-pass.invariant.unproposed c.new.ensures);
     }
 
 pub returns : goal.returns

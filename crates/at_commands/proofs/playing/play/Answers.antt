@@ -1,11 +1,11 @@
 use Rattle.std.proofs.Common.{◌∙◌, length, map, ap}
 use Rattle.std.proofs.lemmas.List.{length-map}
 use Rattle.at_files.specs.Files.{contents_of}
+use Rattle.at_log.specs.Receipts.{calls_of}
 use Rattle.at_commands.proofs.JobsRun.{IsPlayed-journal, few-calls_in}
 use Rattle.at_commands.proofs.playing.play.Goals as goal
 use Rattle.at_commands.proofs.playing.play.Goals.{After-closing}
 use Rattle.at_commands.specs.Running.{IsClosedAfter}
-use Rattle.at_workers.specs.Jobs.{calls_of}
 
 -- the ledger is closed after the calls of the files
 closed_after : (g : _) (c : After-closing g) → IsClosedAfter c.args.book.now (contents_of c.args.files.items) c.in-Ok.closed

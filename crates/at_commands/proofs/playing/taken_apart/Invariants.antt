@@ -1,4 +1,5 @@
-use Rattle.std.proofs.Common.{◌≡◌, map}
+use Rattle.std.proofs.Common.{◌≡◌}
+use Rattle.at_log.specs.Receipts.{lists_in}
 use Rattle.at_commands.proofs.JobsMade.{passes_in}
 use Rattle.at_commands.proofs.JobsRun.{receipts_in}
 use Rattle.at_commands.proofs.playing.taken_apart.Given as goal
@@ -9,5 +10,5 @@ invariant-loop-job l = record {
   next : (goal.iterator-loop-job).can_next l.job-iterator;
   finite : (goal.iterator-loop-job).is_finite l.job-iterator;
   passes : l.passes.items ≡ passes_in l.yielded;
-  receipts : map (λ list. list.items) l.receipts.items ≡ receipts_in l.yielded;
+  receipts : lists_in l.receipts.items ≡ receipts_in l.yielded;
 }

@@ -2,10 +2,11 @@ use Rattle.std.proofs.Common.{◌≡◌, ◌∙◌, ℕ, ◌+◌, ◌<◌, ◌�
 use Rattle.std.proofs.lemmas.Grind.{common_steps}
 use Rattle.std.proofs.lemmas.List.{length-drop, length-map, length_push}
 use Rattle.at_ledger.specs.declared.call.Call.{Call}
+use Rattle.at_log.specs.Receipts.{lists_in}
 use Rattle.at_stepper.proofs.SteppingLaws.{AreBegunCallers-all, HasRoom-next, IsFile-next, IsNewPass-next, calls-next, made-next, rest_next}
 use Rattle.at_stepper.proofs.beginning.callers_for.Goals as goal
 use Rattle.at_stepper.specs.Callers.{CallerTerms}
-use Rattle.at_stepper.specs.Stepping.{IsBegunCaller, calls_handed_in}
+use Rattle.at_stepper.specs.Stepping.{IsBegunCaller}
 
 pub new-requires-clause-pass : goal.new-requires-clause-pass
 new-requires-clause-pass c =
@@ -65,10 +66,10 @@ loop-calls-preserved c =
       finite = tt;
       starts = rest_next starts n start others start_is ∙ ap (λ k. drop k starts) count;
       files = rest_next files n file left file_is ∙ ap (λ k. drop k files) count;
-      calls = subst (λ (cs : List CallerTerms). map (λ (x : CallerTerms). x.calls) cs ≡ take (length cs) (calls_handed_in files)) (sym more)
+      calls = subst (λ (cs : List CallerTerms). map (λ (x : CallerTerms). x.calls) cs ≡ take (length cs) (lists_in files)) (sym more)
           (calls-next ledger starts files n start others file left start_is file_is callers caller refl c.new.ensures kept.calls);
       made = subst (λ (cs : List CallerTerms). (p : ℕ) (f : List Call) (d : CallerTerms) → p < length cs
-          → IsBegunCaller ledger p (get_or (calls_handed_in files) p f) (get_or cs p d)) (sym more)
+          → IsBegunCaller ledger p (get_or (lists_in files) p f) (get_or cs p d)) (sym more)
           (made-next ledger starts files n start others file left start_is file_is callers caller refl c.new.ensures c.requires.passes kept.made);
       room = omega (arith, kept.room, c.push_reserved.ensures.len, c.push_reserved.ensures.capacity, c.in-Some.ensures.steps.1);
     }
@@ -78,11 +79,11 @@ returns c =
     let files = c.args.files.items in
     let callers = c.loop-calls.callers.items in
     let none : c.loop-calls.calls-iterator.rest.items ≡ [] = grind (arith, common_steps) in
-    let all : length (calls_handed_in files) ≤ length callers =
+    let all : length (lists_in files) ≤ length callers =
     omega (
       arith,
       length-map files (λ (f : Vec Call Global). f.items),
       length-drop (length callers) files,
       ap (λ (fs : List (Vec Call Global)). length fs) (sym c.loop-calls.invariant.files ∙ none),
     ) in
-    AreBegunCallers-all c.args.board.now (calls_handed_in files) callers all c.loop-calls.invariant.calls c.loop-calls.invariant.made
+    AreBegunCallers-all c.args.board.now (lists_in files) callers all c.loop-calls.invariant.calls c.loop-calls.invariant.made

@@ -1,8 +1,9 @@
 use Rattle.std.proofs.Common.{◌≡◌, ℕ, ◌+◌, ◌<◌, ◌≤◌, List, drop, length, get_or, map, take}
 use Rattle.std.specs.Vec.{vec_capacity, vec_len}
 use Rattle.at_ledger.specs.declared.call.Call.{Call}
+use Rattle.at_log.specs.Receipts.{lists_in}
 use Rattle.at_stepper.specs.Callers.{CallerTerms}
-use Rattle.at_stepper.specs.Stepping.{IsBegunCaller, calls_handed_in}
+use Rattle.at_stepper.specs.Stepping.{IsBegunCaller}
 use Rattle.at_stepper.proofs.beginning.callers_for.Given as goal
 
 -- a caller is made of each start and file so far
@@ -12,8 +13,8 @@ invariant-loop-calls l = record {
   finite : (goal.iterator-loop-calls).is_finite l.calls-iterator;
   starts : l.others.rest.items ≡ drop (length l.callers.items) l.fn.starts.items;
   files : l.calls-iterator.rest.items ≡ drop (length l.callers.items) l.fn.files.items;
-  calls : map (λ (caller : CallerTerms). caller.calls) l.callers.items ≡ take (length l.callers.items) (calls_handed_in l.fn.files.items);
+  calls : map (λ (caller : CallerTerms). caller.calls) l.callers.items ≡ take (length l.callers.items) (lists_in l.fn.files.items);
   made : (p : ℕ) (file : List Call) (d : CallerTerms) → p < length l.callers.items →
-      IsBegunCaller l.board p (get_or (calls_handed_in l.fn.files.items) p file) (get_or l.callers.items p d);
+      IsBegunCaller l.board p (get_or (lists_in l.fn.files.items) p file) (get_or l.callers.items p d);
   room : vec_len l.callers + l.calls-iterator.rest.len ≤ vec_capacity l.callers;
 }

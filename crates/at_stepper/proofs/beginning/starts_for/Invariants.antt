@@ -1,7 +1,7 @@
 use Rattle.std.proofs.Common.{◌≡◌, ℕ, ◌<◌, ◌++◌, [], length, get_or}
+use Rattle.at_log.specs.Receipts.{lists_in}
 use Rattle.at_object.specs.Parted.{HasMemoryFor}
 use Rattle.at_stepper.specs.KeptStepping.{passes_in}
-use Rattle.at_stepper.specs.Stepping.{calls_handed_in}
 use Rattle.at_stepper.specs.declared.caller.Start.{Start}
 use Rattle.at_stepper.proofs.beginning.starts_for.Given as goal
 
@@ -11,5 +11,5 @@ invariant-loop-pass l = record {
   next : (goal.iterator-loop-pass).can_next l.pass-iterator;
   finite : (goal.iterator-loop-pass).is_finite l.pass-iterator;
   passes : l.fn.passes.items ≡ passes_in l.starts.items ++ l.pass-iterator.rest.items;
-  room : (p : ℕ) (d : Start) → p < length l.starts.items → HasMemoryFor (get_or l.starts.items p d).receipts (length (get_or (calls_handed_in l.files) p []));
+  room : (p : ℕ) (d : Start) → p < length l.starts.items → HasMemoryFor (get_or l.starts.items p d).receipts (length (get_or (lists_in l.files) p []));
 }

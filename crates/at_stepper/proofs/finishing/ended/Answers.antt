@@ -1,6 +1,7 @@
 use Rattle.std.proofs.Common.{◌∙◌, ap, subst, sym}
+use Rattle.at_log.specs.Receipts.{lists_in}
 use Rattle.at_stepper.proofs.SteppingLaws.{AreAccountedFor-split, calls_left-at}
-use Rattle.at_stepper.specs.KeptStepping.{IsAnsweredBy, receipts_in}
+use Rattle.at_stepper.specs.KeptStepping.{IsAnsweredBy}
 use Rattle.at_stepper.specs.declared.run.Run.{Run}
 use Rattle.at_stepper.proofs.finishing.ended.Goals as goal
 
@@ -9,7 +10,7 @@ parts-passes-requires-clause-idle c = λ k d within. sym (calls_left-at c.args.r
 
 pub returns-clause-ended : goal.returns-clause-ended
 returns-clause-ended c =
-    let lists = receipts_in c.parts-passes.result.1.items in
+    let lists = lists_in c.parts-passes.result.1.items in
     let split = c.parts-passes.ensures in
     record {
       answered = subst (λ (run : Run). IsAnsweredBy run lists) (sym c.of-was.ensures)

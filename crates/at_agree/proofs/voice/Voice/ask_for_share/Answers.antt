@@ -1,5 +1,4 @@
 use Rattle.std.proofs.Common.{◌≡◌, ◌+◌, ◌*◌, ◌<◌, List, ap, arith, length, rules, subst, ◌∙◌}
-use Rattle.std.specs.Vec.{vec_capacity}
 use Rattle.at_ledger.specs.declared.call.Call.TheVariants.{Transfer}
 use Rattle.at_log.specs.Receipts.{asks_in}
 use Rattle.at_log.specs.declared.receipt.Receipt.{Receipt}
@@ -23,9 +22,9 @@ invariant_of-self c =
     let was : IsPassOf c.self.inside.pass c.args.ledger.now = search rules in
     let more : length c.self.inside.receipts.items < 4 = search rules in
     IsVoice-made c.args.ledger.now c.self.inside.pass c.transfer-asked.new.pass c.self.inside.receipts.items
-    c.push_reserved.new.self.items c.transfer-asked.result (vec_capacity c.self.inside.receipts)
-    (vec_capacity c.push_reserved.new.self) was c.transfer-asked.ensures.pass c.self.invariant more c.transfer-asked.ensures.made.stands
-    c.transfer-asked.ensures.calls c.transfer-asked.ensures.made.process_is c.push_reserved.ensures.items c.push_reserved.ensures.capacity
+    c.push.new.self.items c.transfer-asked.result
+    was c.transfer-asked.ensures.pass c.self.invariant more c.transfer-asked.ensures.made.stands
+    c.transfer-asked.ensures.calls c.transfer-asked.ensures.made.process_is c.push.ensures.items
 
 pub returns-clause-asked : goal.returns-clause-asked
 returns-clause-asked c =
@@ -38,7 +37,7 @@ returns-clause-asked c =
     let was : IsPassOf before council = search rules in
     let unasked : asks_in (shared_account c.args.size) earlier ≡ 0 = search rules in
     let p = c.process.result in
-    let known = known_in council voice (vec_capacity c.self.inside.receipts) c.args.size p c.requires.size c.process.ensures was c.self.invariant in
+    let known = known_in council voice c.args.size p c.requires.size c.process.ensures was c.self.invariant in
     let asked : HasShareDecided c.args.size after.knows.seen p =
     HasShareDecided-asked council before after c.args.size p r earlier c.requires.council c.requires.size known c.process.ensures
     (c.transfer-asked.ensures.made.call_is ∙ ap (λ n. Transfer (shared_account c.args.size) (spent_account c.args.size) n) c.from-share.ensures) unasked (c.transfer-asked.ensures.made.placed earlier c.self.invariant.stands) in

@@ -7,14 +7,14 @@ pub returns-clause-read : goal.returns-clause-read
 returns-clause-read c =
     let council = c.args.ledger.now in
     let before : VoiceTerms = record { pass = c.self.inside.pass; receipts = c.self.inside.receipts.items } in
-    let after : VoiceTerms = record { pass = c.read-found.new.pass; receipts = c.push_reserved.new.self.items } in
+    let after : VoiceTerms = record { pass = c.read-found.new.pass; receipts = c.push.new.self.items } in
     let made : HasMadeOneMore council before after (Read c.args.account) = record {
       process_is = c.read-found.ensures.made.process_is;
       of_council = c.read-found.ensures.pass;
       begins = c.read-found.ensures.made.begins;
       counted = c.read-found.ensures.made.counted;
       receipt = c.read-found.result;
-      receipts = c.push_reserved.ensures.items;
+      receipts = c.push.ensures.items;
       call_is = c.read-found.ensures.made.call_is;
     } in
     subst (λ (v : VoiceTerms). HasRead council v after c.args.account c.in-Balance.balance) c.self.view_is

@@ -1,5 +1,4 @@
 use Rattle.std.proofs.Common.{◌≡◌, ◌+◌, ◌<◌, List, [], ap, arith, length, rules, subst, ◌∙◌}
-use Rattle.std.specs.Vec.{vec_capacity}
 use Rattle.at_log.specs.declared.receipt.Receipt.{Receipt}
 use Rattle.at_object.specs.Passes.{IsPassOf, PassTerms, Stands, counted_anew}
 use Rattle.at_agree.specs.Plan.{HasProposed}
@@ -11,7 +10,7 @@ pub transfer-paid-requires-clause-to : goal.transfer-paid-requires-clause-to
 transfer-paid-requires-clause-to c =
     let voice : VoiceTerms = record { pass = c.self.inside.pass; receipts = c.self.inside.receipts.items } in
     let was : IsPassOf c.self.inside.pass c.args.ledger.now = search rules in
-    let known = known_in c.args.ledger.now voice (vec_capacity c.self.inside.receipts) c.args.size c.process-process.result
+    let known = known_in c.args.ledger.now voice c.args.size c.process-process.result
     c.requires.size c.process-process.ensures was c.self.invariant in
     in_book c.args.ledger.now c.args.size (c.args.size + c.process-process.result) c.requires.council c.requires.size (omega (arith, known))
 
@@ -21,9 +20,9 @@ invariant_of-self c =
     let none : c.self.inside.receipts.items ≡ [] = search rules in
     let more : length c.self.inside.receipts.items < 4 = omega (arith, ap (λ (rs : List Receipt). length rs) none) in
     IsVoice-made c.args.ledger.now c.self.inside.pass c.transfer-paid.new.pass c.self.inside.receipts.items
-    c.push_reserved.new.self.items c.transfer-paid.result (vec_capacity c.self.inside.receipts)
-    (vec_capacity c.push_reserved.new.self) was c.transfer-paid.ensures.pass c.self.invariant more c.transfer-paid.ensures.made.stands
-    c.transfer-paid.ensures.calls c.transfer-paid.ensures.made.process_is c.push_reserved.ensures.items c.push_reserved.ensures.capacity
+    c.push.new.self.items c.transfer-paid.result
+    was c.transfer-paid.ensures.pass c.self.invariant more c.transfer-paid.ensures.made.stands
+    c.transfer-paid.ensures.calls c.transfer-paid.ensures.made.process_is c.push.ensures.items
 
 pub returns-clause-proposed : goal.returns-clause-proposed
 returns-clause-proposed c =
@@ -34,7 +33,7 @@ returns-clause-proposed c =
     let voice : VoiceTerms = record { pass = before; receipts = c.self.inside.receipts.items } in
     let was : IsPassOf before council = search rules in
     let none : c.self.inside.receipts.items ≡ [] = search rules in
-    let known = known_in council voice (vec_capacity c.self.inside.receipts) c.args.size c.process-process.result
+    let known = known_in council voice c.args.size c.process-process.result
     c.requires.size c.process-process.ensures was c.self.invariant in
     let empty : Stands before [] = subst (λ (rs : List Receipt). Stands before rs) none c.self.invariant.stands in
     let proposed : HasProposed c.args.size after.knows.seen c.process-process.result c.args.value =
@@ -48,7 +47,7 @@ pub returns-clause-steps : goal.returns-clause-steps
 returns-clause-steps c =
     let voice : VoiceTerms = record { pass = c.self.inside.pass; receipts = c.self.inside.receipts.items } in
     let was : IsPassOf c.self.inside.pass c.args.ledger.now = search rules in
-    let known = known_in c.args.ledger.now voice (vec_capacity c.self.inside.receipts) c.args.size c.process-process.result
+    let known = known_in c.args.ledger.now voice c.args.size c.process-process.result
     c.requires.size c.process-process.ensures was c.self.invariant in
     let new = ap (λ (v : VoiceTerms). counted_anew v.pass c.transfer-paid.new.pass) c.self.view_is in
     omega (
@@ -63,7 +62,7 @@ pub returns-clause-exchanges : goal.returns-clause-exchanges
 returns-clause-exchanges c =
     let voice : VoiceTerms = record { pass = c.self.inside.pass; receipts = c.self.inside.receipts.items } in
     let was : IsPassOf c.self.inside.pass c.args.ledger.now = search rules in
-    let known = known_in c.args.ledger.now voice (vec_capacity c.self.inside.receipts) c.args.size c.process-process.result
+    let known = known_in c.args.ledger.now voice c.args.size c.process-process.result
     c.requires.size c.process-process.ensures was c.self.invariant in
     c.transfer-paid.ensures.within.none
     (is_shared-own c.args.ledger.now c.args.size c.process-process.result c.requires.council c.requires.size known)

@@ -3,14 +3,15 @@ use Rattle.std.proofs.lemmas.List.{length-map}
 use Rattle.at_board.specs.Knowledge.Seats.{BoardTerms}
 use Rattle.at_ledger.specs.Book.{BookTerms}
 use Rattle.at_ledger.specs.declared.call.Call.{Call}
+use Rattle.at_log.specs.Receipts.{lists_in}
 use Rattle.at_stepper.proofs.SteppingLaws.{AreCallersOn-begun}
-use Rattle.at_stepper.specs.Stepping.{AreBegunCallers, calls_handed_in}
+use Rattle.at_stepper.specs.Stepping.{AreBegunCallers}
 use Rattle.at_stepper.proofs.stepper.Stepper.new.Goals as goal
 
 pub invariant_of-result : goal.invariant_of-result
 invariant_of-result c =
     let ledger : BoardTerms = c.in-Ok.memory.ledger in
-    let files = calls_handed_in c.args.files.items in
+    let files = lists_in c.args.files.items in
     let callers = c.callers_for-callers.result.items in
     AreCallersOn-begun ledger files callers
     (subst (λ (l : BoardTerms). AreBegunCallers l files callers) c.board.ensures c.callers_for-callers.ensures)
