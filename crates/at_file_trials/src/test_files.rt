@@ -1,10 +1,11 @@
 //! Books that are read, and texts that are long.
 
-ghost use Rattle.std.specs.Prelude.{IfOk, IfSome};
+ghost use Rattle.std.specs.Prelude.{◌≡◌, All, IfOk, IfSome, length};
+ghost use Rattle.at_files.specs.Files.{IsPlayable, contents_of};
 ghost use Rattle.at_files.specs.Names.{AreNamesOf};
 
-use at_files::{Names, ReadBookFault, read_book};
-use at_ledger::Book;
+use at_files::{Names, ReadBookFault, read_book, read_payments};
+use at_ledger::{Book, Call};
 use std::alloc::{AllocError, Global};
 
 pub(crate) const ONE_PROCESS: &[u8] =
@@ -45,6 +46,44 @@ pub(crate) fn book_of(alloc: Global, text: &[u8]) -> Option<BookFile>
     ensures names { IfSome result (λ file. AreNamesOf file.book file.names) }
 {
     read_file(alloc, text).ok()
+}
+
+/// The calls of a payment file beside the book, if all is good.
+fn calls_of(alloc: Global, book: &Book, names: &Names, text: &[u8]) -> Option<Vec<Call>>
+    requires { AreNamesOf book.now names.now }
+    ensures playable { IfSome result (λ calls. IsPlayable (length book.now.accounts) calls.items) }
+{
+    match read_payments(alloc, book, names, text) {
+        Ok(calls) => Some(calls),
+        Err(_) => None,
+    }
+}
+
+/// The calls of the processes, if there is a good file for each.
+pub(crate) fn files_of(
+    alloc: Global,
+    book: &Book,
+    names: &Names,
+    payments: &[&[u8]],
+) -> Option<Vec<Vec<Call>>>
+    requires { AreNamesOf book.now names.now }
+    ensures processes { IfSome result (λ files. length files.items ≡ book.now.processes) }
+    ensures files { IfSome result (λ files. All (IsPlayable (length book.now.accounts))
+        (contents_of files.items)) }
+{
+    let mut files = Vec::new(alloc);
+    for process in 0..book.processes() {
+        let Some(text) = payments.get(process as usize) else {
+            return None;
+        };
+        let Some(calls) = calls_of(alloc, book, names, text) else {
+            return None;
+        };
+        let Ok(()) = files.push(calls) else {
+            return None;
+        };
+    }
+    Some(files)
 }
 
 /// So many records that are the same.
