@@ -1,5 +1,5 @@
 //! Tests of numbers and packed words, of the ledger, of the message-passing form, of shelves and sinks, and of the crates that
-//! read files, print texts and judge reports, by their public names. There is nothing else here.
+//! read files, print texts, judge reports and walk orders, by their public names. There is nothing else here.
 #![tactic(auto)]
 
 #[cfg(test)]
@@ -18,6 +18,8 @@ mod ledger_tests;
 mod message_tests;
 #[cfg(test)]
 mod node_tests;
+#[cfg(test)]
+mod orders_tests;
 #[cfg(test)]
 mod replay_tests;
 #[cfg(test)]

@@ -1,12 +1,11 @@
 //! Reports, right ones and forged ones, with what is said of them.
 
-ghost use Rattle.std.specs.Prelude.{◌≡◌, All, IfSome, length};
+ghost use Rattle.std.specs.Prelude.{◌≡◌, All, length};
 ghost use Rattle.at_files.specs.Files.{IsPlayable, contents_of};
 ghost use Rattle.at_files.specs.Names.{AreNamesOf};
 
-use crate::test_files::{BookFile, NAMED, ONE_PROCESS, book_of};
-use at_files::{Names, read_payments};
-use at_ledger::{Book, Call};
+use crate::test_files::{BookFile, NAMED, ONE_PROCESS, book_of, files_of};
+use at_ledger::Call;
 use at_verify::{TEXT_MAX, Verdict, verify};
 use std::alloc::Global;
 
@@ -19,43 +18,6 @@ const USUAL: &[u8] = b"transfer,0,1,30\nread,0\nread,1\n";
 
 const REPORT: &[u8] =
     b"journal 3\n0 1 transfer 0 1 30 done\n0 2 read 0 70\n0 3 read 1 30\nbalances 2\n0 70\n1 30\ntotal 100\n";
-
-/// The calls of a payment file beside the book, if all is good.
-fn calls_of(alloc: Global, book: &Book, names: &Names, text: &[u8]) -> Option<Vec<Call>>
-    requires { AreNamesOf book.now names.now }
-    ensures playable { IfSome result (λ calls. IsPlayable (length book.now.accounts) calls.items) }
-{
-    match read_payments(alloc, book, names, text) {
-        Ok(calls) => Some(calls),
-        Err(_) => None,
-    }
-}
-
-/// The calls of the processes: the first text is the file of process 0, and the second of each other one.
-fn files_of(
-    alloc: Global,
-    book: &Book,
-    names: &Names,
-    first: &[u8],
-    others: &[u8],
-) -> Option<Vec<Vec<Call>>>
-    requires { AreNamesOf book.now names.now }
-    ensures processes { IfSome result (λ files. length files.items ≡ book.now.processes) }
-    ensures files { IfSome result (λ files. All (IsPlayable (length book.now.accounts))
-        (contents_of files.items)) }
-{
-    let mut files = Vec::new(alloc);
-    for process in 0..book.processes() {
-        let payments = if process == 0 { first } else { others };
-        let Some(calls) = calls_of(alloc, book, names, payments) else {
-            return None;
-        };
-        let Ok(()) = files.push(calls) else {
-            return None;
-        };
-    }
-    Some(files)
-}
 
 /// What is said of a report beside the files of the processes. It says less than the verifier, so that a proof above it is
 /// short.
@@ -79,7 +41,7 @@ fn said_beside(
 ) -> Option<Verdict>
     requires { AreNamesOf file.now.book file.now.names }
 {
-    match files_of(alloc, &file.book, &file.names, payments.0, payments.1) {
+    match files_of(alloc, &file.book, &file.names, &[payments.0, payments.1]) {
         Some(files) => verdict_of(alloc, file, files.as_slice(), report),
         None => None,
     }
