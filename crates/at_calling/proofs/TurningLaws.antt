@@ -28,9 +28,9 @@ use Rattle.at_fold.specs.Sums.{TotalSums}
 use Rattle.at_log.specs.declared.receipt.At.{At}
 use Rattle.at_rows.proofs.Laws.Accounts.{HasAccount, asking_on-with_asking}
 use Rattle.at_shared.proofs.Laws.After.{IsAfter, IsAfter-Decides, IsAfter-Publishes}
-use Rattle.at_shared.proofs.Laws.Placing.{StandsInRound-IsDecidedSo}
+use Rattle.at_shared.proofs.Laws.Placing.{StandsInRound-IsAnswerOf}
 use Rattle.at_shared.proofs.Laws.Turned.{FindsSettled-turn, HelpsDecide-turn, IsHelping-turn, IsPlaced-turn-found, IsPlaced-turn-own, StandsAfter-turn-found, StandsAfter-turn-own, begins-turn, decides-turn, decides_elsewhere-turn, free-turn, heard-turn, overtaken-turn, process-turn, published-turn, rounds-turn}
-use Rattle.at_shared.specs.HelpTurns.{DecidesNext, IsDecidedSo, NamesOwn}
+use Rattle.at_shared.specs.HelpTurns.{DecidesNext, IsAnswerOf, NamesOwn}
 use Rattle.at_shared.specs.HelpingTerms.{HelpingTerms}
 use Rattle.at_shared.specs.Helpings.{IsHelping, decides_made, decides_on}
 use Rattle.at_shared.specs.Settling.{round_steps}
@@ -185,10 +185,10 @@ module _ (b : BookTerms) (v w : Knowledge) (was now : TotalSums) (front : List �
     (looked : HasLooked b v w was now front) (is : IsHelping b v h) where
   -- the request is decided in the front's records
   pub IsHelpOf-found : (r : ℕ) (d : Decision) (answer : Reply × At) → AgreesWithSeen w
-      → IsDecidedIn (prefix_of front w.seen) h.account h.own.slot h.own.number r d → IsDecidedSo r d answer → IsHelpOf b v w h (Settled answer)
+      → IsDecidedIn (prefix_of front w.seen) h.account h.own.slot h.own.number r d → IsAnswerOf r d answer → IsHelpOf b v w h (Settled answer)
   IsHelpOf-found r d answer agrees found so = record {
     answers = inl (FindsSettled-turn b v w h front has looked.snapshot looked.loads is r d found);
-    in_round = StandsInRound-IsDecidedSo r d answer so;
+    in_round = StandsInRound-IsAnswerOf r d answer so;
     placed = IsPlaced-turn-found b v w h front has looked.snapshot looked.loads is r d answer agrees found so;
     after_start = StandsAfter-turn-found b v w h front has looked.snapshot looked.loads is r d answer agrees found so;
   }
@@ -199,10 +199,10 @@ module _ (b : BookTerms) (v w : Knowledge) (was now : TotalSums) (front : List �
     decides_made-decided = omega (arith, decides-turn b v w h front has looked.snapshot looked.loads is x d next)
 
     pub IsHelpOf-own : (r : ℕ) (answer : Reply × At) → AgreesWithSeen x → r ≡ rounds h.account (prefix_of front w.seen) → NamesOwn h d
-        → IsDecidedSo r d answer → IsHelpOf b v x h (Settled answer)
+        → IsAnswerOf r d answer → IsHelpOf b v x h (Settled answer)
     IsHelpOf-own r answer agrees round names so = record {
       answers = inr (d, HelpsDecide-turn b v w h front has looked.snapshot looked.loads is x d next, names);
-      in_round = StandsInRound-IsDecidedSo r d answer so;
+      in_round = StandsInRound-IsAnswerOf r d answer so;
       placed = IsPlaced-turn-own b v w h front has looked.snapshot looked.loads is x d next r answer agrees round names so;
       after_start = StandsAfter-turn-own b v w h front has looked.snapshot looked.loads is x d next r answer agrees round names so;
     }

@@ -20,9 +20,9 @@ use Rattle.at_log.specs.declared.receipt.At.{At}
 use Rattle.at_log.specs.declared.receipt.Receipt.{Receipt}
 use Rattle.at_rows.proofs.Laws.Accounts.{HasAccount}
 use Rattle.at_shared.proofs.Laws.After.{IsAfter, IsAfter-HasLoaded, own_part-HasLoaded}
-use Rattle.at_shared.proofs.Laws.Placing.{StandsInRound-IsDecidedSo}
+use Rattle.at_shared.proofs.Laws.Placing.{StandsInRound-IsAnswerOf}
 use Rattle.at_shared.proofs.Laws.Turned.{FindsSettled-turn, HelpsDecide-turn, IsHelping-turn, IsPlaced-turn-found, IsPlaced-turn-own, StandsAfter-turn-found, StandsAfter-turn-own, begins-turn, decides-turn, decides_elsewhere-turn, free-turn, heard-turn, overtaken-turn, process-turn, published-turn, rounds-turn}
-use Rattle.at_shared.specs.HelpTurns.{AnswersRound, DecidesNext, HelpAnswers, IsDecidedSo, OnSettled, OnSettledCalls}
+use Rattle.at_shared.specs.HelpTurns.{AnswersRound, DecidesNext, HelpAnswers, IsAnswerOf, OnSettled, OnSettledCalls}
 use Rattle.at_shared.specs.HelpingTerms.{HelpingTerms}
 use Rattle.at_shared.specs.Helpings.{IsHelping, decides_on, heard_on}
 use Rattle.at_shared.specs.Settling.{StandsAfter, StandsInRound}
@@ -52,14 +52,14 @@ module _ (b : BookTerms) (v w : Knowledge) (h : HelpingTerms) (front : List ℕ)
     (loads : HasLoaded b v w) (is : IsHelping b v h) where
   -- the request was settled at the front
   pub IsTurned-found : (r : ℕ) (d : Decision) (answer : Reply × At) → AgreesWithSeen w
-      → IsDecidedIn (prefix_of front w.seen) h.account h.own.slot h.own.number r d → IsDecidedSo r d answer → IsTurned b v w h (Settled answer) 0
+      → IsDecidedIn (prefix_of front w.seen) h.account h.own.slot h.own.number r d → IsAnswerOf r d answer → IsTurned b v w h (Settled answer) 0
   IsTurned-found r d answer agrees found so =
       let after : IsAfter v w h.account 0 [] = IsAfter-HasLoaded b v w h.account has.part loads in
       let own = own_part-HasLoaded b v w has.part loads in
       let published : (own_part w).published ≡ (own_part v).published = ap (λ (q : Part). q.published) own in
       record {
         answers = inl (FindsSettled-turn b v w h front has snapshot loads is r d found);
-        in_round = StandsInRound-IsDecidedSo r d answer so;
+        in_round = StandsInRound-IsAnswerOf r d answer so;
         placed = IsPlaced-turn-found b v w h front has snapshot loads is r d answer agrees found so;
         after_start = StandsAfter-turn-found b v w h front has snapshot loads is r d answer agrees found so;
         helping = λ more. absurd (cc more);
@@ -84,7 +84,7 @@ module _ (b : BookTerms) (v w : Knowledge) (h : HelpingTerms) (front : List ℕ)
     answers-decided More other = (d, HelpsDecide-turn b v w h front has snapshot loads is z d next, other)
 
     in_round-decided : (turn : HelpTurn) → AnswersRound h round d turn → OnSettled turn StandsInRound
-    in_round-decided (Settled answer) (own, so) = StandsInRound-IsDecidedSo round d answer so
+    in_round-decided (Settled answer) (own, so) = StandsInRound-IsAnswerOf round d answer so
     in_round-decided More other = tt
 
     placed-decided : (turn : HelpTurn) → AnswersRound h round d turn

@@ -68,13 +68,13 @@ abbrev pub NamesOwn : HelpingTerms → Decision → Type 0
 NamesOwn h d = (d.slot ≡ h.own.slot) × (d.number ≡ h.own.number)
 
 -- the reply and the place where a round has decided the request so
-pub record IsDecidedSo (round : ℕ) (d : Decision) (answer : Reply × At) : Type 0 where
+pub record IsAnswerOf (round : ℕ) (d : Decision) (answer : Reply × At) : Type 0 where
   pub reply : answer.0 ≡ (if d.ok then Done else Short)
   pub at : answer.1 ≡ At.Round round d.place
 
 -- what is answered by a round: settled where that has decided the own request, and else more
 abbrev pub AnswersRound : HelpingTerms → ℕ → Decision → HelpTurn → Type 0
-AnswersRound h round d (Settled answer) = NamesOwn h d × IsDecidedSo round d answer
+AnswersRound h round d (Settled answer) = NamesOwn h d × IsAnswerOf round d answer
 AnswersRound h round d More = ¬ NamesOwn h d
 
 -- the request is settled at the turn's front, or the turn's own round decides it

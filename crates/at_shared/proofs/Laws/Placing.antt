@@ -31,7 +31,7 @@ use Rattle.at_log.specs.Told.{first_account, key_at, round_position}
 use Rattle.at_log.specs.declared.receipt.At.{At}
 use Rattle.at_log.specs.declared.receipt.Receipt.{Receipt}
 use Rattle.at_rows.specs.OpenRequests.{request_of}
-use Rattle.at_shared.specs.HelpTurns.{IsDecidedSo}
+use Rattle.at_shared.specs.HelpTurns.{IsAnswerOf}
 use Rattle.at_shared.specs.HelpingTerms.{HelpingTerms}
 use Rattle.at_shared.specs.Helpings.{IsHelpingAt}
 use Rattle.at_shared.specs.Settling.{OnReceipts, StandsAfter, StandsInRound}
@@ -124,7 +124,7 @@ module _ (b : BookTerms) (z : Knowledge) (list : List Publication) (h : HelpingT
       ∙ (ap (λ t. t && (asks_in h.account earlier == b.request_room)) shared ∙ less)
 
   -- the receipts of that round are right
-  pub IsPlaced-IsSettledBy : (answer : Reply × At) → IsDecidedSo r d answer → OnReceipts h.account h.own.targets answer
+  pub IsPlaced-IsSettledBy : (answer : Reply × At) → IsAnswerOf r d answer → OnReceipts h.account h.own.targets answer
       (λ receipt. (earlier : List Receipt) → asks_in h.account earlier ≡ h.own.number → IsPlaced b z.first z.seen earlier receipt)
   IsPlaced-IsSettledBy answer so call payout earlier asks =
       round h.account h.own.targets
@@ -161,7 +161,7 @@ module _ (b : BookTerms) (z : Knowledge) (list : List Publication) (h : HelpingT
       ]
 
   -- so it stands at or after the request's `since`
-  pub StandsAfter-IsSettledBy : (answer : Reply × At) → IsDecidedSo r d answer
+  pub StandsAfter-IsSettledBy : (answer : Reply × At) → IsAnswerOf r d answer
       → OnReceipts h.account h.own.targets answer (StandsAfter h.own.since z)
   StandsAfter-IsSettledBy answer so call payout previous =
       let moved : Bool = is_success answer.0 in
@@ -175,8 +175,8 @@ module _ (b : BookTerms) (z : Knowledge) (list : List Publication) (h : HelpingT
       ]
 
 -- it stands in that round, done or short
-pub StandsInRound-IsDecidedSo : (r : ℕ) (d : Decision) (answer : Reply × At) → IsDecidedSo r d answer → StandsInRound answer
-StandsInRound-IsDecidedSo r d answer so = record {
+pub StandsInRound-IsAnswerOf : (r : ℕ) (d : Decision) (answer : Reply × At) → IsAnswerOf r d answer → StandsInRound answer
+StandsInRound-IsAnswerOf r d answer so = record {
   round = r;
   place = d.place;
   at = so.at;

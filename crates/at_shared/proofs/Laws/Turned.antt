@@ -28,7 +28,7 @@ use Rattle.at_shared.proofs.Laws.Kept.{IsHelpingAt-IsAfter}
 use Rattle.at_shared.proofs.Laws.Placing.{IsPlaced-IsSettledBy, IsSettledBy, IsSettledBy-IsDecidedIn, StandsAfter-IsSettledBy, is_settled-IsDecidedIn}
 use Rattle.at_shared.proofs.Laws.Started.{place-IsSnapshot-le}
 use Rattle.at_shared.proofs.Laws.Turning.{IsAfter-DecidesNext, IsHelping-DecidesNext, IsSettledBy-DecidesNext, free-DecidesNext, overtaken-DecidesNext, published-DecidesNext, rounds-DecidesNext}
-use Rattle.at_shared.specs.HelpTurns.{DecidesNext, FindsSettled, HelpsDecide, IsDecidedSo, NamesOwn}
+use Rattle.at_shared.specs.HelpTurns.{DecidesNext, FindsSettled, HelpsDecide, IsAnswerOf, NamesOwn}
 use Rattle.at_shared.specs.HelpingTerms.{HelpingTerms}
 use Rattle.at_shared.specs.Helpings.{IsHelping, IsHelpingAt, decides_on, heard_on}
 use Rattle.at_shared.specs.Settling.{OnReceipts, StandsAfter}
@@ -60,7 +60,7 @@ module _ (b : BookTerms) (v w : Knowledge) (h : HelpingTerms) (front : List ℕ)
 
   -- and that round's receipts are right, and stand at or after the request's `since`
   module _ (r : ℕ) (d : Decision) (answer : Reply × At) (agrees : AgreesWithSeen w)
-      (found : IsDecidedIn (prefix_of front w.seen) h.account h.own.slot h.own.number r d) (so : IsDecidedSo r d answer) where
+      (found : IsDecidedIn (prefix_of front w.seen) h.account h.own.slot h.own.number r d) (so : IsAnswerOf r d answer) where
     pub IsPlaced-turn-found : OnReceipts h.account h.own.targets answer
         (λ receipt. (earlier : List Receipt) → asks_in h.account earlier ≡ h.own.number → IsPlaced b w.first w.seen earlier receipt)
     IsPlaced-turn-found =
@@ -132,7 +132,7 @@ module _ (b : BookTerms) (v w : Knowledge) (h : HelpingTerms) (front : List ℕ)
 
     -- where the own request was, the receipts of that round are right, and stand at or after the request's `since`
     module _ (r : ℕ) (answer : Reply × At) (agrees : AgreesWithSeen z) (round : r ≡ rounds h.account (prefix_of front w.seen)) (own : NamesOwn h d)
-        (so : IsDecidedSo r d answer) where
+        (so : IsAnswerOf r d answer) where
       settled_by : IsSettledBy z h r d
       settled_by = subst (λ k. IsSettledBy z h k d) (sym round) (IsSettledBy-DecidesNext b w z h front d next HasAccount-turn own)
 
