@@ -94,7 +94,7 @@ impl FileForm for ReplayPayments {
         bytes: &[u8],
     ) -> Result<Vec<Call>, Status> {
         match read_replay_payments(alloc, book, names, bytes) {
-            Ok(calls) => Ok(calls),
+            Ok(fewer) => Ok(fewer),
             Err(ReadPaymentsFault::Bad(fault)) => Err(Status::BadPayments { process, fault }),
             Err(ReadPaymentsFault::NoMemory) => Err(Status::NoMemory),
         }

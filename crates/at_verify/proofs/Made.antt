@@ -1,5 +1,6 @@
 -- How many calls each process has made.
-use Rattle.std.proofs.Common.{◌≡◌, ℕ, zero, suc, ◌+◌, ◌<◌, ◌≤◌, ◌==◌, Bool, true, false, ◌⊎◌, ⊎_elim, List, [], ◌∷◌, length, get_or, sum, sum_by, All, refl, sym, subst, ◌∙◌, arith}
+use Rattle.std.proofs.Common.{◌≡◌, Some, ℕ, zero, suc, ◌+◌, ◌<◌, ◌≤◌, ◌==◌, Bool, true, false, ◌⊎◌, ⊎_elim, List, [], ◌∷◌, length, get_or, sum, sum_by, All, refl, sym, subst, ◌∙◌, arith}
+use Rattle.std.specs.Prelude.{slice_get}
 use Rattle.std.proofs.lemmas.List.{get_or-set_other, get_or-set_same, length-set}
 use Rattle.std.proofs.lemmas.List.Sums.{sum_by-cons, sum_by-set}
 use Rattle.std.proofs.lemmas.Bool.Decides.{Decides-eqb}
@@ -125,10 +126,13 @@ AreWithinFiles-next files s made l are next =
         omega arith
 
 -- the call of a next line names accounts that are there
+pub call_known-at : (accounts : ℕ) (files : List (List Call)) (p i : ℕ) (call : Call) → All (IsPlayable accounts) files → p < length files
+    → slice_get (get_or files p []) i ≡ Some call → IsCallOn accounts call
+call_known-at accounts files p i call playable known is =
+    let file = playable p [] known in
+    subst (IsCallOn accounts) (get_or_from_slice_get (get_or files p []) i call call is) (file.known i call (slice_get_within (get_or files p []) i call is))
+
 pub call_known : (accounts : ℕ) (files : List (List Call)) (s : LedgerState) (made : List ℕ) (l : Line) → All (IsPlayable accounts) files → IsNextOfProcess files s made l
     → IsCallOn accounts l.call
 call_known accounts files s made l playable next =
-    let file = playable l.process [] next.process in
-    let within = slice_get_within (get_or files l.process []) (get_or made l.process 0) l.call next.call in
-    subst (IsCallOn accounts) (get_or_from_slice_get (get_or files l.process []) (get_or made l.process 0) l.call l.call next.call)
-    (file.known (get_or made l.process 0) l.call within)
+    call_known-at accounts files l.process (get_or made l.process 0) l.call playable next.process next.call

@@ -4,6 +4,7 @@ use Rattle.std.proofs.lemmas.Bool.Decides.{nat_tests}
 use Rattle.std.proofs.lemmas.Option.{slice_get-get_or, slice_get_within}
 use Rattle.at_files.specs.Files.{contents_of}
 use Rattle.at_files.proofs.FileLists.{get_or-contents_of, length-contents_of}
+use Rattle.at_verify.proofs.Made.{call_known-at}
 use Rattle.at_verify.proofs.Walking.{next_line-only}
 use Rattle.at_verify.proofs.stepping.next_line.Goals as goal
 
@@ -29,6 +30,21 @@ returns-in_err-call-clause-only c l next first =
     let past = c.in_err-call.ensures.lookup.0 in
     let inside : c.get-before.result < length c.deref.result.now = rw (text, before) here in
     absurd (let test : nat_lt c.get-before.result (length c.deref.result.now) ≡ true = grind (arith, nat_tests) in cc)
+
+pub step-reply-requires-clause-call_in : goal.step-reply-requires-clause-call_in
+step-reply-requires-clause-call_in c =
+    let inside : c.in_ok-process.process < c.args.book.now.processes = c.in_ok-process.ensures.within in
+    let count : length (contents_of c.args.files.now) ≡ length c.args.files.now = length-contents_of c.args.files.now in
+    let file : c.index-files-process.result.items ≡ get_or (contents_of c.args.files.now) c.in_ok-process.process [] =
+    sym (get_or-contents_of c.args.files.now c.in_ok-process.process c.index-files-process.result (omega arith) c.index-files-process.is) in
+    let value = c.deref.ensures.value in
+    let lookup = c.in_ok-call.ensures.lookup.3 in
+    let here : slice_get c.deref.result.now c.get-before.result ≡ Some c.in_ok-call.call.now =
+    slice_get-get_or c.deref.result.now c.get-before.result c.in_ok-call.call.now lookup.0 ∙ ap Some (sym (lookup.1 c.in_ok-call.call.now)) in
+    let known : c.in_ok-process.process < length (contents_of c.args.files.now) = omega arith in
+    rw c.requires.book
+    (call_known-at (length c.args.book.now.accounts) (contents_of c.args.files.now) c.in_ok-process.process c.get-before.result c.in_ok-call.call.now c.requires.files known
+    (rw (← file, ← value) here))
 
 pub returns-clause-next : goal.returns-clause-next
 returns-clause-next c =
