@@ -13,7 +13,8 @@ read-before whole read left now rest all none same long = grind (arith, common_s
 
 pub returns-then-ended-clause-contents : goal.returns-then-ended-clause-contents
 returns-then-ended-clause-contents g c told =
-    let before : g.F.Shelf.tells c.loop-buffer.shelf ≡ g.F.Shelf.tells c.args.shelf.now = c.loop-buffer.invariant.files.as_told in
+    let before : g.F.Shelf.tells c.loop-buffer.shelf ≡ g.F.Shelf.tells c.args.shelf.now =
+    c.loop-buffer.invariant.files.as_told in
     let none = c.in-Ok.ensures.end (before ∙ told) c.if-ended.true in
     read-before _ _ _ _ _
     (c.loop-buffer.invariant.bytes told)
