@@ -1,7 +1,6 @@
 -- A call from one turn to the next, and what its answer leaves.
-use Rattle.std.proofs.Common.{◌≡◌, ℕ, ◌+◌, ◌-◌, ◌*◌, ◌<◌, ◌≤◌, ◌↔◌, List, [], ◌∷◌, ◌++◌, IfSome, IsSome, Option, length, None, Some, refl, sym, ap, subst, ◌∙◌, arith}
-use Rattle.std.specs.List.{sum}
-use Rattle.at_ledger.specs.Account.{is_shared}
+use Rattle.std.proofs.Common.{◌≡◌, ℕ, ◌+◌, ◌-◌, ◌*◌, ◌<◌, ◌≤◌, ◌↔◌, List, [], ◌∷◌, ◌++◌, IfSome, IsSome, Option, length, None, Some, refl, sym, ap, subst, ◌∙◌, arith, false, true}
+use Rattle.at_ledger.specs.Account.{is_shared, slots_of}
 use Rattle.at_ledger.specs.Book.{BookTerms, account_of}
 use Rattle.at_ledger.specs.Call.{IsCallOn, TargetPair}
 use Rattle.at_ledger.specs.declared.call.Call.{Call}
@@ -16,6 +15,7 @@ use Rattle.at_board.specs.declared.words.TheConstants.{RECORD_WORDS}
 use Rattle.at_closing.specs.BetweenCalls.{IsBetweenCalls}
 use Rattle.at_fold.specs.HasCounted.{HasCounted, StaysCounted}
 use Rattle.at_fold.specs.Sums.{TotalSums}
+use Rattle.at_log.proofs.Laws.Replies.{first_account-payout}
 use Rattle.at_log.specs.Placed.{IsPlaced}
 use Rattle.at_log.specs.declared.receipt.At.TheVariants.{Previous}
 use Rattle.at_log.specs.declared.receipt.Receipt.{Receipt}
@@ -27,16 +27,18 @@ use Rattle.at_object.specs.Passes.{PassTerms, Stands, one_more_call}
 use Rattle.at_object.specs.Payments.{IsRefused, sent_after}
 use Rattle.at_object.specs.declared.parts.Rest.{Rest}
 use Rattle.at_shared.specs.Helpings.{decides_made}
+use Rattle.at_single.proofs.Laws.Looks.{published-HasLoaded}
+use Rattle.at_snapshot.specs.Collected.{HasLoaded}
 use Rattle.at_calling.proofs.CallingLaws.{CallMade-PaysAlone, CallMade-PaysInRound, IsOfOnePass-IsReadOf, IsOfOnePass-PaysAlone, IsOfOnePass-PaysInRound, MakesWithin, ReadMade-IsReadOf, StaysWithin-MakesWithin, MakesWithin-IsReadOf, MakesWithin-PaysAlone, MakesWithin-PaysInRound, payment_steps-shared, payment_steps-single, refusal_in-payout, small-refusal_of, source-IsCallOn}
 use Rattle.at_object.proofs.Laws.Calls.{placed-CallMade, stands-CallMade}
-use Rattle.at_object.proofs.Laws.Within.{call_steps-payout}
-use Rattle.at_calling.specs.Calling.{CallingTerms, IsWay, MakesCallStep, call_turns_left, exchanges_made, exchanges_of, pass_before, refusal_in, steps_made, steps_of, with_one_call}
+use Rattle.at_object.proofs.Laws.Within.{call_steps-payout, may_exchange-payout}
+use Rattle.at_calling.specs.Calling.{CallingTerms, IsCallWithin, IsWay, MakesCallStep, call_turns_left, exchanges_made, exchanges_of, pass_before, refusal_in, steps_made, steps_of, with_one_call}
 use Rattle.at_object.specs.Calls.{CallMade, StaysWithin, call_steps}
 use Rattle.at_calling.specs.KeptCalling.{IsCallStageSo, IsCallingSo, IsMakingStill, TakesCallTurn}
 use Rattle.at_machines.specs.Looking.{IsWithin, look_turns_left}
 use Rattle.at_calling.specs.PayingAlone.{IsPayWithin, PayingAloneTerms, append_steps, pay_turns_left}
 use Rattle.at_calling.specs.PayingShared.{DecidesFew, IsShareWithin, PayingSharedTerms, settling_steps, share_exchanges_made, share_turns_left, share_turns_most, unless_settled, unless_starting}
-use Rattle.at_calling.specs.Reading.{IsReadOf, LeavesTotals, ReadingTerms}
+use Rattle.at_calling.specs.Reading.{IsReadOf, LeavesTotals, ReadingTerms, newly_seen}
 use Rattle.at_calling.specs.declared.call_stage.CallStage.{CallStage}
 use Rattle.at_calling.specs.declared.call_stage.CallStage.TheVariants.{PayAlone, PayShared, Read, Refuse}
 use Rattle.at_calling.specs.declared.share_stage.ShareStage.{ShareStage}
@@ -51,6 +53,11 @@ pub record Leaves (b : BookTerms) (t : CallingTerms) (after : SeatTerms) (rest :
   pub made : CallMade b (pass_before t) (pass_of after rest) t.call r
   pub kept : IsOfOnePass after rest
   pub within : MakesWithin b (pass_before t) (pass_of after rest) t.call steps exchanges r
+
+-- a call that has made no exchange is within its bounds where its steps are
+pub IsCallWithin-none : (b : BookTerms) (before : PassTerms) (call : Call) (after : Knowledge) (steps : ℕ)
+    → steps ≤ call_steps b call + RECORD_WORDS * newly_seen before.knows after before.counted → IsCallWithin b before call after steps 0
+IsCallWithin-none b before call after steps few = record { few = few; decided = omega arith; none = λ no. refl; few_decided = omega arith }
 
 -- a refused call leaves its pass as it was, but for the count of its calls
 CallMade-refused : (b : BookTerms) (before : PassTerms) (call : Call) (r : Receipt) → IsKept before.knows → before.knows.book ≡ b
@@ -135,12 +142,19 @@ module _ (board : BoardTerms) (t : CallingTerms) (so : IsCallingSo t) (seat : Se
       pub way-read : t.call ≡ Call.Read r.account
       way-read = subst (IsWay t.start.knows.book (pass_before t) t.call) stage so.way
 
-      pub few-read : (records turns : ℕ) → IsWithin board.book.processes r.looking.was records turns
-          → turns ≤ call_steps board.book t.call + RECORD_WORDS * (records - sum t.was.totals.upto)
-      few-read records turns few =
-          let few_on : IsWithin board.book.processes t.was.totals records turns =
-          subst (λ (s : TotalSums). IsWithin board.book.processes s records turns) still-read.was_is few in
-          omega (arith, few_on, ap (call_steps board.book) way-read)
+      pub few-read : (turns : ℕ) → IsWithin board.book.processes r.looking.was (length after.knows.seen) turns
+          → HasLoaded board.book r.looking.start after.knows → IsCallWithin board.book (pass_before t) t.call after.knows turns 0
+      few-read turns few loads =
+          let few_on : IsWithin board.book.processes t.was.totals (length after.knows.seen) turns =
+          subst (λ (s : TotalSums). IsWithin board.book.processes s (length after.knows.seen) turns) still-read.was_is few in
+          let loads_on : HasLoaded board.book t.start.knows after.knows =
+          subst (λ (v : Knowledge). HasLoaded board.book v after.knows) still-read.start_is loads in
+          IsCallWithin-none board.book (pass_before t) t.call after.knows turns (omega (
+            arith,
+            few_on,
+            ap (call_steps board.book) way-read,
+            published-HasLoaded board.book t.start.knows after.knows (omega (arith, so.kept.one_part)) loads_on,
+          ))
 
       pub Leaves-read : (rest : Rest) (turns : ℕ) (receipt : Receipt) → IsKept after.knows
           → IsReadOf board.book r.looking.start after.knows r.account receipt
@@ -178,17 +192,18 @@ module _ (board : BoardTerms) (t : CallingTerms) (so : IsCallingSo t) (seat : Se
           small-refusal_of board.book t.start t.was p.from so.kept book-IsCallingSo so.pass
           (sym (refusal_in-payout board.book p.from p.targets (pass_before t) t.call way-alone.0) ∙ way-alone.1) way-alone.2
 
-      pub few-alone : (records turns : ℕ) → IsPayWithin board.book.processes p.was records turns
-          → turns ≤ call_steps board.book t.call + RECORD_WORDS * (records - sum t.was.totals.upto)
-      few-alone records turns few =
-          let few_on : IsPayWithin board.book.processes t.was.totals records turns =
-          subst (λ (s : TotalSums). IsPayWithin board.book.processes s records turns) still-alone.was_is few in
-          omega (
+      pub few-alone : (turns : ℕ) → IsPayWithin board.book.processes (newly_seen p.start after.knows p.was.upto) turns
+          → IsCallWithin board.book (pass_before t) t.call after.knows turns 0
+      few-alone turns few =
+          let few_on : IsPayWithin board.book.processes (newly_seen t.start.knows after.knows t.was.totals.upto) turns =
+          subst (λ (v : Knowledge). IsPayWithin board.book.processes (newly_seen v after.knows t.was.totals.upto) turns) still-alone.start_is
+          (subst (λ (s : TotalSums). IsPayWithin board.book.processes (newly_seen p.start after.knows s.upto) turns) still-alone.was_is few) in
+          IsCallWithin-none board.book (pass_before t) t.call after.knows turns (omega (
             arith,
             few_on,
             call_steps-payout board.book p.from p.targets t.call way-alone.0,
             payment_steps-single board.book p.from way-alone.2,
-          )
+          ))
 
       pub Leaves-alone : (rest : Rest) (turns : ℕ) (receipt : Receipt) → IsKept after.knows
           → PaysAlone board.book p.start after.knows p.from p.targets t.call receipt
@@ -221,17 +236,28 @@ module _ (board : BoardTerms) (t : CallingTerms) (so : IsCallingSo t) (seat : Se
       pub way-shared : IsWay board.book (pass_before t) t.call (PayShared p)
       way-shared = subst (IsWay board.book (pass_before t) t.call) stage way_on
 
-      pub few-shared : (records turns : ℕ) → turns ≤ share_turns_most board.book p.account (records - sum p.was.upto)
-          → turns ≤ call_steps board.book t.call + RECORD_WORDS * (records - sum t.was.totals.upto)
-      few-shared records turns few =
-          let few_on : turns ≤ share_turns_most board.book p.account (records - sum t.was.totals.upto) =
-          subst (λ (s : TotalSums). turns ≤ share_turns_most board.book p.account (records - sum s.upto)) still-shared.was_is few in
-          omega (
-            arith,
-            few_on,
-            call_steps-payout board.book p.account p.targets t.call way-shared.0,
-            payment_steps-shared board.book p.account way-shared.2,
-          )
+      pub few-shared : (turns exchanges : ℕ) → turns ≤ share_turns_most board.book p.account (newly_seen p.start after.knows p.was.upto)
+          → exchanges ≤ decides_made p.account p.start after.knows → exchanges ≤ slots_of (account_of board.book p.account)
+          → IsCallWithin board.book (pass_before t) t.call after.knows turns exchanges
+      few-shared turns exchanges few decided few_decided =
+          let first = first_account-payout p.account p.targets t.call way-shared.0 in
+          let few_on : turns ≤ share_turns_most board.book p.account (newly_seen t.start.knows after.knows t.was.totals.upto) =
+          subst (λ (v : Knowledge). turns ≤ share_turns_most board.book p.account (newly_seen v after.knows t.was.totals.upto)) still-shared.start_is
+          (subst (λ (s : TotalSums). turns ≤ share_turns_most board.book p.account (newly_seen p.start after.knows s.upto)) still-shared.was_is few) in
+          let decided_on : exchanges ≤ decides_made p.account t.start.knows after.knows =
+          subst (λ (v : Knowledge). exchanges ≤ decides_made p.account v after.knows) still-shared.start_is decided in
+          record {
+            few = omega (
+              arith,
+              few_on,
+              call_steps-payout board.book p.account p.targets t.call way-shared.0,
+              payment_steps-shared board.book p.account way-shared.2,
+            );
+            decided = subst (λ a. exchanges ≤ decides_made a t.start.knows after.knows) (sym first) decided_on;
+            none = λ no.
+                let both : false ≡ true = sym no ∙ (may_exchange-payout board.book p.account p.targets t.call way-shared.0 ∙ way-shared.2) in absurd (cc both);
+            few_decided = subst (λ a. exchanges ≤ slots_of (account_of board.book a)) (sym first) few_decided;
+          }
 
       pub IsCallingSo-shared : (q : PayingSharedTerms) (rest : Rest) → q.account ≡ p.account → q.targets ≡ p.targets
           → q.start ≡ p.start → q.mark ≡ after.knows → q.was ≡ p.was
@@ -287,6 +313,15 @@ unless_settled-ended most made (Start s) some none = absurd (omega (arith, some,
 unless_settled-ended most made (Help h u) some none = refl
 unless_settled-ended most made Ended some none = refl
 
+-- in the start there are none
+unless_starting-le : (made : ℕ) (stage : ShareStage) → unless_starting made stage ≤ made
+unless_starting-le made (Start s) = omega arith
+unless_starting-le made (Help h u) = omega arith
+unless_starting-le made Ended = omega arith
+
+pub share_exchanges_made-le : (q : PayingSharedTerms) → share_exchanges_made q ≤ decides_made q.account q.start q.mark
+share_exchanges_made-le q = unless_starting-le (decides_made q.account q.start q.mark) q.stage
+
 pub share_exchanges_made-ended : (b : BookTerms) (q : PayingSharedTerms) (records : ℕ) → IsShareWithin b q records → records ≤ places_max
     → share_turns_left b q ≡ 0 → share_exchanges_made q ≡ decides_made q.account q.start q.mark
 share_exchanges_made-ended b q records few room none =
@@ -302,7 +337,7 @@ if_some P Q all (Some r) holds = all r holds
 pub TakesCallTurn-stages : (b : BookTerms) (t : CallingTerms) (before after mark : SeatTerms) → mark ≡ after → (now rest : Rest) → rest ≡ now
     → (old next : CallStage) → t.stage ≡ old → (answer : Option Receipt) → steps_made next ≡ steps_made old + steps_of old
     → MakesCallStep b old before after now.totals → call_turns_left b next < call_turns_left b old
-    → steps_made next ≤ call_steps b t.call + RECORD_WORDS * (length after.knows.seen - sum t.was.totals.upto)
+    → IsCallWithin b (pass_before t) t.call after.knows (steps_made next) (exchanges_made next)
     → (IsSome answer ↔ (call_turns_left b next ≡ 0)) → AreRuns b after.knows.seen → exchanges_made next ≡ exchanges_made old + exchanges_of old
     → IfSome answer (Leaves b t after now (steps_made next) (exchanges_made next)) → IfSome answer (λ r. now.calls ≡ with_one_call t.was.calls)
     → after.steps ≡ raised t.start.steps (steps_made next) → after.exchanges ≡ raised t.start.exchanges (exchanges_made next)

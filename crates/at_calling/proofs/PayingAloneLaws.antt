@@ -13,7 +13,7 @@ use Rattle.at_history.specs.Fronts.{place, prefix_of}
 use Rattle.at_history.specs.Rounds.{owns_of}
 use Rattle.at_history.specs.declared.publication.Entry.{Entry}
 use Rattle.at_history.specs.declared.publication.Publication.{Publication}
-use Rattle.at_board.specs.Knowledge.Parts.{asking_on, no_part, own_part}
+use Rattle.at_board.specs.Knowledge.Parts.{asking_on, no_part, own_part, with_part}
 use Rattle.at_board.specs.Steps.Publish.{Publishes, with_record}
 use Rattle.at_board.specs.Steps.StoreRecordWord.{StoresWord, with_word}
 use Rattle.at_board.specs.declared.knowledge.Knowledge.{Knowledge}
@@ -23,7 +23,7 @@ use Rattle.at_fold.specs.HasCounted.{HasCounted}
 use Rattle.at_fold.specs.Sums.{TotalSums}
 use Rattle.at_log.specs.declared.receipt.At.TheVariants.{Front, Own}
 use Rattle.at_object.proofs.Laws.Looked.{own_part-HasLoaded}
-use Rattle.at_single.proofs.Laws.Looks.{first-HasLoaded}
+use Rattle.at_single.proofs.Laws.Looks.{first-HasLoaded, published-HasLoaded}
 use Rattle.at_single.proofs.Laws.OwnRecords.{owns_of-IsPrefix-take}
 use Rattle.at_single.proofs.Laws.Paid.{IsPaid, IsSnapshot-IsPaid, begins-IsPaid, first-IsPaid, front_behind-IsPaid, more-IsPaid, number-IsPaid, place-IsPaid, prefix_of-IsPaid, record-IsPaid, within-IsPaid}
 use Rattle.at_single.proofs.Laws.Placed.{IsPlaced-done, IsPlaced-short, payment_reply-done, payment_reply-short}
@@ -51,12 +51,21 @@ pub HasSameAsking-Publishes : (b : BookTerms) (v w : Knowledge) (x : Publication
 HasSameAsking-Publishes b v w x part told = λ a.
     ap (λ (q : Part). asking_on q a) (ap own_part told.same ∙ get_or-set_same v.parts 0 (with_record b (own_part v) x) no_part part)
 
+-- what a part's process has published is as before where the part says so
+pub published-set : (parts : List Part) (q : Part) → q.published ≡ (get_or parts 0 no_part).published
+    → (get_or (set parts 0 q) 0 no_part).published ≡ (get_or parts 0 no_part).published
+published-set [] q same = refl
+published-set (p ∷ ps) q same = same
+
+pub published-with_part : (v : Knowledge) (q : Part) → q.published ≡ (own_part v).published → (own_part (with_part v q)).published ≡ (own_part v).published
+published-with_part v q same = published-set v.parts q same
+
 pub HasSameAsking-trans : (u v w : Knowledge) → HasSameAsking u v → HasSameAsking v w → HasSameAsking u w
 HasSameAsking-trans u v w before after = λ a. after a ∙ before a
 
 -- publishing adds to what is seen
-pub length-Publishes-le : (b : BookTerms) (v w : Knowledge) (x : Publication) → Publishes b v w x → length v.seen ≤ length w.seen
-length-Publishes-le b v w x told =
+pub length-Publishes-lt : (b : BookTerms) (v w : Knowledge) (x : Publication) → Publishes b v w x → length v.seen < length w.seen
+length-Publishes-lt b v w x told =
     omega (
       arith,
       ap (λ (xs : List Publication). length xs) told.seen,
@@ -100,6 +109,7 @@ IsPayingAloneSo-append s x now front turns so book looked enough within = record
   room = so.room;
   stage_so = λ few. record {
     mark_is = refl;
+    unpublished = published-HasLoaded s.start.book s.start x (omega (arith, so.kept.one_part)) looked.loads;
     looked_at = looked;
     entry = refl;
     enough = enough;

@@ -9,11 +9,12 @@ use Rattle.at_fold.specs.HasCounted.{StaysCounted}
 use Rattle.at_fold.specs.Sums.{TotalSums}
 use Rattle.at_ledger.specs.declared.call.Reply.{Reply}
 use Rattle.at_log.specs.declared.receipt.At.{At}
+use Rattle.at_single.proofs.Laws.Looks.{published-HasLoaded}
 use Rattle.at_snapshot.specs.Collected.{HasLoaded}
 use Rattle.at_calling.proofs.PayingAloneLaws.{HasSameAsking-HasLoaded, paying_next}
 use Rattle.at_calling.specs.KeptPayingAlone.{IsAppendingThen, IsLookingFirst, IsPayStageSo, IsPayingAloneSo, TakesPayTurn}
 use Rattle.at_calling.specs.PayingAlone.{AnswersAlone, HasSameAsking, IsPayWithin, MakesPayStep, PayingAloneTerms, append_steps, pay_turns_left, turns_in}
-use Rattle.at_calling.specs.Reading.{LeavesTotals}
+use Rattle.at_calling.specs.Reading.{LeavesTotals, SeesOthersStill, newly_seen}
 use Rattle.at_calling.specs.declared.pay_stage.PayStage.{PayStage}
 use Rattle.at_calling.specs.declared.pay_stage.PayStage.TheVariants.{Append, Look}
 use Rattle.at_machines.specs.Appending.{AppendingTerms, appending_after}
@@ -31,11 +32,11 @@ module _ (b : BookTerms) (t : PayingAloneTerms) (so : IsPayingAloneSo t) (book :
     loads_on =
         subst (λ (k : BookTerms). HasLoaded k t.start after.knows) (sym book) (subst (λ (v : Knowledge). HasLoaded b v after.knows) looks.start_is loads)
 
-    within : IsPayWithin b.processes t.was (length after.knows.seen) turns
+    within : IsPayWithin b.processes (newly_seen t.start after.knows t.was.upto) turns
     within =
         let so_far_on : IsWithin b.processes t.was (length after.knows.seen) turns =
         subst (λ (s : TotalSums). IsWithin b.processes s (length after.knows.seen) turns) looks.was_is so_far in
-        omega arith
+        omega (arith, so_far_on, published-HasLoaded t.start.book t.start after.knows (omega (arith, so.kept.one_part)) loads_on)
 
     pub TakesPayTurn-look : (stage : PayStage) (answer : Option (Reply × At)) → turns_in turns stage ≡ turns
         → pay_turns_left (record_width b) stage < pay_turns_left (record_width b) (Look l)
@@ -54,7 +55,7 @@ module _ (b : BookTerms) (t : PayingAloneTerms) (so : IsPayingAloneSo t) (book :
       step = subst (λ (k : PayStage). MakesPayStep b k before after now) (sym is) load;
       left = subst (λ (k : PayStage). pay_turns_left (record_width b) stage < pay_turns_left (record_width b) k) (sym is) left;
       ends = ends;
-      so_far = subst (IsPayWithin b.processes t.was (length after.knows.seen)) (sym same) within;
+      so_far = subst (IsPayWithin b.processes (newly_seen t.start after.knows t.was.upto)) (sym same) within;
       asks = HasSameAsking-HasLoaded t.start.book t.start after.knows (omega (arith, so.kept.one_part)) loads_on;
       pays = pays;
       counted = counted;
@@ -70,18 +71,19 @@ module _ (b : BookTerms) (t : PayingAloneTerms) (so : IsPayingAloneSo t) (book :
     stored : next.stored ≡ a.stored + 1
     stored = ap (λ (x : AppendingTerms). x.stored) after_is
 
-    within_append : length t.mark.seen ≤ length after.knows.seen → IsPayWithin b.processes t.was (length after.knows.seen) (t.looked + next.stored)
-    within_append more =
+    within_append : SeesOthersStill t.mark after.knows → length t.mark.seen ≤ length after.knows.seen
+        → IsPayWithin b.processes (newly_seen t.start after.knows t.was.upto) (t.looked + next.stored)
+    within_append others more =
         let looked : IsWithin b.processes t.was (sum a.rec.view) t.looked =
         subst (λ (k : BookTerms). IsWithin k.processes t.was (sum a.rec.view) t.looked) book appends.few in
-        omega (arith, looked, stored, few, more, appends.seen)
+        omega (arith, looked, stored, few, others, more, appends.unpublished, appends.seen)
 
-    pub TakesPayTurn-append : (answer : Option (Reply × At)) → length t.mark.seen ≤ length after.knows.seen
+    pub TakesPayTurn-append : (answer : Option (Reply × At)) → SeesOthersStill t.mark after.knows → length t.mark.seen ≤ length after.knows.seen
         → (IsSome answer ↔ (a.stored ≡ record_width b)) → HasSameAsking t.mark after.knows
         → IfSome answer (AnswersAlone b t.start after.knows t.from t.targets) → IfSome answer (λ r. StaysCounted now b after.knows.seen)
         → IfSome answer (λ r. LeavesTotals b t.start after.knows t.was now (append_steps (record_width b) r.0) (t.looked + next.stored))
         → TakesPayTurn b t (paying_next t (Append next) t.looked mark totals) before after now answer
-    TakesPayTurn-append answer more ends asks pays counted leaves = record {
+    TakesPayTurn-append answer others more ends asks pays counted leaves = record {
       from_is = refl;
       targets_are = refl;
       start_is = refl;
@@ -95,7 +97,7 @@ module _ (b : BookTerms) (t : PayingAloneTerms) (so : IsPayingAloneSo t) (book :
         λ some. let all = ends.0 some in omega (arith, all, stored),
         λ none. ends.1 (omega (arith, none, few, stored)),
       );
-      so_far = within_append more;
+      so_far = within_append others more;
       asks = λ account. asks account ∙ so.asks account;
       pays = pays;
       counted = counted;

@@ -1,5 +1,5 @@
 -- A payment from a shared account from one turn of helping to the next, and what it answers.
-use Rattle.std.proofs.Common.{◌≡◌, ℕ, ◌≢◌, ◌+◌, ◌-◌, ◌*◌, ◌^◌, ◌<◌, ◌≤◌, suc, true, cond, List, [], ◌∷◌, length, sum, Some, refl, sym, ap, subst, ◌∙◌, arith, inl, inr}
+use Rattle.std.proofs.Common.{◌≡◌, ℕ, ◌≢◌, ◌+◌, ◌*◌, ◌^◌, ◌<◌, ◌≤◌, suc, true, cond, List, [], ◌∷◌, length, sum, Some, refl, sym, ap, subst, ◌∙◌, arith, inl, inr}
 use Rattle.std.proofs.lemmas.Bool.{cases_Bool}
 use Rattle.std.proofs.lemmas.Nat.{mul-le}
 use Rattle.at_ledger.specs.Account.{is_shared, no_account, slots_of}
@@ -45,7 +45,7 @@ use Rattle.at_snapshot.specs.Snapshots.{snapshot_steps}
 use Rattle.at_machines.proofs.Laws.Snapshots.{snapshot_steps-le}
 use Rattle.at_calling.specs.KeptPayingShared.{HasCountedSo, HasHelped, IsHelpingThen}
 use Rattle.at_calling.specs.PayingShared.{AnswersInRound, DecidesFew, PayingSharedTerms, settling_steps, share_turns_most}
-use Rattle.at_calling.specs.Reading.{LeavesTotals}
+use Rattle.at_calling.specs.Reading.{LeavesTotals, SeesOthersStill, newly_seen}
 use Rattle.at_calling.specs.Starting.{IsStartOf}
 use Rattle.at_calling.specs.Turning.{IsHelpOf, IsHelpWithin, LeavesSeat, TurningTerms, WaitsOn, help_turns_left, help_turns_made}
 
@@ -161,12 +161,16 @@ module _ (b : BookTerms) (v y z : Knowledge) (a : ℕ) (targets : List TargetPai
 
   -- so far its turns and those before are few
   pub few-so_far : (was mid : TotalSums) (before turns : ℕ) → HasCountedSo b v y was mid a before → decides_made h.account y z ≤ 1
-      → length y.seen ≤ length z.seen → IsHelpWithin b.processes (decides_made h.account y z) mid (length z.seen) turns
-      → before + turns ≤ share_turns_most b a (length z.seen - sum was.upto)
-  few-so_far was mid before turns so once seen within =
+      → length y.seen ≤ length z.seen → SeesOthersStill y z → IsHelpWithin b.processes (decides_made h.account y z) (newly_seen y z mid.upto) turns
+      → before + turns ≤ share_turns_most b a (newly_seen v z was.upto)
+  few-so_far was mid before turns so once seen others within =
       steps-more b a before turns (decides_made a v y) (slots_of (account_of b a)) (decides_made h.account y z) (newly_counted v y was mid)
-      (length z.seen - sum mid.upto) (length z.seen - sum was.upto) once helped.few so.few within
-      (omega (arith, so.more, so.published, so.inside, seen))
+      (newly_seen y z mid.upto) (newly_seen v z was.upto) once helped.few so.few within
+      (omega (arith, so.more, so.published, so.inside, seen, others))
+
+  -- and so are its exchanges
+  pub few_exchanges-so_far : decides_made h.account y z ≤ 1 → decides_made a v z ≤ slots_of (account_of b a)
+  few_exchanges-so_far once = omega (arith, helped.few, helped.decides, once, on_y, on_z)
 
   -- it has ended
   module _ (seat : LeavesSeat y z h.account) where

@@ -1,7 +1,7 @@
 -- What a turn of a payment from a shared account leaves of it.
-use Rattle.std.proofs.Common.{◌≡◌, ℕ, ◌+◌, ◌-◌, ◌<◌, ◌≤◌, None, Some, length, false, true, refl, arith}
-use Rattle.std.specs.List.{sum}
-use Rattle.at_ledger.specs.Book.{BookTerms}
+use Rattle.std.proofs.Common.{◌≡◌, ℕ, ◌+◌, ◌-◌, ◌<◌, ◌≤◌, None, Some, false, true, refl, ap, arith}
+use Rattle.at_ledger.specs.Account.{slots_of}
+use Rattle.at_ledger.specs.Book.{BookTerms, account_of}
 use Rattle.at_history.specs.Fronts.{places_max}
 use Rattle.at_board.specs.Knowledge.Seats.{SeatTerms}
 use Rattle.at_board.specs.declared.knowledge.Knowledge.{Knowledge}
@@ -13,7 +13,7 @@ use Rattle.at_shared.specs.Helpings.{decides_made}
 use Rattle.at_shared.specs.PaymentTurns.{SettlesInTurns}
 use Rattle.at_calling.specs.KeptPayingShared.{TakesShareTurn}
 use Rattle.at_calling.specs.PayingShared.{AnswersInRound, DecidesFew, MakesShareStep, PayingSharedTerms, settling_steps, share_exchanges_at, share_exchanges_made, share_turns_left, share_turns_most, unless_settled, unless_starting}
-use Rattle.at_calling.specs.Reading.{LeavesTotals}
+use Rattle.at_calling.specs.Reading.{LeavesTotals, newly_seen}
 use Rattle.at_calling.specs.declared.share_stage.ShareStage.{ShareStage}
 use Rattle.at_calling.specs.declared.share_stage.ShareStage.TheVariants.{Ended, Help, Start}
 
@@ -35,7 +35,7 @@ unless_settled-some most Ended some = absurd (omega (arith, some))
 
 module _ (b : BookTerms) (t : PayingSharedTerms) (before after : SeatTerms) (now : TotalSums) (mark : Knowledge) (mark_is : mark ≡ after.knows)
     (totals : TotalSums) (totals_are : totals ≡ now) (some : 0 < share_turns_left b t) (step : MakesShareStep b t.stage before after now)
-    (within : t.turns + 1 ≤ share_turns_most b t.account (length after.knows.seen - sum t.was.upto)) where
+    (within : t.turns + 1 ≤ share_turns_most b t.account (newly_seen t.start after.knows t.was.upto)) where
   abbrev most : ℕ
   most = share_turns_most b t.account places_max
 
@@ -55,8 +55,9 @@ module _ (b : BookTerms) (t : PayingSharedTerms) (before after : SeatTerms) (now
   -- nothing is answered, and the payment goes on in this stage
   pub TakesShareTurn-on : (stage : ShareStage) → ((n : ℕ) → unless_settled n stage ≡ n) → t.turns + 1 ≤ most
       → unless_starting (decides_made t.account t.start mark) stage ≡ share_exchanges_made t + share_exchanges_at t.stage
+      → unless_starting (decides_made t.account t.start mark) stage ≤ slots_of (account_of b t.account)
       → TakesShareTurn b t (share_next t stage mark totals) before after now None
-  TakesShareTurn-on stage goes few decides = record {
+  TakesShareTurn-on stage goes few decides exchanges_few = record {
     account_is = refl;
     targets_are = refl;
     start_is = refl;
@@ -77,6 +78,7 @@ module _ (b : BookTerms) (t : PayingSharedTerms) (before after : SeatTerms) (now
     counted = tt;
     leaves = tt;
     decides = decides;
+    exchanges_few = exchanges_few;
   }
 
   -- the request is settled
@@ -104,4 +106,5 @@ module _ (b : BookTerms) (t : PayingSharedTerms) (before after : SeatTerms) (now
     counted = counted;
     leaves = leaves;
     decides = decides;
+    exchanges_few = omega (arith, few.few, ap (λ (v : Knowledge). decides_made t.account t.start v) mark_is);
   }

@@ -8,9 +8,11 @@ use Rattle.at_history.proofs.Laws.Prefixes.{IsPrefix-length, IsPrefix-refl, IsPr
 use Rattle.at_history.specs.Fronts.{place, places_max}
 use Rattle.at_history.specs.Publications.{IsPrefix}
 use Rattle.at_history.specs.Sound.{AreTargets}
+use Rattle.at_history.specs.declared.request.Request.{Request}
 use Rattle.at_board.specs.Knowledge.Candidates.{HasLoadedRows}
 use Rattle.at_board.specs.Knowledge.Parts.{asking_on, own_part}
 use Rattle.at_board.specs.Steps.Announce.{Announces}
+use Rattle.at_board.specs.Steps.StoreRequestWord.{StoresRequestWord}
 use Rattle.at_board.specs.declared.knowledge.Knowledge.{Knowledge}
 use Rattle.at_board.specs.declared.words.TheConstants.{REQUEST_WORDS}
 use Rattle.at_fold.proofs.Laws.MorePublished.{StaysCounted-HasCounted}
@@ -24,6 +26,7 @@ use Rattle.at_shared.proofs.Laws.Started.{HasStarted-StartsBy, IsHelping-StartsB
 use Rattle.at_shared.proofs.Laws.Starting.{Keeps-HasLoaded}
 use Rattle.at_shared.specs.HelpingTerms.{helping_of}
 use Rattle.at_shared.specs.Starting.{StartsBy}
+use Rattle.at_single.proofs.Laws.Looks.{published-HasLoaded}
 use Rattle.at_single.specs.Looks.{HasLooked}
 use Rattle.at_machines.specs.Asking.{AskingTerms, StoresNextRequestWord, asking_after, request_asked, starting_to_ask}
 use Rattle.at_machines.specs.CollectingRows.{CollectingRowsTerms, MakesNextLoad, rows_after, starting_rows}
@@ -31,7 +34,8 @@ use Rattle.at_calling.specs.KeptStarting.{HasLookedToAsk, IsAskingThen, IsCollec
 use Rattle.at_machines.specs.LoadingRow.{MakesLoadOf, NextRowLoad}
 use Rattle.at_machines.specs.LoadingRow.NextRowLoad.{announced_word, request_word, nothing}
 use Rattle.at_machines.specs.Looking.{IsWithin}
-use Rattle.at_calling.specs.Reading.{LeavesTotals}
+use Rattle.at_calling.proofs.PayingAloneLaws.{published-set}
+use Rattle.at_calling.specs.Reading.{LeavesTotals, newly_seen}
 use Rattle.at_calling.specs.Starting.{IsStartOf, IsStartWithin, StartingTerms, asking_steps_of, start_turns_in}
 use Rattle.at_calling.specs.declared.start_stage.StartStage.{StartStage}
 use Rattle.at_calling.specs.declared.start_stage.StartStage.TheVariants.{Ask, Collect}
@@ -42,6 +46,26 @@ IsPrefix-MakesLoadOf b v w a slot own announced_word next (count, told, follows)
 IsPrefix-MakesLoadOf b v w a slot own (request_word number word) next (n, told, follows) =
     subst (IsPrefix v.seen) (sym (ap (λ (k : Knowledge). k.seen) told.same)) (IsPrefix-refl v.seen)
 IsPrefix-MakesLoadOf b v w a slot own nothing next told = absurd told
+
+-- a load of a row, a store of a word of the request and announcing it publish nothing
+published-MakesLoadOf : (b : BookTerms) (v w : Knowledge) (a slot own : ℕ) (this next : NextRowLoad) → MakesLoadOf b v w a slot own this next
+    → (own_part w).published ≡ (own_part v).published
+published-MakesLoadOf b v w a slot own announced_word next (count, told, follows) =
+    ap (λ (k : Knowledge). (own_part k).published) told.same ∙ published-set v.parts _ refl
+published-MakesLoadOf b v w a slot own (request_word number word) next (n, told, follows) =
+    ap (λ (k : Knowledge). (own_part k).published) told.same ∙ published-set v.parts _ refl
+published-MakesLoadOf b v w a slot own nothing next told = absurd told
+
+pub published-MakesNextLoad : (b : BookTerms) (c after : CollectingRowsTerms) → MakesNextLoad b c after
+    → (own_part after.mark).published ≡ (own_part c.mark).published
+published-MakesNextLoad b c after told = published-MakesLoadOf b c.mark after.mark c.account c.slot c.own.slot c.next told.row_next told.load
+
+published-StoresRequestWord : (v w : Knowledge) (a j n : ℕ) → StoresRequestWord v w a j n → (own_part w).published ≡ (own_part v).published
+published-StoresRequestWord v w a j n told = ap (λ (k : Knowledge). (own_part k).published) told ∙ published-set v.parts _ refl
+
+published-Announces : (b : BookTerms) (v w : Knowledge) (a slot : ℕ) (r : Request) → Announces b v w a slot r
+    → (own_part w).published ≡ (own_part v).published
+published-Announces b v w a slot r told = ap (λ (k : Knowledge). (own_part k).published) told.same ∙ published-set v.parts _ refl
 
 pub IsPrefix-MakesNextLoad : (b : BookTerms) (c after : CollectingRowsTerms) → MakesNextLoad b c after → IsPrefix c.mark.seen after.mark.seen
 IsPrefix-MakesNextLoad b c after told = IsPrefix-MakesLoadOf b c.mark after.mark c.account c.slot c.own.slot c.next told.row_next told.load
@@ -99,6 +123,7 @@ module _ (t : StartingTerms) (so : IsStartingSo t) where
           looked_at = looked;
           since_is = refl;
           few = few;
+          unpublished = published-HasLoaded t.start.book t.start w has.part looked.loads;
           more = IsPrefix-refl w.seen;
         };
       };
@@ -106,19 +131,20 @@ module _ (t : StartingTerms) (so : IsStartingSo t) where
 
   -- since the look ended
   module _ (looked : Knowledge) (account : ℕ) (targets : List TargetPair) (since : ℕ) (to_ask : HasLookedToAsk t looked account targets since)
-      (w : Knowledge) (more : IsPrefix looked.seen w.seen) where
+      (w : Knowledge) (unpublished : (own_part w).published ≡ (own_part t.start).published) (more : IsPrefix looked.seen w.seen) where
     -- what was counted stays so
     pub StaysCounted-HasLookedToAsk : StaysCounted t.totals t.start.book w.seen
     StaysCounted-HasLookedToAsk = StaysCounted-HasCounted t.totals t.start.book w.seen (to_ask.looked_at.counted w.seen more)
 
     -- the turns are few
     pub IsStartWithin-HasLookedToAsk : (stage : StartStage) → start_turns_in t.looked stage ≤ t.looked + asking_steps_of t.start.book t
-        → IsStartWithin t.start.book (start_after t stage w) (length w.seen)
+        → IsStartWithin t.start.book (start_after t stage w) (newly_seen t.start w t.was.upto)
     IsStartWithin-HasLookedToAsk stage few =
         omega (
           arith,
           few,
           to_ask.few,
+          unpublished,
           place-IsSnapshot-le t.start.book t.start looked to_ask.front to_ask.looked_at.snapshot to_ask.looked_at.loads,
           IsPrefix-length looked.seen w.seen more,
         )
@@ -132,6 +158,7 @@ module _ (t : StartingTerms) (so : IsStartingSo t) where
       looked_at = to_ask.looked_at;
       since_is = to_ask.since_is;
       few = to_ask.few;
+      unpublished = unpublished;
       more = more;
     }
 
@@ -155,13 +182,19 @@ module _ (t : StartingTerms) (so : IsStartingSo t) where
     IsPrefix-word told =
         subst (IsPrefix a.start.seen) (ap (λ (k : Knowledge). k.seen) (sym is.mark_is) ∙ sym (ap (λ (k : Knowledge). k.seen) told)) is.to_ask.more
 
+    -- and what is published
+    pub unpublished-word : StoresNextRequestWord a w → (own_part w).published ≡ (own_part t.start).published
+    unpublished-word told =
+        published-StoresRequestWord a.mark w a.account a.stored _ told
+        ∙ (ap (λ (k : Knowledge). (own_part k).published) is.mark_is ∙ is.to_ask.unpublished)
+
     pub IsStartingSo-word : a.stored < REQUEST_WORDS → w.book ≡ t.start.book → StoresNextRequestWord a w
         → IsStartingSo (start_after t (Ask (asking_after a w)) w)
     IsStartingSo-word left book told =
         IsStartingSo-stage (Ask (asking_after a w)) w book (record {
           mark_is = refl;
           left = omega (arith, left);
-          to_ask = HasLookedToAsk-more a.start a.account a.targets a.since is.to_ask w (IsPrefix-word told) (Ask (asking_after a w));
+          to_ask = HasLookedToAsk-more a.start a.account a.targets a.since is.to_ask w (unpublished-word told) (IsPrefix-word told) (Ask (asking_after a w));
         })
 
     -- the slot is that of the seat's process still
@@ -172,6 +205,11 @@ module _ (t : StartingTerms) (so : IsStartingSo t) where
 
     -- the request is announced
     module _ (told : Announces t.start.book a.start w a.account slot_of_start (request_asked a)) where
+      pub unpublished-Announces : (own_part w).published ≡ (own_part t.start).published
+      unpublished-Announces =
+          published-Announces t.start.book a.start w a.account slot_of_start (request_asked a) told
+          ∙ published-HasLoaded t.start.book t.start a.start has.part is.to_ask.looked_at.loads
+
       pub slot_in-Announces : slot_in (account_of t.start.book a.account) w.first ≡ Some slot_of_start
       slot_in-Announces = ap (slot_in (account_of t.start.book a.account)) (ap (λ (k : Knowledge). k.first) told.same) ∙ HasSlot-IsAskingThen.owner
 
@@ -185,7 +223,7 @@ module _ (t : StartingTerms) (so : IsStartingSo t) where
             mark_is = refl;
             left = omega (arith, HasSlot-IsStartingSo.within);
             looked = a.start;
-            to_ask = HasLookedToAsk-more a.start a.account a.targets a.since is.to_ask w told.more stage;
+            to_ask = HasLookedToAsk-more a.start a.account a.targets a.since is.to_ask w unpublished-Announces told.more stage;
             number = counted;
             announced = told;
             nothing_loaded = nothing_loaded;
@@ -196,25 +234,32 @@ module _ (t : StartingTerms) (so : IsStartingSo t) where
     more-rows : IsPrefix c.mark.seen w.seen → IsPrefix is.looked.seen w.seen
     more-rows more = IsPrefix-trans is.looked.seen c.mark.seen w.seen (subst (λ (k : Knowledge). IsPrefix is.looked.seen k.seen) (sym is.mark_is) is.to_ask.more) more
 
-    pub StaysCounted-IsCollectingThen : IsPrefix c.mark.seen w.seen → StaysCounted t.totals t.start.book w.seen
-    StaysCounted-IsCollectingThen more =
-        StaysCounted-HasLookedToAsk is.looked c.account c.own.targets c.own.since is.to_ask w (more-rows more)
+    -- nothing is published meanwhile
+    unpublished-rows : (own_part w).published ≡ (own_part c.mark).published → (own_part w).published ≡ (own_part t.start).published
+    unpublished-rows same = same ∙ (ap (λ (k : Knowledge). (own_part k).published) is.mark_is ∙ is.to_ask.unpublished)
 
-    pub IsStartWithin-IsCollectingThen : (stage : StartStage) → IsPrefix c.mark.seen w.seen
-        → start_turns_in t.looked stage ≤ t.looked + asking_steps_of t.start.book t → IsStartWithin t.start.book (start_after t stage w) (length w.seen)
-    IsStartWithin-IsCollectingThen stage more few =
-        IsStartWithin-HasLookedToAsk is.looked c.account c.own.targets c.own.since is.to_ask w (more-rows more) stage few
+    pub StaysCounted-IsCollectingThen : (own_part w).published ≡ (own_part c.mark).published → IsPrefix c.mark.seen w.seen
+        → StaysCounted t.totals t.start.book w.seen
+    StaysCounted-IsCollectingThen same more =
+        StaysCounted-HasLookedToAsk is.looked c.account c.own.targets c.own.since is.to_ask w (unpublished-rows same) (more-rows more)
 
-    pub IsStartingSo-rows : (slot : ℕ) (next : NextRowLoad) → w.book ≡ t.start.book → IsPrefix c.mark.seen w.seen
+    pub IsStartWithin-IsCollectingThen : (stage : StartStage) → (own_part w).published ≡ (own_part c.mark).published → IsPrefix c.mark.seen w.seen
+        → start_turns_in t.looked stage ≤ t.looked + asking_steps_of t.start.book t
+        → IsStartWithin t.start.book (start_after t stage w) (newly_seen t.start w t.was.upto)
+    IsStartWithin-IsCollectingThen stage same more few =
+        IsStartWithin-HasLookedToAsk is.looked c.account c.own.targets c.own.since is.to_ask w (unpublished-rows same) (more-rows more) stage few
+
+    pub IsStartingSo-rows : (slot : ℕ) (next : NextRowLoad) → w.book ≡ t.start.book → (own_part w).published ≡ (own_part c.mark).published
+        → IsPrefix c.mark.seen w.seen
         → c.made + 1 ≤ slots_of (account_of t.start.book c.account) + REQUEST_WORDS * (slots_of (account_of t.start.book c.account) - 1)
         → IsStartingSo (start_after t (Collect (rows_after c w slot next)) w)
-    IsStartingSo-rows slot next book more most =
+    IsStartingSo-rows slot next book same more most =
         let stage : StartStage = Collect (rows_after c w slot next) in
         IsStartingSo-stage stage w book (record {
           mark_is = refl;
           left = omega (arith, most, HasSlot-IsStartingSo.within, ap (λ n. slots_of (account_of t.start.book n)) is.to_ask.account_is);
           looked = is.looked;
-          to_ask = HasLookedToAsk-more is.looked c.account c.own.targets c.own.since is.to_ask w (more-rows more) stage;
+          to_ask = HasLookedToAsk-more is.looked c.account c.own.targets c.own.since is.to_ask w (unpublished-rows same) (more-rows more) stage;
           number = is.number;
           announced = is.announced;
           nothing_loaded = is.nothing_loaded;

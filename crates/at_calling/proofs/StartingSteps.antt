@@ -2,6 +2,7 @@
 use Rattle.std.proofs.Common.{◌≡◌, ◌≢◌, ℕ, ◌+◌, ◌-◌, ◌<◌, ◌≤◌, ◌↔◌, IfSome, IsSome, Option, None, length, false, true, refl, sym, ap, subst, ◌∙◌, arith}
 use Rattle.at_ledger.specs.Book.{BookTerms}
 use Rattle.at_history.specs.Publications.{IsPrefix}
+use Rattle.at_board.specs.Knowledge.Parts.{own_part}
 use Rattle.at_board.specs.Knowledge.Seats.{SeatTerms}
 use Rattle.at_board.specs.declared.knowledge.Knowledge.{Knowledge}
 use Rattle.at_board.specs.declared.words.TheConstants.{REQUEST_WORDS}
@@ -15,7 +16,9 @@ use Rattle.at_machines.specs.LoadingRow.NextRowLoad.{announced_word, request_wor
 use Rattle.at_machines.specs.Looking.{IsWithin, LookingTerms, MakesLookLoad}
 use Rattle.at_calling.proofs.StartingLaws.{HasSlot-IsStartingSo, IsStartWithin-HasLookedToAsk, IsStartWithin-IsCollectingThen, StaysCounted-HasLookedToAsk, StaysCounted-IsCollectingThen, start_after, start_after_look}
 use Rattle.at_calling.specs.KeptStarting.{IsAskingThen, IsCollectingThen, IsLookingToAsk, IsStartStageSo, IsStartingSo, TakesStartTurn}
-use Rattle.at_calling.specs.Reading.{LeavesTotals}
+use Rattle.at_single.proofs.Laws.Looks.{published-HasLoaded}
+use Rattle.at_snapshot.specs.Collected.{HasLoaded}
+use Rattle.at_calling.specs.Reading.{LeavesTotals, newly_seen}
 use Rattle.at_calling.specs.Starting.{IsStartOf, IsStartWithin, MakesStartStep, StartingTerms, asking_steps_of, start_turns_after, start_turns_in, unless_ended}
 use Rattle.at_calling.specs.declared.start_stage.StartStage.{StartStage}
 use Rattle.at_calling.specs.declared.start_stage.StartStage.TheVariants.{Ask, Collect, Look}
@@ -45,16 +48,19 @@ module _ (b : BookTerms) (t : StartingTerms) (so : IsStartingSo t) (book : t.sta
 
   -- a turn of the look
   module _ (now totals : TotalSums) (totals_are : totals ≡ now) (l : LookingTerms) (is : t.stage ≡ Look l) (turns : ℕ) (made : turns ≡ l.turns + 1)
-      (load : MakesLookLoad b l.stage before after now) (counted : StaysCounted now b after.knows.seen)
+      (load : MakesLookLoad b l.stage before after now) (loads : HasLoaded b l.start after.knows) (counted : StaysCounted now b after.knows.seen)
       (so_far : IsWithin b.processes l.was (length after.knows.seen) turns) where
     looks : IsLookingToAsk t l
     looks = subst (IsStartStageSo t) is so.stage_so
 
-    within : (stage : StartStage) → start_turns_in turns stage ≡ turns → IsStartWithin b (start_after_look t stage mark totals turns) (length after.knows.seen)
+    loads_on : HasLoaded b t.start after.knows
+    loads_on = subst (λ (v : Knowledge). HasLoaded b v after.knows) looks.start_is loads
+
+    within : (stage : StartStage) → start_turns_in turns stage ≡ turns → IsStartWithin b (start_after_look t stage mark totals turns) (newly_seen t.start after.knows t.was.upto)
     within stage same =
         let so_far_on : IsWithin b.processes t.was (length after.knows.seen) turns =
         subst (λ (s : TotalSums). IsWithin b.processes s (length after.knows.seen) turns) looks.was_is so_far in
-        omega (arith, so_far_on, same)
+        omega (arith, so_far_on, same, published-HasLoaded b t.start after.knows (omega (arith, so.kept.one_part)) loads_on)
 
     pub TakesStartTurn-look : (stage : StartStage) → start_turns_in turns stage ≡ turns → 0 < start_turns_after most stage
         → start_turns_after most stage < start_turns_after most (Look l)
@@ -77,7 +83,8 @@ module _ (b : BookTerms) (t : StartingTerms) (so : IsStartingSo t) (book : t.sta
     }
 
   -- a store of the request, or its announcement
-  module _ (a : AskingTerms) (is : t.stage ≡ Ask a) (more : IsPrefix a.start.seen after.knows.seen) where
+  module _ (a : AskingTerms) (is : t.stage ≡ Ask a) (same_count : (own_part after.knows).published ≡ (own_part t.start).published)
+      (more : IsPrefix a.start.seen after.knows.seen) where
     asks : IsAskingThen t a
     asks = subst (IsStartStageSo t) is so.stage_so
 
@@ -95,10 +102,10 @@ module _ (b : BookTerms) (t : StartingTerms) (so : IsStartingSo t) (book : t.sta
       turns = same ∙ ap (λ n. n + 1) (sym (ap (start_turns_in t.looked) is));
       step = subst (λ (k : StartStage). MakesStartStep b k before after t.totals) (sym is) step;
       counted = subst (λ (k : BookTerms). StaysCounted t.totals k after.knows.seen) book
-          (StaysCounted-HasLookedToAsk t so a.start a.account a.targets a.since asks.to_ask after.knows more);
+          (StaysCounted-HasLookedToAsk t so a.start a.account a.targets a.since asks.to_ask after.knows same_count more);
       left = subst (λ (k : StartStage). start_turns_after most stage < start_turns_after most k) (sym is) left;
-      so_far = subst (λ (k : BookTerms). IsStartWithin k (start_after t stage after.knows) (length after.knows.seen)) book
-          (IsStartWithin-HasLookedToAsk t so a.start a.account a.targets a.since asks.to_ask after.knows more stage
+      so_far = subst (λ (k : BookTerms). IsStartWithin k (start_after t stage after.knows) (newly_seen t.start after.knows t.was.upto)) book
+          (IsStartWithin-HasLookedToAsk t so a.start a.account a.targets a.since asks.to_ask after.knows same_count more stage
           (omega (arith, same, asks.left, (HasSlot-IsStartingSo t so).within)));
       ends = (λ has. let wrong : false ≡ true = has in absurd (cc wrong), λ none. absurd (omega (arith, some, none)));
       starts = tt;
@@ -107,7 +114,7 @@ module _ (b : BookTerms) (t : StartingTerms) (so : IsStartingSo t) (book : t.sta
 
   -- a load of the rows
   module _ (c next : CollectingRowsTerms) (is : t.stage ≡ Collect c) (goes : c.next ≢ nothing) (made : next.made ≡ c.made + 1)
-      (more : IsPrefix c.mark.seen after.knows.seen) (few : REQUEST_WORDS + next.made < asking_steps_of t.start.book t) where
+      (same_count : (own_part after.knows).published ≡ (own_part c.mark).published) (more : IsPrefix c.mark.seen after.knows.seen) (few : REQUEST_WORDS + next.made < asking_steps_of t.start.book t) where
     collects : IsCollectingThen t c
     collects = subst (IsStartStageSo t) is so.stage_so
 
@@ -140,10 +147,10 @@ module _ (b : BookTerms) (t : StartingTerms) (so : IsStartingSo t) (book : t.sta
       totals_are = refl;
       turns = omega (arith, made, ap (start_turns_in t.looked) is);
       step = subst (λ (k : StartStage). MakesStartStep b k before after t.totals) (sym is) step;
-      counted = subst (λ (k : BookTerms). StaysCounted t.totals k after.knows.seen) book (StaysCounted-IsCollectingThen t so c collects after.knows more);
+      counted = subst (λ (k : BookTerms). StaysCounted t.totals k after.knows.seen) book (StaysCounted-IsCollectingThen t so c collects after.knows same_count more);
       left = subst (λ (k : StartStage). start_turns_after most (Collect next) < start_turns_after most k) (sym is) less;
-      so_far = subst (λ (k : BookTerms). IsStartWithin k (start_after t (Collect next) after.knows) (length after.knows.seen)) book
-          (IsStartWithin-IsCollectingThen t so c collects after.knows (Collect next) more (omega (arith, few)));
+      so_far = subst (λ (k : BookTerms). IsStartWithin k (start_after t (Collect next) after.knows) (newly_seen t.start after.knows t.was.upto)) book
+          (IsStartWithin-IsCollectingThen t so c collects after.knows (Collect next) same_count more (omega (arith, few)));
       ends = (
         λ some. ap (unless_ended left_at_most) (ends.0 some),
         λ none. ends.1 (unless_ended-none left_at_most next.next (omega (arith, few_on)) none),

@@ -1,5 +1,5 @@
 -- What a look, and a round after it, let the answer of a turn of helping be.
-use Rattle.std.proofs.Common.{◌≡◌, ◌⊎◌, ℕ, ◌+◌, ◌-◌, ◌*◌, ◌<◌, ◌≤◌, Bool, true, false, cond, List, [], ◌∷◌, ◌++◌, length, set, get_or, get_or-set_same, refl, sym, ap, subst, ◌∙◌, arith, inl, inr}
+use Rattle.std.proofs.Common.{◌≡◌, ℕ, ◌+◌, ◌-◌, ◌*◌, ◌<◌, ◌≤◌, List, [], ◌∷◌, ◌++◌, length, set, get_or, get_or-set_same, refl, sym, ap, subst, ◌∙◌, arith, inl, inr}
 use Rattle.std.proofs.lemmas.Bool.{cases_lt}
 use Rattle.std.proofs.lemmas.List.{length-take}
 use Rattle.std.specs.List.{sum}
@@ -12,7 +12,7 @@ use Rattle.at_history.proofs.Laws.Prefixes.{IsPrefix-length}
 use Rattle.at_history.specs.Fronts.{prefix_of}
 use Rattle.at_history.specs.Rounds.{rounds}
 use Rattle.at_board.specs.Knowledge.Agreement.{AgreesWithSeen}
-use Rattle.at_board.specs.Knowledge.Parts.{asking_on, no_part, own_part, seen_as}
+use Rattle.at_board.specs.Knowledge.Parts.{asking_on, no_part, own_part, part_asking, seen_as}
 use Rattle.at_board.specs.Knowledge.Seats.{IsKept}
 use Rattle.at_board.specs.Steps.LoadRequestWord.{LoadsRequestWord, with_loaded}
 use Rattle.at_board.specs.Steps.StoreRecordWord.{StoresWord, with_word}
@@ -27,7 +27,7 @@ use Rattle.at_fold.specs.Counted.{IsDecidedIn}
 use Rattle.at_fold.specs.Sums.{TotalSums}
 use Rattle.at_log.specs.declared.receipt.At.{At}
 use Rattle.at_rows.proofs.Laws.Accounts.{HasAccount, asking_on-with_asking}
-use Rattle.at_shared.proofs.Laws.After.{IsAfter, IsAfter-Decides, IsAfter-Publishes}
+use Rattle.at_shared.proofs.Laws.After.{IsAfter, IsAfter-Decides, IsAfter-Publishes, own_part-Decides, own_part-Publishes}
 use Rattle.at_shared.proofs.Laws.Placing.{StandsInRound-IsAnswerOf}
 use Rattle.at_shared.proofs.Laws.Turned.{FindsSettled-turn, HelpsDecide-turn, IsHelping-turn, IsPlaced-turn-found, IsPlaced-turn-own, StandsAfter-turn-found, StandsAfter-turn-own, begins-turn, decides-turn, decides_elsewhere-turn, free-turn, heard-turn, overtaken-turn, process-turn, published-turn, rounds-turn}
 use Rattle.at_shared.specs.HelpTurns.{DecidesNext, IsAnswerOf, NamesOwn}
@@ -39,9 +39,10 @@ use Rattle.at_single.specs.Looks.{HasLooked}
 use Rattle.at_snapshot.specs.Snapshots.{snapshot_steps}
 use Rattle.at_machines.specs.Deciding.{DecidingTerms, MakesRoundStep, MakesStep, NextOfRound, deciding_after, exchanges_in, left_of_round, round_in}
 use Rattle.at_machines.specs.Deciding.NextOfRound.{exchange, request_word, record_word, nothing}
+use Rattle.at_calling.proofs.PayingAloneLaws.{length-Publishes-lt, published-with_part}
 use Rattle.at_calling.specs.KeptTurning.{IsDecidingThen}
 use Rattle.at_machines.specs.Looking.{IsWithin}
-use Rattle.at_calling.specs.Reading.{LeavesTotals}
+use Rattle.at_calling.specs.Reading.{LeavesTotals, SeesOthersStill, newly_seen}
 use Rattle.at_calling.specs.Turning.{IsHelpOf, IsHelpWithin, LeavesSeat, TurningTerms, WaitsOn}
 use Rattle.at_calling.specs.declared.turn_stage.TurnStage.TheVariants.{Decide}
 
@@ -58,15 +59,18 @@ exchanges_in-lt n (request_word d word) less = refl
 exchanges_in-lt n (record_word d word) less = refl
 exchanges_in-lt n nothing less = refl
 
--- a step that makes so many exchanges on the account, after which the seat has seen at least as much
+-- a step that makes so many exchanges on the account, after which the seat has seen at least as much, of others too
 record IsStepOf (v w : Knowledge) (a exchanges : ℕ) : Type 0 where
   decides : decides_on w a ≡ decides_on v a + exchanges
   more : length v.seen ≤ length w.seen
+  others : SeesOthersStill v w
 
-IsStepOf-IsAfter : (v w : Knowledge) (a exchanges : ℕ) (words : List LoadedWord) → IsAfter v w a exchanges words → IsStepOf v w a exchanges
-IsStepOf-IsAfter v w a exchanges words after = record {
+IsStepOf-IsAfter : (v w : Knowledge) (a exchanges : ℕ) (words : List LoadedWord) → IsAfter v w a exchanges words → SeesOthersStill v w
+    → IsStepOf v w a exchanges
+IsStepOf-IsAfter v w a exchanges words after others = record {
   decides = ap (λ (t : Asking). t.decides) after.asking;
   more = IsPrefix-length v.seen w.seen after.more;
+  others = others;
 }
 
 IsStepOf-StoresWord : (v w : Knowledge) (word n a : ℕ) → 0 < length v.parts → StoresWord v w word n → IsStepOf v w a 0
@@ -77,6 +81,12 @@ IsStepOf-StoresWord v w word n a part told = record {
     ap (λ (q : Part). (asking_on q a).decides) (get_or-set_same v.parts 0 (with_word (own_part v) word n) no_part part),
   );
   more = omega (arith, ap (λ (t : Knowledge). length t.seen) told);
+  others = omega (
+    arith,
+    ap (λ (t : Knowledge). length t.seen) told,
+    ap (λ (t : Knowledge). (own_part t).published) told,
+    published-with_part v (with_word (own_part v) word n) refl,
+  );
 }
 
 IsStepOf-LoadsRequestWord : (b : BookTerms) (v w : Knowledge) (a slot number word n : ℕ) → HasAccount v a → LoadsRequestWord b v w a slot number word n
@@ -92,13 +102,22 @@ IsStepOf-LoadsRequestWord b v w a slot number word n has told =
         ap (λ (t : Asking). t.decides) (asking_on-with_asking u a now (record { part = has.part; inside = has.inside })),
       );
       more = omega (arith, ap (λ (t : Knowledge). length t.seen) told.same);
+      others = omega (
+        arith,
+        ap (λ (t : Knowledge). length t.seen) told.same,
+        ap (λ (t : Knowledge). (own_part t).published) told.same,
+        published-with_part u (part_asking (own_part u) a now) refl,
+      );
     }
 
 -- the step of the exchange makes one, and no other of the round does
 IsStepOf-MakesStep : (b : BookTerms) (c : DecidingTerms) (w : Knowledge) (step next : NextOfRound) → HasAccount c.mark c.helping.account
     → 0 < left_of_round b.processes step → MakesStep b c w step next → IsStepOf c.mark w c.helping.account (exchanges_in step)
 IsStepOf-MakesStep b c w exchange next has left (d, proposal, told, then) =
-    IsStepOf-IsAfter c.mark w c.helping.account 1 [] (IsAfter-Decides b c.mark w c.helping.account (round_in c) proposal (word_of d) has told.decides)
+    let after = IsAfter-Decides b c.mark w c.helping.account (round_in c) proposal (word_of d) has told.decides in
+    let own = own_part-Decides b c.mark w c.helping.account (round_in c) proposal (word_of d) has.part told.decides in
+    IsStepOf-IsAfter c.mark w c.helping.account 1 [] after
+    (omega (arith, IsPrefix-length c.mark.seen w.seen after.more, ap (λ (q : Part). q.published) own))
 IsStepOf-MakesStep b c w (request_word d word) next has left ((n, told), more, last) =
     IsStepOf-LoadsRequestWord b c.mark w c.helping.account d.slot d.number word n has told
 IsStepOf-MakesStep b c w (record_word d word) next has left (stores, publishes) =
@@ -108,6 +127,7 @@ IsStepOf-MakesStep b c w (record_word d word) next has left (stores, publishes) 
       | inr all ↦
           let ((x, told), then) = publishes (omega (arith, left, all)) in
           IsStepOf-IsAfter c.mark w a 0 [] (IsAfter-Publishes b c.mark w a x has.part told)
+          (omega (arith, length-Publishes-lt b c.mark w x told, ap (λ (q : Part). q.published) (own_part-Publishes b c.mark w x has.part told)))
     ]
 IsStepOf-MakesStep b c w nothing next has left none = absurd none
 
@@ -140,29 +160,36 @@ module _ (b : BookTerms) (t : TurningTerms) (d e : DecidingTerms) (w : Knowledge
   pub decides_made-step : decides_made t.helping.account t.start w ≡ 1
   decides_made-step = omega (arith, is_step.decides, so.once)
 
-  pub IsHelpWithin-step : IsHelpWithin b.processes (decides_made t.helping.account t.start w) t.was (length w.seen) (t.looked + (round_steps e.start.book.processes - e.left))
+  pub IsHelpWithin-step : IsHelpWithin b.processes (decides_made t.helping.account t.start w) (newly_seen t.start w t.was.upto)
+      (t.looked + (round_steps e.start.book.processes - e.left))
   IsHelpWithin-step =
       omega (
         arith,
         so.few,
         so.seen,
+        so.others,
         is_step.more,
+        is_step.others,
         ap (λ (k : BookTerms). snapshot_steps k.processes) book,
         ap (λ (c : DecidingTerms). round_steps c.start.book.processes) after,
         ap round_steps processes_are,
         ap (λ k. round_steps b.processes * k) decides_made-step,
       )
 
-  -- no less is seen than at the start
-  pub seen-step : length t.start.seen ≤ length w.seen
-  seen-step =
+  -- no less is seen than at the start, of others too
+  begun-step : length t.start.seen ≤ sum d.front
+  begun-step =
       omega (
         arith,
         IsPrefix-length t.start.seen (prefix_of d.front d.start.seen) so.looked_at.snapshot.begins,
         length-take (sum d.front) d.start.seen,
-        so.seen,
-        is_step.more,
       )
+
+  pub seen-step : length t.start.seen ≤ length w.seen
+  seen-step = omega (arith, begun-step, so.seen, is_step.more)
+
+  pub others-step : SeesOthersStill t.start w
+  others-step = omega (arith, begun-step, so.others, is_step.others)
 
   pub help_turns_in-le : t.looked + (round_steps e.start.book.processes - e.left) ≤ t.looked + round_steps b.processes
   help_turns_in-le = omega (arith, ap (λ (c : DecidingTerms). round_steps c.start.book.processes) after, ap round_steps processes_are)
@@ -177,6 +204,7 @@ module _ (b : BookTerms) (t : TurningTerms) (d e : DecidingTerms) (w : Knowledge
         (subst (λ (s : TotalSums). HasLooked t.start.book t.start d.start t.was s d.front) (sym same) so.looked_at);
     few = subst (λ (c : DecidingTerms). IsWithin t.start.book.processes t.was (sum c.front) t.looked) (sym after) so.few;
     seen = omega (arith, so.seen, is_step.more, ap (λ (c : DecidingTerms). sum c.front) after);
+    others = omega (arith, so.others, is_step.others, ap (λ (c : DecidingTerms). sum c.front) after);
     left_is = left_now ∙ ap (λ (c : DecidingTerms). left_of_round c.start.book.processes e.next) (sym after);
     once = omega (arith, so.once, is_step.decides, exchanges_in-step);
   }

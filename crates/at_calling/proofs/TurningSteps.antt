@@ -18,10 +18,10 @@ use Rattle.at_shared.specs.declared.helping.HelpTurn.TheVariants.{More}
 use Rattle.at_single.proofs.Laws.Looks.{first-HasLoaded, published-HasLoaded}
 use Rattle.at_snapshot.specs.Collected.{HasLoaded}
 use Rattle.at_calling.proofs.PayingAloneLaws.{HasSameAsking-HasLoaded}
-use Rattle.at_calling.proofs.TurningLaws.{IsHelpWithin-step, decides_made-step, left_of_round-le, seen-step}
+use Rattle.at_calling.proofs.TurningLaws.{IsHelpWithin-step, decides_made-step, left_of_round-le, others-step, seen-step}
 use Rattle.at_calling.specs.KeptTurning.{IsDecidingThen, IsLookingStill, IsTurnStageSo, IsTurningSo, TakesHelpStep}
 use Rattle.at_calling.specs.PayingAlone.{HasSameAsking}
-use Rattle.at_calling.specs.Reading.{LeavesTotals}
+use Rattle.at_calling.specs.Reading.{LeavesTotals, newly_seen}
 use Rattle.at_calling.specs.Turning.{IsHelpOf, IsHelpWithin, LeavesSeat, MakesTurnStep, TurningTerms, WaitsOn, exchanges_at, help_turns_in, help_turns_left}
 use Rattle.at_calling.specs.declared.turn_stage.TurnStage.{TurnStage}
 use Rattle.at_calling.specs.declared.turn_stage.TurnStage.TheVariants.{Decide, Look}
@@ -73,11 +73,14 @@ module _ (b : BookTerms) (t : TurningTerms) (so : IsTurningSo t) (book : t.start
     pub decides_on-look : decides_on w a ≡ decides_on t.start a
     decides_on-look = ap (λ (k : Asking). k.decides) (HasSameAsking-HasLoaded b t.start w (omega (arith, so.kept.one_part)) loads-look a)
 
-    within : IsHelpWithin b.processes (decides_made a t.start w) t.was (length w.seen) turns
+    published : (own_part w).published ≡ (own_part t.start).published
+    published = published-HasLoaded b t.start w (omega (arith, so.kept.one_part)) loads-look
+
+    within : IsHelpWithin b.processes (decides_made a t.start w) (newly_seen t.start w t.was.upto) turns
     within =
         let so_far_on : IsWithin b.processes t.was (length w.seen) turns =
         subst (λ (s : TotalSums). IsWithin b.processes s (length w.seen) turns) looks.was_is so_far in
-        omega arith
+        omega (arith, so_far_on, published)
 
     pub TakesHelpStep-look : (stage : TurnStage) (answer : Option HelpTurn) → help_turns_in turns stage ≡ turns
         → help_turns_left b.processes stage < help_turns_left b.processes (Look l)
@@ -96,10 +99,11 @@ module _ (b : BookTerms) (t : TurningTerms) (so : IsTurningSo t) (book : t.start
       step = subst (λ (k : TurnStage). MakesTurnStep b k stage before after now) (sym is) load;
       left = subst (λ (k : TurnStage). help_turns_left b.processes stage < help_turns_left b.processes k) (sym is) left;
       ends = ends;
-      so_far = subst (IsHelpWithin b.processes (decides_made a t.start w) t.was (length w.seen)) (sym same) within;
+      so_far = subst (IsHelpWithin b.processes (decides_made a t.start w) (newly_seen t.start w t.was.upto)) (sym same) within;
       decides_few = omega (arith, decides_on-look);
       once = omega (arith, decides_on-look);
       seen = IsPrefix-length t.start.seen w.seen loads-look.more;
+      others = omega (arith, IsPrefix-length t.start.seen w.seen loads-look.more, published);
       help = help;
       waits = waits;
       seat = seat;
@@ -144,6 +148,7 @@ module _ (b : BookTerms) (t : TurningTerms) (so : IsTurningSo t) (book : t.start
       decides_few = omega (arith, decided);
       once = omega (arith, decided);
       seen = seen-step b t d e w book decides-decide has some after_is less step;
+      others = others-step b t d e w book decides-decide has some after_is less step;
       help = help;
       waits = waits;
       seat = seat;

@@ -7,6 +7,7 @@ use Rattle.at_history.specs.Fronts.{prefix_of}
 use Rattle.at_history.specs.Rounds.{owns_of}
 use Rattle.at_history.specs.Sound.{AreTargets}
 use Rattle.at_history.specs.declared.publication.Entry.{Entry}
+use Rattle.at_board.specs.Knowledge.Parts.{own_part}
 use Rattle.at_board.specs.Knowledge.Seats.{IsKept, SeatTerms}
 use Rattle.at_board.specs.Words.Addresses.{record_width}
 use Rattle.at_fold.specs.HasCounted.{StaysCounted}
@@ -18,7 +19,7 @@ use Rattle.at_single.specs.Standing.{IsOnlyOwner}
 use Rattle.at_machines.specs.Appending.{AppendingTerms}
 use Rattle.at_machines.specs.Looking.{IsWithin, LookingTerms, look_turns_left}
 use Rattle.at_calling.specs.PayingAlone.{AnswersAlone, HasSameAsking, IsPayWithin, MakesPayStep, PayingAloneTerms, append_steps, pay_turns_left, turns_made}
-use Rattle.at_calling.specs.Reading.{LeavesTotals}
+use Rattle.at_calling.specs.Reading.{LeavesTotals, newly_seen}
 use Rattle.at_calling.specs.declared.pay_stage.PayStage.{PayStage}
 use Rattle.at_calling.specs.declared.pay_stage.PayStage.TheVariants.{Append, Look, Short}
 
@@ -30,9 +31,11 @@ pub record IsLookingFirst (t : PayingAloneTerms) (l : LookingTerms) : Type 0 whe
   pub totals_are : l.totals ≡ t.totals
   pub left : 0 < look_turns_left l.stage
 
--- the record of the payment is stored: the front of the look is its view, and the balance there covers it
+-- the record of the payment is stored: the front of the look is its view, and the balance there covers it.
+-- Nothing was published
 pub record IsAppendingThen (t : PayingAloneTerms) (a : AppendingTerms) : Type 0 where
   pub mark_is : a.mark ≡ t.mark
+  pub unpublished : (own_part t.mark).published ≡ (own_part t.start).published
   pub looked_at : HasLooked t.start.book t.start a.start t.was t.totals a.rec.view
   pub entry : a.rec.entry ≡ Entry.Own t.from t.targets
   pub enough : amount_of t.targets ≤ balance_after t.start.book (prefix_of a.rec.view a.start.seen) t.from
@@ -68,7 +71,7 @@ pub record TakesPayTurn (b : BookTerms) (t u : PayingAloneTerms) (before after :
   pub step : MakesPayStep b t.stage before after now
   pub left : pay_turns_left (record_width b) u.stage < pay_turns_left (record_width b) t.stage
   pub ends : IsSome answer ↔ (pay_turns_left (record_width b) u.stage ≡ 0)
-  pub so_far : IsPayWithin b.processes t.was (length after.knows.seen) (turns_made u)
+  pub so_far : IsPayWithin b.processes (newly_seen t.start after.knows t.was.upto) (turns_made u)
   pub asks : HasSameAsking t.start after.knows
   pub pays : IfSome answer (AnswersAlone b t.start after.knows t.from t.targets)
   pub counted : IfSome answer (λ r. StaysCounted now b after.knows.seen)

@@ -21,7 +21,7 @@ use Rattle.at_single.specs.Standing.{newly_counted}
 use Rattle.at_snapshot.specs.Scans.{SeesOwnRecords}
 use Rattle.at_snapshot.specs.Snapshots.{snapshot_steps}
 use Rattle.at_calling.specs.PayingShared.{AnswersInRound, DecidesFew, IsShareWithin, MakesShareStep, PayingSharedTerms, settling_steps, share_exchanges_at, share_exchanges_made, share_turns_left}
-use Rattle.at_calling.specs.Reading.{LeavesTotals}
+use Rattle.at_calling.specs.Reading.{LeavesTotals, newly_seen}
 use Rattle.at_calling.specs.Starting.{IsStartOf, StartingTerms, start_turns_left, start_turns_made}
 use Rattle.at_calling.specs.Turning.{TurningTerms, help_turns_left, help_turns_made}
 use Rattle.at_calling.specs.declared.share_stage.ShareStage.{ShareStage}
@@ -98,7 +98,8 @@ pub record TakesShareTurn (b : BookTerms) (t u : PayingSharedTerms) (before afte
   pub turns : u.turns ≡ t.turns + 1
   pub step : MakesShareStep b t.stage before after now
   pub left : share_turns_left b u < share_turns_left b t
-  pub so_far : IsShareWithin b u (length after.knows.seen)
+  pub so_far : IsShareWithin b u (newly_seen t.start after.knows t.was.upto)
+  pub exchanges_few : share_exchanges_made u ≤ slots_of (account_of b t.account)
   pub ends : IsSome answer ↔ (share_turns_left b u ≡ 0)
   pub pays : IfSome answer (AnswersInRound b t.start after.knows t.account t.targets)
   pub settles : IfSome answer (λ r. SettlesInTurns b t.start after.knows t.account t.targets)

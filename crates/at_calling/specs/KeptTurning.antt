@@ -1,6 +1,7 @@
 -- What the type of a turn of helping in the making keeps of its fields, which no caller sees.
 use Rattle.std.specs.Prelude.{◌≡◌, ◌+◌, ◌*◌, ◌<◌, ◌≤◌, ◌↔◌, IfSome, IsSome, Option, length, sum}
 use Rattle.at_ledger.specs.Book.{BookTerms}
+use Rattle.at_board.specs.Knowledge.Parts.{own_part}
 use Rattle.at_board.specs.Knowledge.Seats.{IsKept, SeatTerms}
 use Rattle.at_fold.specs.HasCounted.{HasCounted}
 use Rattle.at_fold.specs.Sums.{TotalSums}
@@ -11,7 +12,7 @@ use Rattle.at_shared.specs.declared.helping.HelpTurn.TheVariants.{More}
 use Rattle.at_single.specs.Looks.{HasLooked}
 use Rattle.at_machines.specs.Deciding.{DecidingTerms, exchanges_in, left_of_round}
 use Rattle.at_machines.specs.Looking.{IsWithin, LookingTerms, look_turns_left}
-use Rattle.at_calling.specs.Reading.{LeavesTotals}
+use Rattle.at_calling.specs.Reading.{LeavesTotals, SeesOthersStill, newly_seen}
 use Rattle.at_calling.specs.Turning.{IsHelpOf, IsHelpWithin, LeavesSeat, MakesTurnStep, TurningTerms, WaitsOn, exchanges_at, help_turns_left, help_turns_made}
 use Rattle.at_calling.specs.declared.turn_stage.TurnStage.{TurnStage}
 use Rattle.at_calling.specs.declared.turn_stage.TurnStage.TheVariants.{Decide, Found, Look}
@@ -33,6 +34,7 @@ pub record IsDecidingThen (t : TurningTerms) (d : DecidingTerms) : Type 0 where
   pub looked_at : HasLooked t.start.book t.start d.start t.was t.totals d.front
   pub few : IsWithin t.start.book.processes t.was (sum d.front) t.looked
   pub seen : sum d.front ≤ length t.mark.seen
+  pub others : sum d.front + (own_part t.mark).published ≤ length t.mark.seen + (own_part t.start).published
   pub left_is : d.left ≡ left_of_round d.start.book.processes d.next
   pub once : decides_on t.mark t.helping.account + exchanges_in d.next ≡ decides_on t.start t.helping.account + 1
 
@@ -60,10 +62,11 @@ pub record TakesHelpStep (b : BookTerms) (t u : TurningTerms) (before after : Se
   pub step : MakesTurnStep b t.stage u.stage before after now
   pub left : help_turns_left b.processes u.stage < help_turns_left b.processes t.stage
   pub ends : IsSome answer ↔ (help_turns_left b.processes u.stage ≡ 0)
-  pub so_far : IsHelpWithin b.processes (decides_made t.helping.account t.start after.knows) t.was (length after.knows.seen) (help_turns_made u)
+  pub so_far : IsHelpWithin b.processes (decides_made t.helping.account t.start after.knows) (newly_seen t.start after.knows t.was.upto) (help_turns_made u)
   pub decides_few : decides_on t.start t.helping.account ≤ decides_on after.knows t.helping.account
   pub once : decides_made t.helping.account t.start after.knows ≤ 1
   pub seen : length t.start.seen ≤ length after.knows.seen
+  pub others : SeesOthersStill t.start after.knows
   pub help : IfSome answer (IsHelpOf b t.start after.knows t.helping)
   pub waits : IfSome answer (λ h. h ≡ More → WaitsOn b t.start after.knows t.helping)
   pub seat : IfSome answer (λ h. LeavesSeat t.start after.knows t.helping.account)

@@ -1,5 +1,5 @@
 -- Payments from single accounts that are made one step a turn.
-use Rattle.std.specs.Prelude.{◌≡◌, ℕ, ◌+◌, ◌-◌, ◌*◌, ◌<◌, ◌≤◌, List, sum}
+use Rattle.std.specs.Prelude.{◌≡◌, ℕ, ◌+◌, ◌-◌, ◌*◌, ◌<◌, ◌≤◌, List}
 use Rattle.at_ledger.specs.Book.{BookTerms}
 use Rattle.at_ledger.specs.Call.{TargetPair}
 use Rattle.at_ledger.specs.declared.call.Reply.{Reply}
@@ -67,10 +67,9 @@ append_steps width (Balance amount) = 0
 abbrev pub AnswersAlone : BookTerms → Knowledge → Knowledge → ℕ → List TargetPair → Reply × At → Type 0
 AnswersAlone b before after from targets answer = OnReceipts from targets answer (λ r. PaysAlone b before after from targets r.call r)
 
--- so many turns are at most those of a snapshot and of an append, and of the loads of the records that are among so many and weren't
--- counted before
-abbrev pub IsPayWithin : ℕ → TotalSums → ℕ → ℕ → Type 0
-IsPayWithin n was records turns = turns ≤ single_steps n + RECORD_WORDS * (records - sum was.upto)
+-- so many turns are at most those of a snapshot and of an append, and of the loads of so many records
+abbrev pub IsPayWithin : ℕ → ℕ → ℕ → Type 0
+IsPayWithin n records turns = turns ≤ single_steps n + RECORD_WORDS * records
 
 -- nothing that the seat's process has on any account has changed: it has asked for nothing, and decided nothing
 abbrev pub HasSameAsking : Knowledge → Knowledge → Type 0

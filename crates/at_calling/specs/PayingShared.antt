@@ -1,5 +1,5 @@
 -- Payments from shared accounts that are made one step a turn.
-use Rattle.std.specs.Prelude.{◌≡◌, ◌≢◌, ℕ, ◌+◌, ◌-◌, ◌*◌, ◌≤◌, List, sum}
+use Rattle.std.specs.Prelude.{◌≡◌, ◌≢◌, ℕ, ◌+◌, ◌-◌, ◌*◌, ◌≤◌, List}
 use Rattle.at_ledger.specs.Account.{slots_of}
 use Rattle.at_ledger.specs.Book.{BookTerms, account_of}
 use Rattle.at_ledger.specs.Call.{TargetPair}
@@ -51,9 +51,9 @@ unless_settled most Ended = 0
 abbrev pub share_turns_left : BookTerms → PayingSharedTerms → ℕ
 share_turns_left b t = unless_settled (share_turns_most b t.account places_max + 1 - t.turns) t.stage
 
--- the turns that were made are few, where so many records are seen, and those that were counted before aren't loaded
+-- the turns that were made are few, where so many records are loaded
 abbrev pub IsShareWithin : BookTerms → PayingSharedTerms → ℕ → Type 0
-IsShareWithin b t records = t.turns ≤ share_turns_most b t.account (records - sum t.was.upto)
+IsShareWithin b t records = t.turns ≤ share_turns_most b t.account records
 
 -- just the step was made that came next: of the start, or of the turn of helping
 abbrev pub MakesShareStep : BookTerms → ShareStage → SeatTerms → SeatTerms → TotalSums → Type 0

@@ -1,5 +1,5 @@
 -- Reads that are made one load a turn.
-use Rattle.std.specs.Prelude.{◌≡◌, ℕ, ◌+◌, ◌*◌, ◌≤◌, List, slice_index, sum}
+use Rattle.std.specs.Prelude.{◌≡◌, ℕ, ◌+◌, ◌-◌, ◌*◌, ◌≤◌, List, length, slice_index, sum}
 use Rattle.at_ledger.specs.Book.{BookTerms}
 use Rattle.at_ledger.specs.declared.call.Call.TheVariants.{Read}
 use Rattle.at_ledger.specs.declared.call.Reply.TheVariants.{Balance}
@@ -19,6 +19,14 @@ use Rattle.at_machines.specs.Looking.{LookingTerms}
 pub record ReadingTerms : Type 0 where
   pub account : ℕ
   pub looking : LookingTerms
+
+-- how many records are seen now that weren't counted before, without those that the process itself has published since
+abbrev pub newly_seen : Knowledge → Knowledge → List ℕ → ℕ
+newly_seen before after counted = length after.seen - sum counted - ((own_part after).published - (own_part before).published)
+
+-- what the process itself has published since is among what is seen more
+abbrev pub SeesOthersStill : Knowledge → Knowledge → Type 0
+SeesOthersStill before after = length before.seen + (own_part after).published ≤ length after.seen + (own_part before).published
 
 -- what a call on single accounts leaves of totals: they have counted all that its process has published, and what it hasn't published
 -- itself and they hadn't counted before took a load for each word, beside the snapshot and so many steps more

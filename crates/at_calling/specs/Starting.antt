@@ -1,5 +1,5 @@
 -- Payments from shared accounts that are started one step a turn.
-use Rattle.std.specs.Prelude.{◌≡◌, ℕ, ◌+◌, ◌-◌, ◌*◌, ◌<◌, ◌≤◌, List, length, sum}
+use Rattle.std.specs.Prelude.{◌≡◌, ℕ, ◌+◌, ◌-◌, ◌*◌, ◌<◌, ◌≤◌, List, length}
 use Rattle.at_ledger.specs.Account.{slots_of}
 use Rattle.at_ledger.specs.Book.{BookTerms, HasSlot, account_of}
 use Rattle.at_ledger.specs.Call.{TargetPair}
@@ -62,11 +62,9 @@ asking_steps_of b t = asking_steps (slots_of (account_of b t.account))
 abbrev pub start_turns_left : BookTerms → StartingTerms → ℕ
 start_turns_left b t = start_turns_after (asking_steps_of b t) t.stage
 
--- the turns that were made are at most those of a snapshot, of asking and of the rows, and of the loads of the records that are among
--- so many and weren't counted before
+-- the turns that were made are at most those of a snapshot, of asking and of the rows, and of the loads of so many records
 abbrev pub IsStartWithin : BookTerms → StartingTerms → ℕ → Type 0
-IsStartWithin b t records =
-    start_turns_made t ≤ snapshot_steps b.processes + asking_steps_of b t + RECORD_WORDS * (records - sum t.was.upto)
+IsStartWithin b t records = start_turns_made t ≤ snapshot_steps b.processes + asking_steps_of b t + RECORD_WORDS * records
 
 -- just the load of a row was made that came next
 abbrev pub MakesRowsLoad : BookTerms → CollectingRowsTerms → Knowledge → Type 0

@@ -1,5 +1,5 @@
 -- Turns of helping that are made one step a turn.
-use Rattle.std.specs.Prelude.{◌≡◌, ◌≢◌, ℕ, ◌+◌, ◌-◌, ◌*◌, ◌≤◌, List, None, sum}
+use Rattle.std.specs.Prelude.{◌≡◌, ◌≢◌, ℕ, ◌+◌, ◌-◌, ◌*◌, ◌≤◌, List, None}
 use Rattle.at_ledger.specs.Account.{slots_of}
 use Rattle.at_ledger.specs.Book.{BookTerms, account_of}
 use Rattle.at_history.specs.Publications.{IsPrefix}
@@ -63,10 +63,9 @@ exchanges_at (Look l) = 0
 exchanges_at (Decide d) = exchanges_in d.next
 exchanges_at Found = 0
 
--- so many turns are at most those of a snapshot, of so many rounds, and of the loads of the records that are among so many and weren't
--- counted before
-abbrev pub IsHelpWithin : ℕ → ℕ → TotalSums → ℕ → ℕ → Type 0
-IsHelpWithin n decided was records turns = turns ≤ snapshot_steps n + round_steps n * decided + RECORD_WORDS * (records - sum was.upto)
+-- so many turns are at most those of a snapshot, of so many rounds, and of the loads of so many records
+abbrev pub IsHelpWithin : ℕ → ℕ → ℕ → ℕ → Type 0
+IsHelpWithin n decided records turns = turns ≤ snapshot_steps n + round_steps n * decided + RECORD_WORDS * records
 
 -- the answer of a turn of helping whose first step came after what was known before. The receipts of a settled request are right, and
 -- stand at or after the request's `since`

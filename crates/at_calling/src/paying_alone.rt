@@ -12,7 +12,7 @@ ghost use Rattle.at_machines.specs.Looking.{LookingTerms};
 ghost use Rattle.at_single.specs.Standing.{IsOnlyOwner};
 ghost use Rattle.at_calling.specs.KeptPayingAlone.{TakesPayTurn};
 ghost use Rattle.at_calling.specs.PayingAlone.{AnswersAlone, HasSameAsking, IsPayWithin, MakesPayStep, append_steps, pay_turns_left, turns_made};
-ghost use Rattle.at_calling.specs.Reading.{LeavesTotals};
+ghost use Rattle.at_calling.specs.Reading.{LeavesTotals, newly_seen};
 
 use crate::pay_stage::PayStage;
 use at_base::Counts;
@@ -135,8 +135,8 @@ impl PayingAlone {
             < pay_turns_left (record_width board.now.book) self.old.stage }
         ensures ends { IsSome result ↔ (pay_turns_left (record_width board.now.book) self.new.stage
             ≡ 0) }
-        ensures so_far { IsPayWithin board.now.book.processes self.old.was
-            (length seat.new.knows.seen) (turns_made self.new) }
+        ensures so_far { IsPayWithin board.now.book.processes
+            (newly_seen self.old.start seat.new.knows self.old.was.upto) (turns_made self.new) }
         ensures asks { HasSameAsking self.old.start seat.new.knows }
         ensures answer { IfSome result (AnswersAlone board.now.book self.old.start seat.new.knows
             self.old.from self.old.targets) }

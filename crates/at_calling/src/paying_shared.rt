@@ -1,18 +1,20 @@
 //! A payment from a shared account, a step a turn.
 
-ghost use Rattle.std.specs.Prelude.{◌≡◌, ℕ, ◌+◌, ◌<◌, ◌↔◌, IfSome, IsSome, None, length};
+ghost use Rattle.std.specs.Prelude.{◌≡◌, ℕ, ◌+◌, ◌<◌, ◌≤◌, ◌↔◌, IfSome, IsSome, None, length};
 ghost use Rattle.at_board.specs.Counting.{raised};
 ghost use Rattle.at_board.specs.Knowledge.Parts.{own_part};
 ghost use Rattle.at_board.specs.Knowledge.Seats.{IsOf};
 ghost use Rattle.at_board.specs.Steps.StoreRequestWord.{MayStoreRequest};
 ghost use Rattle.at_fold.specs.HasCounted.{HasCounted};
+ghost use Rattle.at_ledger.specs.Account.{slots_of};
+ghost use Rattle.at_ledger.specs.Book.{account_of};
 ghost use Rattle.at_ledger.specs.Call.{AreTargetsOn};
 ghost use Rattle.at_shared.specs.HelpingTerms.{HelpingTerms};
 ghost use Rattle.at_shared.specs.Helpings.{HasAllSettled};
 ghost use Rattle.at_shared.specs.PaymentTurns.{SettlesInTurns};
 ghost use Rattle.at_calling.specs.KeptPayingShared.{TakesShareTurn};
 ghost use Rattle.at_calling.specs.PayingShared.{AnswersInRound, DecidesFew, IsShareWithin, MakesShareStep, settling_steps, share_exchanges_at, share_exchanges_made, share_turns_left};
-ghost use Rattle.at_calling.specs.Reading.{LeavesTotals};
+ghost use Rattle.at_calling.specs.Reading.{LeavesTotals, newly_seen};
 ghost use Rattle.at_calling.specs.Starting.{StartingTerms};
 ghost use Rattle.at_calling.specs.Turning.{TurningTerms};
 
@@ -137,7 +139,8 @@ impl PayingShared {
         ensures step { MakesShareStep board.now.book self.old.stage seat.old seat.new totals.new }
         ensures left { share_turns_left board.now.book self.new
             < share_turns_left board.now.book self.old }
-        ensures so_far { IsShareWithin board.now.book self.new (length seat.new.knows.seen) }
+        ensures so_far { IsShareWithin board.now.book self.new
+            (newly_seen self.old.start seat.new.knows self.old.was.upto) }
         ensures ends { IsSome result ↔ (share_turns_left board.now.book self.new ≡ 0) }
         ensures answer { IfSome result (AnswersInRound board.now.book self.old.start
             seat.new.knows self.old.account self.old.targets) }
@@ -157,6 +160,9 @@ impl PayingShared {
         // Over all turns the exchanges are those that were decided.
         ensures decides { share_exchanges_made self.new
             ≡ share_exchanges_made self.old + share_exchanges_at self.old.stage }
+        // At every turn there is at most one for each owner.
+        ensures exchanges_few { share_exchanges_made self.new
+            ≤ slots_of (account_of board.now.book self.old.account) }
     {
         match &self.stage {
             ShareStage::Start(_) => self.start_on(board, seat, totals),

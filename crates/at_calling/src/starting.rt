@@ -14,7 +14,7 @@ ghost use Rattle.at_machines.specs.Looking.{LookingTerms};
 ghost use Rattle.at_rows.specs.Asks.{MayAskFor, asked_for};
 ghost use Rattle.at_shared.specs.Helpings.{HasAllSettled};
 ghost use Rattle.at_calling.specs.KeptStarting.{TakesStartTurn};
-ghost use Rattle.at_calling.specs.Reading.{LeavesTotals};
+ghost use Rattle.at_calling.specs.Reading.{LeavesTotals, newly_seen};
 ghost use Rattle.at_calling.specs.Starting.{IsStartOf, IsStartWithin, MakesStartStep, asking_steps_of, start_turns_left, start_turns_made};
 
 use crate::start_stage::StartStage;
@@ -135,7 +135,8 @@ impl Starting {
         ensures counted { StaysCounted totals.new board.now.book seat.new.knows.seen }
         ensures left { start_turns_left board.now.book self.new
             < start_turns_left board.now.book self.old }
-        ensures so_far { IsStartWithin board.now.book self.new (length seat.new.knows.seen) }
+        ensures so_far { IsStartWithin board.now.book self.new
+            (newly_seen self.old.start seat.new.knows self.old.was.upto) }
         ensures ends { IsSome result ↔ (start_turns_left board.now.book self.new ≡ 0) }
         ensures answer { IfSome result (IsStartOf board.now.book self.old.start seat.new.knows
             self.old.account self.old.targets) }

@@ -10,7 +10,7 @@ ghost use Rattle.at_shared.specs.Helpings.{IsHelping, decides_made, decides_on};
 ghost use Rattle.at_shared.specs.Settling.{round_steps};
 ghost use Rattle.at_shared.specs.declared.helping.HelpTurn.{HelpTurn};
 ghost use Rattle.at_calling.specs.KeptTurning.{TakesHelpStep};
-ghost use Rattle.at_calling.specs.Reading.{LeavesTotals};
+ghost use Rattle.at_calling.specs.Reading.{LeavesTotals, SeesOthersStill, newly_seen};
 ghost use Rattle.at_calling.specs.Turning.{IsHelpOf, IsHelpWithin, LeavesSeat, MakesTurnStep, WaitsOn, exchanges_at, help_turns_left, help_turns_made};
 
 use crate::turn_stage::TurnStage;
@@ -130,11 +130,13 @@ impl Turning {
             ↔ (help_turns_left board.now.book.processes self.new.stage ≡ 0) }
         ensures so_far { IsHelpWithin board.now.book.processes
             (decides_made self.old.helping.account self.old.start seat.new.knows)
-            self.old.was (length seat.new.knows.seen) (help_turns_made self.new) }
+            (newly_seen self.old.start seat.new.knows self.old.was.upto)
+            (help_turns_made self.new) }
         ensures decides_few { decides_on self.old.start self.old.helping.account
             ≤ decides_on seat.new.knows self.old.helping.account }
         ensures once { decides_made self.old.helping.account self.old.start seat.new.knows ≤ 1 }
         ensures seen { length self.old.start.seen ≤ length seat.new.knows.seen }
+        ensures others { SeesOthersStill self.old.start seat.new.knows }
         ensures answer { IfSome result (IsHelpOf board.now.book self.old.start seat.new.knows
             self.old.helping) }
         ensures waits { IfSome result (λ t. t ≡ HelpTurn.More

@@ -3,14 +3,13 @@ use Rattle.std.proofs.Common.{◌≡◌, ℕ, ◌+◌, ◌-◌, ◌*◌, ◌<◌
 use Rattle.std.proofs.lemmas.Bool.{cases_Bool}
 use Rattle.std.proofs.lemmas.List.{map-append, take_more}
 use Rattle.std.proofs.lemmas.List.Sums.{sum_by-drop_more}
-use Rattle.std.specs.Prelude.{sum, sum_by}
+use Rattle.std.specs.Prelude.{sum_by}
 use Rattle.at_ledger.specs.Book.{BookTerms, is_owner}
 use Rattle.at_ledger.specs.declared.call.Call.{Call}
 use Rattle.at_ledger.specs.declared.call.Call.TheVariants.{Pay, Read, Transfer}
 use Rattle.at_ledger.specs.declared.call.Reply.{Reply}
 use Rattle.at_ledger.specs.declared.call.Reply.TheVariants.{Balance, Done, Full, NotOwner, Short}
 use Rattle.at_board.specs.Knowledge.Seats.{IsKept, SeatTerms}
-use Rattle.at_board.specs.declared.words.TheConstants.{RECORD_WORDS}
 use Rattle.at_log.specs.Receipts.{calls_of}
 use Rattle.at_log.specs.declared.receipt.Receipt.{Receipt}
 use Rattle.at_object.specs.Parted.{IsOfOnePass, pass_of}
@@ -21,7 +20,7 @@ use Rattle.at_object.specs.declared.parts.Rest.{Rest}
 use Rattle.at_object.proofs.Laws.Calls.{process-CallMade}
 use Rattle.at_stepper.specs.Callers.{CallerTerms, IsAnswered, IsFile, IsStillCalling, caller_turns_left, calls_left_of, is_refused, most_turns, next_call, steps_in}
 use Rattle.at_calling.specs.Calling.{CallingTerms, IsCallWithin, IsWay, call_turns_left, exchanges_made, exchanges_of, pass_before, refusal_in, steps_made, steps_of, with_one_call}
-use Rattle.at_object.specs.Calls.{CallMade, StaysWithin, call_steps}
+use Rattle.at_object.specs.Calls.{CallMade, StaysWithin}
 use Rattle.at_stepper.specs.KeptCallers.{IsCallBegun, IsCallerOf, IsMakingSo, IsNextInMaking, caller_of, pass_in, stage_in}
 use Rattle.at_calling.specs.declared.call_stage.CallStage.{CallStage}
 use Rattle.at_calling.specs.declared.call_stage.CallStage.TheVariants.{PayAlone, PayShared, Read as ReadOn, Refuse, Refused}
@@ -155,22 +154,18 @@ module _ (b : BookTerms) (seat : SeatTerms) (rest : Rest) (calls : List Call) (r
       (turns : steps_made d.stage ≡ steps_made c.stage + steps_of c.stage)
       (exchanges : exchanges_made d.stage ≡ exchanges_made c.stage + exchanges_of c.stage)
       (fewer : call_turns_left b d.stage < call_turns_left b c.stage)
-      (so_far : IsCallWithin b d (length after_seat.knows.seen)) where
+      (so_far : IsCallWithin b (pass_before c) c.call after_seat.knows (steps_made d.stage) (exchanges_made d.stage)) where
     same_pass : pass_before d ≡ pass_before c
     same_pass = ap (λ (s : SeatTerms). pass_of s d.was) same_start ∙ ap (λ (x : Rest). pass_of c.start x) same_was
 
-    -- the steps so far, by the call and the pass before it
-    within_call : steps_made d.stage
-        ≤ call_steps b (next_call before) + RECORD_WORDS * (length after_seat.knows.seen - sum (pass_before c).counted)
+    -- the steps and exchanges so far, by the call and the pass before it
+    within_call : IsCallWithin b (pass_before c) (next_call before) after_seat.knows (steps_made d.stage) (exchanges_made d.stage)
     within_call =
-        subst (λ (x : Rest). steps_made d.stage ≤ call_steps b (next_call before) + RECORD_WORDS * (length after_seat.knows.seen - sum x.totals.upto))
-        same_was
-        (subst (λ (call : Call). steps_made d.stage ≤ call_steps b call + RECORD_WORDS * (length after_seat.knows.seen - sum d.was.totals.upto))
-        (same_call ∙ next.call_is) so_far)
+        subst (λ (call : Call). IsCallWithin b (pass_before c) call after_seat.knows (steps_made d.stage) (exchanges_made d.stage)) next.call_is so_far
 
     -- so they are fewer than the most turns of the call
     few_turns : steps_made c.stage + steps_of c.stage < most_turns b (next_call before)
-    few_turns = omega (arith, turns, within_call, kept.history.few)
+    few_turns = omega (arith, turns, within_call.few, kept.history.few)
 
     all_turns_left-before : sum_by (most_turns b) (drop (length receipts) calls)
         ≡ most_turns b (next_call before) + sum_by (most_turns b) (drop (length receipts + 1) calls)

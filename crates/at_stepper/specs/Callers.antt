@@ -1,5 +1,5 @@
 -- Callers: processes that make their calls one after another, a step a turn.
-use Rattle.std.specs.Prelude.{◌≡◌, ℕ, ◌+◌, ◌-◌, ◌*◌, ◌^◌, ◌<◌, ◌≤◌, ◌++◌, Bool, true, false, List, [], ◌∷◌, All, drop, length, slice_index_or, sum, sum_by, if◌then◌else◌}
+use Rattle.std.specs.Prelude.{◌≡◌, ℕ, ◌+◌, ◌-◌, ◌*◌, ◌^◌, ◌<◌, ◌≤◌, ◌++◌, Bool, true, false, List, [], ◌∷◌, All, drop, length, slice_index_or, sum_by, if◌then◌else◌}
 use Rattle.at_ledger.specs.Book.{BookTerms}
 use Rattle.at_ledger.specs.Call.{IsCallOn}
 use Rattle.at_ledger.specs.declared.call.Call.{Call}
@@ -11,7 +11,7 @@ use Rattle.at_board.specs.declared.words.TheConstants.{RECORD_WORDS}
 use Rattle.at_fold.specs.Sums.{TotalSums}
 use Rattle.at_log.specs.declared.receipt.Receipt.{Receipt}
 use Rattle.at_object.specs.Passes.{PassTerms, Stands, seat_of}
-use Rattle.at_calling.specs.Calling.{IsWay, exchanges_made, exchanges_of, steps_made}
+use Rattle.at_calling.specs.Calling.{IsCallWithin, IsWay, exchanges_made, exchanges_of, steps_made}
 use Rattle.at_object.specs.Calls.{CallMade, StaysWithin, call_steps}
 use Rattle.at_calling.specs.declared.call_stage.CallStage.{CallStage}
 use Rattle.at_stepper.specs.declared.turned.Turned.{Turned}
@@ -67,14 +67,13 @@ abbrev pub answers_in : Turned → ℕ
 answers_in Step = 0
 answers_in (Answer r) = 1
 
--- the call goes on after one step, within its bound so far. The pass between calls stays, and so do the receipts
+-- the call goes on after one step, within its bounds so far. The pass between calls stays, and so do the receipts
 pub record IsStillCalling (b : BookTerms) (before after : CallerTerms) : Type 0 where
   pub pass : after.pass ≡ before.pass
   pub receipts : after.receipts ≡ before.receipts
   pub turns : steps_made after.stage ≡ steps_made before.stage + 1
   pub exchanges : exchanges_made after.stage ≡ exchanges_made before.stage + exchanges_of before.stage
-  pub within : steps_made after.stage
-      ≤ call_steps b (next_call before) + RECORD_WORDS * (length after.seat.knows.seen - sum before.pass.counted)
+  pub within : IsCallWithin b before.pass (next_call before) after.seat.knows (steps_made after.stage) (exchanges_made after.stage)
 
 -- the call is answered by this receipt, and the pass of its last step takes the place of the one before the call. The next call, if there
 -- is one, is begun

@@ -1,5 +1,4 @@
-use Rattle.std.proofs.Common.{◌≡◌, ℕ, ◌-◌, ◌<◌, ◌≤◌, ◌↔◌, IfSome, IsSome, Option, None, Some, length, false, true, refl, sym, ap, subst, ◌∙◌, arith}
-use Rattle.std.specs.List.{sum}
+use Rattle.std.proofs.Common.{◌≡◌, ℕ, ◌<◌, ◌≤◌, ◌↔◌, IfSome, IsSome, Option, None, Some, false, true, refl, sym, ap, subst, ◌∙◌, arith}
 use Rattle.at_ledger.specs.Book.{BookTerms}
 use Rattle.at_history.specs.Moves.{AreRuns}
 use Rattle.at_board.specs.Counting.{raised}
@@ -13,9 +12,10 @@ use Rattle.at_shared.specs.Helpings.{decides_made}
 use Rattle.at_calling.specs.Calling.{CallingTerms, MakesCallStep, call_turns_left, exchanges_made, steps_made, with_one_call}
 use Rattle.at_calling.specs.KeptCalling.{IsCallingSo, TakesCallTurn}
 use Rattle.at_calling.specs.PayingShared.{PayingSharedTerms, share_exchanges_made, share_turns_left, share_turns_most}
+use Rattle.at_calling.specs.Reading.{newly_seen}
 use Rattle.at_calling.specs.declared.call_stage.CallStage.{CallStage}
 use Rattle.at_calling.specs.declared.call_stage.CallStage.TheVariants.{PayShared}
-use Rattle.at_calling.proofs.CallingTurns.{Leaves, TakesCallTurn-stages, calling_next, IsCallingSo-shared, Leaves-shared, few-shared, share_exchanges_made-ended, still-shared, way-shared}
+use Rattle.at_calling.proofs.CallingTurns.{Leaves, TakesCallTurn-stages, calling_next, IsCallingSo-shared, Leaves-shared, few-shared, share_exchanges_made-ended, share_exchanges_made-le, still-shared, way-shared}
 use Rattle.at_calling.proofs.calling.Calling.pay_shared_on.Goals.{After-known, After-count_one, After-self}
 use Rattle.at_calling.proofs.calling.Calling.pay_shared_on.Goals as goal
 
@@ -33,15 +33,28 @@ runs : (c : After-known) → AreRuns c.args.board.now.book c.turn-paid.new.seat.
 runs c = subst (λ (b : BookTerms). AreRuns b c.turn-paid.new.seat.knows.seen) c.turn-paid.ensures.board.book c.known.ensures.seat.history.runs
 
 few : (c : After-known) → c.turn-paid.new.self.turns
-    ≤ share_turns_most c.args.board.now.book c.in-PayShared.paying.account (length c.turn-paid.new.seat.knows.seen - sum c.in-PayShared.paying.was.upto)
+    ≤ share_turns_most c.args.board.now.book c.in-PayShared.paying.account
+    (newly_seen c.in-PayShared.paying.start c.turn-paid.new.seat.knows c.in-PayShared.paying.was.upto)
 few c =
     let told = c.turn-paid.ensures in
-    let records : ℕ = length c.turn-paid.new.seat.knows.seen in
+    let p : PayingSharedTerms = c.in-PayShared.paying in
+    let records : ℕ = newly_seen p.start c.turn-paid.new.seat.knows p.was.upto in
+    omega (arith, told.so_far, ap (λ (a : ℕ). share_turns_most c.args.board.now.book a records) told.account)
+
+-- the exchanges so far were decided
+decided_so_far : (c : After-known) → share_exchanges_made c.turn-paid.new.self
+    ≤ decides_made c.in-PayShared.paying.account c.in-PayShared.paying.start c.turn-paid.new.seat.knows
+decided_so_far c =
+    let told = c.turn-paid.ensures in
+    let p : PayingSharedTerms = c.in-PayShared.paying in
+    let q : PayingSharedTerms = c.turn-paid.new.self in
+    let w : Knowledge = c.turn-paid.new.seat.knows in
     omega (
       arith,
-      told.so_far,
-      ap (λ (a : ℕ). share_turns_most c.args.board.now.book a (records - sum c.turn-paid.new.self.was.upto)) told.account,
-      ap (λ (s : TotalSums). share_turns_most c.args.board.now.book c.in-PayShared.paying.account (records - sum s.upto)) told.was,
+      share_exchanges_made-le q,
+      ap (λ (v : Knowledge). decides_made q.account q.start v) told.mark,
+      ap (λ (v : Knowledge). decides_made q.account v w) told.start,
+      ap (λ (a : ℕ). decides_made a p.start w) told.account,
     )
 
 -- the seat has counted all steps and exchanges of the call
@@ -82,7 +95,7 @@ turned c mark mark_is now totals_are rest rest_is answer ends leaves calls =
     (TakesCallTurn-stages b t c.args.seat.now after mark mark_is now rest rest_is (PayShared p) next (stage_is c) answer told.turns
     (subst (λ (s : TotalSums). MakesCallStep b (PayShared p) c.args.seat.now after s) (sym totals_are) told.step) told.left
     (few-shared c.args.board.now t (so first) c.args.seat.now c.requires.mark c.requires.board after told.board p (stage_is c) (left c)
-    (length after.knows.seen) c.turn-paid.new.self.turns (few c)) ends (runs c) told.decides leaves calls (steps c) (exchanges c))
+    c.turn-paid.new.self.turns (share_exchanges_made c.turn-paid.new.self) (few c) (decided_so_far c) told.exchanges_few) ends (runs c) told.decides leaves calls (steps c) (exchanges c))
 
 pub returns-in_err-answer-clause-turned : goal.returns-in_err-answer-clause-turned
 returns-in_err-answer-clause-turned c =
@@ -109,7 +122,7 @@ decided c =
     let p : PayingSharedTerms = c.in-PayShared.paying in
     let q : PayingSharedTerms = c.turn-paid.new.self in
     let w : Knowledge = c.turn-paid.new.seat.knows in
-    share_exchanges_made-ended c.args.board.now.book q (length w.seen) told.so_far c.known.ensures.seat.history.few (c.in_ok-answer.ensures.ends.0 refl)
+    share_exchanges_made-ended c.args.board.now.book q (newly_seen p.start w p.was.upto) told.so_far (omega (arith, c.known.ensures.seat.history.few)) (c.in_ok-answer.ensures.ends.0 refl)
     ∙ (ap (λ (v : Knowledge). decides_made q.account q.start v) told.mark
     ∙ (ap (λ (v : Knowledge). decides_made q.account v w) told.start ∙ ap (λ (a : ℕ). decides_made a p.start w) told.account))
 

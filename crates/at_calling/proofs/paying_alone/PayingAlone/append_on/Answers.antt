@@ -9,7 +9,7 @@ use Rattle.at_history.specs.declared.publication.Publication.{Publication}
 use Rattle.at_board.specs.Knowledge.Parts.{own_part}
 use Rattle.at_board.specs.Knowledge.Seats.{SeatTerms}
 use Rattle.at_board.specs.Steps.Publish.{Publishes}
-use Rattle.at_board.specs.Steps.StoreRecordWord.{StoresWord}
+use Rattle.at_board.specs.Steps.StoreRecordWord.{StoresWord, with_word}
 use Rattle.at_board.specs.Words.Addresses.{record_width}
 use Rattle.at_board.specs.Words.Packed.{record_words}
 use Rattle.at_board.specs.declared.knowledge.Knowledge.{Knowledge}
@@ -21,11 +21,11 @@ use Rattle.at_log.specs.declared.receipt.At.TheVariants.{Own}
 use Rattle.at_single.proofs.Laws.Paid.{IsPaid}
 use Rattle.at_single.specs.Looks.{HasLooked}
 use Rattle.at_single.specs.Standing.{IsOnlyOwner}
-use Rattle.at_calling.proofs.PayingAloneLaws.{HasCounted-IsPaid, HasSameAsking-Publishes, HasSameAsking-StoresWord, LeavesTotals-IsPaid, AnswersAlone-done, length-Publishes-le, paying_next, published-IsPaid}
+use Rattle.at_calling.proofs.PayingAloneLaws.{HasCounted-IsPaid, HasSameAsking-Publishes, HasSameAsking-StoresWord, LeavesTotals-IsPaid, AnswersAlone-done, length-Publishes-lt, paying_next, published-IsPaid, published-with_part}
 use Rattle.at_calling.proofs.PayingAloneTurns.{TakesPayTurn-append}
 use Rattle.at_calling.specs.KeptPayingAlone.{IsAppendingThen, IsPayStageSo, TakesPayTurn}
 use Rattle.at_calling.specs.PayingAlone.{AnswersAlone, HasSameAsking, MakesPayStep, PayingAloneTerms, append_steps, pay_turns_left}
-use Rattle.at_calling.specs.Reading.{LeavesTotals}
+use Rattle.at_calling.specs.Reading.{LeavesTotals, SeesOthersStill}
 use Rattle.at_calling.specs.contracts.paying_alone.PayingAlone.{the_view}
 use Rattle.at_calling.specs.declared.pay_stage.PayStage.TheVariants.{Append}
 use Rattle.at_machines.specs.Appending.{AppendingTerms, StoresNextWord, publication_of}
@@ -65,6 +65,7 @@ parts c = subst (λ (v : Knowledge). 0 < length v.parts) (known c) (omega (arith
 turned : (c : After-turn-is_published) (now : TotalSums) (mark : SeatTerms) → mark ≡ c.turn-is_published.new.seat → (totals : TotalSums)
     → totals ≡ now → (answer : Option (Reply × At))
     → MakesPayStep c.args.board.now.book (Append c.in-Append.appending) c.args.seat.now c.turn-is_published.new.seat now
+    → SeesOthersStill (the_view c.self.inside).mark c.turn-is_published.new.seat.knows
     → length (the_view c.self.inside).mark.seen ≤ length c.turn-is_published.new.seat.knows.seen
     → (IsSome answer ↔ (c.in-Append.appending.stored ≡ record_width c.args.board.now.book))
     → HasSameAsking (the_view c.self.inside).mark c.turn-is_published.new.seat.knows
@@ -75,7 +76,7 @@ turned : (c : After-turn-is_published) (now : TotalSums) (mark : SeatTerms) → 
     → TakesPayTurn c.args.board.now.book c.args.self.now
     (paying_next (the_view c.self.inside) (Append c.turn-is_published.new.self) c.self.inside.looked mark.knows totals) c.args.seat.now
     c.turn-is_published.new.seat now answer
-turned c now mark mark_is totals totals_are answer step more ends asks pays counted leaves =
+turned c now mark mark_is totals totals_are answer step others more ends asks pays counted leaves =
     let b : BookTerms = c.args.board.now.book in
     let t : PayingAloneTerms = the_view c.self.inside in
     let next : AppendingTerms = c.turn-is_published.new.self in
@@ -83,7 +84,7 @@ turned c now mark mark_is totals totals_are answer step more ends asks pays coun
     subst (λ (s : PayingAloneTerms). TakesPayTurn b s (paying_next t (Append next) t.looked mark.knows totals) c.args.seat.now after now answer) c.self.view_is
     (TakesPayTurn-append b t c.self.invariant (book (goal.at.After-turn-is_published c).After-self) c.args.seat.now after now mark.knows
     (ap (λ (m : SeatTerms). m.knows) mark_is) totals totals_are c.in-Append.appending next c.in-Append.is c.turn-is_published.ensures.after (few c) step
-    answer more ends asks pays counted leaves)
+    answer others more ends asks pays counted leaves)
 
 pub returns-then-not-is_published-clause-turned : goal.returns-then-not-is_published-clause-turned
 returns-then-not-is_published-clause-turned c =
@@ -99,6 +100,12 @@ returns-then-not-is_published-clause-turned c =
     subst (λ (v : Knowledge). StoresWord v w a.stored (slice_index (record_words (publication_of a)) a.stored)) (appends at).mark_is word in
     turned at c.args.totals.now c.of.result.value c.of.ensures t.totals (ap (λ (s : PayingAloneTerms). s.totals) c.self.view_is ∙ sym c.requires.totals) None
     (λ inside. word, λ all. absurd (other all))
+    (omega (
+      arith,
+      ap (λ (v : Knowledge). length v.seen) stored,
+      ap (λ (v : Knowledge). (own_part v).published) stored,
+      published-with_part t.mark (with_word (own_part t.mark) a.stored (slice_index (record_words (publication_of a)) a.stored)) refl,
+    ))
     (omega (arith, ap (λ (v : Knowledge). length v.seen) stored))
     (λ some. let wrong : false ≡ true = some in absurd (cc wrong), λ all. absurd (other all))
     (HasSameAsking-StoresWord t.mark w a.stored (slice_index (record_words (publication_of a)) a.stored) (parts at) stored) tt tt tt
@@ -154,12 +161,8 @@ returns-clause-turned c =
     let all : a.stored ≡ record_width b = told.ends.0 done in
     let has_paid = paid at done in
     let looked_at = (appends at).looked_at in
-    let number : (own_part t.start).published ≡ c.published.result - 1 =
-    omega (
-      arith,
-      c.published.ensures,
-      published-IsPaid t.start.book t.start a.start t.was t.totals front t.from t.targets looked_at so.owner so.room x has_paid,
-    ) in
+    let one = published-IsPaid t.start.book t.start a.start t.was t.totals front t.from t.targets looked_at so.owner so.room x has_paid in
+    let number : (own_part t.start).published ≡ c.published.result - 1 = omega (arith, c.published.ensures, one) in
     let r : Reply × At = (Done, Own (c.published.result - 1)) in
     let pays : AnswersAlone b t.start x t.from t.targets r =
     subst (λ (k : BookTerms). AnswersAlone k t.start x t.from t.targets r) same
@@ -179,9 +182,11 @@ returns-clause-turned c =
     (omega (arith, so.kept.known, ap (λ (k : BookTerms). k.processes) same)) in
     let publishes : Publishes b t.mark x (publication_of a) =
     subst (λ (v : Knowledge). Publishes b v x (publication_of a)) (appends at).mark_is (told.publishes done) in
+    let more = length-Publishes-lt b t.mark x (publication_of a) publishes in
     turned at now c.of.result.value c.of.ensures c.of-2.result.value c.of-2.ensures (Some r)
     (λ inside. absurd (omega (arith, inside, all)), λ full. told.published done)
-    (length-Publishes-le b t.mark x (publication_of a) publishes)
+    (omega (arith, more, one, (appends at).unpublished))
+    (omega (arith, more))
     (λ some. all, λ full. refl)
     (HasSameAsking-Publishes b t.mark x (publication_of a) (parts at) publishes) pays
     (subst (λ (k : BookTerms). StaysCounted now k x.seen) told.board.book c.count_own.ensures.stays) leaves

@@ -1,5 +1,6 @@
-use Rattle.std.proofs.Common.{None, Some, ◌≡◌, ℕ, ◌+◌, ◌-◌, ◌*◌, ◌<◌, ◌≤◌, length, sum, refl, sym, ap, subst, ◌∙◌, arith}
-use Rattle.at_ledger.specs.Book.{BookTerms}
+use Rattle.std.proofs.Common.{None, Some, ◌≡◌, ℕ, ◌+◌, ◌-◌, ◌*◌, ◌<◌, ◌≤◌, refl, sym, ap, subst, ◌∙◌, arith}
+use Rattle.at_ledger.specs.Account.{slots_of}
+use Rattle.at_ledger.specs.Book.{BookTerms, account_of}
 use Rattle.at_history.specs.Fronts.{places_max}
 use Rattle.at_shared.specs.PaymentTurns.{SettlesInTurns}
 use Rattle.at_history.specs.Histories.{IsHistory}
@@ -14,11 +15,11 @@ use Rattle.at_shared.specs.Helpings.{decides_made, decides_on}
 use Rattle.at_shared.specs.Settling.{round_steps}
 use Rattle.at_shared.specs.declared.helping.HelpTurn.{HelpTurn}
 use Rattle.at_shared.specs.declared.helping.HelpTurn.TheVariants.{More, Settled}
-use Rattle.at_calling.proofs.PayingSharedLaws.{SettlesInTurns-settled, DecidesFew-settled, HasCountedSo-more, HasHelped-more, IsHelpingThen-begun, LeavesTotals-settled, AnswersInRound-settled, few-so_far, share_turns_most-le}
+use Rattle.at_calling.proofs.PayingSharedLaws.{SettlesInTurns-settled, DecidesFew-settled, HasCountedSo-more, HasHelped-more, IsHelpingThen-begun, LeavesTotals-settled, AnswersInRound-settled, few-so_far, few_exchanges-so_far, share_turns_most-le}
 use Rattle.at_calling.proofs.PayingSharedTurns.{share_next, TakesShareTurn-on, TakesShareTurn-settled}
 use Rattle.at_calling.specs.KeptPayingShared.{TakesShareTurn, HasCountedSo, IsHelpingThen, IsPayingSharedSo, IsShareStageSo}
 use Rattle.at_calling.specs.PayingShared.{AnswersInRound, DecidesFew, MakesShareStep, PayingSharedTerms, settling_steps, share_exchanges_at, share_exchanges_made, share_turns_left, share_turns_most, unless_settled, unless_starting}
-use Rattle.at_calling.specs.Reading.{LeavesTotals}
+use Rattle.at_calling.specs.Reading.{LeavesTotals, newly_seen}
 use Rattle.at_calling.specs.Turning.{IsHelpOf, IsHelpWithin, LeavesSeat, TurningTerms, WaitsOn, help_turns_left, help_turns_made}
 use Rattle.at_calling.specs.contracts.paying_shared.PayingShared.{the_view}
 use Rattle.at_calling.specs.declared.share_stage.ShareStage.{ShareStage}
@@ -58,9 +59,16 @@ overflow_add-self c =
 turns_now : (c : After-turn-helped) → (helps c).before + help_turns_made c.turn-helped.new.self ≡ c.self.inside.turns + 1
 turns_now c = omega (arith, (helps c).turns_are, c.turn-helped.ensures.turns)
 
+-- one exchange at most
+once : (c : After-turn-helped) → decides_made c.in-Help.helping.account c.in-Help.turning.start c.turn-helped.new.seat.knows ≤ 1
+once c =
+    subst (λ (x : HelpingTerms). decides_made x.account c.in-Help.turning.start c.turn-helped.new.seat.knows ≤ 1) (helps c).helping_is
+    c.turn-helped.ensures.once
+
 -- which are few
 within : (c : After-turn-helped) → c.self.inside.turns + 1
-    ≤ share_turns_most c.args.board.now.book c.self.inside.account (length c.turn-helped.new.seat.knows.seen - sum c.self.inside.was.value.upto)
+    ≤ share_turns_most c.args.board.now.book c.self.inside.account
+    (newly_seen c.self.inside.start.value.knows c.turn-helped.new.seat.knows c.self.inside.was.value.upto)
 within c =
     let same = book (goal.at.After-turn-helped c).After-self in
     let b : BookTerms = c.args.board.now.book in
@@ -73,15 +81,27 @@ within c =
     let turns : ℕ = help_turns_made c.turn-helped.new.self in
     let so = helps c in
     let told = c.turn-helped.ensures in
-    let so_far : IsHelpWithin v.book.processes (decides_made h.account u.start w) u.was (length w.seen) turns =
-    subst (λ (k : BookTerms). IsHelpWithin k.processes (decides_made h.account u.start w) u.was (length w.seen) turns) same
-    (subst (λ (x : HelpingTerms). IsHelpWithin b.processes (decides_made x.account u.start w) u.was (length w.seen) turns) so.helping_is told.so_far) in
-    let once : decides_made h.account u.start w ≤ 1 = subst (λ (x : HelpingTerms). decides_made x.account u.start w ≤ 1) so.helping_is told.once in
+    let records : ℕ = newly_seen u.start w u.was.upto in
+    let so_far : IsHelpWithin v.book.processes (decides_made h.account u.start w) records turns =
+    subst (λ (k : BookTerms). IsHelpWithin k.processes (decides_made h.account u.start w) records turns) same
+    (subst (λ (x : HelpingTerms). IsHelpWithin b.processes (decides_made x.account u.start w) records turns) so.helping_is told.so_far) in
     omega (
       arith,
-      few-so_far v.book v u.start w t.account t.targets h so.helped t.was u.was so.before turns so.counted once told.seen so_far,
+      few-so_far v.book v u.start w t.account t.targets h so.helped t.was u.was so.before turns so.counted (once c) told.seen told.others so_far,
       turns_now c,
-      ap (λ (k : BookTerms). share_turns_most k i.account (length w.seen - sum i.was.value.upto)) same,
+      ap (λ (k : BookTerms). share_turns_most k i.account (newly_seen v w i.was.value.upto)) same,
+    )
+
+-- and so are the exchanges
+few_exchanges : (c : After-turn-helped) → decides_made c.self.inside.account c.self.inside.start.value.knows c.turn-helped.new.seat.knows
+    ≤ slots_of (account_of c.args.board.now.book c.self.inside.account)
+few_exchanges c =
+    let t : PayingSharedTerms = the_view c.self.inside in
+    omega (
+      arith,
+      few_exchanges-so_far t.start.book t.start c.in-Help.turning.start c.turn-helped.new.seat.knows t.account t.targets c.in-Help.helping
+          (helps c).helped (once c),
+      ap (λ (k : BookTerms). slots_of (account_of k t.account)) (book (goal.at.After-turn-helped c).After-self),
     )
 
 within_all : (c : After-known)
@@ -220,7 +240,8 @@ goes_on c mark mark_is totals totals_are u =
     let stage : ShareStage = Help c.in-Help.helping u in
     subst (λ (x : PayingSharedTerms). TakesShareTurn b x (share_next t stage mark.knows totals) before after now None) c.self.view_is
     (TakesShareTurn-on b t before after now mark.knows (ap (λ (m : SeatTerms). m.knows) mark_is) totals totals_are (some at) (step at) (within at)
-    stage (λ n. refl) (within_all c) (ap (λ (m : SeatTerms). decides_made t.account t.start m.knows) mark_is ∙ made at))
+    stage (λ n. refl) (within_all c) (ap (λ (m : SeatTerms). decides_made t.account t.start m.knows) mark_is ∙ made at)
+    (omega (arith, few_exchanges at, ap (λ (m : SeatTerms). decides_made t.account t.start m.knows) mark_is)))
 
 pub returns-in_err-answer-clause-turned : goal.returns-in_err-answer-clause-turned
 returns-in_err-answer-clause-turned c =

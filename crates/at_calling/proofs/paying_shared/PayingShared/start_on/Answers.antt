@@ -1,4 +1,4 @@
-use Rattle.std.proofs.Common.{None, ◌≡◌, ℕ, ◌+◌, ◌-◌, ◌*◌, ◌<◌, ◌≤◌, List, length, sum, refl, sym, ap, subst, ◌∙◌, arith}
+use Rattle.std.proofs.Common.{None, ◌≡◌, ℕ, ◌+◌, ◌*◌, ◌<◌, ◌≤◌, List, refl, sym, ap, subst, ◌∙◌, arith}
 use Rattle.at_ledger.specs.Account.{slots_of}
 use Rattle.at_ledger.specs.Book.{BookTerms, account_of}
 use Rattle.at_ledger.specs.Call.{TargetPair}
@@ -17,7 +17,7 @@ use Rattle.at_calling.proofs.PayingSharedLaws.{decides_made-IsStartOf, HasCounte
 use Rattle.at_calling.proofs.PayingSharedTurns.{share_next, TakesShareTurn-on}
 use Rattle.at_calling.specs.KeptPayingShared.{TakesShareTurn, HasCountedSo, IsPayingSharedSo, IsShareStageSo, IsStartingFirst}
 use Rattle.at_calling.specs.PayingShared.{MakesShareStep, PayingSharedTerms, share_exchanges_at, share_turns_left, share_turns_most, unless_settled, unless_starting}
-use Rattle.at_calling.specs.Reading.{LeavesTotals}
+use Rattle.at_calling.specs.Reading.{LeavesTotals, newly_seen}
 use Rattle.at_calling.specs.Starting.{IsStartOf, StartingTerms, start_turns_made}
 use Rattle.at_calling.specs.Turning.{TurningTerms, help_turns_left}
 use Rattle.at_calling.specs.contracts.paying_shared.PayingShared.{the_view}
@@ -107,20 +107,21 @@ invariant_of-self-2 c =
 
 -- one turn more, and few so far
 within : (c : After-turn-started) → c.self.inside.turns + 1
-    ≤ share_turns_most c.args.board.now.book c.self.inside.account (length c.turn-started.new.seat.knows.seen - sum c.self.inside.was.value.upto)
+    ≤ share_turns_most c.args.board.now.book c.self.inside.account
+    (newly_seen c.self.inside.start.value.knows c.turn-started.new.seat.knows c.self.inside.was.value.upto)
 within c =
     let b : BookTerms = c.args.board.now.book in
     let i = c.self.inside in
     let s : StartingTerms = c.turn-started.new.self in
-    let records : ℕ = length c.turn-started.new.seat.knows.seen in
+    let w : Knowledge = c.turn-started.new.seat.knows in
+    let old : StartingTerms = c.in-Start.starting in
     let so = starts c in
     let told = c.turn-started.ensures in
-    let so_far : start_turns_made s
-    ≤ snapshot_steps b.processes + asking_steps (slots_of (account_of b i.account)) + RECORD_WORDS * (records - sum i.was.value.upto) =
-    subst (λ (x : TotalSums). start_turns_made s
-    ≤ snapshot_steps b.processes + asking_steps (slots_of (account_of b i.account)) + RECORD_WORDS * (records - sum x.upto)) (told.was ∙ so.was_is)
-    (subst (λ n. start_turns_made s ≤ snapshot_steps b.processes + asking_steps (slots_of (account_of b n)) + RECORD_WORDS * (records - sum s.was.upto))
-    (told.account ∙ so.account_is) told.so_far) in
+    let most : ℕ → ℕ → ℕ = λ a records. snapshot_steps b.processes + asking_steps (slots_of (account_of b a)) + RECORD_WORDS * records in
+    let so_far : start_turns_made s ≤ most i.account (newly_seen i.start.value.knows w i.was.value.upto) =
+    subst (λ (v : Knowledge). start_turns_made s ≤ most i.account (newly_seen v w i.was.value.upto)) so.start_is
+    (subst (λ (x : TotalSums). start_turns_made s ≤ most i.account (newly_seen old.start w x.upto)) so.was_is
+    (subst (λ n. start_turns_made s ≤ most n (newly_seen old.start w old.was.upto)) (told.account ∙ so.account_is) told.so_far)) in
     omega (arith, so_far, so.turns_are, told.turns)
 
 -- what the turn leaves, with whichever stage next
@@ -142,7 +143,8 @@ turned c mark mark_is totals totals_are stage goes decides =
     (subst (λ (x : PayingSharedTerms). 0 < share_turns_left b x) (sym c.self.view_is) c.requires.left)
     (subst (λ (k : ShareStage). MakesShareStep b k before after now) (sym c.in-Start.is) c.turn-started.ensures.step) few stage goes
     (omega (arith, few, c.known.ensures.seat.history.few))
-    (omega (arith, decides, ap (unless_starting (decides_made t.account t.start t.mark)) c.in-Start.is, ap share_exchanges_at c.in-Start.is)))
+    (omega (arith, decides, ap (unless_starting (decides_made t.account t.start t.mark)) c.in-Start.is, ap share_exchanges_at c.in-Start.is))
+    (omega (arith, decides)))
 
 pub returns-in_err-helping-clause-turned : goal.returns-in_err-helping-clause-turned
 returns-in_err-helping-clause-turned c =

@@ -1,4 +1,4 @@
-use Rattle.std.proofs.Common.{None, ◌≡◌, ℕ, ◌<◌, Some, List, length, sym, ap, subst, ◌∙◌, arith}
+use Rattle.std.proofs.Common.{None, ◌≡◌, ℕ, ◌<◌, List, length, sym, ap, subst, ◌∙◌, arith}
 use Rattle.std.specs.List.{sum}
 use Rattle.at_ledger.specs.Book.{BookTerms}
 use Rattle.at_ledger.specs.Call.{TargetPair}
@@ -114,7 +114,7 @@ turned c turns turns_are mark mark_is totals totals_are stage same some left =
     let told = c.turn-looked.ensures in
     subst (λ (s : StartingTerms). TakesStartTurn b s (start_after_look t stage mark.knows totals turns) c.args.seat.now after now None) c.self.view_is
     (TakesStartTurn-look b t c.self.invariant (sym (book (goal.at.After-turn-looked c).After-self)) c.args.seat.now after mark.knows
-    (ap (λ (m : SeatTerms). m.knows) mark_is) now totals totals_are l c.in-Look.is turns (turns_are ∙ told.turns) told.load told.counted
+    (ap (λ (m : SeatTerms). m.knows) mark_is) now totals totals_are l c.in-Look.is turns (turns_are ∙ told.turns) told.load told.loads told.counted
     (subst (IsWithin b.processes l.was (length after.knows.seen)) (sym turns_are) told.so_far) stage same some left)
 
 pub returns-in_err-front-clause-turned : goal.returns-in_err-front-clause-turned

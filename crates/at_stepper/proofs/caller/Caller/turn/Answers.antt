@@ -1,10 +1,11 @@
-use Rattle.std.proofs.Common.{◌≡◌, ◌∙◌, List, Option, Some, ap, arith, length, subst, sym}
+use Rattle.std.proofs.Common.{◌≡◌, ◌≢◌, ◌<◌, ◌∙◌, List, Option, Some, ap, arith, false, length, subst, sym, true}
 use Rattle.std.specs.Vec.{vec_capacity}
+use Rattle.at_ledger.specs.Book.{BookTerms}
 use Rattle.at_ledger.specs.declared.call.Call.{Call}
 use Rattle.at_log.specs.declared.receipt.Receipt.{Receipt}
-use Rattle.at_stepper.proofs.CallerLaws.{IsAnswered-turned, IsCallerOf-answered, process-answered, steps_of-answered}
-use Rattle.at_stepper.specs.Callers.{CallerTerms, IsAnswered, steps_in}
-use Rattle.at_calling.specs.Calling.{CallingTerms}
+use Rattle.at_stepper.proofs.CallerLaws.{IsAnswered-turned, IsCallerOf-answered, all_turns_left-turned, process-answered, steps_of-answered}
+use Rattle.at_stepper.specs.Callers.{CallerTerms, IsAnswered, caller_turns_left, steps_in}
+use Rattle.at_calling.specs.Calling.{CallingTerms, call_turns_left}
 use Rattle.at_stepper.specs.KeptCallers.{IsCallBegun, IsCallerOf, caller_of}
 use Rattle.at_stepper.specs.declared.caller.Making.{Making}
 use Rattle.at_stepper.specs.declared.turned.Turned.TheVariants.{Answer}
@@ -84,3 +85,20 @@ returns-clause-steps c =
     c.in-Some-made.ensures.within c.in-Some-made.ensures.refused c.keep-next.new.receipts.items c.keep-next.ensures.receipts c.become_next.new.making.calling (next_begun c)
     ∙ ap (λ (r : Receipt). steps_in (Answer r)) (sym c.copy_of-answer.ensures) in
     omega (arith, c.turn-made.ensures.steps, made, ap (λ (t : CallerTerms). t.seat.steps) c.self.view_is)
+
+-- the call goes on
+pub returns-in_default-made-clause-turns_left : goal.returns-in_default-made-clause-turns_left
+returns-in_default-made-clause-turns_left c =
+    let b : BookTerms = c.args.board.now.book in
+    let i = c.self.inside in
+    let d : CallingTerms = c.turn-made.new.self in
+    let after : CallerTerms = caller_of c.turn-made.new.seat c.turn-made.new.rest i.calls.items i.receipts.items (Some d) in
+    let some_left : call_turns_left b d.stage ≢ 0 = λ none. let wrong : false ≡ true = c.in_default-made.ensures.ends.1 none in absurd (cc wrong) in
+    subst (λ (t : CallerTerms). caller_turns_left b after < caller_turns_left b t)
+    (ap (λ (o : Option CallingTerms). caller_of i.seat i.rest i.calls.items i.receipts.items o) (sym c.in-Some.is) ∙ c.self.view_is)
+    (all_turns_left-turned b i.seat i.rest i.calls.items i.receipts.items c.in-Some.calling (vec_capacity i.receipts)
+    (subst (λ (o : Option CallingTerms). IsCallerOf i.seat i.rest i.calls.items i.receipts.items o (vec_capacity i.receipts)) c.in-Some.is c.self.invariant)
+    (ap (λ (t : CallerTerms). t.seat.knows.book) c.self.view_is ∙ c.requires.board.book) d c.turn-made.new.seat c.turn-made.new.rest
+    c.known.ensures.seat c.turn-made.ensures.board.book c.turn-made.ensures.call c.turn-made.ensures.start c.turn-made.ensures.was
+    c.turn-made.ensures.turns c.turn-made.ensures.exchanges_made c.turn-made.ensures.left c.turn-made.ensures.so_far (omega (arith, some_left))
+    c.turn-made.ensures.mark c.turn-made.ensures.rest)
