@@ -1,15 +1,15 @@
 -- A call from one turn to the next, and what its answer leaves.
-use Rattle.std.proofs.Common.{◌≡◌, ℕ, ◌+◌, ◌-◌, ◌*◌, ◌<◌, ◌≤◌, ◌↔◌, List, [], ◌∷◌, ◌++◌, IfSome, IsSome, Option, length, None, Some, refl, sym, ap, subst, ◌∙◌, arith, false, true}
+use Rattle.std.proofs.Common.{◌≡◌, ℕ, ◌+◌, ◌*◌, ◌<◌, ◌≤◌, ◌↔◌, List, [], ◌∷◌, ◌++◌, IfSome, IsSome, Option, length, None, Some, refl, sym, ap, subst, ◌∙◌, arith, false, true}
 use Rattle.at_ledger.specs.Account.{is_shared, slots_of}
 use Rattle.at_ledger.specs.Book.{BookTerms, account_of}
 use Rattle.at_ledger.specs.Call.{IsCallOn, TargetPair}
 use Rattle.at_ledger.specs.declared.call.Call.{Call}
 use Rattle.at_ledger.specs.declared.call.Reply.{Reply}
-use Rattle.at_history.specs.Fronts.{places_max}
 use Rattle.at_history.specs.Moves.{AreRuns}
 use Rattle.at_board.specs.Counting.{raised}
 use Rattle.at_board.specs.Knowledge.Seats.{BoardTerms, IsKept, IsOf, SeatTerms}
 use Rattle.at_board.specs.Words.Addresses.{record_width}
+use Rattle.at_board.specs.declared.knowledge.Asking.{Asking}
 use Rattle.at_board.specs.declared.knowledge.Knowledge.{Knowledge}
 use Rattle.at_board.specs.declared.words.TheConstants.{RECORD_WORDS}
 use Rattle.at_closing.specs.BetweenCalls.{IsBetweenCalls}
@@ -17,6 +17,7 @@ use Rattle.at_fold.specs.HasCounted.{HasCounted, StaysCounted}
 use Rattle.at_fold.specs.Sums.{TotalSums}
 use Rattle.at_log.proofs.Laws.Replies.{first_account-payout}
 use Rattle.at_log.specs.Placed.{IsPlaced}
+use Rattle.at_log.specs.Told.{first_account}
 use Rattle.at_log.specs.declared.receipt.At.TheVariants.{Previous}
 use Rattle.at_log.specs.declared.receipt.Receipt.{Receipt}
 use Rattle.at_object.proofs.Laws.Looked.{between-IsPass}
@@ -26,9 +27,10 @@ use Rattle.at_object.specs.Parted.{IsOfOnePass, pass_of}
 use Rattle.at_object.specs.Passes.{PassTerms, Stands, one_more_call}
 use Rattle.at_object.specs.Payments.{IsRefused, sent_after}
 use Rattle.at_object.specs.declared.parts.Rest.{Rest}
-use Rattle.at_shared.specs.Helpings.{decides_made}
+use Rattle.at_shared.specs.Helpings.{decides_made, decides_on}
 use Rattle.at_single.proofs.Laws.Looks.{published-HasLoaded}
 use Rattle.at_snapshot.specs.Collected.{HasLoaded}
+use Rattle.at_calling.proofs.PayingAloneLaws.{HasSameAsking-HasLoaded}
 use Rattle.at_calling.proofs.CallingLaws.{CallMade-PaysAlone, CallMade-PaysInRound, IsOfOnePass-IsReadOf, IsOfOnePass-PaysAlone, IsOfOnePass-PaysInRound, MakesWithin, ReadMade-IsReadOf, StaysWithin-MakesWithin, MakesWithin-IsReadOf, MakesWithin-PaysAlone, MakesWithin-PaysInRound, payment_steps-shared, payment_steps-single, refusal_in-payout, small-refusal_of, source-IsCallOn}
 use Rattle.at_object.proofs.Laws.Calls.{placed-CallMade, stands-CallMade}
 use Rattle.at_object.proofs.Laws.Within.{call_steps-payout, may_exchange-payout}
@@ -36,13 +38,11 @@ use Rattle.at_calling.specs.Calling.{CallingTerms, IsCallWithin, IsWay, MakesCal
 use Rattle.at_object.specs.Calls.{CallMade, StaysWithin, call_steps}
 use Rattle.at_calling.specs.KeptCalling.{IsCallStageSo, IsCallingSo, IsMakingStill, TakesCallTurn}
 use Rattle.at_machines.specs.Looking.{IsWithin, look_turns_left}
-use Rattle.at_calling.specs.PayingAlone.{IsPayWithin, PayingAloneTerms, append_steps, pay_turns_left}
-use Rattle.at_calling.specs.PayingShared.{DecidesFew, IsShareWithin, PayingSharedTerms, settling_steps, share_exchanges_made, share_turns_left, share_turns_most, unless_settled, unless_starting}
+use Rattle.at_calling.specs.PayingAlone.{HasSameAsking, IsPayWithin, PayingAloneTerms, append_steps, pay_turns_left}
+use Rattle.at_calling.specs.PayingShared.{DecidesFew, PayingSharedTerms, settling_steps, share_exchanges_made, share_turns_left, share_turns_most}
 use Rattle.at_calling.specs.Reading.{IsReadOf, LeavesTotals, ReadingTerms, newly_seen}
 use Rattle.at_calling.specs.declared.call_stage.CallStage.{CallStage}
 use Rattle.at_calling.specs.declared.call_stage.CallStage.TheVariants.{PayAlone, PayShared, Read, Refuse}
-use Rattle.at_calling.specs.declared.share_stage.ShareStage.{ShareStage}
-use Rattle.at_calling.specs.declared.share_stage.ShareStage.TheVariants.{Ended, Help, Start}
 
 -- the call that goes on with this stage, of this seat and this rest of its pass
 abbrev pub calling_next : CallingTerms → CallStage → SeatTerms → Rest → CallingTerms
@@ -56,8 +56,14 @@ pub record Leaves (b : BookTerms) (t : CallingTerms) (after : SeatTerms) (rest :
 
 -- a call that has made no exchange is within its bounds where its steps are
 pub IsCallWithin-none : (b : BookTerms) (before : PassTerms) (call : Call) (after : Knowledge) (steps : ℕ)
+    → ((a : ℕ) → decides_on after a ≡ decides_on before.knows a)
     → steps ≤ call_steps b call + RECORD_WORDS * newly_seen before.knows after before.counted → IsCallWithin b before call after steps 0
-IsCallWithin-none b before call after steps few = record { few = few; decided = omega arith; none = λ no. refl; few_decided = omega arith }
+IsCallWithin-none b before call after steps same few = record {
+  few = few;
+  decided = omega (arith, same (first_account call));
+  none = λ no. refl;
+  few_decided = omega arith;
+}
 
 -- a refused call leaves its pass as it was, but for the count of its calls
 CallMade-refused : (b : BookTerms) (before : PassTerms) (call : Call) (r : Receipt) → IsKept before.knows → before.knows.book ≡ b
@@ -86,6 +92,9 @@ module _ (board : BoardTerms) (t : CallingTerms) (so : IsCallingSo t) (seat : Se
 
     unmoved : (t.mark ≡ t.start) × (t.rest ≡ t.was)
     unmoved = subst (IsCallStageSo t) stage so.stage_so
+
+    pub undecided-refused : (a : ℕ) → decides_on seat.knows a ≡ decides_on t.start.knows a
+    undecided-refused a = ap (λ (s : SeatTerms). decides_on s.knows a) (same ∙ unmoved.0)
 
     pub was-refused : t.rest ≡ t.was
     was-refused = unmoved.1
@@ -149,7 +158,9 @@ module _ (board : BoardTerms) (t : CallingTerms) (so : IsCallingSo t) (seat : Se
           subst (λ (s : TotalSums). IsWithin board.book.processes s (length after.knows.seen) turns) still-read.was_is few in
           let loads_on : HasLoaded board.book t.start.knows after.knows =
           subst (λ (v : Knowledge). HasLoaded board.book v after.knows) still-read.start_is loads in
-          IsCallWithin-none board.book (pass_before t) t.call after.knows turns (omega (
+          IsCallWithin-none board.book (pass_before t) t.call after.knows turns
+          (λ a. ap (λ (q : Asking). q.decides) (HasSameAsking-HasLoaded board.book t.start.knows after.knows (omega (arith, so.kept.one_part)) loads_on a))
+          (omega (
             arith,
             few_on,
             ap (call_steps board.book) way-read,
@@ -193,12 +204,13 @@ module _ (board : BoardTerms) (t : CallingTerms) (so : IsCallingSo t) (seat : Se
           (sym (refusal_in-payout board.book p.from p.targets (pass_before t) t.call way-alone.0) ∙ way-alone.1) way-alone.2
 
       pub few-alone : (turns : ℕ) → IsPayWithin board.book.processes (newly_seen p.start after.knows p.was.upto) turns
-          → IsCallWithin board.book (pass_before t) t.call after.knows turns 0
-      few-alone turns few =
+          → HasSameAsking p.start after.knows → IsCallWithin board.book (pass_before t) t.call after.knows turns 0
+      few-alone turns few asks =
           let few_on : IsPayWithin board.book.processes (newly_seen t.start.knows after.knows t.was.totals.upto) turns =
           subst (λ (v : Knowledge). IsPayWithin board.book.processes (newly_seen v after.knows t.was.totals.upto) turns) still-alone.start_is
           (subst (λ (s : TotalSums). IsPayWithin board.book.processes (newly_seen p.start after.knows s.upto) turns) still-alone.was_is few) in
-          IsCallWithin-none board.book (pass_before t) t.call after.knows turns (omega (
+          let asks_on : HasSameAsking t.start.knows after.knows = subst (λ (v : Knowledge). HasSameAsking v after.knows) still-alone.start_is asks in
+          IsCallWithin-none board.book (pass_before t) t.call after.knows turns (λ a. ap (λ (q : Asking). q.decides) (asks_on a)) (omega (
             arith,
             few_on,
             call_steps-payout board.book p.from p.targets t.call way-alone.0,
@@ -237,15 +249,15 @@ module _ (board : BoardTerms) (t : CallingTerms) (so : IsCallingSo t) (seat : Se
       way-shared = subst (IsWay board.book (pass_before t) t.call) stage way_on
 
       pub few-shared : (turns exchanges : ℕ) → turns ≤ share_turns_most board.book p.account (newly_seen p.start after.knows p.was.upto)
-          → exchanges ≤ decides_made p.account p.start after.knows → exchanges ≤ slots_of (account_of board.book p.account)
+          → exchanges ≡ decides_made p.account p.start after.knows → exchanges ≤ slots_of (account_of board.book p.account)
           → IsCallWithin board.book (pass_before t) t.call after.knows turns exchanges
       few-shared turns exchanges few decided few_decided =
           let first = first_account-payout p.account p.targets t.call way-shared.0 in
           let few_on : turns ≤ share_turns_most board.book p.account (newly_seen t.start.knows after.knows t.was.totals.upto) =
           subst (λ (v : Knowledge). turns ≤ share_turns_most board.book p.account (newly_seen v after.knows t.was.totals.upto)) still-shared.start_is
           (subst (λ (s : TotalSums). turns ≤ share_turns_most board.book p.account (newly_seen p.start after.knows s.upto)) still-shared.was_is few) in
-          let decided_on : exchanges ≤ decides_made p.account t.start.knows after.knows =
-          subst (λ (v : Knowledge). exchanges ≤ decides_made p.account v after.knows) still-shared.start_is decided in
+          let decided_on : exchanges ≡ decides_made p.account t.start.knows after.knows =
+          subst (λ (v : Knowledge). exchanges ≡ decides_made p.account v after.knows) still-shared.start_is decided in
           record {
             few = omega (
               arith,
@@ -253,7 +265,7 @@ module _ (board : BoardTerms) (t : CallingTerms) (so : IsCallingSo t) (seat : Se
               call_steps-payout board.book p.account p.targets t.call way-shared.0,
               payment_steps-shared board.book p.account way-shared.2,
             );
-            decided = subst (λ a. exchanges ≤ decides_made a t.start.knows after.knows) (sym first) decided_on;
+            decided = subst (λ a. exchanges ≡ decides_made a t.start.knows after.knows) (sym first) decided_on;
             none = λ no.
                 let both : false ≡ true = sym no ∙ (may_exchange-payout board.book p.account p.targets t.call way-shared.0 ∙ way-shared.2) in absurd (cc both);
             few_decided = subst (λ a. exchanges ≤ slots_of (account_of board.book a)) (sym first) few_decided;
@@ -306,27 +318,6 @@ module _ (board : BoardTerms) (t : CallingTerms) (so : IsCallingSo t) (seat : Se
             within = MakesWithin-PaysInRound board.book t.start t.was after rest so.kept keeps book-IsCallingSo of_after.book board_is so.pass more turns leaves_on p.account
                 p.targets t.call receipt paid_on way-shared.0 way-shared.2 way-shared.1 source_in exchanges refl few_on decided_on;
           }
-
--- the exchanges that were made, once the request is settled
-unless_settled-ended : (most made : ℕ) (stage : ShareStage) → 0 < most → unless_settled most stage ≡ 0 → unless_starting made stage ≡ made
-unless_settled-ended most made (Start s) some none = absurd (omega (arith, some, none))
-unless_settled-ended most made (Help h u) some none = refl
-unless_settled-ended most made Ended some none = refl
-
--- in the start there are none
-unless_starting-le : (made : ℕ) (stage : ShareStage) → unless_starting made stage ≤ made
-unless_starting-le made (Start s) = omega arith
-unless_starting-le made (Help h u) = omega arith
-unless_starting-le made Ended = omega arith
-
-pub share_exchanges_made-le : (q : PayingSharedTerms) → share_exchanges_made q ≤ decides_made q.account q.start q.mark
-share_exchanges_made-le q = unless_starting-le (decides_made q.account q.start q.mark) q.stage
-
-pub share_exchanges_made-ended : (b : BookTerms) (q : PayingSharedTerms) (records : ℕ) → IsShareWithin b q records → records ≤ places_max
-    → share_turns_left b q ≡ 0 → share_exchanges_made q ≡ decides_made q.account q.start q.mark
-share_exchanges_made-ended b q records few room none =
-    unless_settled-ended (share_turns_most b q.account places_max + 1 - q.turns) (decides_made q.account q.start q.mark) q.stage
-    (omega (arith, few, room)) none
 
 -- what holds of a receipt, where there is one
 if_some : (P Q : Receipt → Type 0) → ((r : Receipt) → P r → Q r) → (answer : Option Receipt) → IfSome answer P → IfSome answer Q

@@ -55,9 +55,10 @@ module _ (b : BookTerms) (t : PayingSharedTerms) (before after : SeatTerms) (now
   -- nothing is answered, and the payment goes on in this stage
   pub TakesShareTurn-on : (stage : ShareStage) → ((n : ℕ) → unless_settled n stage ≡ n) → t.turns + 1 ≤ most
       → unless_starting (decides_made t.account t.start mark) stage ≡ share_exchanges_made t + share_exchanges_at t.stage
+      → unless_starting (decides_made t.account t.start mark) stage ≡ decides_made t.account t.start after.knows
       → unless_starting (decides_made t.account t.start mark) stage ≤ slots_of (account_of b t.account)
       → TakesShareTurn b t (share_next t stage mark totals) before after now None
-  TakesShareTurn-on stage goes few decides exchanges_few = record {
+  TakesShareTurn-on stage goes few decides decided exchanges_few = record {
     account_is = refl;
     targets_are = refl;
     start_is = refl;
@@ -78,6 +79,7 @@ module _ (b : BookTerms) (t : PayingSharedTerms) (before after : SeatTerms) (now
     counted = tt;
     leaves = tt;
     decides = decides;
+    decided = decided;
     exchanges_few = exchanges_few;
   }
 
@@ -106,5 +108,6 @@ module _ (b : BookTerms) (t : PayingSharedTerms) (before after : SeatTerms) (now
     counted = counted;
     leaves = leaves;
     decides = decides;
+    decided = ap (λ (v : Knowledge). decides_made t.account t.start v) mark_is;
     exchanges_few = omega (arith, few.few, ap (λ (v : Knowledge). decides_made t.account t.start v) mark_is);
   }

@@ -1,19 +1,26 @@
 -- A start from one turn to the next.
-use Rattle.std.proofs.Common.{◌≡◌, ℕ, ◌+◌, ◌-◌, ◌*◌, ◌<◌, ◌≤◌, List, Some, length, get_or, refl, sym, ap, subst, ◌∙◌, arith}
-use Rattle.std.specs.List.{sum}
+use Rattle.std.proofs.Common.{◌≡◌, ℕ, ◌+◌, ◌-◌, ◌*◌, ◌<◌, ◌≤◌, zero, suc, List, [], ◌∷◌, ◌++◌, Some, length, get_or, set, refl, sym, ap, subst, ◌∙◌, arith}
+use Rattle.std.specs.Prelude.{slice_index, sum}
 use Rattle.at_ledger.specs.Account.{slot_in, slots_of}
 use Rattle.at_ledger.specs.Book.{BookTerms, HasSlot, account_of}
 use Rattle.at_ledger.specs.Call.{TargetPair}
 use Rattle.at_history.proofs.Laws.Prefixes.{IsPrefix-length, IsPrefix-refl, IsPrefix-trans}
 use Rattle.at_history.specs.Fronts.{place, places_max}
 use Rattle.at_history.specs.Publications.{IsPrefix}
+use Rattle.at_history.specs.Rounds.{rounds}
 use Rattle.at_history.specs.Sound.{AreTargets}
 use Rattle.at_history.specs.declared.request.Request.{Request}
 use Rattle.at_board.specs.Knowledge.Candidates.{HasLoadedRows}
-use Rattle.at_board.specs.Knowledge.Parts.{asking_on, own_part}
-use Rattle.at_board.specs.Steps.Announce.{Announces}
-use Rattle.at_board.specs.Steps.StoreRequestWord.{StoresRequestWord}
+use Rattle.at_board.specs.Knowledge.Parts.{asking_on, no_asking, no_part, own_part, part_asking, seen_as, with_asking}
+use Rattle.at_board.specs.Steps.Announce.{Announces, with_request}
+use Rattle.at_board.specs.Steps.LoadAnnounced.{all_of, with_row}
+use Rattle.at_board.specs.Steps.LoadRequestWord.{with_loaded}
+use Rattle.at_board.specs.Steps.StoreRequestWord.{StoresRequestWord, with_request_word}
+use Rattle.at_board.specs.Words.Packed.{request_words}
+use Rattle.at_board.specs.declared.knowledge.Asking.{Asking}
 use Rattle.at_board.specs.declared.knowledge.Knowledge.{Knowledge}
+use Rattle.at_board.specs.declared.knowledge.Part.{Part}
+use Rattle.at_board.specs.declared.knowledge.SeenRequest.{SeenRequest}
 use Rattle.at_board.specs.declared.words.TheConstants.{REQUEST_WORDS}
 use Rattle.at_fold.proofs.Laws.MorePublished.{StaysCounted-HasCounted}
 use Rattle.at_fold.specs.HasCounted.{StaysCounted}
@@ -27,16 +34,18 @@ use Rattle.at_shared.proofs.Laws.Starting.{Keeps-HasLoaded}
 use Rattle.at_shared.specs.HelpingTerms.{helping_of}
 use Rattle.at_shared.specs.Starting.{StartsBy}
 use Rattle.at_single.proofs.Laws.Looks.{published-HasLoaded}
+use Rattle.at_shared.specs.Helpings.{decides_on}
 use Rattle.at_single.specs.Looks.{HasLooked}
+use Rattle.at_snapshot.specs.Collected.{HasLoaded}
 use Rattle.at_machines.specs.Asking.{AskingTerms, StoresNextRequestWord, asking_after, request_asked, starting_to_ask}
 use Rattle.at_machines.specs.CollectingRows.{CollectingRowsTerms, MakesNextLoad, rows_after, starting_rows}
 use Rattle.at_calling.specs.KeptStarting.{HasLookedToAsk, IsAskingThen, IsCollectingThen, IsStartStageSo, IsStartingSo}
 use Rattle.at_machines.specs.LoadingRow.{MakesLoadOf, NextRowLoad}
 use Rattle.at_machines.specs.LoadingRow.NextRowLoad.{announced_word, request_word, nothing}
 use Rattle.at_machines.specs.Looking.{IsWithin}
-use Rattle.at_calling.proofs.PayingAloneLaws.{published-set}
+use Rattle.at_calling.proofs.PayingAloneLaws.{HasSameAsking-HasLoaded, published-set}
 use Rattle.at_calling.specs.Reading.{LeavesTotals, newly_seen}
-use Rattle.at_calling.specs.Starting.{IsStartOf, IsStartWithin, StartingTerms, asking_steps_of, start_turns_in}
+use Rattle.at_calling.specs.Starting.{HasSameCounts, IsStartOf, IsStartWithin, StartingTerms, asking_steps_of, start_turns_in}
 use Rattle.at_calling.specs.declared.start_stage.StartStage.{StartStage}
 use Rattle.at_calling.specs.declared.start_stage.StartStage.TheVariants.{Ask, Collect}
 
@@ -47,25 +56,60 @@ IsPrefix-MakesLoadOf b v w a slot own (request_word number word) next (n, told, 
     subst (IsPrefix v.seen) (sym (ap (λ (k : Knowledge). k.seen) told.same)) (IsPrefix-refl v.seen)
 IsPrefix-MakesLoadOf b v w a slot own nothing next told = absurd told
 
--- a load of a row, a store of a word of the request and announcing it publish nothing
-published-MakesLoadOf : (b : BookTerms) (v w : Knowledge) (a slot own : ℕ) (this next : NextRowLoad) → MakesLoadOf b v w a slot own this next
-    → (own_part w).published ≡ (own_part v).published
-published-MakesLoadOf b v w a slot own announced_word next (count, told, follows) =
-    ap (λ (k : Knowledge). (own_part k).published) told.same ∙ published-set v.parts _ refl
-published-MakesLoadOf b v w a slot own (request_word number word) next (n, told, follows) =
-    ap (λ (k : Knowledge). (own_part k).published) told.same ∙ published-set v.parts _ refl
-published-MakesLoadOf b v w a slot own nothing next told = absurd told
+-- loads of lengths and of a row, a store of a word of the request and announcing it publish and decide nothing
+decides-set : (xs : List Asking) (a : ℕ) (q : Asking) → q.decides ≡ (get_or xs a no_asking).decides
+    → (get_or (set xs a q) a no_asking).decides ≡ (get_or xs a no_asking).decides
+decides-set [] a q same = refl
+decides-set (x ∷ xs) zero q same = same
+decides-set (x ∷ xs) (suc a) q same = decides-set xs a q same
 
-pub published-MakesNextLoad : (b : BookTerms) (c after : CollectingRowsTerms) → MakesNextLoad b c after
-    → (own_part after.mark).published ≡ (own_part c.mark).published
-published-MakesNextLoad b c after told = published-MakesLoadOf b c.mark after.mark c.account c.slot c.own.slot c.next told.row_next told.load
+decides-part : (parts : List Part) (a : ℕ) (q : Part) → (asking_on q a).decides ≡ (asking_on (get_or parts 0 no_part) a).decides
+    → (asking_on (get_or (set parts 0 q) 0 no_part) a).decides ≡ (asking_on (get_or parts 0 no_part) a).decides
+decides-part [] a q same = refl
+decides-part (p ∷ ps) a q same = same
 
-published-StoresRequestWord : (v w : Knowledge) (a j n : ℕ) → StoresRequestWord v w a j n → (own_part w).published ≡ (own_part v).published
-published-StoresRequestWord v w a j n told = ap (λ (k : Knowledge). (own_part k).published) told ∙ published-set v.parts _ refl
+HasSameCounts-with_asking : (v u w : Knowledge) (a : ℕ) (q : Asking) → u.parts ≡ v.parts → q.decides ≡ decides_on v a → w ≡ with_asking u a q
+    → HasSameCounts v w a
+HasSameCounts-with_asking v u w a q parts same told =
+    let there : decides_on u a ≡ decides_on v a = ap (λ (ps : List Part). (asking_on (get_or ps 0 no_part) a).decides) parts in
+    record {
+      published = ap (λ (k : Knowledge). (own_part k).published) told
+          ∙ (published-set u.parts (part_asking (own_part u) a q) refl ∙ ap (λ (ps : List Part). (get_or ps 0 no_part).published) parts);
+      decides = ap (λ (k : Knowledge). decides_on k a) told
+          ∙ (decides-part u.parts a (part_asking (own_part u) a q) (decides-set (own_part u).asking a q (same ∙ sym there)) ∙ there);
+    }
 
-published-Announces : (b : BookTerms) (v w : Knowledge) (a slot : ℕ) (r : Request) → Announces b v w a slot r
-    → (own_part w).published ≡ (own_part v).published
-published-Announces b v w a slot r told = ap (λ (k : Knowledge). (own_part k).published) told.same ∙ published-set v.parts _ refl
+HasSameCounts-HasLoaded : (b : BookTerms) (v w : Knowledge) (a : ℕ) → 0 < length v.parts → HasLoaded b v w → HasSameCounts v w a
+HasSameCounts-HasLoaded b v w a part loads = record {
+  published = published-HasLoaded b v w part loads;
+  decides = ap (λ (q : Asking). q.decides) (HasSameAsking-HasLoaded b v w part loads a);
+}
+
+HasSameCounts-trans : (v u w : Knowledge) (a : ℕ) → HasSameCounts v u a → HasSameCounts u w a → HasSameCounts v w a
+HasSameCounts-trans v u w a one two = record { published = two.published ∙ one.published; decides = two.decides ∙ one.decides }
+
+HasSameCounts-MakesLoadOf : (b : BookTerms) (v w : Knowledge) (a slot own : ℕ) (this next : NextRowLoad) → MakesLoadOf b v w a slot own this next
+    → HasSameCounts v w a
+HasSameCounts-MakesLoadOf b v w a slot own announced_word next (count, told, follows) =
+    HasSameCounts-with_asking v (record v { seen = w.seen; requests = v.requests ++ all_of a slot told.row }) w a
+    (with_row (asking_on (own_part v) a) slot count) refl refl told.same
+HasSameCounts-MakesLoadOf b v w a slot own (request_word number word) next (n, told, follows) =
+    let x : SeenRequest = seen_as a slot number told.request in
+    HasSameCounts-with_asking v (record v { requests = v.requests ++ x ∷ [] }) w a (with_loaded (asking_on (own_part v) a) x word) refl refl told.same
+HasSameCounts-MakesLoadOf b v w a slot own nothing next told = absurd told
+
+pub HasSameCounts-MakesNextLoad : (b : BookTerms) (c after : CollectingRowsTerms) → MakesNextLoad b c after → HasSameCounts c.mark after.mark c.account
+HasSameCounts-MakesNextLoad b c after told = HasSameCounts-MakesLoadOf b c.mark after.mark c.account c.slot c.own.slot c.next told.row_next told.load
+
+HasSameCounts-StoresRequestWord : (v w : Knowledge) (a j n : ℕ) → StoresRequestWord v w a j n → HasSameCounts v w a
+HasSameCounts-StoresRequestWord v w a j n told =
+    HasSameCounts-with_asking v v w a (with_request_word (asking_on (own_part v) a) j n) refl refl told
+
+HasSameCounts-Announces : (b : BookTerms) (v w : Knowledge) (a slot : ℕ) (r : Request) → Announces b v w a slot r → HasSameCounts v w a
+HasSameCounts-Announces b v w a slot r told =
+    let old : Asking = asking_on (own_part v) a in
+    HasSameCounts-with_asking v (record v { seen = w.seen; requests = v.requests ++ seen_as a slot (length old.announced) r ∷ [] }) w a
+    (with_request old r (rounds a w.seen) (own_part v).loads) refl refl told.same
 
 pub IsPrefix-MakesNextLoad : (b : BookTerms) (c after : CollectingRowsTerms) → MakesNextLoad b c after → IsPrefix c.mark.seen after.mark.seen
 IsPrefix-MakesNextLoad b c after told = IsPrefix-MakesLoadOf b c.mark after.mark c.account c.slot c.own.slot c.next told.row_next told.load
@@ -123,7 +167,7 @@ module _ (t : StartingTerms) (so : IsStartingSo t) where
           looked_at = looked;
           since_is = refl;
           few = few;
-          unpublished = published-HasLoaded t.start.book t.start w has.part looked.loads;
+          same = HasSameCounts-HasLoaded t.start.book t.start w t.account has.part looked.loads;
           more = IsPrefix-refl w.seen;
         };
       };
@@ -131,7 +175,7 @@ module _ (t : StartingTerms) (so : IsStartingSo t) where
 
   -- since the look ended
   module _ (looked : Knowledge) (account : ℕ) (targets : List TargetPair) (since : ℕ) (to_ask : HasLookedToAsk t looked account targets since)
-      (w : Knowledge) (unpublished : (own_part w).published ≡ (own_part t.start).published) (more : IsPrefix looked.seen w.seen) where
+      (w : Knowledge) (same : HasSameCounts t.start w account) (more : IsPrefix looked.seen w.seen) where
     -- what was counted stays so
     pub StaysCounted-HasLookedToAsk : StaysCounted t.totals t.start.book w.seen
     StaysCounted-HasLookedToAsk = StaysCounted-HasCounted t.totals t.start.book w.seen (to_ask.looked_at.counted w.seen more)
@@ -144,7 +188,7 @@ module _ (t : StartingTerms) (so : IsStartingSo t) where
           arith,
           few,
           to_ask.few,
-          unpublished,
+          same.published,
           place-IsSnapshot-le t.start.book t.start looked to_ask.front to_ask.looked_at.snapshot to_ask.looked_at.loads,
           IsPrefix-length looked.seen w.seen more,
         )
@@ -158,7 +202,7 @@ module _ (t : StartingTerms) (so : IsStartingSo t) where
       looked_at = to_ask.looked_at;
       since_is = to_ask.since_is;
       few = to_ask.few;
-      unpublished = unpublished;
+      same = same;
       more = more;
     }
 
@@ -182,11 +226,11 @@ module _ (t : StartingTerms) (so : IsStartingSo t) where
     IsPrefix-word told =
         subst (IsPrefix a.start.seen) (ap (λ (k : Knowledge). k.seen) (sym is.mark_is) ∙ sym (ap (λ (k : Knowledge). k.seen) told)) is.to_ask.more
 
-    -- and what is published
-    pub unpublished-word : StoresNextRequestWord a w → (own_part w).published ≡ (own_part t.start).published
-    unpublished-word told =
-        published-StoresRequestWord a.mark w a.account a.stored _ told
-        ∙ (ap (λ (k : Knowledge). (own_part k).published) is.mark_is ∙ is.to_ask.unpublished)
+    -- and what is published and decided
+    pub HasSameCounts-word : StoresNextRequestWord a w → HasSameCounts t.start w a.account
+    HasSameCounts-word told =
+        HasSameCounts-trans t.start a.mark w a.account (subst (λ (k : Knowledge). HasSameCounts t.start k a.account) (sym is.mark_is) is.to_ask.same)
+        (HasSameCounts-StoresRequestWord a.mark w a.account a.stored (slice_index (request_words (request_asked a)) a.stored) told)
 
     pub IsStartingSo-word : a.stored < REQUEST_WORDS → w.book ≡ t.start.book → StoresNextRequestWord a w
         → IsStartingSo (start_after t (Ask (asking_after a w)) w)
@@ -194,7 +238,7 @@ module _ (t : StartingTerms) (so : IsStartingSo t) where
         IsStartingSo-stage (Ask (asking_after a w)) w book (record {
           mark_is = refl;
           left = omega (arith, left);
-          to_ask = HasLookedToAsk-more a.start a.account a.targets a.since is.to_ask w (unpublished-word told) (IsPrefix-word told) (Ask (asking_after a w));
+          to_ask = HasLookedToAsk-more a.start a.account a.targets a.since is.to_ask w (HasSameCounts-word told) (IsPrefix-word told) (Ask (asking_after a w));
         })
 
     -- the slot is that of the seat's process still
@@ -205,10 +249,11 @@ module _ (t : StartingTerms) (so : IsStartingSo t) where
 
     -- the request is announced
     module _ (told : Announces t.start.book a.start w a.account slot_of_start (request_asked a)) where
-      pub unpublished-Announces : (own_part w).published ≡ (own_part t.start).published
-      unpublished-Announces =
-          published-Announces t.start.book a.start w a.account slot_of_start (request_asked a) told
-          ∙ published-HasLoaded t.start.book t.start a.start has.part is.to_ask.looked_at.loads
+      pub HasSameCounts-announced : HasSameCounts t.start w a.account
+      HasSameCounts-announced =
+          HasSameCounts-trans t.start a.start w a.account
+          (HasSameCounts-HasLoaded t.start.book t.start a.start a.account has.part is.to_ask.looked_at.loads)
+          (HasSameCounts-Announces t.start.book a.start w a.account slot_of_start (request_asked a) told)
 
       pub slot_in-Announces : slot_in (account_of t.start.book a.account) w.first ≡ Some slot_of_start
       slot_in-Announces = ap (slot_in (account_of t.start.book a.account)) (ap (λ (k : Knowledge). k.first) told.same) ∙ HasSlot-IsAskingThen.owner
@@ -223,7 +268,7 @@ module _ (t : StartingTerms) (so : IsStartingSo t) where
             mark_is = refl;
             left = omega (arith, HasSlot-IsStartingSo.within);
             looked = a.start;
-            to_ask = HasLookedToAsk-more a.start a.account a.targets a.since is.to_ask w unpublished-Announces told.more stage;
+            to_ask = HasLookedToAsk-more a.start a.account a.targets a.since is.to_ask w HasSameCounts-announced told.more stage;
             number = counted;
             announced = told;
             nothing_loaded = nothing_loaded;
@@ -234,22 +279,23 @@ module _ (t : StartingTerms) (so : IsStartingSo t) where
     more-rows : IsPrefix c.mark.seen w.seen → IsPrefix is.looked.seen w.seen
     more-rows more = IsPrefix-trans is.looked.seen c.mark.seen w.seen (subst (λ (k : Knowledge). IsPrefix is.looked.seen k.seen) (sym is.mark_is) is.to_ask.more) more
 
-    -- nothing is published meanwhile
-    unpublished-rows : (own_part w).published ≡ (own_part c.mark).published → (own_part w).published ≡ (own_part t.start).published
-    unpublished-rows same = same ∙ (ap (λ (k : Knowledge). (own_part k).published) is.mark_is ∙ is.to_ask.unpublished)
+    -- nothing is published and decided meanwhile
+    pub HasSameCounts-rows : HasSameCounts c.mark w c.account → HasSameCounts t.start w c.account
+    HasSameCounts-rows same =
+        HasSameCounts-trans t.start c.mark w c.account (subst (λ (k : Knowledge). HasSameCounts t.start k c.account) (sym is.mark_is) is.to_ask.same) same
 
-    pub StaysCounted-IsCollectingThen : (own_part w).published ≡ (own_part c.mark).published → IsPrefix c.mark.seen w.seen
+    pub StaysCounted-IsCollectingThen : HasSameCounts c.mark w c.account → IsPrefix c.mark.seen w.seen
         → StaysCounted t.totals t.start.book w.seen
     StaysCounted-IsCollectingThen same more =
-        StaysCounted-HasLookedToAsk is.looked c.account c.own.targets c.own.since is.to_ask w (unpublished-rows same) (more-rows more)
+        StaysCounted-HasLookedToAsk is.looked c.account c.own.targets c.own.since is.to_ask w (HasSameCounts-rows same) (more-rows more)
 
-    pub IsStartWithin-IsCollectingThen : (stage : StartStage) → (own_part w).published ≡ (own_part c.mark).published → IsPrefix c.mark.seen w.seen
+    pub IsStartWithin-IsCollectingThen : (stage : StartStage) → HasSameCounts c.mark w c.account → IsPrefix c.mark.seen w.seen
         → start_turns_in t.looked stage ≤ t.looked + asking_steps_of t.start.book t
         → IsStartWithin t.start.book (start_after t stage w) (newly_seen t.start w t.was.upto)
     IsStartWithin-IsCollectingThen stage same more few =
-        IsStartWithin-HasLookedToAsk is.looked c.account c.own.targets c.own.since is.to_ask w (unpublished-rows same) (more-rows more) stage few
+        IsStartWithin-HasLookedToAsk is.looked c.account c.own.targets c.own.since is.to_ask w (HasSameCounts-rows same) (more-rows more) stage few
 
-    pub IsStartingSo-rows : (slot : ℕ) (next : NextRowLoad) → w.book ≡ t.start.book → (own_part w).published ≡ (own_part c.mark).published
+    pub IsStartingSo-rows : (slot : ℕ) (next : NextRowLoad) → w.book ≡ t.start.book → HasSameCounts c.mark w c.account
         → IsPrefix c.mark.seen w.seen
         → c.made + 1 ≤ slots_of (account_of t.start.book c.account) + REQUEST_WORDS * (slots_of (account_of t.start.book c.account) - 1)
         → IsStartingSo (start_after t (Collect (rows_after c w slot next)) w)
@@ -259,7 +305,7 @@ module _ (t : StartingTerms) (so : IsStartingSo t) where
           mark_is = refl;
           left = omega (arith, most, HasSlot-IsStartingSo.within, ap (λ n. slots_of (account_of t.start.book n)) is.to_ask.account_is);
           looked = is.looked;
-          to_ask = HasLookedToAsk-more is.looked c.account c.own.targets c.own.since is.to_ask w (unpublished-rows same) (more-rows more) stage;
+          to_ask = HasLookedToAsk-more is.looked c.account c.own.targets c.own.since is.to_ask w (HasSameCounts-rows same) (more-rows more) stage;
           number = is.number;
           announced = is.announced;
           nothing_loaded = is.nothing_loaded;

@@ -2,24 +2,26 @@
 use Rattle.std.proofs.Common.{◌≡◌, ◌≢◌, ℕ, ◌+◌, ◌-◌, ◌<◌, ◌≤◌, ◌↔◌, IfSome, IsSome, Option, None, length, false, true, refl, sym, ap, subst, ◌∙◌, arith}
 use Rattle.at_ledger.specs.Book.{BookTerms}
 use Rattle.at_history.specs.Publications.{IsPrefix}
-use Rattle.at_board.specs.Knowledge.Parts.{own_part}
 use Rattle.at_board.specs.Knowledge.Seats.{SeatTerms}
+use Rattle.at_board.specs.declared.knowledge.Asking.{Asking}
 use Rattle.at_board.specs.declared.knowledge.Knowledge.{Knowledge}
 use Rattle.at_board.specs.declared.words.TheConstants.{REQUEST_WORDS}
 use Rattle.at_fold.specs.HasCounted.{StaysCounted}
 use Rattle.at_fold.specs.Sums.{TotalSums}
 use Rattle.at_shared.specs.HelpingTerms.{HelpingTerms}
+use Rattle.at_shared.specs.Helpings.{decides_on}
 use Rattle.at_machines.specs.Asking.{AskingTerms}
 use Rattle.at_machines.specs.CollectingRows.{CollectingRowsTerms}
 use Rattle.at_machines.specs.LoadingRow.{NextRowLoad}
 use Rattle.at_machines.specs.LoadingRow.NextRowLoad.{announced_word, request_word, nothing}
 use Rattle.at_machines.specs.Looking.{IsWithin, LookingTerms, MakesLookLoad}
-use Rattle.at_calling.proofs.StartingLaws.{HasSlot-IsStartingSo, IsStartWithin-HasLookedToAsk, IsStartWithin-IsCollectingThen, StaysCounted-HasLookedToAsk, StaysCounted-IsCollectingThen, start_after, start_after_look}
+use Rattle.at_calling.proofs.PayingAloneLaws.{HasSameAsking-HasLoaded}
+use Rattle.at_calling.proofs.StartingLaws.{HasSameCounts-rows, HasSlot-IsStartingSo, IsStartWithin-HasLookedToAsk, IsStartWithin-IsCollectingThen, StaysCounted-HasLookedToAsk, StaysCounted-IsCollectingThen, start_after, start_after_look}
 use Rattle.at_calling.specs.KeptStarting.{IsAskingThen, IsCollectingThen, IsLookingToAsk, IsStartStageSo, IsStartingSo, TakesStartTurn}
 use Rattle.at_single.proofs.Laws.Looks.{published-HasLoaded}
 use Rattle.at_snapshot.specs.Collected.{HasLoaded}
 use Rattle.at_calling.specs.Reading.{LeavesTotals, newly_seen}
-use Rattle.at_calling.specs.Starting.{IsStartOf, IsStartWithin, MakesStartStep, StartingTerms, asking_steps_of, start_turns_after, start_turns_in, unless_ended}
+use Rattle.at_calling.specs.Starting.{HasSameCounts, IsStartOf, IsStartWithin, MakesStartStep, StartingTerms, asking_steps_of, start_turns_after, start_turns_in, unless_ended}
 use Rattle.at_calling.specs.declared.start_stage.StartStage.{StartStage}
 use Rattle.at_calling.specs.declared.start_stage.StartStage.TheVariants.{Ask, Collect, Look}
 
@@ -78,12 +80,13 @@ module _ (b : BookTerms) (t : StartingTerms) (so : IsStartingSo t) (book : t.sta
       left = subst (λ (k : StartStage). start_turns_after most stage < start_turns_after most k) (sym is) left;
       so_far = within stage same;
       ends = (λ has. let wrong : false ≡ true = has in absurd (cc wrong), λ none. absurd (omega (arith, some, none)));
+      undecided = ap (λ (q : Asking). q.decides) (HasSameAsking-HasLoaded b t.start after.knows (omega (arith, so.kept.one_part)) loads_on t.account);
       starts = tt;
       leaves = tt;
     }
 
   -- a store of the request, or its announcement
-  module _ (a : AskingTerms) (is : t.stage ≡ Ask a) (same_count : (own_part after.knows).published ≡ (own_part t.start).published)
+  module _ (a : AskingTerms) (is : t.stage ≡ Ask a) (same_counts : HasSameCounts t.start after.knows a.account)
       (more : IsPrefix a.start.seen after.knows.seen) where
     asks : IsAskingThen t a
     asks = subst (IsStartStageSo t) is so.stage_so
@@ -102,19 +105,20 @@ module _ (b : BookTerms) (t : StartingTerms) (so : IsStartingSo t) (book : t.sta
       turns = same ∙ ap (λ n. n + 1) (sym (ap (start_turns_in t.looked) is));
       step = subst (λ (k : StartStage). MakesStartStep b k before after t.totals) (sym is) step;
       counted = subst (λ (k : BookTerms). StaysCounted t.totals k after.knows.seen) book
-          (StaysCounted-HasLookedToAsk t so a.start a.account a.targets a.since asks.to_ask after.knows same_count more);
+          (StaysCounted-HasLookedToAsk t so a.start a.account a.targets a.since asks.to_ask after.knows same_counts more);
       left = subst (λ (k : StartStage). start_turns_after most stage < start_turns_after most k) (sym is) left;
       so_far = subst (λ (k : BookTerms). IsStartWithin k (start_after t stage after.knows) (newly_seen t.start after.knows t.was.upto)) book
-          (IsStartWithin-HasLookedToAsk t so a.start a.account a.targets a.since asks.to_ask after.knows same_count more stage
+          (IsStartWithin-HasLookedToAsk t so a.start a.account a.targets a.since asks.to_ask after.knows same_counts more stage
           (omega (arith, same, asks.left, (HasSlot-IsStartingSo t so).within)));
       ends = (λ has. let wrong : false ≡ true = has in absurd (cc wrong), λ none. absurd (omega (arith, some, none)));
+      undecided = subst (λ n. decides_on after.knows n ≡ decides_on t.start n) asks.to_ask.account_is same_counts.decides;
       starts = tt;
       leaves = tt;
     }
 
   -- a load of the rows
   module _ (c next : CollectingRowsTerms) (is : t.stage ≡ Collect c) (goes : c.next ≢ nothing) (made : next.made ≡ c.made + 1)
-      (same_count : (own_part after.knows).published ≡ (own_part c.mark).published) (more : IsPrefix c.mark.seen after.knows.seen) (few : REQUEST_WORDS + next.made < asking_steps_of t.start.book t) where
+      (same_counts : HasSameCounts c.mark after.knows c.account) (more : IsPrefix c.mark.seen after.knows.seen) (few : REQUEST_WORDS + next.made < asking_steps_of t.start.book t) where
     collects : IsCollectingThen t c
     collects = subst (IsStartStageSo t) is so.stage_so
 
@@ -147,14 +151,16 @@ module _ (b : BookTerms) (t : StartingTerms) (so : IsStartingSo t) (book : t.sta
       totals_are = refl;
       turns = omega (arith, made, ap (start_turns_in t.looked) is);
       step = subst (λ (k : StartStage). MakesStartStep b k before after t.totals) (sym is) step;
-      counted = subst (λ (k : BookTerms). StaysCounted t.totals k after.knows.seen) book (StaysCounted-IsCollectingThen t so c collects after.knows same_count more);
+      counted = subst (λ (k : BookTerms). StaysCounted t.totals k after.knows.seen) book (StaysCounted-IsCollectingThen t so c collects after.knows same_counts more);
       left = subst (λ (k : StartStage). start_turns_after most (Collect next) < start_turns_after most k) (sym is) less;
       so_far = subst (λ (k : BookTerms). IsStartWithin k (start_after t (Collect next) after.knows) (newly_seen t.start after.knows t.was.upto)) book
-          (IsStartWithin-IsCollectingThen t so c collects after.knows (Collect next) same_count more (omega (arith, few)));
+          (IsStartWithin-IsCollectingThen t so c collects after.knows (Collect next) same_counts more (omega (arith, few)));
       ends = (
         λ some. ap (unless_ended left_at_most) (ends.0 some),
         λ none. ends.1 (unless_ended-none left_at_most next.next (omega (arith, few_on)) none),
       );
+      undecided = subst (λ n. decides_on after.knows n ≡ decides_on t.start n) collects.to_ask.account_is
+          (HasSameCounts-rows t so c collects after.knows same_counts).decides;
       starts = starts;
       leaves = leaves;
     }

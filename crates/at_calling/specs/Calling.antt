@@ -122,10 +122,10 @@ MakesCallStep b (PayAlone p) before after now = MakesPayStep b p.stage before af
 MakesCallStep b (PayShared p) before after now = MakesShareStep b p.stage before after now
 
 -- so many steps and exchanges are within the bounds of a call of this pass so far, with this known. The records that were seen anew are
--- those of others: what the call itself has published took no load. The exchanges are among those that were decided on the account that
--- the call names first, at most one for each owner, and there are none where the call may make none
+-- those of others: what the call itself has published took no load. The exchanges are those that were decided on the account that the call
+-- names first, at most one for each owner, and there are none where the call may make none
 pub record IsCallWithin (b : BookTerms) (before : PassTerms) (call : Call) (after : Knowledge) (steps exchanges : ℕ) : Type 0 where
   pub few : steps ≤ call_steps b call + RECORD_WORDS * newly_seen before.knows after before.counted
-  pub decided : exchanges ≤ decides_made (first_account call) before.knows after
+  pub decided : exchanges ≡ decides_made (first_account call) before.knows after
   pub none : may_exchange b call ≡ false → exchanges ≡ 0
   pub few_decided : exchanges ≤ slots_of (account_of b (first_account call))

@@ -16,13 +16,13 @@ use Rattle.at_fold.specs.Sums.{TotalSums}
 use Rattle.at_rows.specs.Asks.{HasLoadedNothing}
 use Rattle.at_rows.specs.OpenRequests.{request_of}
 use Rattle.at_shared.specs.HelpingTerms.{HelpingTerms}
-use Rattle.at_shared.specs.Helpings.{HasAllSettled}
+use Rattle.at_shared.specs.Helpings.{HasAllSettled, decides_on}
 use Rattle.at_single.specs.Looks.{HasLooked}
 use Rattle.at_machines.specs.Asking.{AskingTerms}
 use Rattle.at_machines.specs.CollectingRows.{CollectingRowsTerms}
 use Rattle.at_machines.specs.Looking.{IsWithin, LookingTerms, look_turns_left}
 use Rattle.at_calling.specs.Reading.{LeavesTotals, newly_seen}
-use Rattle.at_calling.specs.Starting.{IsStartOf, IsStartWithin, MakesStartStep, StartingTerms, asking_steps_of, start_turns_left, start_turns_made}
+use Rattle.at_calling.specs.Starting.{HasSameCounts, IsStartOf, IsStartWithin, MakesStartStep, StartingTerms, asking_steps_of, start_turns_left, start_turns_made}
 use Rattle.at_calling.specs.declared.start_stage.StartStage.{StartStage}
 use Rattle.at_calling.specs.declared.start_stage.StartStage.TheVariants.{Ask, Collect, Look}
 
@@ -34,7 +34,8 @@ pub record IsLookingToAsk (t : StartingTerms) (l : LookingTerms) : Type 0 where
   pub totals_are : l.totals ≡ t.totals
   pub left : 0 < look_turns_left l.stage
 
--- the look has ended at this moment, and the request has the targets and the place of its front. Nothing was published
+-- the look has ended at this moment, and the request has the targets and the place of its front. Nothing was published, and
+-- nothing decided
 pub record HasLookedToAsk (t : StartingTerms) (looked : Knowledge) (account : ℕ) (targets : List TargetPair) (since : ℕ) : Type 0 where
   pub account_is : account ≡ t.account
   pub targets_are : targets ≡ t.targets
@@ -42,7 +43,7 @@ pub record HasLookedToAsk (t : StartingTerms) (looked : Knowledge) (account : �
   pub looked_at : HasLooked t.start.book t.start looked t.was t.totals front
   pub since_is : since ≡ place front
   pub few : IsWithin t.start.book.processes t.was (sum front) t.looked
-  pub unpublished : (own_part t.mark).published ≡ (own_part t.start).published
+  pub same : HasSameCounts t.start t.mark account
   pub more : IsPrefix looked.seen t.mark.seen
 
 -- the request is stored
@@ -91,5 +92,6 @@ pub record TakesStartTurn (b : BookTerms) (t u : StartingTerms) (before after : 
   pub left : start_turns_left b u < start_turns_left b t
   pub so_far : IsStartWithin b u (newly_seen t.start after.knows t.was.upto)
   pub ends : IsSome answer ↔ (start_turns_left b u ≡ 0)
+  pub undecided : decides_on after.knows t.account ≡ decides_on t.start t.account
   pub starts : IfSome answer (IsStartOf b t.start after.knows t.account t.targets)
   pub leaves : IfSome answer (λ h. LeavesTotals b t.start after.knows t.was now (asking_steps_of b t) (start_turns_made u))

@@ -66,6 +66,11 @@ start_turns_left b t = start_turns_after (asking_steps_of b t) t.stage
 abbrev pub IsStartWithin : BookTerms → StartingTerms → ℕ → Type 0
 IsStartWithin b t records = start_turns_made t ≤ snapshot_steps b.processes + asking_steps_of b t + RECORD_WORDS * records
 
+-- nothing was published meanwhile, and nothing decided on the account
+pub record HasSameCounts (before after : Knowledge) (a : ℕ) : Type 0 where
+  pub published : (own_part after).published ≡ (own_part before).published
+  pub decides : decides_on after a ≡ decides_on before a
+
 -- just the load of a row was made that came next
 abbrev pub MakesRowsLoad : BookTerms → CollectingRowsTerms → Knowledge → Type 0
 MakesRowsLoad b c v = (slot : ℕ) × (next : NextRowLoad) × MakesNextLoad b c (rows_after c v slot next)

@@ -10,7 +10,7 @@ ghost use Rattle.at_ledger.specs.Account.{slots_of};
 ghost use Rattle.at_ledger.specs.Book.{account_of};
 ghost use Rattle.at_ledger.specs.Call.{AreTargetsOn};
 ghost use Rattle.at_shared.specs.HelpingTerms.{HelpingTerms};
-ghost use Rattle.at_shared.specs.Helpings.{HasAllSettled};
+ghost use Rattle.at_shared.specs.Helpings.{HasAllSettled, decides_made};
 ghost use Rattle.at_shared.specs.PaymentTurns.{SettlesInTurns};
 ghost use Rattle.at_calling.specs.KeptPayingShared.{TakesShareTurn};
 ghost use Rattle.at_calling.specs.PayingShared.{AnswersInRound, DecidesFew, IsShareWithin, MakesShareStep, settling_steps, share_exchanges_at, share_exchanges_made, share_turns_left};
@@ -160,6 +160,8 @@ impl PayingShared {
         // Over all turns the exchanges are those that were decided.
         ensures decides { share_exchanges_made self.new
             ≡ share_exchanges_made self.old + share_exchanges_at self.old.stage }
+        ensures decided { share_exchanges_made self.new
+            ≡ decides_made self.old.account self.old.start seat.new.knows }
         // At every turn there is at most one for each owner.
         ensures exchanges_few { share_exchanges_made self.new
             ≤ slots_of (account_of board.now.book self.old.account) }

@@ -12,7 +12,7 @@ ghost use Rattle.at_machines.specs.Asking.{AskingTerms, starting_to_ask};
 ghost use Rattle.at_machines.specs.CollectingRows.{CollectingRowsTerms};
 ghost use Rattle.at_machines.specs.Looking.{LookingTerms};
 ghost use Rattle.at_rows.specs.Asks.{MayAskFor, asked_for};
-ghost use Rattle.at_shared.specs.Helpings.{HasAllSettled};
+ghost use Rattle.at_shared.specs.Helpings.{HasAllSettled, decides_on};
 ghost use Rattle.at_calling.specs.KeptStarting.{TakesStartTurn};
 ghost use Rattle.at_calling.specs.Reading.{LeavesTotals, newly_seen};
 ghost use Rattle.at_calling.specs.Starting.{IsStartOf, IsStartWithin, MakesStartStep, asking_steps_of, start_turns_left, start_turns_made};
@@ -138,6 +138,8 @@ impl Starting {
         ensures so_far { IsStartWithin board.now.book self.new
             (newly_seen self.old.start seat.new.knows self.old.was.upto) }
         ensures ends { IsSome result ↔ (start_turns_left board.now.book self.new ≡ 0) }
+        ensures undecided { decides_on seat.new.knows self.old.account
+            ≡ decides_on self.old.start self.old.account }
         ensures answer { IfSome result (IsStartOf board.now.book self.old.start seat.new.knows
             self.old.account self.old.targets) }
         ensures leaves { IfSome result (λ h. LeavesTotals board.now.book self.old.start

@@ -68,7 +68,7 @@ turned c mark mark_is now totals_are rest rest_is answer ends leaves calls =
     (TakesCallTurn-stages b t c.args.seat.now after mark mark_is now rest rest_is (PayAlone p) next (stage_is c) answer told.turns
     (subst (λ (s : TotalSums). MakesCallStep b (PayAlone p) c.args.seat.now after s) (sym totals_are) told.step) told.left
     (few-alone c.args.board.now t (so first) c.args.seat.now c.requires.mark c.requires.board after told.board p (stage_is c) (left c)
-    (turns_made c.turn-paid.new.self) told.so_far) ends (runs c) refl leaves calls (steps c) (exchanges c))
+    (turns_made c.turn-paid.new.self) told.so_far told.asks) ends (runs c) refl leaves calls (steps c) (exchanges c))
 
 pub returns-in_err-answer-clause-turned : goal.returns-in_err-answer-clause-turned
 returns-in_err-answer-clause-turned c =

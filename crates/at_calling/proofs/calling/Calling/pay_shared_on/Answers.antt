@@ -3,19 +3,17 @@ use Rattle.at_ledger.specs.Book.{BookTerms}
 use Rattle.at_history.specs.Moves.{AreRuns}
 use Rattle.at_board.specs.Counting.{raised}
 use Rattle.at_board.specs.Knowledge.Seats.{SeatTerms}
-use Rattle.at_board.specs.declared.knowledge.Knowledge.{Knowledge}
 use Rattle.at_fold.specs.Sums.{TotalSums}
 use Rattle.at_log.specs.Receipts.{payout_of}
 use Rattle.at_log.specs.declared.receipt.Receipt.{Receipt}
 use Rattle.at_object.specs.declared.parts.Rest.{Rest}
-use Rattle.at_shared.specs.Helpings.{decides_made}
 use Rattle.at_calling.specs.Calling.{CallingTerms, MakesCallStep, call_turns_left, exchanges_made, steps_made, with_one_call}
 use Rattle.at_calling.specs.KeptCalling.{IsCallingSo, TakesCallTurn}
 use Rattle.at_calling.specs.PayingShared.{PayingSharedTerms, share_exchanges_made, share_turns_left, share_turns_most}
 use Rattle.at_calling.specs.Reading.{newly_seen}
 use Rattle.at_calling.specs.declared.call_stage.CallStage.{CallStage}
 use Rattle.at_calling.specs.declared.call_stage.CallStage.TheVariants.{PayShared}
-use Rattle.at_calling.proofs.CallingTurns.{Leaves, TakesCallTurn-stages, calling_next, IsCallingSo-shared, Leaves-shared, few-shared, share_exchanges_made-ended, share_exchanges_made-le, still-shared, way-shared}
+use Rattle.at_calling.proofs.CallingTurns.{Leaves, TakesCallTurn-stages, calling_next, IsCallingSo-shared, Leaves-shared, few-shared, still-shared, way-shared}
 use Rattle.at_calling.proofs.calling.Calling.pay_shared_on.Goals.{After-known, After-count_one, After-self}
 use Rattle.at_calling.proofs.calling.Calling.pay_shared_on.Goals as goal
 
@@ -40,22 +38,6 @@ few c =
     let p : PayingSharedTerms = c.in-PayShared.paying in
     let records : ℕ = newly_seen p.start c.turn-paid.new.seat.knows p.was.upto in
     omega (arith, told.so_far, ap (λ (a : ℕ). share_turns_most c.args.board.now.book a records) told.account)
-
--- the exchanges so far were decided
-decided_so_far : (c : After-known) → share_exchanges_made c.turn-paid.new.self
-    ≤ decides_made c.in-PayShared.paying.account c.in-PayShared.paying.start c.turn-paid.new.seat.knows
-decided_so_far c =
-    let told = c.turn-paid.ensures in
-    let p : PayingSharedTerms = c.in-PayShared.paying in
-    let q : PayingSharedTerms = c.turn-paid.new.self in
-    let w : Knowledge = c.turn-paid.new.seat.knows in
-    omega (
-      arith,
-      share_exchanges_made-le q,
-      ap (λ (v : Knowledge). decides_made q.account q.start v) told.mark,
-      ap (λ (v : Knowledge). decides_made q.account v w) told.start,
-      ap (λ (a : ℕ). decides_made a p.start w) told.account,
-    )
 
 -- the seat has counted all steps and exchanges of the call
 steps : (c : After-known) → c.turn-paid.new.seat.steps ≡ raised c.args.self.now.start.steps (c.turn-paid.new.self.turns)
@@ -95,7 +77,7 @@ turned c mark mark_is now totals_are rest rest_is answer ends leaves calls =
     (TakesCallTurn-stages b t c.args.seat.now after mark mark_is now rest rest_is (PayShared p) next (stage_is c) answer told.turns
     (subst (λ (s : TotalSums). MakesCallStep b (PayShared p) c.args.seat.now after s) (sym totals_are) told.step) told.left
     (few-shared c.args.board.now t (so first) c.args.seat.now c.requires.mark c.requires.board after told.board p (stage_is c) (left c)
-    c.turn-paid.new.self.turns (share_exchanges_made c.turn-paid.new.self) (few c) (decided_so_far c) told.exchanges_few) ends (runs c) told.decides leaves calls (steps c) (exchanges c))
+    c.turn-paid.new.self.turns (share_exchanges_made c.turn-paid.new.self) (few c) told.decided told.exchanges_few) ends (runs c) told.decides leaves calls (steps c) (exchanges c))
 
 pub returns-in_err-answer-clause-turned : goal.returns-in_err-answer-clause-turned
 returns-in_err-answer-clause-turned c =
@@ -114,17 +96,6 @@ returns-in_err-answer-clause-turned c =
       λ some. let wrong : false ≡ true = some in absurd (cc wrong),
       λ none. let wrong : false ≡ true = c.in_err-answer.ensures.ends.1 none in absurd (cc wrong),
     ) tt tt)
-
-decided : (c : After-count_one)
-    → share_exchanges_made c.turn-paid.new.self ≡ decides_made c.in-PayShared.paying.account c.in-PayShared.paying.start c.turn-paid.new.seat.knows
-decided c =
-    let told = c.turn-paid.ensures in
-    let p : PayingSharedTerms = c.in-PayShared.paying in
-    let q : PayingSharedTerms = c.turn-paid.new.self in
-    let w : Knowledge = c.turn-paid.new.seat.knows in
-    share_exchanges_made-ended c.args.board.now.book q (newly_seen p.start w p.was.upto) told.so_far (omega (arith, c.known.ensures.seat.history.few)) (c.in_ok-answer.ensures.ends.0 refl)
-    ∙ (ap (λ (v : Knowledge). decides_made q.account q.start v) told.mark
-    ∙ (ap (λ (v : Knowledge). decides_made q.account v w) told.start ∙ ap (λ (a : ℕ). decides_made a p.start w) told.account))
 
 -- the receipt of the call
 abbrev receipt : After-count_one → Receipt
@@ -157,8 +128,29 @@ leaves c =
     let told = c.in_ok-answer.ensures in
     Leaves-shared c.args.board.now c.args.self.now (so first) c.args.seat.now c.requires.mark c.requires.board c.turn-paid.new.seat c.turn-paid.ensures.board
     c.in-PayShared.paying (stage_is known) (left known) (rest_after c) c.turn-paid.new.self.turns
-    (share_exchanges_made c.turn-paid.new.self) (receipt c) c.known.ensures.seat (told.answer c.args.self.now.call (way c)) told.leaves told.counted told.few (decided c)
+    (share_exchanges_made c.turn-paid.new.self) (receipt c) c.known.ensures.seat (told.answer c.args.self.now.call (way c)) told.leaves told.counted told.few c.turn-paid.ensures.decided
     (ap (λ (q : Rest). q.sent) c.requires.rest) (calls_after c)
+
+-- the call goes on
+pub invariant_of-self : goal.invariant_of-self
+invariant_of-self c =
+    let known = (goal.at.invariant_of-self c).After-known in
+    let first = (goal.at.After-known known).After-self in
+    let t : CallingTerms = c.args.self.now in
+    let q : PayingSharedTerms = c.turn-paid.new.self in
+    let told = c.turn-paid.ensures in
+    let rest : Rest = c.of-2.result.value in
+    let next : IsCallingSo (calling_next t (PayShared q) c.turn-paid.new.seat rest) =
+    IsCallingSo-shared c.args.board.now t (so first) c.args.seat.now c.requires.mark c.requires.board c.turn-paid.new.seat told.board c.in-PayShared.paying
+    (stage_is known) (left known) q rest told.account told.targets told.start told.mark told.was
+    (λ more. (
+      told.totals ∙ sym (ap (λ (x : Rest). x.totals) c.of-2.ensures),
+      ap (λ (x : Rest). x.sent) c.of-2.ensures ∙ ap (λ (x : Rest). x.sent) c.requires.rest,
+      ap (λ (x : Rest). x.calls) c.of-2.ensures ∙ ap (λ (x : Rest). x.calls) c.requires.rest,
+    ))
+    (steps known) (exchanges known) in
+    subst (λ (s : CallingTerms). IsCallingSo (calling_next s (PayShared q) c.of.result.value rest)) (sym c.self.view_is)
+    (subst (λ (m : SeatTerms). IsCallingSo (calling_next t (PayShared q) m rest)) (sym c.of.ensures) next)
 
 -- the call is answered
 pub invariant_of-self-2 : goal.invariant_of-self-2

@@ -241,6 +241,7 @@ goes_on c mark mark_is totals totals_are u =
     subst (λ (x : PayingSharedTerms). TakesShareTurn b x (share_next t stage mark.knows totals) before after now None) c.self.view_is
     (TakesShareTurn-on b t before after now mark.knows (ap (λ (m : SeatTerms). m.knows) mark_is) totals totals_are (some at) (step at) (within at)
     stage (λ n. refl) (within_all c) (ap (λ (m : SeatTerms). decides_made t.account t.start m.knows) mark_is ∙ made at)
+    (ap (λ (m : SeatTerms). decides_made t.account t.start m.knows) mark_is)
     (omega (arith, few_exchanges at, ap (λ (m : SeatTerms). decides_made t.account t.start m.knows) mark_is)))
 
 pub returns-in_err-answer-clause-turned : goal.returns-in_err-answer-clause-turned

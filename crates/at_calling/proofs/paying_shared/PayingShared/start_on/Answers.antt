@@ -11,7 +11,7 @@ use Rattle.at_board.specs.declared.knowledge.Knowledge.{Knowledge}
 use Rattle.at_fold.specs.HasCounted.{HasCounted}
 use Rattle.at_fold.specs.Sums.{TotalSums}
 use Rattle.at_shared.specs.HelpingTerms.{HelpingTerms}
-use Rattle.at_shared.specs.Helpings.{decides_made}
+use Rattle.at_shared.specs.Helpings.{decides_made, decides_on}
 use Rattle.at_shared.specs.Settling.{asking_steps}
 use Rattle.at_calling.proofs.PayingSharedLaws.{decides_made-IsStartOf, HasCountedSo-start, HasHelped-start, IsHelpingThen-begun}
 use Rattle.at_calling.proofs.PayingSharedTurns.{share_next, TakesShareTurn-on}
@@ -124,6 +124,17 @@ within c =
     (subst (λ n. start_turns_made s ≤ most n (newly_seen old.start w old.was.upto)) (told.account ∙ so.account_is) told.so_far)) in
     omega (arith, so_far, so.turns_are, told.turns)
 
+-- nothing is decided
+none_decided : (c : After-turn-started) → decides_made c.self.inside.account c.self.inside.start.value.knows c.turn-started.new.seat.knows ≡ 0
+none_decided c =
+    let w : Knowledge = c.turn-started.new.seat.knows in
+    let so = starts c in
+    let same = c.turn-started.ensures.undecided in
+    let here : decides_on w c.self.inside.account ≡ decides_on c.self.inside.start.value.knows c.self.inside.account =
+    subst (λ n. decides_on w n ≡ decides_on c.self.inside.start.value.knows n) so.account_is
+    (subst (λ (v : Knowledge). decides_on w c.in-Start.starting.account ≡ decides_on v c.in-Start.starting.account) so.start_is same) in
+    omega (arith, here)
+
 -- what the turn leaves, with whichever stage next
 turned : (c : After-known) (mark : SeatTerms) → mark ≡ c.turn-started.new.seat → (totals : TotalSums) → totals ≡ c.turn-started.new.totals
     → (stage : ShareStage) → ((n : ℕ) → unless_settled n stage ≡ n)
@@ -144,7 +155,7 @@ turned c mark mark_is totals totals_are stage goes decides =
     (subst (λ (k : ShareStage). MakesShareStep b k before after now) (sym c.in-Start.is) c.turn-started.ensures.step) few stage goes
     (omega (arith, few, c.known.ensures.seat.history.few))
     (omega (arith, decides, ap (unless_starting (decides_made t.account t.start t.mark)) c.in-Start.is, ap share_exchanges_at c.in-Start.is))
-    (omega (arith, decides)))
+    (omega (arith, decides, none_decided at)) (omega (arith, decides)))
 
 pub returns-in_err-helping-clause-turned : goal.returns-in_err-helping-clause-turned
 returns-in_err-helping-clause-turned c =

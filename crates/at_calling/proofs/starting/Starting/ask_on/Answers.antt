@@ -2,7 +2,6 @@ use Rattle.std.proofs.Common.{None, ◌≡◌, ℕ, ◌+◌, ◌<◌, ◌≤◌,
 use Rattle.at_ledger.specs.Account.{slot_in, slots_of}
 use Rattle.at_ledger.specs.Book.{BookTerms, HasSlot, account_of}
 use Rattle.at_history.specs.Publications.{IsPrefix}
-use Rattle.at_board.specs.Knowledge.Parts.{own_part}
 use Rattle.at_board.specs.Knowledge.Seats.{SeatTerms}
 use Rattle.at_board.specs.Steps.Announce.{Announces}
 use Rattle.at_board.specs.declared.knowledge.Knowledge.{Knowledge}
@@ -10,12 +9,12 @@ use Rattle.at_board.specs.declared.words.TheConstants.{REQUEST_WORDS}
 use Rattle.at_rows.specs.Asks.{HasAsked, opened}
 use Rattle.at_rows.specs.declared.open_request.OpenRequest.{OpenRequest}
 use Rattle.at_shared.proofs.Laws.Starting.{same_some}
-use Rattle.at_calling.proofs.StartingLaws.{HasSlot-IsAskingThen, HasSlot-IsStartingSo, IsPrefix-word, IsStartingSo-collect, IsStartingSo-word, slot_in-Announces, slot_of_start, start_after, unpublished-Announces, unpublished-word}
+use Rattle.at_calling.proofs.StartingLaws.{HasSlot-IsAskingThen, HasSlot-IsStartingSo, IsPrefix-word, IsStartingSo-collect, IsStartingSo-word, slot_in-Announces, slot_of_start, start_after, HasSameCounts-announced, HasSameCounts-word}
 use Rattle.at_calling.proofs.StartingSteps.{TakesStartTurn-ask}
 use Rattle.at_machines.specs.Asking.{AskingTerms, asking_after, request_asked}
 use Rattle.at_machines.specs.CollectingRows.{CollectingRowsTerms, starting_rows}
 use Rattle.at_calling.specs.KeptStarting.{IsAskingThen, IsStartStageSo, IsStartingSo, TakesStartTurn}
-use Rattle.at_calling.specs.Starting.{MakesStartStep, StartingTerms, asking_steps_of, start_turns_after, start_turns_in}
+use Rattle.at_calling.specs.Starting.{HasSameCounts, MakesStartStep, StartingTerms, asking_steps_of, start_turns_after, start_turns_in}
 use Rattle.at_calling.specs.contracts.starting.Starting.{the_view}
 use Rattle.at_calling.specs.declared.start_stage.StartStage.{StartStage}
 use Rattle.at_calling.specs.declared.start_stage.StartStage.TheVariants.{Ask, Collect}
@@ -156,7 +155,7 @@ some_slot c =
 
 -- what the turn leaves, with whichever stage next
 turned : (c : After-turn-announced) (mark : SeatTerms) → mark ≡ c.turn-announced.new.seat
-    → (own_part c.turn-announced.new.seat.knows).published ≡ (own_part c.self.inside.start.value.knows).published
+    → HasSameCounts c.self.inside.start.value.knows c.turn-announced.new.seat.knows c.in-Ask.asking.account
     → IsPrefix c.in-Ask.asking.start.seen c.turn-announced.new.seat.knows.seen → (stage : StartStage)
     → start_turns_in c.self.inside.looked stage ≡ c.self.inside.looked + c.in-Ask.asking.stored + 1
     → MakesStartStep c.args.board.now.book (Ask c.in-Ask.asking) c.args.seat.now c.turn-announced.new.seat c.self.inside.totals.value
@@ -165,13 +164,13 @@ turned : (c : After-turn-announced) (mark : SeatTerms) → mark ≡ c.turn-annou
     < start_turns_after (asking_steps_of c.args.board.now.book (the_view c.self.inside)) (Ask c.in-Ask.asking)
     → TakesStartTurn c.args.board.now.book c.args.self.now (start_after (the_view c.self.inside) stage mark.knows) c.args.seat.now
     c.turn-announced.new.seat c.args.self.now.totals None
-turned c mark mark_is same_count more stage same step some left =
+turned c mark mark_is same_counts more stage same step some left =
     let b : BookTerms = c.args.board.now.book in
     let t : StartingTerms = the_view c.self.inside in
     let after : SeatTerms = c.turn-announced.new.seat in
     subst (λ (s : StartingTerms). TakesStartTurn b s (start_after t stage mark.knows) c.args.seat.now after s.totals None) c.self.view_is
     (TakesStartTurn-ask b t c.self.invariant (sym (book (goal.at.After-turn-announced c).After-self)) c.args.seat.now after mark.knows
-    (ap (λ (m : SeatTerms). m.knows) mark_is) c.in-Ask.asking c.in-Ask.is same_count more stage same step some left)
+    (ap (λ (m : SeatTerms). m.knows) mark_is) c.in-Ask.asking c.in-Ask.is same_counts more stage same step some left)
 
 pub returns-in_err-number-clause-turned : goal.returns-in_err-number-clause-turned
 returns-in_err-number-clause-turned c =
@@ -185,7 +184,7 @@ returns-in_err-number-clause-turned c =
     let stored : c.turn-announced.new.self.stored ≡ a.stored + 1 = ap (λ (x : AskingTerms). x.stored) told.after in
     subst (TakesStartTurn c.args.board.now.book c.args.self.now (start_after t next c.of.result.value.knows) c.args.seat.now
     c.turn-announced.new.seat c.args.self.now.totals) (sym c.from_residual.ensures)
-    (turned at c.of.result.value c.of.ensures (unpublished-word t c.self.invariant a (asks at) c.turn-announced.new.seat.knows (told.word left))
+    (turned at c.of.result.value c.of.ensures (HasSameCounts-word t c.self.invariant a (asks at) c.turn-announced.new.seat.knows (told.word left))
     (IsPrefix-word t c.self.invariant a (asks at) c.turn-announced.new.seat.knows (told.word left)) next
     (omega (arith, stored)) (λ inside. told.word inside, λ all. absurd (other all)) (omega (arith, stored, left, some_slot at))
     (omega (arith, stored, left, some_slot at)))
@@ -204,5 +203,5 @@ returns-clause-turned c =
     subst (λ (k : StartStage). TakesStartTurn c.args.board.now.book c.args.self.now (start_after t k c.of.result.value.knows) c.args.seat.now
     c.turn-announced.new.seat c.args.self.now.totals None) (sym (rows_next next))
     (turned at c.of.result.value c.of.ensures
-    (unpublished-Announces t c.self.invariant a (asks at) c.turn-announced.new.seat.knows (announced slot_found)) (announced slot_found).more stage (omega (arith, all))
+    (HasSameCounts-announced t c.self.invariant a (asks at) c.turn-announced.new.seat.knows (announced slot_found)) (announced slot_found).more stage (omega (arith, all))
     (λ inside. absurd (omega (arith, inside, all)), λ full. told.announced) (omega (arith, some_slot at)) (omega (arith, all, some_slot at)))

@@ -3,7 +3,6 @@ use Rattle.at_ledger.specs.Account.{slots_of}
 use Rattle.at_ledger.specs.Book.{BookTerms, account_of}
 use Rattle.at_history.specs.Publications.{IsPrefix}
 use Rattle.at_board.specs.Knowledge.Candidates.{HasLoadedRows}
-use Rattle.at_board.specs.Knowledge.Parts.{own_part}
 use Rattle.at_board.specs.Knowledge.Seats.{SeatTerms}
 use Rattle.at_board.specs.declared.knowledge.Knowledge.{Knowledge}
 use Rattle.at_board.specs.declared.words.TheConstants.{REQUEST_WORDS}
@@ -11,13 +10,13 @@ use Rattle.at_rows.specs.Asks.{HasAsked}
 use Rattle.at_rows.specs.Rows.{CollectsRows}
 use Rattle.at_rows.specs.declared.open_request.OpenRequest.{OpenRequest}
 use Rattle.at_shared.specs.HelpingTerms.{HelpingTerms, helping_of}
-use Rattle.at_calling.proofs.StartingLaws.{IsPrefix-MakesNextLoad, IsStartOf-CollectsRows, IsStartingSo-rows, LeavesTotals-CollectsRows, published-MakesNextLoad, start_after}
+use Rattle.at_calling.proofs.StartingLaws.{IsPrefix-MakesNextLoad, IsStartOf-CollectsRows, IsStartingSo-rows, LeavesTotals-CollectsRows, HasSameCounts-MakesNextLoad, start_after}
 use Rattle.at_calling.proofs.StartingSteps.{TakesStartTurn-collect}
 use Rattle.at_machines.specs.CollectingRows.{CollectingRowsTerms, MakesNextLoad}
 use Rattle.at_machines.specs.LoadingRow.NextRowLoad.{nothing}
 use Rattle.at_calling.specs.KeptStarting.{IsCollectingThen, IsStartStageSo, IsStartingSo, TakesStartTurn}
 use Rattle.at_calling.specs.Reading.{LeavesTotals}
-use Rattle.at_calling.specs.Starting.{IsStartOf, StartingTerms, asking_steps_of, start_turns_after, start_turns_in, start_turns_left, unless_ended}
+use Rattle.at_calling.specs.Starting.{HasSameCounts, IsStartOf, StartingTerms, asking_steps_of, start_turns_after, start_turns_in, start_turns_left, unless_ended}
 use Rattle.at_calling.specs.contracts.starting.Starting.{the_view}
 use Rattle.at_calling.specs.declared.start_stage.StartStage.TheVariants.{Collect}
 use Rattle.at_calling.proofs.starting.Starting.collect_on.Goals.{After-self, After-turn-collected}
@@ -41,12 +40,12 @@ more_rows c =
     subst (λ (x : CollectingRowsTerms). IsPrefix r.mark.seen x.mark.seen) c.turn-collected.ensures.after
     (IsPrefix-MakesNextLoad c.args.board.now.book r c.turn-collected.new.self c.turn-collected.ensures.load)
 
-same_count : (c : After-turn-collected)
-    → (own_part c.turn-collected.new.seat.knows).published ≡ (own_part c.in-Collect.collecting.mark).published
-same_count c =
+same_counts : (c : After-turn-collected)
+    → HasSameCounts c.in-Collect.collecting.mark c.turn-collected.new.seat.knows c.in-Collect.collecting.account
+same_counts c =
     let r : CollectingRowsTerms = c.in-Collect.collecting in
-    subst (λ (x : CollectingRowsTerms). (own_part x.mark).published ≡ (own_part r.mark).published) c.turn-collected.ensures.after
-    (published-MakesNextLoad c.args.board.now.book r c.turn-collected.new.self c.turn-collected.ensures.load)
+    subst (λ (x : CollectingRowsTerms). HasSameCounts r.mark x.mark r.account) c.turn-collected.ensures.after
+    (HasSameCounts-MakesNextLoad c.args.board.now.book r c.turn-collected.new.self c.turn-collected.ensures.load)
 
 rows_so : (c : After-turn-collected)
     → IsStartingSo (start_after (the_view c.self.inside) (Collect c.turn-collected.new.self) c.turn-collected.new.seat.knows)
@@ -63,7 +62,7 @@ rows_so c =
     subst (λ (b : BookTerms). r.made + 1 ≤ most b) (book first)
     (subst (λ (x : CollectingRowsTerms). x.made ≤ most c.args.board.now.book) after c.turn-collected.ensures.most) in
     subst (λ (x : CollectingRowsTerms). IsStartingSo (start_after t (Collect x) w)) (sym after)
-    (IsStartingSo-rows t c.self.invariant r (collects c) w new.slot new.next same (same_count c) (more_rows c) few)
+    (IsStartingSo-rows t c.self.invariant r (collects c) w new.slot new.next same (same_counts c) (more_rows c) few)
 
 pub invariant_of-self : goal.invariant_of-self
 invariant_of-self c =
@@ -113,7 +112,7 @@ turned c mark mark_is answer ends starts leaves =
     let told = c.turn-collected.ensures in
     subst (λ (s : StartingTerms). TakesStartTurn b s (start_after t (Collect next) mark.knows) c.args.seat.now after s.totals answer) c.self.view_is
     (TakesStartTurn-collect b t c.self.invariant (sym (book (goal.at.After-turn-collected c).After-self)) c.args.seat.now after mark.knows
-    (ap (λ (m : SeatTerms). m.knows) mark_is) r next c.in-Collect.is (goes c) (ap (λ (x : CollectingRowsTerms). x.made) told.after) (same_count c) (more_rows c)
+    (ap (λ (m : SeatTerms). m.knows) mark_is) r next c.in-Collect.is (goes c) (ap (λ (x : CollectingRowsTerms). x.made) told.after) (same_counts c) (more_rows c)
     (rows_so c).stage_so.left answer (next.slot, next.next, subst (MakesNextLoad b r) told.after told.load) ends starts leaves)
 
 pub returns-in_err-asked-clause-turned : goal.returns-in_err-asked-clause-turned
