@@ -31,8 +31,7 @@ pub record IsLookingFirst (t : PayingAloneTerms) (l : LookingTerms) : Type 0 whe
   pub totals_are : l.totals ≡ t.totals
   pub left : 0 < look_turns_left l.stage
 
--- the record of the payment is stored: the front of the look is its view, and the balance there covers it.
--- Nothing was published
+-- the record of the payment is stored: the front of the look is its view, and the balance there covers it. Nothing was published
 pub record IsAppendingThen (t : PayingAloneTerms) (a : AppendingTerms) : Type 0 where
   pub mark_is : a.mark ≡ t.mark
   pub unpublished : (own_part t.mark).published ≡ (own_part t.start).published

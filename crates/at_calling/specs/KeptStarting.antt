@@ -34,8 +34,8 @@ pub record IsLookingToAsk (t : StartingTerms) (l : LookingTerms) : Type 0 where
   pub totals_are : l.totals ≡ t.totals
   pub left : 0 < look_turns_left l.stage
 
--- the look has ended at this moment, and the request has the targets and the place of its front. Nothing was published, and
--- nothing decided
+-- the look has ended at this moment, and the request has the targets and the place of its front. Nothing was published or decided since
+-- the start
 pub record HasLookedToAsk (t : StartingTerms) (looked : Knowledge) (account : ℕ) (targets : List TargetPair) (since : ℕ) : Type 0 where
   pub account_is : account ≡ t.account
   pub targets_are : targets ≡ t.targets

@@ -24,7 +24,7 @@ pub record ReadingTerms : Type 0 where
 abbrev pub newly_seen : Knowledge → Knowledge → List ℕ → ℕ
 newly_seen before after counted = length after.seen - sum counted - ((own_part after).published - (own_part before).published)
 
--- what the process itself has published since is among what is seen more
+-- no fewer records of others are seen: what the process itself has published since is among what is seen more
 abbrev pub SeesOthersStill : Knowledge → Knowledge → Type 0
 SeesOthersStill before after = length before.seen + (own_part after).published ≤ length after.seen + (own_part before).published
 
