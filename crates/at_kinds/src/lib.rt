@@ -1,0 +1,10 @@
+//! What needs agreement, told from the book and the files alone: the kind of a call, and how many payments of each kind
+//! the files have. Nothing is run.
+#![tactic(auto)]
+
+mod counts;
+mod kind;
+
+
+pub use crate::kind::{Kind, account_in, kind_of};
+pub use at_base::NoMemory;
