@@ -46,7 +46,7 @@ room_after b p calls old new room left fits has counted = record {
   by_owners = λ a. omega (arith, fits, has.by_owners a, counted.by_owners a, count_by-le-length (is_by_owner_of a b p) calls);
 }
 
-count_first-more : (test : ℕ → Call → Bool) (files : List (List Call)) (p : ℕ) → count_first test files (p + 1) ≡ count_first test files p + count_of test files p
+pub count_first-more : (test : ℕ → Call → Bool) (files : List (List Call)) (p : ℕ) → count_first test files (p + 1) ≡ count_first test files p + count_of test files p
 count_first-more test files p = sum_by-map-range_with_len_more (λ (n : ℕ). n) (count_of test files) 0 p p (omega arith)
 
 -- the file of one more process

@@ -4,7 +4,7 @@
 
 mod counts;
 mod kind;
-
+mod text;
 
 pub use crate::kind::{Kind, account_in, kind_of};
 pub use at_base::NoMemory;
