@@ -3,6 +3,7 @@
 #![tactic(auto)]
 
 mod counts;
+mod groups;
 mod kind;
 mod text;
 

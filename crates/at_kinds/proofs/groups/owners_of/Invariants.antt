@@ -1,0 +1,6 @@
+use Rattle.std.proofs.Common.{◌≡◌, take}
+use Rattle.at_ledger.specs.Book.{account_of}
+use Rattle.at_kinds.proofs.groups.owners_of.Given as goal
+
+abbrev pub invariant-loop-slot : goal.invariant-loop-slot
+invariant-loop-slot l = l.owners.items ≡ take l.slot (account_of l.book l.account).owners

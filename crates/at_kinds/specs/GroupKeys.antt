@@ -1,0 +1,13 @@
+-- What the groups of the program stand for.
+use Rattle.std.specs.Prelude.{List, map}
+use Rattle.std.specs.BTreeSet.{BTreeSet}
+use Rattle.at_kinds.specs.Groups.{GroupTerms}
+use Rattle.at_kinds.specs.declared.groups.Group.{Group}
+
+-- a group
+abbrev pub terms_of : Group → GroupTerms
+terms_of g = record { payments = g.payments.0; owners = g.owners.items }
+
+-- the groups of a set, in their order
+abbrev pub groups_in : BTreeSet Group → List GroupTerms
+groups_in groups = map terms_of groups.keys
