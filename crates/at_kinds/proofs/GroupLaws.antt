@@ -1,5 +1,5 @@
 -- Totals in their map, and groups in their set.
-use Rattle.std.proofs.Common.{◌≡◌, ℕ, ◌+◌, ◌<◌, Bool, true, false, cond, List, [], ◌∷◌, ◌++◌, length, take, get_or, map, fold, refl, sym, ap, ◌∙◌, arith, bytes_eq, Vec, Option, Some, unwrap_or}
+use Rattle.std.proofs.Common.{◌≡◌, ℕ, suc, ◌+◌, ◌<◌, All, Bool, true, false, cond, List, [], ◌∷◌, ◌++◌, length, take, get_or, map, fold, refl, sym, ap, subst, ◌∙◌, arith, bytes_eq, Vec, Option, Some, unwrap_or}
 use Rattle.std.specs.declared.cmp.Ordering.{Ordering}
 use Rattle.std.specs.declared.cmp.Ordering.TheVariants.{Less, Equal, Greater}
 use Rattle.std.specs.Ordering.{is_eq, match_ordering, nat_cmp}
@@ -74,3 +74,10 @@ groups_among-more b files a within =
 pub group-same : (b : BookTerms) (files : List (List Call)) (t : AccountTerms) (payments : ℕ) (owners : List ℕ) → owners ≡ t.owners → payments ≡ count_in (is_agreed_by owners b) files
     → the_group payments owners ≡ group_of b files t
 group-same b files t payments owners is counted = ap (λ (n : ℕ). the_group n owners) counted ∙ ap (λ (xs : List ℕ). the_group (count_in (is_agreed_by xs b) files) xs) is
+
+-- the first key, and the others
+pub first_of : {K : Type 0} (P : K → Type 0) (keys rest : List K) (key : K) → keys ≡ key ∷ rest → All P keys → P key
+first_of {K} P keys rest key is all = let here = subst (All P) is all in here 0 key (omega arith)
+
+pub rest_of : {K : Type 0} (P : K → Type 0) (keys rest : List K) (key : K) → keys ≡ key ∷ rest → All P keys → All P rest
+rest_of {K} P keys rest key is all = λ k d within. let here = subst (All P) is all in here (suc k) d (omega arith)

@@ -7,6 +7,7 @@ use Rattle.at_ledger.specs.Book.{BookTerms}
 use Rattle.at_ledger.specs.declared.call.Call.{Call}
 use Rattle.at_report.specs.Lines.{Word, Words, line_text, lines_text, spaced}
 use Rattle.at_report.proofs.LineLaws.{line_text-spaced}
+use Rattle.at_report.proofs.NodeTexts.{lines_text-append}
 use Rattle.at_kinds.specs.Kinds.{count_first, has_kind, kind_of, is_agreed, is_alone, is_by_owner_of, is_payment, is_refused}
 use Rattle.at_kinds.specs.Counting.{AreCounts}
 use Rattle.at_kinds.specs.KindsText.{head_lines}
@@ -25,6 +26,13 @@ pub five_lines : (out one two three four five : List ℕ) (a b c d e : Words)
     → one ≡ out ++ line_text a → two ≡ one ++ line_text b → three ≡ two ++ line_text c → four ≡ three ++ line_text d → five ≡ four ++ line_text e
     → five ≡ out ++ lines_text (a ∷ b ∷ c ∷ d ∷ e ∷ [])
 five_lines out one two three four five a b c d e first second third fourth fifth = rw (fifth, fourth, third, second, first) (append-five out a b c d e)
+
+-- three parts of a text
+pub three_parts : (one two three : List ℕ) (a b c : List Words) → one ≡ lines_text a → two ≡ one ++ lines_text b → three ≡ two ++ lines_text c → three ≡ lines_text (a ++ b ++ c)
+three_parts one two three a b c first second third =
+    third
+    ∙ ap (λ (text : List ℕ). text ++ lines_text c) (second ∙ ap (λ (text : List ℕ). text ++ lines_text b) first ∙ sym (lines_text-append a b))
+    ∙ sym (lines_text-append (a ++ b) c)
 
 -- a line is the parts that are written of it, one after another
 pub line_text-account : (out name uses count : Word) (owners : Words)

@@ -5,21 +5,22 @@ use Rattle.at_ledger.specs.Account.{AccountTerms, is_shared, is_single}
 use Rattle.at_ledger.specs.Book.{BookTerms, account_of}
 use Rattle.at_ledger.specs.declared.call.Call.{Call}
 use Rattle.at_files.specs.Names.{NameList, account_name, process_name}
-use Rattle.at_report.specs.Lines.{Word, Words}
+use Rattle.at_report.specs.Lines.{Word, Words, lines_text}
+use Rattle.at_kinds.specs.Groups.{GroupTerms, groups_of}
 use Rattle.at_kinds.specs.Kinds.{count_in, has_kind, is_agreed, is_alone, is_by_owner_of, is_payment, is_refused}
 
--- how many payments of the files are of such a kind
-abbrev pub kind_words : Word → ℕ → Words
-kind_words kind count = kind ∷ decimal count ∷ []
+-- what is counted, and how many there are
+abbrev pub count_words : Word → ℕ → Words
+count_words what count = what ∷ decimal count ∷ []
 
 -- how many payments the files have, how many of them are of each kind, and how many accounts there are
 abbrev pub head_lines : BookTerms → List (List Call) → List Words
 head_lines b files =
-    kind_words (codes "payments") (count_in (has_kind is_payment b) files)
-    ∷ kind_words (codes "refused") (count_in (has_kind is_refused b) files)
-    ∷ kind_words (codes "alone") (count_in (has_kind is_alone b) files)
-    ∷ kind_words (codes "agreed") (count_in (has_kind is_agreed b) files)
-    ∷ kind_words (codes "accounts") (length b.accounts)
+    count_words (codes "payments") (count_in (has_kind is_payment b) files)
+    ∷ count_words (codes "refused") (count_in (has_kind is_refused b) files)
+    ∷ count_words (codes "alone") (count_in (has_kind is_alone b) files)
+    ∷ count_words (codes "agreed") (count_in (has_kind is_agreed b) files)
+    ∷ count_words (codes "accounts") (length b.accounts)
     ∷ []
 
 -- how the owners of an account use it
@@ -38,3 +39,15 @@ account_words b names files a =
 -- the same of each account, in order
 abbrev pub account_lines : BookTerms → NameList → List (List Call) → List Words
 account_lines b names files = map (account_words b names files) (range_with_len 0 (length b.accounts))
+
+-- how many payments a group has to agree on, and who is in it
+abbrev pub group_words : NameList → GroupTerms → Words
+group_words names g = decimal g.payments ∷ owner_words names g.owners
+
+-- how many groups there are, and then each
+abbrev pub group_lines : NameList → List GroupTerms → List Words
+group_lines names groups = count_words (codes "groups") (length groups) ∷ map (group_words names) groups
+
+-- the whole text
+abbrev pub kinds_text : BookTerms → NameList → List (List Call) → List ℕ
+kinds_text b names files = lines_text (head_lines b files ++ account_lines b names files ++ group_lines names (groups_of b files))

@@ -1,11 +1,11 @@
 //! The sets of owners that have payments to agree on.
 
-ghost use Rattle.std.specs.Prelude.{◌≡◌, ℕ, ◌+◌, ◌^◌, ◌<◌, List, IfOk, OnOk, Vec, bytes_eq, length, if◌then◌else◌};
+ghost use Rattle.std.specs.Prelude.{◌≡◌, ℕ, ◌+◌, ◌^◌, ◌<◌, List, All, IfOk, OnOk, Vec, bytes_eq, length, if◌then◌else◌};
 ghost use Rattle.std.specs.Global.{Global};
 ghost use Rattle.at_ledger.specs.Book.{account_of};
 ghost use Rattle.at_ledger.specs.declared.call.Call.{Call};
 ghost use Rattle.at_kinds.specs.Counting.{AreCounts};
-ghost use Rattle.at_kinds.specs.GroupKeys.{groups_in};
+ghost use Rattle.at_kinds.specs.GroupKeys.{AreKnown, groups_in};
 ghost use Rattle.at_kinds.specs.Groups.{groups_of, with_group};
 ghost use Rattle.at_kinds.specs.Totals.{AreTotals, total_in};
 
@@ -25,7 +25,10 @@ pub(crate) struct Group {
 /// The owners of an account.
 fn owners_of(alloc: Global, book: &Book, account: u32) -> Result<Vec<u32>, NoMemory>
     requires { account < length book.now.accounts }
-    ensures { IfOk result (λ owners. owners.items ≡ (account_of book.now account).owners) }
+    ensures owners { IfOk result
+        (λ owners. owners.items ≡ (account_of book.now account).owners) }
+    ensures known { IfOk result
+        (λ owners. All (λ owner. owner < book.now.processes) owners.items) }
 {
     let mut owners = Vec::new(alloc);
     for slot in 0..book.owner_count(account) {
@@ -84,8 +87,10 @@ fn add_group(
     owners: Vec<u32>,
     payments: u64,
 ) -> Result<(), NoMemory>
-    ensures { OnOk result (groups_in groups.new ≡ with_group (groups_in groups.old)
+    ensures added { OnOk result (groups_in groups.new ≡ with_group (groups_in groups.old)
         (record { payments = payments; owners = owners.items })) }
+    ensures known { OnOk result ((processes : ℕ) → AreKnown processes groups.old
+        → All (λ owner. owner < processes) owners.items → AreKnown processes groups.new) }
 {
     if payments == 0 {
         return Ok(());
@@ -107,9 +112,10 @@ pub(crate) fn groups(
     counts: &Counts,
 ) -> Result<BTreeSet<Group>, NoMemory>
     requires { length counts.now.by_owners.items ≡ length book.now.accounts }
-    ensures { IfOk result (λ groups. (files : List (List Call))
+    ensures groups { IfOk result (λ groups. (files : List (List Call))
         → AreCounts book.now files (length files) counts.now
         → groups_in groups ≡ groups_of book.now files) }
+    ensures known { IfOk result (λ groups. AreKnown book.now.processes groups) }
 {
     let totals = totals_of(alloc, book, counts.by_owners.as_slice())?;
     let mut groups = BTreeSet::new(alloc);

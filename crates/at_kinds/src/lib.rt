@@ -8,4 +8,5 @@ mod kind;
 mod text;
 
 pub use crate::kind::{Kind, account_in, kind_of};
+pub use crate::text::kinds;
 pub use at_base::NoMemory;

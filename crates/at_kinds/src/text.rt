@@ -1,17 +1,22 @@
-//! The lines of the text of `kinds`.
+//! The text of `kinds`.
 
-ghost use Rattle.std.specs.Prelude.{◌≡◌, ◌<◌, ◌++◌, ◌∷◌, List, codes, decimal, length, slice_index, OnOk};
+ghost use Rattle.std.specs.Prelude.{◌≡◌, ◌<◌, ◌++◌, ◌∷◌, List, All, IfOk, OnOk, decimal, length, map};
 ghost use Rattle.at_ledger.specs.Book.{account_of};
 ghost use Rattle.at_ledger.specs.declared.call.Call.{Call};
-ghost use Rattle.at_files.specs.Names.{account_name};
+ghost use Rattle.at_files.specs.Files.{IsPlayable, contents_of};
+ghost use Rattle.at_files.specs.Names.{AreNamesOf, account_name};
 ghost use Rattle.at_report.specs.Lines.{line_text, lines_text, spaced};
 ghost use Rattle.at_kinds.specs.Counting.{AreCounts};
-ghost use Rattle.at_kinds.specs.KindsText.{account_lines, head_lines, owner_words, use_word};
+ghost use Rattle.at_kinds.specs.GroupKeys.{AreKnown, groups_in, terms_of};
+ghost use Rattle.at_kinds.specs.KindsText.{account_lines, group_lines, group_words, head_lines, kinds_text, owner_words, use_word};
 
-use crate::counts::Counts;
+use crate::counts::{Counts, count};
+use crate::groups::{Group, groups};
 use at_files::Names;
-use at_ledger::{Book, NoMemory};
+use at_ledger::{Book, Call, NoMemory};
 use at_report::{push_number, push_numbered, push_word};
+use std::alloc::Global;
+use std::collections::BTreeSet;
 
 /// How the owners of an account use it.
 fn use_word(book: &Book, account: u32) -> &'static [u8]
@@ -102,4 +107,69 @@ fn push_head(out: &mut Vec<u8>, book: &Book, counts: &Counts) -> Result<(), NoMe
     push_numbered(out, b"agreed", agreed)?;
     push_numbered(out, b"accounts", u64::from(book.accounts()))?;
     Ok(())
+}
+
+/// Adds the names of these processes.
+fn push_names(out: &mut Vec<u8>, names: &Names, processes: &[u32]) -> Result<(), NoMemory>
+    requires { All (λ process. process < length names.now.processes) processes.now }
+    ensures { OnOk result
+        (out.new.items ≡ out.old.items ++ spaced (owner_words names.now processes.now)) }
+{
+    for process in processes {
+        push_word(out, names.process(*process))?;
+    }
+    Ok(())
+}
+
+/// Adds the line of a group.
+fn push_group(out: &mut Vec<u8>, names: &Names, group: &Group) -> Result<(), NoMemory>
+    requires { All (λ owner. owner < length names.now.processes) group.now.owners.items }
+    ensures { OnOk result
+        (out.new.items ≡ out.old.items ++ line_text (group_words names.now (terms_of group.now))) }
+{
+    at_base::push_number(out, group.payments.0)?;
+    push_names(out, names, group.owners.as_slice())?;
+    out.push(b'\n')?;
+    Ok(())
+}
+
+/// Adds how many groups there are, and the line of each.
+fn push_groups(
+    out: &mut Vec<u8>,
+    names: &Names,
+    mut groups: BTreeSet<Group>,
+) -> Result<(), NoMemory>
+    requires { AreKnown (length names.now.processes) groups }
+    ensures { OnOk result (out.new.items
+        ≡ out.old.items ++ lines_text (group_lines names.now (groups_in groups))) }
+{
+    push_numbered(out, b"groups", groups.len() as u64)?;
+    while let Some(group) = groups.pop_first() {
+        push_group(out, names, &group)?;
+    }
+    Ok(())
+}
+
+/// The text of `kinds`: how many payments of the files are refused, made alone and agreed on, from which accounts, and
+/// by which sets of owners. There is a file for each process, and nothing is run. The work grows with the calls and,
+/// but for a logarithm, with the accounts.
+pub fn kinds(
+    alloc: Global,
+    book: &Book,
+    names: &Names,
+    files: &[Vec<Call>],
+) -> Result<Vec<u8>, NoMemory>
+    requires names { AreNamesOf book.now names.now }
+    requires processes { length files.now ≡ book.now.processes }
+    requires files { All (IsPlayable (length book.now.accounts)) (contents_of files.now) }
+    ensures { IfOk result
+        (λ text. text.items ≡ kinds_text book.now names.now (contents_of files.now)) }
+{
+    let counts = count(alloc, book, files)?;
+    let groups = groups(alloc, book, &counts)?;
+    let mut out = Vec::new(alloc);
+    push_head(&mut out, book, &counts)?;
+    push_accounts(&mut out, book, names, &counts)?;
+    push_groups(&mut out, names, groups)?;
+    Ok(out)
 }

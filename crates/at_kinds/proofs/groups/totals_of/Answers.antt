@@ -30,7 +30,7 @@ loop-account-preserved c = λ owners.
       | then-owner_count-ge2+in_ok-owners+in_ok-add_to_total w ↦
           let shared : 2 ≤ length (account_of b a).owners = omega (arith, c.owner_count.ensures.count, w.if-owner_count-ge2.true) in
           let part : cond (bytes_eq w.in_ok-owners.owners.items owners.items) (slice_index counts a) 0 ≡ part_of b counts owners.items a =
-          ap (λ (items : List ℕ). cond (bytes_eq items owners.items) (slice_index counts a) 0) w.in_ok-owners.ensures ∙ sym (part_of-shared b counts owners.items a shared) in
+          ap (λ (items : List ℕ). cond (bytes_eq items owners.items) (slice_index counts a) 0) w.in_ok-owners.ensures.owners ∙ sym (part_of-shared b counts owners.items a shared) in
           ap (λ (totals : Totals). total_in totals owners) w.totals-is ∙ omega (arith, before, more, part, w.in_ok-add_to_total.ensures owners)
       | else-owner_count-ge2 w ↦
           let other : length (account_of b a).owners < 2 = omega (arith, c.owner_count.ensures.count, w.if-owner_count-ge2.false) in
