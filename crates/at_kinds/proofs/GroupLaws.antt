@@ -1,9 +1,9 @@
 -- Totals in their map, and groups in their set.
-use Rattle.std.proofs.Common.{◌≡◌, ℕ, suc, ◌+◌, ◌<◌, All, Bool, true, false, cond, List, [], ◌∷◌, ◌++◌, length, take, get_or, map, fold, refl, sym, ap, subst, ◌∙◌, arith, bytes_eq, Vec, Option, Some, unwrap_or}
+use Rattle.std.proofs.Common.{◌≡◌, ℕ, suc, ◌+◌, ◌<◌, All, Bool, true, false, cond, List, [], ◌∷◌, ◌++◌, length, take, map, fold, refl, ap, subst, ◌∙◌, arith, bytes_eq, Vec, Option, Some, unwrap_or}
 use Rattle.std.specs.declared.cmp.Ordering.{Ordering}
 use Rattle.std.specs.declared.cmp.Ordering.TheVariants.{Less, Equal, Greater}
 use Rattle.std.specs.Ordering.{is_eq, match_ordering, nat_cmp}
-use Rattle.std.specs.BTreeMap.{BTreeMap, get_by}
+use Rattle.std.specs.BTreeMap.{get_by}
 use Rattle.std.specs.BTreeSet.{insert_key}
 use Rattle.std.specs.Cmp.Lexicographic.{slice_cmp}
 use Rattle.std.specs.Global.{Global}
@@ -15,7 +15,7 @@ use Rattle.std.proofs.lemmas.Slice.Eq.{bytes_eq-Decides}
 use Rattle.at_ledger.specs.Account.{AccountTerms, no_account}
 use Rattle.at_ledger.specs.Book.{BookTerms, account_of}
 use Rattle.at_ledger.specs.declared.call.Call.{Call}
-use Rattle.at_kinds.specs.Groups.{GroupTerms, group_cmp, group_of, groups_among, is_agreed_by, with_group}
+use Rattle.at_kinds.specs.Groups.{GroupTerms, group_cmp, group_of_owners, groups_among, is_agreed_by, with_group}
 use Rattle.at_kinds.specs.Kinds.{count_in}
 use Rattle.at_kinds.specs.Totals.{Totals, total_in}
 
@@ -63,16 +63,16 @@ with_group-some groups g some = rw (lt-ltb 0 g.payments some) refl
 
 -- one more account
 pub groups_among-more : (b : BookTerms) (files : List (List Call)) (a : ℕ) → a < length b.accounts
-    → groups_among b files (take (a + 1) b.accounts) ≡ with_group (groups_among b files (take a b.accounts)) (group_of b files (account_of b a))
+    → groups_among b files (take (a + 1) b.accounts) ≡ with_group (groups_among b files (take a b.accounts)) (group_of_owners b files (account_of b a))
 groups_among-more b files a within =
     let more : take (a + 1) b.accounts ≡ take a b.accounts ++ account_of b a ∷ [] = take_more b.accounts a no_account within in
     ap (groups_among b files) more
-    ∙ ap (fold with_group []) (map-append (group_of b files) (take a b.accounts) (account_of b a ∷ []))
-    ∙ fold_push with_group [] (map (group_of b files) (take a b.accounts)) (group_of b files (account_of b a))
+    ∙ ap (fold with_group []) (map-append (group_of_owners b files) (take a b.accounts) (account_of b a ∷ []))
+    ∙ fold_push with_group [] (map (group_of_owners b files) (take a b.accounts)) (group_of_owners b files (account_of b a))
 
 -- the group of an account by its numbers
 pub group-same : (b : BookTerms) (files : List (List Call)) (t : AccountTerms) (payments : ℕ) (owners : List ℕ) → owners ≡ t.owners → payments ≡ count_in (is_agreed_by owners b) files
-    → the_group payments owners ≡ group_of b files t
+    → the_group payments owners ≡ group_of_owners b files t
 group-same b files t payments owners is counted = ap (λ (n : ℕ). the_group n owners) counted ∙ ap (λ (xs : List ℕ). the_group (count_in (is_agreed_by xs b) files) xs) is
 
 -- the first key, and the others

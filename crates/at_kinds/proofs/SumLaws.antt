@@ -1,5 +1,5 @@
 -- Payments of sets of owners, added up over accounts or over calls.
-use Rattle.std.proofs.Common.{◌≡◌, ◌≢◌, ℕ, zero, suc, ◌+◌, ◌*◌, ◌<◌, ◌≤◌, ◌^◌, ◌⊎◌, inl, inr, Bool, true, false, ◌&&◌, ◌==◌, cond, List, [], ◌∷◌, length, get_or, map, sum, count_by, refl, sym, ap, subst, ◌∙◌, arith, bytes_eq}
+use Rattle.std.proofs.Common.{◌≡◌, ◌≢◌, ℕ, zero, suc, ◌+◌, ◌*◌, ◌<◌, ◌≤◌, ◌^◌, ◌⊎◌, inl, inr, Bool, true, false, ◌&&◌, ◌==◌, cond, List, [], ◌∷◌, length, map, sum, count_by, refl, sym, ap, subst, ◌∙◌, arith, bytes_eq}
 use Rattle.std.specs.Prelude.{nat_le, slice_index, slice_index_or}
 use Rattle.std.specs.List.{range_with_len}
 use Rattle.std.proofs.lemmas.Bool.{le-leb}
@@ -11,11 +11,10 @@ use Rattle.at_ledger.specs.Account.{AccountTerms, is_owner_in, is_shared, no_acc
 use Rattle.at_ledger.specs.Book.{BookTerms, account_of}
 use Rattle.at_ledger.specs.declared.call.Call.{Call}
 use Rattle.at_ledger.specs.declared.call.Call.TheVariants.{Transfer, Read, Pay}
-use Rattle.at_kinds.specs.Kinds.{account_in, count_first, count_in, count_of, is_agreed, is_by_owner, is_by_owner_of, kind_of, payment_kind}
+use Rattle.at_kinds.specs.Kinds.{called_account, count_first, count_in, count_in_file, is_agreed_kind, is_owner_kind, is_by_owner_of, kind_of}
 use Rattle.at_kinds.specs.Groups.{is_agreed_by}
 use Rattle.at_kinds.specs.Totals.{is_shared_by, part_of, sum_first}
 use Rattle.at_kinds.specs.declared.kind.Kind.TheVariants as kinds
-
 
 -- one where it is so, and a number where it is so
 abbrev one_if : Bool → ℕ
@@ -34,8 +33,8 @@ over-suc n f =
     let Adds : ℕ → Type 0 = λ k. over k f ≡ over n f + f n in
     subst Adds next (sum_by-map-range_with_len_more (λ (k : ℕ). k) f 0 n n (omega arith))
 
-count_first-suc : (test : ℕ → Call → Bool) (files : List (List Call)) (p : ℕ) → count_first test files (suc p) ≡ count_first test files p + count_of test files p
-count_first-suc test files p = over-suc p (count_of test files)
+count_first-suc : (test : ℕ → Call → Bool) (files : List (List Call)) (p : ℕ) → count_first test files (suc p) ≡ count_first test files p + count_in_file test files p
+count_first-suc test files p = over-suc p (count_in_file test files)
 
 over-same : (n : ℕ) (f g : ℕ → ℕ) → ((a : ℕ) → f a ≡ g a) → over n f ≡ over n g
 over-same zero f g same = refl
@@ -79,8 +78,8 @@ here false by x = refl
 
 -- what owners of a shared account pay is agreed on
 agreed_alike : (owner shared these : Bool)
-    → one_if ((shared && these) && is_by_owner (cond owner (cond shared kinds.Agreed kinds.Alone) kinds.Refused))
-    ≡ one_if (is_agreed (cond owner (cond shared kinds.Agreed kinds.Alone) kinds.Refused) && these)
+    → one_if ((shared && these) && is_owner_kind (cond owner (cond shared kinds.Agreed kinds.Alone) kinds.Refused))
+    ≡ one_if (is_agreed_kind (cond owner (cond shared kinds.Agreed kinds.Alone) kinds.Refused) && these)
 agreed_alike true true true = refl
 agreed_alike true true false = refl
 agreed_alike true false true = refl
@@ -96,29 +95,30 @@ no_read true false = refl
 no_read false these = refl
 
 at_account : (b : BookTerms) (owners : List ℕ) (p : ℕ) (call : Call)
-    → one_if (is_shared_by owners (account_of b (account_in call)) && is_by_owner (kind_of b p call)) ≡ one_if (is_agreed_by owners b p call)
+    → one_if (is_shared_by owners (account_of b (called_account call)) && is_owner_kind (kind_of b p call)) ≡ one_if (is_agreed_by owners b p call)
 at_account b owners p (Transfer from to amount) = let t = account_of b from in agreed_alike (is_owner_in t p) (is_shared t) (bytes_eq t.owners owners)
 at_account b owners p (Read account) = let t = account_of b account in no_read (is_shared t) (bytes_eq t.owners owners)
 at_account b owners p (Pay from targets) = let t = account_of b from in agreed_alike (is_owner_in t p) (is_shared t) (bytes_eq t.owners owners)
 
 -- no account that the book lacks has owners
-past_accounts : (b : BookTerms) (owners : List ℕ) (p : ℕ) (call : Call) → length b.accounts ≤ account_in call → one_if (is_agreed_by owners b p call) ≡ 0
+past_accounts : (b : BookTerms) (owners : List ℕ) (p : ℕ) (call : Call) → length b.accounts ≤ called_account call → one_if (is_agreed_by owners b p call) ≡ 0
 past_accounts b owners p call past =
-    let none : account_of b (account_in call) ≡ no_account = get_or_past b.accounts (account_in call) no_account past in
-    sym (at_account b owners p call) ∙ ap (λ (t : AccountTerms). one_if (is_shared_by owners t && is_by_owner (kind_of b p call))) none
+    let none : account_of b (called_account call) ≡ no_account = get_or_past b.accounts (called_account call) no_account past in
+    sym (at_account b owners p call) ∙ ap (λ (t : AccountTerms). one_if (is_shared_by owners t && is_owner_kind (kind_of b p call))) none
 
 abbrev one_of : BookTerms → List ℕ → ℕ → Call → ℕ → ℕ
 one_of b owners p call a = count_if (is_shared_by owners (account_of b a)) (one_if (is_by_owner_of a b p call))
 
 over_call : (b : BookTerms) (owners : List ℕ) (p : ℕ) (call : Call) → over (length b.accounts) (one_of b owners p call) ≡ one_if (is_agreed_by owners b p call)
-over_call b owners p call = by_place (let split : (account_in call < length b.accounts) ⊎ (length b.accounts ≤ account_in call) = grind arith in split)
+over_call b owners p call = by_place (let split : (called_account call < length b.accounts) ⊎ (length b.accounts ≤ called_account call) = grind arith in split)
   where
-    others : (a : ℕ) → a ≢ account_in call → one_of b owners p call a ≡ 0
-    others a other = elsewhere (is_shared_by owners (account_of b a)) (is_by_owner (kind_of b p call)) (account_in call) a other
-    by_place : (account_in call < length b.accounts) ⊎ (length b.accounts ≤ account_in call) → over (length b.accounts) (one_of b owners p call) ≡ one_if (is_agreed_by owners b p call)
+    others : (a : ℕ) → a ≢ called_account call → one_of b owners p call a ≡ 0
+    others a other = elsewhere (is_shared_by owners (account_of b a)) (is_owner_kind (kind_of b p call)) (called_account call) a other
+
+    by_place : (called_account call < length b.accounts) ⊎ (length b.accounts ≤ called_account call) → over (length b.accounts) (one_of b owners p call) ≡ one_if (is_agreed_by owners b p call)
     by_place (inl within) =
-        over-one (length b.accounts) (account_in call) (one_of b owners p call) within others
-        ∙ here (is_shared_by owners (account_of b (account_in call))) (is_by_owner (kind_of b p call)) (account_in call)
+        over-one (length b.accounts) (called_account call) (one_of b owners p call) within others
+        ∙ here (is_shared_by owners (account_of b (called_account call))) (is_owner_kind (kind_of b p call)) (called_account call)
         ∙ at_account b owners p call
     by_place (inr past) =
         over-none (length b.accounts) (one_of b owners p call) (λ a below. others a (omega arith)) ∙ sym (past_accounts b owners p call past)
@@ -138,7 +138,7 @@ over_calls b owners p (call ∷ calls) =
       over-add (length b.accounts) (one_of b owners p call) (calls_of b owners p calls),
       over_call b owners p call,
       over_calls b owners p calls,
-      sum_by-cons (λ (x : Call). one_if (is_agreed_by owners b p x)) call calls
+      sum_by-cons (λ (x : Call). one_if (is_agreed_by owners b p x)) call calls,
     )
 
 abbrev files_of : BookTerms → List ℕ → List (List Call) → ℕ → ℕ → ℕ
@@ -157,7 +157,7 @@ over_files b owners files (suc m) =
       over-add (length b.accounts) (files_of b owners files m) (calls_of b owners m file),
       over_files b owners files m,
       over_calls b owners m file,
-      count_first-suc (is_agreed_by owners b) files m
+      count_first-suc (is_agreed_by owners b) files m,
     )
 
 -- what the owners of accounts pay from them, added up over the accounts that just these owners share, is what they have to agree on
@@ -179,7 +179,7 @@ sum_first-small b counts owners (suc n) small =
       arith,
       over-suc n (part_of b counts owners),
       sum_first-small b counts owners n (λ a below. small a (omega arith)),
-      part-small (is_shared_by owners (account_of b n)) (slice_index counts n) (small n (omega arith))
+      part-small (is_shared_by owners (account_of b n)) (slice_index counts n) (small n (omega arith)),
     )
   where
     part-small : (g : Bool) (x : ℕ) → x < 2 ^ 32 → count_if g x ≤ 4294967296

@@ -5,12 +5,12 @@ use Rattle.at_kinds.specs.Groups.{GroupTerms}
 use Rattle.at_kinds.specs.declared.groups.Group.{Group}
 
 -- a group
-abbrev pub terms_of : Group → GroupTerms
-terms_of g = record { payments = g.payments.0; owners = g.owners.items }
+abbrev pub group_terms : Group → GroupTerms
+group_terms g = record { payments = g.payments.0; owners = g.owners.items }
 
 -- the groups of a set, in their order
 abbrev pub groups_in : BTreeSet Group → List GroupTerms
-groups_in groups = map terms_of groups.keys
+groups_in groups = map group_terms groups.keys
 
 -- the owners are processes of so many
 abbrev pub AreKnown : ℕ → BTreeSet Group → Type 0

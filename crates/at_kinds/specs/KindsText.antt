@@ -7,7 +7,7 @@ use Rattle.at_ledger.specs.declared.call.Call.{Call}
 use Rattle.at_files.specs.Names.{NameList, account_name, process_name}
 use Rattle.at_report.specs.Lines.{Word, Words, lines_text}
 use Rattle.at_kinds.specs.Groups.{GroupTerms, groups_of}
-use Rattle.at_kinds.specs.Kinds.{count_in, has_kind, is_agreed, is_alone, is_by_owner_of, is_payment, is_refused}
+use Rattle.at_kinds.specs.Kinds.{count_in, has_kind, is_agreed_kind, is_alone_kind, is_by_owner_of, is_payment_kind, is_refused_kind}
 
 -- what is counted, and how many there are
 abbrev pub count_words : Word → ℕ → Words
@@ -16,10 +16,10 @@ count_words what count = what ∷ decimal count ∷ []
 -- how many payments the files have, how many of them are of each kind, and how many accounts there are
 abbrev pub head_lines : BookTerms → List (List Call) → List Words
 head_lines b files =
-    count_words (codes "payments") (count_in (has_kind is_payment b) files)
-    ∷ count_words (codes "refused") (count_in (has_kind is_refused b) files)
-    ∷ count_words (codes "alone") (count_in (has_kind is_alone b) files)
-    ∷ count_words (codes "agreed") (count_in (has_kind is_agreed b) files)
+    count_words (codes "payments") (count_in (has_kind is_payment_kind b) files)
+    ∷ count_words (codes "refused") (count_in (has_kind is_refused_kind b) files)
+    ∷ count_words (codes "alone") (count_in (has_kind is_alone_kind b) files)
+    ∷ count_words (codes "agreed") (count_in (has_kind is_agreed_kind b) files)
     ∷ count_words (codes "accounts") (length b.accounts)
     ∷ []
 

@@ -3,9 +3,9 @@
 ghost use Rattle.std.specs.Prelude.{◌≡◌, ◌+◌, ◌^◌, ◌<◌, [], ◌∷◌, All, IfOk, length, slice_index, slice_set};
 ghost use Rattle.at_files.specs.Files.{IsPlayable, contents_of};
 ghost use Rattle.at_ledger.specs.Call.{IsCallOn};
-ghost use Rattle.at_kinds.specs.Counting.{AreCounted, AreCounts, HasRoom};
+ghost use Rattle.at_kinds.specs.Counting.{AreCounted, AreCounts, HasRoomToCount};
 
-use crate::kind::{Kind, account_in, kind_of};
+use crate::kind::{Kind, called_account, kind_of};
 use at_ledger::{Book, Call, NoMemory};
 use std::alloc::Global;
 
@@ -31,7 +31,7 @@ fn add_by_owner(by_owners: &mut [u32], account: u32)
 fn add(counts: &mut Counts, book: &Book, process: u32, call: &Call)
     requires call_in { IsCallOn (length book.now.accounts) call.now }
     requires accounts { length counts.old.by_owners.items ≡ length book.now.accounts }
-    requires room { HasRoom counts.old 1 }
+    requires room { HasRoomToCount counts.old 1 }
     ensures { AreCounted book.now process (call.now ∷ []) counts.old counts.new }
 {
     match kind_of(book, process, call) {
@@ -39,11 +39,11 @@ fn add(counts: &mut Counts, book: &Book, process: u32, call: &Call)
         Kind::Refused => counts.refused += 1,
         Kind::Alone => {
             counts.alone += 1;
-            add_by_owner(&mut counts.by_owners, account_in(call));
+            add_by_owner(&mut counts.by_owners, called_account(call));
         }
         Kind::Agreed => {
             counts.agreed += 1;
-            add_by_owner(&mut counts.by_owners, account_in(call));
+            add_by_owner(&mut counts.by_owners, called_account(call));
         }
     }
 }
@@ -52,7 +52,7 @@ fn add(counts: &mut Counts, book: &Book, process: u32, call: &Call)
 fn add_all(counts: &mut Counts, book: &Book, process: u32, calls: &[Call])
     requires calls_in { All (IsCallOn (length book.now.accounts)) calls.now }
     requires accounts { length counts.old.by_owners.items ≡ length book.now.accounts }
-    requires room { HasRoom counts.old (length calls.now) }
+    requires room { HasRoomToCount counts.old (length calls.now) }
     ensures { AreCounted book.now process calls.now counts.old counts.new }
 {
     for call in calls {
@@ -74,7 +74,12 @@ pub(crate) fn count(alloc: Global, book: &Book, files: &[Vec<Call>]) -> Result<C
         by_owners: vec![in alloc; 0; book.accounts() as usize]?,
     };
     for process in 0..book.processes() {
-        add_all(&mut counts, book, process, files[process as usize].as_slice());
+        add_all(
+            &mut counts,
+            book,
+            process,
+            files[process as usize].as_slice(),
+        );
     }
     Ok(counts)
 }

@@ -82,11 +82,7 @@ fn totals_of(
 }
 
 /// Adds a group, if it has a payment and isn't there.
-fn add_group(
-    groups: &mut BTreeSet<Group>,
-    owners: Vec<u32>,
-    payments: u64,
-) -> Result<(), NoMemory>
+fn add_group(groups: &mut BTreeSet<Group>, owners: Vec<u32>, payments: u64) -> Result<(), NoMemory>
     ensures added { OnOk result (groups_in groups.new ≡ with_group (groups_in groups.old)
         (record { payments = payments; owners = owners.items })) }
     ensures known { OnOk result ((processes : ℕ) → AreKnown processes groups.old

@@ -3,7 +3,7 @@
 ghost use Rattle.std.specs.Prelude.{◌≡◌, ◌<◌, length};
 ghost use Rattle.at_ledger.specs.Book.{account_of};
 ghost use Rattle.at_ledger.specs.Call.{IsCallOn};
-ghost use Rattle.at_kinds.specs.Kinds.{account_in, kind_of, payment_kind};
+ghost use Rattle.at_kinds.specs.Kinds.{called_account, kind_of, payment_kind};
 
 use at_ledger::{Book, Call};
 
@@ -21,8 +21,8 @@ pub enum Kind {
 }
 
 /// The account that a call pays from or reads.
-pub fn account_in(call: &Call) -> u32
-    ensures { result ≡ account_in call.now }
+pub fn called_account(call: &Call) -> u32
+    ensures { result ≡ called_account call.now }
 {
     match call {
         Call::Transfer { from, .. } => *from,

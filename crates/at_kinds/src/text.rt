@@ -7,7 +7,7 @@ ghost use Rattle.at_files.specs.Files.{IsPlayable, contents_of};
 ghost use Rattle.at_files.specs.Names.{AreNamesOf, account_name};
 ghost use Rattle.at_report.specs.Lines.{line_text, lines_text, spaced};
 ghost use Rattle.at_kinds.specs.Counting.{AreCounts};
-ghost use Rattle.at_kinds.specs.GroupKeys.{AreKnown, groups_in, terms_of};
+ghost use Rattle.at_kinds.specs.GroupKeys.{AreKnown, groups_in, group_terms};
 ghost use Rattle.at_kinds.specs.KindsText.{account_lines, group_lines, group_words, head_lines, kinds_text, owner_words, use_word};
 
 use crate::counts::{Counts, count};
@@ -31,12 +31,7 @@ fn use_word(book: &Book, account: u32) -> &'static [u8]
 }
 
 /// Adds the names of the account's owners.
-fn push_owners(
-    out: &mut Vec<u8>,
-    book: &Book,
-    names: &Names,
-    account: u32,
-) -> Result<(), NoMemory>
+fn push_owners(out: &mut Vec<u8>, book: &Book, names: &Names, account: u32) -> Result<(), NoMemory>
     requires account_in { account < length book.now.accounts }
     requires names { length names.now.processes ≡ book.now.processes }
     ensures { OnOk result (out.new.items ≡ out.old.items
@@ -125,7 +120,7 @@ fn push_names(out: &mut Vec<u8>, names: &Names, processes: &[u32]) -> Result<(),
 fn push_group(out: &mut Vec<u8>, names: &Names, group: &Group) -> Result<(), NoMemory>
     requires { All (λ owner. owner < length names.now.processes) group.now.owners.items }
     ensures { OnOk result
-        (out.new.items ≡ out.old.items ++ line_text (group_words names.now (terms_of group.now))) }
+        (out.new.items ≡ out.old.items ++ line_text (group_words names.now (group_terms group.now))) }
 {
     at_base::push_number(out, group.payments.0)?;
     push_names(out, names, group.owners.as_slice())?;

@@ -1,5 +1,4 @@
-use Rattle.std.proofs.Common.{◌≡◌, ℕ, ◌+◌, arith}
-use Rattle.at_kinds.specs.Totals.{total_in}
+use Rattle.std.proofs.Common.{◌+◌, arith}
 use Rattle.at_kinds.proofs.GroupLaws.{total_in-step}
 use Rattle.at_kinds.proofs.groups.add_to_total.Goals as goal
 

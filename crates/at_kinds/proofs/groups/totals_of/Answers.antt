@@ -1,9 +1,7 @@
-use Rattle.std.proofs.Common.{◌≡◌, ℕ, ◌+◌, ◌<◌, ◌≤◌, ◌*◌, ◌^◌, ◌∙◌, Bool, true, false, cond, ap, sym, length, arith, bytes_eq, Vec, nat_le, List}
-use Rattle.std.specs.Global.{Global}
+use Rattle.std.proofs.Common.{◌≡◌, ℕ, ◌<◌, ◌≤◌, ◌^◌, ◌∙◌, cond, ap, sym, length, arith, bytes_eq, List}
 use Rattle.std.specs.Prelude.{slice_index}
-use Rattle.at_ledger.specs.Account.{is_shared}
 use Rattle.at_ledger.specs.Book.{account_of}
-use Rattle.at_kinds.specs.Totals.{Totals, part_of, sum_first, total_in}
+use Rattle.at_kinds.specs.Totals.{Totals, part_of, total_in}
 use Rattle.at_kinds.proofs.SumLaws.{part_of-shared, part_of-other, sum_first-more, sum_first-small}
 use Rattle.at_kinds.proofs.groups.totals_of.Goals as goal
 use Rattle.at_kinds.proofs.groups.totals_of.Goals.{then-owner_count-ge2+in_ok-owners+in_ok-add_to_total, else-owner_count-ge2}

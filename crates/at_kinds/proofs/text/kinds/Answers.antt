@@ -1,4 +1,4 @@
-use Rattle.std.proofs.Common.{◌≡◌, ℕ, ◌∙◌, ◌++◌, List, ap, length, sym, subst}
+use Rattle.std.proofs.Common.{ℕ, ◌∙◌, ◌++◌, List, ap, sym, subst}
 use Rattle.at_files.specs.Files.{contents_of}
 use Rattle.at_files.proofs.FileLists.{length-contents_of}
 use Rattle.at_ledger.specs.declared.call.Call.{Call}

@@ -1,6 +1,6 @@
-use Rattle.std.proofs.Common.{◌≡◌, ℕ, ◌<◌, ◌∙◌, ◌++◌, All, List, ap, append_assoc, length, map, sym}
+use Rattle.std.proofs.Common.{ℕ, ◌<◌, ◌∙◌, ◌++◌, All, List, ap, append_assoc, length, map, sym}
 use Rattle.at_report.specs.Lines.{line_text, lines_text}
-use Rattle.at_kinds.specs.GroupKeys.{terms_of}
+use Rattle.at_kinds.specs.GroupKeys.{group_terms}
 use Rattle.at_kinds.specs.KindsText.{group_words}
 use Rattle.at_kinds.specs.declared.groups.Group.{Group}
 use Rattle.at_kinds.proofs.GroupLaws.{first_of, rest_of}
@@ -20,8 +20,8 @@ loop-group-preserved c =
     record {
       known = rest_of Known c.loop-group.groups.keys left c.in-Some.group c.in-Some.ensures.removal c.loop-group.invariant.known;
       text =
-          ap (λ (text : List ℕ). text ++ lines_text (map words (map terms_of left))) c.in_ok-push_group.ensures
-          ∙ append_assoc out (line_text (words (terms_of c.in-Some.group))) (lines_text (map words (map terms_of left)))
-          ∙ ap (λ (keys : List Group). out ++ lines_text (map words (map terms_of keys))) (sym c.in-Some.ensures.removal)
+          ap (λ (text : List ℕ). text ++ lines_text (map words (map group_terms left))) c.in_ok-push_group.ensures
+          ∙ append_assoc out (line_text (words (group_terms c.in-Some.group))) (lines_text (map words (map group_terms left)))
+          ∙ ap (λ (keys : List Group). out ++ lines_text (map words (map group_terms keys))) (sym c.in-Some.ensures.removal)
           ∙ c.loop-group.invariant.text;
     }
