@@ -34,10 +34,7 @@ const KINDS_OF_HOUSEHOLD: &[u8] =
 const SAME_OWNERS: &[u8] =
     b"book,1\nprocesses,2\nlimits,4,4\naccount,0,100,0 1\naccount,1,50,0 1\n";
 
-const OF_SAME_OWNERS: &[&[u8]] = &[
-    b"transfer,0,1,1\n",
-    b"transfer,1,0,1\ntransfer,1,0,2\n",
-];
+const OF_SAME_OWNERS: &[&[u8]] = &[b"transfer,0,1,1\n", b"transfer,1,0,1\ntransfer,1,0,2\n"];
 
 const KINDS_OF_SAME_OWNERS: &[u8] =
     b"payments 3\nrefused 0\nalone 0\nagreed 3\naccounts 2\n0 shared 1 0 1\n1 shared 2 0 1\ngroups 1\n3 0 1\n";
