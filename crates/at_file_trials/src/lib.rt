@@ -1,5 +1,5 @@
 //! Tests of numbers and packed words, of the ledger, of the message-passing form, of shelves and sinks, and of the crates that
-//! read files, print texts, judge reports and walk orders, by their public names. There is nothing else here.
+//! read files, print texts, judge reports, walk orders and tell kinds, by their public names. There is nothing else here.
 #![tactic(auto)]
 
 #[cfg(test)]
@@ -12,6 +12,8 @@ mod device_tests;
 mod files_tests;
 #[cfg(test)]
 mod io_tests;
+#[cfg(test)]
+mod kinds_tests;
 #[cfg(test)]
 mod ledger_tests;
 #[cfg(test)]

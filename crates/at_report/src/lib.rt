@@ -2,7 +2,8 @@
 //! the output of nodes, and the one line of each refusal, with the exit status.
 //!
 //! Whoever reads a report line by line has the calls for its parts: `push_heading`, `push_line` and `push_audit`, and
-//! `process_of`, which tells whose line a text begins with.
+//! `process_of`, which tells whose line a text begins with. Other texts are put together by `push_word`, `push_number`
+//! and `push_numbered`.
 //!
 //! Each call answers exactly the bytes that the definitions of the texts give. The text of a refusal takes no memory.
 #![tactic(auto)]
@@ -17,7 +18,7 @@ mod run_summary;
 mod status;
 
 pub use crate::first_word::process_of;
-pub use crate::lines::push_line;
+pub use crate::lines::{push_line, push_number, push_numbered, push_word};
 pub use crate::nodes::nodes_text;
 pub use crate::refusal::{FaultText, fault_text};
 pub use crate::run_report::{

@@ -10,7 +10,7 @@ use at_files::Names;
 use at_ledger::{Call, Line, Reply, Targets};
 
 /// Adds a word that follows another on its line.
-fn push_word(out: &mut Vec<u8>, word: &[u8]) -> Result<(), NoMemory>
+pub fn push_word(out: &mut Vec<u8>, word: &[u8]) -> Result<(), NoMemory>
     ensures text { OnOk result (out.new.items ≡ out.old.items ++ spaced (word.now ∷ [])) }
     ensures begun { OnErr result (StartsWith out.new.items out.old.items) }
 {
@@ -19,7 +19,7 @@ fn push_word(out: &mut Vec<u8>, word: &[u8]) -> Result<(), NoMemory>
 }
 
 /// Adds a number that follows a word on its line.
-pub(crate) fn push_number(out: &mut Vec<u8>, n: u64) -> Result<(), NoMemory>
+pub fn push_number(out: &mut Vec<u8>, n: u64) -> Result<(), NoMemory>
     ensures text { OnOk result (out.new.items ≡ out.old.items ++ spaced (decimal n ∷ [])) }
     ensures begun { OnErr result (StartsWith out.new.items out.old.items) }
 {
@@ -28,7 +28,7 @@ pub(crate) fn push_number(out: &mut Vec<u8>, n: u64) -> Result<(), NoMemory>
 }
 
 /// Adds a line of a word and a number.
-pub(crate) fn push_numbered(out: &mut Vec<u8>, word: &[u8], n: u64) -> Result<(), NoMemory>
+pub fn push_numbered(out: &mut Vec<u8>, word: &[u8], n: u64) -> Result<(), NoMemory>
     ensures text { OnOk result (out.new.items ≡ out.old.items
         ++ line_text (word.now ∷ decimal n ∷ [])) }
     ensures begun { OnErr result (StartsWith out.new.items out.old.items) }

@@ -1,0 +1,4 @@
+pub mod CountLaws
+pub mod TextLaws
+pub mod SumLaws
+pub mod GroupLaws

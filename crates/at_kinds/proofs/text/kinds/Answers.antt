@@ -1,0 +1,22 @@
+use Rattle.std.proofs.Common.{ℕ, ◌∙◌, ◌++◌, List, ap, sym, subst}
+use Rattle.at_files.specs.Files.{contents_of}
+use Rattle.at_files.proofs.FileLists.{length-contents_of}
+use Rattle.at_ledger.specs.declared.call.Call.{Call}
+use Rattle.at_report.specs.Lines.{lines_text}
+use Rattle.at_kinds.specs.Counting.{AreCounts}
+use Rattle.at_kinds.specs.Groups.{GroupTerms, groups_of}
+use Rattle.at_kinds.specs.KindsText.{account_lines, group_lines, head_lines}
+use Rattle.at_kinds.proofs.TextLaws.{three_parts}
+use Rattle.at_kinds.proofs.text.kinds.Goals as goal
+
+pub returns : goal.returns
+returns c =
+    let b = c.args.book.now in
+    let names = c.args.names.now in
+    let files : List (List Call) = contents_of c.args.files.now in
+    let all = subst (λ (n : ℕ). AreCounts b files n c.in_ok-counts.counts) (sym (length-contents_of c.args.files.now ∙ c.requires.processes)) c.in_ok-counts.ensures in
+    let groups = c.in_ok-groups.ensures.groups files all in
+    three_parts c.push_head.new.out.items c.push_accounts.new.out.items c.push_groups.new.out.items (head_lines b files) (account_lines b names files) (group_lines names (groups_of b files))
+    (c.in_ok-push_head.ensures files all ∙ ap (λ (out : List ℕ). out ++ lines_text (head_lines b files)) c.new-out.ensures.items)
+    (c.in_ok-push_accounts.ensures files all)
+    (c.in_ok-push_groups.ensures ∙ ap (λ (gs : List GroupTerms). c.push_accounts.new.out.items ++ lines_text (group_lines names gs)) groups)

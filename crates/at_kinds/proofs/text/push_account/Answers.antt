@@ -1,0 +1,11 @@
+use Rattle.std.proofs.Common.{decimal}
+use Rattle.at_ledger.specs.Book.{account_of}
+use Rattle.at_kinds.specs.KindsText.{owner_words, use_word}
+use Rattle.at_kinds.proofs.TextLaws.{line_text-account}
+use Rattle.at_kinds.proofs.text.push_account.Goals as goal
+
+pub returns : goal.returns
+returns c =
+    let t = account_of c.args.book.now c.args.account in
+    rw (c.in_ok-push.ensures.items, c.in_ok-push_owners.ensures, c.in_ok-push_number.ensures.text, c.from.ensures, c.in_ok-push_word.ensures.text, c.use_word.ensures, c.in_ok-extend_from_slice.ensures.items, c.account.ensures.name)
+    (line_text-account c.args.out.now.items _ (use_word t) (decimal c.args.payments) (owner_words c.args.names.now t.owners))

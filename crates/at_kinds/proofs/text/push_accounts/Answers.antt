@@ -1,0 +1,22 @@
+use Rattle.std.proofs.Common.{◌≡◌, ℕ, ◌<◌, ◌∙◌, ◌++◌, ◌∷◌, ap, decimal, length, arith}
+use Rattle.std.proofs.lemmas.List.{get_or_read}
+use Rattle.at_files.specs.Names.{account_name}
+use Rattle.at_ledger.specs.Book.{account_of}
+use Rattle.at_report.specs.Lines.{line_text}
+use Rattle.at_report.proofs.LineLaws.{lines_text-map_more}
+use Rattle.at_kinds.specs.Kinds.{count_in, is_by_owner_of}
+use Rattle.at_kinds.specs.KindsText.{account_words, owner_words, use_word}
+use Rattle.at_kinds.proofs.text.push_accounts.Goals as goal
+
+pub loop-account-preserved : goal.loop-account-preserved
+loop-account-preserved c = λ files counts.
+    let b = c.args.book.now in
+    let names = c.args.names.now in
+    let a : ℕ = c.loop-account.account in
+    let t = account_of b a in
+    let within : a < length c.args.counts.now.by_owners.items = omega arith in
+    let same : c.index-payments.result.now ≡ count_in (is_by_owner_of a b) files =
+    get_or_read c.args.counts.now.by_owners.items a _ within c.index-payments.ensures 0 ∙ counts.by_owners a in
+    let line : c.push_account.new.out.items ≡ c.loop-account.out.items ++ line_text (account_words b names files a) =
+    c.in_ok-push_account.ensures ∙ ap (λ (n : ℕ). c.loop-account.out.items ++ line_text (account_name names a ∷ use_word t ∷ decimal n ∷ owner_words names t.owners)) same in
+    line ∙ rw (c.loop-account.invariant files counts) (lines_text-map_more (account_words b names files) c.args.out.now.items a)

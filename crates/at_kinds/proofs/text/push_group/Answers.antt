@@ -1,0 +1,10 @@
+use Rattle.std.proofs.Common.{decimal}
+use Rattle.at_report.proofs.NodeTexts.{line_text-words}
+use Rattle.at_kinds.specs.KindsText.{owner_words}
+use Rattle.at_kinds.proofs.text.push_group.Goals as goal
+
+pub returns : goal.returns
+returns c =
+    let g = c.args.group.now in
+    rw (c.in_ok-push.ensures.items, c.in_ok-push_names.ensures, c.as_slice.ensures.value, c.in_ok-push_number.ensures.ok)
+    (line_text-words c.args.out.now.items (decimal g.payments.0) (owner_words c.args.names.now g.owners.items))

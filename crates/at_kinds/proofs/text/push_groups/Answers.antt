@@ -1,0 +1,27 @@
+use Rattle.std.proofs.Common.{ℕ, ◌<◌, ◌∙◌, ◌++◌, All, List, ap, append_assoc, length, map, sym}
+use Rattle.at_report.specs.Lines.{line_text, lines_text}
+use Rattle.at_kinds.specs.GroupKeys.{group_terms}
+use Rattle.at_kinds.specs.KindsText.{group_words}
+use Rattle.at_kinds.specs.declared.groups.Group.{Group}
+use Rattle.at_kinds.proofs.GroupLaws.{first_of, rest_of}
+use Rattle.at_kinds.proofs.text.push_groups.Goals as goal
+
+pub push_group-requires : goal.push_group-requires
+push_group-requires c =
+    let Known : Group → Type 0 = λ g. All (λ (owner : ℕ). owner < length c.args.names.now.processes) g.owners.items in
+    first_of Known c.loop-group.groups.keys c.pop_first.new.self.keys c.in-Some.group c.in-Some.ensures.removal c.loop-group.invariant.known
+
+pub loop-group-preserved : goal.loop-group-preserved
+loop-group-preserved c =
+    let Known : Group → Type 0 = λ g. All (λ (owner : ℕ). owner < length c.args.names.now.processes) g.owners.items in
+    let words = group_words c.args.names.now in
+    let left : List Group = c.pop_first.new.self.keys in
+    let out : List ℕ = c.loop-group.out.items in
+    record {
+      known = rest_of Known c.loop-group.groups.keys left c.in-Some.group c.in-Some.ensures.removal c.loop-group.invariant.known;
+      text =
+          ap (λ (text : List ℕ). text ++ lines_text (map words (map group_terms left))) c.in_ok-push_group.ensures
+          ∙ append_assoc out (line_text (words (group_terms c.in-Some.group))) (lines_text (map words (map group_terms left)))
+          ∙ ap (λ (keys : List Group). out ++ lines_text (map words (map group_terms keys))) (sym c.in-Some.ensures.removal)
+          ∙ c.loop-group.invariant.text;
+    }

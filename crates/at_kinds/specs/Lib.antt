@@ -1,0 +1,6 @@
+pub mod Kinds
+pub mod Counting
+pub mod KindsText
+pub mod Groups
+pub mod GroupKeys
+pub mod Totals
