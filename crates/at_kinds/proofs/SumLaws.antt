@@ -20,14 +20,14 @@ use Rattle.at_kinds.specs.declared.kind.Kind.TheVariants as kinds
 abbrev one_if : Bool → ℕ
 one_if test = cond test 1 0
 
-abbrev count_if : Bool → ℕ → ℕ
+abbrev pub count_if : Bool → ℕ → ℕ
 count_if test n = cond test n 0
 
 -- a sum over the first numbers
-abbrev over : ℕ → (ℕ → ℕ) → ℕ
+abbrev pub over : ℕ → (ℕ → ℕ) → ℕ
 over n f = sum (map f (range_with_len 0 n))
 
-over-suc : (n : ℕ) (f : ℕ → ℕ) → over (suc n) f ≡ over n f + f n
+pub over-suc : (n : ℕ) (f : ℕ → ℕ) → over (suc n) f ≡ over n f + f n
 over-suc n f =
     let next : n + 1 ≡ suc n = omega arith in
     let Adds : ℕ → Type 0 = λ k. over k f ≡ over n f + f n in
@@ -141,10 +141,10 @@ over_calls b owners p (call ∷ calls) =
       sum_by-cons (λ (x : Call). one_if (is_agreed_by owners b p x)) call calls,
     )
 
-abbrev files_of : BookTerms → List ℕ → List (List Call) → ℕ → ℕ → ℕ
+abbrev pub files_of : BookTerms → List ℕ → List (List Call) → ℕ → ℕ → ℕ
 files_of b owners files m a = count_if (is_shared_by owners (account_of b a)) (count_first (is_by_owner_of a b) files m)
 
-over_files : (b : BookTerms) (owners : List ℕ) (files : List (List Call)) (m : ℕ) → over (length b.accounts) (files_of b owners files m) ≡ count_first (is_agreed_by owners b) files m
+pub over_files : (b : BookTerms) (owners : List ℕ) (files : List (List Call)) (m : ℕ) → over (length b.accounts) (files_of b owners files m) ≡ count_first (is_agreed_by owners b) files m
 over_files b owners files zero = over-none (length b.accounts) (files_of b owners files zero) (λ a below. cond-zero (is_shared_by owners (account_of b a)))
 over_files b owners files (suc m) =
     let file : List Call = slice_index_or files m [] in

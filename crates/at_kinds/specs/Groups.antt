@@ -1,9 +1,10 @@
 -- The groups: sets of owners that have payments to agree on.
-use Rattle.std.specs.Prelude.{ℕ, Bool, ◌&&◌, bytes_eq, List, [], fold, map, nat_lt, if◌then◌else◌}
+use Rattle.std.specs.Prelude.{◌≡◌, ℕ, ◌<◌, All, Contains, Bool, ◌&&◌, bytes_eq, List, [], fold, map, nat_lt, if◌then◌else◌}
 use Rattle.std.specs.declared.cmp.Ordering.{Ordering}
 use Rattle.std.specs.Ordering.{nat_cmp, ordering_then}
 use Rattle.std.specs.Cmp.Lexicographic.{slice_cmp}
 use Rattle.std.specs.BTreeSet.{insert_key}
+use Rattle.std.specs.List.Sorted.{IsStrictlySortedBy}
 use Rattle.at_ledger.specs.Account.{AccountTerms}
 use Rattle.at_ledger.specs.Book.{BookTerms, account_of}
 use Rattle.at_ledger.specs.declared.call.Call.{Call}
@@ -37,3 +38,11 @@ groups_among b files accounts = fold with_group [] (map (group_of_owners b files
 -- the groups of the book
 abbrev pub groups_of : BookTerms → List (List Call) → List GroupTerms
 groups_of b files = groups_among b files b.accounts
+
+-- each has a payment, and as many as the files have for just its owners; each stands before those after it, so none is there
+-- twice; and all owners that have a payment to agree on are there
+pub record AreGroups (b : BookTerms) (files : List (List Call)) (groups : List GroupTerms) : Type 0 where
+  pub counted : All (λ g. (0 < g.payments) × (g.payments ≡ count_in (is_agreed_by g.owners b) files)) groups
+  pub ordered : IsStrictlySortedBy group_cmp groups
+  pub all : (owners : List ℕ) → 0 < count_in (is_agreed_by owners b) files
+      → Contains groups (record { payments = count_in (is_agreed_by owners b) files; owners = owners })

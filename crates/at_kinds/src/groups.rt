@@ -2,11 +2,12 @@
 
 ghost use Rattle.std.specs.Prelude.{◌≡◌, ℕ, ◌+◌, ◌^◌, ◌<◌, List, All, IfOk, OnOk, Vec, bytes_eq, length, if◌then◌else◌};
 ghost use Rattle.std.specs.Global.{Global};
+ghost use Rattle.std.specs.List.Sorted.{IsStrictlySortedBy};
 ghost use Rattle.at_ledger.specs.Book.{account_of};
 ghost use Rattle.at_ledger.specs.declared.call.Call.{Call};
 ghost use Rattle.at_kinds.specs.Counting.{AreCounts};
 ghost use Rattle.at_kinds.specs.GroupKeys.{AreKnown, groups_in};
-ghost use Rattle.at_kinds.specs.Groups.{groups_of, with_group};
+ghost use Rattle.at_kinds.specs.Groups.{group_cmp, groups_of, with_group};
 ghost use Rattle.at_kinds.specs.Totals.{AreTotals, total_in};
 
 use crate::counts::Counts;
@@ -112,6 +113,8 @@ pub(crate) fn groups(
         → AreCounts book.now files (length files) counts.now
         → groups_in groups ≡ groups_of book.now files) }
     ensures known { IfOk result (λ groups. AreKnown book.now.processes groups) }
+    ensures ordered { IfOk result
+        (λ groups. IsStrictlySortedBy group_cmp (groups_in groups)) }
 {
     let totals = totals_of(alloc, book, counts.by_owners.as_slice())?;
     let mut groups = BTreeSet::new(alloc);
@@ -120,5 +123,6 @@ pub(crate) fn groups(
         let payments = total_in(&totals, &owners);
         add_group(&mut groups, owners, payments)?;
     }
+    let _ordered = groups.len();
     Ok(groups)
 }

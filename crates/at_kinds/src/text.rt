@@ -8,6 +8,7 @@ ghost use Rattle.at_files.specs.Names.{AreNamesOf, account_name};
 ghost use Rattle.at_report.specs.Lines.{line_text, lines_text, spaced};
 ghost use Rattle.at_kinds.specs.Counting.{AreCounts};
 ghost use Rattle.at_kinds.specs.GroupKeys.{AreKnown, groups_in, group_terms};
+ghost use Rattle.at_kinds.specs.Groups.{AreGroups, groups_of};
 ghost use Rattle.at_kinds.specs.KindsText.{account_lines, group_lines, group_words, head_lines, kinds_text, owner_words, use_word};
 
 use crate::counts::{Counts, count};
@@ -157,8 +158,10 @@ pub fn kinds(
     requires names { AreNamesOf book.now names.now }
     requires processes { length files.now ≡ book.now.processes }
     requires files { All (IsPlayable (length book.now.accounts)) (contents_of files.now) }
-    ensures { IfOk result
+    ensures text { IfOk result
         (λ text. text.items ≡ kinds_text book.now names.now (contents_of files.now)) }
+    ensures groups { OnOk result (AreGroups book.now (contents_of files.now)
+        (groups_of book.now (contents_of files.now))) }
 {
     let counts = count(alloc, book, files)?;
     let groups = groups(alloc, book, &counts)?;

@@ -1,8 +1,10 @@
-use Rattle.std.proofs.Common.{◌≡◌, ℕ, ◌∙◌, List, take, get_or, ap, sym, arith}
+use Rattle.std.proofs.Common.{◌≡◌, ℕ, ◌∙◌, List, take, get_or, ap, sym, refl, arith}
 use Rattle.at_ledger.specs.Book.{account_of}
-use Rattle.at_kinds.specs.Groups.{GroupTerms, group_of_owners, groups_among, is_agreed_by, with_group}
+use Rattle.at_kinds.specs.GroupKeys.{group_terms}
+use Rattle.at_kinds.specs.Groups.{GroupTerms, group_cmp, group_of_owners, groups_among, is_agreed_by, with_group}
 use Rattle.at_kinds.specs.Kinds.{count_in}
 use Rattle.at_kinds.proofs.GroupLaws.{group-same, groups_among-more}
+use Rattle.at_kinds.proofs.RightGroups.{sorted-map}
 use Rattle.at_kinds.proofs.SumLaws.{sum_first-agreed}
 use Rattle.at_kinds.proofs.groups.groups.Goals as goal
 
@@ -24,3 +26,6 @@ loop-account-preserved c =
           ∙ sym (groups_among-more b files a (omega arith));
       known = c.in_ok-add_group.ensures.known b.processes c.loop-account.invariant.known c.in_ok-owners.ensures.known;
     }
+
+pub returns-clause-ordered : goal.returns-clause-ordered
+returns-clause-ordered c = sorted-map _ group_cmp group_terms c.loop-account.groups.keys c.len-ordered.ensures.ordered (λ x y. refl)

@@ -1,16 +1,18 @@
 use Rattle.std.proofs.Common.{ℕ, ◌∙◌, ◌++◌, List, ap, sym, subst}
+use Rattle.std.specs.List.Sorted.{IsStrictlySortedBy}
 use Rattle.at_files.specs.Files.{contents_of}
 use Rattle.at_files.proofs.FileLists.{length-contents_of}
 use Rattle.at_ledger.specs.declared.call.Call.{Call}
 use Rattle.at_report.specs.Lines.{lines_text}
 use Rattle.at_kinds.specs.Counting.{AreCounts}
-use Rattle.at_kinds.specs.Groups.{GroupTerms, groups_of}
+use Rattle.at_kinds.specs.Groups.{GroupTerms, group_cmp, groups_of}
 use Rattle.at_kinds.specs.KindsText.{account_lines, group_lines, head_lines}
+use Rattle.at_kinds.proofs.RightGroups.{groups_of-AreGroups}
 use Rattle.at_kinds.proofs.TextLaws.{three_parts}
 use Rattle.at_kinds.proofs.text.kinds.Goals as goal
 
-pub returns : goal.returns
-returns c =
+pub returns-clause-text : goal.returns-clause-text
+returns-clause-text c =
     let b = c.args.book.now in
     let names = c.args.names.now in
     let files : List (List Call) = contents_of c.args.files.now in
@@ -20,3 +22,10 @@ returns c =
     (c.in_ok-push_head.ensures files all ∙ ap (λ (out : List ℕ). out ++ lines_text (head_lines b files)) c.new-out.ensures.items)
     (c.in_ok-push_accounts.ensures files all)
     (c.in_ok-push_groups.ensures ∙ ap (λ (gs : List GroupTerms). c.push_accounts.new.out.items ++ lines_text (group_lines names gs)) groups)
+
+pub returns-clause-groups : goal.returns-clause-groups
+returns-clause-groups c =
+    let b = c.args.book.now in
+    let files : List (List Call) = contents_of c.args.files.now in
+    let all = subst (λ (n : ℕ). AreCounts b files n c.in_ok-counts.counts) (sym (length-contents_of c.args.files.now ∙ c.requires.processes)) c.in_ok-counts.ensures in
+    groups_of-AreGroups b files (subst (λ (gs : List GroupTerms). IsStrictlySortedBy group_cmp gs) (c.in_ok-groups.ensures.groups files all) c.in_ok-groups.ensures.ordered)
