@@ -1,5 +1,5 @@
 -- What a call names: its source and its targets.
-use Rattle.std.specs.Prelude.{ℕ, ◌<◌, List, sum_by, slice_index_or, All}
+use Rattle.std.specs.Prelude.{ℕ, ◌<◌, List, [], ◌∷◌, sum_by, slice_index_or, All, Option, Some, None}
 use Rattle.at_ledger.specs.declared.call.Call.{Call}
 use Rattle.at_ledger.specs.declared.call.Call.TheVariants.{Transfer, Read, Pay}
 use Rattle.at_ledger.specs.declared.call.Line.{Line}
@@ -25,6 +25,18 @@ abbrev pub IsCallOn : ℕ → Call → Type 0
 IsCallOn accounts (Transfer from to amount) = (from < accounts) × (to < accounts)
 IsCallOn accounts (Read account) = account < accounts
 IsCallOn accounts (Pay from targets) = (from < accounts) × AreTargetsOn accounts targets
+
+-- the source and the targets of a pay-out: a transfer is the pay-out with its one target
+abbrev pub payout_of : Call → Option (ℕ × List TargetPair)
+payout_of (Transfer from to amount) = Some (from, (to, amount) ∷ [])
+payout_of (Read account) = None
+payout_of (Pay from targets) = Some (from, targets)
+
+-- the account that a call names first: the source of a pay-out, or the account that is read
+abbrev pub first_account : Call → ℕ
+first_account (Transfer from to amount) = from
+first_account (Read account) = account
+first_account (Pay from targets) = from
 
 -- the line is of one of these processes and names accounts that are there
 abbrev pub IsLineOn : ℕ → ℕ → Line → Type 0

@@ -1,6 +1,7 @@
 //! Calls, their replies, and the lines of a journal.
 
 ghost use Rattle.std.specs.Prelude.{◌≡◌};
+ghost use Rattle.at_ledger.specs.Call.{first_account, payout_of};
 
 use crate::targets::Targets;
 
@@ -31,6 +32,28 @@ impl Call {
                 from: *from,
                 targets: targets.copy(),
             },
+        }
+    }
+
+    /// The account that it names first: the source of a payment, or the account that is read.
+    pub fn first_account(&self) -> u32
+        ensures { result ≡ first_account self.now }
+    {
+        match self {
+            Call::Transfer { from, .. } => *from,
+            Call::Read { account } => *account,
+            Call::Pay { from, .. } => *from,
+        }
+    }
+
+    /// The source and the targets of a payment, and nothing of a read. A transfer has one target. Takes no memory.
+    pub fn payout(&self) -> Option<(u32, Targets)>
+        ensures { result ≡ payout_of self.now }
+    {
+        match self {
+            Call::Transfer { from, to, amount } => Some((*from, Targets::one(*to, *amount))),
+            Call::Read { .. } => None,
+            Call::Pay { from, targets } => Some((*from, targets.copy())),
         }
     }
 }

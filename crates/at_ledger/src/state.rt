@@ -67,12 +67,9 @@ impl State {
         ensures reply { result ≡ (step self.old process call.now).reply }
         ensures book { self.new.book ≡ self.old.book }
     {
-        match call {
-            Call::Transfer { from, to, amount } => {
-                self.pay(process, *from, &Targets::one(*to, *amount))
-            }
-            Call::Read { account } => Reply::Balance(self.balance(*account)),
-            Call::Pay { from, targets } => self.pay(process, *from, targets),
+        match call.payout() {
+            Some((from, targets)) => self.pay(process, from, &targets),
+            None => Reply::Balance(self.balance(call.first_account())),
         }
     }
 
