@@ -70,6 +70,18 @@ impl Counts {
         self.list.iter().sum()
     }
 
+    /// The sum, which always fits 64 bits.
+    pub fn total(&self) -> u64
+        ensures total { result ≡ sum self.now }
+        ensures small { result < 2 ^ 37 }
+    {
+        let mut total = 0;
+        for p in 0..self.len() {
+            total += u64::from(self.get(p));
+        }
+        total
+    }
+
     /// Whether no count is below the other list's.
     pub fn covers(&self, other: &Counts) -> bool
         requires { length self.now ≡ length other.now }
