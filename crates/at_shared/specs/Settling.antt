@@ -6,6 +6,7 @@ use Rattle.at_ledger.specs.declared.call.Call.{Call}
 use Rattle.at_ledger.specs.declared.call.Reply.{Reply}
 use Rattle.at_ledger.specs.declared.call.Reply.TheVariants.{Done, Short}
 use Rattle.at_history.specs.Fronts.{place}
+use Rattle.at_history.specs.Publications.{IsPrefix}
 use Rattle.at_history.specs.Rounds.{owns_of}
 use Rattle.at_history.specs.declared.request.Request.{Request}
 use Rattle.at_board.specs.Knowledge.Parts.{asking_on, loads_of, own_part, with_part}
@@ -17,6 +18,7 @@ use Rattle.at_log.specs.Told.{key_of}
 use Rattle.at_log.specs.declared.receipt.At.{At}
 use Rattle.at_log.specs.declared.receipt.Receipt.{Receipt}
 use Rattle.at_shared.specs.Helpings.{HasAllSettled, loads_asked}
+use Rattle.at_snapshot.specs.Collected.{HasLoaded}
 use Rattle.at_snapshot.specs.Snapshots.{IsSnapshot}
 
 -- what holds of the receipt of each call with this payout, where it has this reply and place
@@ -50,14 +52,19 @@ pub record AsksOnce (b : BookTerms) (before after : Knowledge) (a : ℕ) : Type 
 abbrev pub as_asked : Knowledge → ℕ → Knowledge
 as_asked v a = with_part v (record (own_part v) { loads = loads_asked v a })
 
--- the receipt stands at or after the front of a snapshot that its call had taken when it announced its one request: each length was
--- loaded in the call before that, and the request's `since` is the place of the front
+-- the receipt stands at or after the front of a snapshot that its call took before it announced its one request. `looked` is what the seat
+-- knew with the snapshot, after loads of lengths alone. Each length was loaded in the call before the announcement, and the request's
+-- `since` is the place of the front
 pub record StandsAfterSnapshot (b : BookTerms) (before after : Knowledge) (a : ℕ) (r : Receipt) : Type 0 where
+  pub front : List ℕ
+  pub looked : Knowledge
+  pub taken : IsSnapshot b before looked front
+  pub loads : HasLoaded b before looked
+  pub more : IsPrefix looked.seen after.seen
   pub request : Request
   pub announced : (asking_on (own_part after) a).announced ≡ (asking_on (own_part before) a).announced ++ request ∷ []
-  pub front : List ℕ
-  pub snapshot : IsSnapshot b before (as_asked after a) front
   pub since : request.since ≡ place front
+  pub snapshot : IsSnapshot b before (as_asked after a) front
   pub times : (p : ℕ) → p < b.processes → (loads_of (own_part (as_asked after a)) p).times ≤ (loads_of (own_part after) p).times
   pub after_front : StandsAfter (place front) after r
 

@@ -163,9 +163,13 @@ module _ (b : BookTerms) (v u y z : Knowledge) (h : HelpingTerms) (starts : HasS
   StandsAfterSnapshot-turns r after =
       let same = loads-as_asked b v starts.looked z h.account starts.front starts.snapshot starts.loads since_look.more since_look.first part_after kept_loads in
       record {
+        front = starts.front;
+        looked = starts.looked;
+        taken = starts.snapshot;
+        loads = starts.loads;
+        more = since_look.more;
         request = request_of h.own;
         announced = (Adds-trans b v starts.looked z h.account [] (request_of h.own ∷ []) looks since_look).announced;
-        front = starts.front;
         snapshot = IsSnapshot-as_asked b v starts.looked z h.account starts.front starts.snapshot starts.loads since_look.more since_look.first part_after kept_loads;
         since = starts.since;
         times = λ p known. omega (
