@@ -61,6 +61,7 @@ pub record StandsAfterSnapshot (b : BookTerms) (before after : Knowledge) (a : �
   pub taken : IsSnapshot b before looked front
   pub loads : HasLoaded b before looked
   pub more : IsPrefix looked.seen after.seen
+  pub loads_kept : (own_part (as_asked after a)).loads ≡ (own_part looked).loads
   pub request : Request
   pub announced : (asking_on (own_part after) a).announced ≡ (asking_on (own_part before) a).announced ++ request ∷ []
   pub since : request.since ≡ place front

@@ -168,6 +168,7 @@ module _ (b : BookTerms) (v u y z : Knowledge) (h : HelpingTerms) (starts : HasS
         taken = starts.snapshot;
         loads = starts.loads;
         more = since_look.more;
+        loads_kept = same;
         request = request_of h.own;
         announced = (Adds-trans b v starts.looked z h.account [] (request_of h.own ∷ []) looks since_look).announced;
         snapshot = IsSnapshot-as_asked b v starts.looked z h.account starts.front starts.snapshot starts.loads since_look.more since_look.first part_after kept_loads;
