@@ -1,5 +1,6 @@
 -- A call from one turn to the next, and what its answer leaves.
-use Rattle.std.proofs.Common.{◌≡◌, ℕ, ◌+◌, ◌*◌, ◌<◌, ◌≤◌, ◌↔◌, List, [], ◌∷◌, ◌++◌, IfSome, IsSome, Option, length, None, Some, refl, sym, ap, subst, ◌∙◌, arith, false, true}
+use Rattle.std.proofs.Common.{◌≡◌, ℕ, ◌+◌, ◌-◌, ◌*◌, ◌<◌, ◌≤◌, ◌↔◌, List, [], ◌∷◌, ◌++◌, IfSome, IsSome, Option, length, None, Some, refl, sym, ap, subst, ◌∙◌, arith, false, true}
+use Rattle.std.specs.List.{sum}
 use Rattle.at_ledger.specs.Account.{is_shared, slots_of}
 use Rattle.at_ledger.specs.Book.{BookTerms, account_of}
 use Rattle.at_ledger.specs.Call.{IsCallOn, TargetPair}
@@ -25,11 +26,12 @@ use Rattle.at_object.proofs.Laws.Made.{PaymentMade-refused}
 use Rattle.at_object.specs.Paid.{PaysAlone, PaysInRound}
 use Rattle.at_object.specs.Parted.{IsOfOnePass, pass_of}
 use Rattle.at_object.specs.Passes.{PassTerms, Stands, one_more_call}
-use Rattle.at_object.specs.Payments.{IsRefused, sent_after}
+use Rattle.at_object.specs.Payments.{IsRefused, sent_after, single_steps}
 use Rattle.at_object.specs.declared.parts.Rest.{Rest}
 use Rattle.at_shared.specs.Helpings.{decides_made, decides_on}
 use Rattle.at_single.proofs.Laws.Looks.{published-HasLoaded}
 use Rattle.at_snapshot.specs.Collected.{HasLoaded}
+use Rattle.at_snapshot.specs.Snapshots.{snapshot_steps}
 use Rattle.at_calling.proofs.PayingAloneLaws.{HasSameAsking-HasLoaded}
 use Rattle.at_calling.proofs.CallingLaws.{CallMade-PaysAlone, CallMade-PaysInRound, IsOfOnePass-IsReadOf, IsOfOnePass-PaysAlone, IsOfOnePass-PaysInRound, MakesWithin, ReadMade-IsReadOf, StaysWithin-MakesWithin, MakesWithin-IsReadOf, MakesWithin-PaysAlone, MakesWithin-PaysInRound, payment_steps-shared, payment_steps-single, refusal_in-payout, small-refusal_of, source-IsCallOn}
 use Rattle.at_object.proofs.Laws.Calls.{placed-CallMade, stands-CallMade}
@@ -37,10 +39,10 @@ use Rattle.at_object.proofs.Laws.Within.{call_steps-payout, may_exchange-payout}
 use Rattle.at_calling.specs.Calling.{CallingTerms, IsCallWithin, IsWay, MakesCallStep, call_turns_left, exchanges_made, exchanges_of, pass_before, refusal_in, steps_made, steps_of, with_one_call}
 use Rattle.at_object.specs.Calls.{CallMade, StaysWithin, call_steps}
 use Rattle.at_calling.specs.KeptCalling.{IsCallStageSo, IsCallingSo, IsMakingStill, TakesCallTurn}
-use Rattle.at_machines.specs.Looking.{IsWithin, look_turns_left}
+use Rattle.at_machines.specs.Looking.{IsWithin, IsWithinOneMore, look_turns_left}
 use Rattle.at_calling.specs.PayingAlone.{HasSameAsking, IsPayWithin, PayingAloneTerms, append_steps, pay_turns_left}
-use Rattle.at_calling.specs.PayingShared.{DecidesFew, PayingSharedTerms, settling_steps, share_exchanges_made, share_turns_left, share_turns_most}
-use Rattle.at_calling.specs.Reading.{IsReadOf, LeavesTotals, ReadingTerms, newly_seen}
+use Rattle.at_calling.specs.PayingShared.{DecidesFew, PayingSharedTerms, settling_steps, share_exchanges_made, share_steps, share_turns_left, share_turns_most}
+use Rattle.at_calling.specs.Reading.{IsReadOf, LeavesTotals, ReadingTerms, counted_so_far, newly_seen}
 use Rattle.at_calling.specs.declared.call_stage.CallStage.{CallStage}
 use Rattle.at_calling.specs.declared.call_stage.CallStage.TheVariants.{PayAlone, PayShared, Read, Refuse}
 
@@ -55,11 +57,14 @@ pub record Leaves (b : BookTerms) (t : CallingTerms) (after : SeatTerms) (rest :
   pub within : MakesWithin b (pass_before t) (pass_of after rest) t.call steps exchanges r
 
 -- a call that has made no exchange is within its bounds where its steps are
-pub IsCallWithin-none : (b : BookTerms) (before : PassTerms) (call : Call) (after : Knowledge) (steps : ℕ)
+pub IsCallWithin-none : (b : BookTerms) (before : PassTerms) (call : Call) (after : Knowledge) (counted : List ℕ) (steps : ℕ)
     → ((a : ℕ) → decides_on after a ≡ decides_on before.knows a)
-    → steps ≤ call_steps b call + RECORD_WORDS * newly_seen before.knows after before.counted → IsCallWithin b before call after steps 0
-IsCallWithin-none b before call after steps same few = record {
+    → steps ≤ call_steps b call + RECORD_WORDS * newly_seen before.knows after before.counted
+    → IsWithinOneMore (call_steps b call) (counted_so_far before.knows after before.counted counted) steps
+    → IsCallWithin b before call after counted steps 0
+IsCallWithin-none b before call after counted steps same few counting = record {
   few = few;
+  counting = counting;
   decided = omega (arith, same (first_account call));
   none = λ no. refl;
   few_decided = omega arith;
@@ -151,21 +156,19 @@ module _ (board : BoardTerms) (t : CallingTerms) (so : IsCallingSo t) (seat : Se
       pub way-read : t.call ≡ Call.Read r.account
       way-read = subst (IsWay t.start.knows.book (pass_before t) t.call) stage so.way
 
-      pub few-read : (turns : ℕ) → IsWithin board.book.processes r.looking.was (length after.knows.seen) turns
-          → HasLoaded board.book r.looking.start after.knows → IsCallWithin board.book (pass_before t) t.call after.knows turns 0
-      few-read turns few loads =
+      pub few-read : (now : TotalSums) (turns : ℕ) → IsWithin board.book.processes r.looking.was (length after.knows.seen) turns
+          → IsWithinOneMore (snapshot_steps board.book.processes) (sum now.upto - sum r.looking.was.upto) turns
+          → HasLoaded board.book r.looking.start after.knows → IsCallWithin board.book (pass_before t) t.call after.knows now.upto turns 0
+      few-read now turns few counting loads =
           let few_on : IsWithin board.book.processes t.was.totals (length after.knows.seen) turns =
           subst (λ (s : TotalSums). IsWithin board.book.processes s (length after.knows.seen) turns) still-read.was_is few in
           let loads_on : HasLoaded board.book t.start.knows after.knows =
           subst (λ (v : Knowledge). HasLoaded board.book v after.knows) still-read.start_is loads in
-          IsCallWithin-none board.book (pass_before t) t.call after.knows turns
+          let published = published-HasLoaded board.book t.start.knows after.knows (omega (arith, so.kept.one_part)) loads_on in
+          IsCallWithin-none board.book (pass_before t) t.call after.knows now.upto turns
           (λ a. ap (λ (q : Asking). q.decides) (HasSameAsking-HasLoaded board.book t.start.knows after.knows (omega (arith, so.kept.one_part)) loads_on a))
-          (omega (
-            arith,
-            few_on,
-            ap (call_steps board.book) way-read,
-            published-HasLoaded board.book t.start.knows after.knows (omega (arith, so.kept.one_part)) loads_on,
-          ))
+          (omega (arith, few_on, ap (call_steps board.book) way-read, published))
+          (omega (arith, counting, ap (λ (s : TotalSums). sum s.upto) still-read.was_is, ap (call_steps board.book) way-read, published))
 
       pub Leaves-read : (rest : Rest) (turns : ℕ) (receipt : Receipt) → IsKept after.knows
           → IsReadOf board.book r.looking.start after.knows r.account receipt
@@ -203,19 +206,22 @@ module _ (board : BoardTerms) (t : CallingTerms) (so : IsCallingSo t) (seat : Se
           small-refusal_of board.book t.start t.was p.from so.kept book-IsCallingSo so.pass
           (sym (refusal_in-payout board.book p.from p.targets (pass_before t) t.call way-alone.0) ∙ way-alone.1) way-alone.2
 
-      pub few-alone : (turns : ℕ) → IsPayWithin board.book.processes (newly_seen p.start after.knows p.was.upto) turns
-          → HasSameAsking p.start after.knows → IsCallWithin board.book (pass_before t) t.call after.knows turns 0
-      few-alone turns few asks =
+      pub few-alone : (now : TotalSums) (turns : ℕ) → IsPayWithin board.book.processes (newly_seen p.start after.knows p.was.upto) turns
+          → IsWithinOneMore (single_steps board.book.processes) (counted_so_far p.start after.knows p.was.upto now.upto) turns
+          → HasSameAsking p.start after.knows → IsCallWithin board.book (pass_before t) t.call after.knows now.upto turns 0
+      few-alone now turns few counting asks =
           let few_on : IsPayWithin board.book.processes (newly_seen t.start.knows after.knows t.was.totals.upto) turns =
           subst (λ (v : Knowledge). IsPayWithin board.book.processes (newly_seen v after.knows t.was.totals.upto) turns) still-alone.start_is
           (subst (λ (s : TotalSums). IsPayWithin board.book.processes (newly_seen p.start after.knows s.upto) turns) still-alone.was_is few) in
           let asks_on : HasSameAsking t.start.knows after.knows = subst (λ (v : Knowledge). HasSameAsking v after.knows) still-alone.start_is asks in
-          IsCallWithin-none board.book (pass_before t) t.call after.knows turns (λ a. ap (λ (q : Asking). q.decides) (asks_on a)) (omega (
-            arith,
-            few_on,
-            call_steps-payout board.book p.from p.targets t.call way-alone.0,
-            payment_steps-single board.book p.from way-alone.2,
-          ))
+          let most = single_steps board.book.processes in
+          let counting_on : IsWithinOneMore most (counted_so_far t.start.knows after.knows t.was.totals.upto now.upto) turns =
+          subst (λ (v : Knowledge). IsWithinOneMore most (counted_so_far v after.knows t.was.totals.upto now.upto) turns) still-alone.start_is
+          (subst (λ (s : TotalSums). IsWithinOneMore most (counted_so_far p.start after.knows s.upto now.upto) turns) still-alone.was_is counting) in
+          let payout = call_steps-payout board.book p.from p.targets t.call way-alone.0 in
+          let single = payment_steps-single board.book p.from way-alone.2 in
+          IsCallWithin-none board.book (pass_before t) t.call after.knows now.upto turns (λ a. ap (λ (q : Asking). q.decides) (asks_on a))
+          (omega (arith, few_on, payout, single)) (omega (arith, counting_on, payout, single))
 
       pub Leaves-alone : (rest : Rest) (turns : ℕ) (receipt : Receipt) → IsKept after.knows
           → PaysAlone board.book p.start after.knows p.from p.targets t.call receipt
@@ -248,23 +254,27 @@ module _ (board : BoardTerms) (t : CallingTerms) (so : IsCallingSo t) (seat : Se
       pub way-shared : IsWay board.book (pass_before t) t.call (PayShared p)
       way-shared = subst (IsWay board.book (pass_before t) t.call) stage way_on
 
-      pub few-shared : (turns exchanges : ℕ) → turns ≤ share_turns_most board.book p.account (newly_seen p.start after.knows p.was.upto)
+      pub few-shared : (now : TotalSums) (turns exchanges : ℕ)
+          → turns ≤ share_turns_most board.book p.account (newly_seen p.start after.knows p.was.upto)
+          → IsWithinOneMore (share_steps board.book p.account) (counted_so_far p.start after.knows p.was.upto now.upto) turns
           → exchanges ≡ decides_made p.account p.start after.knows → exchanges ≤ slots_of (account_of board.book p.account)
-          → IsCallWithin board.book (pass_before t) t.call after.knows turns exchanges
-      few-shared turns exchanges few decided few_decided =
+          → IsCallWithin board.book (pass_before t) t.call after.knows now.upto turns exchanges
+      few-shared now turns exchanges few counting decided few_decided =
           let first = first_account-payout p.account p.targets t.call way-shared.0 in
           let few_on : turns ≤ share_turns_most board.book p.account (newly_seen t.start.knows after.knows t.was.totals.upto) =
           subst (λ (v : Knowledge). turns ≤ share_turns_most board.book p.account (newly_seen v after.knows t.was.totals.upto)) still-shared.start_is
           (subst (λ (s : TotalSums). turns ≤ share_turns_most board.book p.account (newly_seen p.start after.knows s.upto)) still-shared.was_is few) in
           let decided_on : exchanges ≡ decides_made p.account t.start.knows after.knows =
           subst (λ (v : Knowledge). exchanges ≡ decides_made p.account v after.knows) still-shared.start_is decided in
+          let most = share_steps board.book p.account in
+          let counting_on : IsWithinOneMore most (counted_so_far t.start.knows after.knows t.was.totals.upto now.upto) turns =
+          subst (λ (v : Knowledge). IsWithinOneMore most (counted_so_far v after.knows t.was.totals.upto now.upto) turns) still-shared.start_is
+          (subst (λ (s : TotalSums). IsWithinOneMore most (counted_so_far p.start after.knows s.upto now.upto) turns) still-shared.was_is counting) in
+          let payout = call_steps-payout board.book p.account p.targets t.call way-shared.0 in
+          let shared = payment_steps-shared board.book p.account way-shared.2 in
           record {
-            few = omega (
-              arith,
-              few_on,
-              call_steps-payout board.book p.account p.targets t.call way-shared.0,
-              payment_steps-shared board.book p.account way-shared.2,
-            );
+            few = omega (arith, few_on, payout, shared);
+            counting = omega (arith, counting_on, payout, shared);
             decided = subst (λ a. exchanges ≡ decides_made a t.start.knows after.knows) (sym first) decided_on;
             none = λ no.
                 let both : false ≡ true = sym no ∙ (may_exchange-payout board.book p.account p.targets t.call way-shared.0 ∙ way-shared.2) in absurd (cc both);
@@ -328,7 +338,7 @@ if_some P Q all (Some r) holds = all r holds
 pub TakesCallTurn-stages : (b : BookTerms) (t : CallingTerms) (before after mark : SeatTerms) → mark ≡ after → (now rest : Rest) → rest ≡ now
     → (old next : CallStage) → t.stage ≡ old → (answer : Option Receipt) → steps_made next ≡ steps_made old + steps_of old
     → MakesCallStep b old before after now.totals → call_turns_left b next < call_turns_left b old
-    → IsCallWithin b (pass_before t) t.call after.knows (steps_made next) (exchanges_made next)
+    → IsCallWithin b (pass_before t) t.call after.knows now.totals.upto (steps_made next) (exchanges_made next)
     → (IsSome answer ↔ (call_turns_left b next ≡ 0)) → AreRuns b after.knows.seen → exchanges_made next ≡ exchanges_made old + exchanges_of old
     → IfSome answer (Leaves b t after now (steps_made next) (exchanges_made next)) → IfSome answer (λ r. now.calls ≡ with_one_call t.was.calls)
     → after.steps ≡ raised t.start.steps (steps_made next) → after.exchanges ≡ raised t.start.exchanges (exchanges_made next)

@@ -1,7 +1,8 @@
 -- What a turn of a payment from a single account leaves of it.
-use Rattle.std.proofs.Common.{◌≡◌, ℕ, ◌+◌, ◌<◌, ◌≤◌, ◌↔◌, IfSome, IsSome, Option, length, refl, sym, ap, subst, ◌∙◌, arith}
+use Rattle.std.proofs.Common.{◌≡◌, ℕ, ◌+◌, ◌-◌, ◌<◌, ◌≤◌, ◌↔◌, IfSome, IsSome, Option, length, refl, sym, ap, subst, ◌∙◌, arith}
 use Rattle.std.specs.List.{sum}
 use Rattle.at_ledger.specs.Book.{BookTerms}
+use Rattle.at_board.specs.Knowledge.Parts.{own_part}
 use Rattle.at_board.specs.Knowledge.Seats.{SeatTerms}
 use Rattle.at_board.specs.Words.Addresses.{record_width}
 use Rattle.at_board.specs.declared.knowledge.Knowledge.{Knowledge}
@@ -9,22 +10,25 @@ use Rattle.at_fold.specs.HasCounted.{StaysCounted}
 use Rattle.at_fold.specs.Sums.{TotalSums}
 use Rattle.at_ledger.specs.declared.call.Reply.{Reply}
 use Rattle.at_log.specs.declared.receipt.At.{At}
+use Rattle.at_object.specs.Payments.{single_steps}
 use Rattle.at_single.proofs.Laws.Looks.{published-HasLoaded}
 use Rattle.at_snapshot.specs.Collected.{HasLoaded}
+use Rattle.at_snapshot.specs.Snapshots.{snapshot_steps}
 use Rattle.at_calling.proofs.PayingAloneLaws.{HasSameAsking-HasLoaded, paying_next}
 use Rattle.at_calling.specs.KeptPayingAlone.{IsAppendingThen, IsLookingFirst, IsPayStageSo, IsPayingAloneSo, TakesPayTurn}
 use Rattle.at_calling.specs.PayingAlone.{AnswersAlone, HasSameAsking, IsPayWithin, MakesPayStep, PayingAloneTerms, append_steps, pay_turns_left, turns_in}
-use Rattle.at_calling.specs.Reading.{LeavesTotals, SeesOthersStill, newly_seen}
+use Rattle.at_calling.specs.Reading.{LeavesTotals, SeesOthersStill, counted_so_far, newly_seen}
 use Rattle.at_calling.specs.declared.pay_stage.PayStage.{PayStage}
 use Rattle.at_calling.specs.declared.pay_stage.PayStage.TheVariants.{Append, Look}
 use Rattle.at_machines.specs.Appending.{AppendingTerms, appending_after}
-use Rattle.at_machines.specs.Looking.{IsWithin, LookingTerms, MakesLookLoad}
+use Rattle.at_machines.specs.Looking.{IsWithin, IsWithinOneMore, LookingTerms, MakesLookLoad}
 
 module _ (b : BookTerms) (t : PayingAloneTerms) (so : IsPayingAloneSo t) (book : t.start.book ≡ b) (before after : SeatTerms) (now : TotalSums)
     (mark : Knowledge) (mark_is : mark ≡ after.knows) (totals : TotalSums) (totals_are : totals ≡ now) where
   -- a turn of the look
   module _ (l : LookingTerms) (is : t.stage ≡ Look l) (turns : ℕ) (made : turns ≡ l.turns + 1) (load : MakesLookLoad b l.stage before after now)
-      (loads : HasLoaded b l.start after.knows) (so_far : IsWithin b.processes l.was (length after.knows.seen) turns) where
+      (loads : HasLoaded b l.start after.knows) (so_far : IsWithin b.processes l.was (length after.knows.seen) turns)
+      (so_counted : IsWithinOneMore (snapshot_steps b.processes) (sum now.upto - sum l.was.upto) turns) where
     looks : IsLookingFirst t l
     looks = subst (IsPayStageSo t) is so.stage_so
 
@@ -37,6 +41,15 @@ module _ (b : BookTerms) (t : PayingAloneTerms) (so : IsPayingAloneSo t) (book :
         let so_far_on : IsWithin b.processes t.was (length after.knows.seen) turns =
         subst (λ (s : TotalSums). IsWithin b.processes s (length after.knows.seen) turns) looks.was_is so_far in
         omega (arith, so_far_on, published-HasLoaded t.start.book t.start after.knows (omega (arith, so.kept.one_part)) loads_on)
+
+    counting : IsWithinOneMore (single_steps b.processes) (counted_so_far t.start after.knows t.was.upto now.upto) turns
+    counting =
+        omega (
+          arith,
+          so_counted,
+          ap (λ (s : TotalSums). sum s.upto) looks.was_is,
+          published-HasLoaded t.start.book t.start after.knows (omega (arith, so.kept.one_part)) loads_on,
+        )
 
     pub TakesPayTurn-look : (stage : PayStage) (answer : Option (Reply × At)) → turns_in turns stage ≡ turns
         → pay_turns_left (record_width b) stage < pay_turns_left (record_width b) (Look l)
@@ -56,6 +69,7 @@ module _ (b : BookTerms) (t : PayingAloneTerms) (so : IsPayingAloneSo t) (book :
       left = subst (λ (k : PayStage). pay_turns_left (record_width b) stage < pay_turns_left (record_width b) k) (sym is) left;
       ends = ends;
       so_far = subst (IsPayWithin b.processes (newly_seen t.start after.knows t.was.upto)) (sym same) within;
+      counting = subst (IsWithinOneMore (single_steps b.processes) (counted_so_far t.start after.knows t.was.upto now.upto)) (sym same) counting;
       asks = HasSameAsking-HasLoaded t.start.book t.start after.knows (omega (arith, so.kept.one_part)) loads_on;
       pays = pays;
       counted = counted;
@@ -78,12 +92,29 @@ module _ (b : BookTerms) (t : PayingAloneTerms) (so : IsPayingAloneSo t) (book :
         subst (λ (k : BookTerms). IsWithin k.processes t.was (sum a.rec.view) t.looked) book appends.few in
         omega (arith, looked, stored, few, others, more, appends.unpublished, appends.seen)
 
+    -- nothing is published, and the totals stay
+    pub counting-append : now ≡ t.totals → (own_part after.knows).published ≡ (own_part t.mark).published
+        → IsWithinOneMore (single_steps b.processes) (counted_so_far t.start after.knows t.was.upto now.upto) (t.looked + next.stored)
+    counting-append same unpublished =
+        omega (
+          arith,
+          appends.few,
+          ap (λ (k : BookTerms). snapshot_steps k.processes) book,
+          stored,
+          few,
+          ap (λ (s : TotalSums). sum s.upto) same,
+          ap (λ xs. sum xs) appends.looked_at.upto,
+          unpublished,
+          appends.unpublished,
+        )
+
     pub TakesPayTurn-append : (answer : Option (Reply × At)) → SeesOthersStill t.mark after.knows → length t.mark.seen ≤ length after.knows.seen
+        → IsWithinOneMore (single_steps b.processes) (counted_so_far t.start after.knows t.was.upto now.upto) (t.looked + next.stored)
         → (IsSome answer ↔ (a.stored ≡ record_width b)) → HasSameAsking t.mark after.knows
         → IfSome answer (AnswersAlone b t.start after.knows t.from t.targets) → IfSome answer (λ r. StaysCounted now b after.knows.seen)
         → IfSome answer (λ r. LeavesTotals b t.start after.knows t.was now (append_steps (record_width b) r.0) (t.looked + next.stored))
         → TakesPayTurn b t (paying_next t (Append next) t.looked mark totals) before after now answer
-    TakesPayTurn-append answer others more ends asks pays counted leaves = record {
+    TakesPayTurn-append answer others more counting ends asks pays counted leaves = record {
       from_is = refl;
       targets_are = refl;
       start_is = refl;
@@ -98,6 +129,7 @@ module _ (b : BookTerms) (t : PayingAloneTerms) (so : IsPayingAloneSo t) (book :
         λ none. ends.1 (omega (arith, none, few, stored)),
       );
       so_far = within_append others more;
+      counting = counting;
       asks = λ account. asks account ∙ so.asks account;
       pays = pays;
       counted = counted;

@@ -43,11 +43,12 @@ use Rattle.at_single.specs.Standing.{newly_counted}
 use Rattle.at_snapshot.specs.Scans.{SeesOwnRecords}
 use Rattle.at_snapshot.specs.Snapshots.{snapshot_steps}
 use Rattle.at_machines.proofs.Laws.Snapshots.{snapshot_steps-le}
+use Rattle.at_machines.specs.Looking.{IsWithinOneMore}
 use Rattle.at_calling.specs.KeptPayingShared.{HasCountedSo, HasHelped, IsHelpingThen}
-use Rattle.at_calling.specs.PayingShared.{AnswersInRound, DecidesFew, PayingSharedTerms, settling_steps, share_turns_most}
-use Rattle.at_calling.specs.Reading.{LeavesTotals, SeesOthersStill, newly_seen}
+use Rattle.at_calling.specs.PayingShared.{AnswersInRound, DecidesFew, PayingSharedTerms, settling_steps, share_steps, share_turns_most}
+use Rattle.at_calling.specs.Reading.{CountsOthersStill, LeavesTotals, SeesOthersStill, counted_so_far, newly_seen}
 use Rattle.at_calling.specs.Starting.{IsStartOf}
-use Rattle.at_calling.specs.Turning.{IsHelpOf, IsHelpWithin, LeavesSeat, TurningTerms, WaitsOn, help_turns_left, help_turns_made}
+use Rattle.at_calling.specs.Turning.{IsHelpOf, IsHelpWithin, LeavesSeat, TurningTerms, WaitsOn, help_steps, help_turns_left, help_turns_made}
 
 -- an account has few slots
 slots_of-le : (b : BookTerms) (a : ℕ) → IsBegun b → a < length b.accounts → slots_of (account_of b a) ≤ most_owners
@@ -167,6 +168,17 @@ module _ (b : BookTerms) (v y z : Knowledge) (a : ℕ) (targets : List TargetPai
       steps-more b a before turns (decides_made a v y) (slots_of (account_of b a)) (decides_made h.account y z) (newly_counted v y was mid)
       (newly_seen y z mid.upto) (newly_seen v z was.upto) once helped.few so.few within
       (omega (arith, so.more, so.published, so.inside, seen, others))
+
+  -- with those that were counted, and one more
+  pub counting-so_far : (was mid now : TotalSums) (before turns : ℕ) → HasCountedSo b v y was mid a before → decides_made h.account y z ≤ 1
+      → CountsOthersStill y z mid now → (own_part y).published ≤ (own_part z).published
+      → IsWithinOneMore (help_steps b.processes (decides_made h.account y z)) (counted_so_far y z mid.upto now.upto) turns
+      → IsWithinOneMore (share_steps b a) (counted_so_far v z was.upto now.upto) (before + turns)
+  counting-so_far was mid now before turns so once others more within =
+      let all : ℕ = counted_so_far v z was.upto now.upto + 1 in
+      let most = steps-more b a before (turns + 1) (decides_made a v y) (slots_of (account_of b a)) (decides_made h.account y z) (newly_counted v y was mid)
+      (counted_so_far y z mid.upto now.upto + 1) all once helped.few so.few (omega (arith, within)) (omega (arith, so.more, so.published, others, more)) in
+      omega (arith, most)
 
   -- and so are its exchanges
   pub few_exchanges-so_far : decides_made h.account y z ≤ 1 → decides_made a v z ≤ slots_of (account_of b a)

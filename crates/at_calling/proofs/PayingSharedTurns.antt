@@ -11,9 +11,10 @@ use Rattle.at_ledger.specs.declared.call.Reply.{Reply}
 use Rattle.at_log.specs.declared.receipt.At.{At}
 use Rattle.at_shared.specs.Helpings.{decides_made}
 use Rattle.at_shared.specs.PaymentTurns.{SettlesInTurns}
+use Rattle.at_machines.specs.Looking.{IsWithinOneMore}
 use Rattle.at_calling.specs.KeptPayingShared.{TakesShareTurn}
-use Rattle.at_calling.specs.PayingShared.{AnswersInRound, DecidesFew, MakesShareStep, PayingSharedTerms, settling_steps, share_exchanges_at, share_exchanges_made, share_turns_left, share_turns_most, unless_settled, unless_starting}
-use Rattle.at_calling.specs.Reading.{LeavesTotals, newly_seen}
+use Rattle.at_calling.specs.PayingShared.{AnswersInRound, DecidesFew, MakesShareStep, PayingSharedTerms, settling_steps, share_exchanges_at, share_exchanges_made, share_steps, share_turns_left, share_turns_most, unless_settled, unless_starting}
+use Rattle.at_calling.specs.Reading.{LeavesTotals, counted_so_far, newly_seen}
 use Rattle.at_calling.specs.declared.share_stage.ShareStage.{ShareStage}
 use Rattle.at_calling.specs.declared.share_stage.ShareStage.TheVariants.{Ended, Help, Start}
 
@@ -35,7 +36,8 @@ unless_settled-some most Ended some = absurd (omega (arith, some))
 
 module _ (b : BookTerms) (t : PayingSharedTerms) (before after : SeatTerms) (now : TotalSums) (mark : Knowledge) (mark_is : mark ≡ after.knows)
     (totals : TotalSums) (totals_are : totals ≡ now) (some : 0 < share_turns_left b t) (step : MakesShareStep b t.stage before after now)
-    (within : t.turns + 1 ≤ share_turns_most b t.account (newly_seen t.start after.knows t.was.upto)) where
+    (within : t.turns + 1 ≤ share_turns_most b t.account (newly_seen t.start after.knows t.was.upto))
+    (counting : IsWithinOneMore (share_steps b t.account) (counted_so_far t.start after.knows t.was.upto now.upto) (t.turns + 1)) where
   abbrev most : ℕ
   most = share_turns_most b t.account places_max
 
@@ -69,6 +71,7 @@ module _ (b : BookTerms) (t : PayingSharedTerms) (before after : SeatTerms) (now
     step = step;
     left = less stage;
     so_far = within;
+    counting = counting;
     ends = (
       λ answered. let wrong : false ≡ true = answered in absurd (cc wrong),
       λ ended. absurd (omega (arith, ended, few, goes (most + 1 - (t.turns + 1)))),
@@ -101,6 +104,7 @@ module _ (b : BookTerms) (t : PayingSharedTerms) (before after : SeatTerms) (now
     step = step;
     left = less Ended;
     so_far = within;
+    counting = counting;
     ends = (λ answered. refl, λ ended. refl);
     pays = pays;
     settles = settles;

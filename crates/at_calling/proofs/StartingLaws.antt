@@ -42,10 +42,10 @@ use Rattle.at_machines.specs.CollectingRows.{CollectingRowsTerms, MakesNextLoad,
 use Rattle.at_calling.specs.KeptStarting.{HasLookedToAsk, IsAskingThen, IsCollectingThen, IsStartStageSo, IsStartingSo}
 use Rattle.at_machines.specs.LoadingRow.{MakesLoadOf, NextRowLoad}
 use Rattle.at_machines.specs.LoadingRow.NextRowLoad.{announced_word, request_word, nothing}
-use Rattle.at_machines.specs.Looking.{IsWithin}
+use Rattle.at_machines.specs.Looking.{IsWithin, IsWithinOneMore}
 use Rattle.at_calling.proofs.PayingAloneLaws.{HasSameAsking-HasLoaded, published-set}
-use Rattle.at_calling.specs.Reading.{LeavesTotals, newly_seen}
-use Rattle.at_calling.specs.Starting.{HasSameCounts, IsStartOf, IsStartWithin, StartingTerms, asking_steps_of, start_turns_in}
+use Rattle.at_calling.specs.Reading.{LeavesTotals, counted_so_far, newly_seen}
+use Rattle.at_calling.specs.Starting.{HasSameCounts, IsStartOf, IsStartWithin, StartingTerms, asking_steps_of, start_steps, start_turns_in}
 use Rattle.at_calling.specs.declared.start_stage.StartStage.{StartStage}
 use Rattle.at_calling.specs.declared.start_stage.StartStage.TheVariants.{Ask, Collect}
 
@@ -193,6 +193,10 @@ module _ (t : StartingTerms) (so : IsStartingSo t) where
           IsPrefix-length looked.seen w.seen more,
         )
 
+    pub counting-HasLookedToAsk : (stage : StartStage) → start_turns_in t.looked stage ≤ t.looked + asking_steps_of t.start.book t
+        → IsWithinOneMore (start_steps t.start.book t) (counted_so_far t.start w t.was.upto t.totals.upto) (start_turns_in t.looked stage)
+    counting-HasLookedToAsk stage few = omega (arith, few, to_ask.few, same.published, ap (λ xs. sum xs) to_ask.looked_at.upto)
+
     -- the same with this known
     pub HasLookedToAsk-more : (stage : StartStage) → HasLookedToAsk (start_after t stage w) looked account targets since
     HasLookedToAsk-more stage = record {
@@ -294,6 +298,12 @@ module _ (t : StartingTerms) (so : IsStartingSo t) where
         → IsStartWithin t.start.book (start_after t stage w) (newly_seen t.start w t.was.upto)
     IsStartWithin-IsCollectingThen stage same more few =
         IsStartWithin-HasLookedToAsk is.looked c.account c.own.targets c.own.since is.to_ask w (HasSameCounts-rows same) (more-rows more) stage few
+
+    pub counting-IsCollectingThen : (stage : StartStage) → HasSameCounts c.mark w c.account → IsPrefix c.mark.seen w.seen
+        → start_turns_in t.looked stage ≤ t.looked + asking_steps_of t.start.book t
+        → IsWithinOneMore (start_steps t.start.book t) (counted_so_far t.start w t.was.upto t.totals.upto) (start_turns_in t.looked stage)
+    counting-IsCollectingThen stage same more few =
+        counting-HasLookedToAsk is.looked c.account c.own.targets c.own.since is.to_ask w (HasSameCounts-rows same) (more-rows more) stage few
 
     pub IsStartingSo-rows : (slot : ℕ) (next : NextRowLoad) → w.book ≡ t.start.book → HasSameCounts c.mark w c.account
         → IsPrefix c.mark.seen w.seen

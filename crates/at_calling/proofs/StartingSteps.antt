@@ -1,5 +1,6 @@
 -- What a turn of a start leaves of it.
 use Rattle.std.proofs.Common.{◌≡◌, ◌≢◌, ℕ, ◌+◌, ◌-◌, ◌<◌, ◌≤◌, ◌↔◌, IfSome, IsSome, Option, None, length, false, true, refl, sym, ap, subst, ◌∙◌, arith}
+use Rattle.std.specs.List.{sum}
 use Rattle.at_ledger.specs.Book.{BookTerms}
 use Rattle.at_history.specs.Publications.{IsPrefix}
 use Rattle.at_board.specs.Knowledge.Seats.{SeatTerms}
@@ -14,14 +15,15 @@ use Rattle.at_machines.specs.Asking.{AskingTerms}
 use Rattle.at_machines.specs.CollectingRows.{CollectingRowsTerms}
 use Rattle.at_machines.specs.LoadingRow.{NextRowLoad}
 use Rattle.at_machines.specs.LoadingRow.NextRowLoad.{announced_word, request_word, nothing}
-use Rattle.at_machines.specs.Looking.{IsWithin, LookingTerms, MakesLookLoad}
+use Rattle.at_machines.specs.Looking.{IsWithin, IsWithinOneMore, LookingTerms, MakesLookLoad}
 use Rattle.at_calling.proofs.PayingAloneLaws.{HasSameAsking-HasLoaded}
-use Rattle.at_calling.proofs.StartingLaws.{HasSameCounts-rows, HasSlot-IsStartingSo, IsStartWithin-HasLookedToAsk, IsStartWithin-IsCollectingThen, StaysCounted-HasLookedToAsk, StaysCounted-IsCollectingThen, start_after, start_after_look}
+use Rattle.at_calling.proofs.StartingLaws.{HasSameCounts-rows, HasSlot-IsStartingSo, IsStartWithin-HasLookedToAsk, IsStartWithin-IsCollectingThen, StaysCounted-HasLookedToAsk, StaysCounted-IsCollectingThen, counting-HasLookedToAsk, counting-IsCollectingThen, start_after, start_after_look}
 use Rattle.at_calling.specs.KeptStarting.{IsAskingThen, IsCollectingThen, IsLookingToAsk, IsStartStageSo, IsStartingSo, TakesStartTurn}
 use Rattle.at_single.proofs.Laws.Looks.{published-HasLoaded}
 use Rattle.at_snapshot.specs.Collected.{HasLoaded}
-use Rattle.at_calling.specs.Reading.{LeavesTotals, newly_seen}
-use Rattle.at_calling.specs.Starting.{HasSameCounts, IsStartOf, IsStartWithin, MakesStartStep, StartingTerms, asking_steps_of, start_turns_after, start_turns_in, unless_ended}
+use Rattle.at_snapshot.specs.Snapshots.{snapshot_steps}
+use Rattle.at_calling.specs.Reading.{LeavesTotals, counted_so_far, newly_seen}
+use Rattle.at_calling.specs.Starting.{HasSameCounts, IsStartOf, IsStartWithin, MakesStartStep, StartingTerms, asking_steps_of, start_steps, start_turns_after, start_turns_in, unless_ended}
 use Rattle.at_calling.specs.declared.start_stage.StartStage.{StartStage}
 use Rattle.at_calling.specs.declared.start_stage.StartStage.TheVariants.{Ask, Collect, Look}
 
@@ -51,7 +53,8 @@ module _ (b : BookTerms) (t : StartingTerms) (so : IsStartingSo t) (book : t.sta
   -- a turn of the look
   module _ (now totals : TotalSums) (totals_are : totals ≡ now) (l : LookingTerms) (is : t.stage ≡ Look l) (turns : ℕ) (made : turns ≡ l.turns + 1)
       (load : MakesLookLoad b l.stage before after now) (loads : HasLoaded b l.start after.knows) (counted : StaysCounted now b after.knows.seen)
-      (so_far : IsWithin b.processes l.was (length after.knows.seen) turns) where
+      (so_far : IsWithin b.processes l.was (length after.knows.seen) turns)
+      (so_counted : IsWithinOneMore (snapshot_steps b.processes) (sum now.upto - sum l.was.upto) turns) where
     looks : IsLookingToAsk t l
     looks = subst (IsStartStageSo t) is so.stage_so
 
@@ -63,6 +66,15 @@ module _ (b : BookTerms) (t : StartingTerms) (so : IsStartingSo t) (book : t.sta
         let so_far_on : IsWithin b.processes t.was (length after.knows.seen) turns =
         subst (λ (s : TotalSums). IsWithin b.processes s (length after.knows.seen) turns) looks.was_is so_far in
         omega (arith, so_far_on, same, published-HasLoaded b t.start after.knows (omega (arith, so.kept.one_part)) loads_on)
+
+    counting : IsWithinOneMore (start_steps b t) (counted_so_far t.start after.knows t.was.upto now.upto) turns
+    counting =
+        omega (
+          arith,
+          so_counted,
+          ap (λ (s : TotalSums). sum s.upto) looks.was_is,
+          published-HasLoaded b t.start after.knows (omega (arith, so.kept.one_part)) loads_on,
+        )
 
     pub TakesStartTurn-look : (stage : StartStage) → start_turns_in turns stage ≡ turns → 0 < start_turns_after most stage
         → start_turns_after most stage < start_turns_after most (Look l)
@@ -79,6 +91,7 @@ module _ (b : BookTerms) (t : StartingTerms) (so : IsStartingSo t) (book : t.sta
       counted = counted;
       left = subst (λ (k : StartStage). start_turns_after most stage < start_turns_after most k) (sym is) left;
       so_far = within stage same;
+      counting = subst (IsWithinOneMore (start_steps b t) (counted_so_far t.start after.knows t.was.upto now.upto)) (sym same) counting;
       ends = (λ has. let wrong : false ≡ true = has in absurd (cc wrong), λ none. absurd (omega (arith, some, none)));
       undecided = ap (λ (q : Asking). q.decides) (HasSameAsking-HasLoaded b t.start after.knows (omega (arith, so.kept.one_part)) loads_on t.account);
       starts = tt;
@@ -109,6 +122,10 @@ module _ (b : BookTerms) (t : StartingTerms) (so : IsStartingSo t) (book : t.sta
       left = subst (λ (k : StartStage). start_turns_after most stage < start_turns_after most k) (sym is) left;
       so_far = subst (λ (k : BookTerms). IsStartWithin k (start_after t stage after.knows) (newly_seen t.start after.knows t.was.upto)) book
           (IsStartWithin-HasLookedToAsk t so a.start a.account a.targets a.since asks.to_ask after.knows same_counts more stage
+          (omega (arith, same, asks.left, (HasSlot-IsStartingSo t so).within)));
+      counting = subst (λ (k : BookTerms). IsWithinOneMore (start_steps k t) (counted_so_far t.start after.knows t.was.upto t.totals.upto)
+          (start_turns_in t.looked stage)) book
+          (counting-HasLookedToAsk t so a.start a.account a.targets a.since asks.to_ask after.knows same_counts more stage
           (omega (arith, same, asks.left, (HasSlot-IsStartingSo t so).within)));
       ends = (λ has. let wrong : false ≡ true = has in absurd (cc wrong), λ none. absurd (omega (arith, some, none)));
       undecided = subst (λ n. decides_on after.knows n ≡ decides_on t.start n) asks.to_ask.account_is same_counts.decides;
@@ -155,6 +172,9 @@ module _ (b : BookTerms) (t : StartingTerms) (so : IsStartingSo t) (book : t.sta
       left = subst (λ (k : StartStage). start_turns_after most (Collect next) < start_turns_after most k) (sym is) less;
       so_far = subst (λ (k : BookTerms). IsStartWithin k (start_after t (Collect next) after.knows) (newly_seen t.start after.knows t.was.upto)) book
           (IsStartWithin-IsCollectingThen t so c collects after.knows (Collect next) same_counts more (omega (arith, few)));
+      counting = subst (λ (k : BookTerms). IsWithinOneMore (start_steps k t) (counted_so_far t.start after.knows t.was.upto t.totals.upto)
+          (start_turns_in t.looked (Collect next))) book
+          (counting-IsCollectingThen t so c collects after.knows (Collect next) same_counts more (omega (arith, few)));
       ends = (
         λ some. ap (unless_ended left_at_most) (ends.0 some),
         λ none. ends.1 (unless_ended-none left_at_most next.next (omega (arith, few_on)) none),

@@ -41,9 +41,9 @@ use Rattle.at_machines.specs.Deciding.{DecidingTerms, MakesRoundStep, MakesStep,
 use Rattle.at_machines.specs.Deciding.NextOfRound.{exchange, request_word, record_word, nothing}
 use Rattle.at_calling.proofs.PayingAloneLaws.{length-Publishes-lt, published-with_part}
 use Rattle.at_calling.specs.KeptTurning.{IsDecidingThen}
-use Rattle.at_machines.specs.Looking.{IsWithin}
-use Rattle.at_calling.specs.Reading.{LeavesTotals, SeesOthersStill, newly_seen}
-use Rattle.at_calling.specs.Turning.{IsHelpOf, IsHelpWithin, LeavesSeat, TurningTerms, WaitsOn}
+use Rattle.at_machines.specs.Looking.{IsWithin, IsWithinOneMore}
+use Rattle.at_calling.specs.Reading.{CountsOthersStill, LeavesTotals, SeesOthersStill, counted_so_far, newly_seen}
+use Rattle.at_calling.specs.Turning.{IsHelpOf, IsHelpWithin, LeavesSeat, TurningTerms, WaitsOn, help_steps}
 use Rattle.at_calling.specs.declared.turn_stage.TurnStage.TheVariants.{Decide}
 
 -- a round has so many steps, and its exchange is the first
@@ -59,22 +59,25 @@ exchanges_in-lt n (request_word d word) less = refl
 exchanges_in-lt n (record_word d word) less = refl
 exchanges_in-lt n nothing less = refl
 
--- a step that makes so many exchanges on the account, after which the seat has seen at least as much, of others too
-record IsStepOf (v w : Knowledge) (a exchanges : ℕ) : Type 0 where
+-- a step that makes so many exchanges on the account, after which the seat has seen at least as much, of others too. Where so many are left,
+-- and any is, it published nothing
+record IsStepOf (v w : Knowledge) (a exchanges left : ℕ) : Type 0 where
   decides : decides_on w a ≡ decides_on v a + exchanges
   more : length v.seen ≤ length w.seen
   others : SeesOthersStill v w
+  unpublished : 0 < left → (own_part w).published ≡ (own_part v).published
 
-IsStepOf-IsAfter : (v w : Knowledge) (a exchanges : ℕ) (words : List LoadedWord) → IsAfter v w a exchanges words → SeesOthersStill v w
-    → IsStepOf v w a exchanges
-IsStepOf-IsAfter v w a exchanges words after others = record {
+IsStepOf-IsAfter : (v w : Knowledge) (a exchanges left : ℕ) (words : List LoadedWord) → IsAfter v w a exchanges words → SeesOthersStill v w
+    → (0 < left → (own_part w).published ≡ (own_part v).published) → IsStepOf v w a exchanges left
+IsStepOf-IsAfter v w a exchanges left words after others unpublished = record {
   decides = ap (λ (t : Asking). t.decides) after.asking;
   more = IsPrefix-length v.seen w.seen after.more;
   others = others;
+  unpublished = unpublished;
 }
 
-IsStepOf-StoresWord : (v w : Knowledge) (word n a : ℕ) → 0 < length v.parts → StoresWord v w word n → IsStepOf v w a 0
-IsStepOf-StoresWord v w word n a part told = record {
+IsStepOf-StoresWord : (v w : Knowledge) (word n a left : ℕ) → 0 < length v.parts → StoresWord v w word n → IsStepOf v w a 0 left
+IsStepOf-StoresWord v w word n a left part told = record {
   decides = omega (
     arith,
     ap (λ (t : Knowledge). decides_on t a) told,
@@ -87,11 +90,12 @@ IsStepOf-StoresWord v w word n a part told = record {
     ap (λ (t : Knowledge). (own_part t).published) told,
     published-with_part v (with_word (own_part v) word n) refl,
   );
+  unpublished = λ some. ap (λ (t : Knowledge). (own_part t).published) told ∙ published-with_part v (with_word (own_part v) word n) refl;
 }
 
-IsStepOf-LoadsRequestWord : (b : BookTerms) (v w : Knowledge) (a slot number word n : ℕ) → HasAccount v a → LoadsRequestWord b v w a slot number word n
-    → IsStepOf v w a 0
-IsStepOf-LoadsRequestWord b v w a slot number word n has told =
+IsStepOf-LoadsRequestWord : (b : BookTerms) (v w : Knowledge) (a slot number word n left : ℕ) → HasAccount v a
+    → LoadsRequestWord b v w a slot number word n → IsStepOf v w a 0 left
+IsStepOf-LoadsRequestWord b v w a slot number word n left has told =
     let x : SeenRequest = seen_as a slot number told.request in
     let u : Knowledge = record v { requests = v.requests ++ x ∷ [] } in
     let now : Asking = with_loaded (asking_on (own_part v) a) x word in
@@ -108,26 +112,31 @@ IsStepOf-LoadsRequestWord b v w a slot number word n has told =
         ap (λ (t : Knowledge). (own_part t).published) told.same,
         published-with_part u (part_asking (own_part u) a now) refl,
       );
+      unpublished = λ some. ap (λ (t : Knowledge). (own_part t).published) told.same ∙ published-with_part u (part_asking (own_part u) a now) refl;
     }
 
 -- the step of the exchange makes one, and no other of the round does
 IsStepOf-MakesStep : (b : BookTerms) (c : DecidingTerms) (w : Knowledge) (step next : NextOfRound) → HasAccount c.mark c.helping.account
-    → 0 < left_of_round b.processes step → MakesStep b c w step next → IsStepOf c.mark w c.helping.account (exchanges_in step)
+    → 0 < left_of_round b.processes step → MakesStep b c w step next
+    → IsStepOf c.mark w c.helping.account (exchanges_in step) (left_of_round b.processes next)
 IsStepOf-MakesStep b c w exchange next has left (d, proposal, told, then) =
     let after = IsAfter-Decides b c.mark w c.helping.account (round_in c) proposal (word_of d) has told.decides in
     let own = own_part-Decides b c.mark w c.helping.account (round_in c) proposal (word_of d) has.part told.decides in
-    IsStepOf-IsAfter c.mark w c.helping.account 1 [] after
-    (omega (arith, IsPrefix-length c.mark.seen w.seen after.more, ap (λ (q : Part). q.published) own))
+    IsStepOf-IsAfter c.mark w c.helping.account 1 (left_of_round b.processes next) [] after
+    (omega (arith, IsPrefix-length c.mark.seen w.seen after.more, ap (λ (q : Part). q.published) own)) (λ some. ap (λ (q : Part). q.published) own)
 IsStepOf-MakesStep b c w (request_word d word) next has left ((n, told), more, last) =
-    IsStepOf-LoadsRequestWord b c.mark w c.helping.account d.slot d.number word n has told
+    IsStepOf-LoadsRequestWord b c.mark w c.helping.account d.slot d.number word n (left_of_round b.processes next) has told
 IsStepOf-MakesStep b c w (record_word d word) next has left (stores, publishes) =
     let a = c.helping.account in
-    elim (cases_lt word (record_width b)) as (λ _. IsStepOf c.mark w a 0) [
-      | inl inside ↦ let ((n, told), then) = stores inside in IsStepOf-StoresWord c.mark w word n a has.part told
+    elim (cases_lt word (record_width b)) as (λ _. IsStepOf c.mark w a 0 (left_of_round b.processes next)) [
+      | inl inside ↦
+          let ((n, told), then) = stores inside in
+          IsStepOf-StoresWord c.mark w word n a (left_of_round b.processes next) has.part told
       | inr all ↦
           let ((x, told), then) = publishes (omega (arith, left, all)) in
-          IsStepOf-IsAfter c.mark w a 0 [] (IsAfter-Publishes b c.mark w a x has.part told)
+          IsStepOf-IsAfter c.mark w a 0 (left_of_round b.processes next) [] (IsAfter-Publishes b c.mark w a x has.part told)
           (omega (arith, length-Publishes-lt b c.mark w x told, ap (λ (q : Part). q.published) (own_part-Publishes b c.mark w x has.part told)))
+          (λ some. absurd (omega (arith, some, ap (left_of_round b.processes) then)))
     ]
 IsStepOf-MakesStep b c w nothing next has left none = absurd none
 
@@ -144,10 +153,10 @@ module _ (b : BookTerms) (t : TurningTerms) (d e : DecidingTerms) (w : Knowledge
   left_now : e.left ≡ left_of_round processes e.next
   left_now = ap (λ (c : DecidingTerms). c.left) after
 
-  is_step : IsStepOf t.mark w t.helping.account (exchanges_in d.next)
+  is_step : IsStepOf t.mark w t.helping.account (exchanges_in d.next) (left_of_round b.processes e.next)
   is_step =
-      subst (λ (v : Knowledge). IsStepOf v w t.helping.account (exchanges_in d.next)) so.mark_is
-      (subst (λ (h : HelpingTerms). IsStepOf d.mark w h.account (exchanges_in d.next)) so.helping_is
+      subst (λ (v : Knowledge). IsStepOf v w t.helping.account (exchanges_in d.next) (left_of_round b.processes e.next)) so.mark_is
+      (subst (λ (h : HelpingTerms). IsStepOf d.mark w h.account (exchanges_in d.next) (left_of_round b.processes e.next)) so.helping_is
       (IsStepOf-MakesStep b d w d.next e.next
       (subst (HasAccount d.mark) (sym (ap (λ (h : HelpingTerms). h.account) so.helping_is))
       (subst (λ (v : Knowledge). HasAccount v t.helping.account) (sym so.mark_is) has))
@@ -176,6 +185,37 @@ module _ (b : BookTerms) (t : TurningTerms) (d e : DecidingTerms) (w : Knowledge
         ap (λ k. round_steps b.processes * k) decides_made-step,
       )
 
+  -- until the last step nothing is published
+  module _ (goes_on : 0 < e.left) where
+    unpublished-step : (own_part w).published ≡ (own_part t.start).published
+    unpublished-step =
+        is_step.unpublished (omega (arith, goes_on, left_now, ap (λ n. left_of_round n e.next) processes_are)) ∙ so.unpublished
+
+    pub published-step : (own_part t.start).published ≤ (own_part w).published
+    published-step = omega (arith, unpublished-step)
+
+    -- and the totals stay
+    module _ (now : TotalSums) (same : now ≡ t.totals) where
+      counted-step : sum now.upto ≡ sum d.front
+      counted-step = ap (λ (s : TotalSums). sum s.upto) same ∙ ap (λ xs. sum xs) so.looked_at.upto
+
+      pub counts_others-step : CountsOthersStill t.start w t.was now
+      counts_others-step = omega (arith, counted-step, unpublished-step, so.looked_at.more)
+
+      pub counting-step : IsWithinOneMore (help_steps b.processes (decides_made t.helping.account t.start w))
+          (counted_so_far t.start w t.was.upto now.upto) (t.looked + (round_steps e.start.book.processes - e.left))
+      counting-step =
+          omega (
+            arith,
+            so.few,
+            counted-step,
+            unpublished-step,
+            ap (λ (k : BookTerms). snapshot_steps k.processes) book,
+            ap (λ (c : DecidingTerms). round_steps c.start.book.processes) after,
+            ap round_steps processes_are,
+            ap (λ k. round_steps b.processes * k) decides_made-step,
+          )
+
   -- no less is seen than at the start, of others too
   begun-step : length t.start.seen ≤ sum d.front
   begun-step =
@@ -195,8 +235,8 @@ module _ (b : BookTerms) (t : TurningTerms) (d e : DecidingTerms) (w : Knowledge
   help_turns_in-le = omega (arith, ap (λ (c : DecidingTerms). round_steps c.start.book.processes) after, ap round_steps processes_are)
 
   -- it goes on, and the totals stay
-  pub IsDecidingThen-step : (totals : TotalSums) → totals ≡ t.totals → IsDecidingThen (record t { stage = Decide e; mark = w; totals = totals }) e
-  IsDecidingThen-step totals same = record {
+  pub IsDecidingThen-step : (totals : TotalSums) → totals ≡ t.totals → 0 < e.left → IsDecidingThen (record t { stage = Decide e; mark = w; totals = totals }) e
+  IsDecidingThen-step totals same goes_on = record {
     helping_is = ap (λ (c : DecidingTerms). c.helping) after ∙ so.helping_is;
     mark_is = ap (λ (c : DecidingTerms). c.mark) after;
     totals_are = ap (λ (c : DecidingTerms). c.totals) after ∙ (so.totals_are ∙ sym same);
@@ -205,6 +245,7 @@ module _ (b : BookTerms) (t : TurningTerms) (d e : DecidingTerms) (w : Knowledge
     few = subst (λ (c : DecidingTerms). IsWithin t.start.book.processes t.was (sum c.front) t.looked) (sym after) so.few;
     seen = omega (arith, so.seen, is_step.more, ap (λ (c : DecidingTerms). sum c.front) after);
     others = omega (arith, so.others, is_step.others, ap (λ (c : DecidingTerms). sum c.front) after);
+    unpublished = unpublished-step goes_on;
     left_is = left_now ∙ ap (λ (c : DecidingTerms). left_of_round c.start.book.processes e.next) (sym after);
     once = omega (arith, so.once, is_step.decides, exchanges_in-step);
   }

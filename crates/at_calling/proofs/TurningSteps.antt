@@ -1,5 +1,6 @@
 -- What a step of a turn of helping leaves of it.
 use Rattle.std.proofs.Common.{◌≡◌, ℕ, ◌+◌, ◌-◌, ◌*◌, ◌<◌, ◌≤◌, ◌↔◌, IfSome, IsSome, Option, None, length, refl, sym, ap, subst, ◌∙◌, arith}
+use Rattle.std.specs.List.{sum}
 use Rattle.at_ledger.specs.Book.{BookTerms}
 use Rattle.at_history.proofs.Laws.Prefixes.{IsPrefix-length}
 use Rattle.at_board.specs.Knowledge.Parts.{own_part}
@@ -17,17 +18,18 @@ use Rattle.at_shared.specs.declared.helping.HelpTurn.{HelpTurn}
 use Rattle.at_shared.specs.declared.helping.HelpTurn.TheVariants.{More}
 use Rattle.at_single.proofs.Laws.Looks.{first-HasLoaded, published-HasLoaded}
 use Rattle.at_snapshot.specs.Collected.{HasLoaded}
+use Rattle.at_snapshot.specs.Snapshots.{snapshot_steps}
 use Rattle.at_calling.proofs.PayingAloneLaws.{HasSameAsking-HasLoaded}
 use Rattle.at_calling.proofs.TurningLaws.{IsHelpWithin-step, decides_made-step, left_of_round-le, others-step, seen-step}
 use Rattle.at_calling.specs.KeptTurning.{IsDecidingThen, IsLookingStill, IsTurnStageSo, IsTurningSo, TakesHelpStep}
 use Rattle.at_calling.specs.PayingAlone.{HasSameAsking}
-use Rattle.at_calling.specs.Reading.{LeavesTotals, newly_seen}
-use Rattle.at_calling.specs.Turning.{IsHelpOf, IsHelpWithin, LeavesSeat, MakesTurnStep, TurningTerms, WaitsOn, exchanges_at, help_turns_in, help_turns_left}
+use Rattle.at_calling.specs.Reading.{CountsOthersStill, LeavesTotals, counted_so_far, newly_seen}
+use Rattle.at_calling.specs.Turning.{IsHelpOf, IsHelpWithin, LeavesSeat, MakesTurnStep, TurningTerms, WaitsOn, exchanges_at, help_steps, help_turns_in, help_turns_left}
 use Rattle.at_calling.specs.declared.turn_stage.TurnStage.{TurnStage}
 use Rattle.at_calling.specs.declared.turn_stage.TurnStage.TheVariants.{Decide, Look}
 use Rattle.at_machines.specs.Deciding.{DecidingTerms, MakesRoundStep, NextOfRound, deciding_after, exchanges_in}
 use Rattle.at_machines.specs.Deciding.NextOfRound.{exchange, request_word, record_word, nothing}
-use Rattle.at_machines.specs.Looking.{IsWithin, LookingTerms, MakesLookLoad}
+use Rattle.at_machines.specs.Looking.{IsWithin, IsWithinOneMore, LookingTerms, MakesLookLoad}
 
 -- loads of lengths alone leave a seat so on an account
 pub LeavesSeat-HasLoaded : (b : BookTerms) (v w : Knowledge) (a : ℕ) → 0 < length v.parts → HasLoaded b v w → (own_part v).held ≡ None → LeavesSeat v w a
@@ -63,7 +65,8 @@ module _ (b : BookTerms) (t : TurningTerms) (so : IsTurningSo t) (book : t.start
 
   -- a step of the look
   module _ (l : LookingTerms) (is : t.stage ≡ Look l) (turns : ℕ) (made : turns ≡ l.turns + 1) (load : MakesLookLoad b l.stage before after now)
-      (loads : HasLoaded b l.start w) (so_far : IsWithin b.processes l.was (length w.seen) turns) where
+      (loads : HasLoaded b l.start w) (so_far : IsWithin b.processes l.was (length w.seen) turns)
+      (so_counted : IsWithinOneMore (snapshot_steps b.processes) (sum now.upto - sum l.was.upto) turns) (more : sum l.was.upto ≤ sum now.upto) where
     looks : IsLookingStill t l
     looks = subst (IsTurnStageSo t) is so.stage_so
 
@@ -81,6 +84,9 @@ module _ (b : BookTerms) (t : TurningTerms) (so : IsTurningSo t) (book : t.start
         let so_far_on : IsWithin b.processes t.was (length w.seen) turns =
         subst (λ (s : TotalSums). IsWithin b.processes s (length w.seen) turns) looks.was_is so_far in
         omega (arith, so_far_on, published)
+
+    counting : IsWithinOneMore (help_steps b.processes (decides_made a t.start w)) (counted_so_far t.start w t.was.upto now.upto) turns
+    counting = omega (arith, so_counted, ap (λ (s : TotalSums). sum s.upto) looks.was_is, published)
 
     pub TakesHelpStep-look : (stage : TurnStage) (answer : Option HelpTurn) → help_turns_in turns stage ≡ turns
         → help_turns_left b.processes stage < help_turns_left b.processes (Look l)
@@ -104,6 +110,9 @@ module _ (b : BookTerms) (t : TurningTerms) (so : IsTurningSo t) (book : t.start
       once = omega (arith, decides_on-look);
       seen = IsPrefix-length t.start.seen w.seen loads-look.more;
       others = omega (arith, IsPrefix-length t.start.seen w.seen loads-look.more, published);
+      counting = subst (IsWithinOneMore (help_steps b.processes (decides_made a t.start w)) (counted_so_far t.start w t.was.upto now.upto)) (sym same) counting;
+      counts_others = omega (arith, more, ap (λ (s : TotalSums). sum s.upto) looks.was_is, published);
+      published = omega (arith, published);
       help = help;
       waits = waits;
       seat = seat;
@@ -121,13 +130,17 @@ module _ (b : BookTerms) (t : TurningTerms) (so : IsTurningSo t) (book : t.start
     decided : decides_made a t.start w ≡ 1
     decided = decides_made-step b t d e w book decides-decide has some after_is less step
 
-    pub TakesHelpStep-decide : (answer : Option HelpTurn) → (IsSome answer ↔ (e.left ≡ 0)) → IfSome answer (IsHelpOf b t.start w t.helping)
+    pub TakesHelpStep-decide : (answer : Option HelpTurn)
+        → IsWithinOneMore (help_steps b.processes (decides_made a t.start w)) (counted_so_far t.start w t.was.upto now.upto)
+        (t.looked + (round_steps e.start.book.processes - e.left)) → CountsOthersStill t.start w t.was now
+        → (own_part t.start).published ≤ (own_part w).published
+        → (IsSome answer ↔ (e.left ≡ 0)) → IfSome answer (IsHelpOf b t.start w t.helping)
         → IfSome answer (λ h. h ≡ More → WaitsOn b t.start w t.helping) → IfSome answer (λ h. LeavesSeat t.start w a)
         → IfSome answer (λ h. HasCounted now b w.seen)
         → IfSome answer (λ h. LeavesTotals b t.start w t.was now (round_steps b.processes * decides_made a t.start w)
         (t.looked + (round_steps e.start.book.processes - e.left)))
         → TakesHelpStep b t (record t { stage = Decide e; mark = mark; totals = totals }) before after now answer
-    TakesHelpStep-decide answer ends help waits seat counted leaves = record {
+    TakesHelpStep-decide answer counting counts_others more ends help waits seat counted leaves = record {
       helping_is = refl;
       start_is = refl;
       mark_is = mark_is;
@@ -149,6 +162,9 @@ module _ (b : BookTerms) (t : TurningTerms) (so : IsTurningSo t) (book : t.start
       once = omega (arith, decided);
       seen = seen-step b t d e w book decides-decide has some after_is less step;
       others = others-step b t d e w book decides-decide has some after_is less step;
+      counting = counting;
+      counts_others = counts_others;
+      published = more;
       help = help;
       waits = waits;
       seat = seat;

@@ -1,5 +1,5 @@
 -- Calls of the object that are made one step a turn, by a pass that was taken apart.
-use Rattle.std.specs.Prelude.{◌≡◌, ◌≢◌, ℕ, ◌+◌, ◌*◌, ◌≤◌, false, true, Option, Some, None}
+use Rattle.std.specs.Prelude.{◌≡◌, ◌≢◌, ℕ, ◌+◌, ◌*◌, ◌≤◌, false, true, List, Option, Some, None}
 use Rattle.at_ledger.specs.Account.{is_shared, is_single, slots_of}
 use Rattle.at_ledger.specs.Book.{BookTerms, account_of}
 use Rattle.at_ledger.specs.declared.call.Call.{Call}
@@ -18,10 +18,10 @@ use Rattle.at_object.specs.Passes.{PassTerms, one_more_call}
 use Rattle.at_object.specs.Payments.{refusal_of}
 use Rattle.at_object.specs.declared.parts.Rest.{Rest}
 use Rattle.at_shared.specs.Helpings.{decides_made}
-use Rattle.at_machines.specs.Looking.{MakesLookLoad, look_turns_left}
+use Rattle.at_machines.specs.Looking.{IsWithinOneMore, MakesLookLoad, look_turns_left}
 use Rattle.at_calling.specs.PayingAlone.{MakesPayStep, pay_turns_left, turns_made}
 use Rattle.at_calling.specs.PayingShared.{MakesShareStep, share_exchanges_at, share_exchanges_made, share_turns_left}
-use Rattle.at_calling.specs.Reading.{newly_seen}
+use Rattle.at_calling.specs.Reading.{counted_so_far, newly_seen}
 use Rattle.at_calling.specs.declared.call_stage.CallStage.{CallStage}
 use Rattle.at_calling.specs.declared.call_stage.CallStage.TheVariants.{PayAlone, PayShared, Read, Refuse, Refused}
 
@@ -121,11 +121,13 @@ MakesCallStep b (Read r) before after now = MakesLookLoad b r.looking.stage befo
 MakesCallStep b (PayAlone p) before after now = MakesPayStep b p.stage before after now
 MakesCallStep b (PayShared p) before after now = MakesShareStep b p.stage before after now
 
--- so many steps and exchanges are within the bounds of a call of this pass so far, with this known. The records that were seen anew are
--- those of others: what the call itself has published took no load. The exchanges are those that were decided on the account that the call
--- names first, at most one for each owner, and there are none where the call may make none
-pub record IsCallWithin (b : BookTerms) (before : PassTerms) (call : Call) (after : Knowledge) (steps exchanges : ℕ) : Type 0 where
+-- so many steps and exchanges are within the bounds of a call of this pass so far, with this known and counted. The records that were seen
+-- or counted anew are those of others: what the call itself has published took no load. The steps are fewer, too, than with those that were
+-- counted and one more. The exchanges are those that were decided on the account that the call names first, at most one for each owner, and
+-- there are none where the call may make none
+pub record IsCallWithin (b : BookTerms) (before : PassTerms) (call : Call) (after : Knowledge) (counted : List ℕ) (steps exchanges : ℕ) : Type 0 where
   pub few : steps ≤ call_steps b call + RECORD_WORDS * newly_seen before.knows after before.counted
+  pub counting : IsWithinOneMore (call_steps b call) (counted_so_far before.knows after before.counted counted) steps
   pub decided : exchanges ≡ decides_made (first_account call) before.knows after
   pub none : may_exchange b call ≡ false → exchanges ≡ 0
   pub few_decided : exchanges ≤ slots_of (account_of b (first_account call))

@@ -61,7 +61,7 @@ pub record TakesCallTurn (b : BookTerms) (t u : CallingTerms) (before after : Se
   pub turns : steps_made u.stage ≡ steps_made t.stage + steps_of t.stage
   pub step : MakesCallStep b t.stage before after now.totals
   pub left : call_turns_left b u.stage < call_turns_left b t.stage
-  pub so_far : IsCallWithin b (pass_before t) t.call after.knows (steps_made u.stage) (exchanges_made u.stage)
+  pub so_far : IsCallWithin b (pass_before t) t.call after.knows now.totals.upto (steps_made u.stage) (exchanges_made u.stage)
   pub ends : IsSome answer ↔ (call_turns_left b u.stage ≡ 0)
   pub made : IfSome answer (CallMade b (pass_before t) (pass_of after now) t.call)
   pub placed : IfSome answer (λ r. (earlier : List Receipt) → Stands (pass_before t) earlier → IsPlaced b t.start.knows.first after.knows.seen earlier r)

@@ -14,12 +14,13 @@ use Rattle.at_fold.specs.HasCounted.{StaysCounted}
 use Rattle.at_fold.specs.Sums.{TotalSums}
 use Rattle.at_ledger.specs.declared.call.Reply.{Reply}
 use Rattle.at_log.specs.declared.receipt.At.{At}
+use Rattle.at_object.specs.Payments.{single_steps}
 use Rattle.at_single.specs.Looks.{HasLooked}
 use Rattle.at_single.specs.Standing.{IsOnlyOwner}
 use Rattle.at_machines.specs.Appending.{AppendingTerms}
-use Rattle.at_machines.specs.Looking.{IsWithin, LookingTerms, look_turns_left}
+use Rattle.at_machines.specs.Looking.{IsWithin, IsWithinOneMore, LookingTerms, look_turns_left}
 use Rattle.at_calling.specs.PayingAlone.{AnswersAlone, HasSameAsking, IsPayWithin, MakesPayStep, PayingAloneTerms, append_steps, pay_turns_left, turns_made}
-use Rattle.at_calling.specs.Reading.{LeavesTotals, newly_seen}
+use Rattle.at_calling.specs.Reading.{LeavesTotals, counted_so_far, newly_seen}
 use Rattle.at_calling.specs.declared.pay_stage.PayStage.{PayStage}
 use Rattle.at_calling.specs.declared.pay_stage.PayStage.TheVariants.{Append, Look, Short}
 
@@ -71,6 +72,7 @@ pub record TakesPayTurn (b : BookTerms) (t u : PayingAloneTerms) (before after :
   pub left : pay_turns_left (record_width b) u.stage < pay_turns_left (record_width b) t.stage
   pub ends : IsSome answer ↔ (pay_turns_left (record_width b) u.stage ≡ 0)
   pub so_far : IsPayWithin b.processes (newly_seen t.start after.knows t.was.upto) (turns_made u)
+  pub counting : IsWithinOneMore (single_steps b.processes) (counted_so_far t.start after.knows t.was.upto now.upto) (turns_made u)
   pub asks : HasSameAsking t.start after.knows
   pub pays : IfSome answer (AnswersAlone b t.start after.knows t.from t.targets)
   pub counted : IfSome answer (λ r. StaysCounted now b after.knows.seen)

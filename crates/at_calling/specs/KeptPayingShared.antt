@@ -20,8 +20,9 @@ use Rattle.at_shared.specs.Settling.{asking_steps, round_steps}
 use Rattle.at_single.specs.Standing.{newly_counted}
 use Rattle.at_snapshot.specs.Scans.{SeesOwnRecords}
 use Rattle.at_snapshot.specs.Snapshots.{snapshot_steps}
-use Rattle.at_calling.specs.PayingShared.{AnswersInRound, DecidesFew, IsShareWithin, MakesShareStep, PayingSharedTerms, settling_steps, share_exchanges_at, share_exchanges_made, share_turns_left}
-use Rattle.at_calling.specs.Reading.{LeavesTotals, newly_seen}
+use Rattle.at_machines.specs.Looking.{IsWithinOneMore}
+use Rattle.at_calling.specs.PayingShared.{AnswersInRound, DecidesFew, IsShareWithin, MakesShareStep, PayingSharedTerms, settling_steps, share_exchanges_at, share_exchanges_made, share_steps, share_turns_left}
+use Rattle.at_calling.specs.Reading.{LeavesTotals, counted_so_far, newly_seen}
 use Rattle.at_calling.specs.Starting.{IsStartOf, StartingTerms, start_turns_left, start_turns_made}
 use Rattle.at_calling.specs.Turning.{TurningTerms, help_turns_left, help_turns_made}
 use Rattle.at_calling.specs.declared.share_stage.ShareStage.{ShareStage}
@@ -99,6 +100,7 @@ pub record TakesShareTurn (b : BookTerms) (t u : PayingSharedTerms) (before afte
   pub step : MakesShareStep b t.stage before after now
   pub left : share_turns_left b u < share_turns_left b t
   pub so_far : IsShareWithin b u (newly_seen t.start after.knows t.was.upto)
+  pub counting : IsWithinOneMore (share_steps b t.account) (counted_so_far t.start after.knows t.was.upto now.upto) u.turns
   pub decided : share_exchanges_made u ≡ decides_made t.account t.start after.knows
   pub exchanges_few : share_exchanges_made u ≤ slots_of (account_of b t.account)
   pub ends : IsSome answer ↔ (share_turns_left b u ≡ 0)

@@ -20,9 +20,9 @@ use Rattle.at_shared.specs.Helpings.{HasAllSettled, decides_on}
 use Rattle.at_single.specs.Looks.{HasLooked}
 use Rattle.at_machines.specs.Asking.{AskingTerms}
 use Rattle.at_machines.specs.CollectingRows.{CollectingRowsTerms}
-use Rattle.at_machines.specs.Looking.{IsWithin, LookingTerms, look_turns_left}
-use Rattle.at_calling.specs.Reading.{LeavesTotals, newly_seen}
-use Rattle.at_calling.specs.Starting.{HasSameCounts, IsStartOf, IsStartWithin, MakesStartStep, StartingTerms, asking_steps_of, start_turns_left, start_turns_made}
+use Rattle.at_machines.specs.Looking.{IsWithin, IsWithinOneMore, LookingTerms, look_turns_left}
+use Rattle.at_calling.specs.Reading.{LeavesTotals, counted_so_far, newly_seen}
+use Rattle.at_calling.specs.Starting.{HasSameCounts, IsStartOf, IsStartWithin, MakesStartStep, StartingTerms, asking_steps_of, start_steps, start_turns_left, start_turns_made}
 use Rattle.at_calling.specs.declared.start_stage.StartStage.{StartStage}
 use Rattle.at_calling.specs.declared.start_stage.StartStage.TheVariants.{Ask, Collect, Look}
 
@@ -91,6 +91,7 @@ pub record TakesStartTurn (b : BookTerms) (t u : StartingTerms) (before after : 
   pub counted : StaysCounted now b after.knows.seen
   pub left : start_turns_left b u < start_turns_left b t
   pub so_far : IsStartWithin b u (newly_seen t.start after.knows t.was.upto)
+  pub counting : IsWithinOneMore (start_steps b t) (counted_so_far t.start after.knows t.was.upto now.upto) (start_turns_made u)
   pub ends : IsSome answer ↔ (start_turns_left b u ≡ 0)
   pub undecided : decides_on after.knows t.account ≡ decides_on t.start t.account
   pub starts : IfSome answer (IsStartOf b t.start after.knows t.account t.targets)

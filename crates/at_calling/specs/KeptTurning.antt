@@ -11,9 +11,9 @@ use Rattle.at_shared.specs.declared.helping.HelpTurn.{HelpTurn}
 use Rattle.at_shared.specs.declared.helping.HelpTurn.TheVariants.{More}
 use Rattle.at_single.specs.Looks.{HasLooked}
 use Rattle.at_machines.specs.Deciding.{DecidingTerms, exchanges_in, left_of_round}
-use Rattle.at_machines.specs.Looking.{IsWithin, LookingTerms, look_turns_left}
-use Rattle.at_calling.specs.Reading.{LeavesTotals, SeesOthersStill, newly_seen}
-use Rattle.at_calling.specs.Turning.{IsHelpOf, IsHelpWithin, LeavesSeat, MakesTurnStep, TurningTerms, WaitsOn, exchanges_at, help_turns_left, help_turns_made}
+use Rattle.at_machines.specs.Looking.{IsWithin, IsWithinOneMore, LookingTerms, look_turns_left}
+use Rattle.at_calling.specs.Reading.{CountsOthersStill, LeavesTotals, SeesOthersStill, counted_so_far, newly_seen}
+use Rattle.at_calling.specs.Turning.{IsHelpOf, IsHelpWithin, LeavesSeat, MakesTurnStep, TurningTerms, WaitsOn, exchanges_at, help_steps, help_turns_left, help_turns_made}
 use Rattle.at_calling.specs.declared.turn_stage.TurnStage.{TurnStage}
 use Rattle.at_calling.specs.declared.turn_stage.TurnStage.TheVariants.{Decide, Found, Look}
 
@@ -26,7 +26,7 @@ pub record IsLookingStill (t : TurningTerms) (l : LookingTerms) : Type 0 where
   pub left : 0 < look_turns_left l.stage
   pub undecided : decides_on t.mark t.helping.account ≡ decides_on t.start t.helping.account
 
--- the round at the front of the look goes on: its exchange was made or comes next
+-- the round at the front of the look goes on: its exchange was made or comes next, and nothing was published
 pub record IsDecidingThen (t : TurningTerms) (d : DecidingTerms) : Type 0 where
   pub helping_is : d.helping ≡ t.helping
   pub mark_is : d.mark ≡ t.mark
@@ -35,6 +35,7 @@ pub record IsDecidingThen (t : TurningTerms) (d : DecidingTerms) : Type 0 where
   pub few : IsWithin t.start.book.processes t.was (sum d.front) t.looked
   pub seen : sum d.front ≤ length t.mark.seen
   pub others : sum d.front + (own_part t.mark).published ≤ length t.mark.seen + (own_part t.start).published
+  pub unpublished : (own_part t.mark).published ≡ (own_part t.start).published
   pub left_is : d.left ≡ left_of_round d.start.book.processes d.next
   pub once : decides_on t.mark t.helping.account + exchanges_in d.next ≡ decides_on t.start t.helping.account + 1
 
@@ -67,6 +68,10 @@ pub record TakesHelpStep (b : BookTerms) (t u : TurningTerms) (before after : Se
   pub once : decides_made t.helping.account t.start after.knows ≤ 1
   pub seen : length t.start.seen ≤ length after.knows.seen
   pub others : SeesOthersStill t.start after.knows
+  pub counting : IsWithinOneMore (help_steps b.processes (decides_made t.helping.account t.start after.knows))
+      (counted_so_far t.start after.knows t.was.upto now.upto) (help_turns_made u)
+  pub counts_others : CountsOthersStill t.start after.knows t.was now
+  pub published : (own_part t.start).published ≤ (own_part after.knows).published
   pub help : IfSome answer (IsHelpOf b t.start after.knows t.helping)
   pub waits : IfSome answer (λ h. h ≡ More → WaitsOn b t.start after.knows t.helping)
   pub seat : IfSome answer (λ h. LeavesSeat t.start after.knows t.helping.account)

@@ -37,9 +37,13 @@ pub record PayingSharedTerms : Type 0 where
 abbrev pub settling_steps : BookTerms → ℕ → ℕ
 settling_steps b a = asking_steps (slots_of (account_of b a)) + slots_of (account_of b a) * (snapshot_steps b.processes + round_steps b.processes)
 
--- the most turns of a payment from the account, where so many records are loaded
+-- the most steps of a payment from the account, beside the loads of records
+abbrev pub share_steps : BookTerms → ℕ → ℕ
+share_steps b a = shared_steps b.processes (slots_of (account_of b a))
+
+-- the most turns of it, where so many records are loaded
 abbrev pub share_turns_most : BookTerms → ℕ → ℕ → ℕ
-share_turns_most b a records = shared_steps b.processes (slots_of (account_of b a)) + RECORD_WORDS * records
+share_turns_most b a records = share_steps b a + RECORD_WORDS * records
 
 -- so many, unless the request is settled
 abbrev pub unless_settled : ℕ → ShareStage → ℕ

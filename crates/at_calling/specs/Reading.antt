@@ -24,14 +24,23 @@ pub record ReadingTerms : Type 0 where
 abbrev pub newly_seen : Knowledge → Knowledge → List ℕ → ℕ
 newly_seen before after counted = length after.seen - sum counted - ((own_part after).published - (own_part before).published)
 
+-- how many records of others totals have counted so far that they hadn't before: what they count more, without what the process itself has
+-- published since
+abbrev pub counted_so_far : Knowledge → Knowledge → List ℕ → List ℕ → ℕ
+counted_so_far before after was now = sum now - sum was - ((own_part after).published - (own_part before).published)
+
 -- no fewer records of others are seen: what the process itself has published since is among what is seen more
 abbrev pub SeesOthersStill : Knowledge → Knowledge → Type 0
 SeesOthersStill before after = length before.seen + (own_part after).published ≤ length after.seen + (own_part before).published
 
+-- and no fewer are counted
+abbrev pub CountsOthersStill : Knowledge → Knowledge → TotalSums → TotalSums → Type 0
+CountsOthersStill before after was now = sum was.upto + (own_part after).published ≤ sum now.upto + (own_part before).published
+
 -- what a call on single accounts leaves of totals: they have counted all that its process has published, and what it hasn't published
 -- itself and they hadn't counted before took a load for each word, beside the snapshot and so many steps more
 pub record LeavesTotals (b : BookTerms) (before after : Knowledge) (was now : TotalSums) (more_steps turns : ℕ) : Type 0 where
-  pub more : sum was.upto + (own_part after).published ≤ sum now.upto + (own_part before).published
+  pub more : CountsOthersStill before after was now
   pub own_counted : slice_index now.upto after.first ≡ (own_part after).published
   pub few : turns ≤ snapshot_steps b.processes + more_steps + RECORD_WORDS * newly_counted before after was now
 

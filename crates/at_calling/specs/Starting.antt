@@ -62,9 +62,13 @@ asking_steps_of b t = asking_steps (slots_of (account_of b t.account))
 abbrev pub start_turns_left : BookTerms → StartingTerms → ℕ
 start_turns_left b t = start_turns_after (asking_steps_of b t) t.stage
 
--- the turns that were made are at most those of a snapshot, of asking and of the rows, and of the loads of so many records
+-- the most steps of a start, beside the loads of records: those of a snapshot, of asking and of the rows
+abbrev pub start_steps : BookTerms → StartingTerms → ℕ
+start_steps b t = snapshot_steps b.processes + asking_steps_of b t
+
+-- the turns that were made are at most those, and those of the loads of so many records
 abbrev pub IsStartWithin : BookTerms → StartingTerms → ℕ → Type 0
-IsStartWithin b t records = start_turns_made t ≤ snapshot_steps b.processes + asking_steps_of b t + RECORD_WORDS * records
+IsStartWithin b t records = start_turns_made t ≤ start_steps b t + RECORD_WORDS * records
 
 -- nothing was published meanwhile, and nothing decided on the account
 pub record HasSameCounts (before after : Knowledge) (a : ℕ) : Type 0 where

@@ -63,9 +63,13 @@ exchanges_at (Look l) = 0
 exchanges_at (Decide d) = exchanges_in d.next
 exchanges_at Found = 0
 
--- so many turns are at most those of a snapshot, of so many rounds, and of the loads of so many records
+-- the most steps of a turn of helping, beside the loads of records: those of a snapshot, and of so many rounds
+abbrev pub help_steps : ℕ → ℕ → ℕ
+help_steps n decided = snapshot_steps n + round_steps n * decided
+
+-- so many turns are at most those, and those of the loads of so many records
 abbrev pub IsHelpWithin : ℕ → ℕ → ℕ → ℕ → Type 0
-IsHelpWithin n decided records turns = turns ≤ snapshot_steps n + round_steps n * decided + RECORD_WORDS * records
+IsHelpWithin n decided records turns = turns ≤ help_steps n decided + RECORD_WORDS * records
 
 -- the answer of a turn of helping whose first step came after what was known before. The receipts of a settled request are right, and
 -- stand at or after the request's `since`

@@ -113,7 +113,8 @@ impl Calling {
         ensures left { call_turns_left board.now.book self.new.stage
             < call_turns_left board.now.book self.old.stage }
         ensures so_far { IsCallWithin board.now.book (pass_before self.old) self.old.call
-            seat.new.knows (steps_made self.new.stage) (exchanges_made self.new.stage) }
+            seat.new.knows rest.new.totals.upto (steps_made self.new.stage)
+            (exchanges_made self.new.stage) }
         ensures ends { IsSome result
             ↔ (call_turns_left board.now.book self.new.stage ≡ 0) }
         ensures made { IfSome result (CallMade board.now.book (pass_before self.old)

@@ -8,11 +8,12 @@ ghost use Rattle.at_fold.specs.HasCounted.{HasCounted, StaysCounted};
 ghost use Rattle.at_history.specs.Rounds.{owns_of};
 ghost use Rattle.at_ledger.specs.Call.{AreTargetsOn};
 ghost use Rattle.at_machines.specs.Appending.{AppendingTerms};
-ghost use Rattle.at_machines.specs.Looking.{LookingTerms};
+ghost use Rattle.at_machines.specs.Looking.{IsWithinOneMore, LookingTerms};
+ghost use Rattle.at_object.specs.Payments.{single_steps};
 ghost use Rattle.at_single.specs.Standing.{IsOnlyOwner};
 ghost use Rattle.at_calling.specs.KeptPayingAlone.{TakesPayTurn};
 ghost use Rattle.at_calling.specs.PayingAlone.{AnswersAlone, HasSameAsking, IsPayWithin, MakesPayStep, append_steps, pay_turns_left, turns_made};
-ghost use Rattle.at_calling.specs.Reading.{LeavesTotals, newly_seen};
+ghost use Rattle.at_calling.specs.Reading.{LeavesTotals, counted_so_far, newly_seen};
 
 use crate::pay_stage::PayStage;
 use at_base::Counts;
@@ -137,6 +138,9 @@ impl PayingAlone {
             ≡ 0) }
         ensures so_far { IsPayWithin board.now.book.processes
             (newly_seen self.old.start seat.new.knows self.old.was.upto) (turns_made self.new) }
+        ensures counting { IsWithinOneMore (single_steps board.now.book.processes)
+            (counted_so_far self.old.start seat.new.knows self.old.was.upto totals.new.upto)
+            (turns_made self.new) }
         ensures asks { HasSameAsking self.old.start seat.new.knows }
         ensures answer { IfSome result (AnswersAlone board.now.book self.old.start seat.new.knows
             self.old.from self.old.targets) }

@@ -12,9 +12,10 @@ ghost use Rattle.at_ledger.specs.Call.{AreTargetsOn};
 ghost use Rattle.at_shared.specs.HelpingTerms.{HelpingTerms};
 ghost use Rattle.at_shared.specs.Helpings.{HasAllSettled, decides_made};
 ghost use Rattle.at_shared.specs.PaymentTurns.{SettlesInTurns};
+ghost use Rattle.at_machines.specs.Looking.{IsWithinOneMore};
 ghost use Rattle.at_calling.specs.KeptPayingShared.{TakesShareTurn};
-ghost use Rattle.at_calling.specs.PayingShared.{AnswersInRound, DecidesFew, IsShareWithin, MakesShareStep, settling_steps, share_exchanges_at, share_exchanges_made, share_turns_left};
-ghost use Rattle.at_calling.specs.Reading.{LeavesTotals, newly_seen};
+ghost use Rattle.at_calling.specs.PayingShared.{AnswersInRound, DecidesFew, IsShareWithin, MakesShareStep, settling_steps, share_exchanges_at, share_exchanges_made, share_steps, share_turns_left};
+ghost use Rattle.at_calling.specs.Reading.{LeavesTotals, counted_so_far, newly_seen};
 ghost use Rattle.at_calling.specs.Starting.{StartingTerms};
 ghost use Rattle.at_calling.specs.Turning.{TurningTerms};
 
@@ -141,6 +142,9 @@ impl PayingShared {
             < share_turns_left board.now.book self.old }
         ensures so_far { IsShareWithin board.now.book self.new
             (newly_seen self.old.start seat.new.knows self.old.was.upto) }
+        ensures counting { IsWithinOneMore (share_steps board.now.book self.old.account)
+            (counted_so_far self.old.start seat.new.knows self.old.was.upto totals.new.upto)
+            self.new.turns }
         ensures ends { IsSome result ↔ (share_turns_left board.now.book self.new ≡ 0) }
         ensures answer { IfSome result (AnswersInRound board.now.book self.old.start
             seat.new.knows self.old.account self.old.targets) }

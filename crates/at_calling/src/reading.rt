@@ -1,11 +1,12 @@
 //! A read, a load a turn.
 
-ghost use Rattle.std.specs.Prelude.{◌≡◌, ◌+◌, ◌<◌, ◌↔◌, IfSome, IsSome, length};
+ghost use Rattle.std.specs.Prelude.{◌≡◌, ◌+◌, ◌-◌, ◌<◌, ◌↔◌, IfSome, IsSome, length, sum};
 ghost use Rattle.at_board.specs.Counting.{raised};
 ghost use Rattle.at_board.specs.Knowledge.Seats.{IsOf};
 ghost use Rattle.at_fold.specs.HasCounted.{HasCounted, StaysCounted};
 ghost use Rattle.at_snapshot.specs.Collected.{HasLoaded};
-ghost use Rattle.at_machines.specs.Looking.{IsWithin, MakesLookLoad, look_turns_left};
+ghost use Rattle.at_snapshot.specs.Snapshots.{snapshot_steps};
+ghost use Rattle.at_machines.specs.Looking.{IsWithin, IsWithinOneMore, MakesLookLoad, look_turns_left};
 ghost use Rattle.at_calling.specs.Reading.{IsReadOf, LeavesTotals};
 
 use at_board::{Board, BoardSeat};
@@ -78,6 +79,8 @@ impl Reading {
             < look_turns_left self.old.looking.stage }
         ensures so_far { IsWithin board.now.book.processes self.old.looking.was
             (length seat.new.knows.seen) self.new.looking.turns }
+        ensures counting { IsWithinOneMore (snapshot_steps board.now.book.processes)
+            (sum totals.new.upto - sum self.old.looking.was.upto) self.new.looking.turns }
         ensures ends { IsSome result ↔ (look_turns_left self.new.looking.stage ≡ 0) }
         ensures answer { IfSome result (IsReadOf board.now.book self.old.looking.start
             seat.new.knows self.old.account) }

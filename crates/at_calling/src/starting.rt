@@ -10,12 +10,12 @@ ghost use Rattle.at_history.specs.Fronts.{place};
 ghost use Rattle.at_ledger.specs.Call.{AreTargetsOn};
 ghost use Rattle.at_machines.specs.Asking.{AskingTerms, starting_to_ask};
 ghost use Rattle.at_machines.specs.CollectingRows.{CollectingRowsTerms};
-ghost use Rattle.at_machines.specs.Looking.{LookingTerms};
+ghost use Rattle.at_machines.specs.Looking.{IsWithinOneMore, LookingTerms};
 ghost use Rattle.at_rows.specs.Asks.{MayAskFor, asked_for};
 ghost use Rattle.at_shared.specs.Helpings.{HasAllSettled, decides_on};
 ghost use Rattle.at_calling.specs.KeptStarting.{TakesStartTurn};
-ghost use Rattle.at_calling.specs.Reading.{LeavesTotals, newly_seen};
-ghost use Rattle.at_calling.specs.Starting.{IsStartOf, IsStartWithin, MakesStartStep, asking_steps_of, start_turns_left, start_turns_made};
+ghost use Rattle.at_calling.specs.Reading.{LeavesTotals, counted_so_far, newly_seen};
+ghost use Rattle.at_calling.specs.Starting.{IsStartOf, IsStartWithin, MakesStartStep, asking_steps_of, start_steps, start_turns_left, start_turns_made};
 
 use crate::start_stage::StartStage;
 use at_base::Counts;
@@ -137,6 +137,9 @@ impl Starting {
             < start_turns_left board.now.book self.old }
         ensures so_far { IsStartWithin board.now.book self.new
             (newly_seen self.old.start seat.new.knows self.old.was.upto) }
+        ensures counting { IsWithinOneMore (start_steps board.now.book self.old)
+            (counted_so_far self.old.start seat.new.knows self.old.was.upto totals.new.upto)
+            (start_turns_made self.new) }
         ensures ends { IsSome result ↔ (start_turns_left board.now.book self.new ≡ 0) }
         ensures undecided { decides_on seat.new.knows self.old.account
             ≡ decides_on self.old.start self.old.account }

@@ -2,16 +2,17 @@
 
 ghost use Rattle.std.specs.Prelude.{◌≡◌, ◌+◌, ◌*◌, ◌<◌, ◌≤◌, ◌↔◌, IfSome, IsSome, length};
 ghost use Rattle.at_board.specs.Counting.{raised};
+ghost use Rattle.at_board.specs.Knowledge.Parts.{own_part};
 ghost use Rattle.at_board.specs.Knowledge.Seats.{IsOf};
 ghost use Rattle.at_machines.specs.Deciding.{DecidingTerms};
-ghost use Rattle.at_machines.specs.Looking.{LookingTerms};
+ghost use Rattle.at_machines.specs.Looking.{IsWithinOneMore, LookingTerms};
 ghost use Rattle.at_fold.specs.HasCounted.{HasCounted};
 ghost use Rattle.at_shared.specs.Helpings.{IsHelping, decides_made, decides_on};
 ghost use Rattle.at_shared.specs.Settling.{round_steps};
 ghost use Rattle.at_shared.specs.declared.helping.HelpTurn.{HelpTurn};
 ghost use Rattle.at_calling.specs.KeptTurning.{TakesHelpStep};
-ghost use Rattle.at_calling.specs.Reading.{LeavesTotals, SeesOthersStill, newly_seen};
-ghost use Rattle.at_calling.specs.Turning.{IsHelpOf, IsHelpWithin, LeavesSeat, MakesTurnStep, WaitsOn, exchanges_at, help_turns_left, help_turns_made};
+ghost use Rattle.at_calling.specs.Reading.{CountsOthersStill, LeavesTotals, SeesOthersStill, counted_so_far, newly_seen};
+ghost use Rattle.at_calling.specs.Turning.{IsHelpOf, IsHelpWithin, LeavesSeat, MakesTurnStep, WaitsOn, exchanges_at, help_steps, help_turns_left, help_turns_made};
 
 use crate::turn_stage::TurnStage;
 use at_base::Decision;
@@ -137,6 +138,14 @@ impl Turning {
         ensures once { decides_made self.old.helping.account self.old.start seat.new.knows ≤ 1 }
         ensures seen { length self.old.start.seen ≤ length seat.new.knows.seen }
         ensures others { SeesOthersStill self.old.start seat.new.knows }
+        ensures counting { IsWithinOneMore (help_steps board.now.book.processes
+            (decides_made self.old.helping.account self.old.start seat.new.knows))
+            (counted_so_far self.old.start seat.new.knows self.old.was.upto totals.new.upto)
+            (help_turns_made self.new) }
+        ensures counts_others { CountsOthersStill self.old.start seat.new.knows self.old.was
+            totals.new }
+        ensures published { (own_part self.old.start).published
+            ≤ (own_part seat.new.knows).published }
         ensures answer { IfSome result (IsHelpOf board.now.book self.old.start seat.new.knows
             self.old.helping) }
         ensures waits { IfSome result (λ t. t ≡ HelpTurn.More

@@ -26,6 +26,7 @@ pub record IsCatchingUpThen (start mark : Knowledge) (was totals : TotalSums) (t
   pub totals_are : c.totals ≡ totals
   pub snapped : IsSnapped start.book start mark c.counts
   pub more : sum was.upto ≤ sum c.counts
+  pub grown : sum was.upto ≤ sum totals.upto
   pub few : IsWithin start.book.processes was (sum c.counts) (turns + loads_left c)
 
 abbrev pub IsLookStageSo : Knowledge → Knowledge → TotalSums → TotalSums → ℕ → LookStage → Type 0

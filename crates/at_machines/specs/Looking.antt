@@ -1,5 +1,5 @@
 -- Looks that are made one load a turn: a snapshot, and then the records that it counts and the totals don't.
-use Rattle.std.specs.Prelude.{ℕ, ◌+◌, ◌-◌, ◌*◌, ◌≤◌, sum}
+use Rattle.std.specs.Prelude.{ℕ, ◌+◌, ◌-◌, ◌*◌, ◌<◌, ◌≤◌, sum}
 use Rattle.at_ledger.specs.Book.{BookTerms}
 use Rattle.at_history.specs.Fronts.{places_max}
 use Rattle.at_board.specs.Knowledge.Seats.{SeatTerms}
@@ -36,3 +36,7 @@ MakesLookLoad b (CatchUp c) before after now = LoadsNextWord c now
 -- so many turns are at most those of a snapshot, and of the loads of the records that are among so many and weren't counted before
 abbrev pub IsWithin : ℕ → TotalSums → ℕ → ℕ → Type 0
 IsWithin n was records turns = turns ≤ snapshot_steps n + RECORD_WORDS * (records - sum was.upto)
+
+-- so many turns are fewer than so many, with the loads of so many records and of one record more
+abbrev pub IsWithinOneMore : ℕ → ℕ → ℕ → Type 0
+IsWithinOneMore most records turns = turns < most + RECORD_WORDS * (records + 1)

@@ -112,6 +112,7 @@ impl CatchingUp {
         ensures totals { self.new.totals ≡ totals.new }
         ensures word { LoadsNextWord self.old totals.new }
         ensures left { loads_left self.new + 1 ≡ loads_left self.old }
+        ensures part { self.new.loaded < RECORD_WORDS }
         ensures ends { IsSome result ↔ (loads_left self.new ≡ 0) }
         ensures counted { HasCounted totals.new board.now.book seat.new.knows.seen }
         ensures stays { StaysCounted totals.new board.now.book seat.new.knows.seen }

@@ -1,12 +1,13 @@
 //! What each call does first, a load a turn.
 
-ghost use Rattle.std.specs.Prelude.{◌≡◌, ◌+◌, ◌<◌, ◌↔◌, IfSome, IsSome, length, sum};
+ghost use Rattle.std.specs.Prelude.{◌≡◌, ◌+◌, ◌-◌, ◌<◌, ◌≤◌, ◌↔◌, IfSome, IsSome, length, sum};
 ghost use Rattle.at_board.specs.Counting.{raised};
 ghost use Rattle.at_board.specs.Knowledge.Seats.{IsOf};
 ghost use Rattle.at_fold.specs.HasCounted.{HasCounted, StaysCounted};
 ghost use Rattle.at_single.specs.Looks.{HasLooked};
 ghost use Rattle.at_snapshot.specs.Collected.{HasLoaded};
-ghost use Rattle.at_machines.specs.Looking.{IsWithin, MakesLookLoad, look_turns_left};
+ghost use Rattle.at_snapshot.specs.Snapshots.{snapshot_steps};
+ghost use Rattle.at_machines.specs.Looking.{IsWithin, IsWithinOneMore, MakesLookLoad, look_turns_left};
 
 use crate::catching_up::CatchingUp;
 use crate::look_stage::LookStage;
@@ -105,6 +106,10 @@ impl Looking {
         ensures left { look_turns_left self.new.stage < look_turns_left self.old.stage }
         ensures so_far { IsWithin board.now.book.processes self.old.was
             (length seat.new.knows.seen) self.new.turns }
+        ensures more { sum self.old.was.upto ≤ sum totals.new.upto }
+        // What is loaded is counted, but for the words of one record.
+        ensures counting { IsWithinOneMore (snapshot_steps board.now.book.processes)
+            (sum totals.new.upto - sum self.old.was.upto) self.new.turns }
         ensures ends { IsSome result ↔ (look_turns_left self.new.stage ≡ 0) }
         ensures looked { IfSome result (HasLooked board.now.book self.old.start seat.new.knows
             self.old.was totals.new) }

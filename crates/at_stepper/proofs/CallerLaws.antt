@@ -154,14 +154,14 @@ module _ (b : BookTerms) (seat : SeatTerms) (rest : Rest) (calls : List Call) (r
       (turns : steps_made d.stage ≡ steps_made c.stage + steps_of c.stage)
       (exchanges : exchanges_made d.stage ≡ exchanges_made c.stage + exchanges_of c.stage)
       (fewer : call_turns_left b d.stage < call_turns_left b c.stage)
-      (so_far : IsCallWithin b (pass_before c) c.call after_seat.knows (steps_made d.stage) (exchanges_made d.stage)) where
+      (so_far : IsCallWithin b (pass_before c) c.call after_seat.knows after_rest.totals.upto (steps_made d.stage) (exchanges_made d.stage)) where
     same_pass : pass_before d ≡ pass_before c
     same_pass = ap (λ (s : SeatTerms). pass_of s d.was) same_start ∙ ap (λ (x : Rest). pass_of c.start x) same_was
 
     -- the steps and exchanges so far, by the call and the pass before it
-    within_call : IsCallWithin b (pass_before c) (next_call before) after_seat.knows (steps_made d.stage) (exchanges_made d.stage)
+    within_call : IsCallWithin b (pass_before c) (next_call before) after_seat.knows after_rest.totals.upto (steps_made d.stage) (exchanges_made d.stage)
     within_call =
-        subst (λ (call : Call). IsCallWithin b (pass_before c) call after_seat.knows (steps_made d.stage) (exchanges_made d.stage)) next.call_is so_far
+        subst (λ (call : Call). IsCallWithin b (pass_before c) call after_seat.knows after_rest.totals.upto (steps_made d.stage) (exchanges_made d.stage)) next.call_is so_far
 
     -- so they are fewer than the most turns of the call
     few_turns : steps_made c.stage + steps_of c.stage < most_turns b (next_call before)

@@ -73,7 +73,7 @@ pub record IsStillCalling (b : BookTerms) (before after : CallerTerms) : Type 0 
   pub receipts : after.receipts ≡ before.receipts
   pub turns : steps_made after.stage ≡ steps_made before.stage + 1
   pub exchanges : exchanges_made after.stage ≡ exchanges_made before.stage + exchanges_of before.stage
-  pub within : IsCallWithin b before.pass (next_call before) after.seat.knows (steps_made after.stage) (exchanges_made after.stage)
+  pub within : IsCallWithin b before.pass (next_call before) after.seat.knows after.totals.upto (steps_made after.stage) (exchanges_made after.stage)
 
 -- the call is answered by this receipt, and the pass of its last step takes the place of the one before the call. The next call, if there
 -- is one, is begun

@@ -1,4 +1,5 @@
 use Rattle.std.proofs.Common.{◌≡◌, ℕ, ◌<◌, ◌≤◌, ◌↔◌, IfSome, IsSome, Option, None, Some, false, true, refl, sym, ap, subst, ◌∙◌, arith}
+use Rattle.std.specs.List.{sum}
 use Rattle.at_ledger.specs.Book.{BookTerms}
 use Rattle.at_history.specs.Moves.{AreRuns}
 use Rattle.at_board.specs.Counting.{raised}
@@ -77,7 +78,8 @@ turned c mark mark_is now totals_are rest rest_is answer ends leaves calls =
     (TakesCallTurn-stages b t c.args.seat.now after mark mark_is now rest rest_is (PayShared p) next (stage_is c) answer told.turns
     (subst (λ (s : TotalSums). MakesCallStep b (PayShared p) c.args.seat.now after s) (sym totals_are) told.step) told.left
     (few-shared c.args.board.now t (so first) c.args.seat.now c.requires.mark c.requires.board after told.board p (stage_is c) (left c)
-    c.turn-paid.new.self.turns (share_exchanges_made c.turn-paid.new.self) (few c) told.decided told.exchanges_few) ends (runs c) told.decides leaves calls (steps c) (exchanges c))
+    now.totals c.turn-paid.new.self.turns (share_exchanges_made c.turn-paid.new.self) (few c)
+    (omega (arith, told.counting, ap (λ (s : TotalSums). sum s.upto) totals_are)) told.decided told.exchanges_few) ends (runs c) told.decides leaves calls (steps c) (exchanges c))
 
 pub returns-in_err-answer-clause-turned : goal.returns-in_err-answer-clause-turned
 returns-in_err-answer-clause-turned c =

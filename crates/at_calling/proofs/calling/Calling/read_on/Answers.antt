@@ -1,4 +1,5 @@
 use Rattle.std.proofs.Common.{◌≡◌, ◌<◌, ◌↔◌, IfSome, IsSome, Option, None, Some, false, true, refl, sym, ap, subst, ◌∙◌, arith}
+use Rattle.std.specs.List.{sum}
 use Rattle.at_ledger.specs.Book.{BookTerms}
 use Rattle.at_history.specs.Moves.{AreRuns}
 use Rattle.at_board.specs.Counting.{raised}
@@ -66,7 +67,8 @@ turned c mark mark_is now totals_are rest rest_is answer ends leaves calls =
     (TakesCallTurn-stages b t c.args.seat.now after mark mark_is now rest rest_is (Read p) next (stage_is c) answer told.turns
     (subst (λ (s : TotalSums). MakesCallStep b (Read p) c.args.seat.now after s) (sym totals_are) told.load) told.left
     (few-read c.args.board.now t (so first) c.args.seat.now c.requires.mark c.requires.board after told.board p (stage_is c) (left c)
-    c.turn-read.new.self.looking.turns told.so_far told.loads) ends (runs c) refl leaves calls (steps c) (exchanges c))
+    now.totals c.turn-read.new.self.looking.turns told.so_far (omega (arith, told.counting, ap (λ (s : TotalSums). sum s.upto) totals_are)) told.loads)
+    ends (runs c) refl leaves calls (steps c) (exchanges c))
 
 pub returns-in_err-receipt-clause-turned : goal.returns-in_err-receipt-clause-turned
 returns-in_err-receipt-clause-turned c =

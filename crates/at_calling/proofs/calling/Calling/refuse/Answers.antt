@@ -51,8 +51,8 @@ returns c =
     c.of.result.value) seat seat now (Some r)) (sym c.become_next.ensures)
     (subst (λ (s : CallingTerms). TakesCallTurn b t (calling_next s Refused s.mark c.of.result.value) seat seat now (Some r)) (sym c.self.view_is)
     (TakesCallTurn-stages b t seat seat t.mark (sym c.requires.mark) now c.of.result.value c.of.ensures (Refuse c.args.reply) Refused c.requires.stage (Some r)
-    refl refl (omega arith) (IsCallWithin-none b (pass_before t) t.call seat.knows 0
-    (undecided-refused c.args.board.now t so seat c.requires.mark c.requires.board c.args.reply c.requires.stage) (omega arith)) (λ some. refl, λ none. refl)
+    refl refl (omega arith) (IsCallWithin-none b (pass_before t) t.call seat.knows now.totals.upto 0
+    (undecided-refused c.args.board.now t so seat c.requires.mark c.requires.board c.args.reply c.requires.stage) (omega arith) (omega arith)) (λ some. refl, λ none. refl)
     (subst (λ (k : BookTerms). AreRuns k seat.knows.seen) c.requires.board.book c.known.ensures.seat.history.runs) refl leaves
     (ap (λ (q : Rest). q.calls) now_is ∙ ap (λ (q : Rest). with_one_call q.calls) was)
     (omega (arith, so.steps, ap (λ (s : SeatTerms). s.steps) c.requires.mark, ap steps_made c.requires.stage))

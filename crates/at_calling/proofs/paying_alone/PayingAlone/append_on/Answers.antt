@@ -18,18 +18,19 @@ use Rattle.at_fold.specs.Sums.{TotalSums}
 use Rattle.at_log.specs.LastRecord.{IsLast}
 use Rattle.at_log.specs.declared.receipt.At.{At}
 use Rattle.at_log.specs.declared.receipt.At.TheVariants.{Own}
+use Rattle.at_object.specs.Payments.{single_steps}
 use Rattle.at_single.proofs.Laws.Paid.{IsPaid}
 use Rattle.at_single.specs.Looks.{HasLooked}
 use Rattle.at_single.specs.Standing.{IsOnlyOwner}
 use Rattle.at_calling.proofs.PayingAloneLaws.{HasCounted-IsPaid, HasSameAsking-Publishes, HasSameAsking-StoresWord, LeavesTotals-IsPaid, AnswersAlone-done, length-Publishes-lt, paying_next, published-IsPaid, published-with_part}
-use Rattle.at_calling.proofs.PayingAloneTurns.{TakesPayTurn-append}
+use Rattle.at_calling.proofs.PayingAloneTurns.{TakesPayTurn-append, counting-append}
 use Rattle.at_calling.specs.KeptPayingAlone.{IsAppendingThen, IsPayStageSo, TakesPayTurn}
 use Rattle.at_calling.specs.PayingAlone.{AnswersAlone, HasSameAsking, MakesPayStep, PayingAloneTerms, append_steps, pay_turns_left}
-use Rattle.at_calling.specs.Reading.{LeavesTotals, SeesOthersStill}
+use Rattle.at_calling.specs.Reading.{LeavesTotals, SeesOthersStill, counted_so_far}
 use Rattle.at_calling.specs.contracts.paying_alone.PayingAlone.{the_view}
 use Rattle.at_calling.specs.declared.pay_stage.PayStage.TheVariants.{Append}
 use Rattle.at_machines.specs.Appending.{AppendingTerms, StoresNextWord, publication_of}
-use Rattle.at_machines.specs.Looking.{IsWithin}
+use Rattle.at_machines.specs.Looking.{IsWithin, IsWithinOneMore}
 use Rattle.at_calling.proofs.paying_alone.PayingAlone.append_on.Goals.{After-self, After-turn-is_published}
 use Rattle.at_calling.proofs.paying_alone.PayingAlone.append_on.Goals as goal
 
@@ -67,6 +68,9 @@ turned : (c : After-turn-is_published) (now : TotalSums) (mark : SeatTerms) → 
     → MakesPayStep c.args.board.now.book (Append c.in-Append.appending) c.args.seat.now c.turn-is_published.new.seat now
     → SeesOthersStill (the_view c.self.inside).mark c.turn-is_published.new.seat.knows
     → length (the_view c.self.inside).mark.seen ≤ length c.turn-is_published.new.seat.knows.seen
+    → IsWithinOneMore (single_steps c.args.board.now.book.processes)
+    (counted_so_far (the_view c.self.inside).start c.turn-is_published.new.seat.knows (the_view c.self.inside).was.upto now.upto)
+    (c.self.inside.looked + c.turn-is_published.new.self.stored)
     → (IsSome answer ↔ (c.in-Append.appending.stored ≡ record_width c.args.board.now.book))
     → HasSameAsking (the_view c.self.inside).mark c.turn-is_published.new.seat.knows
     → IfSome answer (AnswersAlone c.args.board.now.book (the_view c.self.inside).start c.turn-is_published.new.seat.knows c.self.inside.from c.self.inside.targets)
@@ -76,7 +80,7 @@ turned : (c : After-turn-is_published) (now : TotalSums) (mark : SeatTerms) → 
     → TakesPayTurn c.args.board.now.book c.args.self.now
     (paying_next (the_view c.self.inside) (Append c.turn-is_published.new.self) c.self.inside.looked mark.knows totals) c.args.seat.now
     c.turn-is_published.new.seat now answer
-turned c now mark mark_is totals totals_are answer step others more ends asks pays counted leaves =
+turned c now mark mark_is totals totals_are answer step others more counting ends asks pays counted leaves =
     let b : BookTerms = c.args.board.now.book in
     let t : PayingAloneTerms = the_view c.self.inside in
     let next : AppendingTerms = c.turn-is_published.new.self in
@@ -84,7 +88,7 @@ turned c now mark mark_is totals totals_are answer step others more ends asks pa
     subst (λ (s : PayingAloneTerms). TakesPayTurn b s (paying_next t (Append next) t.looked mark.knows totals) c.args.seat.now after now answer) c.self.view_is
     (TakesPayTurn-append b t c.self.invariant (book (goal.at.After-turn-is_published c).After-self) c.args.seat.now after now mark.knows
     (ap (λ (m : SeatTerms). m.knows) mark_is) totals totals_are c.in-Append.appending next c.in-Append.is c.turn-is_published.ensures.after (few c) step
-    answer others more ends asks pays counted leaves)
+    answer others more counting ends asks pays counted leaves)
 
 pub returns-then-not-is_published-clause-turned : goal.returns-then-not-is_published-clause-turned
 returns-then-not-is_published-clause-turned c =
@@ -98,15 +102,16 @@ returns-then-not-is_published-clause-turned c =
     let word : StoresNextWord a w = told.word (omega (arith, few at, other)) in
     let stored : StoresWord t.mark w a.stored (slice_index (record_words (publication_of a)) a.stored) =
     subst (λ (v : Knowledge). StoresWord v w a.stored (slice_index (record_words (publication_of a)) a.stored)) (appends at).mark_is word in
-    turned at c.args.totals.now c.of.result.value c.of.ensures t.totals (ap (λ (s : PayingAloneTerms). s.totals) c.self.view_is ∙ sym c.requires.totals) None
-    (λ inside. word, λ all. absurd (other all))
-    (omega (
-      arith,
-      ap (λ (v : Knowledge). length v.seen) stored,
-      ap (λ (v : Knowledge). (own_part v).published) stored,
-      published-with_part t.mark (with_word (own_part t.mark) a.stored (slice_index (record_words (publication_of a)) a.stored)) refl,
-    ))
+    let same_totals : t.totals ≡ c.args.totals.now = ap (λ (s : PayingAloneTerms). s.totals) c.self.view_is ∙ sym c.requires.totals in
+    let step : MakesPayStep b (Append a) c.args.seat.now c.turn-is_published.new.seat c.args.totals.now = (λ inside. word, λ all. absurd (other all)) in
+    let unpublished : (own_part w).published ≡ (own_part t.mark).published =
+    ap (λ (v : Knowledge). (own_part v).published) stored
+    ∙ published-with_part t.mark (with_word (own_part t.mark) a.stored (slice_index (record_words (publication_of a)) a.stored)) refl in
+    turned at c.args.totals.now c.of.result.value c.of.ensures t.totals same_totals None step
+    (omega (arith, ap (λ (v : Knowledge). length v.seen) stored, unpublished))
     (omega (arith, ap (λ (v : Knowledge). length v.seen) stored))
+    (counting-append b t c.self.invariant (book (goal.at.After-turn-is_published at).After-self) c.args.seat.now c.turn-is_published.new.seat
+    c.args.totals.now w refl t.totals same_totals a c.turn-is_published.new.self c.in-Append.is told.after (few at) step (sym same_totals) unpublished)
     (λ some. let wrong : false ≡ true = some in absurd (cc wrong), λ all. absurd (other all))
     (HasSameAsking-StoresWord t.mark w a.stored (slice_index (record_words (publication_of a)) a.stored) (parts at) stored) tt tt tt
 
@@ -187,6 +192,7 @@ returns-clause-turned c =
     (λ inside. absurd (omega (arith, inside, all)), λ full. told.published done)
     (omega (arith, more, one, (appends at).unpublished))
     (omega (arith, more))
+    (omega (arith, leaves.few))
     (λ some. all, λ full. refl)
     (HasSameAsking-Publishes b t.mark x (publication_of a) (parts at) publishes) pays
     (subst (λ (k : BookTerms). StaysCounted now k x.seen) told.board.book c.count_own.ensures.stays) leaves

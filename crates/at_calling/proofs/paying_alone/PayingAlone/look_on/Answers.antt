@@ -63,7 +63,8 @@ turned c turns turns_are mark mark_is totals totals_are stage answer same left e
     subst (λ (s : PayingAloneTerms). TakesPayTurn b s (paying_next t stage turns mark.knows totals) c.args.seat.now after now answer) c.self.view_is
     (TakesPayTurn-look b t c.self.invariant (book (goal.at.After-turn-looked c).After-self) c.args.seat.now after now mark.knows
     (ap (λ (m : SeatTerms). m.knows) mark_is) totals totals_are c.in-Look.looking c.in-Look.is turns (turns_are ∙ told.turns) told.load told.loads
-    (subst (IsWithin b.processes c.in-Look.looking.was (length after.knows.seen)) (sym turns_are) told.so_far) stage answer same left ends pays counted leaves)
+    (subst (IsWithin b.processes c.in-Look.looking.was (length after.knows.seen)) (sym turns_are) told.so_far)
+    (omega (arith, told.counting, turns_are)) stage answer same left ends pays counted leaves)
 
 pub returns-in_err-front-clause-turned : goal.returns-in_err-front-clause-turned
 returns-in_err-front-clause-turned c =

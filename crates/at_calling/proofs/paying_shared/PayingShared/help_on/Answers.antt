@@ -15,12 +15,13 @@ use Rattle.at_shared.specs.Helpings.{decides_made, decides_on}
 use Rattle.at_shared.specs.Settling.{round_steps}
 use Rattle.at_shared.specs.declared.helping.HelpTurn.{HelpTurn}
 use Rattle.at_shared.specs.declared.helping.HelpTurn.TheVariants.{More, Settled}
-use Rattle.at_calling.proofs.PayingSharedLaws.{SettlesInTurns-settled, DecidesFew-settled, HasCountedSo-more, HasHelped-more, IsHelpingThen-begun, LeavesTotals-settled, AnswersInRound-settled, few-so_far, few_exchanges-so_far, share_turns_most-le}
+use Rattle.at_machines.specs.Looking.{IsWithinOneMore}
+use Rattle.at_calling.proofs.PayingSharedLaws.{SettlesInTurns-settled, DecidesFew-settled, HasCountedSo-more, HasHelped-more, IsHelpingThen-begun, LeavesTotals-settled, AnswersInRound-settled, counting-so_far, few-so_far, few_exchanges-so_far, share_turns_most-le}
 use Rattle.at_calling.proofs.PayingSharedTurns.{share_next, TakesShareTurn-on, TakesShareTurn-settled}
 use Rattle.at_calling.specs.KeptPayingShared.{TakesShareTurn, HasCountedSo, IsHelpingThen, IsPayingSharedSo, IsShareStageSo}
-use Rattle.at_calling.specs.PayingShared.{AnswersInRound, DecidesFew, MakesShareStep, PayingSharedTerms, settling_steps, share_exchanges_at, share_exchanges_made, share_turns_left, share_turns_most, unless_settled, unless_starting}
-use Rattle.at_calling.specs.Reading.{LeavesTotals, newly_seen}
-use Rattle.at_calling.specs.Turning.{IsHelpOf, IsHelpWithin, LeavesSeat, TurningTerms, WaitsOn, help_turns_left, help_turns_made}
+use Rattle.at_calling.specs.PayingShared.{AnswersInRound, DecidesFew, MakesShareStep, PayingSharedTerms, settling_steps, share_exchanges_at, share_exchanges_made, share_steps, share_turns_left, share_turns_most, unless_settled, unless_starting}
+use Rattle.at_calling.specs.Reading.{LeavesTotals, counted_so_far, newly_seen}
+use Rattle.at_calling.specs.Turning.{IsHelpOf, IsHelpWithin, LeavesSeat, TurningTerms, WaitsOn, help_steps, help_turns_left, help_turns_made}
 use Rattle.at_calling.specs.contracts.paying_shared.PayingShared.{the_view}
 use Rattle.at_calling.specs.declared.share_stage.ShareStage.{ShareStage}
 use Rattle.at_calling.specs.declared.share_stage.ShareStage.TheVariants.{Ended, Help}
@@ -90,6 +91,34 @@ within c =
       few-so_far v.book v u.start w t.account t.targets h so.helped t.was u.was so.before turns so.counted (once c) told.seen told.others so_far,
       turns_now c,
       ap (λ (k : BookTerms). share_turns_most k i.account (newly_seen v w i.was.value.upto)) same,
+    )
+
+-- with those that were counted, and one more
+counting : (c : After-turn-helped) → IsWithinOneMore (share_steps c.args.board.now.book c.self.inside.account)
+    (counted_so_far c.self.inside.start.value.knows c.turn-helped.new.seat.knows c.self.inside.was.value.upto c.turn-helped.new.totals.upto)
+    (c.self.inside.turns + 1)
+counting c =
+    let same = book (goal.at.After-turn-helped c).After-self in
+    let b : BookTerms = c.args.board.now.book in
+    let i = c.self.inside in
+    let t : PayingSharedTerms = the_view i in
+    let v : Knowledge = i.start.value.knows in
+    let h : HelpingTerms = c.in-Help.helping in
+    let u : TurningTerms = c.in-Help.turning in
+    let w : Knowledge = c.turn-helped.new.seat.knows in
+    let now : TotalSums = c.turn-helped.new.totals in
+    let turns : ℕ = help_turns_made c.turn-helped.new.self in
+    let so = helps c in
+    let told = c.turn-helped.ensures in
+    let records : ℕ = counted_so_far u.start w u.was.upto now.upto in
+    let so_far : IsWithinOneMore (help_steps v.book.processes (decides_made h.account u.start w)) records turns =
+    subst (λ (k : BookTerms). IsWithinOneMore (help_steps k.processes (decides_made h.account u.start w)) records turns) same
+    (subst (λ (x : HelpingTerms). IsWithinOneMore (help_steps b.processes (decides_made x.account u.start w)) records turns) so.helping_is told.counting) in
+    omega (
+      arith,
+      counting-so_far v.book v u.start w t.account t.targets h so.helped t.was u.was now so.before turns so.counted (once c) told.counts_others told.published so_far,
+      turns_now c,
+      ap (λ (k : BookTerms). share_steps k i.account) same,
     )
 
 -- and so are the exchanges
@@ -240,7 +269,7 @@ goes_on c mark mark_is totals totals_are u =
     let stage : ShareStage = Help c.in-Help.helping u in
     subst (λ (x : PayingSharedTerms). TakesShareTurn b x (share_next t stage mark.knows totals) before after now None) c.self.view_is
     (TakesShareTurn-on b t before after now mark.knows (ap (λ (m : SeatTerms). m.knows) mark_is) totals totals_are (some at) (step at) (within at)
-    stage (λ n. refl) (within_all c) (ap (λ (m : SeatTerms). decides_made t.account t.start m.knows) mark_is ∙ made at)
+    (counting at) stage (λ n. refl) (within_all c) (ap (λ (m : SeatTerms). decides_made t.account t.start m.knows) mark_is ∙ made at)
     (ap (λ (m : SeatTerms). decides_made t.account t.start m.knows) mark_is)
     (omega (arith, few_exchanges at, ap (λ (m : SeatTerms). decides_made t.account t.start m.knows) mark_is)))
 
@@ -288,7 +317,8 @@ returns-in-Settled-clause-turned c =
     (totals_of at told.leaves)) in
     subst (λ (k : ShareStage). TakesShareTurn b c.args.self.now (share_next t k mark totals) before after now (Some r)) (sym c.become_next.ensures)
     (subst (λ (x : PayingSharedTerms). TakesShareTurn b x (share_next t Ended mark totals) before after now (Some r)) c.self.view_is
-    (TakesShareTurn-settled b t before after now mark (ap (λ (m : SeatTerms). m.knows) c.of.ensures) totals c.of-2.ensures (some at) (step at) (within at) r
+    (TakesShareTurn-settled b t before after now mark (ap (λ (m : SeatTerms). m.knows) c.of.ensures) totals c.of-2.ensures (some at) (step at) (within at)
+    (counting at) r
     (subst (λ (k : BookTerms). AnswersInRound k v w t.account t.targets r) (sym same) pays)
     (subst (λ (k : BookTerms). SettlesInTurns k v w t.account t.targets) (sym same) settles)
     (subst (λ (k : BookTerms). DecidesFew k v w t.account) (sym same) few) told.counted

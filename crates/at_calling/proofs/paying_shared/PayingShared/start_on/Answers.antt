@@ -13,11 +13,12 @@ use Rattle.at_fold.specs.Sums.{TotalSums}
 use Rattle.at_shared.specs.HelpingTerms.{HelpingTerms}
 use Rattle.at_shared.specs.Helpings.{decides_made, decides_on}
 use Rattle.at_shared.specs.Settling.{asking_steps}
+use Rattle.at_machines.specs.Looking.{IsWithinOneMore}
 use Rattle.at_calling.proofs.PayingSharedLaws.{decides_made-IsStartOf, HasCountedSo-start, HasHelped-start, IsHelpingThen-begun}
 use Rattle.at_calling.proofs.PayingSharedTurns.{share_next, TakesShareTurn-on}
 use Rattle.at_calling.specs.KeptPayingShared.{TakesShareTurn, HasCountedSo, IsPayingSharedSo, IsShareStageSo, IsStartingFirst}
-use Rattle.at_calling.specs.PayingShared.{MakesShareStep, PayingSharedTerms, share_exchanges_at, share_turns_left, share_turns_most, unless_settled, unless_starting}
-use Rattle.at_calling.specs.Reading.{LeavesTotals, newly_seen}
+use Rattle.at_calling.specs.PayingShared.{MakesShareStep, PayingSharedTerms, share_exchanges_at, share_steps, share_turns_left, share_turns_most, unless_settled, unless_starting}
+use Rattle.at_calling.specs.Reading.{LeavesTotals, counted_so_far, newly_seen}
 use Rattle.at_calling.specs.Starting.{IsStartOf, StartingTerms, start_turns_made}
 use Rattle.at_calling.specs.Turning.{TurningTerms, help_turns_left}
 use Rattle.at_calling.specs.contracts.paying_shared.PayingShared.{the_view}
@@ -124,6 +125,27 @@ within c =
     (subst (λ n. start_turns_made s ≤ most n (newly_seen old.start w old.was.upto)) (told.account ∙ so.account_is) told.so_far)) in
     omega (arith, so_far, so.turns_are, told.turns)
 
+-- with those that were counted, and one more
+counting : (c : After-turn-started) → IsWithinOneMore (share_steps c.args.board.now.book c.self.inside.account)
+    (counted_so_far c.self.inside.start.value.knows c.turn-started.new.seat.knows c.self.inside.was.value.upto c.turn-started.new.totals.upto)
+    (c.self.inside.turns + 1)
+counting c =
+    let b : BookTerms = c.args.board.now.book in
+    let i = c.self.inside in
+    let s : StartingTerms = c.turn-started.new.self in
+    let w : Knowledge = c.turn-started.new.seat.knows in
+    let now : TotalSums = c.turn-started.new.totals in
+    let old : StartingTerms = c.in-Start.starting in
+    let so = starts c in
+    let told = c.turn-started.ensures in
+    let most : ℕ → ℕ = λ a. snapshot_steps b.processes + asking_steps (slots_of (account_of b a)) in
+    let turns : ℕ = start_turns_made s in
+    let so_far : IsWithinOneMore (most i.account) (counted_so_far i.start.value.knows w i.was.value.upto now.upto) turns =
+    subst (λ (v : Knowledge). IsWithinOneMore (most i.account) (counted_so_far v w i.was.value.upto now.upto) turns) so.start_is
+    (subst (λ (x : TotalSums). IsWithinOneMore (most i.account) (counted_so_far old.start w x.upto now.upto) turns) so.was_is
+    (subst (λ n. IsWithinOneMore (most n) (counted_so_far old.start w old.was.upto now.upto) turns) so.account_is told.counting)) in
+    omega (arith, so_far, so.turns_are, told.turns)
+
 -- nothing is decided
 none_decided : (c : After-turn-started) → decides_made c.self.inside.account c.self.inside.start.value.knows c.turn-started.new.seat.knows ≡ 0
 none_decided c =
@@ -152,7 +174,7 @@ turned c mark mark_is totals totals_are stage goes decides =
     subst (λ (x : PayingSharedTerms). TakesShareTurn b x (share_next t stage mark.knows totals) before after now None) c.self.view_is
     (TakesShareTurn-on b t before after now mark.knows (ap (λ (m : SeatTerms). m.knows) mark_is) totals totals_are
     (subst (λ (x : PayingSharedTerms). 0 < share_turns_left b x) (sym c.self.view_is) c.requires.left)
-    (subst (λ (k : ShareStage). MakesShareStep b k before after now) (sym c.in-Start.is) c.turn-started.ensures.step) few stage goes
+    (subst (λ (k : ShareStage). MakesShareStep b k before after now) (sym c.in-Start.is) c.turn-started.ensures.step) few (counting at) stage goes
     (omega (arith, few, c.known.ensures.seat.history.few))
     (omega (arith, decides, ap (unless_starting (decides_made t.account t.start t.mark)) c.in-Start.is, ap share_exchanges_at c.in-Start.is))
     (omega (arith, decides, none_decided at)) (omega (arith, decides)))

@@ -115,7 +115,7 @@ turned c turns turns_are mark mark_is totals totals_are stage same some left =
     subst (λ (s : StartingTerms). TakesStartTurn b s (start_after_look t stage mark.knows totals turns) c.args.seat.now after now None) c.self.view_is
     (TakesStartTurn-look b t c.self.invariant (sym (book (goal.at.After-turn-looked c).After-self)) c.args.seat.now after mark.knows
     (ap (λ (m : SeatTerms). m.knows) mark_is) now totals totals_are l c.in-Look.is turns (turns_are ∙ told.turns) told.load told.loads told.counted
-    (subst (IsWithin b.processes l.was (length after.knows.seen)) (sym turns_are) told.so_far) stage same some left)
+    (subst (IsWithin b.processes l.was (length after.knows.seen)) (sym turns_are) told.so_far) (omega (arith, told.counting, turns_are)) stage same some left)
 
 pub returns-in_err-front-clause-turned : goal.returns-in_err-front-clause-turned
 returns-in_err-front-clause-turned c =

@@ -1,4 +1,4 @@
-use Rattle.std.proofs.Common.{◌↔◌, IfSome, IsSome, Option, None, Some, true, refl, ◌≡◌, ℕ, ◌+◌, ◌-◌, ◌*◌, ◌<◌, List, length, false, sym, ap, subst, ◌∙◌}
+use Rattle.std.proofs.Common.{◌↔◌, IfSome, IsSome, Option, None, Some, true, refl, ◌≡◌, ◌≢◌, ℕ, ◌+◌, ◌-◌, ◌*◌, ◌<◌, ◌≤◌, List, length, false, sym, ap, subst, ◌∙◌, arith}
 use Rattle.std.specs.List.{sum}
 use Rattle.at_base.specs.declared.decision.Decision.{Decision}
 use Rattle.at_ledger.specs.Book.{BookTerms}
@@ -18,12 +18,12 @@ use Rattle.at_calling.proofs.TurningSteps.{TakesHelpStep-decide}
 use Rattle.at_shared.specs.declared.helping.HelpTurn.{HelpTurn}
 use Rattle.at_shared.specs.declared.helping.HelpTurn.TheVariants.{Settled, More}
 use Rattle.at_single.specs.Looks.{HasLooked}
-use Rattle.at_calling.proofs.TurningLaws.{IsDecidingThen-step, IsHelpOf-other, IsHelpOf-own, LeavesSeat-decided, LeavesTotals-decided, WaitsOn-other, help_turns_in-le}
+use Rattle.at_calling.proofs.TurningLaws.{IsDecidingThen-step, counting-step, counts_others-step, published-step, IsHelpOf-other, IsHelpOf-own, LeavesSeat-decided, LeavesTotals-decided, WaitsOn-other, help_turns_in-le}
 use Rattle.at_machines.specs.Deciding.{DecidingTerms, round_in}
 use Rattle.at_calling.specs.KeptTurning.{IsDecidingThen, IsTurnStageSo, IsTurningSo, TakesHelpStep}
-use Rattle.at_machines.specs.Looking.{IsWithin}
-use Rattle.at_calling.specs.Reading.{LeavesTotals}
-use Rattle.at_calling.specs.Turning.{IsHelpOf, LeavesSeat, TurningTerms, WaitsOn, help_turns_left}
+use Rattle.at_machines.specs.Looking.{IsWithin, IsWithinOneMore}
+use Rattle.at_calling.specs.Reading.{CountsOthersStill, LeavesTotals, counted_so_far}
+use Rattle.at_calling.specs.Turning.{IsHelpOf, LeavesSeat, TurningTerms, WaitsOn, help_steps, help_turns_left}
 use Rattle.at_calling.specs.contracts.turning.Turning.{the_view}
 use Rattle.at_calling.specs.declared.turn_stage.TurnStage.TheVariants.{Decide}
 use Rattle.at_calling.proofs.turning.Turning.decide_on.Goals.{After-self, After-turn-decided}
@@ -89,7 +89,7 @@ invariant_of-self c =
       helping = kept.helping;
       stage_so = λ left.
           IsDecidingThen-step b t c.in-Decide.deciding e w (book start) (decides at) (has_account_now at) (some at) told.after told.left told.step
-          c.turn-decided.new.totals (told.waits left ∙ before);
+          c.turn-decided.new.totals (told.waits left ∙ before) left;
     } in
     subst (λ (s : SeatTerms). IsTurningSo (record t { stage = Decide e; mark = s.knows; totals = c.of-2.result.value })) (sym c.of.ensures)
     (subst (λ (s : TotalSums). IsTurningSo (record t { stage = Decide e; mark = w; totals = s })) (sym c.of-2.ensures) here)
@@ -105,7 +105,14 @@ looked_then c =
 
 -- what the step leaves
 stepped : (c : After-turn-decided) (mark : SeatTerms) → mark ≡ c.turn-decided.new.seat → (totals : TotalSums)
-    → totals ≡ c.turn-decided.new.totals → (answer : Option HelpTurn) → (IsSome answer ↔ (c.turn-decided.new.self.left ≡ 0))
+    → totals ≡ c.turn-decided.new.totals → (answer : Option HelpTurn)
+    → IsWithinOneMore (help_steps c.args.board.now.book.processes
+    (decides_made c.self.inside.helping.value.account c.self.inside.start.value.knows c.turn-decided.new.seat.knows))
+    (counted_so_far c.self.inside.start.value.knows c.turn-decided.new.seat.knows c.self.inside.was.value.upto c.turn-decided.new.totals.upto)
+    (c.self.inside.looked + (round_steps c.turn-decided.new.self.start.book.processes - c.turn-decided.new.self.left))
+    → CountsOthersStill c.self.inside.start.value.knows c.turn-decided.new.seat.knows c.self.inside.was.value c.turn-decided.new.totals
+    → (own_part c.self.inside.start.value.knows).published ≤ (own_part c.turn-decided.new.seat.knows).published
+    → (IsSome answer ↔ (c.turn-decided.new.self.left ≡ 0))
     → IfSome answer (IsHelpOf c.args.board.now.book c.self.inside.start.value.knows c.turn-decided.new.seat.knows c.self.inside.helping.value)
     → IfSome answer (λ h. h ≡ More
     → WaitsOn c.args.board.now.book c.self.inside.start.value.knows c.turn-decided.new.seat.knows c.self.inside.helping.value)
@@ -118,7 +125,7 @@ stepped : (c : After-turn-decided) (mark : SeatTerms) → mark ≡ c.turn-decide
     → TakesHelpStep c.args.board.now.book c.args.self.now
     (record (the_view c.self.inside) { stage = Decide c.turn-decided.new.self; mark = mark.knows; totals = totals }) c.args.seat.now
     c.turn-decided.new.seat c.turn-decided.new.totals answer
-stepped c mark mark_is totals totals_are answer ends help waits seat counted leaves =
+stepped c mark mark_is totals totals_are answer counting counts_others more ends help waits seat counted leaves =
     let b : BookTerms = c.args.board.now.book in
     let t : TurningTerms = the_view c.self.inside in
     let e : DecidingTerms = c.turn-decided.new.self in
@@ -129,15 +136,33 @@ stepped c mark mark_is totals totals_are answer ends help waits seat counted lea
     c.self.view_is
     (TakesHelpStep-decide b t c.self.invariant (book (goal.at.After-turn-decided c).After-self) c.args.seat.now after now mark.knows
     (ap (λ (m : SeatTerms). m.knows) mark_is) totals totals_are c.in-Decide.deciding e c.in-Decide.is (some c) (has_account_now c)
-    (c.requires.mark ∙ sym (ap (λ (s : TurningTerms). s.mark) c.self.view_is)) told.after told.left told.step answer ends help waits seat counted leaves)
+    (c.requires.mark ∙ sym (ap (λ (s : TurningTerms). s.mark) c.self.view_is)) told.after told.left told.step answer counting counts_others more ends
+    help waits seat counted leaves)
+
+-- some is left, where it isn't that none is
+left_on : (n : ℕ) → n ≢ 0 → 0 < n
+left_on n some = omega (arith, some)
 
 pub returns-in_err-decision-clause-stepped : goal.returns-in_err-decision-clause-stepped
 returns-in_err-decision-clause-stepped c =
     let at = (goal.at.returns-in_err-decision-clause-stepped c).After-turn-decided in
+    let start = (goal.at.After-turn-decided at).After-self in
+    let b : BookTerms = c.args.board.now.book in
+    let t : TurningTerms = the_view c.self.inside in
+    let d : DecidingTerms = c.in-Decide.deciding in
+    let e : DecidingTerms = c.turn-decided.new.self in
+    let w : Knowledge = c.turn-decided.new.seat.knows in
+    let now : TotalSums = c.turn-decided.new.totals in
+    let told = c.turn-decided.ensures in
+    let goes_on : 0 < e.left = left_on e.left (λ none. let wrong : false ≡ true = c.in_err-decision.ensures.ends.1 none in absurd (cc wrong)) in
+    let same : now ≡ t.totals = told.waits goes_on ∙ (c.requires.totals ∙ sym (ap (λ (s : TurningTerms). s.totals) c.self.view_is)) in
     subst (TakesHelpStep c.args.board.now.book c.args.self.now
     (record (the_view c.self.inside) { stage = Decide c.turn-decided.new.self; mark = c.of.result.value.knows; totals = c.of-2.result.value })
     c.args.seat.now c.turn-decided.new.seat c.turn-decided.new.totals) (sym c.from_residual.ensures)
-    (stepped at c.of.result.value c.of.ensures c.of-2.result.value c.of-2.ensures None (
+    (stepped at c.of.result.value c.of.ensures c.of-2.result.value c.of-2.ensures None
+    (counting-step b t d e w (book start) (decides at) (has_account_now at) (some at) told.after told.left told.step goes_on now same)
+    (counts_others-step b t d e w (book start) (decides at) (has_account_now at) (some at) told.after told.left told.step goes_on now same)
+    (published-step b t d e w (book start) (decides at) (has_account_now at) (some at) told.after told.left told.step goes_on) (
       λ some. let wrong : false ≡ true = some in absurd (cc wrong),
       λ none. let wrong : false ≡ true = c.in_err-decision.ensures.ends.1 none in absurd (cc wrong),
     ) tt tt tt tt tt)
@@ -181,13 +206,14 @@ returns-clause-stepped c =
     let known : t.start.first < b.processes = subst (λ (k : BookTerms). t.start.first < k.processes) (book start) c.self.invariant.kept.known in
     let few : IsWithin b.processes t.was (sum d.front) t.looked =
     subst (λ (k : BookTerms). IsWithin k.processes t.was (sum d.front) t.looked) (book start) (decides at).few in
-    stepped at c.of.result.value c.of.ensures c.of-2.result.value c.of-2.ensures (Some answer)
+    let seat_left = LeavesSeat-decided b t.start d.start t.was t.totals d.front t.helping has (looked_then at) waiting w decision next in
+    let leaves = LeavesTotals-decided b t.start d.start t.was t.totals d.front t.helping has (looked_then at) waiting w decision next now t.looked turns known
+    last.upto few (help_turns_in-le b t d e w (book start) (decides at) (has_account_now at) (some at) told.after told.left told.step) in
+    stepped at c.of.result.value c.of.ensures c.of-2.result.value c.of-2.ensures (Some answer) (omega (arith, leaves.few)) leaves.more seat_left.published
     (λ some. last.ends.0 refl, λ none. refl)
     (helps b t.start d.start w t.was t.totals d.front t.helping has (looked_then at) waiting decision next c.known-2.ensures.seat told.board.book
     c.round.result answer round after)
     (waits_on b t.start d.start w t.was t.totals d.front t.helping has (looked_then at) waiting decision next c.known-2.ensures.seat told.board.book
     c.round.result answer after)
-    (LeavesSeat-decided b t.start d.start t.was t.totals d.front t.helping has (looked_then at) waiting w decision next)
-    last.counted
-    (LeavesTotals-decided b t.start d.start t.was t.totals d.front t.helping has (looked_then at) waiting w decision next now t.looked turns known last.upto few
-    (help_turns_in-le b t d e w (book start) (decides at) (has_account_now at) (some at) told.after told.left told.step))
+    seat_left
+    last.counted leaves

@@ -143,8 +143,8 @@ stepped c turns turns_are mark mark_is totals totals_are stage answer same left 
     c.self.view_is
     (TakesHelpStep-look b t c.self.invariant (book (goal.at.After-turn-looked c).After-self) c.args.seat.now after now mark.knows
     (ap (λ (m : SeatTerms). m.knows) mark_is) totals totals_are c.in-Look.looking c.in-Look.is turns (turns_are ∙ told.turns) told.load told.loads
-    (subst (IsWithin b.processes c.in-Look.looking.was (length after.knows.seen)) (sym turns_are) told.so_far) stage answer same left ends help waits seat
-    counted leaves)
+    (subst (IsWithin b.processes c.in-Look.looking.was (length after.knows.seen)) (sym turns_are) told.so_far)
+    (omega (arith, told.counting, turns_are)) told.more stage answer same left ends help waits seat counted leaves)
 
 pub returns-in_err-front-clause-stepped : goal.returns-in_err-front-clause-stepped
 returns-in_err-front-clause-stepped c =

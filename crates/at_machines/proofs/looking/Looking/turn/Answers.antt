@@ -1,4 +1,4 @@
-use Rattle.std.proofs.Common.{◌≡◌, ℕ, List, length, IfSome, sym, ap, subst, ◌∙◌, arith}
+use Rattle.std.proofs.Common.{◌≡◌, ◌≤◌, ℕ, List, length, IfSome, sym, ap, subst, ◌∙◌, arith}
 use Rattle.std.specs.List.{sum}
 use Rattle.at_base.specs.Counts.{Covers}
 use Rattle.at_ledger.specs.Book.{BookTerms}
@@ -171,4 +171,42 @@ returns-in-CatchUp-clause-so_far c =
       seen,
       ap look_turns_left (catches at),
       c.requires.left,
+    )
+
+-- no less is counted than before
+grows : (c : After-turn-caught) → sum c.args.self.now.was.upto ≤ sum c.turn-caught.new.totals.upto
+grows c =
+    let told = c.turn-caught.ensures in
+    omega (
+      arith,
+      (before_catching c).stage_so.grown,
+      c.requires.left,
+      ap look_turns_left (catches c),
+      ap (λ (t : TotalSums). sum t.upto) (before_catching c).stage_so.totals_are,
+      told.left,
+      told.part,
+      ap (λ (xs : List ℕ). sum xs) told.counts,
+      ap (λ (t : TotalSums). sum t.upto) told.totals,
+    )
+
+pub returns-in-CatchUp-clause-more : goal.returns-in-CatchUp-clause-more
+returns-in-CatchUp-clause-more c = grows (goal.at.returns-in-CatchUp-clause-more c).After-turn-caught
+
+-- all that is loaded since is counted, but for fewer words than a record has
+pub returns-in-CatchUp-clause-counting : goal.returns-in-CatchUp-clause-counting
+returns-in-CatchUp-clause-counting c =
+    let at = (goal.at.returns-in-CatchUp-clause-counting c).After-turn-caught in
+    let s : LookingTerms = c.args.self.now in
+    let so = before_catching at in
+    let same : s.start.book ≡ c.args.board.now.book = sym so.book ∙ (ap (λ (v : Knowledge). v.book) (sym c.requires.mark) ∙ c.requires.board.book) in
+    let told = c.turn-caught.ensures in
+    omega (
+      arith,
+      ap (λ (t : LookingTerms). t.turns) c.self.view_is,
+      so.stage_so.few,
+      ap snapshot_steps (ap (λ (b : BookTerms). b.processes) same),
+      told.left,
+      told.part,
+      ap (λ (xs : List ℕ). sum xs) told.counts,
+      ap (λ (t : TotalSums). sum t.upto) told.totals,
     )
