@@ -13,16 +13,12 @@ use Rattle.at_broadcast.specs.declared.message.TheConstants.{MESSAGES_MAX}
 use Rattle.at_broadcast.specs.Messages.{MessageList, list_of, message_at, message_credit, message_debit, message_of, no_messages, one_to, sum_of_first}
 use Rattle.at_broadcast.specs.Node.{IsSteady}
 use Rattle.at_broadcast.specs.Progress.{IsProgress, messages_of, no_sender, sender_of}
-use Rattle.at_broadcast.specs.Sender.{AreCreditsTo, IsSender, SenderState, brought, no_credits}
+use Rattle.at_broadcast.specs.Sender.{AreCreditsTo, IsSender, SenderState, brought, new_sender, no_credits}
 use Rattle.at_broadcast.specs.Validated.Reached.{zeros}
 use Rattle.at_broadcast.proofs.ProgressLaws.{differ, length-messages_of, list_of-messages_of}
 use Rattle.at_broadcast.proofs.RangeLaws.{range-same}
 use Rattle.at_broadcast.proofs.ReachedLaws.{get_or-zeros}
 use Rattle.at_broadcast.proofs.SumLaws.{part}
-
--- a sender of whom nothing was delivered
-abbrev pub new_sender : ℕ → SenderState
-new_sender accounts = record { messages = no_messages; credits = replicate accounts no_credits }
 
 -- a list that was filled with the default
 get_or-filled : {X : Type 0} (n i : ℕ) (x : X) → get_or (replicate n x) i x ≡ x

@@ -1,7 +1,7 @@
 -- What a node has of one sender.
-use Rattle.std.specs.Prelude.{◌≡◌, ℕ, ◌+◌, ◌-◌, ◌<◌, ◌≤◌, ◌++◌, List, [], ◌∷◌, length, take, drop, sum_by, slice_index_or, slice_set, All, Some}
+use Rattle.std.specs.Prelude.{◌≡◌, ℕ, ◌+◌, ◌-◌, ◌<◌, ◌≤◌, ◌++◌, List, [], ◌∷◌, length, replicate, take, drop, sum_by, slice_index_or, slice_set, All, Some}
 use Rattle.at_broadcast.specs.Credits.{CreditList, amount_since, credit_after}
-use Rattle.at_broadcast.specs.Messages.{MessageList, message_credit, one_to}
+use Rattle.at_broadcast.specs.Messages.{MessageList, message_credit, no_messages, one_to}
 use Rattle.at_broadcast.specs.declared.message.Message.{Message}
 use Rattle.at_broadcast.specs.declared.message.TheConstants.{MESSAGES_MAX}
 
@@ -12,6 +12,10 @@ pub record SenderState : Type 0 where
 
 abbrev pub no_credits : CreditList
 no_credits = record { list = []; room = 0 }
+
+-- a sender of whom nothing was delivered
+abbrev pub new_sender : ℕ → SenderState
+new_sender accounts = record { messages = no_messages; credits = replicate accounts no_credits }
 
 -- its credits to an account
 abbrev pub credits_to : SenderState → ℕ → CreditList

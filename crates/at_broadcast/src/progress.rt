@@ -1,9 +1,10 @@
 //! How far a node is.
 
-ghost use Rattle.std.specs.Prelude.{◌≡◌, ◌+◌, ◌≤◌, ◌<◌, ◌^◌, ◌↔◌, ℕ, pos, ◌≤ℤ◌, [], ◌∷◌, length, replicate, slice_index, None, Some, IsTrue, IfOk, OnOk, OnErr, IfSome, IfNone, is_some};
+ghost use Rattle.std.specs.Prelude.{◌≡◌, ◌+◌, ◌≤◌, ◌<◌, ◌^◌, ◌↔◌, ℕ, pos, ◌≤ℤ◌, [], ◌∷◌, length, map, replicate, slice_index, None, Some, IsTrue, IfOk, OnOk, OnErr, IfSome, IfNone, is_some};
 ghost use Rattle.at_base.specs.Counts.{Covers};
-ghost use Rattle.at_ledger.specs.Book.{account_of};
+ghost use Rattle.at_ledger.specs.Book.{IsBook, account_of};
 ghost use Rattle.at_broadcast.specs.Messages.{IsMessageOn, message_credit, message_of, sum_of_first, with_message};
+ghost use Rattle.at_broadcast.specs.Sender.{new_sender};
 ghost use Rattle.at_broadcast.specs.Validated.{IsValid, balance_at, one_more_of};
 ghost use Rattle.at_broadcast.specs.declared.message.Message.{Message};
 ghost use Rattle.at_broadcast.specs.declared.message.TheConstants.{MESSAGES_MAX};
@@ -58,15 +59,8 @@ impl Progress {
         ensures start { IfOk result (λ p. p ≡ starting_state book.now) }
         ensures steady { IfOk result IsSteady }
     {
-        let accounts = book.accounts();
-        let mut senders = Vec::new(alloc);
-        for _process in 0..book.processes() {
-            senders.push(Sender::new(alloc, accounts)?)?;
-        }
-        let mut balances = Vec::new(alloc);
-        for account in 0..accounts {
-            balances.push(book.opening(account))?;
-        }
+        let senders = new_senders(alloc, book)?;
+        let balances = openings(alloc, book)?;
         Ok(Progress {
             book: book.copy(alloc)?,
             validated: Counts::zeros(book.processes()),
@@ -231,4 +225,30 @@ impl Progress {
     {
         self.book.owner_count(account) == 1 && self.book.owner(account, 0) == p
     }
+}
+
+/// A sender for each process, of whom nothing was delivered.
+fn new_senders(alloc: Global, book: &Book) -> Result<Vec<Sender>, NoMemory>
+    ensures { IfOk result (λ senders. senders.items
+        ≡ replicate book.now.processes (new_sender (length book.now.accounts))) }
+{
+    let accounts = book.accounts();
+    let mut senders = Vec::new(alloc);
+    for _process in 0..book.processes() {
+        senders.push(Sender::new(alloc, accounts)?)?;
+    }
+    Ok(senders)
+}
+
+/// The openings of the accounts.
+fn openings(alloc: Global, book: &Book) -> Result<Vec<u64>, NoMemory>
+    ensures openings { IfOk result
+        (λ balances. balances.items ≡ map (λ t. t.opening) book.now.accounts) }
+    ensures checked { IsBook book.now }
+{
+    let mut balances = Vec::new(alloc);
+    for account in 0..book.accounts() {
+        balances.push(book.opening(account))?;
+    }
+    Ok(balances)
 }

@@ -2,6 +2,8 @@
 
 ghost use Rattle.std.specs.Prelude.{◌≡◌, ◌+◌, ◌*◌, ◌^◌, ◌<◌, ◌≤◌, length, replicate, All, IfOk, OnOk, OnErr, option_copied};
 ghost use Rattle.at_broadcast.specs.Credits.{amount_since};
+ghost use Rattle.at_broadcast.specs.Messages.{no_messages};
+ghost use Rattle.at_broadcast.specs.Sender.{no_credits};
 
 use crate::NoMemory;
 use crate::credits::Credits;
@@ -29,19 +31,12 @@ impl Sender {
     ghost use Rattle.at_broadcast.specs.Sender.{credits_to, message_counted, no_credits, stored};
 
     /// Nothing delivered.
-    #[tactic(auto, unfolding(crate::specs::Messages::no_messages))]
     pub(crate) fn new(alloc: Global, accounts: u32) -> Result<Sender, NoMemory>
         ensures { IfOk result
             (λ s. s ≡ record { messages = no_messages; credits = replicate accounts no_credits }) }
     {
-        let mut messages = Vec::new(alloc);
-        for _number in 0..MESSAGES_MAX {
-            messages.push(None)?;
-        }
-        let mut credits = Vec::new(alloc);
-        for _account in 0..accounts {
-            credits.push(Credits::new(alloc))?;
-        }
+        let messages = no_messages(alloc)?;
+        let credits = no_credits(alloc, accounts)?;
         Ok(Sender { messages, credits })
     }
 
@@ -84,4 +79,27 @@ impl Sender {
     {
         self.credits[account as usize].since(number)
     }
+}
+
+/// No message of any number.
+#[tactic(auto, unfolding(crate::specs::Messages::no_messages))]
+fn no_messages(alloc: Global) -> Result<Vec<Option<Message>>, NoMemory>
+    ensures { IfOk result (λ messages. messages.items ≡ no_messages) }
+{
+    let mut messages = Vec::new(alloc);
+    for _number in 0..MESSAGES_MAX {
+        messages.push(None)?;
+    }
+    Ok(messages)
+}
+
+/// No credit to any account.
+fn no_credits(alloc: Global, accounts: u32) -> Result<Vec<Credits>, NoMemory>
+    ensures { IfOk result (λ credits. credits.items ≡ replicate accounts no_credits) }
+{
+    let mut credits = Vec::new(alloc);
+    for _account in 0..accounts {
+        credits.push(Credits::new(alloc))?;
+    }
+    Ok(credits)
 }

@@ -5,7 +5,7 @@ ghost use Rattle.std.specs.Prelude.{◌≡◌};
 use at_files::{BadBook, BadPayments, MessagesWhy, OrderWhy, ScheduleWhy};
 
 /// What is wrong with the words of the command line.
-#[derive(Clone, Copy, Debug, PartialEq, Eq)]
+#[derive(Clone, Copy, PartialEq, Eq)]
 pub enum UsageFault {
     /// They have none of the forms.
     Words,
@@ -15,7 +15,7 @@ pub enum UsageFault {
 
 /// What the program answers. File 0 is the book, file p + 1 the payment or message file of process p, and a
 /// further file comes after those. A line is a record, counted from 1, and in a report a line of the text.
-#[derive(Clone, Copy, Debug, PartialEq, Eq)]
+#[derive(Clone, Copy, PartialEq, Eq)]
 pub enum Status {
     /// The whole text was written.
     Done,

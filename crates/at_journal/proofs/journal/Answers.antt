@@ -1,3 +1,4 @@
+use Rattle.std.proofs.lemmas.Grind.{common_steps}
 use Rattle.std.proofs.Common.{◌≡◌, ◌<◌, ℕ, ap, arith, length, map, subst, sym, ◌∙◌}
 use Rattle.std.proofs.lemmas.Result.{IfOk-weaker}
 use Rattle.at_ledger.specs.Run.{Legal, Whole, last_state}
@@ -62,3 +63,15 @@ returns-clause-balances c =
     (λ lines is a known.
     ap (λ ls. balance_of (last_state book ls) a) is ∙ balances-journal_lines book closing a c.requires.coherent c.round_positions.ensures.checked.begun known)
     (returns-clause-lines c)
+
+pub line_keys-requires-clause-records : goal.line_keys-requires-clause-records
+line_keys-requires-clause-records c = grind (arith, common_steps)
+
+pub lines-requires-clause-few : goal.lines-requires-clause-few
+lines-requires-clause-few c = grind (arith, common_steps)
+
+pub line_keys-requires-clause-starts : goal.line_keys-requires-clause-starts
+line_keys-requires-clause-starts c = grind (arith, common_steps)
+
+pub order_of-requires-clause-held : goal.order_of-requires-clause-held
+order_of-requires-clause-held c = grind (arith, common_steps)

@@ -1,3 +1,4 @@
+use Rattle.std.proofs.lemmas.Grind.{common_steps}
 use Rattle.std.proofs.Common.{rules, ◌≡◌, ◌+◌, ◌++◌, ◌-◌, ap, arith, get_or, map, refl, replicate, subst, sym, take, ◌∙◌}
 use Rattle.std.specs.Prelude.{None, Some}
 use Rattle.std.specs.Option.{option_copied}
@@ -31,3 +32,9 @@ loop-front-preserved c =
           subst (AreByPlace c.args.total (counts_in (take (k + 1) held))) (sym (ap (λ v. map option_copied v.items) w.fronts-is))
           (AreByPlace-next_beyond c.args.total held k one (map option_copied c.loop-front.fronts.items) c.requires (omega arith) item c.loop-front.invariant (omega (arith, w.if-front-total.false)))
     ]
+
+pub index_mut-requires : goal.index_mut-requires
+index_mut-requires c = grind (arith, common_steps)
+
+pub returns : goal.returns
+returns c = grind (arith, common_steps)

@@ -1,4 +1,5 @@
-use Rattle.std.proofs.Common.{rules, ◌≡◌, ◌++◌, [], get_or, sym, subst}
+use Rattle.std.proofs.lemmas.Grind.{common_steps}
+use Rattle.std.proofs.Common.{rules, ◌≡◌, ◌++◌, [], get_or, sym, subst, arith}
 use Rattle.std.specs.List.{cons_option}
 use Rattle.at_log.specs.HeldFronts.{front_at}
 use Rattle.at_log.specs.declared.receipt.Receipt.{Receipt}
@@ -16,3 +17,6 @@ loop-receipt-preserved c =
           (sym item) c.in_ok-push_front_at.ensures.pushed),
       c.push_front_at.ensures.placed,
     )
+
+pub returns-clause-pushed : goal.returns-clause-pushed
+returns-clause-pushed c = grind (arith, common_steps)

@@ -1,3 +1,4 @@
+use Rattle.std.proofs.lemmas.Grind.{common_steps}
 use Rattle.std.proofs.Common.{◌≡◌, ◌<◌, [], ap, arith, length, map, get_or, subst, sym, ◌∙◌}
 use Rattle.at_log.specs.ClosingTerms.{receipts_of}
 use Rattle.at_log.specs.JournalOrder.{journal_order}
@@ -36,3 +37,12 @@ overflow_mul-result-then-is_success c = omega (arith, c.requires.small, within (
 
 pub overflow_add-result-then-is_success : goal.overflow_add-result-then-is_success
 overflow_add-result-then-is_success c = omega (arith, c.requires.small, within (goal.at.overflow_add-result-then-is_success c).After-first_of_round)
+
+pub overflow_mul-result-in-Own : goal.overflow_mul-result-in-Own
+overflow_mul-result-in-Own c = grind (arith, common_steps)
+
+pub first_of_round-requires-clause-account_in : goal.first_of_round-requires-clause-account_in
+first_of_round-requires-clause-account_in c = grind (arith, common_steps)
+
+pub overflow_add-result : goal.overflow_add-result
+overflow_add-result c = grind (arith, common_steps)

@@ -1,4 +1,5 @@
-use Rattle.std.proofs.Common.{◌++◌, length, get_or, ◌∙◌}
+use Rattle.std.proofs.lemmas.Grind.{common_steps}
+use Rattle.std.proofs.Common.{◌++◌, length, get_or, ◌∙◌, arith}
 use Rattle.at_log.specs.ClosingTerms.{log_of}
 use Rattle.at_journal.specs.Order.{records_of_process}
 use Rattle.at_journal.proofs.OrderedLaws.{pushed-flat_range}
@@ -12,3 +13,6 @@ loop-p-preserved c =
     c.in_ok-push_records.ensures
     ∙ ((λ t. old ++ records_of_process p (c.get.ensures t) (length (c.log.ensures t)))
     ∙ pushed-flat_range (λ q. records_of_process q (get_or c.args.listed.now q 0) (length (log_of closing q))) c.args.order.now.items old p c.loop-p.invariant)
+
+pub returns : goal.returns
+returns c = grind (arith, common_steps)

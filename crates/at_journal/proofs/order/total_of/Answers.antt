@@ -1,3 +1,4 @@
+use Rattle.std.proofs.lemmas.Grind.{common_steps}
 use Rattle.std.proofs.Common.{arith, ◌<◌, length}
 use Rattle.std.proofs.lemmas.List.{length-map}
 use Rattle.std.proofs.lemmas.List.Sums.{sum_by_more}
@@ -19,3 +20,6 @@ loop-p-preserved c =
       ),
       omega (arith, c.log_len-total.ensures.small, c.loop-p.invariant.1),
     )
+
+pub returns-clause-total : goal.returns-clause-total
+returns-clause-total c = grind (arith, common_steps)

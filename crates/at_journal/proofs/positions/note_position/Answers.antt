@@ -1,3 +1,4 @@
+use Rattle.std.proofs.lemmas.Grind.{common_steps}
 use Rattle.std.proofs.Common.{◌≡◌, ◌<◌, subst, ◌++◌, [], ◌∷◌, ap, arith, length, map, get_or, sym, ◌∙◌}
 use Rattle.std.proofs.Math.ListN.{set}
 use Rattle.std.proofs.lemmas.List.{get_or-map, map-set}
@@ -21,3 +22,6 @@ returns-in_ok-push-in-Round c =
     ∙ (ap (set starts account) new
     ∙ (sym (with_position-next c.args.position account c.in-Round.round c.in-Round.decision c.in-Round.targets starts next)
     ∙ ap (λ e. with_position c.args.position e starts) (sym c.in-Round.is)))
+
+pub returns-else-len-round : goal.returns-else-len-round
+returns-else-len-round c = grind (arith, common_steps)

@@ -1,4 +1,5 @@
-use Rattle.std.proofs.Common.{◌++◌, [], ◌∷◌, ap, rules, sym, ◌∙◌}
+use Rattle.std.proofs.lemmas.Grind.{common_steps}
+use Rattle.std.proofs.Common.{◌++◌, [], ◌∷◌, ap, rules, sym, ◌∙◌, arith}
 use Rattle.at_journal.proofs.OwnPositions.{positions-other, positions-own}
 use Rattle.at_journal.proofs.positions.own_positions.Goals as goal
 use Rattle.at_journal.proofs.positions.own_positions.Goals.{then-one-process+in_ok-push, else-one-process}
@@ -14,3 +15,6 @@ loop-position-preserved c =
       | else-one-process w ↦
           ap (λ v. v.items) w.positions-is ∙ (c.loop-position.invariant ∙ sym (positions-other c.args.process order k (search rules)))
     ]
+
+pub returns : goal.returns
+returns c = grind (arith, common_steps)

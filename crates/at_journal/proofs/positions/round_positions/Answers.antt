@@ -1,3 +1,4 @@
+use Rattle.std.proofs.lemmas.Grind.{common_steps}
 use Rattle.std.proofs.Common.{◌≡◌, ◌+◌, ◌<◌, [], ap, arith, length, map, replicate, sym, subst, take, ◌∙◌}
 use Rattle.std.proofs.lemmas.List.{length-map}
 use Rattle.at_history.specs.BoardState.{publication_at}
@@ -43,3 +44,6 @@ loop-position-preserved c =
     ∙ ap (λ x. x.entry) (sym c.index-log-one.is) in
     subst (HasRoundPositions accounts (take (k + 1) list) list) (ap (λ e. with_position k e before) entry ∙ sym c.in_ok-note_position.ensures)
     (HasRoundPositions-more c.args.book.now closing k c.requires.coherent within before c.loop-position.invariant)
+
+pub returns-clause-starts : goal.returns-clause-starts
+returns-clause-starts c = grind (arith, common_steps)

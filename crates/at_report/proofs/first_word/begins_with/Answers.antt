@@ -1,4 +1,5 @@
-use Rattle.std.proofs.Common.{◌≡◌, ℕ, ◌==◌, true, false, Some, None, List, ◌∷◌, [], ◌++◌, length, get_or, refl, sym, ap, ◌∙◌}
+use Rattle.std.proofs.lemmas.Grind.{common_steps}
+use Rattle.std.proofs.Common.{◌≡◌, ℕ, ◌==◌, true, false, Some, None, List, ◌∷◌, [], ◌++◌, length, get_or, refl, sym, ap, ◌∙◌, arith}
 use Rattle.std.proofs.lemmas.Bool.Decides.{Decides-eqb}
 use Rattle.std.proofs.lemmas.List.{append_cancel_left}
 use Rattle.std.proofs.lemmas.Slice.Eq.{strip_prefix_is}
@@ -31,3 +32,6 @@ returns-then-not-is_empty c =
       (λ space. first_word c.args.text.now c.args.word.now c.in-Some.rest.now is some space),
       (λ first. let found = follows c.args.text.now c.args.word.now c.in-Some.rest.now is first in rw found.is refl),
     )
+
+pub returns-else-not-is_empty : goal.returns-else-not-is_empty
+returns-else-not-is_empty c = grind (arith, common_steps)

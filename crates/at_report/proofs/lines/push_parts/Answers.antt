@@ -1,4 +1,5 @@
-use Rattle.std.proofs.Common.{◌≡◌, ◌++◌, ◌∷◌, [], decimal, append_assoc}
+use Rattle.std.proofs.lemmas.Grind.{common_steps}
+use Rattle.std.proofs.Common.{◌≡◌, ◌++◌, ◌∷◌, [], decimal, append_assoc, arith}
 use Rattle.at_report.specs.Lines.{call_words, reply_word, spaced}
 use Rattle.at_report.proofs.LineLaws.{OnErr-starts_before, line_text-parts}
 use Rattle.at_report.proofs.lines.push_parts.Goals as goal
@@ -23,3 +24,9 @@ returns-clause-text c =
     let start : c.extend_from_slice.new.self.items ≡ c.args.out.now.items ++ c.process.result.now = c.in_ok-extend_from_slice.ensures.items in
     rw (c.in_ok-push.ensures.items, c.in_ok-push_reply.ensures.text, c.in_ok-push_call.ensures.text, c.in_ok-push_number.ensures.text, c.from.ensures, start, c.process.ensures.name)
     (line_text-parts c.args.out.now.items _ (decimal c.args.line.now.number) (reply_word c.args.line.now.reply) (call_words c.args.names.now c.args.line.now.call))
+
+pub returns-in_err-extend_from_slice-clause-begun : goal.returns-in_err-extend_from_slice-clause-begun
+returns-in_err-extend_from_slice-clause-begun c = grind (arith, common_steps)
+
+pub returns-in_err-push-clause-begun : goal.returns-in_err-push-clause-begun
+returns-in_err-push-clause-begun c = grind (arith, common_steps)

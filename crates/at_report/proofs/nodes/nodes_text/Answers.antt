@@ -1,3 +1,4 @@
+use Rattle.std.proofs.lemmas.Grind.{common_steps}
 use Rattle.std.proofs.Common.{◌<◌, ◌∙◌, [], length, refl, sym, arith}
 use Rattle.at_report.proofs.NodeTexts.{nodes_from-none, nodes_from-take_more}
 use Rattle.at_report.proofs.nodes.nodes_text.Goals as goal
@@ -15,3 +16,6 @@ loop-node-preserved c =
           c.in_ok-push_node.ensures
           ∙ rw (c.loop-node.invariant.text, count) (nodes_from-take_more [] c.args.nodes.now c.loop-node.node-index c.node-item.result within c.node-item.is);
     }
+
+pub returns : goal.returns
+returns c = grind (arith, common_steps)

@@ -1,3 +1,4 @@
+use Rattle.std.proofs.lemmas.Grind.{common_steps}
 use Rattle.std.proofs.Common.{◌≡◌, ◌∙◌, ◌+◌, ◌<◌, ℕ, List, take, get_or, length, sym, ap, refl, arith}
 use Rattle.std.proofs.lemmas.List.{get_or-map, length-map}
 use Rattle.at_ledger.specs.State.{LedgerState, step}
@@ -28,3 +29,6 @@ loop-line-preserved c =
       last = c.step.ensures.state ∙ last-line c.in_ok-state.state c.loop-line.state c.args.lines.now c.loop-line.line-index c.line-item.result within c.line-item.is c.loop-line.invariant.last;
       book = c.step.ensures.book ∙ c.loop-line.invariant.book;
     }
+
+pub returns-clause-last : goal.returns-clause-last
+returns-clause-last c = grind (arith, common_steps)

@@ -1,4 +1,5 @@
-use Rattle.std.proofs.Common.{◌≡◌, ◌∙◌, ◌++◌}
+use Rattle.std.proofs.lemmas.Grind.{common_steps}
+use Rattle.std.proofs.Common.{◌≡◌, ◌∙◌, ◌++◌, arith}
 use Rattle.at_report.specs.Lines.{line_text}
 use Rattle.at_report.specs.Report.{balance_words}
 use Rattle.at_report.proofs.LineLaws.{lines_text-map_more, OnErr-starts_before}
@@ -15,3 +16,6 @@ pub returns-in_err-push_numbered-clause-begun : goal.returns-in_err-push_numbere
 returns-in_err-push_numbered-clause-begun c =
     OnErr-starts_before c.from_residual.result c.push_numbered.new.out.items c.loop-account.out.items c.args.out.now.items _ c.loop-account.invariant
     c.in_err-push_numbered.ensures.begun
+
+pub returns-clause-text : goal.returns-clause-text
+returns-clause-text c = grind (arith, common_steps)

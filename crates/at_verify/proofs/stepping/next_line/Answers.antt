@@ -1,4 +1,5 @@
-use Rattle.std.proofs.Common.{◌≡◌, ℕ, ◌+◌, ◌<◌, true, nat_lt, [], length, get_or, Some, sym, ap, ◌∙◌, arith}
+use Rattle.std.proofs.lemmas.Grind.{common_steps}
+use Rattle.std.proofs.Common.{◌≡◌, ℕ, ◌+◌, ◌<◌, Bool, true, false, Option, None, nat_lt, [], length, get_or, Some, sym, ap, ◌∙◌, arith}
 use Rattle.std.specs.Prelude.{slice_get}
 use Rattle.std.proofs.lemmas.Bool.Decides.{nat_tests}
 use Rattle.std.proofs.lemmas.Option.{slice_get-get_or, slice_get_within}
@@ -8,19 +9,28 @@ use Rattle.at_verify.proofs.Made.{call_known-at}
 use Rattle.at_verify.proofs.Walking.{next_line-only}
 use Rattle.at_verify.proofs.stepping.next_line.Goals as goal
 
+-- a process that is found is one
+same_found : (p q : ℕ) → Some p ≡ Some q → p ≡ q
+same_found p q is = cc
+
+none_found : (p : ℕ) → ◌≡◌ {A = Option ℕ} None (Some p) → ⊥
+none_found p is = cc
+
+past_within : (b : Bool) → false ≡ b → b ≡ true → ⊥
+past_within b past within = cc
+
 pub returns-in_err-process-clause-only : goal.returns-in_err-process-clause-only
 returns-in_err-process-clause-only c l next first =
     let count : length (contents_of c.args.files.now) ≡ length c.args.files.now = length-contents_of c.args.files.now in
     let within : l.process < c.args.book.now.processes = let h = next.process in omega arith in
-    let found = (c.in_err-process.ensures.exact l.process within).1 first in
-    absurd (cc)
+    absurd (none_found l.process ((c.in_err-process.ensures.exact l.process within).1 first))
 
 pub returns-in_err-call-clause-only : goal.returns-in_err-call-clause-only
 returns-in_err-call-clause-only c l next first =
     let count : length (contents_of c.args.files.now) ≡ length c.args.files.now = length-contents_of c.args.files.now in
     let within : l.process < c.args.book.now.processes = let h = next.process in omega arith in
     let found = (c.in_ok-process.ensures.exact l.process within).1 first in
-    let same : c.in_ok-process.process ≡ l.process = cc in
+    let same : c.in_ok-process.process ≡ l.process = same_found c.in_ok-process.process l.process found in
     let file : c.index-files-process.result.items ≡ get_or (contents_of c.args.files.now) c.in_ok-process.process [] =
     sym (get_or-contents_of c.args.files.now c.in_ok-process.process c.index-files-process.result (omega arith) c.index-files-process.is) in
     let here = slice_get_within (get_or (contents_of c.args.files.now) l.process []) (get_or c.args.made.now l.process 0) l.call next.call in
@@ -29,7 +39,7 @@ returns-in_err-call-clause-only c l next first =
     let before : c.get-before.result ≡ get_or c.args.made.now l.process 0 = c.get-before.ensures ∙ ap (λ (p : ℕ). get_or c.args.made.now p 0) same in
     let past = c.in_err-call.ensures.lookup.0 in
     let inside : c.get-before.result < length c.deref.result.now = rw (text, before) here in
-    absurd (let test : nat_lt c.get-before.result (length c.deref.result.now) ≡ true = grind (arith, nat_tests) in cc)
+    absurd (let test : nat_lt c.get-before.result (length c.deref.result.now) ≡ true = grind (arith, nat_tests) in past_within _ past test)
 
 pub step-reply-requires-clause-call_in : goal.step-reply-requires-clause-call_in
 step-reply-requires-clause-call_in c =
@@ -71,5 +81,17 @@ returns-clause-only c l next first =
     let count : length (contents_of c.args.files.now) ≡ length c.args.files.now = length-contents_of c.args.files.now in
     let within : l.process < c.args.book.now.processes = let h = next.process in omega arith in
     let found = (c.in_ok-process.ensures.exact l.process within).1 first in
-    let same : c.in_ok-process.process ≡ l.process = cc in
+    let same : c.in_ok-process.process ≡ l.process = same_found c.in_ok-process.process l.process found in
     ap Some (next_line-only (contents_of c.args.files.now) c.args.state.now c.args.made.now _ l (returns-clause-next c) next same)
+
+pub get-before-requires : goal.get-before-requires
+get-before-requires c = grind (arith, common_steps)
+
+pub set-requires : goal.set-requires
+set-requires c = grind (arith, common_steps)
+
+pub overflow_add-before : goal.overflow_add-before
+overflow_add-before c = grind (arith, common_steps)
+
+pub overflow_add-result : goal.overflow_add-result
+overflow_add-result c = grind (arith, common_steps)

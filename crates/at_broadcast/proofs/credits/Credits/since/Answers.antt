@@ -1,3 +1,4 @@
+use Rattle.std.proofs.lemmas.Grind.{common_steps}
 use Rattle.std.proofs.Common.{ℕ, ◌<◌, List, length, ap, sym, ◌∙◌, ltb, ltb-true, ltb-false, arith, rules}
 use Rattle.std.proofs.lemmas.List.Sorted.{IsPartitionPoint-from_clause, IsPartitionedBy-ltb}
 use Rattle.at_broadcast.specs.declared.credits.Credit.{Credit}
@@ -29,3 +30,6 @@ returns-in-None-clause-sum c =
     let lookup = rw c.deref-2.ensures.value at c.in-None.ensures.lookup in
     sym (amount_since-none number list (λ k d h. ltb-true _ _ (point.0 k d (omega arith) (omega (arith, h, lookup.3)))))
     ∙ ap (λ (v : CreditList). amount_since number v.list) c.self.view_is
+
+pub overflow_sub-result : goal.overflow_sub-result
+overflow_sub-result c = grind (arith, common_steps)

@@ -1,3 +1,4 @@
+use Rattle.std.proofs.lemmas.Grind.{common_steps}
 use Rattle.std.proofs.Common.{◌≡◌, ℕ, ◌+◌, ◌<◌, List, length, get_or, ap, sym, subst, ◌∙◌, add-one, zero-add, arith}
 use Rattle.std.specs.List.{range_with_len, sum_by}
 use Rattle.std.proofs.lemmas.List.{get_or_read}
@@ -48,3 +49,6 @@ returns-clause-sum c =
     (ap (λ n. n + sum_of_first (message_credit a) (messages_of senders) deps)
     (c.loop-q.invariant.summed ∙ ap (λ n. sum_by (left_of senders deps a) (range_with_len 0 n)) end)
     ∙ left_of-sum b counts senders c.self.inside.balances.items deps a c.self.invariant known covered)
+
+pub overflow_add-sum : goal.overflow_add-sum
+overflow_add-sum c = grind (arith, common_steps)

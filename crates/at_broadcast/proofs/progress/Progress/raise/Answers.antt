@@ -1,5 +1,5 @@
 use Rattle.std.proofs.Common.{◌≡◌, ℕ, ◌+◌, ◌-◌, ◌<◌, ◌≤◌, List, length, get_or, set, ap, sym, subst, ◌∙◌, arith, length-set}
-use Rattle.std.proofs.lemmas.Grind.{get_or_default_zero}
+use Rattle.std.proofs.lemmas.Grind.{common_steps, get_or_default_zero}
 use Rattle.std.proofs.lemmas.List.{get_or_read}
 use Rattle.at_broadcast.specs.declared.message.Message.{Message}
 use Rattle.at_broadcast.specs.Node.{NodeState, left}
@@ -119,3 +119,24 @@ returns-clause-left c =
       ap (λ (s : NodeState). left s.validated) c.self.view_is,
       left-one_more_of counts p (omega (arith, here.process, c.self.invariant.counted)) (omega (arith, here.number, (c.self.invariant.credits p here.process).messages)),
     )
+
+pub overflow_add-number : goal.overflow_add-number
+overflow_add-number c = grind (arith, common_steps)
+
+pub index_mut-requires-2 : goal.index_mut-requires-2
+index_mut-requires-2 c = grind (arith, common_steps)
+
+pub set-requires : goal.set-requires
+set-requires c = grind (arith, common_steps)
+
+pub index_mut-requires : goal.index_mut-requires
+index_mut-requires c = grind (arith, common_steps)
+
+pub index_mut-requires-3 : goal.index_mut-requires-3
+index_mut-requires-3 c = grind (arith, common_steps)
+
+pub get-number-requires : goal.get-number-requires
+get-number-requires c = grind (arith, common_steps)
+
+pub credit-requires-clause-later : goal.credit-requires-clause-later
+credit-requires-clause-later c = grind (arith, common_steps)

@@ -1,3 +1,4 @@
+use Rattle.std.proofs.lemmas.Grind.{common_steps}
 use Rattle.std.proofs.Common.{◌≡◌, ℕ, ◌<◌, List, length, get_or, set, None, Ok, Err, ap, sym, subst, ◌∙◌, arith}
 use Rattle.std.specs.Result.{OnOk, OnErr}
 use Rattle.std.specs.declared.result.Result.{Result}
@@ -64,3 +65,6 @@ returns-clause-ok c =
     (ap (λ (s : SenderState). messages_of (set senders p s)) (ok ∙ ap (λ (s : SenderState). stored s number m) (read ((goal.at.returns-clause-ok c).After-index_mut)))
     ∙ messages_of-stored senders p number m)
     ∙ ap (λ (s : NodeState). record { book = s.book; messages = with_message s.messages p number m; validated = s.validated; balances = s.balances }) c.self.view_is) c.store.ensures.ok
+
+pub returns-clause-err : goal.returns-clause-err
+returns-clause-err c = grind (arith, common_steps)

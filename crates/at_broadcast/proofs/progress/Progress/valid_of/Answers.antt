@@ -1,3 +1,4 @@
+use Rattle.std.proofs.lemmas.Grind.{common_steps}
 use Rattle.std.proofs.Common.{◌≡◌, ℕ, ◌<◌, List, Some, length, ap, sym, subst, ◌∙◌, arith}
 use Rattle.std.specs.Option.{option_copied}
 use Rattle.std.proofs.lemmas.List.{get_or_read}
@@ -18,3 +19,15 @@ is_valid-requires-clause-message_in c =
     ap (λ (l : MessageList). message_at l c.get.result) (list_of-messages_of senders p)
     ∙ (ap (λ (s : SenderState). message_at s.messages c.get.result) (sym read) ∙ (sym c.message.ensures ∙ ap option_copied c.in_ok-message.was)) in
     subst (λ (s : NodeState). IsMessageOn s.book c.in_ok-message.message.now) c.self.view_is (c.self.invariant.known p c.get.result c.in_ok-message.message.now there)
+
+pub returns-clause-some : goal.returns-clause-some
+returns-clause-some c = grind (arith, common_steps)
+
+pub returns-then-not-is_valid-clause-none : goal.returns-then-not-is_valid-clause-none
+returns-then-not-is_valid-clause-none c = grind (arith, common_steps)
+
+pub returns-in_err-message-clause-none : goal.returns-in_err-message-clause-none
+returns-in_err-message-clause-none c = grind (arith, common_steps)
+
+pub is_valid-requires-clause-next : goal.is_valid-requires-clause-next
+is_valid-requires-clause-next c = grind (arith, common_steps)

@@ -1,0 +1,12 @@
+use Rattle.std.proofs.Common.{arith}
+use Rattle.std.proofs.lemmas.Grind.{common_steps}
+use Rattle.at_report.proofs.run_report.push_audit_lines.Goals as goal
+
+pub returns-in_err-push_balances-clause-begun : goal.returns-in_err-push_balances-clause-begun
+returns-in_err-push_balances-clause-begun c = grind (arith, common_steps)
+
+pub returns-clause-text : goal.returns-clause-text
+returns-clause-text c = grind (arith, common_steps)
+
+pub returns-clause-begun : goal.returns-clause-begun
+returns-clause-begun c = grind (arith, common_steps)
