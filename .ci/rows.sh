@@ -217,7 +217,7 @@ while IFS='|' read -r words verify said end book first second third; do
     put "$said" >said
     run $words
     cp out report
-    [ "$status" -eq 0 ] && [ ! -s err ] && tail -c "$(wc -c <end)" report | cmp -s end - && run $verify || status=end
+    [ "$status" -eq 0 ] && [ ! -s err ] && tail -c "$(wc -c <end)" report | cmp -s end - && run $verify || status=255
     printed "$words, which ends so and is verified: $end" said
 done <<'END'
 run book 0 1 2|verify book report 0 1 2|verified 7\n|\nbalances 5\n0 562450\n1 127551\n2 4999\n3 140000\n4 160000\ntotal 995000\n|REALISTIC|transfer,0,1,12550\ntransfer,3,4,80000\nread,3\n|transfer,1,2,4999\ntransfer,3,4,80000\n|transfer,2,0,75000\nread,2\n
