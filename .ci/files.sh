@@ -80,25 +80,25 @@ for account in account,a123456789012345,0, 'account,ann,5,ann bob'; do
     checked '2 2 0' good.csv empty.csv empty.csv
 done
 
-# A book that ends too early, after so many bytes.
-while IFS='|' read -r length line cause; do
-    head -c "$length" one.csv >bad.csv
-    run check bad.csv empty.csv
-    refused "the first $length bytes of a book" 3 "book: line $line: $cause"
+# A book that ends too early, after so many bytes, from the least number to the greatest.
+while IFS='|' read -r least greatest line cause; do
+    length=$least
+    while [ "$length" -le "$greatest" ]; do
+        head -c "$length" one.csv >bad.csv
+        run check bad.csv empty.csv
+        refused "the first $length bytes of a book" 3 "book: line $line: $cause"
+        length=$((length + 1))
+    done
 done <<'END'
-0|1|shape
-4|1|shape
-5|1|version
-6|2|shape
-7|2|shape
-17|2|number
-18|3|shape
-19|3|shape
-27|3|shape
-28|3|number
-29|4|no account
-30|4|no account
-43|4|shape
+0|4|1|shape
+5|5|1|version
+6|16|2|shape
+17|17|2|number
+18|27|3|shape
+28|28|3|number
+29|30|4|no account
+31|43|4|shape
+47|57|5|shape
 END
 while read -r length accounts; do
     head -c "$length" one.csv >good.csv

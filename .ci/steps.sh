@@ -63,7 +63,7 @@ done
 
 words='sync::atomic|Atomic(U|I|Bool|Ptr)|Mutex|RwLock|Condvar|OnceLock|crossbeam|mpsc|channel\(|yield_now|spin_loop|atomic_table'
 grep -nE "$words" */src/*.rt |
-    grep -vE '^(at_board|at_players|at_[a-z_]*trials)/|^[a-z_]*/src/[a-z_]*tests?(_rows)?\.rt:' |
+    grep -vE '^(at_board|at_players|at_[a-z_]*trials)/|^at_program/src/gate_tests\.rt:' |
     grep -vE ':[0-9]+: *(//|ghost use)' && say "a word, a lock or a channel outside the board"
 grep -nE 'sync::atomic' at_board/src/*.rt | grep -vE '^at_board/src/meet.rt:' && say "at_board: an atomic word outside its table"
 

@@ -1,16 +1,24 @@
 //! Runs that are held at a gate: all processes make their calls at once, and the gate is told before each call and after it.
 
-use crate::serving::serve;
-use crate::test_rows::{EACH_OWN, HELD_REPORT, READS_AND_PAYS, READS_PAYS_AND_READS, SIXTEEN};
-use crate::tests::{files_of, words_of};
+use crate::tests::{is_answered, shelf_of};
 use at_io::{MemoryShelf, MemorySink};
 use at_ledger::Reply;
 use at_report::Status;
 use at_workers::Gate;
-use std::alloc::{AllocError, Global};
+use std::alloc::Global;
 use std::sync::atomic::{AtomicU64, Ordering};
-use std::test::Fail;
 use std::thread::{Threads, yield_now};
+
+const EACH_OWN: &[u8] = b"book,1\nprocesses,2\nlimits,4,4\naccount,0,100,0\naccount,1,100,1\n";
+
+const READS_AND_PAYS: &[u8] = b"read,1\ntransfer,0,1,30\n";
+
+const READS_PAYS_AND_READS: &[u8] = b"read,0\ntransfer,1,0,20\nread,1\n";
+
+const HELD_REPORT: &[u8] =
+    b"journal 5\n1 1 read 0 100\n1 2 transfer 1 0 20 done\n0 1 read 1 80\n0 2 transfer 0 1 30 done\n1 3 read 1 110\nbalances 2\n0 90\n1 110\ntotal 200\n";
+
+const SIXTEEN: &[u8] = b"book,1\nprocesses,16\nlimits,4,4\naccount,0,100,0\n";
 
 /// How often a process looks for what it waits for before it goes on without it.
 const LOOKS: u64 = 200_000_000;
@@ -124,59 +132,78 @@ impl Gate for Meeting {
     }
 }
 
-/// Whether all is done at this gate, the closed ledger is kept, and the text is as it has to be.
+/// Whether all is done at this gate, the closed ledger is kept, and the text ends as it has to.
+fn is_done_over<R: Threads + Sync, G: Gate + Sync>(
+    rt: &R,
+    alloc: Global,
+    line: &str,
+    shelf: &mut MemoryShelf,
+    gate: &G,
+    text: &[u8],
+) -> bool {
+    let Ok(mut out) = MemorySink::new(alloc, 1_000) else {
+        return false;
+    };
+    is_answered(rt, alloc, line, shelf, &mut out, gate, &Status::Done)
+        && out.taken().ends_with(text)
+}
+
+/// The same over the files of these contents.
 fn is_done_at<R: Threads + Sync, G: Gate + Sync>(
     rt: &R,
     alloc: Global,
-    words: &str,
+    line: &str,
     contents: &[&[u8]],
     gate: &G,
-    text: &str,
-) -> Result<bool, AllocError> {
-    let words = words_of(alloc, words)?;
-    let mut shelf = MemoryShelf::new(files_of(alloc, contents)?, Vec::new(alloc));
-    let mut out = MemorySink::new(alloc, 1_000)?;
-    let mut err = MemorySink::new(alloc, 256)?;
-    let (words, mut kept) = (words.as_slice(), None);
-    let status = serve(
-        rt, alloc, words, &mut shelf, &mut out, &mut err, gate, &mut kept,
-    );
-    Ok(status == Status::Done && kept.is_some() && out.taken().ends_with(text.as_bytes()))
+    text: &[u8],
+) -> bool {
+    let Some(mut shelf) = shelf_of(alloc, contents, &[], usize::MAX) else {
+        return false;
+    };
+    is_done_over(rt, alloc, line, &mut shelf, gate, text)
 }
 
 /// Both processes run at once, so that each comes to what the other waits for. The first call of process 0 is a read that sees
 /// what the other's second call left, so the gate is told before a call; all replies allow one order alone.
-#[test]
-fn two_processes_meet_in_the_middle(rt: HostRuntime) -> Result<(), Fail> {
-    let (alloc, meeting) = (
-        rt.alloc(),
-        Meeting {
-            stage: Count::new(),
-        },
-    );
+fn meet_in_the_middle<R: Threads + Sync>(rt: &R, alloc: Global) -> bool {
+    let meeting = Meeting {
+        stage: Count::new(),
+    };
     let contents = [EACH_OWN, READS_AND_PAYS, READS_PAYS_AND_READS];
-    let good = is_done_at(&rt, alloc, "run book 0 1", &contents, &meeting, HELD_REPORT)?;
-    assert!(rt; good && meeting.stage.is_kept());
-    Ok(())
+    is_done_at(rt, alloc, "run book 0 1", &contents, &meeting, HELD_REPORT)
+        && meeting.stage.is_kept()
 }
 
-/// All sixteen processes of a run, the most that there are, wait at their first call until all are there.
+/// Whether all processes of these words wait at their first call until all are there, and the gate is told of each call once.
+fn crowd_meets<R: Threads + Sync>(
+    rt: &R,
+    alloc: Global,
+    line: &str,
+    contents: &[&[u8]],
+    processes: u64,
+    calls: u64,
+    text: &[u8],
+) -> bool {
+    let crowd = Crowd::new(processes);
+    is_done_at(rt, alloc, line, contents, &crowd, text) && crowd.is_kept(calls)
+}
+
 #[test]
-fn sixteen_processes_meet(rt: HostRuntime) -> Result<(), Fail> {
-    let (alloc, crowd) = (rt.alloc(), Crowd::new(16));
-    let words = "run book 0 0 0 0 0 0 0 0 0 0 0 0 0 0 0 0";
+fn two_processes_meet_in_the_middle(rt: HostRuntime) {
+    assert!(rt; meet_in_the_middle(&rt, rt.alloc()));
+}
+
+/// All sixteen processes of a run, the most that there are.
+#[test]
+fn sixteen_processes_meet(rt: HostRuntime) {
+    let line = "run book 0 0 0 0 0 0 0 0 0 0 0 0 0 0 0 0";
     let contents = [SIXTEEN, b"read,0\nread,0\n"];
-    let text = "balances 1\n0 100\ntotal 100\n";
-    let good = is_done_at(&rt, alloc, words, &contents, &crowd, text)?;
-    assert!(rt; good && crowd.is_kept(32));
-    Ok(())
+    let text = b"balances 1\n0 100\ntotal 100\n";
+    assert!(rt; crowd_meets(&rt, rt.alloc(), line, &contents, 16, 32, text));
 }
 
-/// The four processes of `make` wait at their first call until all are there.
+/// The four processes of `make`.
 #[test]
-fn four_processes_meet(rt: HostRuntime) -> Result<(), Fail> {
-    let (alloc, crowd) = (rt.alloc(), Crowd::new(4));
-    let good = is_done_at(&rt, alloc, "make 7 4 2", &[], &crowd, "total 1600\n")?;
-    assert!(rt; good && crowd.is_kept(8));
-    Ok(())
+fn four_processes_meet(rt: HostRuntime) {
+    assert!(rt; crowd_meets(&rt, rt.alloc(), "make 7 4 2", &[], 4, 8, b"total 1600\n"));
 }

@@ -15,8 +15,6 @@ ghost use Rattle.std.specs.Prelude.{◌≢◌, IfErr};
 mod gate_tests;
 mod serving;
 #[cfg(test)]
-mod test_rows;
-#[cfg(test)]
 mod tests;
 
 use crate::serving::serve;

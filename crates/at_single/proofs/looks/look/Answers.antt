@@ -1,4 +1,4 @@
-use Rattle.std.proofs.Common.{sym, subst, ◌∙◌}
+use Rattle.std.proofs.Common.{sym, subst, ap, ◌∙◌, arith}
 use Rattle.at_ledger.specs.Book.{BookTerms}
 use Rattle.at_history.proofs.Laws.Fronts.{length-IsFront, sum-Covers-le}
 use Rattle.at_board.specs.Knowledge.Seats.{SeatTerms}
@@ -40,3 +40,10 @@ returns-clause-looked c =
       more = sum-Covers-le front t.upto (length-IsFront b.processes front c.snapshot-front.new.seat.knows.seen snapshot.front ∙ sym c.requires.totals.processes)
           (Covers-IsSnapshot b v c.snapshot-front.new.seat.knows t front snapshot c.requires.totals);
     }
+
+pub returns-clause-steps : goal.returns-clause-steps
+returns-clause-steps c =
+    omega (arith, c.snapshot-front.ensures.steps, ap (λ (s : SeatTerms). s.steps) c.catch_up.ensures.same)
+
+pub returns-clause-exchanges : goal.returns-clause-exchanges
+returns-clause-exchanges c = ap (λ (s : SeatTerms). s.exchanges) c.catch_up.ensures.same ∙ c.snapshot-front.ensures.exchanges

@@ -1,0 +1,246 @@
+#!/bin/sh
+# Worked rows: gives the built program words and small files, and looks at the status and at both streams. It prints a line for each
+# row, and last 'N passed, N failed'.
+#
+#   rows.sh [PROGRAM]             the program is crates/at_program/out/at_program where none is named
+
+. "$(dirname -- "$0")/cases.sh"
+
+# Contents and texts that have a name, as printf takes them.
+while IFS='|' read -r name text; do
+    printf "$text" >"$name"
+done <<'END'
+EMPTY|
+ONE|book,1\nprocesses,1\nlimits,4,4\naccount,0,100,0\naccount,1,0,\n
+TWO|book,1\nprocesses,2\nlimits,4,4\naccount,0,100,0\naccount,1,0,1\naccount,2,50,\n
+EACH_OWN|book,1\nprocesses,2\nlimits,4,4\naccount,0,100,0\naccount,1,100,1\n
+EACH_SENDS|book,1\nprocesses,2\nlimits,4,4\naccount,0,100,0\naccount,1,0,1\n
+ROOM|book,1\nprocesses,1\nlimits,1,1\naccount,0,10,0\naccount,1,0,\n
+NEUTRAL|book,1\nprocesses,1\nlimits,4,4\naccount,0,100,0\naccount,1,0,0\n
+LARGEST|book,1\nprocesses,1\nlimits,4,4\naccount,0,18446744073709551615,0\naccount,1,0,\n
+REALISTIC|book,1\nprocesses,3\nlimits,100,20\naccount,0,500000,0\naccount,1,120000,1\naccount,2,75000,2\naccount,3,300000,0 1\naccount,4,0,\n
+NAMED|book,2\nprocesses,ann,bob\nlimits,10,10\naccount,ann-cash,100,ann\naccount,joint,50,ann bob\naccount,shop,0,\n
+HOUSEHOLD|book,2\nprocesses,ann,bob\nlimits,100,20\naccount,ann-cash,500,ann\naccount,bob-cash,120,bob\naccount,joint,300,ann bob\naccount,shop,0,\n
+CROSSED|book,1\nprocesses,2\nlimits,4,4\naccount,0,0,0\naccount,1,10,1\n
+USUAL|transfer,0,1,30\nread,0\nread,1\n
+PAYS_THIRTY|transfer,0,1,30\n
+PAYS_TWENTY_BACK|transfer,1,0,20\n
+PAYS_SIXTY|send,0,1,60,0,0\n
+PAYS_FIFTY_BACK|send,1,0,50,1,0\n
+ONES|1\n1\n1\n1\n1\n1\n1\n1\n1\n1\n1\n1\n1\n1\n
+USUAL_REPORT|journal 3\n0 1 transfer 0 1 30 done\n0 2 read 0 70\n0 3 read 1 30\nbalances 2\n0 70\n1 30\ntotal 100\n
+THIRTY_FIRST|journal 2\n0 1 transfer 0 1 30 done\n1 1 transfer 1 0 20 done\nbalances 2\n0 90\n1 110\ntotal 200\n
+TWENTY_FIRST|journal 2\n1 1 transfer 1 0 20 done\n0 1 transfer 0 1 30 done\nbalances 2\n0 90\n1 110\ntotal 200\n
+TWO_NODES|node 0\nvalidated 1 1\n0 90\n1 10\ntotal 100\nnode 1\nvalidated 0 0\n0 100\n1 0\ntotal 100\n
+SMALL|made 7 1 2\ndone 2\nread 0\nbalances 2\n0 146\n1 254\ntotal 400\n
+FOUR|made 7 4 1000\ndone 3000\nread 1000\nbalances 5\n0 104432\n1 106311\n2 106567\n3 103186\n4 379504\ntotal 800000\n
+EIGHT|made 7 8 1000\ndone 5959\nread 2041\nbalances 9\n0 104854\n1 106530\n2 111048\n3 107857\n4 108286\n5 109196\n6 108862\n7 109538\n8 733829\ntotal 1600000\n
+END
+cat >USAGE <<'END'
+usage: run BOOK PAY... | check BOOK PAY... | make NUMBER PROCESSES CALLS | replay BOOK SCHEDULE PAY... | agree VALUE... | deliver BOOK ORDER MSG... | verify BOOK REPORT PAY...
+END
+
+# A content or a text: what has this name, or what printf makes of it.
+put() {
+    case $1 in
+    [A-Z]*) cat "$1" ;;
+    *) printf "$1" ;;
+    esac
+}
+# The files `book`, `0`, `1` and so on, one for each content, and no other.
+files() {
+    rm -f book 0 1 2 3 4
+    for name in book 0 1 2 3 4; do
+        [ $# -gt 0 ] && [ -n "$1" ] || break
+        put "$1" >$name
+        shift
+    done
+}
+# The rows of a table: the words, the status, the text, and the contents of the files. The text is all of the output where all is
+# done, and else all of the error output.
+answered() {
+    while IFS='|' read -r words wanted text book first second third; do
+        files "$book" "$first" "$second" "$third"
+        put "$text" >wanted
+        run $words
+        if [ "$wanted" -eq 0 ]; then
+            printed "$words: $text" wanted
+        else
+            refused "$words: $text" "$wanted" "$(cat wanted)"
+        fi
+    done
+}
+
+# Runs of one process and of more.
+answered <<'END'
+run book 0|0|journal 0\nbalances 2\n0 100\n1 0\ntotal 100\n|ONE|EMPTY
+run book 0|0|USUAL_REPORT|ONE|USUAL
+run book 0|0|journal 1\n0 1 transfer 0 1 101 short\nbalances 2\n0 100\n1 0\ntotal 100\n|ONE|transfer,0,1,101\n
+run book 0|0|journal 1\n0 1 transfer 0 1 100 done\nbalances 2\n0 0\n1 100\ntotal 100\n|ONE|transfer,0,1,100\n
+run book 0|0|journal 3\n0 1 transfer 1 0 0 done\n0 2 transfer 0 0 100 done\n0 3 transfer 0 0 101 short\nbalances 2\n0 100\n1 0\ntotal 100\n|NEUTRAL|transfer,1,0,0\ntransfer,0,0,100\ntransfer,0,0,101\n
+run book 0|0|journal 3\n0 1 transfer 0 1 1 done\n0 2 transfer 0 1 1 full\n0 3 read 0 9\nbalances 2\n0 9\n1 1\ntotal 10\n|ROOM|transfer,0,1,1\ntransfer,0,1,1\nread,0\n
+run book 0|0|journal 2\n0 1 transfer 0 1 1 done\n0 2 transfer 0 1 1000 full\nbalances 2\n0 9\n1 1\ntotal 10\n|ROOM|transfer,0,1,1\ntransfer,0,1,1000\n
+run book 0|0|journal 1\n0 1 transfer 0 1 18446744073709551615 done\nbalances 2\n0 0\n1 18446744073709551615\ntotal 18446744073709551615\n|LARGEST|transfer,0,1,18446744073709551615\n
+run book 0|0|journal 2\n0 1 transfer 0 1 30 done\n0 2 read 0 70\nbalances 2\n0 70\n1 30\ntotal 100\n|ONE|"transfer",0,1,30\r\n\r\nread,0
+check book 0|0|checked 1 2 3\n|ONE|USUAL
+run book 0 1|0|journal 2\n0 1 transfer 2 0 0 not-owner\n0 2 transfer 1 0 0 not-owner\nbalances 3\n0 100\n1 0\n2 50\ntotal 150\n|TWO|transfer,2,0,0\ntransfer,1,0,0\n|EMPTY
+run book 0 0|0|journal 2\n0 1 read 0 100\n1 1 read 0 100\nbalances 3\n0 100\n1 0\n2 50\ntotal 150\n|TWO|read,0\n
+check book 0 1|0|checked 2 3 3\n|TWO|read,0\n|read,1\nread,2\n
+run book 0 1|0|journal 2\nann 1 pay ann-cash shop 30 joint 20 done\nann 2 read shop 30\nbalances 3\nann-cash 50\njoint 70\nshop 30\ntotal 150\n|NAMED|pay,ann-cash,shop,30,joint,20\nread,shop\n|EMPTY
+END
+
+# Each cause of a book's fault but that of too many accounts.
+answered <<'END'
+run book 0|3|book: line 1: version\n|book,3\nprocesses,ann\n|EMPTY
+run book 0|3|book: line 1: shape\n|books,1\n|EMPTY
+run book 0|3|book: line 2: number\n|book,1\nprocesses,x\n|EMPTY
+run book 0|3|book: line 2: no process\n|book,1\nprocesses,0\n|EMPTY
+run book 0|3|book: line 2: too many processes\n|book,1\nprocesses,17\n|EMPTY
+run book 0|3|book: line 3: room out of range\n|book,1\nprocesses,1\nlimits,4097,4\n|EMPTY
+run book 0|3|book: line 4: no account\n|book,1\nprocesses,1\nlimits,4,4\n|EMPTY
+run book 0|3|book: line 4: account order\n|book,1\nprocesses,1\nlimits,4,4\naccount,1,0,\n|EMPTY
+run book 0|3|book: line 4: owner out of range\n|book,1\nprocesses,2\nlimits,4,4\naccount,0,0,0 2\n|EMPTY
+run book 0|3|book: line 4: owners not rising\n|book,1\nprocesses,2\nlimits,4,4\naccount,0,0,1 0\n|EMPTY
+run book 0|3|book: line 4: too many owners\n|book,1\nprocesses,9\nlimits,1,1\naccount,0,0,0 1 2 3 4 5 6 7 8\n|EMPTY
+run book 0|3|book: line 6: rounds over limit\n|book,1\nprocesses,4\nlimits,1,1024\naccount,0,0,0 1 2 3\naccount,1,0,0 1 2 3\naccount,2,0,0 1 2 3\n|EMPTY
+run book 0|3|book: line 5: total over limit\n|book,1\nprocesses,1\nlimits,4,4\naccount,0,18446744073709551615,0\naccount,1,1,\n|EMPTY
+run book 0 1|3|book: line 6: name\n|book,2\nprocesses,ann,bob\nlimits,10,10\naccount,ann-cash,100,ann\naccount,joint,50,ann bob\naccount,Shop,0,\n|EMPTY
+run book 0 1|3|book: line 5: name twice\n|book,2\nprocesses,ann,bob\nlimits,10,10\naccount,ann-cash,100,ann\naccount,ann-cash,0,\naccount,shop,0,\n|EMPTY
+run book 0 1|3|book: line 5: unknown owner\n|book,2\nprocesses,ann,bob\nlimits,10,10\naccount,ann-cash,100,ann\naccount,joint,50,ann carl\naccount,shop,0,\n|EMPTY
+END
+
+# Bad payments, and files that are too few, too many or not there.
+answered <<'END'
+run book 0|4|payments 0: line 1: number\n|ONE|transfer,0,1,007\n
+run book 0|4|payments 0: line 1: number\n|ONE|transfer,0,1,+5\n
+run book 0|4|payments 0: line 1: number\n|ONE|transfer,0,1,\n
+run book 0|4|payments 0: line 1: number\n|ONE|transfer,0,1,18446744073709551616\n
+run book 0|4|payments 0: line 1: number\n|ONE|read,\377\n
+run book 0|4|payments 0: line 3: unknown account\n|ONE|"transfer",0,1,30\r\n\r\nread,0\r\nread,9
+run book 0 1|4|payments 0: line 2: unknown account\n|TWO|read,0\nread,9\n|pay,1\n
+run book 0 1|4|payments 1: line 1: shape\n|TWO|read,0\n|pay,1\n
+run book 0 1|4|payments 0: line 1: shape\n|NAMED|pay,ann-cash,shop\n|EMPTY
+run book 7 8 9|2|files: wanted 2, given 3\n|TWO|EMPTY|EMPTY
+run book|2|files: wanted 2, given 0\n|TWO|EMPTY|EMPTY
+run book 0|2|files: wanted 4, given 1\n|book,1\nprocesses,4\nlimits,1,1024\naccount,0,0,0 1 2 3\naccount,1,0,0 1 2 3\n|EMPTY
+run book 0|2|files: wanted 16, given 1\n|book,1\nprocesses,16\nlimits,4,4\naccount,0,0,\n|EMPTY
+run book 0|5|read fault: file 1\n|ONE
+run book 0 2|5|read fault: file 2\n|TWO|EMPTY|EMPTY
+run nothing 0 1|5|read fault: file 0\n|TWO|EMPTY|EMPTY
+END
+
+# Words. What is made is the same each time.
+answered <<'END'
+|2|USAGE
+run|2|USAGE
+runs book 0 1|2|USAGE|TWO|EMPTY|EMPTY
+--help|2|USAGE
+make 7 1 2|0|SMALL
+make 7 4 1000|0|FOUR
+make 7 4 1000|0|FOUR
+make 7 8 1000|0|EIGHT
+make 7 8 1000|0|EIGHT
+make 7 4 1000000|2|USAGE
+make 7 9 2|2|USAGE
+make 7 0 2|2|USAGE
+make 7 1 0|2|USAGE
+make 07 1 2|2|USAGE
+make 7 1 2 3|2|USAGE
+agree 5 5|0|agreed 2 5\n
+agree 5 5 5 5 5 5 5 5|0|agreed 8 5\n
+agree 4294967295 4294967295|0|agreed 2 4294967295\n
+agree 05 5|2|USAGE
+agree 5|2|USAGE
+agree 5 5 5 5 5 5 5 5 5|2|USAGE
+agree 5 4294967296|2|USAGE
+END
+
+# Reports. Of files that are not there the payments are read before the report.
+answered <<'END'
+verify book 1 0|0|verified 3\n|ONE|USUAL|journal 3\n0 1 transfer 0 1 30 done\n0 2 read 0 70\n0 3 read 1 30\nbalances 2\n0 70\n1 30\ntotal 100\n
+verify book 1 0|12|report: line 3: not legal\n|ONE|USUAL|journal 3\n0 1 transfer 0 1 30 done\n0 2 read 0 71\n0 3 read 1 30\nbalances 2\n0 70\n1 30\ntotal 100\n
+verify book 1 0|12|report: line 8: not legal\n|ONE|USUAL|journal 3\n0 1 transfer 0 1 30 done\n0 2 read 0 70\n0 3 read 1 30\nbalances 2\n0 70\n1 30\ntotal 100
+verify book 1 0|12|report: line 1: not legal\n|ONE|USUAL|EMPTY
+verify book 2 0 1|12|report: line 2: not legal\n|CROSSED|transfer,0,1,10\n|transfer,1,0,10\n|journal 2\n0 1 transfer 0 1 10 done\n1 1 transfer 1 0 10 done\nbalances 2\n0 0\n1 10\ntotal 10\n
+verify book 2 0 1|0|verified 2\n|NAMED|pay,ann-cash,shop,30,joint,20\nread,shop\n|EMPTY|journal 2\nann 1 pay ann-cash shop 30 joint 20 done\nann 2 read shop 30\nbalances 3\nann-cash 50\njoint 70\nshop 30\ntotal 150\n
+verify|2|USAGE
+verify book|2|USAGE|ONE
+verify book 0|2|files: wanted 1, given 0\n|ONE|EMPTY
+verify book 1 2|5|read fault: file 1\n|ONE
+verify book 1 0|5|read fault: file 2\n|ONE|EMPTY
+verify book 1 0|4|payments 0: line 1: unknown account\n|ONE|read,9\n
+END
+
+# A message before the one that it needs, one that its `deps` don't cover, and deliveries that are repeated. The messages are read
+# in process order, and before the deliveries.
+answered <<'END'
+deliver book 2 0 1|0|TWO_NODES|EACH_SENDS|PAYS_SIXTY|PAYS_FIFTY_BACK|0,1,0\n0,0,0\n1,1,0\n
+deliver book 2 0 1|0|TWO_NODES|EACH_SENDS|send,0,1,60,0,0\nsend,0,1,41,1,0\n|PAYS_FIFTY_BACK|0,1,0\n0,0,0\n1,1,0\n0,0,1\n
+deliver book 2 0 1|0|TWO_NODES|EACH_SENDS|PAYS_SIXTY|PAYS_FIFTY_BACK|0,1,0\n0,1,0\n0,0,0\n1,1,0\n0,0,0\n
+deliver|2|USAGE
+deliver book|2|USAGE|ONE
+deliver book 0|2|files: wanted 1, given 0\n|ONE|EMPTY
+deliver book 2 0 1|10|order: line 1: unknown message\n|EACH_SENDS|PAYS_SIXTY|PAYS_FIFTY_BACK|0,0,1\n
+deliver book 2 0 1|11|messages 1: line 1: shape\n|EACH_SENDS|PAYS_SIXTY|send,1,0,50,1\n|0,0,1\n
+deliver book 2 0 1|5|read fault: file 3\n|EACH_SENDS|PAYS_SIXTY|PAYS_FIFTY_BACK
+END
+
+# A payment takes 14 turns, so process 1 pays first where the schedule names it as often. What a schedule leads to is the same each
+# time. The payments are read in process order, and before the schedule.
+answered <<'END'
+replay book 2 0 1|0|THIRTY_FIRST|EACH_OWN|PAYS_THIRTY|PAYS_TWENTY_BACK|EMPTY
+replay book 2 0 1|0|THIRTY_FIRST|EACH_OWN|PAYS_THIRTY|PAYS_TWENTY_BACK|EMPTY
+replay book 2 0 1|0|TWENTY_FIRST|EACH_OWN|PAYS_THIRTY|PAYS_TWENTY_BACK|ONES
+replay book 2 0 1|0|TWENTY_FIRST|EACH_OWN|PAYS_THIRTY|PAYS_TWENTY_BACK|ONES
+replay book 2 0 1|0|journal 2\nann 1 pay ann-cash shop 30 joint 20 done\nann 2 read shop 30\nbalances 3\nann-cash 50\njoint 70\nshop 30\ntotal 150\n|NAMED|pay,ann-cash,shop,30,joint,20\nread,shop\n|EMPTY|1\n0\n
+replay|2|USAGE
+replay book|2|USAGE|ONE
+replay book 0|2|files: wanted 1, given 0\n|ONE|EMPTY
+replay book 2 0 1|9|schedule: line 1: unknown process\n|EACH_OWN|PAYS_THIRTY|PAYS_TWENTY_BACK|2\n
+replay book 2 0 1|9|schedule: line 2: shape\n|EACH_OWN|PAYS_THIRTY|PAYS_TWENTY_BACK|1\n0,1\n
+replay book 2 0 1|4|payments 1: line 1: shape\n|EACH_OWN|PAYS_THIRTY|pay,1\n|2\n
+replay book 2 0 1|5|read fault: file 3\n|EACH_OWN|PAYS_THIRTY|PAYS_TWENTY_BACK
+END
+
+# Two processes that move money between each other are reported in one of both orders.
+files EACH_OWN PAYS_THIRTY PAYS_TWENTY_BACK
+run run book 0 1
+either=THIRTY_FIRST
+cmp -s TWENTY_FIRST out && either=TWENTY_FIRST
+printed 'two processes in either order' $either
+
+# Runs whose reports depend on how the threads' steps fall: the words of `run`, those of `verify` that name the report beside the
+# files, what `verify` says of it, what the report ends with, and the contents of the files.
+while IFS='|' read -r words verify said end book first second third; do
+    files "$book" "$first" "$second" "$third"
+    put "$end" >end
+    put "$said" >said
+    run $words
+    cp out report
+    [ "$status" -eq 0 ] && [ ! -s err ] && tail -c "$(wc -c <end)" report | cmp -s end - && run $verify || status=255
+    printed "$words, which ends so and is verified: $end" said
+done <<'END'
+run book 0 1 2|verify book report 0 1 2|verified 7\n|\nbalances 5\n0 562450\n1 127551\n2 4999\n3 140000\n4 160000\ntotal 995000\n|REALISTIC|transfer,0,1,12550\ntransfer,3,4,80000\nread,3\n|transfer,1,2,4999\ntransfer,3,4,80000\n|transfer,2,0,75000\nread,2\n
+run book 0 1|verify book report 0 1|verified 5\n|\nbalances 4\nann-cash 500\nbob-cash 240\njoint 0\nshop 180\ntotal 920\n|HOUSEHOLD|pay,joint,shop,180,bob-cash,70\npay,ann-cash,shop,450,joint,100\nread,joint\n|pay,shop,joint,1\ntransfer,joint,bob-cash,50\n
+END
+
+# The longest file is read. For a replay a file is longest by its calls.
+files ONE
+head -c 8388608 /dev/zero | tr '\0' '\n' >0
+echo 'checked 1 2 0' >wanted
+run check book 0
+printed 'a file of the most bytes' wanted
+echo >>0
+run run book 0
+refused 'a file of one byte more' 8 'too long: file 1'
+yes read,0 | head -n 64 >0
+run replay book 0 0
+refused 'the most calls for a replay, whose file is no schedule' 9 'schedule: line 1: shape'
+echo read,0 >>0
+run replay book 0 0
+refused '65 calls for a replay' 4 'payments 0: line 65: too many calls'
+yes read,0 | head -n 16385 >0
+run run book 0
+refused '16,385 calls for a run' 4 'payments 0: line 16385: too many calls'
+
+told
