@@ -50,8 +50,9 @@ pub record AsksOnce (b : BookTerms) (before after : Knowledge) (a : ℕ) : Type 
 abbrev pub as_asked : Knowledge → ℕ → Knowledge
 as_asked v a = with_part v (record (own_part v) { loads = loads_asked v a })
 
--- the receipt stands at or after the front of a snapshot that its call had taken when it announced its one request: each length was
--- loaded in the call before that, and the request's `since` is the place of the front
+-- the receipt stands at or after a front that was a snapshot by what its call had loaded of lengths when it announced its one request,
+-- whose `since` is the place of the front. Where the front is another's view, the records that it counts, and the one that has the view,
+-- are among what the call has seen by its end, maybe only after the announcement
 pub record StandsAfterSnapshot (b : BookTerms) (before after : Knowledge) (a : ℕ) (r : Receipt) : Type 0 where
   pub request : Request
   pub announced : (asking_on (own_part after) a).announced ≡ (asking_on (own_part before) a).announced ++ request ∷ []
