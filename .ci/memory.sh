@@ -1,15 +1,19 @@
 #!/bin/sh
 # Runs the built program with its Nth allocation refused, for N = 1, 2 and so on as long as there is an Nth, and then with
 # all from the Nth on refused. Each answer has to be the one with memory, or want of memory: status 7, its one line on the
-# error output, and nothing on the output. It prints a line for each command, and last 'N passed, N failed'.
+# error output, and nothing on the output. It does so too with the built example, which tries a refused closing once more:
+# there five answers at least have to be the one with memory although an allocation was refused. It prints a line for each
+# command, and last 'N passed, N failed'.
 #
-#   memory.sh [PROGRAM]           the program is crates/at_program/out/at_program where none is named
+#   memory.sh [PROGRAM [EXAMPLE]]   the program is crates/at_program/out/at_program where none is named, and the example
+#                                   crates/at_example/out/at_example
 #
 # It needs a C compiler, for a `malloc` of its own that is loaded before that of the C library. Without one it tries nothing, and
 # says so.
 
 root=$(CDPATH='' cd -- "$(dirname -- "$0")/.." && pwd) || exit 2
 program=${1:-$root/crates/at_program/out/at_program}
+example=${2:-$root/crates/at_example/out/at_example}
 examples=$root/examples
 compiler=$(command -v cc || command -v gcc || command -v clang) || {
     echo "memory.sh: no C compiler is on the path, so nothing is tried"
@@ -75,12 +79,19 @@ END
 "$compiler" -shared -fPIC -O1 -o refuse.so refuse.c || exit 2
 echo 'no memory' >wanted
 
-# Where the order of several processes' lines is open the lines are compared, and not their order.
+# What is run, its status where it answers want of memory, for which its error output is a line of `wanted`, and how two outputs of it are
+# compared: where the order of several processes' lines is open the lines are compared, and not their order.
+runs=$program
+short=7
+order=sort
+
 is_answered() {
-    if [ "$status" -eq 7 ]; then
-        [ ! -s out ] && cmp -s wanted err
+    if [ "$status" -eq "$short" ]; then
+        wants=$((wants + 1))
+        [ ! -s out ] && [ "$(wc -l <err)" -eq 1 ] && grep -qxFf wanted err
     elif [ "$status" -eq "$known" ]; then
-        sort out | cmp -s - full && cmp -s known_err err
+        whole=$((whole + 1))
+        "$order" <out | cmp -s - full && cmp -s known_err err
     else
         false
     fi
@@ -93,29 +104,31 @@ each_refused() {
     n=1
     while :; do
         rm -f refused
-        LD_PRELOAD=$work/refuse.so REFUSE=$n REST=$rest "$program" "$@" >out 2>err
+        LD_PRELOAD=$work/refuse.so REFUSE=$n REST=$rest "$runs" "$@" >out 2>err
         status=$?
         [ -e refused ] || break
-        [ "$status" -eq 7 ] && wants=$((wants + 1))
         is_answered || return 1
         n=$((n + 1))
     done
     [ "$n" -gt 1 ]
 }
 
+# Some answers have to be want of memory, and at least so many the one with memory.
 tried() {
     name=$1
-    shift
-    "$program" "$@" >out 2>known_err
+    least=$2
+    shift 2
+    "$runs" "$@" >out 2>known_err
     known=$?
-    sort out >full
+    "$order" <out >full
     wants=0
-    if each_refused alone "$@" && each_refused too "$@" && [ "$wants" -gt 0 ]; then
+    whole=0
+    if each_refused alone "$@" && each_refused too "$@" && [ "$wants" -gt 0 ] && [ "$whole" -ge "$least" ]; then
         passed=$((passed + 1))
-        echo "ok: $name: each of $((n - 1)) allocations, and $wants answers of want of memory"
+        echo "ok: $name: each of $((n - 1)) allocations, $wants answers of want of memory, $whole as with memory"
     else
         failed=$((failed + 1))
-        echo "FAILED: $name: allocation $n ($rest): status $status, $(wc -c <out) bytes on the output, on the error output: $(cat err)"
+        echo "FAILED: $name: allocation $n ($rest): status $status, $(wc -c <out) bytes on the output, on the error output: $(cat err); $wants answers of want of memory, $whole as with memory"
     fi
 }
 
@@ -127,16 +140,24 @@ deliver=$examples/deliver
 printf '%s\n' book,1 processes,2 limits,4,4 account,0,100,0 account,1,100,1 account,2,7, account,3,9,'0 1' >book.csv
 printf '%s\n' transfer,0,0,30 read,2 transfer,3,3,1 >pay0.csv
 printf '%s\n' transfer,1,1,20 read,2 transfer,3,3,2 >pay1.csv
-tried 'run, of two processes' run book.csv pay0.csv pay1.csv
-tried 'run, of one process' run "$examples/usual/book.csv" "$examples/usual/pay0.csv"
-tried 'check' check "$household/book.csv" "$household/ann.csv" "$household/bob.csv"
-tried 'make' make 7 3 4
-tried 'replay' replay "$replay/book.csv" "$replay/schedule.csv" "$replay"/pay*.csv
-tried 'agree' agree 5 5 5
-tried 'deliver' deliver "$deliver/book.csv" "$deliver/order.csv" "$deliver/send0.csv" "$deliver/send1.csv"
-tried 'verify' verify "$owners/book.csv" "$owners/owners.report" "$owners"/pay*.csv
-tried 'verify, of a forged report' verify "$household/book.csv" "$household/forged.report" "$household/ann.csv" "$household/bob.csv"
-tried 'a refusal' check "$household/book.csv" "$household/book.csv" "$household/bob.csv"
+tried 'run, of two processes' 0 run book.csv pay0.csv pay1.csv
+tried 'run, of one process' 0 run "$examples/usual/book.csv" "$examples/usual/pay0.csv"
+tried 'check' 0 check "$household/book.csv" "$household/ann.csv" "$household/bob.csv"
+tried 'make' 0 make 7 3 4
+tried 'replay' 0 replay "$replay/book.csv" "$replay/schedule.csv" "$replay"/pay*.csv
+tried 'agree' 0 agree 5 5 5
+tried 'deliver' 0 deliver "$deliver/book.csv" "$deliver/order.csv" "$deliver/send0.csv" "$deliver/send1.csv"
+tried 'verify' 0 verify "$owners/book.csv" "$owners/owners.report" "$owners"/pay*.csv
+tried 'verify, of a forged report' 0 verify "$household/book.csv" "$household/forged.report" "$household/ann.csv" "$household/bob.csv"
+tried 'a refusal' 0 check "$household/book.csv" "$household/book.csv" "$household/bob.csv"
+
+# The example closes its ledger once more, with what was handed back, where there was no memory for that. A closing of two processes takes
+# memory five times, so where one of these is refused alone it has to answer as with memory.
+runs=$example
+short=1
+order=cat
+printf 'Error: %s\n' 'no memory' 'memory allocation failed' >wanted
+tried 'the example, which closes its ledger again' 5
 
 echo "$passed passed, $failed failed"
 [ "$failed" -eq 0 ]

@@ -3,13 +3,13 @@
 #![tactic(auto)]
 
 ghost use Rattle.std.specs.Prelude.{◌≡◌, ◌^◌, ◌<◌, [], ◌∷◌, length, map, All, IfOk};
-ghost use Rattle.at_object.specs.Closings.{IsAccountedFor};
+ghost use Rattle.at_object.specs.Closings.{AreAccountedFor, IsAccountedFor};
 ghost use Rattle.at_object.specs.Passes.{IsNewPass};
 
 use at_journal::journal;
 use at_ledger::{Book, BookBuilder, Call, Line, Reply, State, Targets};
 use at_log::Receipt;
-use at_object::{Closed, Ledger, NoMemory, Pass};
+use at_object::{CloseRefused, Closed, Ledger, NoMemory, Pass};
 use std::alloc::{AllocError, Global};
 use std::io;
 
@@ -58,7 +58,35 @@ fn closed_after(alloc: Global, book: &Book) -> Result<Closed, NoMemory>
     let (first, second) = deal(&ledger, &mut zero, &mut one);
     let receipts = listed(alloc, first, second)?;
     let passes = Vec::from_array(alloc, [zero, one])?;
+    close_twice(alloc, ledger, passes, receipts)
+}
+
+/// Closes the ledger. Where there is no memory for that it is tried once more: a refused closing hands everything back.
+fn close_twice(
+    alloc: Global,
+    ledger: Ledger,
+    passes: Vec<Pass>,
+    receipts: Vec<Vec<Receipt>>,
+) -> Result<Closed, NoMemory>
+    requires { AreAccountedFor ledger passes.items (map (λ list. list.items) receipts.items) }
+    ensures { IfOk result (λ c. c.closing.receipts ≡ map (λ list. list.items) receipts.items) }
+{
     match ledger.close(alloc, passes, receipts) {
+        Ok(closed) => Ok(closed),
+        Err(refused) => close_again(alloc, refused),
+    }
+}
+
+/// Closes a ledger whose closing was refused, with what was handed back.
+fn close_again(alloc: Global, refused: CloseRefused) -> Result<Closed, NoMemory>
+    requires { AreAccountedFor refused.ledger refused.passes.items (map (λ list. list.items) refused.receipts.items) }
+    ensures { IfOk result (λ c. c.closing.receipts
+        ≡ map (λ list. list.items) refused.receipts.items) }
+{
+    match refused
+        .ledger
+        .close(alloc, refused.passes, refused.receipts)
+    {
         Ok(closed) => Ok(closed),
         Err(_refused) => Err(AllocError),
     }
@@ -105,14 +133,14 @@ fn print_line(rt: &impl Print, line: &Line) -> io::Result<()> {
     }
 }
 
-/// Prints the journal of the closed ledger, and the total of its book.
+/// Prints the journal of the closed ledger, and the total of its book. All memory is taken first, so without it nothing is printed.
 fn print_journal(rt: &impl Print, alloc: Global, closed: &Closed) -> anyhow::Result<()>
     requires few { All (λ receipts. length receipts < 2 ^ 32) closed.now.closing.receipts }
 {
+    let total = State::new(alloc, closed.book())?.total();
     for line in &journal(alloc, closed.book(), closed.closing())? {
         print_line(rt, line)?;
     }
-    let total = State::new(alloc, closed.book())?.total();
     println!(rt; "total {total}")?;
     Ok(())
 }

@@ -1,5 +1,5 @@
 -- Callers: processes that make their calls one after another, a step a turn.
-use Rattle.std.specs.Prelude.{◌≡◌, ℕ, ◌+◌, ◌-◌, ◌*◌, ◌^◌, ◌<◌, ◌≤◌, ◌++◌, Bool, true, false, List, [], ◌∷◌, All, drop, length, slice_index_or, sum_by, if◌then◌else◌}
+use Rattle.std.specs.Prelude.{◌≡◌, ℕ, ◌+◌, ◌-◌, ◌*◌, ◌^◌, ◌<◌, ◌≤◌, ◌++◌, Bool, true, false, List, [], ◌∷◌, All, drop, length, slice_index_or, sum_by, if◌then◌else◌, refl}
 use Rattle.at_ledger.specs.Book.{BookTerms}
 use Rattle.at_ledger.specs.Call.{IsCallOn}
 use Rattle.at_ledger.specs.declared.call.Call.{Call}
@@ -10,6 +10,7 @@ use Rattle.at_board.specs.Knowledge.Seats.{SeatTerms}
 use Rattle.at_board.specs.declared.words.TheConstants.{RECORD_WORDS}
 use Rattle.at_fold.specs.Sums.{TotalSums}
 use Rattle.at_log.specs.declared.receipt.Receipt.{Receipt}
+use Rattle.at_object.specs.BoundNumbers.{three_processes}
 use Rattle.at_object.specs.Passes.{PassTerms, Stands, seat_of}
 use Rattle.at_calling.specs.Calling.{IsCallWithin, IsWay, exchanges_made, exchanges_of, steps_made}
 use Rattle.at_object.specs.Calls.{CallMade, StaysWithin, call_steps}
@@ -96,6 +97,17 @@ LeavesCaller b before after (Answer r) = IsAnswered b before after r
 -- the most turns of a call, whatever the others do
 abbrev pub most_turns : BookTerms → Call → ℕ
 most_turns b call = call_steps b call + RECORD_WORDS * places_max + 1
+
+-- as numbers, of a book of three processes: of a read, and of payments from accounts of one owner and of all three. Whoever changes the
+-- bound changes these too
+pub most_turns-read : most_turns three_processes (Call.Read 0) ≡ 917520
+most_turns-read = refl
+
+pub most_turns-alone : most_turns three_processes (Call.Transfer 1 0 1) ≡ 917531
+most_turns-alone = refl
+
+pub most_turns-shared : most_turns three_processes (Call.Transfer 0 1 1) ≡ 917641
+most_turns-shared = refl
 
 -- the turns that are left to a caller at most
 abbrev pub caller_turns_left : BookTerms → CallerTerms → ℕ

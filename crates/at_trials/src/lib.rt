@@ -6,11 +6,17 @@ mod account_trials;
 #[cfg(test)]
 mod board_trials;
 #[cfg(test)]
+mod credit_trials;
+#[cfg(test)]
 mod crowd_trials;
 #[cfg(test)]
 mod fold_trials;
 #[cfg(test)]
+mod late_trials;
+#[cfg(test)]
 mod log_trials;
+#[cfg(test)]
+mod oldest_trials;
 #[cfg(test)]
 mod overtaking_trials;
 #[cfg(test)]
@@ -23,5 +29,7 @@ mod shared_trials;
 mod single_trials;
 #[cfg(test)]
 mod stopping_trials;
+#[cfg(test)]
+mod three_owners_trials;
 #[cfg(test)]
 mod traffic_trials;

@@ -1,5 +1,5 @@
 -- Where each word of the board stands.
-use Rattle.std.specs.Prelude.{◌≡◌, ℕ, ◌+◌, ◌*◌, ◌<◌, ◌≤◌, List, [], ◌∷◌, length, map, sum, sum_by, take, slice_index, slice_index_or}
+use Rattle.std.specs.Prelude.{◌≡◌, ℕ, ◌+◌, ◌*◌, ◌<◌, ◌≤◌, List, [], ◌∷◌, length, map, sum, sum_by, take, slice_index, slice_index_or, refl}
 use Rattle.std.specs.List.{range_with_len}
 use Rattle.at_ledger.specs.Account.{rounds_room, slots_of}
 use Rattle.at_ledger.specs.Book.{BookTerms, account_of, log_room_of}
@@ -84,6 +84,10 @@ word_count b = sum (map sum (groups b))
 -- request and a cell
 abbrev pub words_max : ℕ
 words_max = PROCESSES_MAX + places_max * (RECORD_WORDS + PROCESSES_MAX) + ROUNDS_MAX * (REQUEST_WORDS + 2)
+
+-- as a number: whoever changes what bounds a book or a record changes this too
+pub words_max-number : words_max ≡ 3080208
+words_max-number = refl
 
 -- the word at an address
 abbrev pub word_at : BookTerms → List ℕ → Address → ℕ
