@@ -1,1 +1,2 @@
-pub mod CostLaws
+-- the records of the text and their parts
+pub mod TextLaws

@@ -53,6 +53,7 @@ fn payment_steps(book: &Book, source: u32) -> u64
     requires { source < length book.now.accounts }
     ensures { result ≡ payment_steps book.now source }
 {
+    book.known();
     let processes = u64::from(book.processes());
     let owners = u64::from(book.owner_count(source));
     if owners < 2 {
@@ -67,6 +68,7 @@ fn call_steps(book: &Book, call: &Call) -> u64
     requires { IsCallOn (length book.now.accounts) call.now }
     ensures { result ≡ call_steps book.now call.now }
 {
+    book.known();
     match call {
         Call::Transfer { from, .. } => payment_steps(book, *from),
         Call::Read { .. } => snapshot_steps(u64::from(book.processes())),

@@ -134,15 +134,9 @@ fn push_process(
         ++ records_text (process_costs book.now names.now process receipts.now costs.now)) }
 {
     for i in 0..receipts.len() {
-        push_record(
-            out,
-            book,
-            names,
-            process,
-            i as u64 + 1,
-            &receipts[i],
-            &costs[i],
-        )?;
+        let receipt = &receipts[i];
+        let cost = &costs[i];
+        push_record(out, book, names, process, i as u64 + 1, receipt, cost)?;
     }
     Ok(())
 }
@@ -162,14 +156,8 @@ fn push_processes(
         book.now.processes)) }
 {
     for p in 0..book.processes() {
-        push_process(
-            out,
-            book,
-            names,
-            p,
-            closing.receipts(p),
-            costs[p as usize].as_slice(),
-        )?;
+        let list = costs[p as usize].as_slice();
+        push_process(out, book, names, p, closing.receipts(p), list)?;
     }
     Ok(())
 }
