@@ -13,8 +13,9 @@ use Rattle.at_log.specs.Receipts.{receipt_at}
 use Rattle.at_log.specs.declared.receipt.Receipt.{Receipt}
 use Rattle.at_report.specs.Lines.{Word, Words, reply_word}
 use Rattle.at_report.specs.Records.{record_text, records_text}
-use Rattle.at_workers.specs.declared.cost.CallCost.{CallCost}
 use Rattle.at_costs.specs.Bounds.{most_exchanges, most_steps}
+use Rattle.at_object.specs.Passes.{PassTerms}
+use Rattle.at_workers.specs.Costs.{CostTerms, TakeCalls}
 
 -- the names of the fields
 abbrev pub costs_head : Words
@@ -36,33 +37,35 @@ kind_word kinds.Alone = codes "alone"
 kind_word kinds.Agreed = codes "agreed"
 
 -- the fields of a call of the process, with its number among that process's calls
-abbrev pub cost_fields : BookTerms → NameList → ℕ → ℕ → Receipt → CallCost → Words
+abbrev pub cost_fields : BookTerms → NameList → ℕ → ℕ → Receipt → CostTerms → Words
 cost_fields b names process number r cost =
     process_name names process ∷ decimal number ∷ call_word r.call ∷ account_name names (called_account r.call)
     ∷ kind_word (kind_of b process r.call) ∷ reply_word r.reply ∷ decimal cost.steps ∷ decimal cost.exchanges ∷ decimal cost.new_records
     ∷ decimal (most_steps b r cost.new_records) ∷ decimal (most_exchanges b r) ∷ []
 
 -- a cost of the list
-abbrev pub cost_at : List CallCost → ℕ → CallCost
+abbrev pub cost_at : List CostTerms → ℕ → CostTerms
 cost_at costs i = slice_index_or costs i (record { steps = 0; exchanges = 0; new_records = 0 })
 
 -- the records of a process, in the order of its calls
-abbrev pub process_costs : BookTerms → NameList → ℕ → List Receipt → List CallCost → List Words
+abbrev pub process_costs : BookTerms → NameList → ℕ → List Receipt → List CostTerms → List Words
 process_costs b names process receipts costs =
     map (λ i. cost_fields b names process (i + 1) (receipt_at receipts i) (cost_at costs i)) (range_with_len 0 (length receipts))
 
 -- the records of all processes, in order
-abbrev pub costs_records : BookTerms → NameList → List (List Receipt) → List (List CallCost) → ℕ → List Words
+abbrev pub costs_records : BookTerms → NameList → List (List Receipt) → List (List CostTerms) → ℕ → List Words
 costs_records b names receipts costs processes =
     flat_map (λ p. process_costs b names p (slice_index_or receipts p []) (slice_index_or costs p [])) (range_with_len 0 processes)
 
 -- the whole text
-abbrev pub costs_text : BookTerms → NameList → List (List Receipt) → List (List CallCost) → List ℕ
+abbrev pub costs_text : BookTerms → NameList → List (List Receipt) → List (List CostTerms) → List ℕ
 costs_text b names receipts costs = record_text costs_head ++ records_text (costs_records b names receipts costs b.processes)
 
--- there are the receipts of each process of the book, and a cost for each
-pub record HaveCosts (b : BookTerms) (receipts : List (List Receipt)) (costs : List (List CallCost)) : Type 0 where
+-- there are the receipts of each process of the book, and a cost for each, by calls that took its pass one after another
+pub record HaveCosts (b : BookTerms) (receipts : List (List Receipt)) (costs : List (List CostTerms)) : Type 0 where
   pub receipts_count : length receipts ≡ b.processes
   pub costs_count : length costs ≡ b.processes
   pub known : (p : ℕ) → p < b.processes → All (λ (r : Receipt). IsCallOn (length b.accounts) r.call) (slice_index_or receipts p [])
   pub same : (p : ℕ) → p < b.processes → length (slice_index_or costs p []) ≡ length (slice_index_or receipts p [])
+  pub taken : (p : ℕ) → p < b.processes
+      → (before : PassTerms) × (after : PassTerms) × TakeCalls b before (slice_index_or receipts p []) (slice_index_or costs p []) after

@@ -1,6 +1,6 @@
 //! The most that a call may cost.
 
-ghost use Rattle.std.specs.Prelude.{◌≡◌, ◌<◌, ◌≤◌, length, if◌then◌else◌};
+ghost use Rattle.std.specs.Prelude.{◌≡◌, ◌<◌, ◌≤◌, ◌^◌, length, if◌then◌else◌};
 ghost use Rattle.at_ledger.specs.Account.{is_shared, slots_of};
 ghost use Rattle.at_ledger.specs.Book.{account_of};
 ghost use Rattle.at_ledger.specs.Call.{IsCallOn};
@@ -24,7 +24,8 @@ fn is_refusal(reply: &Reply) -> bool
 /// The most steps of a snapshot of so many processes.
 fn snapshot_steps(processes: u64) -> u64
     requires { processes ≤ 16 }
-    ensures { result ≡ snapshot_steps processes }
+    ensures steps { result ≡ snapshot_steps processes }
+    ensures small { result < 2 ^ 16 }
 {
     processes * processes + 2 * processes
 }
@@ -32,7 +33,8 @@ fn snapshot_steps(processes: u64) -> u64
 /// The most steps of a payment from an account of one owner.
 fn single_steps(processes: u64) -> u64
     requires { processes ≤ 16 }
-    ensures { result ≡ single_steps processes }
+    ensures steps { result ≡ single_steps processes }
+    ensures small { result < 2 ^ 16 }
 {
     snapshot_steps(processes) + (u64::from(RECORD_WORDS) + processes + 1)
 }
@@ -41,7 +43,8 @@ fn single_steps(processes: u64) -> u64
 fn shared_steps(processes: u64, owners: u64) -> u64
     requires processes { processes ≤ 16 }
     requires owners { owners ≤ 8 }
-    ensures { result ≡ shared_steps processes owners }
+    ensures steps { result ≡ shared_steps processes owners }
+    ensures small { result < 2 ^ 16 }
 {
     let asking = (u64::from(REQUEST_WORDS) + 1) * owners + 1;
     let round = 1 + u64::from(REQUEST_WORDS) + (u64::from(RECORD_WORDS) + processes + 1);
@@ -51,7 +54,8 @@ fn shared_steps(processes: u64, owners: u64) -> u64
 /// The most steps of a payment, beside the loads of records.
 fn payment_steps(book: &Book, source: u32) -> u64
     requires { source < length book.now.accounts }
-    ensures { result ≡ payment_steps book.now source }
+    ensures steps { result ≡ payment_steps book.now source }
+    ensures small { result < 2 ^ 16 }
 {
     book.known();
     let processes = u64::from(book.processes());
@@ -66,7 +70,8 @@ fn payment_steps(book: &Book, source: u32) -> u64
 /// The most steps of a call, beside the loads of records.
 fn call_steps(book: &Book, call: &Call) -> u64
     requires { IsCallOn (length book.now.accounts) call.now }
-    ensures { result ≡ call_steps book.now call.now }
+    ensures steps { result ≡ call_steps book.now call.now }
+    ensures small { result < 2 ^ 16 }
 {
     book.known();
     match call {
@@ -76,16 +81,16 @@ fn call_steps(book: &Book, call: &Call) -> u64
     }
 }
 
-/// The most steps of the call that was answered so, when it counted so many records anew. At the largest number it stays.
+/// The most steps of the call that was answered so, when it counted so many records anew.
 pub fn most_steps(book: &Book, receipt: &Receipt, new_records: u64) -> u64
-    requires { IsCallOn (length book.now.accounts) receipt.now.call }
+    requires call { IsCallOn (length book.now.accounts) receipt.now.call }
+    requires small { new_records < 2 ^ 37 }
     ensures { result ≡ most_steps book.now receipt.now new_records }
 {
     if is_refusal(&receipt.reply) {
         return 0;
     }
-    let loads = u64::from(RECORD_WORDS).saturating_mul(new_records);
-    call_steps(book, &receipt.call).saturating_add(loads)
+    call_steps(book, &receipt.call) + u64::from(RECORD_WORDS) * new_records
 }
 
 /// How many exchanges a payment from the account may make: one for each owner where there are several.

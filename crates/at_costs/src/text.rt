@@ -1,6 +1,6 @@
 //! The text of `costs`.
 
-ghost use Rattle.std.specs.Prelude.{◌≡◌, ◌<◌, ◌+◌, ◌++◌, [], ◌∷◌, All, IfOk, OnOk, decimal, length, slice_index_or};
+ghost use Rattle.std.specs.Prelude.{◌≡◌, ◌<◌, ◌+◌, ◌++◌, ℕ, [], ◌∷◌, All, IfOk, OnOk, decimal, length, slice_index_or};
 ghost use Rattle.at_ledger.specs.Call.{IsCallOn};
 ghost use Rattle.at_files.specs.Names.{AreNamesOf, account_name};
 ghost use Rattle.at_kinds.specs.Kinds.{called_account, kind_of};
@@ -8,7 +8,7 @@ ghost use Rattle.at_log.specs.ClosingTerms.{receipts_of};
 ghost use Rattle.at_log.specs.Receipts.{lists_in};
 ghost use Rattle.at_report.specs.Lines.{reply_word};
 ghost use Rattle.at_report.specs.Records.{comma_led, record_text, records_text};
-ghost use Rattle.at_costs.specs.Bounds.{most_exchanges, most_steps};
+ghost use Rattle.at_costs.specs.Bounds.{AreCostsWithin, most_exchanges, most_steps};
 ghost use Rattle.at_costs.specs.CostsText.{HaveCosts, call_word, cost_fields, costs_head, costs_records, costs_text, kind_word, process_costs};
 
 use crate::bounds::{most_exchanges, most_steps};
@@ -86,10 +86,10 @@ fn push_cost(
         ∷ decimal cost.now.new_records ∷ decimal (most_steps book.now receipt.now cost.now.new_records)
         ∷ decimal (most_exchanges book.now receipt.now) ∷ [])) }
 {
-    push_number_field(out, cost.steps)?;
-    push_number_field(out, cost.exchanges)?;
-    push_number_field(out, cost.new_records)?;
-    push_number_field(out, most_steps(book, receipt, cost.new_records))?;
+    push_number_field(out, cost.steps())?;
+    push_number_field(out, cost.exchanges())?;
+    push_number_field(out, cost.new_records())?;
+    push_number_field(out, most_steps(book, receipt, cost.new_records()))?;
     push_number_field(out, most_exchanges(book, receipt))
 }
 
@@ -173,8 +173,10 @@ pub fn costs_text(
 ) -> Result<Vec<u8>, NoMemory>
     requires names { AreNamesOf book.now names.now }
     requires costs { HaveCosts book.now closing.now.receipts (lists_in costs.now) }
-    ensures { IfOk result (λ text. text.items
+    ensures text { IfOk result (λ text. text.items
         ≡ costs_text book.now names.now closing.now.receipts (lists_in costs.now)) }
+    ensures within { IfOk result (λ text. (p : ℕ) → p < book.now.processes
+        → AreCostsWithin book.now (receipts_of closing.now p) (slice_index_or (lists_in costs.now) p [])) }
 {
     let mut text = Vec::new(alloc);
     push_head(&mut text)?;

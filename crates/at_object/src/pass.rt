@@ -1,6 +1,6 @@
 //! Passes: the right of one process to make calls.
 
-ghost use Rattle.std.specs.Prelude.{◌≡◌, ◌<◌, ℕ, length, sum};
+ghost use Rattle.std.specs.Prelude.{◌≡◌, ◌<◌, ◌^◌, ℕ, length, sum};
 ghost use Rattle.at_history.specs.Rounds.{named};
 ghost use Rattle.at_ledger.specs.Book.{HasSlot};
 ghost use Rattle.at_object.specs.Passes.{asked_by, others_counted, sent_by};
@@ -85,7 +85,8 @@ impl Pass {
 
     /// How many records of other processes its calls have loaded and counted. The work is in proportion to the processes.
     pub fn others_counted(&self) -> u64
-        ensures { result ≡ others_counted self.now }
+        ensures count { result ≡ others_counted self.now }
+        ensures small { result < 2 ^ 37 }
     {
         self.seat.known();
         total_of(&self.totals.upto()) - u64::from(self.totals.counted(self.seat.process()))
@@ -101,6 +102,7 @@ impl Pass {
 
 fn total_of(counts: &Counts) -> u64
     ensures total { result ≡ sum counts.now }
+    ensures small { result < 2 ^ 37 }
 {
     let mut total = 0;
     for p in 0..counts.len() {

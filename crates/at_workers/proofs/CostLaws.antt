@@ -5,11 +5,10 @@ use Rattle.std.specs.Option.{is_some}
 use Rattle.at_ledger.specs.Book.{BookTerms}
 use Rattle.at_log.specs.declared.receipt.Receipt.{Receipt}
 use Rattle.at_object.specs.Passes.{PassTerms}
-use Rattle.at_workers.specs.Costs.{TakeCalls, TakesCall, cost_of, costs_with}
-use Rattle.at_workers.specs.declared.cost.CallCost.{CallCost}
+use Rattle.at_workers.specs.Costs.{CostTerms, TakeCalls, TakesCall, cost_of, costs_with}
 
 -- none takes the pass nowhere
-pub TakeCalls-none : (b : BookTerms) (pass : PassTerms) (receipts : List Receipt) (costs : List CallCost) → receipts ≡ []
+pub TakeCalls-none : (b : BookTerms) (pass : PassTerms) (receipts : List Receipt) (costs : List CostTerms) → receipts ≡ []
     → length costs ≡ length receipts → TakeCalls b pass receipts costs pass
 unfolding TakeCalls
 TakeCalls-none b pass [] [] none same = refl
@@ -17,7 +16,7 @@ TakeCalls-none b pass [] (c ∷ costs) none same = absurd (omega (arith, same))
 TakeCalls-none b pass (r ∷ receipts) costs none same = absurd (cc none)
 
 -- one more call
-pub TakeCalls-more : (b : BookTerms) (before middle after : PassTerms) (receipts : List Receipt) (costs : List CallCost) (r : Receipt) (c : CallCost)
+pub TakeCalls-more : (b : BookTerms) (before middle after : PassTerms) (receipts : List Receipt) (costs : List CostTerms) (r : Receipt) (c : CostTerms)
     → TakeCalls b before receipts costs middle → TakesCall b middle after r c → TakeCalls b before (receipts ++ r ∷ []) (costs ++ c ∷ []) after
 unfolding TakeCalls
 TakeCalls-more b before middle after [] [] r c same takes = (after, subst (λ p. TakesCall b p after r c) (sym same) takes, refl)
@@ -27,21 +26,21 @@ TakeCalls-more b before middle after (q ∷ receipts) (d ∷ costs) r c (next, f
     (next, first, TakeCalls-more b next middle after receipts costs r c rest takes)
 
 -- the calls that a job has made took its pass so, where it notes what they cost
-abbrev pub AreCosted : (b : BookTerms) (before after : PassTerms) (receipts : List Receipt) (costs : Option (List CallCost)) → Type 0
+abbrev pub AreCosted : (b : BookTerms) (before after : PassTerms) (receipts : List Receipt) (costs : Option (List CostTerms)) → Type 0
 AreCosted b before after receipts costs = IfSome costs (λ list. TakeCalls b before receipts list after)
 
-pub AreCosted-none : (b : BookTerms) (pass : PassTerms) (receipts : List Receipt) (costs : Option (List CallCost)) → receipts ≡ []
+pub AreCosted-none : (b : BookTerms) (pass : PassTerms) (receipts : List Receipt) (costs : Option (List CostTerms)) → receipts ≡ []
     → IfSome costs (λ list. length list ≡ length receipts) → AreCosted b pass pass receipts costs
 AreCosted-none b pass receipts None none same = tt
 AreCosted-none b pass receipts (Some list) none same = TakeCalls-none b pass receipts list none same
 
-pub AreCosted-more : (b : BookTerms) (before middle after : PassTerms) (receipts : List Receipt) (r : Receipt) (costs : Option (List CallCost))
+pub AreCosted-more : (b : BookTerms) (before middle after : PassTerms) (receipts : List Receipt) (r : Receipt) (costs : Option (List CostTerms))
     → AreCosted b before middle receipts costs → TakesCall b middle after r (cost_of middle after)
     → AreCosted b before after (receipts ++ r ∷ []) (costs_with (cost_of middle after) costs)
 AreCosted-more b before middle after receipts r None costed takes = tt
 AreCosted-more b before middle after receipts r (Some list) costed takes =
     TakeCalls-more b before middle after receipts list r (cost_of middle after) costed takes
 
-pub is_some-costs_with : (cost : CallCost) (costs : Option (List CallCost)) → is_some (costs_with cost costs) ≡ is_some costs
+pub is_some-costs_with : (cost : CostTerms) (costs : Option (List CostTerms)) → is_some (costs_with cost costs) ≡ is_some costs
 is_some-costs_with cost None = refl
 is_some-costs_with cost (Some list) = refl

@@ -19,9 +19,8 @@ use Rattle.at_log.specs.declared.receipt.Receipt.{Receipt}
 use Rattle.at_object.proofs.Laws.Calls.{begins-CallMade, call-CallMade, process-CallMade, stands-CallMade}
 use Rattle.at_object.specs.Calls.{CallMade, StaysWithin}
 use Rattle.at_object.specs.Passes.{IsPassOf, PassTerms, Stands}
-use Rattle.at_workers.specs.Costs.{IsCalled, TakesCall, cost_of, costs_with}
+use Rattle.at_workers.specs.Costs.{CostTerms, IsCalled, TakesCall, cost_of, costs_with}
 use Rattle.at_workers.specs.Jobs.{HasCosts, IsJob, IsReady, JobTerms, MakesNext, Ran}
-use Rattle.at_workers.specs.declared.cost.CallCost.{CallCost}
 use Rattle.at_workers.proofs.CostLaws.{AreCosted, AreCosted-more, AreCosted-none, is_some-costs_with}
 
 -- the receipts stand with the pass still, with that of one more call
@@ -51,7 +50,7 @@ IsCallOn-next ledger pass earlier calls rest call of all first =
     subst on of.book (next-All (IsCallOn (length pass.knows.book.accounts)) earlier call rest (rw first at all))
 
 -- one more cost is noted
-pub HasCosts-noted : (earlier : List Receipt) (r : Receipt) (room : ℕ) (before after : Vec CallCost Global) (cost : CallCost)
+pub HasCosts-noted : (earlier : List Receipt) (r : Receipt) (room : ℕ) (before after : Vec CostTerms Global) (cost : CostTerms)
     → HasCosts earlier room before → after.items ≡ before.items ++ cost ∷ [] → vec_capacity after ≡ vec_capacity before
     → HasCosts (earlier ++ r ∷ []) room after
 HasCosts-noted earlier r room before after cost has noted same = record {
@@ -61,7 +60,7 @@ HasCosts-noted earlier r room before after cost has noted same = record {
 
 -- the call `call` was made with a pass that has these receipts of earlier ones, and these calls to come
 module _ (ledger : BoardTerms) (before after : PassTerms) (earlier : List Receipt) (r : Receipt) (calls rest : List Call) (call : Call)
-        (costs costs_now : Option (List CallCost)) (first : calls ≡ call ∷ rest) (called : IsCalled ledger before after call r) where
+        (costs costs_now : Option (List CostTerms)) (first : calls ≡ call ∷ rest) (called : IsCalled ledger before after call r) where
   abbrev pub job_before : JobTerms
   job_before = record { pass = before; calls = calls_of earlier ++ calls; receipts = earlier; costs = costs }
 
@@ -84,7 +83,7 @@ module _ (ledger : BoardTerms) (before after : PassTerms) (earlier : List Receip
   all = omega (arith, length-append (calls_of earlier) calls, long, ap length first)
 
   -- what the type of a job keeps
-  pub IsJob-called : (notes notes_now : Option (Vec CallCost Global)) (room capacity : ℕ) → IsPassOf before ledger → IsJob job_before room notes
+  pub IsJob-called : (notes notes_now : Option (Vec CostTerms Global)) (room capacity : ℕ) → IsPassOf before ledger → IsJob job_before room notes
       → capacity ≡ room → IfSome notes_now (HasCosts (earlier ++ r ∷ []) (length (calls_of earlier ++ calls)))
       → IsJob job_after capacity notes_now
   IsJob-called notes notes_now room capacity was kept same_room noted =

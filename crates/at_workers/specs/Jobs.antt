@@ -11,24 +11,23 @@ use Rattle.at_log.specs.Receipts.{calls_of}
 use Rattle.at_log.specs.declared.receipt.Receipt.{Receipt}
 use Rattle.at_object.specs.Calls.{CallMade, StaysWithin}
 use Rattle.at_object.specs.Passes.{IsPassOf, PassTerms, Stands}
-use Rattle.at_workers.specs.Costs.{TakeCalls, cost_of, costs_with}
-use Rattle.at_workers.specs.declared.cost.CallCost.{CallCost}
+use Rattle.at_workers.specs.Costs.{CostTerms, TakeCalls, cost_of, costs_with}
 
 -- a job by its pass, its calls, the receipts of those that were made, and what these cost, where that is noted
 pub record JobTerms : Type 0 where
   pub pass : PassTerms
   pub calls : List Call
   pub receipts : List Receipt
-  pub costs : Option (List CallCost)
+  pub costs : Option (List CostTerms)
 
 -- there is one cost for each receipt, and room for so many
-pub record HasCosts (receipts : List Receipt) (room : ℕ) (costs : Vec CallCost Global) : Type 0 where
+pub record HasCosts (receipts : List Receipt) (room : ℕ) (costs : Vec CostTerms Global) : Type 0 where
   pub count : length costs.items ≡ length receipts
   pub fits : room ≤ vec_capacity costs
 
 -- the calls name accounts of the book, and are numbered by 32 bits. The receipts stand with the pass, which has counted as many
 -- calls, and there is room for one receipt of each call, and for one cost, where costs are noted
-pub record IsJob (job : JobTerms) (room : ℕ) (costs : Option (Vec CallCost Global)) : Type 0 where
+pub record IsJob (job : JobTerms) (room : ℕ) (costs : Option (Vec CostTerms Global)) : Type 0 where
   pub calls_on : All (IsCallOn (length job.pass.knows.book.accounts)) job.calls
   pub few : length job.calls < 2 ^ 32
   pub stands : Stands job.pass job.receipts

@@ -192,6 +192,6 @@ fn call_noted<G: Gate>(
 {
     let before = CallCost::so_far(pass);
     let receipt = call_told(ledger, gate, pass, line, call);
-    costs.push_reserved(CallCost::so_far(pass).since(before));
+    costs.push_reserved(CallCost::so_far(pass).since(&before));
     receipt
 }

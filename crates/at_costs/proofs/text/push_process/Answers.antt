@@ -1,7 +1,6 @@
-use Rattle.std.proofs.Common.{◌≡◌, ◌+◌, ◌++◌, ◌<◌, ◌∙◌, ℕ, ap, arith, length}
+use Rattle.std.proofs.Common.{◌≡◌, ◌+◌, ◌++◌, ◌<◌, ◌∙◌, ℕ, arith, length}
 use Rattle.std.proofs.lemmas.List.{get_or_read}
 use Rattle.at_log.specs.Receipts.{receipt_at}
-use Rattle.at_log.specs.declared.receipt.Receipt.{Receipt}
 use Rattle.at_report.specs.Lines.{Words}
 use Rattle.at_report.specs.Records.{record_text}
 use Rattle.at_report.proofs.RecordLaws.{records_text-map_more}
@@ -15,8 +14,8 @@ loop-i-preserved c =
     let within : i < length c.args.receipts.now = omega (arith, c.loop-i-test.true, c.loop-i.auto.i-end) in
     let receipt : c.index-receipts-i.result ≡ receipt_at c.args.receipts.now i =
     get_or_read c.args.receipts.now i _ within c.index-receipts-i.is _ in
+    let cost : c.index-costs-i.result ≡ cost_at c.args.costs.now i =
+    get_or_read c.args.costs.now i _ (omega (arith, within, c.requires.count)) c.index-costs-i.is _ in
     let line : c.push_record.new.out.items ≡ c.loop-i.out.items ++ record_text (fields i) =
-    c.in_ok-push_record.ensures
-    ∙ ap (λ (r : Receipt). c.loop-i.out.items
-        ++ record_text (cost_fields c.args.book.now c.args.names.now c.args.process (i + 1) r (cost_at c.args.costs.now i))) receipt in
+    rw (← receipt, ← cost) c.in_ok-push_record.ensures in
     line ∙ rw c.loop-i.invariant (records_text-map_more fields c.args.out.now.items i)

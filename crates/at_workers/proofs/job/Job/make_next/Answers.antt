@@ -4,8 +4,7 @@ use Rattle.std.specs.Option.{option_map}
 use Rattle.std.specs.Vec.{vec_capacity}
 use Rattle.at_log.specs.Receipts.{calls_of}
 use Rattle.at_object.specs.Passes.{IsPassOf, PassTerms}
-use Rattle.at_workers.specs.Costs.{cost_of, costs_with}
-use Rattle.at_workers.specs.declared.cost.CallCost.{CallCost}
+use Rattle.at_workers.specs.Costs.{CostTerms, cost_of, costs_with}
 use Rattle.at_workers.specs.Jobs.{HasCosts, IsJob, JobTerms, MakesNext}
 use Rattle.at_workers.proofs.Played.{HasCosts-noted, IsCallOn-next, IsJob-called, MakesNext-called}
 use Rattle.at_workers.proofs.job.Job.make_next.Goals.{in-None, in-Some-costs}
@@ -80,7 +79,7 @@ returns g c =
     | in-Some-costs w ↦
           let noted = w.call_noted-receipt in
           let some = subst (λ n. Some noted.new.costs.items ≡ costs_with (cost_of inside.pass noted.new.pass) (option_map (λ v. v.items) n))
-          (sym w.in-Some-costs.is) (ap {A = List CallCost} Some noted.ensures.noted) in
+          (sym w.in-Some-costs.is) (ap {A = List CostTerms} Some noted.ensures.noted) in
           rw (c.push_reserved.ensures.items, w.self-inside-is, w.receipt-is)
           (MakesNext-called c.args.ledger.now inside.pass noted.new.pass inside.receipts.items noted.result
           inside.calls.items c.pop_front.new.self.items c.in-Some.call costs (Some noted.new.costs.items) c.in-Some.ensures.items
