@@ -1,10 +1,11 @@
 //! Passes: the right of one process to make calls.
 
-ghost use Rattle.std.specs.Prelude.{◌≡◌, ◌<◌, ℕ, length};
+ghost use Rattle.std.specs.Prelude.{◌≡◌, ◌<◌, ◌^◌, ℕ, length, sum};
 ghost use Rattle.at_history.specs.Rounds.{named};
 ghost use Rattle.at_ledger.specs.Book.{HasSlot};
-ghost use Rattle.at_object.specs.Passes.{asked_by, sent_by};
+ghost use Rattle.at_object.specs.Passes.{asked_by, others_counted, sent_by};
 
+use at_base::Counts;
 use at_board::BoardSeat;
 use at_fold::Totals;
 use std::marker::Model;
@@ -82,10 +83,30 @@ impl Pass {
         self.seat.exchanges()
     }
 
+    /// How many records of other processes its calls have loaded and counted. The work is in proportion to the processes.
+    pub fn others_counted(&self) -> u64
+        ensures count { result ≡ others_counted self.now }
+        ensures small { result < 2 ^ 37 }
+    {
+        self.seat.known();
+        total_of(&self.totals.upto()) - u64::from(self.totals.counted(self.seat.process()))
+    }
+
     /// How many calls of `transfer`, `pay` and `read` were made with the pass. At the largest count it stays.
     pub fn calls(&self) -> u64
         ensures { result ≡ self.now.calls }
     {
         self.calls
     }
+}
+
+fn total_of(counts: &Counts) -> u64
+    ensures total { result ≡ sum counts.now }
+    ensures small { result < 2 ^ 37 }
+{
+    let mut total = 0;
+    for p in 0..counts.len() {
+        total += u64::from(counts.get(p));
+    }
+    total
 }

@@ -2,3 +2,4 @@ pub mod LineLaws
 pub mod WordLaws
 pub mod ReportLaws
 pub mod NodeTexts
+pub mod RecordLaws

@@ -4,3 +4,4 @@ pub mod Lines
 pub mod Report
 pub mod Summary
 pub mod Nodes
+pub mod Records

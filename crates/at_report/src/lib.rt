@@ -3,7 +3,7 @@
 //!
 //! Whoever reads a report line by line has the calls for its parts: `push_heading`, `push_line` and `push_audit`, and
 //! `process_of`, which tells whose line a text begins with. Other texts are put together by `push_word`, `push_number`
-//! and `push_numbered`.
+//! and `push_numbered`, and CSV records by `push_field`, `push_number_field` and `push_reply_field`.
 //!
 //! Each call answers exactly the bytes that the definitions of the texts give. The text of a refusal takes no memory.
 #![tactic(auto)]
@@ -11,6 +11,7 @@
 mod first_word;
 mod lines;
 mod nodes;
+mod records;
 mod refusal;
 mod replaying;
 mod run_report;
@@ -20,6 +21,7 @@ mod status;
 pub use crate::first_word::process_of;
 pub use crate::lines::{push_line, push_number, push_numbered, push_word};
 pub use crate::nodes::nodes_text;
+pub use crate::records::{push_field, push_number_field, push_reply_field};
 pub use crate::refusal::{FaultText, fault_text};
 pub use crate::run_report::{
     agreed_text, checked_text, push_audit, push_heading, report, verified_text,

@@ -103,17 +103,26 @@ fn push_transfer(
     push_number(out, amount)
 }
 
+/// Adds the word of a reply.
+pub(crate) fn push_reply_word(out: &mut Vec<u8>, reply: Reply) -> Result<(), NoMemory>
+    ensures text { OnOk result (out.new.items ≡ out.old.items ++ reply_word reply) }
+    ensures begun { OnErr result (StartsWith out.new.items out.old.items) }
+{
+    match reply {
+        Reply::Done => out.extend_from_slice(b"done"),
+        Reply::Short => out.extend_from_slice(b"short"),
+        Reply::NotOwner => out.extend_from_slice(b"not-owner"),
+        Reply::Full => out.extend_from_slice(b"full"),
+        Reply::Balance(n) => at_base::push_number(out, n),
+    }
+}
+
 fn push_reply(out: &mut Vec<u8>, reply: Reply) -> Result<(), NoMemory>
     ensures text { OnOk result (out.new.items ≡ out.old.items ++ spaced (reply_word reply ∷ [])) }
     ensures begun { OnErr result (StartsWith out.new.items out.old.items) }
 {
-    match reply {
-        Reply::Done => push_word(out, b"done"),
-        Reply::Short => push_word(out, b"short"),
-        Reply::NotOwner => push_word(out, b"not-owner"),
-        Reply::Full => push_word(out, b"full"),
-        Reply::Balance(n) => push_number(out, n),
-    }
+    out.push(b' ')?;
+    push_reply_word(out, reply)
 }
 
 /// Cuts a text back to what it was where not all could be added.

@@ -1,3 +1,5 @@
+-- calls one after another, and what they cost
+pub mod CostLaws
 -- a job whose first calls were made, and one call more
 pub mod Played
 -- two lists that are related place by place

@@ -1,7 +1,12 @@
 -- A job whose first calls were made: how one call more keeps it, and what stands when all were made.
-use Rattle.std.proofs.Common.{◌≡◌, ℕ, ◌+◌, ◌<◌, List, ◌∷◌, [], ◌++◌, length, take, refl, sym, ap, subst, ◌∙◌, arith, length-append}
-use Rattle.std.proofs.lemmas.List.{take_all, take_more}
-use Rattle.std.specs.Prelude.{slice_index_or, All}
+use Rattle.std.proofs.Common.{◌≡◌, ℕ, ◌+◌, ◌<◌, List, ◌∷◌, [], ◌++◌, length, take, refl, sym, ap, subst, ◌∙◌, arith, length-append, Option, Vec}
+use Rattle.std.proofs.lemmas.List.{append_assoc, length-map, map-append, take_all, take_more}
+use Rattle.std.specs.Global.{Global}
+use Rattle.std.specs.Option.{is_some}
+use Rattle.std.proofs.lemmas.List.Elements.{All-head, All-tail}
+use Rattle.std.proofs.Math.Seq.{get_or-append_seam}
+use Rattle.std.specs.Vec.{vec_capacity}
+use Rattle.std.specs.Prelude.{◌^◌, slice_index_or, All, IfSome}
 use Rattle.at_ledger.specs.Book.{BookTerms}
 use Rattle.at_ledger.specs.Call.{IsCallOn}
 use Rattle.at_ledger.specs.declared.call.Call.{Call}
@@ -11,8 +16,12 @@ use Rattle.at_history.specs.Publications.{IsPrefix}
 use Rattle.at_board.specs.Knowledge.Seats.{BoardTerms}
 use Rattle.at_log.specs.Receipts.{calls_of}
 use Rattle.at_log.specs.declared.receipt.Receipt.{Receipt}
-use Rattle.at_object.specs.Passes.{IsPassOf, PassTerms, Stands, one_more_call}
-use Rattle.at_workers.specs.Jobs.{IsJob, IsReady, JobTerms, Ran}
+use Rattle.at_object.proofs.Laws.Calls.{begins-CallMade, call-CallMade, process-CallMade, stands-CallMade}
+use Rattle.at_object.specs.Calls.{CallMade, StaysWithin}
+use Rattle.at_object.specs.Passes.{IsPassOf, PassTerms, Stands}
+use Rattle.at_workers.specs.Costs.{CostTerms, IsCalled, TakesCall, cost_of, costs_with}
+use Rattle.at_workers.specs.Jobs.{HasCosts, IsJob, IsReady, JobTerms, MakesNext, Ran}
+use Rattle.at_workers.proofs.CostLaws.{AreCosted, AreCosted-more, AreCosted-none, is_some-costs_with}
 
 -- the receipts stand with the pass still, with that of one more call
 pub Stands-made : (before after : PassTerms) (earlier receipts : List Receipt) (r : Receipt) → Stands before earlier
@@ -22,23 +31,90 @@ Stands-made before after earlier receipts r stands told made =
     let with : List Receipt → Type 0 = λ list. Stands after list in
     subst with (sym made) (told earlier stands)
 
--- what the type of a job keeps, when one more call is made
-pub IsJob-made : (ledger : BoardTerms) (before after : PassTerms) (calls : List Call) (earlier receipts : List Receipt) (r : Receipt)
-    (room capacity : ℕ) → IsPassOf before ledger → IsPassOf after ledger
-    → IsJob (record { pass = before; calls = calls; receipts = earlier }) room → length earlier < length calls
-    → ((list : List Receipt) → Stands before list → Stands after (list ++ r ∷ [])) → after.calls ≡ one_more_call before.calls
-    → receipts ≡ earlier ++ r ∷ [] → capacity ≡ room → IsJob (record { pass = after; calls = calls; receipts = receipts }) capacity
-IsJob-made ledger before after calls earlier receipts r room capacity was is kept more told counted made same =
-    let count : length receipts ≡ length earlier + 1 = omega (arith, ap length made, length-append earlier (r ∷ [])) in
-    let on : BookTerms → Type 0 = λ b. All (IsCallOn (length b.accounts)) calls in
-    record {
-      calls_on = subst on (was.book ∙ sym is.book) kept.calls_on;
-      few = kept.few;
-      stands = Stands-made before after earlier receipts r kept.stands told made;
-      counted = omega (arith, counted, count, kept.counted, kept.few, more);
-      within = omega (arith, count, more);
-      fits = omega (arith, kept.fits, same);
-    }
+-- the call that is made next moves from those to come to those made
+pub calls_of-moved : (earlier : List Receipt) (r : Receipt) (call : Call) (rest : List Call) → r.call ≡ call
+    → calls_of (earlier ++ r ∷ []) ++ rest ≡ calls_of earlier ++ call ∷ rest
+calls_of-moved earlier r call rest same =
+    ap (λ xs. xs ++ rest) (map-append (λ (x : Receipt). x.call) earlier (r ∷ []))
+    ∙ (append_assoc (calls_of earlier) (r.call ∷ []) rest ∙ ap (λ c. calls_of earlier ++ c ∷ rest) same)
+
+-- the next of the calls to come names accounts as they all do
+next-All : {X : Type 0} (P : X → Type 0) (xs : List X) (x : X) (ys : List X) → All P (xs ++ x ∷ ys) → P x
+next-All P [] x ys all = All-head P x ys all
+next-All P (y ∷ xs) x ys all = next-All P xs x ys (All-tail P y (xs ++ x ∷ ys) all)
+
+pub IsCallOn-next : (ledger : BoardTerms) (pass : PassTerms) (earlier calls rest : List Call) (call : Call) → IsPassOf pass ledger
+    → All (IsCallOn (length pass.knows.book.accounts)) (earlier ++ calls) → calls ≡ call ∷ rest → IsCallOn (length ledger.book.accounts) call
+IsCallOn-next ledger pass earlier calls rest call of all first =
+    let on : BookTerms → Type 0 = λ b. IsCallOn (length b.accounts) call in
+    subst on of.book (next-All (IsCallOn (length pass.knows.book.accounts)) earlier call rest (rw first at all))
+
+-- one more cost is noted
+pub HasCosts-noted : (earlier : List Receipt) (r : Receipt) (room : ℕ) (before after : Vec CostTerms Global) (cost : CostTerms)
+    → HasCosts earlier room before → after.items ≡ before.items ++ cost ∷ [] → vec_capacity after ≡ vec_capacity before
+    → HasCosts (earlier ++ r ∷ []) room after
+HasCosts-noted earlier r room before after cost has noted same = record {
+  count = omega (arith, ap length noted, length-append before.items (cost ∷ []), length-append earlier (r ∷ []), has.count);
+  fits = omega (arith, has.fits, same);
+}
+
+-- the call `call` was made with a pass that has these receipts of earlier ones, and these calls to come
+module _ (ledger : BoardTerms) (before after : PassTerms) (earlier : List Receipt) (r : Receipt) (calls rest : List Call) (call : Call)
+        (costs costs_now : Option (List CostTerms)) (first : calls ≡ call ∷ rest) (called : IsCalled ledger before after call r) where
+  abbrev pub job_before : JobTerms
+  job_before = record { pass = before; calls = calls_of earlier ++ calls; receipts = earlier; costs = costs }
+
+  abbrev pub job_after : JobTerms
+  job_after = record { pass = after; calls = calls_of (earlier ++ r ∷ []) ++ rest; receipts = earlier ++ r ∷ []; costs = costs_now }
+
+  same : r.call ≡ call
+  same = call-CallMade ledger.book before after call r called.made
+
+  moved : calls_of (earlier ++ r ∷ []) ++ rest ≡ calls_of earlier ++ calls
+  moved = calls_of-moved earlier r call rest same ∙ ap (λ xs. calls_of earlier ++ xs) (sym first)
+
+  count : length (earlier ++ r ∷ []) ≡ length earlier + 1
+  count = length-append earlier (r ∷ [])
+
+  long : length (calls_of earlier) ≡ length earlier
+  long = length-map earlier (λ (x : Receipt). x.call)
+
+  all : length (calls_of earlier ++ calls) ≡ length earlier + (length rest + 1)
+  all = omega (arith, length-append (calls_of earlier) calls, long, ap length first)
+
+  -- what the type of a job keeps
+  pub IsJob-called : (notes notes_now : Option (Vec CostTerms Global)) (room capacity : ℕ) → IsPassOf before ledger → IsJob job_before room notes
+      → capacity ≡ room → IfSome notes_now (HasCosts (earlier ++ r ∷ []) (length (calls_of earlier ++ calls)))
+      → IsJob job_after capacity notes_now
+  IsJob-called notes notes_now room capacity was kept same_room noted =
+      let on : BookTerms → Type 0 = λ b. All (IsCallOn (length b.accounts)) (calls_of earlier ++ calls) in
+      let more : length (calls_of (earlier ++ r ∷ []) ++ rest) ≡ length (calls_of earlier ++ calls) = ap length moved in
+      record {
+        calls_on = rw moved (subst on (was.book ∙ sym called.pass.book) kept.calls_on);
+        few = omega (arith, more, kept.few);
+        stands = stands-CallMade ledger.book before after call r called.made earlier kept.stands;
+        counted = omega (arith, called.calls, count, kept.counted, kept.few, all);
+        within = omega (arith, count, more, all);
+        fits = omega (arith, kept.fits, same_room, more);
+        costs_fit = rw moved noted;
+      }
+
+  -- what is left of the job
+  pub MakesNext-called : before.calls ≡ length earlier → length (calls_of earlier ++ calls) < 2 ^ 32
+      → costs_now ≡ costs_with (cost_of before after) costs → MakesNext ledger job_before job_after
+  MakesNext-called counted few noted = record {
+    receipt = r;
+    call_is = λ d. same ∙ (sym (get_or-append_seam (calls_of earlier) call rest d)
+        ∙ (ap (λ n. slice_index_or (calls_of earlier ++ call ∷ rest) n d) long
+        ∙ ap (λ xs. slice_index_or (calls_of earlier ++ xs) (length earlier) d) (sym first)));
+    made = subst (λ c. CallMade ledger.book before after c r) (sym same) called.made;
+    within = subst (λ c. StaysWithin ledger.book before after c r) (sym same) called.within;
+    receipts_are = refl;
+    costs_are = noted;
+    calls_are = moved;
+    of_ledger = called.pass;
+    counted = omega (arith, called.calls, counted, count, few, all);
+  }
 
 -- so many calls of the job were made, the first ones
 pub record HasPlayed (ledger : BoardTerms) (before after : JobTerms) (number : ℕ) : Type 0 where
@@ -50,10 +126,12 @@ pub record HasPlayed (ledger : BoardTerms) (before after : JobTerms) (number : �
   pub counted : after.pass.calls ≡ length after.receipts
   pub of_ledger : IsPassOf after.pass ledger
   pub begins : IsPrefix before.pass.knows.seen after.pass.knows.seen
+  pub notes : is_some after.costs ≡ is_some before.costs
+  pub costed : AreCosted ledger.book before.pass after.pass after.receipts after.costs
 
 pub HasPlayed-none : (ledger : BoardTerms) (job : JobTerms) → IsReady ledger job → Stands job.pass job.receipts
-    → job.pass.calls ≡ length job.receipts → HasPlayed ledger job job 0
-HasPlayed-none ledger job ready stands counted = record {
+    → job.pass.calls ≡ length job.receipts → IfSome job.costs (λ list. length list ≡ length job.receipts) → HasPlayed ledger job job 0
+HasPlayed-none ledger job ready stands counted costed = record {
   process_is = refl;
   calls_are = refl;
   count_is = ap length ready.unmade;
@@ -62,29 +140,38 @@ HasPlayed-none ledger job ready stands counted = record {
   counted = counted;
   of_ledger = ready.of_ledger;
   begins = IsPrefix-refl job.pass.knows.seen;
+  notes = refl;
+  costed = AreCosted-none ledger.book job.pass job.receipts job.costs ready.unmade costed;
 }
 
 -- one more call is made
 pub HasPlayed-more : (ledger : BoardTerms) (before middle after : JobTerms) (number : ℕ) → HasPlayed ledger before middle number
-    → number < length before.calls → after.pass.knows.first ≡ middle.pass.knows.first
-    → IsPrefix middle.pass.knows.seen after.pass.knows.seen → after.calls ≡ middle.calls
-    → ((d : Call) → calls_of after.receipts ≡ calls_of middle.receipts ++ slice_index_or middle.calls (length middle.receipts) d ∷ [])
-    → length after.receipts ≡ length middle.receipts + 1 → Stands after.pass after.receipts
-    → after.pass.calls ≡ length after.receipts → IsPassOf after.pass ledger → HasPlayed ledger before after (number + 1)
-HasPlayed-more ledger before middle after number played more process begins calls made count stands counted of_ledger =
+    → number < length before.calls → MakesNext ledger middle after → HasPlayed ledger before after (number + 1)
+HasPlayed-more ledger before middle after number played more next =
+    let r : Receipt = next.receipt in
     let d : Call = Read 0 in
     let last : slice_index_or middle.calls (length middle.receipts) d ≡ slice_index_or before.calls number d =
     ap (λ xs. slice_index_or xs (length middle.receipts) d) played.calls_are ∙ ap (λ n. slice_index_or before.calls n d) played.count_is in
+    let with_one : List Receipt = middle.receipts ++ r ∷ [] in
+    let takes : TakesCall ledger.book middle.pass after.pass r (cost_of middle.pass after.pass) =
+    record { made = next.made; within = next.within; cost_is = refl } in
+    let costed : AreCosted ledger.book before.pass after.pass with_one (costs_with (cost_of middle.pass after.pass) middle.costs) =
+    AreCosted-more ledger.book before.pass middle.pass after.pass middle.receipts r middle.costs played.costed takes in
     record {
-      process_is = process ∙ played.process_is;
-      calls_are = calls ∙ played.calls_are;
-      count_is = count ∙ ap (λ n. n + 1) played.count_is;
-      made = made d ∙ (ap (λ xs. xs ++ slice_index_or middle.calls (length middle.receipts) d ∷ []) played.made
-          ∙ (ap (λ c. take number before.calls ++ c ∷ []) last ∙ sym (take_more before.calls number d more)));
-      stands = stands;
-      counted = counted;
-      of_ledger = of_ledger;
-      begins = IsPrefix-trans before.pass.knows.seen middle.pass.knows.seen after.pass.knows.seen played.begins begins;
+      process_is = process-CallMade ledger.book middle.pass after.pass r.call r next.made ∙ played.process_is;
+      calls_are = next.calls_are ∙ played.calls_are;
+      count_is = ap length next.receipts_are ∙ (length-append middle.receipts (r ∷ []) ∙ ap (λ n. n + 1) played.count_is);
+      made = ap calls_of next.receipts_are ∙ (map-append (λ (x : Receipt). x.call) middle.receipts (r ∷ [])
+          ∙ (ap (λ xs. xs ++ r.call ∷ []) played.made
+          ∙ (ap (λ c. take number before.calls ++ c ∷ []) (next.call_is d ∙ last) ∙ sym (take_more before.calls number d more))));
+      stands = Stands-made middle.pass after.pass middle.receipts after.receipts r played.stands
+          (stands-CallMade ledger.book middle.pass after.pass r.call r next.made) next.receipts_are;
+      counted = next.counted;
+      of_ledger = next.of_ledger;
+      begins = IsPrefix-trans before.pass.knows.seen middle.pass.knows.seen after.pass.knows.seen played.begins
+          (begins-CallMade ledger.book middle.pass after.pass r.call r next.made);
+      notes = ap is_some next.costs_are ∙ (is_some-costs_with (cost_of middle.pass after.pass) middle.costs ∙ played.notes);
+      costed = rw (next.receipts_are, next.costs_are) costed;
     }
 
 -- all calls were made
@@ -98,4 +185,6 @@ HasPlayed-all ledger before after number played all = record {
   counted = played.counted;
   of_ledger = played.of_ledger;
   begins = played.begins;
+  notes = played.notes;
+  costed = played.costed;
 }

@@ -1,36 +1,60 @@
 -- Jobs as callers see them, what the type of a job keeps, and what running it leaves.
-use Rattle.std.specs.Prelude.{◌≡◌, ℕ, ◌^◌, ◌<◌, ◌≤◌, List, [], length, All}
+use Rattle.std.specs.Prelude.{◌≡◌, ℕ, ◌^◌, ◌<◌, ◌≤◌, ◌++◌, Bool, List, [], ◌∷◌, length, slice_index_or, All, IfSome, Option, Vec}
+use Rattle.std.specs.Global.{Global}
+use Rattle.std.specs.Option.{is_some}
+use Rattle.std.specs.Vec.{vec_capacity}
 use Rattle.at_ledger.specs.Call.{IsCallOn}
 use Rattle.at_ledger.specs.declared.call.Call.{Call}
 use Rattle.at_history.specs.Publications.{IsPrefix}
 use Rattle.at_board.specs.Knowledge.Seats.{BoardTerms}
 use Rattle.at_log.specs.Receipts.{calls_of}
 use Rattle.at_log.specs.declared.receipt.Receipt.{Receipt}
+use Rattle.at_object.specs.Calls.{CallMade, StaysWithin}
 use Rattle.at_object.specs.Passes.{IsPassOf, PassTerms, Stands}
+use Rattle.at_workers.specs.Costs.{CostTerms, TakeCalls, cost_of, costs_with}
 
--- a job by its pass, its calls, and the receipts of those that were made
+-- a job by its pass, its calls, the receipts of those that were made, and what these cost, where that is noted
 pub record JobTerms : Type 0 where
   pub pass : PassTerms
   pub calls : List Call
   pub receipts : List Receipt
+  pub costs : Option (List CostTerms)
+
+-- there is one cost for each receipt, and room for so many
+pub record HasCosts (receipts : List Receipt) (room : ℕ) (costs : Vec CostTerms Global) : Type 0 where
+  pub count : length costs.items ≡ length receipts
+  pub fits : room ≤ vec_capacity costs
 
 -- the calls name accounts of the book, and are numbered by 32 bits. The receipts stand with the pass, which has counted as many
--- calls, and there is room for one receipt of each call
-pub record IsJob (job : JobTerms) (room : ℕ) : Type 0 where
+-- calls, and there is room for one receipt of each call, and for one cost, where costs are noted
+pub record IsJob (job : JobTerms) (room : ℕ) (costs : Option (Vec CostTerms Global)) : Type 0 where
   pub calls_on : All (IsCallOn (length job.pass.knows.book.accounts)) job.calls
   pub few : length job.calls < 2 ^ 32
   pub stands : Stands job.pass job.receipts
   pub counted : job.pass.calls ≡ length job.receipts
   pub within : length job.receipts ≤ length job.calls
   pub fits : length job.calls ≤ room
+  pub costs_fit : IfSome costs (HasCosts job.receipts (length job.calls))
 
 -- the job can be run on the ledger: its pass is of it, and no call was made yet
 pub record IsReady (ledger : BoardTerms) (job : JobTerms) : Type 0 where
   pub of_ledger : IsPassOf job.pass ledger
   pub unmade : job.receipts ≡ []
 
+-- the next call of the job was made on the ledger
+pub record MakesNext (ledger : BoardTerms) (before after : JobTerms) : Type 0 where
+  pub receipt : Receipt
+  pub call_is : (d : Call) → receipt.call ≡ slice_index_or before.calls (length before.receipts) d
+  pub made : CallMade ledger.book before.pass after.pass receipt.call receipt
+  pub within : StaysWithin ledger.book before.pass after.pass receipt.call receipt
+  pub receipts_are : after.receipts ≡ before.receipts ++ receipt ∷ []
+  pub costs_are : after.costs ≡ costs_with (cost_of before.pass after.pass) before.costs
+  pub calls_are : after.calls ≡ before.calls
+  pub of_ledger : IsPassOf after.pass ledger
+  pub counted : after.pass.calls ≡ length after.receipts
+
 -- the job was run on the ledger: it has one receipt for each of its calls, in order. These stand with its pass, which has counted
--- as many calls
+-- as many calls. Where costs are noted, each is what its call cost
 pub record Ran (ledger : BoardTerms) (before after : JobTerms) : Type 0 where
   pub process_is : after.pass.knows.first ≡ before.pass.knows.first
   pub calls_are : after.calls ≡ before.calls
@@ -39,3 +63,5 @@ pub record Ran (ledger : BoardTerms) (before after : JobTerms) : Type 0 where
   pub counted : after.pass.calls ≡ length after.receipts
   pub of_ledger : IsPassOf after.pass ledger
   pub begins : IsPrefix before.pass.knows.seen after.pass.knows.seen
+  pub notes : is_some after.costs ≡ is_some before.costs
+  pub costed : IfSome after.costs (λ costs. TakeCalls ledger.book before.pass after.receipts costs after.pass)

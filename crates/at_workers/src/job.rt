@@ -1,48 +1,59 @@
 //! Jobs: a pass with the calls to make and their receipts.
 
-ghost use Rattle.std.specs.Prelude.{◌≡◌, ◌+◌, ◌^◌, ◌<◌, ◌++◌, [], ◌∷◌, IfErr, IfOk, length, slice_index_or, All};
-ghost use Rattle.at_history.specs.Publications.{IsPrefix};
+ghost use Rattle.std.specs.Prelude.{◌≡◌, ◌^◌, ◌<◌, ◌++◌, [], ◌∷◌, IfErr, IfOk, IfSome, length, All, None, Some};
+ghost use Rattle.std.specs.Option.{option_map};
+ghost use Rattle.std.specs.Vec.{vec_capacity};
 ghost use Rattle.at_ledger.specs.Call.{IsCallOn};
-ghost use Rattle.at_ledger.specs.declared.call.Call.{Call};
-ghost use Rattle.at_log.specs.Receipts.{calls_of};
 ghost use Rattle.at_object.specs.Passes.{IsPassOf, Stands};
+ghost use Rattle.at_workers.specs.Costs.{IsCalled, cost_of};
+ghost use Rattle.at_workers.specs.Jobs.{MakesNext};
 
+use crate::cost::CallCost;
 use crate::gate::Gate;
 use at_ledger::Call;
 use at_log::Receipt;
 use at_object::{Ledger, Pass};
 use std::alloc::Global;
+use std::collections::VecDeque;
 use std::marker::Model;
 
-/// A pass, the calls to make with it, and the receipts of those that were made. It has the memory for the receipts of all calls.
+/// A pass, the calls to make with it, the receipts of those that were made, and what these cost, where it is to note that. It has the
+/// memory for the receipts of all calls, and for their costs. Each call is moved into its receipt.
 #[derive(Drop)]
 pub struct Job {
     pass: Pass,
-    calls: Vec<Call>,
+    /// Those that weren't made yet.
+    calls: VecDeque<Call>,
     receipts: Vec<Receipt>,
+    costs: Option<Vec<CallCost>>,
 }
 
 impl Model for Job {
+    ghost use Rattle.std.specs.Prelude.{◌++◌};
+    ghost use Rattle.std.specs.Option.{option_map};
     ghost use Rattle.std.specs.Vec.{vec_capacity};
+    ghost use Rattle.at_log.specs.Receipts.{calls_of};
     ghost use Rattle.at_workers.specs.Jobs.{IsJob, JobTerms};
 
     ghost Value = { JobTerms };
 
     ghost view = { λ j. record {
       pass = j.pass;
-      calls = j.calls.items;
+      calls = calls_of j.receipts.items ++ j.calls.items;
       receipts = j.receipts.items;
+      costs = option_map (λ v. v.items) j.costs;
     } };
 
     ghost invariant = { λ j. IsJob (record {
       pass = j.pass;
-      calls = j.calls.items;
+      calls = calls_of j.receipts.items ++ j.calls.items;
       receipts = j.receipts.items;
+      costs = option_map (λ v. v.items) j.costs;
     })
-        (vec_capacity j.receipts) };
+        (vec_capacity j.receipts) j.costs };
 }
 
-/// There was no memory for the receipts. The pass and the calls come back as they were.
+/// There was no memory for the receipts or the costs. The pass and the calls come back as they were.
 #[derive(Drop)]
 pub struct JobRefused {
     pub pass: Pass,
@@ -60,33 +71,59 @@ impl Job {
           pass = pass;
           calls = calls.items;
           receipts = [];
+          costs = None;
         }) }
         ensures refused { IfErr result (λ r. (r.pass ≡ pass) × (r.calls.items ≡ calls.items)) }
     {
         match Vec::with_capacity(alloc, calls.len()) {
             Ok(receipts) => Ok(Job {
                 pass,
-                calls,
+                calls: VecDeque::from(calls),
                 receipts,
+                costs: None,
             }),
             Err(_) => Err(JobRefused { pass, calls }),
         }
     }
 
-    /// The pass, the calls, and the receipts of those that were made.
-    pub fn split(self) -> (Pass, Vec<Call>, Vec<Receipt>)
+    /// A job that notes what each of its calls costs, and of which no call is made yet. Takes the memory of all its receipts and costs
+    /// first.
+    pub fn noting(alloc: Global, pass: Pass, calls: Vec<Call>) -> Result<Job, JobRefused>
+        requires stands { Stands pass [] }
+        requires uncounted { pass.calls ≡ 0 }
+        requires accounts { All (IsCallOn (length pass.knows.book.accounts)) calls.items }
+        requires few { length calls.items < 2 ^ 32 }
+        ensures ok { IfOk result (λ j. j ≡ record {
+          pass = pass;
+          calls = calls.items;
+          receipts = [];
+          costs = Some [];
+        }) }
+        ensures refused { IfErr result (λ r. (r.pass ≡ pass) × (r.calls.items ≡ calls.items)) }
+    {
+        let Ok(costs) = Vec::with_capacity(alloc, calls.len()) else {
+            return Err(JobRefused { pass, calls });
+        };
+        let mut job = Job::new(alloc, pass, calls)?;
+        job.costs = Some(costs);
+        Ok(job)
+    }
+
+    /// The pass, the receipts of the calls that were made, and their costs, where they were noted.
+    pub fn split(self) -> (Pass, Vec<Receipt>, Option<Vec<CallCost>>)
         ensures pass { result.0 ≡ self.pass }
-        ensures calls { result.1.items ≡ self.calls }
-        ensures receipts { result.2.items ≡ self.receipts }
+        ensures receipts { result.1.items ≡ self.receipts }
+        ensures costs { option_map (λ v. v.items) result.2 ≡ self.costs }
         ensures stands { Stands self.pass self.receipts }
         ensures counted { self.pass.calls ≡ length self.receipts }
     {
         let Job {
             pass,
-            calls,
+            calls: _,
             receipts,
+            costs,
         } = self;
-        (pass, calls, receipts)
+        (pass, receipts, costs)
     }
 
     /// How many calls there are.
@@ -94,31 +131,67 @@ impl Job {
         ensures count { result ≡ length self.now.calls }
         ensures stands { Stands self.now.pass self.now.receipts }
         ensures counted { self.now.pass.calls ≡ length self.now.receipts }
+        ensures costed { IfSome self.now.costs (λ list. length list ≡ length self.now.receipts) }
     {
-        self.calls.len()
+        self.receipts.len() + self.calls.len()
     }
 
     /// Makes the next call, which the gate is told of.
     pub(crate) fn make_next<G: Gate>(&mut self, ledger: &Ledger, gate: &G)
         requires of_ledger { IsPassOf self.old.pass ledger.now }
         requires more { length self.old.receipts < length self.old.calls }
-        ensures of_ledger { IsPassOf self.new.pass ledger.now }
-        ensures process { self.new.pass.knows.first ≡ self.old.pass.knows.first }
-        ensures begins { IsPrefix self.old.pass.knows.seen self.new.pass.knows.seen }
-        ensures calls { self.new.calls ≡ self.old.calls }
-        ensures made { (d : Call) → calls_of self.new.receipts ≡ calls_of self.old.receipts
-            ++ slice_index_or self.old.calls (length self.old.receipts) d ∷ [] }
-        ensures count { length self.new.receipts ≡ length self.old.receipts + 1 }
-        ensures stands { Stands self.new.pass self.new.receipts }
-        ensures counted { self.new.pass.calls ≡ length self.new.receipts }
+        ensures { MakesNext ledger.now self.old self.new }
     {
-        let process = self.pass.process();
-        let index = self.receipts.len();
-        let line = index as u32 + 1;
-        let call = self.calls[index].copy();
-        gate.pass(process, line);
-        let receipt = ledger.call(&mut self.pass, call);
-        gate.answered(process, line, &receipt.reply);
+        let Some(call) = self.calls.pop_front() else {
+            // A call is left.
+            unreachable!()
+        };
+        let line = self.receipts.len() as u32 + 1;
+        let receipt = match &mut self.costs {
+            None => call_told(ledger, gate, &mut self.pass, line, call),
+            Some(costs) => call_noted(ledger, gate, &mut self.pass, line, call, costs),
+        };
         self.receipts.push_reserved(receipt);
     }
+}
+
+/// Makes a call, which the gate is told of.
+fn call_told<G: Gate>(
+    ledger: &Ledger,
+    gate: &G,
+    pass: &mut Pass,
+    line: u32,
+    call: Call,
+) -> Receipt
+    requires of_ledger { IsPassOf pass.old ledger.now }
+    requires accounts { IsCallOn (length ledger.now.book.accounts) call }
+    ensures called { IsCalled ledger.now pass.old pass.new call result }
+{
+    let process = pass.process();
+    gate.pass(process, line);
+    let receipt = ledger.call(pass, call);
+    gate.answered(process, line, &receipt.reply);
+    receipt
+}
+
+/// Makes a call, which the gate is told of, and notes what it cost.
+fn call_noted<G: Gate>(
+    ledger: &Ledger,
+    gate: &G,
+    pass: &mut Pass,
+    line: u32,
+    call: Call,
+    costs: &mut Vec<CallCost>,
+) -> Receipt
+    requires of_ledger { IsPassOf pass.old ledger.now }
+    requires accounts { IsCallOn (length ledger.now.book.accounts) call }
+    requires room { length costs.old.items < vec_capacity costs.old }
+    ensures called { IsCalled ledger.now pass.old pass.new call result }
+    ensures noted { costs.new.items ≡ costs.old.items ++ cost_of pass.old pass.new ∷ [] }
+    ensures capacity { vec_capacity costs.new ≡ vec_capacity costs.old }
+{
+    let before = CallCost::so_far(pass);
+    let receipt = call_told(ledger, gate, pass, line, call);
+    costs.push_reserved(CallCost::so_far(pass).since(&before));
+    receipt
 }

@@ -1,0 +1,24 @@
+use Rattle.std.proofs.Common.{◌≡◌, ◌++◌, ◌<◌, ◌∙◌, [], ℕ, List, Vec, ap, sym, arith, length}
+use Rattle.std.specs.Global.{Global}
+use Rattle.std.specs.Prelude.{slice_index_or}
+use Rattle.std.proofs.lemmas.List.{get_or-map, length-map}
+use Rattle.at_log.specs.Receipts.{lists_in}
+use Rattle.at_report.specs.Lines.{Words}
+use Rattle.at_report.specs.Records.{records_text}
+use Rattle.at_costs.specs.CostsText.{process_costs}
+use Rattle.at_costs.proofs.TextLaws.{records_text-flat_map_more}
+use Rattle.at_costs.proofs.text.push_processes.Goals as goal
+use Rattle.at_workers.specs.Costs.{CostTerms}
+
+pub loop-p-preserved : goal.loop-p-preserved
+loop-p-preserved c =
+    let p : ℕ = c.loop-p.p in
+    let records : ℕ → List Words = λ p. process_costs c.args.book.now c.args.names.now p (slice_index_or c.args.closing.now.receipts p []) (slice_index_or (lists_in c.args.costs.now) p []) in
+    let within : p < length c.args.costs.now = omega (arith, c.loop-p-test.true, c.loop-p.auto.p-end, c.processes-p-end.ensures, c.requires.costs.costs_count, length-map c.args.costs.now (λ (v : Vec CostTerms Global). v.items)) in
+    let costs : c.as_slice-list.result.now ≡ slice_index_or (lists_in c.args.costs.now) p [] =
+    c.as_slice-list.ensures.value
+    ∙ (ap (λ (v : Vec CostTerms Global). v.items) c.index-costs-p.is
+    ∙ sym (get_or-map (λ (v : Vec CostTerms Global). v.items) c.args.costs.now p c.index-costs-p.result [] within)) in
+    let lines : c.push_process.new.out.items ≡ c.loop-p.out.items ++ records_text (records p) =
+    rw (← c.receipts.ensures, ← costs) c.in_ok-push_process.ensures in
+    lines ∙ rw c.loop-p.invariant (records_text-flat_map_more records c.args.out.now.items p)

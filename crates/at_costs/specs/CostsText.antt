@@ -1,0 +1,71 @@
+-- The text of `costs`: a record for each call, by process and then in file order.
+use Rattle.std.specs.Prelude.{◌≡◌, ℕ, ◌+◌, ◌<◌, List, [], ◌∷◌, ◌++◌, All, codes, decimal, flat_map, length, map, slice_index_or}
+use Rattle.std.specs.List.{range_with_len}
+use Rattle.at_ledger.specs.Book.{BookTerms}
+use Rattle.at_ledger.specs.Call.{IsCallOn}
+use Rattle.at_ledger.specs.declared.call.Call.{Call}
+use Rattle.at_ledger.specs.declared.call.Call.TheVariants.{Transfer, Read, Pay}
+use Rattle.at_files.specs.Names.{NameList, account_name, process_name}
+use Rattle.at_kinds.specs.Kinds.{called_account, kind_of}
+use Rattle.at_kinds.specs.declared.kind.Kind.{Kind}
+use Rattle.at_kinds.specs.declared.kind.Kind.TheVariants as kinds
+use Rattle.at_log.specs.Receipts.{receipt_at}
+use Rattle.at_log.specs.declared.receipt.Receipt.{Receipt}
+use Rattle.at_report.specs.Lines.{Word, Words, reply_word}
+use Rattle.at_report.specs.Records.{record_text, records_text}
+use Rattle.at_costs.specs.Bounds.{most_exchanges, most_steps}
+use Rattle.at_object.specs.Passes.{PassTerms}
+use Rattle.at_workers.specs.Costs.{CostTerms, TakeCalls}
+
+-- the names of the fields
+abbrev pub costs_head : Words
+costs_head =
+    codes "process" ∷ codes "line" ∷ codes "call" ∷ codes "account" ∷ codes "kind" ∷ codes "reply" ∷ codes "steps" ∷ codes "exchanges"
+    ∷ codes "new" ∷ codes "most_steps" ∷ codes "most_exchanges" ∷ []
+
+-- what is called
+abbrev pub call_word : Call → Word
+call_word (Transfer from to amount) = codes "transfer"
+call_word (Read account) = codes "read"
+call_word (Pay from targets) = codes "pay"
+
+-- the word of a kind
+abbrev pub kind_word : Kind → Word
+kind_word kinds.Read = codes "read"
+kind_word kinds.Refused = codes "refused"
+kind_word kinds.Alone = codes "alone"
+kind_word kinds.Agreed = codes "agreed"
+
+-- the fields of a call of the process, with its number among that process's calls
+abbrev pub cost_fields : BookTerms → NameList → ℕ → ℕ → Receipt → CostTerms → Words
+cost_fields b names process number r cost =
+    process_name names process ∷ decimal number ∷ call_word r.call ∷ account_name names (called_account r.call)
+    ∷ kind_word (kind_of b process r.call) ∷ reply_word r.reply ∷ decimal cost.steps ∷ decimal cost.exchanges ∷ decimal cost.new_records
+    ∷ decimal (most_steps b r cost.new_records) ∷ decimal (most_exchanges b r) ∷ []
+
+-- a cost of the list
+abbrev pub cost_at : List CostTerms → ℕ → CostTerms
+cost_at costs i = slice_index_or costs i (record { steps = 0; exchanges = 0; new_records = 0 })
+
+-- the records of a process, in the order of its calls
+abbrev pub process_costs : BookTerms → NameList → ℕ → List Receipt → List CostTerms → List Words
+process_costs b names process receipts costs =
+    map (λ i. cost_fields b names process (i + 1) (receipt_at receipts i) (cost_at costs i)) (range_with_len 0 (length receipts))
+
+-- the records of all processes, in order
+abbrev pub costs_records : BookTerms → NameList → List (List Receipt) → List (List CostTerms) → ℕ → List Words
+costs_records b names receipts costs processes =
+    flat_map (λ p. process_costs b names p (slice_index_or receipts p []) (slice_index_or costs p [])) (range_with_len 0 processes)
+
+-- the whole text
+abbrev pub costs_text : BookTerms → NameList → List (List Receipt) → List (List CostTerms) → List ℕ
+costs_text b names receipts costs = record_text costs_head ++ records_text (costs_records b names receipts costs b.processes)
+
+-- there are the receipts of each process of the book, and a cost for each, by calls that took its pass one after another
+pub record HaveCosts (b : BookTerms) (receipts : List (List Receipt)) (costs : List (List CostTerms)) : Type 0 where
+  pub receipts_count : length receipts ≡ b.processes
+  pub costs_count : length costs ≡ b.processes
+  pub known : (p : ℕ) → p < b.processes → All (λ (r : Receipt). IsCallOn (length b.accounts) r.call) (slice_index_or receipts p [])
+  pub same : (p : ℕ) → p < b.processes → length (slice_index_or costs p []) ≡ length (slice_index_or receipts p [])
+  pub taken : (p : ℕ) → p < b.processes
+      → (before : PassTerms) × (after : PassTerms) × TakeCalls b before (slice_index_or receipts p []) (slice_index_or costs p []) after

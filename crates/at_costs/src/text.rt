@@ -1,0 +1,185 @@
+//! The text of `costs`.
+
+ghost use Rattle.std.specs.Prelude.{◌≡◌, ◌<◌, ◌+◌, ◌++◌, ℕ, [], ◌∷◌, All, IfOk, OnOk, decimal, length, slice_index_or};
+ghost use Rattle.at_ledger.specs.Call.{IsCallOn};
+ghost use Rattle.at_files.specs.Names.{AreNamesOf, account_name};
+ghost use Rattle.at_kinds.specs.Kinds.{called_account, kind_of};
+ghost use Rattle.at_log.specs.ClosingTerms.{receipts_of};
+ghost use Rattle.at_log.specs.Receipts.{lists_in};
+ghost use Rattle.at_report.specs.Lines.{reply_word};
+ghost use Rattle.at_report.specs.Records.{comma_led, record_text, records_text};
+ghost use Rattle.at_costs.specs.Bounds.{AreCostsWithin, most_exchanges, most_steps};
+ghost use Rattle.at_costs.specs.CostsText.{HaveCosts, call_word, cost_fields, costs_head, costs_records, costs_text, kind_word, process_costs};
+
+use crate::bounds::{most_exchanges, most_steps};
+use at_files::Names;
+use at_kinds::{Kind, called_account, kind_of};
+use at_ledger::{Book, Call, NoMemory};
+use at_log::{Closing, Receipt};
+use at_report::{push_field, push_number_field, push_reply_field};
+use at_workers::CallCost;
+use std::alloc::Global;
+
+/// What is called.
+fn call_word(call: &Call) -> &'static [u8]
+    ensures { result.now ≡ call_word call.now }
+{
+    match call {
+        Call::Transfer { .. } => b"transfer",
+        Call::Read { .. } => b"read",
+        Call::Pay { .. } => b"pay",
+    }
+}
+
+/// The word of a kind.
+fn kind_word(kind: Kind) -> &'static [u8]
+    ensures { result.now ≡ kind_word kind }
+{
+    match kind {
+        Kind::Read => b"read",
+        Kind::Refused => b"refused",
+        Kind::Alone => b"alone",
+        Kind::Agreed => b"agreed",
+    }
+}
+
+/// Adds the names of the fields.
+fn push_head(out: &mut Vec<u8>) -> Result<(), NoMemory>
+    ensures { OnOk result (out.new.items ≡ out.old.items ++ record_text costs_head) }
+{
+    out.extend_from_slice(
+        b"process,line,call,account,kind,reply,steps,exchanges,new,most_steps,most_exchanges\n",
+    )
+}
+
+/// Adds what was called, of what kind it is, and the reply.
+fn push_call(
+    out: &mut Vec<u8>,
+    book: &Book,
+    names: &Names,
+    process: u32,
+    receipt: &Receipt,
+) -> Result<(), NoMemory>
+    requires accounts { length names.now.accounts ≡ length book.now.accounts }
+    requires call { IsCallOn (length book.now.accounts) receipt.now.call }
+    ensures { OnOk result (out.new.items ≡ out.old.items
+        ++ comma_led (call_word receipt.now.call
+        ∷ account_name names.now (called_account receipt.now.call)
+        ∷ kind_word (kind_of book.now process receipt.now.call) ∷ reply_word receipt.now.reply ∷ [])) }
+{
+    push_field(out, call_word(&receipt.call))?;
+    push_field(out, names.account(called_account(&receipt.call)))?;
+    push_field(out, kind_word(kind_of(book, process, &receipt.call)))?;
+    push_reply_field(out, receipt.reply)
+}
+
+/// Adds what the call cost, and the most that it may cost.
+fn push_cost(
+    out: &mut Vec<u8>,
+    book: &Book,
+    receipt: &Receipt,
+    cost: &CallCost,
+) -> Result<(), NoMemory>
+    requires { IsCallOn (length book.now.accounts) receipt.now.call }
+    ensures { OnOk result (out.new.items ≡ out.old.items
+        ++ comma_led (decimal cost.now.steps ∷ decimal cost.now.exchanges
+        ∷ decimal cost.now.new_records ∷ decimal (most_steps book.now receipt.now cost.now.new_records)
+        ∷ decimal (most_exchanges book.now receipt.now) ∷ [])) }
+{
+    push_number_field(out, cost.steps())?;
+    push_number_field(out, cost.exchanges())?;
+    push_number_field(out, cost.new_records())?;
+    push_number_field(out, most_steps(book, receipt, cost.new_records()))?;
+    push_number_field(out, most_exchanges(book, receipt))
+}
+
+/// Adds the record of a call of the process, with its number.
+fn push_record(
+    out: &mut Vec<u8>,
+    book: &Book,
+    names: &Names,
+    process: u32,
+    number: u64,
+    receipt: &Receipt,
+    cost: &CallCost,
+) -> Result<(), NoMemory>
+    requires names { AreNamesOf book.now names.now }
+    requires process { process < book.now.processes }
+    requires call { IsCallOn (length book.now.accounts) receipt.now.call }
+    ensures { OnOk result (out.new.items ≡ out.old.items
+        ++ record_text (cost_fields book.now names.now process number receipt.now cost.now)) }
+{
+    out.extend_from_slice(names.process(process))?;
+    push_number_field(out, number)?;
+    push_call(out, book, names, process, receipt)?;
+    push_cost(out, book, receipt, cost)?;
+    out.push(b'\n')?;
+    Ok(())
+}
+
+/// Adds the records of a process.
+fn push_process(
+    out: &mut Vec<u8>,
+    book: &Book,
+    names: &Names,
+    process: u32,
+    receipts: &[Receipt],
+    costs: &[CallCost],
+) -> Result<(), NoMemory>
+    requires names { AreNamesOf book.now names.now }
+    requires process { process < book.now.processes }
+    requires known { All (λ r. IsCallOn (length book.now.accounts) r.call) receipts.now }
+    requires count { length costs.now ≡ length receipts.now }
+    ensures { OnOk result (out.new.items ≡ out.old.items
+        ++ records_text (process_costs book.now names.now process receipts.now costs.now)) }
+{
+    for i in 0..receipts.len() {
+        let receipt = &receipts[i];
+        let cost = &costs[i];
+        push_record(out, book, names, process, i as u64 + 1, receipt, cost)?;
+    }
+    Ok(())
+}
+
+/// Adds the records of all processes.
+fn push_processes(
+    out: &mut Vec<u8>,
+    book: &Book,
+    names: &Names,
+    closing: &Closing,
+    costs: &[Vec<CallCost>],
+) -> Result<(), NoMemory>
+    requires names { AreNamesOf book.now names.now }
+    requires costs { HaveCosts book.now closing.now.receipts (lists_in costs.now) }
+    ensures { OnOk result (out.new.items ≡ out.old.items
+        ++ records_text (costs_records book.now names.now closing.now.receipts (lists_in costs.now)
+        book.now.processes)) }
+{
+    for p in 0..book.processes() {
+        let list = costs[p as usize].as_slice();
+        push_process(out, book, names, p, closing.receipts(p), list)?;
+    }
+    Ok(())
+}
+
+/// The text of `costs`: a CSV record for each call of the closing, by process and then in the order of its calls. The work grows with the
+/// calls.
+pub fn costs_text(
+    alloc: Global,
+    book: &Book,
+    names: &Names,
+    closing: &Closing,
+    costs: &[Vec<CallCost>],
+) -> Result<Vec<u8>, NoMemory>
+    requires names { AreNamesOf book.now names.now }
+    requires costs { HaveCosts book.now closing.now.receipts (lists_in costs.now) }
+    ensures text { IfOk result (λ text. text.items
+        ≡ costs_text book.now names.now closing.now.receipts (lists_in costs.now)) }
+    ensures within { IfOk result (λ text. (p : ℕ) → p < book.now.processes
+        → AreCostsWithin book.now (receipts_of closing.now p) (slice_index_or (lists_in costs.now) p [])) }
+{
+    let mut text = Vec::new(alloc);
+    push_head(&mut text)?;
+    push_processes(&mut text, book, names, closing, costs)?;
+    Ok(text)
+}

@@ -1,0 +1,32 @@
+-- Records of CSV texts and their fields.
+use Rattle.std.proofs.Common.{◌≡◌, ℕ, ◌+◌, ◌<◌, List, [], ◌∷◌, ◌++◌, map, ap, ◌∙◌, sym, append_assoc, append-nil, arith}
+use Rattle.std.specs.List.{join_with_byte, range_with_len}
+use Rattle.std.proofs.lemmas.Grind.{flat_map-append}
+use Rattle.std.proofs.lemmas.List.FromFn.{map-range_with_len_more}
+use Rattle.at_report.specs.Lines.{Words}
+use Rattle.at_report.specs.Records.{comma_led, record_text, records_text}
+
+-- a record is its first field, and then the others, each after a comma
+pub join_with_byte-comma_led : (field : List ℕ) (fields : Words) → join_with_byte 44 (field ∷ fields) ≡ field ++ comma_led fields
+join_with_byte-comma_led field [] = sym (append-nil field)
+join_with_byte-comma_led field (next ∷ fields) = ap (λ (text : List ℕ). field ++ 44 ∷ text) (join_with_byte-comma_led next fields)
+
+pub record_text-comma_led : (field : List ℕ) (fields : Words) → record_text (field ∷ fields) ≡ field ++ comma_led fields ++ 10 ∷ []
+record_text-comma_led field fields = ap (λ (text : List ℕ). text ++ 10 ∷ []) (join_with_byte-comma_led field fields)
+
+pub comma_led-append : (fields more : Words) → comma_led (fields ++ more) ≡ comma_led fields ++ comma_led more
+comma_led-append fields more = flat_map-append (λ field. 44 ∷ field) fields more
+
+-- what stands there, and a record's parts after it, are the record after it
+pub record_text-parts : (out field : List ℕ) (fields : Words) → ((out ++ field) ++ comma_led fields) ++ 10 ∷ [] ≡ out ++ record_text (field ∷ fields)
+record_text-parts out field fields = rw (record_text-comma_led field fields) (simp append_assoc)
+
+-- one more of the records that a function gives
+pub records_text-map_more : (f : ℕ → Words) (out : List ℕ) (n : ℕ)
+    → (out ++ records_text (map f (range_with_len 0 n))) ++ record_text (f n) ≡ out ++ records_text (map f (range_with_len 0 (n + 1)))
+records_text-map_more f out n =
+    let more : map f (range_with_len 0 (n + 1)) ≡ map f (range_with_len 0 n) ++ f n ∷ [] = map-range_with_len_more f 0 n n (omega arith) in
+    let last : records_text (map f (range_with_len 0 n) ++ f n ∷ []) ≡ records_text (map f (range_with_len 0 n)) ++ record_text (f n) =
+    flat_map-append record_text (map f (range_with_len 0 n)) (f n ∷ [])
+    ∙ ap (λ (text : List ℕ). records_text (map f (range_with_len 0 n)) ++ text) (append-nil (record_text (f n))) in
+    rw (more, last) (simp append_assoc)
