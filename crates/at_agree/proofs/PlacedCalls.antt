@@ -7,7 +7,7 @@ use Rattle.std.proofs.lemmas.List.Sums.{get_or-le-sum_by}
 use Rattle.std.specs.List.{sum_by}
 use Rattle.at_ledger.specs.Account.{AccountTerms, is_shared, is_single}
 use Rattle.at_ledger.specs.Book.{account_of, is_owner}
-use Rattle.at_ledger.specs.Call.{TargetPair, amount_of}
+use Rattle.at_ledger.specs.Call.{TargetPair, amount_of, payout_of}
 use Rattle.at_ledger.specs.declared.call.Call.TheVariants.{Transfer}
 use Rattle.at_ledger.specs.declared.call.Reply.TheVariants.{Done, Short}
 use Rattle.at_history.proofs.Laws.Counts.{get_or-publications_of}
@@ -24,7 +24,7 @@ use Rattle.at_history.specs.declared.publication.Publication.{Publication}
 use Rattle.at_log.proofs.Laws.Positions.{own_position-at}
 use Rattle.at_log.proofs.Laws.Replies.{same_payout}
 use Rattle.at_log.specs.Placed.{IsAtFront, IsAtOwn, IsAtRound, IsPlaced, done, full, has_no_room, not_owner, read, round, short}
-use Rattle.at_log.specs.Receipts.{asks_in, owns_in, payout_of}
+use Rattle.at_log.specs.Receipts.{asks_in, owns_in}
 use Rattle.at_log.specs.Told.{own_position}
 use Rattle.at_log.specs.declared.receipt.Receipt.{Receipt}
 use Rattle.at_agree.proofs.CouncilBook.{account_of-own, is_owner-own, is_owner-shared, is_single-shared, owner-shared, slot-shared}

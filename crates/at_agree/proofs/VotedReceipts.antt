@@ -17,7 +17,8 @@ use Rattle.at_history.specs.Rounds.{named, owns_of}
 use Rattle.at_history.specs.declared.publication.Entry.TheVariants.{Round}
 use Rattle.at_history.specs.declared.publication.Publication.{Publication}
 use Rattle.at_log.specs.Placed.{IsPlaced, done, full, not_owner, read, round, short}
-use Rattle.at_log.specs.Receipts.{asks_in, calls_of, is_at_own, is_at_round, is_payout_from, is_success, owns_in, payout_of, receipt_at}
+use Rattle.at_ledger.specs.Call.{payout_of}
+use Rattle.at_log.specs.Receipts.{asks_in, calls_of, is_at_own, is_at_round, is_payout_from, is_success, owns_in, receipt_at}
 use Rattle.at_log.specs.Told.{Told, key_at, key_of, keys_from, own_position, round_position}
 use Rattle.at_log.specs.declared.receipt.At.{At}
 use Rattle.at_log.specs.declared.receipt.Receipt.{Receipt}

@@ -5,7 +5,7 @@ use Rattle.std.proofs.lemmas.List.Sums.{get_or-le-sum_by}
 use Rattle.std.specs.Prelude.{slice_index, sum}
 use Rattle.at_ledger.specs.Account.{is_shared, is_single, slots_of}
 use Rattle.at_ledger.specs.Book.{BookTerms, HasSlot, account_of, is_owner}
-use Rattle.at_ledger.specs.Call.{IsCallOn, TargetPair}
+use Rattle.at_ledger.specs.Call.{IsCallOn, TargetPair, first_account, payout_of}
 use Rattle.at_ledger.specs.declared.call.Call.{Call}
 use Rattle.at_ledger.specs.declared.call.Call.TheVariants.{Pay, Read, Transfer}
 use Rattle.at_ledger.specs.declared.call.Reply.{Reply}
@@ -27,8 +27,8 @@ use Rattle.at_closing.specs.BetweenCalls.{IsBetweenCalls}
 use Rattle.at_fold.specs.HasCounted.{HasCounted, StaysCounted}
 use Rattle.at_fold.specs.Sums.{TotalSums}
 use Rattle.at_log.proofs.Laws.Replies.{first_account-payout, same_payout}
-use Rattle.at_log.specs.Receipts.{is_at_own, is_at_round, payout_of}
-use Rattle.at_log.specs.Told.{first_account, key_of}
+use Rattle.at_log.specs.Receipts.{is_at_own, is_at_round}
+use Rattle.at_log.specs.Told.{key_of}
 use Rattle.at_log.specs.declared.receipt.Receipt.{Receipt}
 use Rattle.at_object.proofs.Laws.Alone.{IsPass-alone, asking-alone, decided-alone}
 use Rattle.at_object.proofs.Laws.InRound.{IsPass-round}

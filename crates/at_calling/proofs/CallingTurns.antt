@@ -3,7 +3,7 @@ use Rattle.std.proofs.Common.{◌≡◌, ℕ, ◌+◌, ◌-◌, ◌*◌, ◌<◌
 use Rattle.std.specs.List.{sum}
 use Rattle.at_ledger.specs.Account.{is_shared, slots_of}
 use Rattle.at_ledger.specs.Book.{BookTerms, account_of}
-use Rattle.at_ledger.specs.Call.{IsCallOn, TargetPair}
+use Rattle.at_ledger.specs.Call.{IsCallOn, TargetPair, first_account}
 use Rattle.at_ledger.specs.declared.call.Call.{Call}
 use Rattle.at_ledger.specs.declared.call.Reply.{Reply}
 use Rattle.at_history.specs.Moves.{AreRuns}
@@ -18,7 +18,6 @@ use Rattle.at_fold.specs.HasCounted.{HasCounted, StaysCounted}
 use Rattle.at_fold.specs.Sums.{TotalSums}
 use Rattle.at_log.proofs.Laws.Replies.{first_account-payout}
 use Rattle.at_log.specs.Placed.{IsPlaced}
-use Rattle.at_log.specs.Told.{first_account}
 use Rattle.at_log.specs.declared.receipt.At.TheVariants.{Previous}
 use Rattle.at_log.specs.declared.receipt.Receipt.{Receipt}
 use Rattle.at_object.proofs.Laws.Looked.{between-IsPass}

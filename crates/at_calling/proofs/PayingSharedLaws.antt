@@ -5,7 +5,7 @@ use Rattle.std.proofs.lemmas.Nat.{mul-le}
 use Rattle.at_ledger.specs.Account.{is_shared, no_account, slots_of}
 use Rattle.at_ledger.specs.Book.{BookTerms, HasSlot, IsBegun, account_of}
 use Rattle.at_ledger.specs.Limits.{most_owners}
-use Rattle.at_ledger.specs.Call.{TargetPair}
+use Rattle.at_ledger.specs.Call.{TargetPair, payout_of}
 use Rattle.at_ledger.specs.declared.call.Reply.{Reply}
 use Rattle.at_history.proofs.Laws.Counts.{length-counts, sum-counts}
 use Rattle.at_history.proofs.Laws.Fronts.{sum-Covers-le}
@@ -23,7 +23,7 @@ use Rattle.at_board.specs.declared.knowledge.Knowledge.{Knowledge}
 use Rattle.at_board.specs.declared.words.TheConstants.{RECORD_WORDS}
 use Rattle.at_fold.specs.HasCounted.{HasCounted}
 use Rattle.at_fold.specs.Sums.{TotalSums}
-use Rattle.at_log.specs.Receipts.{asks_in, payout_of}
+use Rattle.at_log.specs.Receipts.{asks_in}
 use Rattle.at_log.specs.declared.receipt.At.{At}
 use Rattle.at_log.specs.declared.receipt.Receipt.{Receipt}
 use Rattle.at_rows.proofs.Laws.Accounts.{HasAccount, HasAccount-IsSeat}

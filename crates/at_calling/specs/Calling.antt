@@ -9,8 +9,7 @@ use Rattle.at_board.specs.Words.Addresses.{record_width}
 use Rattle.at_board.specs.declared.knowledge.Knowledge.{Knowledge}
 use Rattle.at_board.specs.declared.words.TheConstants.{RECORD_WORDS}
 use Rattle.at_fold.specs.Sums.{TotalSums}
-use Rattle.at_log.specs.Receipts.{payout_of}
-use Rattle.at_log.specs.Told.{first_account}
+use Rattle.at_ledger.specs.Call.{first_account, payout_of}
 use Rattle.at_object.specs.CallCounts.{CallCountTerms}
 use Rattle.at_object.specs.Calls.{call_steps, may_exchange}
 use Rattle.at_object.specs.Parted.{pass_of}

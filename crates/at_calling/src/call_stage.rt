@@ -4,8 +4,7 @@ ghost use Rattle.std.specs.Prelude.{◌≡◌, ◌<◌, None, Some, length, true
 ghost use Rattle.at_board.specs.Knowledge.Seats.{IsOf};
 ghost use Rattle.at_ledger.specs.Account.{is_shared, is_single};
 ghost use Rattle.at_ledger.specs.Book.{account_of};
-ghost use Rattle.at_ledger.specs.Call.{AreTargetsOn, IsCallOn};
-ghost use Rattle.at_log.specs.Receipts.{payout_of};
+ghost use Rattle.at_ledger.specs.Call.{AreTargetsOn, IsCallOn, payout_of};
 ghost use Rattle.at_object.specs.Parted.{IsOfOnePass, pass_of};
 ghost use Rattle.at_object.specs.Payments.{refusal_of};
 ghost use Rattle.at_calling.specs.Calling.{IsWay, StartsFrom, call_turns_left, exchanges_made, steps_made};

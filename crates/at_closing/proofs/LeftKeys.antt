@@ -3,7 +3,7 @@ use Rattle.std.proofs.Common.{◌≡◌, ℕ, ◌+◌, ◌*◌, ◌<◌, ◌≤�
 use Rattle.std.proofs.lemmas.Bool.{cases_Bool}
 use Rattle.std.specs.List.Sorted.{IsNonDecreasing}
 use Rattle.at_ledger.specs.Book.{BookTerms}
-use Rattle.at_ledger.specs.Call.{TargetPair}
+use Rattle.at_ledger.specs.Call.{TargetPair, first_account}
 use Rattle.at_history.specs.BoardState.{BoardState, publication_at}
 use Rattle.at_history.specs.Entries.{is_own}
 use Rattle.at_history.specs.Fronts.{prefix_of}
@@ -14,7 +14,7 @@ use Rattle.at_log.specs.ClosingTerms.{ClosingTerms, receipts_of}
 use Rattle.at_log.specs.JournalOrder.{journal_order}
 use Rattle.at_log.specs.Placed.{IsAtFront, IsAtRound, IsPlaced, read, not_owner, full, short, done, round}
 use Rattle.at_log.specs.Receipts.{is_success, receipt_at}
-use Rattle.at_log.specs.Told.{first_account, key_at, key_of, keys_from, keys_of, round_position}
+use Rattle.at_log.specs.Told.{key_at, key_of, keys_from, keys_of, round_position}
 use Rattle.at_log.specs.declared.receipt.At.{At}
 use Rattle.at_log.specs.declared.receipt.Receipt.{Receipt}
 use Rattle.at_closing.proofs.Marks

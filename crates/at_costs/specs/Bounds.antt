@@ -5,7 +5,7 @@ use Rattle.at_ledger.specs.Book.{BookTerms, account_of}
 use Rattle.at_ledger.specs.declared.call.Reply.{Reply}
 use Rattle.at_ledger.specs.declared.call.Reply.TheVariants.{Done, Short, NotOwner, Full, Balance}
 use Rattle.at_board.specs.declared.words.TheConstants.{RECORD_WORDS}
-use Rattle.at_log.specs.Told.{first_account}
+use Rattle.at_ledger.specs.Call.{first_account}
 use Rattle.at_log.specs.declared.receipt.Receipt.{Receipt}
 use Rattle.at_object.specs.Calls.{call_steps, may_exchange}
 use Rattle.at_workers.specs.Costs.{CostTerms}

@@ -2,11 +2,11 @@
 use Rattle.std.specs.Prelude.{◌≡◌, ℕ, ◌+◌, ◌<◌, List, [], ◌∷◌, ◌++◌, All, codes, decimal, flat_map, length, map, slice_index_or}
 use Rattle.std.specs.List.{range_with_len}
 use Rattle.at_ledger.specs.Book.{BookTerms}
-use Rattle.at_ledger.specs.Call.{IsCallOn}
+use Rattle.at_ledger.specs.Call.{IsCallOn, first_account}
 use Rattle.at_ledger.specs.declared.call.Call.{Call}
 use Rattle.at_ledger.specs.declared.call.Call.TheVariants.{Transfer, Read, Pay}
 use Rattle.at_files.specs.Names.{NameList, account_name, process_name}
-use Rattle.at_kinds.specs.Kinds.{called_account, kind_of}
+use Rattle.at_kinds.specs.Kinds.{kind_of}
 use Rattle.at_kinds.specs.declared.kind.Kind.{Kind}
 use Rattle.at_kinds.specs.declared.kind.Kind.TheVariants as kinds
 use Rattle.at_log.specs.Receipts.{receipt_at}
@@ -39,7 +39,7 @@ kind_word kinds.Agreed = codes "agreed"
 -- the fields of a call of the process, with its number among that process's calls
 abbrev pub cost_fields : BookTerms → NameList → ℕ → ℕ → Receipt → CostTerms → Words
 cost_fields b names process number r cost =
-    process_name names process ∷ decimal number ∷ call_word r.call ∷ account_name names (called_account r.call)
+    process_name names process ∷ decimal number ∷ call_word r.call ∷ account_name names (first_account r.call)
     ∷ kind_word (kind_of b process r.call) ∷ reply_word r.reply ∷ decimal cost.steps ∷ decimal cost.exchanges ∷ decimal cost.new_records
     ∷ decimal (most_steps b r cost.new_records) ∷ decimal (most_exchanges b r) ∷ []
 

@@ -10,7 +10,6 @@ ghost use Rattle.at_snapshot.specs.Snapshots.{snapshot_steps};
 ghost use Rattle.at_costs.specs.Bounds.{is_refusal, most_exchanges, most_steps};
 
 use at_board::{RECORD_WORDS, REQUEST_WORDS};
-use at_kinds::called_account;
 use at_ledger::{Book, Call, Reply};
 use at_log::Receipt;
 
@@ -112,5 +111,5 @@ pub fn most_exchanges(book: &Book, receipt: &Receipt) -> u64
     if is_read || is_refusal(&receipt.reply) {
         return 0;
     }
-    payment_exchanges(book, called_account(&receipt.call))
+    payment_exchanges(book, receipt.call.first_account())
 }

@@ -1,9 +1,9 @@
 //! The text of `costs`.
 
 ghost use Rattle.std.specs.Prelude.{◌≡◌, ◌<◌, ◌+◌, ◌++◌, ℕ, [], ◌∷◌, All, IfOk, OnOk, decimal, length, slice_index_or};
-ghost use Rattle.at_ledger.specs.Call.{IsCallOn};
+ghost use Rattle.at_ledger.specs.Call.{IsCallOn, first_account};
 ghost use Rattle.at_files.specs.Names.{AreNamesOf, account_name};
-ghost use Rattle.at_kinds.specs.Kinds.{called_account, kind_of};
+ghost use Rattle.at_kinds.specs.Kinds.{kind_of};
 ghost use Rattle.at_log.specs.ClosingTerms.{receipts_of};
 ghost use Rattle.at_log.specs.Receipts.{lists_in};
 ghost use Rattle.at_report.specs.Lines.{reply_word};
@@ -13,7 +13,7 @@ ghost use Rattle.at_costs.specs.CostsText.{HaveCosts, call_word, cost_fields, co
 
 use crate::bounds::{most_exchanges, most_steps};
 use at_files::Names;
-use at_kinds::{Kind, called_account, kind_of};
+use at_kinds::{Kind, kind_of};
 use at_ledger::{Book, Call, NoMemory};
 use at_log::{Closing, Receipt};
 use at_report::{push_field, push_number_field, push_reply_field};
@@ -64,11 +64,11 @@ fn push_call(
     requires call { IsCallOn (length book.now.accounts) receipt.now.call }
     ensures { OnOk result (out.new.items ≡ out.old.items
         ++ comma_led (call_word receipt.now.call
-        ∷ account_name names.now (called_account receipt.now.call)
+        ∷ account_name names.now (first_account receipt.now.call)
         ∷ kind_word (kind_of book.now process receipt.now.call) ∷ reply_word receipt.now.reply ∷ [])) }
 {
     push_field(out, call_word(&receipt.call))?;
-    push_field(out, names.account(called_account(&receipt.call)))?;
+    push_field(out, names.account(receipt.call.first_account()))?;
     push_field(out, kind_word(kind_of(book, process, &receipt.call)))?;
     push_reply_field(out, receipt.reply)
 }

@@ -7,7 +7,7 @@ use Rattle.std.proofs.lemmas.List.Folds.{list_any_at}
 use Rattle.std.proofs.lemmas.List.{get_or-take, length-take-le, take_all}
 use Rattle.at_base.specs.declared.decision.Decision.{Decision}
 use Rattle.at_ledger.specs.Book.{BookTerms, IsBegun, account_of}
-use Rattle.at_ledger.specs.Call.{TargetPair}
+use Rattle.at_ledger.specs.Call.{TargetPair, first_account}
 use Rattle.at_ledger.specs.declared.call.Reply.TheVariants.{Done, Short}
 use Rattle.at_history.specs.declared.publication.Entry.{Entry}
 use Rattle.at_history.specs.declared.publication.Publication.{Publication}
@@ -27,7 +27,7 @@ use Rattle.at_log.specs.Coherent.{Coherent}
 use Rattle.at_log.specs.JournalOrder.{journal_order, line_key}
 use Rattle.at_log.specs.Placed.{IsAtOwn, IsAtRound, IsPlaced, MayPay, read, not_owner, full, short, done, round}
 use Rattle.at_log.specs.Receipts.{asks_in, is_at_own, is_at_round, is_payout_from, is_success, owns_in, receipt_at}
-use Rattle.at_log.specs.Told.{first_account, key_at, own_position, round_position}
+use Rattle.at_log.specs.Told.{key_at, own_position, round_position}
 use Rattle.at_log.proofs.Laws.FirstRecords.{is_round-true}
 use Rattle.at_log.proofs.Laws.OrderRounds.{AreFirsts-take, IsCoherentEntry-journal_order, IsFirst, IsFirst-journal_order, round_entry}
 use Rattle.at_log.proofs.Laws.OrderState.{named_before}

@@ -8,7 +8,8 @@ use Rattle.at_history.specs.declared.publication.Entry.TheVariants.{Own, Round}
 use Rattle.at_history.specs.declared.publication.Publication.{Publication}
 use Rattle.at_log.specs.ClosingTerms.{ClosingTerms, receipts_of}
 use Rattle.at_log.specs.Receipts.{is_success}
-use Rattle.at_log.specs.Told.{first_account, own_position, round_position}
+use Rattle.at_ledger.specs.Call.{first_account}
+use Rattle.at_log.specs.Told.{own_position, round_position}
 use Rattle.at_log.specs.declared.receipt.At.{At}
 use Rattle.at_log.specs.declared.receipt.Receipt.{Receipt}
 use Rattle.at_journal.specs.Order.{no_number}

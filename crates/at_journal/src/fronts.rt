@@ -3,7 +3,6 @@
 ghost use Rattle.std.specs.Prelude.{◌≡◌, ◌++◌, ◌^◌, ◌<◌, [], ◌∷◌, map, sum, OnOk, IfOk};
 ghost use Rattle.std.specs.List.{cons_option, filter_map, flat_map};
 ghost use Rattle.std.specs.Option.{option_copied};
-ghost use Rattle.at_history.specs.Fronts.{place};
 ghost use Rattle.at_log.specs.ClosingTerms.{log_lengths};
 ghost use Rattle.at_log.specs.HeldFronts.{front_at};
 ghost use Rattle.at_journal.specs.Held.{AreByPlace, AreHeld, ArePlaced, counts_in};
@@ -20,18 +19,6 @@ struct HeldFront<'c> {
     counts: &'c Counts,
 }
 
-/// How many publications a front counts.
-pub(crate) fn place_of(counts: &Counts) -> u64
-    ensures place { result ≡ place counts.now }
-    ensures small { result < 2 ^ 37 }
-{
-    let mut place = 0;
-    for p in 0..counts.len() {
-        place += u64::from(counts.get(p));
-    }
-    place
-}
-
 /// Adds a front with its place.
 fn push_front<'c>(fronts: &mut Vec<HeldFront<'c>>, counts: &'c Counts) -> Result<(), NoMemory>
     requires placed { ArePlaced fronts.old.items }
@@ -40,7 +27,7 @@ fn push_front<'c>(fronts: &mut Vec<HeldFront<'c>>, counts: &'c Counts) -> Result
     ensures placed { ArePlaced fronts.new.items }
 {
     fronts.push(HeldFront {
-        place: place_of(counts),
+        place: counts.total(),
         counts,
     })?;
     Ok(())

@@ -6,29 +6,17 @@ ghost use Rattle.at_log.specs.ClosingTerms.{receipts_of};
 ghost use Rattle.at_log.specs.Coherent.{Coherent};
 ghost use Rattle.at_log.specs.JournalOrder.{journal_order, line_of};
 ghost use Rattle.at_log.specs.Receipts.{is_success, receipt_at};
-ghost use Rattle.at_log.specs.Told.{first_account, key_of, keys_of};
+ghost use Rattle.at_log.specs.Told.{key_of, keys_of};
 ghost use Rattle.at_journal.specs.Order.{AreRecords, published_in};
 ghost use Rattle.at_journal.specs.Positions.{AreReceipts, HasStarts, HasRoundPositions};
 
 use crate::NoMemory;
-use crate::fronts::place_of;
 use crate::keyed::Keyed;
 use crate::order::Numbered;
 use crate::positions::own_positions;
-use at_ledger::{Book, Call, Line, Reply};
+use at_ledger::{Book, Line, Reply};
 use at_log::{At, Closing};
 use std::alloc::Global;
-
-/// The account that a call names first.
-fn first_account(call: &Call) -> u32
-    ensures { result ≡ first_account call.now }
-{
-    match call {
-        Call::Transfer { from, .. } => *from,
-        Call::Read { account } => *account,
-        Call::Pay { from, .. } => *from,
-    }
-}
 
 /// Whether a call moved its amounts.
 fn is_success(reply: &Reply) -> bool
@@ -66,11 +54,11 @@ fn key_of(
 {
     let receipt = &closing.receipts(p)[i];
     match &receipt.at {
-        At::Front(counts) => 2 * place_of(counts),
+        At::Front(counts) => 2 * counts.total(),
         At::Own(number) => 2 * own[*number as usize] + 1,
         At::Round { round, place } => {
             if is_success(&receipt.reply) {
-                2 * first_of_round(starts, first_account(&receipt.call), *round) + 1
+                2 * first_of_round(starts, receipt.call.first_account(), *round) + 1
             } else {
                 2 * u64::from(*place)
             }

@@ -7,11 +7,12 @@ use Rattle.std.proofs.lemmas.Bool.Decides.{nat_tests}
 use Rattle.std.proofs.lemmas.List.{get_or_past}
 use Rattle.std.proofs.lemmas.List.Sums.{sum_by-cons}
 use Rattle.std.proofs.lemmas.List.FromFn.{sum_by-map-range_with_len_more}
+use Rattle.at_ledger.specs.Call.{first_account}
 use Rattle.at_ledger.specs.Account.{AccountTerms, is_owner_in, is_shared, no_account}
 use Rattle.at_ledger.specs.Book.{BookTerms, account_of}
 use Rattle.at_ledger.specs.declared.call.Call.{Call}
 use Rattle.at_ledger.specs.declared.call.Call.TheVariants.{Transfer, Read, Pay}
-use Rattle.at_kinds.specs.Kinds.{called_account, count_first, count_in, count_in_file, is_agreed_kind, is_owner_kind, is_by_owner_of, kind_of}
+use Rattle.at_kinds.specs.Kinds.{count_first, count_in, count_in_file, is_agreed_kind, is_owner_kind, is_by_owner_of, kind_of}
 use Rattle.at_kinds.specs.Groups.{is_agreed_by}
 use Rattle.at_kinds.specs.Totals.{is_shared_by, part_of, sum_first}
 use Rattle.at_kinds.specs.declared.kind.Kind.TheVariants as kinds
@@ -95,30 +96,30 @@ no_read true false = refl
 no_read false these = refl
 
 at_account : (b : BookTerms) (owners : List ℕ) (p : ℕ) (call : Call)
-    → one_if (is_shared_by owners (account_of b (called_account call)) && is_owner_kind (kind_of b p call)) ≡ one_if (is_agreed_by owners b p call)
+    → one_if (is_shared_by owners (account_of b (first_account call)) && is_owner_kind (kind_of b p call)) ≡ one_if (is_agreed_by owners b p call)
 at_account b owners p (Transfer from to amount) = let t = account_of b from in agreed_alike (is_owner_in t p) (is_shared t) (bytes_eq t.owners owners)
 at_account b owners p (Read account) = let t = account_of b account in no_read (is_shared t) (bytes_eq t.owners owners)
 at_account b owners p (Pay from targets) = let t = account_of b from in agreed_alike (is_owner_in t p) (is_shared t) (bytes_eq t.owners owners)
 
 -- no account that the book lacks has owners
-past_accounts : (b : BookTerms) (owners : List ℕ) (p : ℕ) (call : Call) → length b.accounts ≤ called_account call → one_if (is_agreed_by owners b p call) ≡ 0
+past_accounts : (b : BookTerms) (owners : List ℕ) (p : ℕ) (call : Call) → length b.accounts ≤ first_account call → one_if (is_agreed_by owners b p call) ≡ 0
 past_accounts b owners p call past =
-    let none : account_of b (called_account call) ≡ no_account = get_or_past b.accounts (called_account call) no_account past in
+    let none : account_of b (first_account call) ≡ no_account = get_or_past b.accounts (first_account call) no_account past in
     sym (at_account b owners p call) ∙ ap (λ (t : AccountTerms). one_if (is_shared_by owners t && is_owner_kind (kind_of b p call))) none
 
 abbrev one_of : BookTerms → List ℕ → ℕ → Call → ℕ → ℕ
 one_of b owners p call a = count_if (is_shared_by owners (account_of b a)) (one_if (is_by_owner_of a b p call))
 
 over_call : (b : BookTerms) (owners : List ℕ) (p : ℕ) (call : Call) → over (length b.accounts) (one_of b owners p call) ≡ one_if (is_agreed_by owners b p call)
-over_call b owners p call = by_place (let split : (called_account call < length b.accounts) ⊎ (length b.accounts ≤ called_account call) = grind arith in split)
+over_call b owners p call = by_place (let split : (first_account call < length b.accounts) ⊎ (length b.accounts ≤ first_account call) = grind arith in split)
   where
-    others : (a : ℕ) → a ≢ called_account call → one_of b owners p call a ≡ 0
-    others a other = elsewhere (is_shared_by owners (account_of b a)) (is_owner_kind (kind_of b p call)) (called_account call) a other
+    others : (a : ℕ) → a ≢ first_account call → one_of b owners p call a ≡ 0
+    others a other = elsewhere (is_shared_by owners (account_of b a)) (is_owner_kind (kind_of b p call)) (first_account call) a other
 
-    by_place : (called_account call < length b.accounts) ⊎ (length b.accounts ≤ called_account call) → over (length b.accounts) (one_of b owners p call) ≡ one_if (is_agreed_by owners b p call)
+    by_place : (first_account call < length b.accounts) ⊎ (length b.accounts ≤ first_account call) → over (length b.accounts) (one_of b owners p call) ≡ one_if (is_agreed_by owners b p call)
     by_place (inl within) =
-        over-one (length b.accounts) (called_account call) (one_of b owners p call) within others
-        ∙ here (is_shared_by owners (account_of b (called_account call))) (is_owner_kind (kind_of b p call)) (called_account call)
+        over-one (length b.accounts) (first_account call) (one_of b owners p call) within others
+        ∙ here (is_shared_by owners (account_of b (first_account call))) (is_owner_kind (kind_of b p call)) (first_account call)
         ∙ at_account b owners p call
     by_place (inr past) =
         over-none (length b.accounts) (one_of b owners p call) (λ a below. others a (omega arith)) ∙ sym (past_accounts b owners p call past)

@@ -5,10 +5,11 @@ use Rattle.std.specs.Ordering.{nat_cmp, ordering_then}
 use Rattle.std.specs.Cmp.Lexicographic.{slice_cmp}
 use Rattle.std.specs.BTreeSet.{insert_key}
 use Rattle.std.specs.List.Sorted.{IsStrictlySortedBy}
+use Rattle.at_ledger.specs.Call.{first_account}
 use Rattle.at_ledger.specs.Account.{AccountTerms}
 use Rattle.at_ledger.specs.Book.{BookTerms, account_of}
 use Rattle.at_ledger.specs.declared.call.Call.{Call}
-use Rattle.at_kinds.specs.Kinds.{called_account, count_in, is_agreed_kind, kind_of}
+use Rattle.at_kinds.specs.Kinds.{count_in, is_agreed_kind, kind_of}
 
 -- a set of owners, and how many payments they have to agree on
 pub record GroupTerms : Type 0 where
@@ -17,7 +18,7 @@ pub record GroupTerms : Type 0 where
 
 -- the process's call is a payment that just these owners have to agree on
 abbrev pub is_agreed_by : List ℕ → BookTerms → ℕ → Call → Bool
-is_agreed_by owners b process call = is_agreed_kind (kind_of b process call) && bytes_eq (account_of b (called_account call)).owners owners
+is_agreed_by owners b process call = is_agreed_kind (kind_of b process call) && bytes_eq (account_of b (first_account call)).owners owners
 
 -- the owners of an account, and how many payments of the files they have to agree on
 abbrev pub group_of_owners : BookTerms → List (List Call) → AccountTerms → GroupTerms

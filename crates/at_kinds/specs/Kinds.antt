@@ -3,16 +3,11 @@ use Rattle.std.specs.Prelude.{ℕ, ◌==◌, Bool, true, false, ◌&&◌, List, 
 use Rattle.std.specs.List.{range_with_len}
 use Rattle.at_ledger.specs.Account.{AccountTerms, is_owner_in, is_shared}
 use Rattle.at_ledger.specs.Book.{BookTerms, account_of}
+use Rattle.at_ledger.specs.Call.{first_account}
 use Rattle.at_ledger.specs.declared.call.Call.{Call}
 use Rattle.at_ledger.specs.declared.call.Call.TheVariants.{Transfer, Read, Pay}
 use Rattle.at_kinds.specs.declared.kind.Kind.{Kind}
 use Rattle.at_kinds.specs.declared.kind.Kind.TheVariants as kinds
-
--- the account that a call pays from or reads
-abbrev pub called_account : Call → ℕ
-called_account (Transfer from to amount) = from
-called_account (Read account) = account
-called_account (Pay from targets) = from
 
 -- the kind of a payment from the account
 abbrev pub payment_kind : AccountTerms → ℕ → Kind
@@ -65,7 +60,7 @@ has_kind test b process call = test (kind_of b process call)
 
 -- the process's call is a payment from the account by an owner
 abbrev pub is_by_owner_of : ℕ → BookTerms → ℕ → Call → Bool
-is_by_owner_of account b process call = is_owner_kind (kind_of b process call) && (called_account call == account)
+is_by_owner_of account b process call = is_owner_kind (kind_of b process call) && (first_account call == account)
 
 -- how many calls of the file of a process pass the test
 abbrev pub count_in_file : (ℕ → Call → Bool) → List (List Call) → ℕ → ℕ

@@ -5,7 +5,7 @@ ghost use Rattle.at_files.specs.Files.{IsPlayable, contents_of};
 ghost use Rattle.at_ledger.specs.Call.{IsCallOn};
 ghost use Rattle.at_kinds.specs.Counting.{AreCounted, AreCounts, HasRoomToCount};
 
-use crate::kind::{Kind, called_account, kind_of};
+use crate::kind::{Kind, kind_of};
 use at_ledger::{Book, Call, NoMemory};
 use std::alloc::Global;
 
@@ -39,11 +39,11 @@ fn add(counts: &mut Counts, book: &Book, process: u32, call: &Call)
         Kind::Refused => counts.refused += 1,
         Kind::Alone => {
             counts.alone += 1;
-            add_by_owner(&mut counts.by_owners, called_account(call));
+            add_by_owner(&mut counts.by_owners, call.first_account());
         }
         Kind::Agreed => {
             counts.agreed += 1;
-            add_by_owner(&mut counts.by_owners, called_account(call));
+            add_by_owner(&mut counts.by_owners, call.first_account());
         }
     }
 }

@@ -3,7 +3,7 @@
 ghost use Rattle.std.specs.Prelude.{◌≡◌, ◌<◌, length};
 ghost use Rattle.at_ledger.specs.Book.{account_of};
 ghost use Rattle.at_ledger.specs.Call.{IsCallOn};
-ghost use Rattle.at_kinds.specs.Kinds.{called_account, kind_of, payment_kind};
+ghost use Rattle.at_kinds.specs.Kinds.{kind_of, payment_kind};
 
 use at_ledger::{Book, Call};
 
@@ -18,17 +18,6 @@ pub enum Kind {
     Alone,
     /// A payment by one of two or more owners of the source.
     Agreed,
-}
-
-/// The account that a call pays from or reads.
-pub fn called_account(call: &Call) -> u32
-    ensures { result ≡ called_account call.now }
-{
-    match call {
-        Call::Transfer { from, .. } => *from,
-        Call::Read { account } => *account,
-        Call::Pay { from, .. } => *from,
-    }
 }
 
 /// The kind of a payment from the account.
@@ -52,8 +41,9 @@ pub fn kind_of(book: &Book, process: u32, call: &Call) -> Kind
     ensures { result ≡ kind_of book.now process call.now }
 {
     match call {
-        Call::Transfer { from, .. } => payment_kind(book, process, *from),
         Call::Read { .. } => Kind::Read,
-        Call::Pay { from, .. } => payment_kind(book, process, *from),
+        Call::Transfer { .. } | Call::Pay { .. } => {
+            payment_kind(book, process, call.first_account())
+        }
     }
 }

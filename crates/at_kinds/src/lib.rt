@@ -7,6 +7,6 @@ mod groups;
 mod kind;
 mod text;
 
-pub use crate::kind::{Kind, called_account, kind_of};
+pub use crate::kind::{Kind, kind_of};
 pub use crate::text::kinds;
 pub use at_base::NoMemory;

@@ -3,7 +3,7 @@ use Rattle.std.specs.Prelude.{◌≡◌, ℕ, ◌<◌, Bool, true, false, ◌&&�
 use Rattle.at_base.specs.declared.decision.Decision.{Decision}
 use Rattle.at_ledger.specs.Account.{is_shared, is_single, slot_in}
 use Rattle.at_ledger.specs.Book.{BookTerms, account_of, is_owner}
-use Rattle.at_ledger.specs.Call.{TargetPair, amount_of}
+use Rattle.at_ledger.specs.Call.{TargetPair, amount_of, payout_of}
 use Rattle.at_ledger.specs.declared.call.Call.TheVariants.{Read}
 use Rattle.at_ledger.specs.declared.call.Reply.TheVariants.{Done, Short, NotOwner, Full, Balance}
 use Rattle.at_history.specs.declared.publication.Entry.{Entry}
@@ -15,7 +15,7 @@ use Rattle.at_history.specs.Fronts.{IsFront, prefix_of}
 use Rattle.at_history.specs.Publications.{count_of, publications_of}
 use Rattle.at_log.specs.declared.receipt.At.{At}
 use Rattle.at_log.specs.declared.receipt.Receipt.{Receipt}
-use Rattle.at_log.specs.Receipts.{asks_in, owns_in, payout_of}
+use Rattle.at_log.specs.Receipts.{asks_in, owns_in}
 
 -- after these receipts an owner has used up its room at the source
 abbrev pub has_no_room : BookTerms → ℕ → List Receipt → Bool

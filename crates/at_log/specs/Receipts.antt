@@ -1,7 +1,6 @@
 -- What receipts say together.
-use Rattle.std.specs.Prelude.{ℕ, Bool, true, false, ◌&&◌, ◌==◌, List, [], ◌∷◌, count_by, map, slice_index_or, Option, Some, None, Vec}
+use Rattle.std.specs.Prelude.{ℕ, Bool, true, false, ◌&&◌, ◌==◌, List, [], ◌∷◌, count_by, map, slice_index_or, Vec}
 use Rattle.std.specs.Global.{Global}
-use Rattle.at_ledger.specs.Call.{TargetPair}
 use Rattle.at_ledger.specs.declared.call.Call.{Call}
 use Rattle.at_ledger.specs.declared.call.Call.TheVariants.{Transfer, Read, Pay}
 use Rattle.at_ledger.specs.declared.call.Reply.{Reply}
@@ -9,12 +8,6 @@ use Rattle.at_ledger.specs.declared.call.Reply.TheVariants.{Done, Short, NotOwne
 use Rattle.at_log.specs.declared.receipt.At.{At}
 use Rattle.at_log.specs.declared.receipt.At.TheVariants.{Front, Own, Round, Previous}
 use Rattle.at_log.specs.declared.receipt.Receipt.{Receipt}
-
--- the source and the targets of a pay-out: a transfer is the pay-out with its one target
-abbrev pub payout_of : Call → Option (ℕ × List TargetPair)
-payout_of (Transfer from to amount) = Some (from, (to, amount) ∷ [])
-payout_of (Read account) = None
-payout_of (Pay from targets) = Some (from, targets)
 
 -- whether the call is a pay-out from this account
 abbrev pub is_payout_from : ℕ → Call → Bool

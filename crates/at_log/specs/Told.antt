@@ -1,9 +1,9 @@
 -- Lists of receipts that account for all that a process has in a list of publications.
 use Rattle.std.specs.Prelude.{◌≡◌, ℕ, ◌+◌, ◌-◌, ◌*◌, ◌<◌, Bool, ◌==◌, List, [], ◌∷◌, length, take, if◌then◌else◌}
 use Rattle.std.specs.List.Sorted.{IsNonDecreasing}
+use Rattle.at_ledger.specs.Call.{first_account}
 use Rattle.at_ledger.specs.Book.{BookTerms}
 use Rattle.at_ledger.specs.declared.call.Call.{Call}
-use Rattle.at_ledger.specs.declared.call.Call.TheVariants.{Transfer, Read, Pay}
 use Rattle.at_history.specs.declared.publication.Publication.{Publication}
 use Rattle.at_history.specs.Entries.{is_round}
 use Rattle.at_history.specs.Fronts.{place}
@@ -14,12 +14,6 @@ use Rattle.at_log.specs.declared.receipt.At.TheVariants.{Front, Own, Round, Prev
 use Rattle.at_log.specs.declared.receipt.Receipt.{Receipt}
 use Rattle.at_log.specs.Placed.{IsPlaced}
 use Rattle.at_log.specs.Receipts.{asks_in, is_success, owns_in, receipt_at}
-
--- the account that a call names first: the source of a pay-out
-abbrev pub first_account : Call → ℕ
-first_account (Transfer from to amount) = from
-first_account (Read account) = account
-first_account (Pay from targets) = from
 
 -- where the publication of a number of a process stands
 unfoldable pub own_position : ℕ → ℕ → List Publication → ℕ

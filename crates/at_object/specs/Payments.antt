@@ -2,7 +2,7 @@
 use Rattle.std.specs.Prelude.{◌≡◌, ℕ, ◌+◌, ◌*◌, ◌⊎◌, ◌&&◌, ◌||◌, ◌==◌, Bool, List, take, Option, Some, None, if◌then◌else◌, refl}
 use Rattle.at_ledger.specs.Account.{is_shared, is_single, slots_of}
 use Rattle.at_ledger.specs.Book.{BookTerms, account_of, is_owner}
-use Rattle.at_ledger.specs.Call.{TargetPair}
+use Rattle.at_ledger.specs.Call.{TargetPair, first_account}
 use Rattle.at_ledger.specs.declared.call.Call.{Call}
 use Rattle.at_ledger.specs.declared.call.Reply.{Reply}
 use Rattle.at_ledger.specs.declared.call.Reply.TheVariants.{Done, Short, NotOwner, Full, Balance}
@@ -10,7 +10,7 @@ use Rattle.at_history.specs.Fronts.{place}
 use Rattle.at_history.specs.declared.publication.Publication.{Publication}
 use Rattle.at_board.specs.declared.words.TheConstants.{RECORD_WORDS}
 use Rattle.at_log.specs.Receipts.{is_success}
-use Rattle.at_log.specs.Told.{first_account, own_position, round_position}
+use Rattle.at_log.specs.Told.{own_position, round_position}
 use Rattle.at_log.specs.declared.receipt.At.{At}
 use Rattle.at_log.specs.declared.receipt.At.TheVariants.{Front, Own, Round, Previous}
 use Rattle.at_log.specs.declared.receipt.Receipt.{Receipt}

@@ -1,11 +1,10 @@
 //! Passes: the right of one process to make calls.
 
-ghost use Rattle.std.specs.Prelude.{◌≡◌, ◌<◌, ◌^◌, ℕ, length, sum};
+ghost use Rattle.std.specs.Prelude.{◌≡◌, ◌<◌, ◌^◌, ℕ, length};
 ghost use Rattle.at_history.specs.Rounds.{named};
 ghost use Rattle.at_ledger.specs.Book.{HasSlot};
 ghost use Rattle.at_object.specs.Passes.{asked_by, others_counted, sent_by};
 
-use at_base::Counts;
 use at_board::BoardSeat;
 use at_fold::Totals;
 use std::marker::Model;
@@ -89,7 +88,7 @@ impl Pass {
         ensures small { result < 2 ^ 37 }
     {
         self.seat.known();
-        total_of(&self.totals.upto()) - u64::from(self.totals.counted(self.seat.process()))
+        self.totals.upto().total() - u64::from(self.totals.counted(self.seat.process()))
     }
 
     /// How many calls of `transfer`, `pay` and `read` were made with the pass. At the largest count it stays.
@@ -98,15 +97,4 @@ impl Pass {
     {
         self.calls
     }
-}
-
-fn total_of(counts: &Counts) -> u64
-    ensures total { result ≡ sum counts.now }
-    ensures small { result < 2 ^ 37 }
-{
-    let mut total = 0;
-    for p in 0..counts.len() {
-        total += u64::from(counts.get(p));
-    }
-    total
 }

@@ -54,12 +54,9 @@ impl Stage {
         requires call_in { IsCallOn (length book.now.accounts) call.now }
         ensures { result ≡ (step (ledger_at book.now self.now) process call.now).reply }
     {
-        match call {
-            Call::Transfer { from, to, amount } => {
-                self.reply_to_pay(book, process, *from, &Targets::one(*to, *amount))
-            }
-            Call::Read { account } => Reply::Balance(self.balances[*account as usize]),
-            Call::Pay { from, targets } => self.reply_to_pay(book, process, *from, targets),
+        match call.payout() {
+            Some((from, targets)) => self.reply_to_pay(book, process, from, &targets),
+            None => Reply::Balance(self.balances[call.first_account() as usize]),
         }
     }
 
@@ -82,12 +79,8 @@ impl Stage {
     {
         let mut stage = self.copy(alloc)?;
         stage.made[process as usize] += 1;
-        match call {
-            Call::Transfer { from, to, amount } => {
-                stage.pay(book, process, *from, &Targets::one(*to, *amount));
-            }
-            Call::Read { .. } => {}
-            Call::Pay { from, targets } => stage.pay(book, process, *from, targets),
+        if let Some((from, targets)) = call.payout() {
+            stage.pay(book, process, from, &targets);
         }
         Ok(stage)
     }

@@ -3,7 +3,7 @@ use Rattle.std.proofs.Common.{◌≡◌, ◌≢◌, ℕ, ◌+◌, ◌*◌, ◌�
 use Rattle.std.proofs.lemmas.Bool.{cases_eq}
 use Rattle.std.proofs.lemmas.List.{length-take}
 use Rattle.at_ledger.specs.Book.{BookTerms, HasSlot}
-use Rattle.at_ledger.specs.Call.{TargetPair}
+use Rattle.at_ledger.specs.Call.{TargetPair, payout_of}
 use Rattle.at_history.proofs.Laws.Prefixes.{IsPrefix-length}
 use Rattle.at_history.proofs.Laws.Rounds.{one_if}
 use Rattle.at_history.specs.Fronts.{place, prefix_of}
@@ -12,7 +12,7 @@ use Rattle.at_history.specs.Publications.{IsPrefix}
 use Rattle.at_history.specs.Rounds.{named, owns_of}
 use Rattle.at_history.specs.declared.publication.Publication.{Publication}
 use Rattle.at_log.specs.Placed.{IsPlaced}
-use Rattle.at_log.specs.Receipts.{asks_in, is_at_own, is_at_round, payout_of}
+use Rattle.at_log.specs.Receipts.{asks_in, is_at_own, is_at_round}
 use Rattle.at_log.specs.Told.{Told, key_of}
 use Rattle.at_log.specs.declared.receipt.At.TheVariants.{Previous}
 use Rattle.at_log.specs.declared.receipt.Receipt.{Receipt}

@@ -5,7 +5,7 @@ use Rattle.std.proofs.lemmas.List.{take_all}
 use Rattle.std.proofs.lemmas.List.Sums.{sum_by_push}
 use Rattle.std.specs.List.{sum_by}
 use Rattle.at_ledger.specs.Book.{BookTerms}
-use Rattle.at_ledger.specs.Call.{TargetPair}
+use Rattle.at_ledger.specs.Call.{TargetPair, payout_of}
 use Rattle.at_history.proofs.Laws.Counts.{count_of-push_own}
 use Rattle.at_history.proofs.Laws.Prefixes.{IsPrefix-length, take-IsPrefix}
 use Rattle.at_history.proofs.Laws.Rounds.{one_if, owns_of-IsPrefix, sum_by-firsts-take_mono, sum_by-firsts_nothing}
@@ -18,7 +18,7 @@ use Rattle.at_history.specs.declared.publication.Entry.{Entry}
 use Rattle.at_history.specs.declared.publication.Entry.TheVariants.{Own, Round}
 use Rattle.at_history.specs.declared.publication.Publication.{Publication}
 use Rattle.at_log.proofs.Laws.Replies.{is_payout_from-payout}
-use Rattle.at_log.specs.Receipts.{asks_in, is_at_own, is_at_round, is_payout_from, owns_in, payout_of}
+use Rattle.at_log.specs.Receipts.{asks_in, is_at_own, is_at_round, is_payout_from, owns_in}
 use Rattle.at_log.specs.declared.receipt.Receipt.{Receipt}
 
 -- own records

@@ -5,7 +5,7 @@ use Rattle.std.proofs.lemmas.List.{get_or_append_left, take-append-le}
 use Rattle.std.proofs.lemmas.List.Elements.{All-cons}
 use Rattle.std.specs.List.{All, count_by}
 use Rattle.at_ledger.specs.Book.{BookTerms}
-use Rattle.at_ledger.specs.Call.{TargetPair}
+use Rattle.at_ledger.specs.Call.{TargetPair, first_account}
 use Rattle.at_history.proofs.Laws.Counts.{position-below, publications_of-append}
 use Rattle.at_history.proofs.Laws.Fronts.{IsFront-IsPrefix, place-IsFront-le, prefix_of-IsPrefix}
 use Rattle.at_history.proofs.Laws.Histories.{ArePublishedBy-IsHistory}
@@ -20,7 +20,7 @@ use Rattle.at_log.proofs.Laws.Positions.{IsOwnAt, own_position-at, round_positio
 use Rattle.at_log.proofs.Laws.Replies.{first_account-payout}
 use Rattle.at_log.specs.Placed.{IsAtFront, IsAtOwn, IsAtRound, IsPlaced, read, not_owner, full, short, done, round}
 use Rattle.at_log.specs.Receipts.{is_success, receipt_at}
-use Rattle.at_log.specs.Told.{first_account, key_at, key_of, keys_from, keys_of, own_position, round_position}
+use Rattle.at_log.specs.Told.{key_at, key_of, keys_from, keys_of, own_position, round_position}
 use Rattle.at_log.specs.declared.receipt.Receipt.{Receipt}
 
 -- a record of a list stands at its place in a longer one

@@ -3,7 +3,7 @@ use Rattle.std.proofs.Common.{◌≡◌, ◌≢◌, ℕ, ◌+◌, ◌<◌, ◌�
 use Rattle.std.proofs.lemmas.Bool.{cases_eq, cases_lt}
 use Rattle.std.proofs.lemmas.List.{get_or-replicate, get_or_past, length-append, length-replicate}
 use Rattle.at_ledger.specs.Book.{BookTerms, HasSlot}
-use Rattle.at_ledger.specs.Call.{TargetPair}
+use Rattle.at_ledger.specs.Call.{TargetPair, payout_of}
 use Rattle.at_history.proofs.Laws.Counts.{count_of-nil}
 use Rattle.at_history.proofs.Laws.Rounds.{owns_of-IsPrefix}
 use Rattle.at_history.specs.Entries.{is_own}
@@ -19,7 +19,7 @@ use Rattle.at_board.specs.Knowledge.Seats.{IsKept}
 use Rattle.at_board.specs.declared.knowledge.Asking.{Asking}
 use Rattle.at_board.specs.declared.knowledge.Knowledge.{Knowledge}
 use Rattle.at_log.specs.Placed.{IsPlaced}
-use Rattle.at_log.specs.Receipts.{is_at_own, is_at_round, payout_of}
+use Rattle.at_log.specs.Receipts.{is_at_own, is_at_round}
 use Rattle.at_log.specs.Told.{Told}
 use Rattle.at_log.specs.declared.receipt.Receipt.{Receipt}
 use Rattle.at_closing.proofs.Laws.Calls.{StandsBehind, Told-own, Told-round, Told-still}

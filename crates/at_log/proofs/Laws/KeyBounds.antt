@@ -20,7 +20,8 @@ use Rattle.at_log.specs.Coherent.{Coherent}
 use Rattle.at_log.specs.JournalOrder.{journal_order, line_key}
 use Rattle.at_log.specs.Placed.{IsPlaced, read, not_owner, full, short, done, round}
 use Rattle.at_log.specs.Receipts.{is_success, receipt_at}
-use Rattle.at_log.specs.Told.{first_account, key_at, key_of, round_position}
+use Rattle.at_ledger.specs.Call.{first_account}
+use Rattle.at_log.specs.Told.{key_at, key_of, round_position}
 
 -- a front of the order is of some of its publications
 front-le : (b : BookTerms) (c : ClosingTerms) (view : List ℕ) → Coherent b c → IsFront b.processes view (journal_order c) → place view ≤ length (journal_order c)

@@ -9,7 +9,8 @@ use Rattle.at_log.specs.ClosingTerms.{ClosingTerms, receipts_of}
 use Rattle.at_log.specs.Coherent.{Coherent}
 use Rattle.at_log.specs.JournalOrder.{journal_order, line_key}
 use Rattle.at_log.specs.Receipts.{receipt_at}
-use Rattle.at_log.specs.Told.{first_account, key_at, key_of, keys_of, round_position, keys_from, own_position}
+use Rattle.at_ledger.specs.Call.{first_account}
+use Rattle.at_log.specs.Told.{key_at, key_of, keys_of, round_position, keys_from, own_position}
 use Rattle.at_log.specs.declared.receipt.At.{At}
 use Rattle.at_log.specs.declared.receipt.At.TheVariants.{Front, Own, Round, Previous}
 use Rattle.at_log.specs.declared.receipt.Receipt.{Receipt}

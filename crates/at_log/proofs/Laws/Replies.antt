@@ -4,13 +4,12 @@ use Rattle.std.specs.Prelude.{Some}
 use Rattle.std.proofs.lemmas.Bool.{lt-ltb}
 use Rattle.at_ledger.specs.Account.{is_shared}
 use Rattle.at_ledger.specs.Book.{account_of, is_owner}
-use Rattle.at_ledger.specs.Call.{TargetPair, amount_of}
+use Rattle.at_ledger.specs.Call.{TargetPair, amount_of, first_account, payout_of}
 use Rattle.at_ledger.specs.State.{LedgerState, Step, after_done, after_short, balance_of, is_full, pay, step, with_asked}
 use Rattle.at_ledger.specs.declared.call.Call.{Call}
 use Rattle.at_ledger.specs.declared.call.Call.TheVariants.{Transfer, Read, Pay}
 use Rattle.at_ledger.specs.declared.call.Reply.TheVariants.{Done, Full, NotOwner, Short}
-use Rattle.at_log.specs.Receipts.{is_payout_from, payout_of}
-use Rattle.at_log.specs.Told.{first_account}
+use Rattle.at_log.specs.Receipts.{is_payout_from}
 
 -- a pay-out has one source and one list of targets
 pub same_payout : (x y : ℕ × List TargetPair) → Some x ≡ Some y → x ≡ y

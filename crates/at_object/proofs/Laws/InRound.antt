@@ -4,7 +4,7 @@ use Rattle.std.proofs.lemmas.Bool.{cases_Bool, cases_eq, cases_lt, eq-eqb}
 use Rattle.std.specs.Prelude.{slice_index}
 use Rattle.at_base.specs.declared.decision.Decision.{Decision}
 use Rattle.at_ledger.specs.Book.{BookTerms, HasSlot}
-use Rattle.at_ledger.specs.Call.{TargetPair, amount_of}
+use Rattle.at_ledger.specs.Call.{TargetPair, amount_of, payout_of}
 use Rattle.at_ledger.specs.declared.call.Call.{Call}
 use Rattle.at_ledger.specs.declared.call.Call.TheVariants.{Pay}
 use Rattle.at_ledger.specs.declared.call.Reply.TheVariants.{Done, Short}
@@ -26,7 +26,7 @@ use Rattle.at_fold.specs.Sums.{TotalSums}
 use Rattle.at_log.proofs.Laws.Replies.{first_account-payout, same_payout}
 use Rattle.at_log.specs.Placed.{IsAtRound, IsPlaced}
 use Rattle.at_log.specs.Placed.IsPlaced.{done, full, not_owner, read, round, short}
-use Rattle.at_log.specs.Receipts.{asks_in, is_at_own, is_at_round, is_success, payout_of}
+use Rattle.at_log.specs.Receipts.{asks_in, is_at_own, is_at_round, is_success}
 use Rattle.at_log.specs.Told.{Told, key_of, round_position}
 use Rattle.at_log.specs.declared.receipt.At.TheVariants.{Front, Own, Round, Previous}
 use Rattle.at_log.specs.declared.receipt.Receipt.{Receipt}

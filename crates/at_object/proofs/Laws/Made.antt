@@ -4,7 +4,7 @@ use Rattle.std.proofs.lemmas.Bool.{cases_Bool}
 use Rattle.std.specs.Prelude.{slice_index, sum}
 use Rattle.at_ledger.specs.Account.{is_shared, is_single}
 use Rattle.at_ledger.specs.Book.{BookTerms, HasSlot, account_of, is_owner}
-use Rattle.at_ledger.specs.Call.{TargetPair}
+use Rattle.at_ledger.specs.Call.{TargetPair, payout_of}
 use Rattle.at_ledger.specs.declared.call.Call.{Call}
 use Rattle.at_ledger.specs.declared.call.Reply.{Reply}
 use Rattle.at_ledger.specs.declared.call.Reply.TheVariants.{Done, Short, Full, NotOwner}
@@ -25,7 +25,7 @@ use Rattle.at_history.proofs.Laws.Prefixes.{IsPrefix-refl}
 use Rattle.at_history.proofs.Laws.Rounds.{one_if}
 use Rattle.at_log.specs.Placed.{IsPlaced, has_no_room}
 use Rattle.at_log.specs.Placed.IsPlaced.{full, not_owner}
-use Rattle.at_log.specs.Receipts.{asks_in, is_at_own, is_at_round, owns_in, payout_of}
+use Rattle.at_log.specs.Receipts.{asks_in, is_at_own, is_at_round, owns_in}
 use Rattle.at_log.specs.Told.{Told}
 use Rattle.at_log.specs.declared.receipt.At.TheVariants.{Previous}
 use Rattle.at_log.specs.declared.receipt.Receipt.{Receipt}

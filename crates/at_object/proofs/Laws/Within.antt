@@ -2,15 +2,13 @@
 use Rattle.std.proofs.Common.{◌≡◌, ◌≢◌, ℕ, ◌+◌, ◌*◌, ◌<◌, ◌≤◌, false, List, [], ◌∷◌, zero, suc, Some, sym, ap, subst, ◌∙◌, arith, inl, inr}
 use Rattle.at_ledger.specs.Account.{is_shared, slots_of}
 use Rattle.at_ledger.specs.Book.{BookTerms, account_of}
-use Rattle.at_ledger.specs.Call.{AreTargetsOn, TargetPair}
+use Rattle.at_ledger.specs.Call.{AreTargetsOn, TargetPair, first_account, payout_of}
 use Rattle.at_ledger.specs.declared.call.Call.{Call}
 use Rattle.at_ledger.specs.declared.call.Call.TheVariants.{Transfer, Read, Pay}
 use Rattle.at_ledger.specs.declared.call.Reply.TheVariants.{Balance, Full, NotOwner}
 use Rattle.at_board.specs.Counting.{raised}
 use Rattle.at_board.specs.declared.words.TheConstants.{RECORD_WORDS}
 use Rattle.at_log.proofs.Laws.Replies.{first_account-payout}
-use Rattle.at_log.specs.Receipts.{payout_of}
-use Rattle.at_log.specs.Told.{first_account}
 use Rattle.at_log.specs.declared.receipt.Receipt.{Receipt}
 use Rattle.at_object.specs.Calls.{PaymentMade, StaysWithin, call_steps, may_exchange}
 use Rattle.at_object.specs.Passes.{PassTerms, counted_anew}

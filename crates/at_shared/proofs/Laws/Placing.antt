@@ -6,7 +6,7 @@ use Rattle.std.proofs.lemmas.List.Folds.{list_any-from_Any}
 use Rattle.at_base.specs.declared.decision.Decision.{Decision}
 use Rattle.at_ledger.specs.Account.{AccountTerms, is_shared}
 use Rattle.at_ledger.specs.Book.{BookTerms, HasSlot, account_of, is_owner}
-use Rattle.at_ledger.specs.Call.{TargetPair}
+use Rattle.at_ledger.specs.Call.{TargetPair, first_account}
 use Rattle.at_ledger.specs.declared.call.Reply.{Reply}
 use Rattle.at_ledger.specs.declared.call.Reply.TheVariants.{Done, Short}
 use Rattle.at_history.proofs.Laws.Runs.{is_single-shared}
@@ -27,7 +27,7 @@ use Rattle.at_log.proofs.Laws.Positions.{round_position-at}
 use Rattle.at_log.proofs.Laws.Replies.{first_account-payout}
 use Rattle.at_log.specs.Placed.{IsPlaced, has_no_room, round}
 use Rattle.at_log.specs.Receipts.{asks_in, is_success, owns_in}
-use Rattle.at_log.specs.Told.{first_account, key_at, round_position}
+use Rattle.at_log.specs.Told.{key_at, round_position}
 use Rattle.at_log.specs.declared.receipt.At.{At}
 use Rattle.at_log.specs.declared.receipt.Receipt.{Receipt}
 use Rattle.at_rows.specs.OpenRequests.{request_of}

@@ -5,7 +5,7 @@ use Rattle.std.specs.List.{count_by}
 use Rattle.std.specs.Prelude.{nat_le}
 use Rattle.at_ledger.specs.Account.{AccountTerms, is_shared, is_single}
 use Rattle.at_ledger.specs.Book.{BookTerms, account_of, is_owner}
-use Rattle.at_ledger.specs.Call.{TargetPair, amount_of}
+use Rattle.at_ledger.specs.Call.{TargetPair, amount_of, payout_of}
 use Rattle.at_ledger.specs.declared.call.Call.{Call}
 use Rattle.at_ledger.specs.declared.call.Reply.TheVariants.{Done, Short}
 use Rattle.at_history.proofs.Laws.Fronts.{place-IsFront-le}
@@ -25,7 +25,7 @@ use Rattle.at_board.specs.Knowledge.Parts.{own_part}
 use Rattle.at_board.specs.declared.knowledge.Knowledge.{Knowledge}
 use Rattle.at_log.specs.Appending.{MayAppend}
 use Rattle.at_log.specs.Placed.{IsPlaced, has_no_room, short, done}
-use Rattle.at_log.specs.Receipts.{asks_in, owns_in, payout_of}
+use Rattle.at_log.specs.Receipts.{asks_in, owns_in}
 use Rattle.at_log.specs.declared.receipt.At.TheVariants.{Front, Own}
 use Rattle.at_log.specs.declared.receipt.Receipt.{Receipt}
 use Rattle.at_single.proofs.Laws.Looks.{first-HasLoaded}

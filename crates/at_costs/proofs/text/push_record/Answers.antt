@@ -1,6 +1,7 @@
 use Rattle.std.proofs.Common.{[], ◌∷◌, decimal}
+use Rattle.at_ledger.specs.Call.{first_account}
 use Rattle.at_files.specs.Names.{account_name}
-use Rattle.at_kinds.specs.Kinds.{called_account, kind_of}
+use Rattle.at_kinds.specs.Kinds.{kind_of}
 use Rattle.at_report.specs.Lines.{Words, reply_word}
 use Rattle.at_costs.specs.Bounds.{most_exchanges, most_steps}
 use Rattle.at_costs.specs.CostsText.{call_word, kind_word}
@@ -12,7 +13,7 @@ returns c =
     let b = c.args.book.now in
     let r = c.args.receipt.now in
     let cost = c.args.cost.now in
-    let called : Words = call_word r.call ∷ account_name c.args.names.now (called_account r.call) ∷ kind_word (kind_of b c.args.process r.call) ∷ reply_word r.reply ∷ [] in
+    let called : Words = call_word r.call ∷ account_name c.args.names.now (first_account r.call) ∷ kind_word (kind_of b c.args.process r.call) ∷ reply_word r.reply ∷ [] in
     let costs : Words =
     decimal cost.steps ∷ decimal cost.exchanges ∷ decimal cost.new_records ∷ decimal (most_steps b r cost.new_records) ∷ decimal (most_exchanges b r) ∷ [] in
     rw (c.in_ok-push.ensures.items, c.in_ok-push_cost.ensures, c.in_ok-push_call.ensures, c.in_ok-push_number_field.ensures, c.in_ok-extend_from_slice.ensures.items, c.process.ensures.name)

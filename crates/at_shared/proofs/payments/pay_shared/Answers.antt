@@ -6,7 +6,8 @@ use Rattle.at_history.proofs.Laws.Prefixes.{IsPrefix-trans}
 use Rattle.at_history.specs.Rounds.{is_settled, rounds}
 use Rattle.at_board.specs.Knowledge.Parts.{own_part}
 use Rattle.at_board.specs.declared.knowledge.Knowledge.{Knowledge}
-use Rattle.at_log.specs.Receipts.{asks_in, payout_of}
+use Rattle.at_ledger.specs.Call.{payout_of}
+use Rattle.at_log.specs.Receipts.{asks_in}
 use Rattle.at_log.specs.declared.receipt.Receipt.{Receipt}
 use Rattle.at_rows.proofs.Laws.Accounts.{HasAccount, HasAccount-IsSeat}
 use Rattle.at_rows.specs.OpenRequests.{request_of}

@@ -7,7 +7,7 @@ use Rattle.at_board.specs.Knowledge.Seats.{BoardTerms}
 use Rattle.at_board.specs.Knowledge.Parts.{asking_on, own_part}
 use Rattle.at_board.specs.declared.knowledge.Asking.{Asking}
 use Rattle.at_board.specs.declared.knowledge.Knowledge.{Knowledge}
-use Rattle.at_log.specs.Receipts.{payout_of}
+use Rattle.at_ledger.specs.Call.{payout_of}
 use Rattle.at_log.specs.declared.receipt.Receipt.{Receipt}
 use Rattle.at_object.proofs.Laws.Alone.{IsPass-alone, asking-alone}
 use Rattle.at_object.proofs.Laws.Made.{PaymentMade-alone, others-le, seated_pass}
