@@ -1,3 +1,6 @@
+pub mod Machines
+pub mod ObjectCalls
+pub mod Players
 pub mod SmallFold
 pub mod SmallScan
 pub mod SmallShared
