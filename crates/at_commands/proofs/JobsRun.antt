@@ -1,5 +1,5 @@
 -- Jobs that were run: their passes are accounted for by their receipts, which are of the calls of the jobs.
-use Rattle.std.proofs.Common.{◌≡◌, ℕ, ◌^◌, ◌<◌, All, List, [], ◌∷◌, length, get_or, map, refl, sym, ap, subst, ◌∙◌, arith, Result, Ok, Err, Vec}
+use Rattle.std.proofs.Common.{◌≡◌, ℕ, ◌^◌, ◌<◌, All, List, [], ◌∷◌, length, get_or, map, refl, sym, ap, subst, ◌∙◌, arith, Result, Ok, Err, None, Vec}
 use Rattle.std.specs.Global.{Global}
 use Rattle.std.specs.declared.alloc.AllocError.{AllocError}
 use Rattle.std.specs.Result.{IfOk}
@@ -47,7 +47,7 @@ AreAccountedFor-ran ledger files before after jobs ran =
       passes_count = length-map after (λ (job : JobTerms). job.pass) ∙ count;
       receipts_count = length-map after (λ (job : JobTerms). job.receipts) ∙ count;
       each = λ p d below.
-          let none : JobTerms = record { pass = d; calls = []; receipts = [] } in
+          let none : JobTerms = record { pass = d; calls = []; receipts = []; costs = None } in
           let within : p < length before = omega (arith, below, jobs.count) in
           let here : p < length after = omega (arith, below, count) in
           let one : Ran ledger (get_or before p none) (get_or after p none) = AllZip-get_or (Ran ledger) before after p none none ran within in

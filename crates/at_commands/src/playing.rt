@@ -52,7 +52,7 @@ fn taken_apart(alloc: Global, jobs: Vec<Job>) -> Result<(Vec<Pass>, Vec<Vec<Rece
     let mut passes = Vec::with_capacity(alloc, jobs.len())?;
     let mut receipts = Vec::with_capacity(alloc, jobs.len())?;
     for job in jobs {
-        let (pass, _calls, list) = job.split();
+        let (pass, list, _costs) = job.split();
         passes.push(pass)?;
         receipts.push(list)?;
     }

@@ -195,7 +195,7 @@ fn are_two_done(receipts: &[Receipt]) -> bool {
 
 /// Whether a job has a payment that was done, and a balance.
 fn has_done(job: Job) -> bool {
-    let (_pass, _calls, receipts) = job.split();
+    let (_pass, receipts, _costs) = job.split();
     are_two_done(receipts.as_slice())
 }
 

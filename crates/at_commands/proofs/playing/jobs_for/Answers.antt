@@ -1,4 +1,4 @@
-use Rattle.std.proofs.Common.{◌≡◌, ◌∙◌, ◌++◌, ◌∷◌, [], List, length, sym, ap, subst, arith, append_assoc, refl, Vec}
+use Rattle.std.proofs.Common.{◌≡◌, ◌∙◌, ◌++◌, ◌∷◌, [], List, length, sym, ap, subst, arith, append_assoc, refl, None, Vec}
 use Rattle.std.specs.Global.{Global}
 use Rattle.std.proofs.lemmas.Grind.{common_steps}
 use Rattle.std.proofs.lemmas.List.{length-map, map-append}
@@ -49,7 +49,7 @@ pub loop-calls-preserved : goal.loop-calls-preserved
 loop-calls-preserved c =
     let jobs = c.loop-calls.jobs.items in
     let kept = c.loop-calls.invariant in
-    let job : JobTerms = record { pass = c.in-Some-next.pass; calls = c.in-Some.calls.items; receipts = [] } in
+    let job : JobTerms = record { pass = c.in-Some-next.pass; calls = c.in-Some.calls.items; receipts = []; costs = None } in
     let more : c.push.new.self.items ≡ jobs ++ job ∷ [] = c.in_ok-push.ensures.items ∙ ap (λ (j : JobTerms). jobs ++ j ∷ []) c.in-Ok.ensures.ok in
     record {
       next = tt;
