@@ -60,7 +60,7 @@ HasCosts-noted earlier r room before after cost has noted same = record {
 
 -- the call `call` was made with a pass that has these receipts of earlier ones, and these calls to come
 module _ (ledger : BoardTerms) (before after : PassTerms) (earlier : List Receipt) (r : Receipt) (calls rest : List Call) (call : Call)
-        (costs costs_now : Option (List CostTerms)) (first : calls ≡ call ∷ rest) (called : IsCalled ledger before after call r) where
+    (costs costs_now : Option (List CostTerms)) (first : calls ≡ call ∷ rest) (called : IsCalled ledger before after call r) where
   abbrev pub job_before : JobTerms
   job_before = record { pass = before; calls = calls_of earlier ++ calls; receipts = earlier; costs = costs }
 

@@ -156,13 +156,7 @@ impl Job {
 }
 
 /// Makes a call, which the gate is told of.
-fn call_told<G: Gate>(
-    ledger: &Ledger,
-    gate: &G,
-    pass: &mut Pass,
-    line: u32,
-    call: Call,
-) -> Receipt
+fn call_told<G: Gate>(ledger: &Ledger, gate: &G, pass: &mut Pass, line: u32, call: Call) -> Receipt
     requires of_ledger { IsPassOf pass.old ledger.now }
     requires accounts { IsCallOn (length ledger.now.book.accounts) call }
     ensures called { IsCalled ledger.now pass.old pass.new call result }

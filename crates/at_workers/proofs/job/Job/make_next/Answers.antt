@@ -31,7 +31,7 @@ invariant_of-self g c =
     subst (λ (t : JobTerms). IsPassOf t.pass c.args.ledger.now) (sym c.self.view_is) c.requires.of_ledger in
     let costs = option_map (λ v. v.items) inside.costs in
     elim c.match-self.branch [
-      in-None w ↦
+      | in-None w ↦
           let capacity = c.push_reserved.ensures.capacity ∙ ap (λ j. vec_capacity j.receipts) w.self-inside-is in
           let none = subst (λ n. IfSome n (HasCosts (inside.receipts.items ++ w.call_told-receipt.result ∷ []) (length (calls_of inside.receipts.items ++ inside.calls.items))))
           (sym w.in-None.is) tt in
@@ -39,7 +39,7 @@ invariant_of-self g c =
           (IsJob-called c.args.ledger.now inside.pass w.call_told-receipt.new.pass inside.receipts.items w.call_told-receipt.result
           inside.calls.items c.pop_front.new.self.items c.in-Some.call costs costs c.in-Some.ensures.items w.call_told-receipt.ensures.called
           inside.costs inside.costs (vec_capacity inside.receipts) (vec_capacity c.push_reserved.new.self) was c.self.invariant capacity none)
-    | in-Some-costs w ↦
+      | in-Some-costs w ↦
           let noted = w.call_noted-receipt in
           let capacity = c.push_reserved.ensures.capacity ∙ ap (λ j. vec_capacity j.receipts) w.self-inside-is in
           let had = rw w.in-Some-costs.is at c.self.invariant.costs_fit in
@@ -69,14 +69,14 @@ returns g c =
       costs = costs;
     }) left =
     elim c.match-self.branch [
-      in-None w ↦
+      | in-None w ↦
           let none = subst (λ n. option_map (λ v. v.items) n ≡ costs_with (cost_of inside.pass w.call_told-receipt.new.pass) (option_map (λ v. v.items) n))
           (sym w.in-None.is) refl in
           rw (c.push_reserved.ensures.items, w.self-inside-is, w.receipt-is)
           (MakesNext-called c.args.ledger.now inside.pass w.call_told-receipt.new.pass inside.receipts.items w.call_told-receipt.result
           inside.calls.items c.pop_front.new.self.items c.in-Some.call costs costs c.in-Some.ensures.items w.call_told-receipt.ensures.called
           c.self.invariant.counted c.self.invariant.few none)
-    | in-Some-costs w ↦
+      | in-Some-costs w ↦
           let noted = w.call_noted-receipt in
           let some = subst (λ n. Some noted.new.costs.items ≡ costs_with (cost_of inside.pass noted.new.pass) (option_map (λ v. v.items) n))
           (sym w.in-Some-costs.is) (ap {A = List CostTerms} Some noted.ensures.noted) in
