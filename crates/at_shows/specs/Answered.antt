@@ -1,5 +1,5 @@
 -- What each command leaves: its contract. What is the same for all commands stands at `show_all`.
-use Rattle.std.specs.Prelude.{◌≡◌, ◌≢◌, ◌⊎◌, ℕ, ⊤, true, List, length, Option, Some, None}
+use Rattle.std.specs.Prelude.{◌≡◌, ◌≢◌, ◌⊎◌, ℕ, true, List, length, Option, Some, None}
 use Rattle.at_commands.specs.Outcome.{Found, Outcome}
 use Rattle.at_commands.specs.Writing.{TookAll, TookPrefix}
 use Rattle.at_loading.specs.Faults.{Answers, HasFileNumbers, IsFaultless, IsWritten, MayRefuse}
