@@ -1,8 +1,9 @@
-# What the scripts of cases over the built program share, which read it first: $1 is the program, crates/at_program/out/at_program
-# where none is named. They run in a new folder, which is removed at the end.
+# What the scripts of cases over the built programs share, which read it first: $1 is the program, crates/at_program/out/at_program
+# where none is named, and $2 the second one, crates/at_showing/out/at_showing. They run in a new folder, which is removed at the end.
 
 root=$(CDPATH='' cd -- "$(dirname -- "$0")/.." && pwd) || exit 2
 program=${1:-$root/crates/at_program/out/at_program}
+showing=${2:-$root/crates/at_showing/out/at_showing}
 examples=$root/examples
 usual=$examples/usual
 work=$(mktemp -d) || exit 2
@@ -13,6 +14,11 @@ failed=0
 
 run() {
     "$program" "$@" >out 2>err
+    status=$?
+}
+
+shows() {
+    "$showing" "$@" >out 2>err
     status=$?
 }
 

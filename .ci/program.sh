@@ -1,8 +1,9 @@
 #!/bin/sh
-# Runs the built program as its users do, and looks at the status and at both streams. It prints a line for each case,
+# Runs the built programs as their users do, and looks at the status and at both streams. It prints a line for each case,
 # and last 'N passed, N failed'.
 #
-#   program.sh [PROGRAM]          the program is crates/at_program/out/at_program where none is named
+#   program.sh [PROGRAM [SECOND]]   the programs are crates/at_program/out/at_program and crates/at_showing/out/at_showing
+#                                   where none are named
 
 . "$(dirname -- "$0")/cases.sh"
 
@@ -434,5 +435,126 @@ awk -v most=8388608 'BEGIN {
 run verify long.csv long.report long1.csv long2.csv long3.csv
 [ "$(wc -c <long.report)" -eq 8388608 ] || status=bytes
 printed 'a right report of the most bytes' verified
+
+# The second program. The kinds of the examples were counted by another program.
+for name in usual owners realistic; do
+    shows kinds "$examples/$name/book.csv" "$examples/$name"/pay*.csv
+    printed "the kinds of the example $name" "$examples/$name/$name.kinds"
+done
+shows kinds "$household/book.csv" "$household/ann.csv" "$household/bob.csv"
+printed 'the kinds of the example household' "$household/household.kinds"
+
+lines book,1 processes,2 limits,4,4 'account,0,60,0 1' 'account,1,60,0 1' account,2,7,1 >book.csv
+lines transfer,0,1,1 transfer,1,0,1 transfer,2,0,1 >pay0.csv
+lines transfer,1,2,1 transfer,2,0,1 read,2 >pay1.csv
+lines 'payments 5' 'refused 1' 'alone 1' 'agreed 3' 'accounts 3' '0 shared 1 0 1' '1 shared 2 0 1' '2 alone 1 1' \
+    'groups 1' '3 0 1' >wanted
+shows kinds book.csv pay0.csv pay1.csv
+printed 'two accounts of the same owners are one group' wanted
+
+lines book,2 processes,a,b,c limits,4,4 'account,pair,60,a b' 'account,all,60,a b c' account,none,0, >book.csv
+lines pay,pair,all,1,none,2 transfer,all,none,1 >pay0.csv
+lines transfer,all,pair,5 >pay1.csv
+lines transfer,pair,all,5 transfer,all,none,1 read,all >pay2.csv
+lines 'payments 5' 'refused 1' 'alone 0' 'agreed 4' 'accounts 3' 'pair shared 1 a b' 'all shared 3 a b c' 'none nobody 0' \
+    'groups 2' '3 a b c' '1 a b' >wanted
+shows kinds book.csv pay0.csv pay1.csv pay2.csv
+printed 'a set of owners that is part of another is a group of its own' wanted
+
+: >nothing.csv
+lines 'payments 0' 'refused 0' 'alone 0' 'agreed 0' 'accounts 3' 'pair shared 0 a b' 'all shared 0 a b c' 'none nobody 0' \
+    'groups 0' >wanted
+shows kinds book.csv nothing.csv nothing.csv nothing.csv
+printed 'the kinds of no payments' wanted
+
+lines 'payments 131072' 'refused 32768' 'alone 65536' 'agreed 32768' 'accounts 1024' 'groups 1' '32768 0 1 2 3 4 5 6 7' >wanted
+shows kinds largest.csv $(each most)
+{
+    head -n 5 out
+    tail -n 2 out
+} >ends
+mv ends out
+printed 'the kinds of the most calls' wanted
+
+# A journal for hledger: every transaction adds up to 0, no balance falls below it, and every read has the balance that it asserts.
+adds_up() {
+    awk '
+        function ended(account) {
+            for (account in balance)
+                if (balance[account] < 0) bad = 1
+            if (sum != 0) bad = 1
+            sum = 0
+        }
+        /^$/ { ended(); next }
+        /^;/ || /^1970-01-01 / { next }
+        $1 == "equity:openings" { sum = 0; next }
+        $3 == "=" { if ($2 != 0 || balance[$1] != $4) bad = 1; next }
+        { balance[$1] += $2; sum += $2 }
+        END { ended(); exit bad }
+    ' "$1"
+}
+
+# The same by hledger itself, where it is there.
+is_checked() {
+    adds_up "$1" || return 1
+    command -v hledger >hledger || return 0
+    hledger -f "journal:$1" check >hledger 2>&1
+}
+
+# All was done, and the output adds up and has so many transactions and comments after the openings.
+added() {
+    [ "$status" -eq 0 ] && [ ! -s err ] && [ "$(grep -c '^$' out)" -eq "$2" ] && is_checked out && good=yes || good=no
+    count "$good" "$1"
+}
+
+shows ledger "$usual/book.csv" "$usual/pay0.csv"
+printed 'the journal of the example usual' "$usual/usual.ledger"
+added 'the journal of the example usual adds up' 3
+for name in owners realistic; do
+    shows ledger "$examples/$name/book.csv" "$examples/$name"/pay*.csv
+    added "the journal of the example $name adds up" "$(cat "$examples/$name"/pay*.csv | wc -l)"
+done
+shows ledger "$household/book.csv" "$household/ann.csv" "$household/bob.csv"
+added 'the journal of the example household adds up' 9
+sed 's/  0 = /  0 = 1/' out >forged
+is_checked forged && good=no || good=yes
+count "$good" 'a forged read does not add up'
+
+shows ledger largest.csv $(each most)
+[ "$(grep -c '^$' out)" -eq 262144 ] || status=entries
+head -n 2 out >ends
+mv ends out
+lines '1970-01-01 openings' '    account:0  8192' >wanted
+printed 'the journal of the most calls' wanted
+
+usage='usage: kinds BOOK PAY... | ledger BOOK PAY...'
+shows --help
+refused 'words of no form for the second program' 2 "$usage"
+shows kinds
+refused 'kinds alone' 2 "$usage"
+shows run "$usual/book.csv" "$usual/pay0.csv"
+refused 'words of the first program for the second' 2 "$usage"
+shows kinds "$(printf '\377')"
+refused 'words that are not text for the second program' 2 "$usage"
+shows ledger "$usual/book.csv"
+refused 'too few files for the second program' 2 'files: wanted 1, given 0'
+shows kinds "$usual/pay0.csv" "$usual/pay0.csv"
+refused 'a bad book for the second program' 3 'book: line 1: shape'
+shows ledger "$usual/book.csv" "$usual/book.csv"
+refused 'bad payments for the second program' 4 'payments 0: line 1: shape'
+shows kinds "$usual/book.csv" nothing
+refused 'a missing file for the second program' 5 'read fault: file 1'
+head -c 8388609 /dev/zero >long.csv
+shows kinds "$usual/book.csv" long.csv
+refused 'a file that is too long for the second program' 8 'too long: file 1'
+(ulimit -v 12000 && exec "$showing" kinds "$usual/book.csv" long.csv) >out 2>err
+status=$?
+refused 'too little memory for the second program' 7 'no memory'
+: >out
+for command in kinds ledger; do
+    "$showing" "$command" "$usual/book.csv" "$usual/pay0.csv" >/dev/full 2>err
+    status=$?
+    refused "a full device for $command" 6 'write fault'
+done
 
 told

@@ -3,6 +3,8 @@
 //!
 //! `answer` does what the words ask: it calls `answer_files` for `run` and `check`, and the call of its name for each other
 //! command. Each makes its whole text first, and ends by writing it (`end`). `tell` writes the line of a refusal.
+//!
+//! Whoever adds commands of its own has the same calls: `words_given`, `play`, which runs files, and `end_keeping`.
 #![tactic(auto)]
 
 mod agreeing;
@@ -10,6 +12,7 @@ mod answering;
 mod delivering;
 mod ending;
 mod generating;
+mod given;
 mod making;
 mod nodes;
 mod playing;
@@ -18,3 +21,6 @@ mod running;
 mod verifying;
 
 pub use crate::answering::{answer, tell};
+pub use crate::ending::{Printed, end_keeping};
+pub use crate::given::words_given;
+pub use crate::playing::play;

@@ -9,8 +9,6 @@
 //! run and no other, and each refusal names the first fault.
 #![tactic(auto)]
 
-ghost use Rattle.std.specs.Prelude.{◌≢◌, IfErr};
-
 #[cfg(test)]
 mod gate_tests;
 mod serving;
@@ -18,31 +16,11 @@ mod serving;
 mod tests;
 
 use crate::serving::serve;
-use at_commands::tell;
+use at_commands::{tell, words_given};
 use at_io::{DirShelf, StdSink};
-use at_report::{Status, UsageFault};
 use at_workers::OpenGate;
+use std::mem;
 use std::process::ExitCode;
-use std::rt::Env;
-use std::{io, mem};
-
-/// The words after the program's name. Words that are not text have no form.
-fn words_given(rt: &(impl Env + AllocGlobal)) -> Result<Vec<String>, Status>
-    ensures { IfErr result (λ refusal. refusal ≢ Status.Done) }
-{
-    let given = match std::env::args(rt) {
-        Ok(given) => given,
-        Err(error) if error.kind() == io::ErrorKind::OutOfMemory => return Err(Status::NoMemory),
-        Err(_) => return Err(Status::Usage(UsageFault::Words)),
-    };
-    let mut words = Vec::new(rt.alloc());
-    for word in given.skip(1) {
-        if words.push(word).is_err() {
-            return Err(Status::NoMemory);
-        }
-    }
-    Ok(words)
-}
 
 fn main(rt: HostRuntime) -> ExitCode {
     let mut err = StdSink::new(rt.stderr());

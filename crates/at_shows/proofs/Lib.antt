@@ -1,0 +1,2 @@
+pub mod Formless
+pub mod Refusals

@@ -1,0 +1,4 @@
+pub mod Words
+pub mod Usage
+pub mod Views
+pub mod Answered

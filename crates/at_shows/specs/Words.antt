@@ -1,0 +1,29 @@
+-- What the words of each command ask to be shown.
+use Rattle.std.specs.Prelude.{List, [], ◌∷◌, codes, bytes_eq, Option, Some, None, if◌then◌else◌}
+use Rattle.at_report.specs.Lines.{Word}
+use Rattle.at_loading.specs.Words.{Form, form_shown}
+use Rattle.at_loading.specs.declared.words.Command.TheVariants.{Check}
+use Rattle.at_shows.specs.declared.words.Asked as program
+use Rattle.at_shows.specs.declared.words.View.{View}
+use Rattle.at_shows.specs.declared.words.View.TheVariants.{Kinds, Ledger}
+
+-- what words ask to be shown: a view of a book and payments, whose files are read as for `check`
+pub data Showing : Type 0 where
+  Files : View → Form → Showing
+
+-- of a view: a book, and any number of payment files
+abbrev pub view_wanted : View → List Word → Option Showing
+view_wanted view (book ∷ payments) = Some (Files view (record { command = Check; book = book; payments = payments }))
+view_wanted view words = None
+
+-- what the words ask for: the name of a command, and what the words after it ask of that command
+abbrev pub showing_of : List Word → Option Showing
+showing_of (word ∷ words) =
+    if bytes_eq word (codes "kinds") then view_wanted Kinds words
+    else if bytes_eq word (codes "ledger") then view_wanted Ledger words
+    else None
+showing_of [] = None
+
+-- the same, as the program holds it
+abbrev pub showing_shown : program.Asked → Showing
+showing_shown asked = Files asked.view (form_shown asked.form)

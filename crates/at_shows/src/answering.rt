@@ -1,0 +1,146 @@
+//! What is answered of what the words ask.
+
+ghost use Rattle.std.specs.Prelude.{◌≡◌, ◌≢◌, ◌≤◌, ℕ, length, None, Err, IfOk, IfErr, OnOk, option_map};
+ghost use Rattle.at_io.specs.Faults.{Rose};
+ghost use Rattle.at_io.specs.Shelf.{SameFiles};
+ghost use Rattle.at_loading.specs.Faults.{HasFileNumbers, MayRefuse};
+ghost use Rattle.at_loading.specs.Loading.{MayReach, loaded};
+ghost use Rattle.at_loading.specs.Words.{form_shown};
+ghost use Rattle.at_shows.specs.Answered.{AnsweredView, LeavesShown};
+ghost use Rattle.at_shows.specs.Views.{ShowsRead};
+ghost use Rattle.at_shows.specs.Words.{showing_shown};
+
+use crate::views::view_shown;
+use crate::words::{Asked, View};
+use at_commands::{Printed, end_keeping};
+use at_io::{Shelf, Sink};
+use at_loading::{Form, Loaded, load};
+use at_object::Closed;
+use at_report::{Status, UsageFault};
+use at_workers::Gate;
+use std::alloc::Global;
+use std::thread::Threads;
+
+/// What the view shows of the form's files, or why it shows nothing.
+fn view_printed<R: Threads + Sync, F: Shelf, G: Gate + Sync>(
+    rt: &R,
+    alloc: Global,
+    shelf: &mut F,
+    view: View,
+    form: &Form<'_>,
+    gate: &G,
+) -> Result<Printed, Status>
+    ensures files { SameFiles (F.tells shelf.old) (F.tells shelf.new) (F.file shelf.old)
+        (F.file shelf.new) }
+    ensures later { F.faults shelf.old ≤ F.faults shelf.new }
+    ensures kept { OnOk result (F.faults shelf.new ≡ F.faults shelf.old) }
+    ensures printed { IfOk result
+        (λ p. ShowsRead view (F.tells shelf.old) (F.file shelf.old) (form_shown form.now)
+        p.closed p.text.items) }
+    ensures unrun { view ≡ View.Kinds → IfOk result (λ p. p.closed ≡ None) }
+    ensures err { IfErr result
+        (λ refusal. MayRefuse (F.tells shelf.old) (loaded (F.file shelf.old) (form_shown form.now))
+        (F.faults shelf.old) (F.faults shelf.new) refusal) }
+    ensures reached { (file : ℕ) → result ≡ Err (Status.ReadFault file)
+        → MayReach (F.tells shelf.old) (F.file shelf.old) (form_shown form.now) file }
+    ensures numbered { IfErr result (HasFileNumbers (length form.now.payments.now)) }
+{
+    let Loaded { book, names, files } = match load(alloc, shelf, form) {
+        Ok(loaded) => loaded,
+        Err(refusal) => return Err(refusal),
+    };
+    match view_shown(rt, alloc, view, &book, &names, files, gate) {
+        Ok(printed) => Ok(printed),
+        Err(_) => Err(Status::NoMemory),
+    }
+}
+
+/// Shows the view of the form's files.
+fn answer_view<R: Threads + Sync, F: Shelf, O: Sink, G: Gate + Sync>(
+    rt: &R,
+    alloc: Global,
+    shelf: &mut F,
+    out: &mut O,
+    view: View,
+    form: &Form<'_>,
+    gate: &G,
+    kept: &mut Option<Closed>,
+) -> Status
+    requires { kept.old ≡ None }
+    ensures files { SameFiles (F.tells shelf.old) (F.tells shelf.new) (F.file shelf.old)
+        (F.file shelf.new) }
+    ensures later { (F.faults shelf.old ≤ F.faults shelf.new)
+        × (O.faults out.old ≤ O.faults out.new) }
+    ensures as_told { O.tells out.new ≡ O.tells out.old }
+    ensures answered { AnsweredView view (form_shown form.now)
+        (record {
+          tells = F.tells shelf.old;
+          files = F.file shelf.old;
+          faults = F.faults shelf.old;
+          faults_now = F.faults shelf.new;
+        })
+        (record {
+          tells = O.tells out.old;
+          before = O.taken out.old;
+          after = O.taken out.new;
+          faults = O.faults out.old;
+          faults_now = O.faults out.new;
+          kept = kept.new;
+          answer = result;
+        }) }
+    ensures done_kept { result ≡ Status.Done
+        → (F.faults shelf.new ≡ F.faults shelf.old) × (O.faults out.new ≡ O.faults out.old) }
+    ensures write_fault { result ≡ Status.WriteFault
+        → Rose (O.faults out.old) (O.faults out.new) × (F.faults shelf.new ≡ F.faults shelf.old) }
+    ensures untouched { result ≢ Status.Done → result ≢ Status.WriteFault
+        → (out.new ≡ out.old) × (kept.new ≡ None) }
+{
+    let made = view_printed(rt, alloc, shelf, view, form, gate);
+    end_keeping(made, out, kept)
+}
+
+/// Shows what was asked, and tells nobody of a refusal. Where nothing was, the words are refused.
+pub(crate) fn answer_shown<R: Threads + Sync, F: Shelf, O: Sink, G: Gate + Sync>(
+    rt: &R,
+    alloc: Global,
+    asked: &Option<Asked<'_>>,
+    shelf: &mut F,
+    out: &mut O,
+    gate: &G,
+    kept: &mut Option<Closed>,
+) -> Status
+    requires { kept.old ≡ None }
+    ensures files { SameFiles (F.tells shelf.old) (F.tells shelf.new) (F.file shelf.old)
+        (F.file shelf.new) }
+    ensures later { (F.faults shelf.old ≤ F.faults shelf.new)
+        × (O.faults out.old ≤ O.faults out.new) }
+    ensures as_told { O.tells out.new ≡ O.tells out.old }
+    ensures unread { option_map showing_shown asked.now ≡ None → shelf.new ≡ shelf.old }
+    ensures answered { LeavesShown (option_map showing_shown asked.now)
+        (record {
+          tells = F.tells shelf.old;
+          files = F.file shelf.old;
+          faults = F.faults shelf.old;
+          faults_now = F.faults shelf.new;
+        })
+        (record {
+          tells = O.tells out.old;
+          before = O.taken out.old;
+          after = O.taken out.new;
+          faults = O.faults out.old;
+          faults_now = O.faults out.new;
+          kept = kept.new;
+          answer = result;
+        }) }
+    ensures done_kept { result ≡ Status.Done
+        → (F.faults shelf.new ≡ F.faults shelf.old) × (O.faults out.new ≡ O.faults out.old) }
+    ensures write_fault { result ≡ Status.WriteFault
+        → Rose (O.faults out.old) (O.faults out.new) × (F.faults shelf.new ≡ F.faults shelf.old) }
+    ensures untouched { result ≢ Status.Done → result ≢ Status.WriteFault
+        → (out.new ≡ out.old) × (kept.new ≡ None) }
+{
+    match asked {
+        None => Status::Usage(UsageFault::Words),
+        Some(asked) => answer_view(rt, alloc, shelf, out, asked.view, &asked.form, gate, kept),
+    }
+}

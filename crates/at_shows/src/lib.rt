@@ -1,0 +1,13 @@
+//! What the second program shows of a book and payments: what needs agreement, and the journal of a run for other programs.
+//!
+//! `show_all` does what the words ask, from the bytes of the files to the bytes of the text. What it does with words, files,
+//! streams and refusals is what the first program does, by the same calls.
+#![tactic(auto)]
+
+mod answering;
+mod showing;
+mod views;
+mod words;
+
+pub use crate::showing::{show_all, tell_refusal};
+pub use crate::words::{Asked, View, shown_by};

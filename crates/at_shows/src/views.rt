@@ -1,0 +1,81 @@
+//! What each view shows of what was loaded.
+
+ghost use Rattle.std.specs.Prelude.{◌≡◌, All, IfOk, length};
+ghost use Rattle.at_files.specs.Files.{IsPlayable, contents_of};
+ghost use Rattle.at_files.specs.Names.{AreNamesOf};
+ghost use Rattle.at_shows.specs.Views.{Shows};
+
+use crate::words::View;
+use at_commands::{Printed, play};
+use at_files::Names;
+use at_hledger::ledger;
+use at_kinds::kinds;
+use at_ledger::{Book, Call};
+use at_workers::Gate;
+use std::alloc::{AllocError, Global};
+use std::thread::Threads;
+
+/// What needs agreement. Nothing is run.
+fn kinds_shown(
+    alloc: Global,
+    book: &Book,
+    names: &Names,
+    files: &[Vec<Call>],
+) -> Result<Printed, AllocError>
+    requires names { AreNamesOf book.now names.now }
+    requires count { length files.now ≡ book.now.processes }
+    requires known { All (IsPlayable (length book.now.accounts)) (contents_of files.now) }
+    ensures { IfOk result (λ p. Shows View.Kinds
+        (record { book = book.now; names = names.now; files = contents_of files.now })
+        p.closed p.text.items) }
+{
+    let text = kinds(alloc, book, names, files)?;
+    Ok(Printed { text, closed: None })
+}
+
+/// The journal of a run of the files, all of them at once.
+fn ledger_shown<R: Threads + Sync, G: Gate + Sync>(
+    rt: &R,
+    alloc: Global,
+    book: &Book,
+    names: &Names,
+    files: Vec<Vec<Call>>,
+    gate: &G,
+) -> Result<Printed, AllocError>
+    requires names { AreNamesOf book.now names.now }
+    requires count { length files.items ≡ book.now.processes }
+    requires known { All (IsPlayable (length book.now.accounts)) (contents_of files.items) }
+    ensures { IfOk result (λ p. Shows View.Ledger
+        (record { book = book.now; names = names.now; files = contents_of files.items })
+        p.closed p.text.items) }
+{
+    let (closed, lines) = play(rt, alloc, book, files, gate)?;
+    let text = ledger(alloc, book, names, lines.as_slice())?;
+    Ok(Printed {
+        text,
+        closed: Some(closed),
+    })
+}
+
+/// What the view shows of the files.
+pub(crate) fn view_shown<R: Threads + Sync, G: Gate + Sync>(
+    rt: &R,
+    alloc: Global,
+    view: View,
+    book: &Book,
+    names: &Names,
+    files: Vec<Vec<Call>>,
+    gate: &G,
+) -> Result<Printed, AllocError>
+    requires names { AreNamesOf book.now names.now }
+    requires count { length files.items ≡ book.now.processes }
+    requires known { All (IsPlayable (length book.now.accounts)) (contents_of files.items) }
+    ensures { IfOk result (λ p. Shows view
+        (record { book = book.now; names = names.now; files = contents_of files.items })
+        p.closed p.text.items) }
+{
+    match view {
+        View::Kinds => kinds_shown(alloc, book, names, files.as_slice()),
+        View::Ledger => ledger_shown(rt, alloc, book, names, files, gate),
+    }
+}

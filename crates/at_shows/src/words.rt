@@ -1,0 +1,53 @@
+//! What the words after the program's name ask to be shown.
+
+ghost use Rattle.std.specs.Prelude.{◌≡◌, option_map};
+ghost use Rattle.at_loading.specs.Words.{words_of};
+ghost use Rattle.at_shows.specs.Words.{showing_of, showing_shown, view_wanted};
+
+use at_loading::{Command, Form};
+
+/// What is shown of a book and payments.
+#[derive(Clone, Copy, Debug, PartialEq, Eq)]
+pub enum View {
+    /// Which payments need agreement, and of whom. Nothing is run.
+    Kinds,
+    /// The journal of a run, for hledger and ledger-cli.
+    Ledger,
+}
+
+/// What is asked to be shown: a view of a book and payments, whose files are read as for `check`.
+#[derive(Clone, Copy)]
+pub struct Asked<'a> {
+    pub view: View,
+    pub form: Form<'a>,
+}
+
+/// What the words after the name of a view ask for.
+fn view_asked(view: View, words: &[String]) -> Option<Asked<'_>>
+    ensures { option_map showing_shown result ≡ view_wanted view (words_of words.now) }
+{
+    let [book, payments @ ..] = words else {
+        return None;
+    };
+    let form = Form {
+        command: Command::Check,
+        book: book.as_str(),
+        payments,
+    };
+    Some(Asked { view, form })
+}
+
+/// What the words after the program's name ask to be shown, if they have the form of a command. A word is never taken as
+/// an option.
+pub fn shown_by(words: &[String]) -> Option<Asked<'_>>
+    ensures { option_map showing_shown result ≡ showing_of (words_of words.now) }
+{
+    let [command, words @ ..] = words else {
+        return None;
+    };
+    match command.as_str() {
+        "kinds" => view_asked(View::Kinds, words),
+        "ledger" => view_asked(View::Ledger, words),
+        _ => None,
+    }
+}
