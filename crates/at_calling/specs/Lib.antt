@@ -4,6 +4,7 @@ pub mod PayingAlone
 pub mod KeptPayingAlone
 pub mod Calling
 pub mod KeptCalling
+pub mod CallNumbers
 pub mod Starting
 pub mod KeptStarting
 pub mod Turning
