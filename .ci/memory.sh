@@ -1,19 +1,21 @@
 #!/bin/sh
 # Runs the built program with its Nth allocation refused, for N = 1, 2 and so on as long as there is an Nth, and then with
 # all from the Nth on refused. Each answer has to be the one with memory, or want of memory: status 7, its one line on the
-# error output, and nothing on the output. It does so too with the built example, which tries a refused closing once more:
-# there five answers at least have to be the one with memory although an allocation was refused. It prints a line for each
-# command, and last 'N passed, N failed'.
+# error output, and nothing on the output. It does so too with the second program, and with the built example, which tries a
+# refused closing once more: there five answers at least have to be the one with memory although an allocation was refused.
+# It prints a line for each command, and last 'N passed, N failed'.
 #
-#   memory.sh [PROGRAM [EXAMPLE]]   the program is crates/at_program/out/at_program where none is named, and the example
-#                                   crates/at_example/out/at_example
+#   memory.sh [PROGRAM [SHOWING [EXAMPLE]]]   the programs are crates/at_program/out/at_program and
+#                                             crates/at_showing/out/at_showing where none is named, and the example
+#                                             crates/at_example/out/at_example
 #
 # It needs a C compiler, for a `malloc` of its own that is loaded before that of the C library. Without one it tries nothing, and
 # says so.
 
 root=$(CDPATH='' cd -- "$(dirname -- "$0")/.." && pwd) || exit 2
 program=${1:-$root/crates/at_program/out/at_program}
-example=${2:-$root/crates/at_example/out/at_example}
+showing=${2:-$root/crates/at_showing/out/at_showing}
+example=${3:-$root/crates/at_example/out/at_example}
 examples=$root/examples
 compiler=$(command -v cc || command -v gcc || command -v clang) || {
     echo "memory.sh: no C compiler is on the path, so nothing is tried"
@@ -150,6 +152,13 @@ tried 'deliver' 0 deliver "$deliver/book.csv" "$deliver/order.csv" "$deliver/sen
 tried 'verify' 0 verify "$owners/book.csv" "$owners/owners.report" "$owners"/pay*.csv
 tried 'verify, of a forged report' 0 verify "$household/book.csv" "$household/forged.report" "$household/ann.csv" "$household/bob.csv"
 tried 'a refusal' 0 check "$household/book.csv" "$household/book.csv" "$household/bob.csv"
+
+# The second program.
+runs=$showing
+tried 'kinds' 0 kinds "$owners/book.csv" "$owners"/pay*.csv
+tried 'kinds, of names' 0 kinds "$household/book.csv" "$household/ann.csv" "$household/bob.csv"
+tried 'ledger' 0 ledger "$examples/usual/book.csv" "$examples/usual/pay0.csv"
+tried 'a refusal of the second program' 0 kinds "$household/book.csv" "$household/book.csv" "$household/bob.csv"
 
 # The example closes its ledger once more, with what was handed back, where there was no memory for that. A closing of two processes takes
 # memory five times, so where one of these is refused alone it has to answer as with memory.
