@@ -5,7 +5,7 @@ use Rattle.std.proofs.lemmas.List.Sums.{get_or-le-sum_by}
 use Rattle.std.specs.Prelude.{slice_index, sum}
 use Rattle.at_ledger.specs.Account.{is_shared, is_single, slots_of}
 use Rattle.at_ledger.specs.Book.{BookTerms, HasSlot, account_of, is_owner}
-use Rattle.at_ledger.specs.Call.{IsCallOn, TargetPair, first_account, payout_of}
+use Rattle.at_ledger.specs.Call.{AreTargetsOn, IsCallOn, TargetPair, first_account, payout_of}
 use Rattle.at_ledger.specs.declared.call.Call.{Call}
 use Rattle.at_ledger.specs.declared.call.Call.TheVariants.{Pay, Read, Transfer}
 use Rattle.at_ledger.specs.declared.call.Reply.{Reply}
@@ -34,8 +34,9 @@ use Rattle.at_object.proofs.Laws.Alone.{IsPass-alone, asking-alone, decided-alon
 use Rattle.at_object.proofs.Laws.InRound.{IsPass-round}
 use Rattle.at_object.proofs.Laws.Looked.{IsPass-HasLoaded, between-IsPass, Told-HasLoaded, asking-HasLoaded, owns_of-HasLoaded}
 use Rattle.at_object.proofs.Laws.Made.{PaymentMade-alone, PaymentMade-round, others-le}
+use Rattle.at_object.proofs.Laws.OnePass.{IsOfOnePass-counted}
 use Rattle.at_object.proofs.Laws.Room.{HasSlot-is_owner, MayStoreRequest-room, sent-room}
-use Rattle.at_object.specs.CallCounts.{CallCountTerms}
+use Rattle.at_object.specs.CallCounts.{with_one_call}
 use Rattle.at_object.specs.Paid.{PaysAlone, PaysInRound}
 use Rattle.at_object.specs.Calls.{PaymentMade}
 use Rattle.at_object.specs.Parted.{IsOfOnePass, pass_of}
@@ -47,8 +48,8 @@ use Rattle.at_single.specs.Standing.{front_behind}
 use Rattle.at_single.specs.Standing as single
 use Rattle.at_snapshot.specs.Snapshots.{snapshot_steps}
 use Rattle.at_object.proofs.Laws.Calls.{process-CallMade}
-use Rattle.at_object.proofs.Laws.Within.{call_steps-payout, may_exchange-payout, read_or_refused}
-use Rattle.at_calling.specs.Calling.{refusal_in, with_one_call}
+use Rattle.at_object.proofs.Laws.Within.{AreTargetsOn-single, call_steps-payout, may_exchange-payout, read_or_refused}
+use Rattle.at_calling.specs.Calling.{refusal_in}
 use Rattle.at_object.specs.Calls.{CallMade, ReadMade, StaysWithin, call_steps, may_exchange}
 use Rattle.at_calling.specs.PayingAlone.{HasSameAsking, append_steps}
 use Rattle.at_calling.specs.PayingShared.{DecidesFew, settling_steps}
@@ -179,16 +180,6 @@ module _ (b : BookTerms) (start : SeatTerms) (was : Rest) (seat : SeatTerms) (re
   abbrev w : Knowledge
   w = seat.knows
 
-  -- the seat and the rest are of one pass again, in which one more call is counted
-  one_pass : w.first ≡ v.first → rest.calls ≡ with_one_call was.calls → IsPass w rest.totals rest.sent → IsOfOnePass seat rest
-  one_pass process calls made = record {
-    pass = made;
-    calls = record {
-      board = ap (λ (n : CallCountTerms). n.board) calls ∙ (pass.calls.board ∙ sym same_board);
-      process = ap (λ (n : CallCountTerms). n.process) calls ∙ (pass.calls.process ∙ sym process);
-    };
-  }
-
   module _ (more_steps turns : ℕ) (leaves : LeavesTotals b v w was.totals rest.totals more_steps turns) where
     pub others_counted-LeavesTotals : others_counted before ≤ others_counted after
     others_counted-LeavesTotals = others-le before after was.totals rest.totals pass.pass.own_counted leaves.own_counted leaves.more
@@ -249,7 +240,7 @@ module _ (b : BookTerms) (start : SeatTerms) (was : Rest) (seat : SeatTerms) (re
 
       pub IsOfOnePass-IsReadOf : StaysCounted rest.totals b w.seen → rest.sent ≡ was.sent → rest.calls ≡ with_one_call was.calls → IsOfOnePass seat rest
       IsOfOnePass-IsReadOf stays sent calls =
-          one_pass (ReadMade-IsReadOf).process_is calls
+          IsOfOnePass-counted start seat was rest pass same_board (ReadMade-IsReadOf).process_is calls
           (subst (IsPass w rest.totals) (sym sent)
           (IsPass-HasLoaded b v w kept keeps book same_book read.at_front.loads was.totals rest.totals was.sent pass.pass
           (HasCounted-StaysCounted b w rest.totals stays) leaves.own_counted))
@@ -278,7 +269,7 @@ module _ (b : BookTerms) (start : SeatTerms) (was : Rest) (seat : SeatTerms) (re
       pub IsOfOnePass-PaysAlone : source < length b.accounts → StaysCounted rest.totals b w.seen → rest.sent ≡ sent_after was.sent r.reply
           → rest.calls ≡ with_one_call was.calls → IsOfOnePass seat rest
       IsOfOnePass-PaysAlone known stays sent calls =
-          one_pass (process-CallMade b before after call r (CallMade-PaysAlone known)) calls
+          IsOfOnePass-counted start seat was rest pass same_board (process-CallMade b before after call r (CallMade-PaysAlone known)) calls
           (subst (IsPass w rest.totals) (sym sent)
           (IsPass-alone b v w kept keeps book same_book was.totals was.sent pass.pass source targets call r paid rest.totals
           (HasCounted-StaysCounted b w rest.totals stays) leaves.own_counted))
@@ -315,7 +306,7 @@ module _ (b : BookTerms) (start : SeatTerms) (was : Rest) (seat : SeatTerms) (re
 
       pub IsOfOnePass-PaysInRound : HasCounted rest.totals b w.seen → rest.sent ≡ was.sent → rest.calls ≡ with_one_call was.calls → IsOfOnePass seat rest
       IsOfOnePass-PaysInRound counted sent calls =
-          one_pass paid.process_is calls
+          IsOfOnePass-counted start seat was rest pass same_board paid.process_is calls
           (subst (IsPass w rest.totals) (sym sent)
           (IsPass-round b v w kept keeps book same_book was.totals was.sent pass.pass source slot.0 slot.1 call r paid rest.totals counted leaves.own_counted))
 
@@ -338,11 +329,18 @@ module _ (b : BookTerms) (start : SeatTerms) (was : Rest) (seat : SeatTerms) (re
             decides_elsewhere = λ a apart. few.elsewhere a (λ same. apart (same ∙ sym first));
           }
 
--- the source of a call on accounts that are there is one of them
-pub source-IsCallOn : (accounts source : ℕ) (targets : List TargetPair) (call : Call) → payout_of call ≡ Some (source, targets) → IsCallOn accounts call
-    → source < accounts
-source-IsCallOn accounts source targets (Transfer from to amount) payout known =
-    subst (λ (x : ℕ × List TargetPair). x.0 < accounts) (same_payout (from, (to, amount) ∷ []) (source, targets) payout) known.0
-source-IsCallOn accounts source targets (Read account) payout known = absurd (cc payout)
-source-IsCallOn accounts source targets (Pay from ts) payout known =
-    subst (λ (x : ℕ × List TargetPair). x.0 < accounts) (same_payout (from, ts) (source, targets) payout) known.0
+-- the source and the targets of a payment on accounts that are there are among them
+pub payout-IsCallOn : (accounts source : ℕ) (targets : List TargetPair) (call : Call) → payout_of call ≡ Some (source, targets) → IsCallOn accounts call
+    → (source < accounts) × AreTargetsOn accounts targets
+payout-IsCallOn accounts source targets (Transfer from to amount) payout known =
+    subst (λ (x : ℕ × List TargetPair). (x.0 < accounts) × AreTargetsOn accounts x.1)
+    (same_payout (from, (to, amount) ∷ []) (source, targets) payout) (known.0, AreTargetsOn-single accounts to amount known.1)
+payout-IsCallOn accounts source targets (Read account) payout known = absurd (cc payout)
+payout-IsCallOn accounts source targets (Pay from ts) payout known =
+    subst (λ (x : ℕ × List TargetPair). (x.0 < accounts) × AreTargetsOn accounts x.1) (same_payout (from, ts) (source, targets) payout) known
+
+-- what is no payment is a read
+pub Read-payout_of : (call : Call) → payout_of call ≡ None → call ≡ Read (first_account call)
+Read-payout_of (Transfer from to amount) none = absurd (cc none)
+Read-payout_of (Read account) none = refl
+Read-payout_of (Pay from targets) none = absurd (cc none)

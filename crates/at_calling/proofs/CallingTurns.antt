@@ -32,10 +32,11 @@ use Rattle.at_single.proofs.Laws.Looks.{published-HasLoaded}
 use Rattle.at_snapshot.specs.Collected.{HasLoaded}
 use Rattle.at_snapshot.specs.Snapshots.{snapshot_steps}
 use Rattle.at_calling.proofs.PayingAloneLaws.{HasSameAsking-HasLoaded}
-use Rattle.at_calling.proofs.CallingLaws.{CallMade-PaysAlone, CallMade-PaysInRound, IsOfOnePass-IsReadOf, IsOfOnePass-PaysAlone, IsOfOnePass-PaysInRound, MakesWithin, ReadMade-IsReadOf, StaysWithin-MakesWithin, MakesWithin-IsReadOf, MakesWithin-PaysAlone, MakesWithin-PaysInRound, payment_steps-shared, payment_steps-single, refusal_in-payout, small-refusal_of, source-IsCallOn}
+use Rattle.at_calling.proofs.CallingLaws.{CallMade-PaysAlone, CallMade-PaysInRound, IsOfOnePass-IsReadOf, IsOfOnePass-PaysAlone, IsOfOnePass-PaysInRound, MakesWithin, ReadMade-IsReadOf, StaysWithin-MakesWithin, MakesWithin-IsReadOf, MakesWithin-PaysAlone, MakesWithin-PaysInRound, payment_steps-shared, payment_steps-single, refusal_in-payout, small-refusal_of, payout-IsCallOn}
 use Rattle.at_object.proofs.Laws.Calls.{placed-CallMade, stands-CallMade}
 use Rattle.at_object.proofs.Laws.Within.{call_steps-payout, may_exchange-payout}
-use Rattle.at_calling.specs.Calling.{CallingTerms, IsCallWithin, IsWay, MakesCallStep, call_turns_left, exchanges_made, exchanges_of, pass_before, refusal_in, steps_made, steps_of, with_one_call}
+use Rattle.at_object.specs.CallCounts.{with_one_call}
+use Rattle.at_calling.specs.Calling.{CallingTerms, IsCallWithin, IsWay, MakesCallStep, call_turns_left, exchanges_made, exchanges_of, pass_before, refusal_in, steps_made, steps_of}
 use Rattle.at_object.specs.Calls.{CallMade, StaysWithin, call_steps}
 use Rattle.at_calling.specs.KeptCalling.{IsCallStageSo, IsCallingSo, IsMakingStill, TakesCallTurn}
 use Rattle.at_machines.specs.Looking.{IsWithin, IsWithinOneMore, look_turns_left}
@@ -233,7 +234,7 @@ module _ (board : BoardTerms) (t : CallingTerms) (so : IsCallingSo t) (seat : Se
           let paid_on = subst (λ (u : Knowledge). PaysAlone board.book u after.knows p.from p.targets t.call receipt) still-alone.start_is paid in
           let leaves_on = subst (λ (s : TotalSums). LeavesTotals board.book v after.knows s rest.totals more turns) still-alone.was_is
           (subst (λ (u : Knowledge). LeavesTotals board.book u after.knows p.was rest.totals more turns) still-alone.start_is leaves) in
-          let source_in = source-IsCallOn (length board.book.accounts) p.from p.targets t.call way-alone.0 known in
+          let source_in = (payout-IsCallOn (length board.book.accounts) p.from p.targets t.call way-alone.0 known).0 in
           record {
             made = CallMade-PaysAlone board.book t.start t.was after rest so.kept keeps book-IsCallingSo of_after.book board_is so.pass more turns leaves_on p.from p.targets
                 t.call receipt paid_on way-alone.0 way-alone.2 way-alone.1 source_in;
@@ -318,7 +319,7 @@ module _ (board : BoardTerms) (t : CallingTerms) (so : IsCallingSo t) (seat : Se
           (subst (λ (u : Knowledge). LeavesTotals board.book u after.knows p.was rest.totals more turns) still-shared.start_is leaves) in
           let few_on = subst (λ (u : Knowledge). DecidesFew board.book u after.knows p.account) still-shared.start_is few in
           let decided_on = subst (λ (u : Knowledge). exchanges ≡ decides_made p.account u after.knows) still-shared.start_is decided in
-          let source_in = source-IsCallOn (length board.book.accounts) p.account p.targets t.call way-shared.0 known in
+          let source_in = (payout-IsCallOn (length board.book.accounts) p.account p.targets t.call way-shared.0 known).0 in
           record {
             made = CallMade-PaysInRound board.book t.start t.was after rest so.kept keeps book-IsCallingSo of_after.book board_is so.pass more turns leaves_on p.account
                 p.targets t.call receipt paid_on way-shared.0 way-shared.2 way-shared.1 source_in;

@@ -10,10 +10,9 @@ use Rattle.at_board.specs.declared.knowledge.Knowledge.{Knowledge}
 use Rattle.at_board.specs.declared.words.TheConstants.{RECORD_WORDS}
 use Rattle.at_fold.specs.Sums.{TotalSums}
 use Rattle.at_ledger.specs.Call.{first_account, payout_of}
-use Rattle.at_object.specs.CallCounts.{CallCountTerms}
 use Rattle.at_object.specs.Calls.{call_steps, may_exchange}
 use Rattle.at_object.specs.Parted.{pass_of}
-use Rattle.at_object.specs.Passes.{PassTerms, one_more_call}
+use Rattle.at_object.specs.Passes.{PassTerms}
 use Rattle.at_object.specs.Payments.{refusal_of}
 use Rattle.at_object.specs.declared.parts.Rest.{Rest}
 use Rattle.at_shared.specs.Helpings.{decides_made}
@@ -33,10 +32,6 @@ pub record CallingTerms : Type 0 where
   pub was : Rest
   pub mark : SeatTerms
   pub rest : Rest
-
--- a count of calls after one more
-abbrev pub with_one_call : CallCountTerms → CallCountTerms
-with_one_call calls = record calls { count = one_more_call calls.count }
 
 -- the pass at the start
 abbrev pub pass_before : CallingTerms → PassTerms

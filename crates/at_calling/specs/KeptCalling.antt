@@ -14,7 +14,8 @@ use Rattle.at_object.specs.Parted.{IsOfOnePass, pass_of}
 use Rattle.at_object.specs.Passes.{Stands}
 use Rattle.at_object.specs.Payments.{IsRefused}
 use Rattle.at_object.specs.declared.parts.Rest.{Rest}
-use Rattle.at_calling.specs.Calling.{CallingTerms, IsCallWithin, IsWay, MakesCallStep, call_turns_left, exchanges_made, exchanges_of, pass_before, steps_made, steps_of, with_one_call}
+use Rattle.at_object.specs.CallCounts.{with_one_call}
+use Rattle.at_calling.specs.Calling.{CallingTerms, IsCallWithin, IsWay, MakesCallStep, call_turns_left, exchanges_made, exchanges_of, pass_before, steps_made, steps_of}
 use Rattle.at_object.specs.Calls.{CallMade, StaysWithin}
 use Rattle.at_machines.specs.Looking.{look_turns_left}
 use Rattle.at_calling.specs.PayingAlone.{pay_turns_left}

@@ -53,16 +53,11 @@ impl CallStage {
         ensures left { 0 < call_turns_left board.now.book result }
     {
         seat.known();
-        match call {
-            Call::Transfer { from, to, amount } => {
-                let targets = Targets::one(*to, *amount);
-                CallStage::payment(board, seat, rest, call, *from, targets)
-            }
-            Call::Read { account } => {
-                CallStage::Read(Reading::start(board, seat, &rest.totals, *account))
-            }
-            Call::Pay { from, targets } => {
-                CallStage::payment(board, seat, rest, call, *from, targets.copy())
+        match call.payout() {
+            Some((from, targets)) => CallStage::payment(board, seat, rest, call, from, targets),
+            None => {
+                let account = call.first_account();
+                CallStage::Read(Reading::start(board, seat, &rest.totals, account))
             }
         }
     }
@@ -88,7 +83,7 @@ impl CallStage {
         ensures left { 0 < call_turns_left board.now.book result }
     {
         seat.known();
-        match refusal(board, seat, rest, from) {
+        match rest.refusal(board, seat, from) {
             Some(reply) => CallStage::Refuse(reply),
             None if board.book().owner_count(from) == 1 => {
                 CallStage::alone(board, seat, rest, call, from, targets)
@@ -150,14 +145,4 @@ impl CallStage {
         let paying = PayingShared::start(board, seat, &rest.totals, from, targets);
         CallStage::PayShared(paying)
     }
-}
-
-/// Why the seat's process can't pay from the account, whatever the balance. It makes no step.
-fn refusal(board: &Board, seat: &BoardSeat, rest: &Rest, source: u32) -> Option<Reply>
-    requires board { IsOf seat.now board.now }
-    requires pass { IsOfOnePass seat.now rest.now }
-    requires source { source < length board.now.book.accounts }
-    ensures { result ≡ refusal_of board.now.book (pass_of seat.now rest.now) source }
-{
-    at_object::refusal(board, seat, rest.sent, source)
 }

@@ -15,7 +15,8 @@ ghost use Rattle.at_calling.specs.KeptCalling.{TakesCallTurn};
 ghost use Rattle.at_calling.specs.PayingAlone.{PayingAloneTerms};
 ghost use Rattle.at_calling.specs.PayingShared.{PayingSharedTerms};
 ghost use Rattle.at_calling.specs.Reading.{ReadingTerms};
-ghost use Rattle.at_calling.specs.Calling.{IsCallWithin, IsWay, MakesCallStep, call_turns_left, exchanges_made, exchanges_of, pass_before, steps_made, steps_of, with_one_call};
+ghost use Rattle.at_object.specs.CallCounts.{with_one_call};
+ghost use Rattle.at_calling.specs.Calling.{IsCallWithin, IsWay, MakesCallStep, call_turns_left, exchanges_made, exchanges_of, pass_before, steps_made, steps_of};
 ghost use Rattle.at_object.specs.Calls.{CallMade, StaysWithin};
 
 use crate::call_stage::CallStage;
@@ -162,9 +163,9 @@ impl Calling {
     {
         seat.known();
         self.stage.become_next(CallStage::Refused);
-        rest.calls.count_one();
+        let answer = rest.refuse(reply);
         self.rest = Snapshot::of(rest);
-        receipt_of(&self.call, (reply, At::Previous))
+        receipt_of(&self.call, answer)
     }
 
     /// Makes the next step of the read. The last one answers its receipt.

@@ -8,6 +8,8 @@ pub mod Made
 -- the same of any call, and what it may take
 pub mod Calls
 pub mod Within
+-- the seat and the rest of one pass
+pub mod OnePass
 -- what a payment needs, and why it is done where the balance covers it
 pub mod Room
 pub mod Covered

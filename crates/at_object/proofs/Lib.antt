@@ -1,3 +1,5 @@
 pub mod Laws
 -- closing: what the seats give
 pub mod ClosingSeats
+-- what crosses threads
+pub mod Sharing

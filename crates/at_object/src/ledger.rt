@@ -6,6 +6,7 @@ ghost use Rattle.at_board.specs.Ends.Opening.{AreNew};
 ghost use Rattle.at_object.specs.Passes.{AreNewPasses};
 
 use crate::NoMemory;
+use crate::parts::{CallCount, Rest};
 use crate::pass::Pass;
 use at_board::{Board, BoardSeat};
 use at_fold::Totals;
@@ -61,12 +62,12 @@ fn passes_for(alloc: Global, book: &Book, seats: Vec<BoardSeat>) -> Result<Vec<P
 {
     let mut passes = Vec::with_capacity(alloc, seats.len())?;
     for seat in seats {
-        passes.push(Pass {
-            seat,
+        let rest = Rest {
             totals: Totals::new(alloc, book)?,
             sent: 0,
-            calls: 0,
-        })?;
+            calls: CallCount::new(&seat),
+        };
+        passes.push(Pass { seat, rest })?;
     }
     Ok(passes)
 }

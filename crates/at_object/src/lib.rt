@@ -25,6 +25,6 @@ pub use crate::close::CloseRefused;
 pub use crate::closed::Closed;
 pub use crate::ledger::Ledger;
 pub use crate::notes::Note;
-pub use crate::parts::{CallCount, Rest, refusal, sent_after};
+pub use crate::parts::{CallCount, Rest, sent_after};
 pub use crate::pass::Pass;
 pub use at_base::NoMemory;

@@ -2,20 +2,21 @@
 
 ghost use Rattle.std.specs.Prelude.{◌≡◌, ◌<◌, length};
 ghost use Rattle.at_board.specs.Knowledge.Seats.{IsOf};
-ghost use Rattle.at_history.specs.Rounds.{owns_of};
-ghost use Rattle.at_object.specs.Parted.{IsOfOnePass, pass_of};
-ghost use Rattle.at_object.specs.Passes.{PassTerms, one_more_call};
+ghost use Rattle.at_log.specs.declared.receipt.At.{At};
+ghost use Rattle.at_object.specs.CallCounts.{with_one_call};
+ghost use Rattle.at_object.specs.Parted.{IsCountOf, IsOfOnePass, pass_of};
 ghost use Rattle.at_object.specs.Payments.{refusal_of, sent_after};
 
 use crate::pass::Pass;
 use at_board::{Board, BoardSeat};
 use at_fold::Totals;
 use at_ledger::Reply;
+use at_log::At;
 use std::marker::Model;
 use std::snapshot::Snapshot;
 
-/// How many calls were made with a pass that was taken apart. Only the pass itself gives one, and there is one for each seat, so
-/// that no call is left out where the pass is put together again.
+/// How many calls were made with a pass. Only the pass itself gives one, and there is one for each seat, so that no call is left out
+/// where a pass that was taken apart is put together again.
 #[derive(Drop)]
 pub struct CallCount {
     count: u64,
@@ -35,9 +36,27 @@ impl Model for CallCount {
 }
 
 impl CallCount {
+    /// The count of a new pass.
+    pub(crate) fn new(seat: &BoardSeat) -> CallCount
+        ensures none { result.count ≡ 0 }
+        ensures of { IsCountOf result seat.now }
+    {
+        CallCount {
+            count: 0,
+            of: Snapshot::of(seat),
+        }
+    }
+
+    /// At the largest number it stays.
+    pub(crate) fn count(&self) -> u64
+        ensures { result ≡ self.now.count }
+    {
+        self.count
+    }
+
     /// One more call was made.
     pub fn count_one(&mut self)
-        ensures { self.new ≡ record self.old { count = one_more_call self.old.count } }
+        ensures { self.new ≡ with_one_call self.old }
     {
         self.count = self.count.saturating_add(1);
     }
@@ -52,30 +71,46 @@ pub struct Rest {
     pub calls: CallCount,
 }
 
+impl Rest {
+    /// Why the process can't pay from the account, whatever the balance. It makes no step.
+    pub fn refusal(&self, board: &Board, seat: &BoardSeat, source: u32) -> Option<Reply>
+        requires board { IsOf seat.now board.now }
+        requires pass { IsOfOnePass seat.now self.now }
+        requires source { source < length board.now.book.accounts }
+        ensures { result ≡ refusal_of board.now.book (pass_of seat.now self.now) source }
+    {
+        seat.known();
+        let book = board.book();
+        if book.slot_of(source, seat.process()).is_none() {
+            return Some(Reply::NotOwner);
+        }
+        let used_up = if book.owner_count(source) == 1 {
+            self.sent == book.own_room()
+        } else {
+            seat.announced(source) == book.request_room()
+        };
+        if used_up { Some(Reply::Full) } else { None }
+    }
+
+    /// A call that is refused changes nothing but the count of calls.
+    pub fn refuse(&mut self, reply: Reply) -> (Reply, At)
+        ensures reply { result.0 ≡ reply }
+        ensures at { result.1 ≡ At.Previous }
+        ensures rest { self.new ≡ record self.old { calls = with_one_call self.old.calls } }
+    {
+        self.calls.count_one();
+        (reply, At::Previous)
+    }
+}
+
 impl Pass {
     /// The seat of the pass, and the rest of it. A call that is made step by step works with them.
     pub fn into_parts(self) -> (BoardSeat, Rest)
         ensures pass { pass_of result.0 result.1 ≡ self }
         ensures kept { IsOfOnePass result.0 result.1 }
     {
-        let Pass {
-            seat,
-            totals,
-            sent,
-            calls,
-        } = self;
-        let calls = CallCount {
-            count: calls,
-            of: Snapshot::of(&seat),
-        };
-        (
-            seat,
-            Rest {
-                totals,
-                sent,
-                calls,
-            },
-        )
+        let Pass { seat, rest } = self;
+        (seat, rest)
     }
 
     /// The pass of a seat and the rest of it, whose process is between two calls.
@@ -83,40 +118,8 @@ impl Pass {
         requires { IsOfOnePass seat rest }
         ensures { result ≡ pass_of seat rest }
     {
-        let Rest {
-            totals,
-            sent,
-            calls,
-        } = rest;
-        Pass {
-            seat,
-            totals,
-            sent,
-            calls: calls.count,
-        }
+        Pass { seat, rest }
     }
-}
-
-/// Why the seat's process can't pay from the account, whatever the balance, where so many payments from single accounts have
-/// succeeded for it. It makes no step.
-pub fn refusal(board: &Board, seat: &BoardSeat, sent: u32, source: u32) -> Option<Reply>
-    requires board { IsOf seat.now board.now }
-    requires sent { sent ≡ owns_of seat.now.knows.first seat.now.knows.seen }
-    requires source { source < length board.now.book.accounts }
-    ensures { (pass : PassTerms) → pass.knows ≡ seat.now.knows
-        → result ≡ refusal_of board.now.book pass source }
-{
-    seat.known();
-    let book = board.book();
-    if book.slot_of(source, seat.process()).is_none() {
-        return Some(Reply::NotOwner);
-    }
-    let used_up = if book.owner_count(source) == 1 {
-        sent == book.own_room()
-    } else {
-        seat.announced(source) == book.request_room()
-    };
-    if used_up { Some(Reply::Full) } else { None }
 }
 
 /// How many payments from single accounts have succeeded after one more.

@@ -5,8 +5,8 @@ ghost use Rattle.at_history.specs.Rounds.{named};
 ghost use Rattle.at_ledger.specs.Book.{HasSlot};
 ghost use Rattle.at_object.specs.Passes.{asked_by, others_counted, sent_by};
 
+use crate::parts::Rest;
 use at_board::BoardSeat;
-use at_fold::Totals;
 use std::marker::Model;
 
 /// The right of one process to make calls on a ledger, with what it has seen of it. One thread uses it at a time. A ledger is
@@ -14,27 +14,18 @@ use std::marker::Model;
 #[derive(Drop)]
 pub struct Pass {
     pub(crate) seat: BoardSeat,
-    pub(crate) totals: Totals,
-    /// How many payments from single accounts have succeeded.
-    pub(crate) sent: u32,
-    pub(crate) calls: u64,
+    pub(crate) rest: Rest,
 }
 
 impl Model for Pass {
-    ghost use Rattle.at_object.specs.Passes.{IsPass, PassTerms};
+    ghost use Rattle.at_object.specs.Parted.{IsOfOnePass, pass_of};
+    ghost use Rattle.at_object.specs.Passes.{PassTerms};
 
     ghost Value = { PassTerms };
 
-    ghost view = { λ p. record {
-      board = p.seat.board;
-      knows = p.seat.knows;
-      steps = p.seat.steps;
-      exchanges = p.seat.exchanges;
-      counted = p.totals.upto;
-      calls = p.calls;
-    } };
+    ghost view = { λ p. pass_of p.seat p.rest };
 
-    ghost invariant = { λ p. IsPass p.seat.knows p.totals p.sent };
+    ghost invariant = { λ p. IsOfOnePass p.seat p.rest };
 }
 
 impl Pass {
@@ -49,7 +40,7 @@ impl Pass {
     pub fn sent(&self) -> u32
         ensures { result ≡ sent_by self.now }
     {
-        self.sent
+        self.rest.sent
     }
 
     /// How many payments from a shared account the process has asked for. Each was decided in a round of its own, done or short.
@@ -88,13 +79,14 @@ impl Pass {
         ensures small { result < 2 ^ 37 }
     {
         self.seat.known();
-        self.totals.upto().total() - u64::from(self.totals.counted(self.seat.process()))
+        let totals = &self.rest.totals;
+        totals.upto().total() - u64::from(totals.counted(self.seat.process()))
     }
 
     /// How many calls of `transfer`, `pay` and `read` were made with the pass. At the largest count it stays.
     pub fn calls(&self) -> u64
         ensures { result ≡ self.now.calls }
     {
-        self.calls
+        self.rest.calls.count()
     }
 }

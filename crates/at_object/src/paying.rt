@@ -7,16 +7,15 @@ ghost use Rattle.at_history.specs.Moves.{AreRuns};
 ghost use Rattle.at_ledger.specs.Account.{is_shared, is_single, slots_of};
 ghost use Rattle.at_ledger.specs.Book.{account_of, is_owner};
 ghost use Rattle.at_ledger.specs.Call.{AreTargetsOn};
-ghost use Rattle.at_log.specs.declared.receipt.At.{At};
 ghost use Rattle.at_object.specs.Calls.{PaymentMade};
 ghost use Rattle.at_object.specs.Passes.{IsPassOf, counted_anew, one_more_call};
-ghost use Rattle.at_object.specs.Payments.{has_used_up, payment_steps, refusal_of, shared_steps, single_steps};
+ghost use Rattle.at_object.specs.Payments.{has_used_up, payment_steps, shared_steps, single_steps};
 ghost use Rattle.at_shared.specs.Helpings.{decides_made, decides_on};
 ghost use Rattle.at_shared.specs.Settling.{OnReceipts};
 ghost use Rattle.at_single.specs.Standing.{IsOnlyOwner};
 
 use crate::ledger::Ledger;
-use crate::parts::{refusal, sent_after};
+use crate::parts::sent_after;
 use crate::pass::Pass;
 use at_ledger::{Reply, Targets};
 use at_log::At;
@@ -46,22 +45,13 @@ impl Ledger {
             → decides_on pass.new.knows a ≡ decides_on pass.old.knows a }
     {
         pass.seat.known();
-        match self.refusal(pass, source) {
-            Some(reply) => refuse(pass, reply),
+        match pass.rest.refusal(&self.board, &pass.seat, source) {
+            Some(reply) => pass.rest.refuse(reply),
             None if self.book().owner_count(source) == 1 => {
                 self.pay_from_single(pass, source, targets)
             }
             None => self.pay_from_shared(pass, source, targets),
         }
-    }
-
-    /// Why the process can't pay from the account, whatever the balance. It makes no step.
-    fn refusal(&self, pass: &Pass, source: u32) -> Option<Reply>
-        requires pass { IsPassOf pass.now self.now }
-        requires source { source < length self.now.book.accounts }
-        ensures { result ≡ refusal_of self.now.book pass.now source }
-    {
-        refusal(&self.board, &pass.seat, pass.sent, source)
     }
 
     /// A payment from an account of one owner.
@@ -85,13 +75,13 @@ impl Ledger {
         let paid = pay_single(
             &self.board,
             &mut pass.seat,
-            &mut pass.totals,
+            &mut pass.rest.totals,
             source,
             targets,
         );
         pass.seat.known();
-        pass.sent = sent_after(pass.sent, &paid.0);
-        pass.calls = pass.calls.saturating_add(1);
+        pass.rest.sent = sent_after(pass.rest.sent, &paid.0);
+        pass.rest.calls.count_one();
         paid
     }
 
@@ -122,22 +112,12 @@ impl Ledger {
         let paid = pay_shared(
             &self.board,
             &mut pass.seat,
-            &mut pass.totals,
+            &mut pass.rest.totals,
             source,
             targets,
         );
         pass.seat.known();
-        pass.calls = pass.calls.saturating_add(1);
+        pass.rest.calls.count_one();
         paid
     }
-}
-
-/// A call that is refused changes nothing but the pass's count of calls.
-fn refuse(pass: &mut Pass, reply: Reply) -> (Reply, At)
-    ensures reply { result.0 ≡ reply }
-    ensures at { result.1 ≡ At.Previous }
-    ensures pass { pass.new ≡ record pass.old { calls = one_more_call pass.old.calls } }
-{
-    pass.calls = pass.calls.saturating_add(1);
-    (reply, At::Previous)
 }

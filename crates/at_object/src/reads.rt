@@ -23,9 +23,9 @@ impl Ledger {
         ensures calls { pass.new.calls ≡ one_more_call pass.old.calls }
     {
         pass.seat.known();
-        let receipt = read_account(&self.board, &mut pass.seat, &mut pass.totals, account);
+        let receipt = read_account(&self.board, &mut pass.seat, &mut pass.rest.totals, account);
         pass.seat.known();
-        pass.calls = pass.calls.saturating_add(1);
+        pass.rest.calls.count_one();
         receipt
     }
 }

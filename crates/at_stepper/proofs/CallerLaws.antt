@@ -13,13 +13,13 @@ use Rattle.at_board.specs.Knowledge.Seats.{IsKept, SeatTerms}
 use Rattle.at_log.specs.Receipts.{calls_of}
 use Rattle.at_log.specs.declared.receipt.Receipt.{Receipt}
 use Rattle.at_object.specs.Parted.{IsOfOnePass, pass_of}
-use Rattle.at_object.specs.CallCounts.{CallCountTerms}
+use Rattle.at_object.specs.CallCounts.{CallCountTerms, with_one_call}
 use Rattle.at_object.specs.Passes.{PassTerms, Stands, seat_of}
 use Rattle.at_object.specs.Payments.{IsRefused, has_used_up}
 use Rattle.at_object.specs.declared.parts.Rest.{Rest}
 use Rattle.at_object.proofs.Laws.Calls.{process-CallMade}
 use Rattle.at_stepper.specs.Callers.{CallerTerms, IsAnswered, IsFile, IsStillCalling, caller_turns_left, calls_left_of, is_refused, most_turns, next_call, steps_in}
-use Rattle.at_calling.specs.Calling.{CallingTerms, IsCallWithin, IsWay, call_turns_left, exchanges_made, exchanges_of, pass_before, refusal_in, steps_made, steps_of, with_one_call}
+use Rattle.at_calling.specs.Calling.{CallingTerms, IsCallWithin, IsWay, call_turns_left, exchanges_made, exchanges_of, pass_before, refusal_in, steps_made, steps_of}
 use Rattle.at_object.specs.Calls.{CallMade, StaysWithin}
 use Rattle.at_stepper.specs.KeptCallers.{IsCallBegun, IsCallerOf, IsMakingSo, IsNextInMaking, caller_of, pass_in, stage_in}
 use Rattle.at_calling.specs.declared.call_stage.CallStage.{CallStage}

@@ -222,6 +222,13 @@ module _ (b : BookTerms) (v w : Knowledge) (kept : IsKept v) (keeps : IsKept w) 
   decided-alone =
       elim (short_or_done b (prefix_of front w.seen) source targets r.reply paid.reply) as (λ _. IsDecidedByBalance r) [ inl short ↦ inr short | inr done ↦ inl done ]
 
+  pub process-alone : w.first ≡ v.first
+  process-alone =
+      elim (short_or_done b (prefix_of front w.seen) source targets r.reply paid.reply) as (λ _. w.first ≡ v.first) [
+        | inl short ↦ (moved-short short).process
+        | inr done ↦ (moved-done done).process
+      ]
+
   pub asking-alone : (a : ℕ) → asking_on (own_part w) a ≡ asking_on (own_part v) a
   asking-alone a =
       elim (short_or_done b (prefix_of front w.seen) source targets r.reply paid.reply) as (λ _. asking_on (own_part w) a ≡ asking_on (own_part v) a) [

@@ -12,7 +12,7 @@ use Rattle.at_history.proofs.Laws.Covers.{single_or_shared}
 use Rattle.at_history.specs.Fronts.{prefix_of}
 use Rattle.at_history.specs.Histories.{IsHistory}
 use Rattle.at_board.specs.Knowledge.Parts.{own_part}
-use Rattle.at_board.specs.Knowledge.Seats.{IsKept, SeatTerms}
+use Rattle.at_board.specs.Knowledge.Seats.{IsKept}
 use Rattle.at_board.specs.declared.knowledge.Knowledge.{Knowledge}
 use Rattle.at_closing.proofs.Laws.Calls.{length-prefix_of-le}
 use Rattle.at_closing.proofs.Laws.Told.{Told-call}
@@ -38,11 +38,6 @@ use Rattle.at_object.specs.Passes.{IsPass, PassTerms, Stands, asked_by, one_more
 use Rattle.at_object.specs.Payments.{IsDecidedByBalance, IsRefused, has_used_up, prefix_before, refusal_of, reply_of}
 use Rattle.at_shared.specs.Settling.{StandsAfter}
 use Rattle.at_single.specs.Standing.{IsOnlyOwner, front_behind, payment_reply}
-
--- a pass of its seat
-abbrev pub seated_pass : SeatTerms → List ℕ → ℕ → PassTerms
-seated_pass seat counted calls =
-    record { board = seat.board; knows = seat.knows; steps = seat.steps; exchanges = seat.exchanges; counted = counted; calls = calls }
 
 -- no call is both decided and refused
 not_both : (r : Receipt) → IsDecidedByBalance r → IsRefused r → ⊥

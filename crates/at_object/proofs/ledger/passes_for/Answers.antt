@@ -3,7 +3,7 @@ use Rattle.std.proofs.lemmas.Grind.{common_steps}
 use Rattle.std.proofs.lemmas.List.{length-append}
 use Rattle.at_board.specs.Knowledge.Seats.{SeatTerms}
 use Rattle.at_object.proofs.Laws.NewPasses.{AreNewPasses-all, AreNewSoFar, AreNewSoFar-more, IsPass-starting, new_seat-at}
-use Rattle.at_object.proofs.Laws.Made.{seated_pass}
+use Rattle.at_object.specs.Parted.{pass_of}
 use Rattle.at_object.specs.Passes.{IsPass, PassTerms}
 use Rattle.at_object.proofs.ledger.passes_for.Goals as goal
 
@@ -16,8 +16,11 @@ invariant_of-push c =
     let parts : c.args.seats.items ≡ done ++ seat ∷ c.next.new.self.rest.items =
     c.loop-seat.invariant.seats ∙ ap (λ ss. done ++ ss) c.in-Some.ensures.steps.0 in
     let is = new_seat-at b id c.args.seats.items done c.next.new.self.rest.items seat c.requires.1 parts in
-    subst (λ (s : SeatTerms). IsPass s.knows c.in_ok-new.field-0 0) (sym is)
-    (IsPass-starting b (length done) c.in_ok-new.field-0 c.in_ok-new.ensures.upto c.in_ok-new.ensures.counted)
+    record {
+      pass = subst (λ (s : SeatTerms). IsPass s.knows c.in_ok-new.field-0 0) (sym is)
+          (IsPass-starting b (length done) c.in_ok-new.field-0 c.in_ok-new.ensures.upto c.in_ok-new.ensures.counted);
+      calls = c.new-in-loop-seat.ensures.of;
+    }
 
 pub loop-seat-preserved : goal.loop-seat-preserved
 loop-seat-preserved c =
@@ -26,7 +29,7 @@ loop-seat-preserved c =
     let seat : SeatTerms = c.in-Some.seat in
     let left = c.next.new.self.rest.items in
     let passes = c.loop-seat.passes.items in
-    let pass : PassTerms = seated_pass seat c.in_ok-new.field-0.upto 0 in
+    let pass : PassTerms = pass_of seat (record { totals = c.in_ok-new.field-0; sent = 0; calls = c.new-in-loop-seat.result }) in
     let parts : c.args.seats.items ≡ done ++ seat ∷ left = c.loop-seat.invariant.seats ∙ ap (λ ss. done ++ ss) c.in-Some.ensures.steps.0 in
     let more : c.push.new.self.items ≡ passes ++ pass ∷ [] = c.in_ok-push.ensures.items in
     record {
@@ -37,7 +40,7 @@ loop-seat-preserved c =
           ∙ omega (arith, length-append passes (pass ∷ []), length-append done (seat ∷ []), c.loop-seat.invariant.count);
       made = subst (AreNewSoFar b c.args.seats.items) (sym more)
           (AreNewSoFar-more b c.args.seats.items done left seat passes pass c.loop-seat.invariant.made parts c.loop-seat.invariant.count
-          refl refl c.in_ok-new.ensures.upto);
+          refl c.new-in-loop-seat.ensures.none c.in_ok-new.ensures.upto);
     }
 
 pub returns : goal.returns

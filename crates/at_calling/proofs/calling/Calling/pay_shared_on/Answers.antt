@@ -8,7 +8,8 @@ use Rattle.at_fold.specs.Sums.{TotalSums}
 use Rattle.at_ledger.specs.Call.{payout_of}
 use Rattle.at_log.specs.declared.receipt.Receipt.{Receipt}
 use Rattle.at_object.specs.declared.parts.Rest.{Rest}
-use Rattle.at_calling.specs.Calling.{CallingTerms, MakesCallStep, call_turns_left, exchanges_made, steps_made, with_one_call}
+use Rattle.at_object.specs.CallCounts.{with_one_call}
+use Rattle.at_calling.specs.Calling.{CallingTerms, MakesCallStep, call_turns_left, exchanges_made, steps_made}
 use Rattle.at_calling.specs.KeptCalling.{IsCallingSo, TakesCallTurn}
 use Rattle.at_calling.specs.PayingShared.{PayingSharedTerms, share_exchanges_made, share_turns_left, share_turns_most}
 use Rattle.at_calling.specs.Reading.{newly_seen}

@@ -1,13 +1,15 @@
 use Rattle.std.proofs.Common.{◌≡◌, Some, refl, sym, ap, subst, ◌∙◌, arith}
 use Rattle.at_history.specs.Moves.{AreRuns}
 use Rattle.at_ledger.specs.Book.{BookTerms}
+use Rattle.at_ledger.specs.declared.call.Reply.{Reply}
 use Rattle.at_board.specs.Knowledge.Seats.{SeatTerms}
+use Rattle.at_log.specs.declared.receipt.At.{At}
 use Rattle.at_log.specs.declared.receipt.At.TheVariants.{Previous}
 use Rattle.at_log.specs.declared.receipt.Receipt.{Receipt}
-use Rattle.at_object.specs.CallCounts.{CallCountTerms}
+use Rattle.at_object.specs.CallCounts.{with_one_call}
 use Rattle.at_object.specs.declared.parts.Rest.{Rest}
 use Rattle.at_calling.proofs.CallingTurns.{IsCallWithin-none, Leaves, Leaves-refused, TakesCallTurn-stages, calling_next, undecided-refused, was-refused}
-use Rattle.at_calling.specs.Calling.{CallingTerms, exchanges_made, pass_before, steps_made, with_one_call}
+use Rattle.at_calling.specs.Calling.{CallingTerms, exchanges_made, pass_before, steps_made}
 use Rattle.at_calling.specs.KeptCalling.{IsCallingSo, TakesCallTurn}
 use Rattle.at_calling.specs.declared.call_stage.CallStage.{CallStage}
 use Rattle.at_calling.specs.declared.call_stage.CallStage.TheVariants.{Refuse, Refused}
@@ -20,13 +22,15 @@ returns c =
     let t : CallingTerms = c.args.self.now in
     let seat : SeatTerms = c.args.seat.now in
     let so : IsCallingSo t = subst IsCallingSo c.self.view_is c.self.invariant in
-    let now : Rest = record c.args.rest.now { calls = c.count_one.new.self } in
+    let now : Rest = c.refuse-answer.new.self in
     let now_is : now ≡ record t.rest { calls = with_one_call t.rest.calls } =
-    ap (λ (n : CallCountTerms). record c.args.rest.now { calls = n }) c.count_one.ensures
-    ∙ ap (λ (q : Rest). record q { calls = with_one_call q.calls }) c.requires.rest in
+    c.refuse-answer.ensures.rest ∙ ap (λ (q : Rest). record q { calls = with_one_call q.calls }) c.requires.rest in
     let r : Receipt = record { call = t.call; reply = c.args.reply; at = Previous } in
     let receipt : c.receipt_of.result ≡ r =
-    c.receipt_of.ensures ∙ ap (λ (s : CallingTerms). record { call = s.call; reply = c.args.reply; at = Previous }) c.self.view_is in
+    c.receipt_of.ensures
+    ∙ (ap (λ (s : CallingTerms). let r : Receipt = record { call = s.call; reply = c.refuse-answer.result.0; at = c.refuse-answer.result.1 } in r) c.self.view_is
+    ∙ (ap (λ (reply : Reply). let r : Receipt = record { call = t.call; reply = reply; at = c.refuse-answer.result.1 } in r) c.refuse-answer.ensures.reply
+    ∙ ap (λ (at : At). let r : Receipt = record { call = t.call; reply = c.args.reply; at = at } in r) c.refuse-answer.ensures.at)) in
     let leaves : Leaves b t seat now 0 0 r =
     subst (λ (q : Rest). Leaves b t seat q 0 0 r) (sym now_is)
     (Leaves-refused c.args.board.now t so seat c.requires.mark c.requires.board c.args.reply c.requires.stage r refl refl refl) in

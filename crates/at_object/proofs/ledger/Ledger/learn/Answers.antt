@@ -10,6 +10,7 @@ use Rattle.at_closing.specs.BetweenCalls.{IsBetweenCalls}
 use Rattle.at_fold.proofs.Laws.MorePublished.{StaysCounted-HasCounted}
 use Rattle.at_log.specs.Told.{Told}
 use Rattle.at_object.proofs.Laws.Alone.{IsPass-HasMoved}
+use Rattle.at_object.proofs.Laws.OnePass.{IsOfOnePass-same}
 use Rattle.at_object.specs.Passes.{PassTerms}
 use Rattle.at_object.proofs.ledger.Ledger.learn.Goals.{After-learn}
 use Rattle.at_object.proofs.ledger.Ledger.learn.Goals as goal
@@ -28,7 +29,7 @@ moved c =
       book_after = ap (λ (t : Knowledge). t.book) told.same;
       process = ap (λ (t : Knowledge). t.first) told.same;
       more = told.more;
-      free = ap (λ (t : Knowledge). (own_part t).held) told.same ∙ c.pass.invariant.between.free;
+      free = ap (λ (t : Knowledge). (own_part t).held) told.same ∙ c.pass.invariant.pass.between.free;
     }
 
 nothing : (c : After-learn) → AsksNothing c.pass.inside.seat.knows c.learn.new.seat.knows
@@ -39,13 +40,13 @@ published c = ap (λ (t : Knowledge). (own_part t).published) c.learn.ensures.le
 
 between : (c : After-learn) → IsBetweenCalls c.pass.inside.seat.knows.book c.learn.new.seat.knows
 between c =
-    IsBetweenCalls-still c.pass.inside.seat.knows.book c.pass.inside.seat.knows c.learn.new.seat.knows (moved c) c.pass.invariant.between (nothing c)
+    IsBetweenCalls-still c.pass.inside.seat.knows.book c.pass.inside.seat.knows c.learn.new.seat.knows (moved c) c.pass.invariant.pass.between (nothing c)
     (published c)
 
 owns : (c : After-learn)
     → owns_of c.pass.inside.seat.knows.first c.learn.new.seat.knows.seen ≡ owns_of c.pass.inside.seat.knows.first c.pass.inside.seat.knows.seen
 owns c =
-    owns_of-still c.pass.inside.seat.knows.book c.pass.inside.seat.knows c.learn.new.seat.knows (moved c) c.pass.invariant.between (nothing c)
+    owns_of-still c.pass.inside.seat.knows.book c.pass.inside.seat.knows c.learn.new.seat.knows (moved c) c.pass.invariant.pass.between (nothing c)
     (published c)
 
 pub invariant_of-pass : goal.invariant_of-pass
@@ -53,13 +54,15 @@ invariant_of-pass c =
     let b : BookTerms = c.pass.inside.seat.knows.book in
     let v : Knowledge = c.pass.inside.seat.knows in
     let w : Knowledge = c.learn.new.seat.knows in
-    let was = c.pass.inside.totals in
-    let sent = c.pass.inside.sent in
-    let invariant = c.pass.invariant in
-    IsPass-HasMoved b v w was was sent sent (moved c) (between c)
+    let rest = c.pass.inside.rest in
+    let was = rest.totals in
+    let sent = rest.sent in
+    let invariant = c.pass.invariant.pass in
+    IsOfOnePass-same c.pass.inside.seat c.learn.new.seat rest rest c.pass.invariant c.learn.ensures.board (moved c).process refl
+    (IsPass-HasMoved b v w was was sent sent (moved c) (between c)
     (StaysCounted-HasCounted was b v.seen invariant.counted w.seen c.learn.ensures.learned.more)
     (ap (λ p. get_or was.upto p 0) (moved c).process ∙ (invariant.own_counted ∙ sym (published c))) (invariant.sent_is ∙ sym (owns c))
-    (λ a none. (nothing c).same a ∙ invariant.unasked a none)
+    (λ a none. (nothing c).same a ∙ invariant.unasked a none))
 
 pub returns-clause-stands : goal.returns-clause-stands
 returns-clause-stands c = λ receipts stands.
@@ -72,7 +75,7 @@ returns-clause-stands c = λ receipts stands.
     let still : (a slot : ℕ) → HasSlot b v.first a slot → named a slot w.seen ≡ named a slot v.seen = λ a slot has.
     omega (
       arith,
-      named-IsBetweenCalls b v a slot moves.kept_before refl c.pass.invariant.between has,
+      named-IsBetweenCalls b v a slot moves.kept_before refl c.pass.invariant.pass.between has,
       named-IsBetweenCalls b w a slot moves.kept_after moves.book_after (between c) (subst (λ p. HasSlot b p a slot) (sym moves.process) has),
       ap length ((nothing c).same a),
     ) in

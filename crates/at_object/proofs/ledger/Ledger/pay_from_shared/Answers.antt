@@ -10,24 +10,27 @@ use Rattle.at_board.specs.declared.knowledge.Knowledge.{Knowledge}
 use Rattle.at_ledger.specs.Call.{payout_of}
 use Rattle.at_log.specs.declared.receipt.Receipt.{Receipt}
 use Rattle.at_object.proofs.Laws.InRound.{IsPass-round}
-use Rattle.at_object.proofs.Laws.Made.{PaymentMade-round, others-le, seated_pass}
+use Rattle.at_object.proofs.Laws.Made.{PaymentMade-round, others-le}
 use Rattle.at_object.proofs.Laws.Looked.{between-IsPass}
+use Rattle.at_object.proofs.Laws.OnePass.{IsOfOnePass-counted}
 use Rattle.at_object.proofs.Laws.Room.{HasSlot-is_owner, MayStoreRequest-room}
 use Rattle.at_object.specs.Paid.{PaysInRound}
 use Rattle.at_object.specs.Calls.{PaymentMade}
+use Rattle.at_object.specs.Parted.{pass_of}
 use Rattle.at_object.specs.Passes.{PassTerms}
 use Rattle.at_object.specs.Payments.{has_used_up}
+use Rattle.at_object.specs.declared.parts.Rest.{Rest}
 use Rattle.at_shared.specs.Helpings.{decides_on}
-use Rattle.at_object.proofs.ledger.Ledger.pay_from_shared.Goals.{After-pass-1}
+use Rattle.at_object.proofs.ledger.Ledger.pay_from_shared.Goals.{After-count_one}
 use Rattle.at_object.proofs.ledger.Ledger.pay_from_shared.Goals as goal
 
 -- the book that the pass's seat knows is the ledger's
-book : (c : After-pass-1) → c.pass.inside.seat.knows.book ≡ c.self.inside.board.book
+book : (c : After-count_one) → c.pass.inside.seat.knows.book ≡ c.self.inside.board.book
 book c =
     ap (λ (t : PassTerms). t.knows.book) c.pass.view_is ∙ (c.requires.pass.book ∙ sym (ap (λ (t : BoardTerms). t.book) c.self.view_is))
 
 -- the process has a slot on the account
-slot : (c : After-pass-1) → (s : ℕ) × HasSlot c.self.inside.board.book c.pass.inside.seat.knows.first c.args.source s
+slot : (c : After-count_one) → (s : ℕ) × HasSlot c.self.inside.board.book c.pass.inside.seat.knows.first c.args.source s
 slot c =
     subst (λ (t : BoardTerms). (s : ℕ) × HasSlot t.book c.pass.inside.seat.knows.first c.args.source s) (sym c.self.view_is)
     (subst (λ (t : PassTerms). (s : ℕ) × HasSlot c.args.self.now.book t.knows.first c.args.source s) (sym c.pass.view_is)
@@ -37,8 +40,7 @@ pub pay_shared-paid-requires-clause-asks : goal.pay_shared-paid-requires-clause-
 pay_shared-paid-requires-clause-asks c =
     let b : BookTerms = c.self.inside.board.book in
     let v : Knowledge = c.pass.inside.seat.knows in
-    let before : PassTerms =
-    seated_pass c.pass.inside.seat c.pass.inside.totals.upto c.pass.inside.calls in
+    let before : PassTerms = pass_of c.pass.inside.seat c.pass.inside.rest in
     let same_book : v.book ≡ b =
     ap (λ (t : PassTerms). t.knows.book) c.pass.view_is ∙ (c.requires.pass.book ∙ sym (ap (λ (t : BoardTerms). t.book) c.self.view_is)) in
     let here : (s : ℕ) × HasSlot b v.first c.args.source s =
@@ -52,15 +54,15 @@ pay_shared-paid-requires-clause-asks c =
     (subst (λ (t : PassTerms). has_used_up c.args.self.now.book t c.args.source ≡ false) (sym c.pass.view_is) c.requires.room) in (
       here.0,
       MayStoreRequest-room b before c.args.source here.0 (subst (λ t. IsHistory t v.seen) same_book c.known.ensures.seat.history)
-          (between-IsPass b v c.pass.inside.totals c.pass.inside.sent same_book c.pass.invariant) here.1 shared room,
+          (between-IsPass b v c.pass.inside.rest.totals c.pass.inside.rest.sent same_book c.pass.invariant.pass) here.1 shared room,
     )
 
 -- the receipt of a call
-abbrev receipt_of : After-pass-1 → Call → Receipt
+abbrev receipt_of : After-count_one → Call → Receipt
 receipt_of c call = record { call = call; reply = c.pay_shared-paid.result.0; at = c.pay_shared-paid.result.1 }
 
 -- it was paid, whichever call it was
-paid : (c : After-pass-1) (call : Call) → payout_of call ≡ Some (c.args.source, c.args.targets.now)
+paid : (c : After-count_one) (call : Call) → payout_of call ≡ Some (c.args.source, c.args.targets.now)
     → PaysInRound c.self.inside.board.book c.pass.inside.seat.knows c.pay_shared-paid.new.seat.knows c.args.source call (receipt_of c call)
 paid c call payout =
     let told = c.pay_shared-paid.ensures in
@@ -76,14 +78,22 @@ paid c call payout =
       process_is = told.process;
     }
 
+-- the rest of the pass
+abbrev rest_after : After-count_one → Rest
+rest_after c = record c.pass.inside.rest { totals = c.pay_shared-paid.new.totals; calls = c.count_one.new.self }
+
 pub invariant_of-pass : goal.invariant_of-pass
 invariant_of-pass c =
     let told = c.pay_shared-paid.ensures in
     let here = slot c in
+    let was = c.pass.inside.rest in
     let call = Pay c.args.source c.args.targets.now in
-    IsPass-round c.self.inside.board.book c.pass.inside.seat.knows c.pay_shared-paid.new.seat.knows c.known.ensures.seat c.known-2.ensures.seat (book c)
-    told.board.book c.pass.inside.totals c.pass.inside.sent c.pass.invariant c.args.source here.0 here.1 call (receipt_of c call) (paid c call refl)
-    c.pay_shared-paid.new.totals told.counted told.own_counted
+    IsOfOnePass-counted c.pass.inside.seat c.pay_shared-paid.new.seat was (rest_after c) c.pass.invariant
+    (told.board.id ∙ sym (ap (λ (t : PassTerms). t.board) c.pass.view_is ∙ (c.requires.pass.id ∙ sym (ap (λ (t : BoardTerms). t.id) c.self.view_is))))
+    told.process c.count_one.ensures
+    (IsPass-round c.self.inside.board.book c.pass.inside.seat.knows c.pay_shared-paid.new.seat.knows c.known.ensures.seat c.known-2.ensures.seat (book c)
+    told.board.book was.totals was.sent c.pass.invariant.pass c.args.source here.0 here.1 call (receipt_of c call) (paid c call refl)
+    c.pay_shared-paid.new.totals told.counted told.own_counted)
 
 pub returns-clause-made : goal.returns-clause-made
 returns-clause-made c = λ call payout.
@@ -91,12 +101,11 @@ returns-clause-made c = λ call payout.
     let b : BookTerms = c.self.inside.board.book in
     let v : Knowledge = c.pass.inside.seat.knows in
     let targets = c.args.targets.now in
-    let r : Receipt = receipt_of (goal.at.returns-clause-made c).After-pass-1 call in
-    let was = c.pass.inside.totals in
+    let r : Receipt = receipt_of c call in
+    let was = c.pass.inside.rest.totals in
     let now = c.pay_shared-paid.new.totals in
-    let before : PassTerms = seated_pass c.pass.inside.seat was.upto c.pass.inside.calls in
-    let after : PassTerms =
-    seated_pass c.pay_shared-paid.new.seat now.upto c.saturating_add-pass-inside.result in
+    let before : PassTerms = pass_of c.pass.inside.seat c.pass.inside.rest in
+    let after : PassTerms = pass_of c.pay_shared-paid.new.seat (rest_after c) in
     let here = slot c in
     let shared : is_shared (account_of b c.args.source) ≡ true =
     ap (λ (t : BoardTerms). is_shared (account_of t.book c.args.source)) c.self.view_is ∙ c.requires.shared in
@@ -109,8 +118,8 @@ returns-clause-made c = λ call payout.
     subst (λ (t : BoardTerms). PaymentMade t.book c.args.pass.now after c.args.source targets call r) c.self.view_is
     (subst (λ (t : PassTerms). PaymentMade b t after c.args.source targets call r) c.pass.view_is
     (PaymentMade-round b before after c.args.source targets call r c.known.ensures.seat c.known-2.ensures.seat
-    (book c) told.board.book was c.pass.inside.sent c.pass.invariant room (others-le before after was now c.pass.invariant.own_counted told.own_counted told.more)
-    here.0 here.1 owner shared (paid (goal.at.returns-clause-made c).After-pass-1 call payout) payout))
+    (book c) told.board.book was c.pass.inside.rest.sent c.pass.invariant.pass room (others-le before after was now c.pass.invariant.pass.own_counted told.own_counted told.more)
+    here.0 here.1 owner shared (paid c call payout) payout))
 
 pub returns-clause-runs : goal.returns-clause-runs
 returns-clause-runs c =

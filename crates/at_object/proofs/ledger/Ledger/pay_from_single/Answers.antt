@@ -9,28 +9,31 @@ use Rattle.at_board.specs.declared.knowledge.Asking.{Asking}
 use Rattle.at_board.specs.declared.knowledge.Knowledge.{Knowledge}
 use Rattle.at_ledger.specs.Call.{payout_of}
 use Rattle.at_log.specs.declared.receipt.Receipt.{Receipt}
-use Rattle.at_object.proofs.Laws.Alone.{IsPass-alone, asking-alone}
-use Rattle.at_object.proofs.Laws.Made.{PaymentMade-alone, others-le, seated_pass}
+use Rattle.at_object.proofs.Laws.Alone.{IsPass-alone, asking-alone, process-alone}
+use Rattle.at_object.proofs.Laws.Made.{PaymentMade-alone, others-le}
+use Rattle.at_object.proofs.Laws.OnePass.{IsOfOnePass-counted}
 use Rattle.at_object.proofs.Laws.Room.{sent-room}
 use Rattle.at_object.specs.Paid.{PaysAlone}
 use Rattle.at_object.specs.Calls.{PaymentMade}
+use Rattle.at_object.specs.Parted.{pass_of}
 use Rattle.at_object.specs.Passes.{IsPass, PassTerms}
 use Rattle.at_object.specs.Payments.{has_used_up}
+use Rattle.at_object.specs.declared.parts.Rest.{Rest}
 use Rattle.at_single.specs.Standing.{IsOnlyOwner}
-use Rattle.at_object.proofs.ledger.Ledger.pay_from_single.Goals.{After-pass-2-1}
+use Rattle.at_object.proofs.ledger.Ledger.pay_from_single.Goals.{After-count_one}
 use Rattle.at_object.proofs.ledger.Ledger.pay_from_single.Goals as goal
 
 -- the book that the pass's seat knows is the ledger's
-book : (c : After-pass-2-1) → c.pass.inside.seat.knows.book ≡ c.self.inside.board.book
+book : (c : After-count_one) → c.pass.inside.seat.knows.book ≡ c.self.inside.board.book
 book c =
     ap (λ (t : PassTerms). t.knows.book) c.pass.view_is ∙ (c.requires.pass.book ∙ sym (ap (λ (t : BoardTerms). t.book) c.self.view_is))
 
 -- the receipt of a call
-abbrev receipt_of : After-pass-2-1 → Call → Receipt
+abbrev receipt_of : After-count_one → Call → Receipt
 receipt_of c call = record { call = call; reply = c.pay_single-paid.result.0; at = c.pay_single-paid.result.1 }
 
 -- it was paid, whichever call it was
-paid : (c : After-pass-2-1) (call : Call) → payout_of call ≡ Some (c.args.source, c.args.targets.now)
+paid : (c : After-count_one) (call : Call) → payout_of call ≡ Some (c.args.source, c.args.targets.now)
     → PaysAlone c.self.inside.board.book c.pass.inside.seat.knows c.pay_single-paid.new.seat.knows c.args.source c.args.targets.now call (receipt_of c call)
 paid c call payout =
     let told = c.pay_single-paid.ensures in
@@ -45,7 +48,7 @@ paid c call payout =
     }
 
 -- as a pay-out
-abbrev paying : After-pass-2-1 → Call
+abbrev paying : After-count_one → Call
 paying c = Pay c.args.source c.args.targets.now
 
 pub pay_single-paid-requires-clause-room : goal.pay_single-paid-requires-clause-room
@@ -72,7 +75,7 @@ sent_after-pass-inside-requires c =
     let same : v ≡ c.args.pass.now.knows = ap (λ (t : PassTerms). t.knows) c.pass.view_is in
     omega (
       arith,
-      c.pass.invariant.sent_is,
+      c.pass.invariant.pass.sent_is,
       sent-room c.args.self.now.book c.args.pass.now c.args.source c.requires.owner.single c.requires.room
           (omega (
             arith,
@@ -87,25 +90,36 @@ sent_after-pass-inside-requires c =
       ap (λ (t : BookTerms). t.own_room) c.requires.pass.book,
     )
 
+-- the rest of the pass
+abbrev rest_after : After-count_one → Rest
+rest_after c = record { totals = c.pay_single-paid.new.totals; sent = c.sent_after-pass-inside.result; calls = c.count_one.new.self }
+
 pub invariant_of-pass : goal.invariant_of-pass
 invariant_of-pass c =
     let told = c.pay_single-paid.ensures in
-    subst (IsPass c.pay_single-paid.new.seat.knows c.pay_single-paid.new.totals) (sym c.sent_after-pass-inside.ensures)
+    let p = paid c (paying c) refl in
+    let was = c.pass.inside.rest in
+    IsOfOnePass-counted c.pass.inside.seat c.pay_single-paid.new.seat was (rest_after c) c.pass.invariant
+    (told.board.id ∙ sym (ap (λ (t : PassTerms). t.board) c.pass.view_is ∙ (c.requires.pass.id ∙ sym (ap (λ (t : BoardTerms). t.id) c.self.view_is))))
+    (process-alone c.self.inside.board.book c.pass.inside.seat.knows c.pay_single-paid.new.seat.knows c.known.ensures.seat c.known-2.ensures.seat (book c)
+    told.board.book was.totals was.sent c.pass.invariant.pass c.args.source c.args.targets.now (paying c) (receipt_of c (paying c)) p)
+    c.count_one.ensures
+    (subst (IsPass c.pay_single-paid.new.seat.knows c.pay_single-paid.new.totals) (sym c.sent_after-pass-inside.ensures)
     (IsPass-alone c.self.inside.board.book c.pass.inside.seat.knows c.pay_single-paid.new.seat.knows c.known.ensures.seat c.known-2.ensures.seat (book c)
-    told.board.book c.pass.inside.totals c.pass.inside.sent c.pass.invariant c.args.source c.args.targets.now (paying c) (receipt_of c (paying c))
-    (paid c (paying c) refl) c.pay_single-paid.new.totals told.counted told.own_counted)
+    told.board.book was.totals was.sent c.pass.invariant.pass c.args.source c.args.targets.now (paying c) (receipt_of c (paying c))
+    p c.pay_single-paid.new.totals told.counted told.own_counted))
 
 pub returns-clause-made : goal.returns-clause-made
 returns-clause-made c = λ call payout.
     let told = c.pay_single-paid.ensures in
     let b : BookTerms = c.self.inside.board.book in
     let v : Knowledge = c.pass.inside.seat.knows in
-    let was = c.pass.inside.totals in
+    let was = c.pass.inside.rest.totals in
     let now = c.pay_single-paid.new.totals in
     let targets = c.args.targets.now in
     let r : Receipt = receipt_of c call in
-    let before : PassTerms = seated_pass c.pass.inside.seat was.upto c.pass.inside.calls in
-    let after : PassTerms = seated_pass c.pay_single-paid.new.seat now.upto c.saturating_add-pass-inside.result in
+    let before : PassTerms = pass_of c.pass.inside.seat c.pass.inside.rest in
+    let after : PassTerms = pass_of c.pay_single-paid.new.seat (rest_after c) in
     let only : IsOnlyOwner b v.first c.args.source =
     subst (λ (t : BoardTerms). IsOnlyOwner t.book v.first c.args.source) (sym c.self.view_is)
     (subst (λ (t : PassTerms). IsOnlyOwner c.args.self.now.book t.knows.first c.args.source) (sym c.pass.view_is) c.requires.owner) in
@@ -115,13 +129,13 @@ returns-clause-made c = λ call payout.
     subst (λ (t : BoardTerms). PaymentMade t.book c.args.pass.now after c.args.source targets call r) c.self.view_is
     (subst (λ (t : PassTerms). PaymentMade b t after c.args.source targets call r) c.pass.view_is
     (PaymentMade-alone b before after c.args.source targets call r c.known.ensures.seat c.known-2.ensures.seat
-    (book c) told.board.book was c.pass.inside.sent c.pass.invariant room (others-le before after was now c.pass.invariant.own_counted told.own_counted told.more)
+    (book c) told.board.book was c.pass.inside.rest.sent c.pass.invariant.pass room (others-le before after was now c.pass.invariant.pass.own_counted told.own_counted told.more)
     (omega (arith, c.requires.source, ap (λ (t : BoardTerms). length t.book.accounts) c.self.view_is)) only (paid c call payout)))
 
 pub returns-clause-decides : goal.returns-clause-decides
 returns-clause-decides c = λ a.
     ap (λ (t : Asking). t.decides)
     (asking-alone c.self.inside.board.book c.pass.inside.seat.knows c.pay_single-paid.new.seat.knows c.known.ensures.seat c.known-2.ensures.seat (book c)
-    c.pay_single-paid.ensures.board.book c.pass.inside.totals c.pass.inside.sent c.pass.invariant c.args.source c.args.targets.now (paying c)
+    c.pay_single-paid.ensures.board.book c.pass.inside.rest.totals c.pass.inside.rest.sent c.pass.invariant.pass c.args.source c.args.targets.now (paying c)
     (receipt_of c (paying c)) (paid c (paying c) refl) a
     ∙ ap (λ (t : PassTerms). asking_on (own_part t.knows) a) c.pass.view_is)

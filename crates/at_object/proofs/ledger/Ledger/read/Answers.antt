@@ -15,8 +15,10 @@ use Rattle.at_log.specs.Receipts.{is_at_own, is_at_round}
 use Rattle.at_log.specs.Told.{Told, key_of}
 use Rattle.at_object.proofs.Laws.Looked.{IsPass-HasLoaded, Told-HasLoaded, owns_of-HasLoaded}
 use Rattle.at_log.specs.declared.receipt.Receipt.{Receipt}
+use Rattle.at_object.proofs.Laws.OnePass.{IsOfOnePass-counted}
 use Rattle.at_object.proofs.Laws.Within.{read_or_refused}
 use Rattle.at_object.specs.Passes.{PassTerms, Stands, others_counted, sent_by}
+use Rattle.at_object.specs.declared.parts.Rest.{Rest}
 use Rattle.at_shared.proofs.Laws.Started.{asking_on-HasLoaded}
 use Rattle.at_shared.specs.Helpings.{decides_on}
 use Rattle.at_shared.specs.Settling.{StandsAfter}
@@ -33,8 +35,13 @@ invariant_of-pass c =
     let same : v ≡ c.args.pass.now.knows = ap (λ (t : PassTerms). t.knows) c.pass.view_is in
     let book : v.book ≡ c.self.inside.board.book =
     ap (λ (t : Knowledge). t.book) same ∙ (c.requires.pass.book ∙ sym (ap (λ (t : BoardTerms). t.book) c.self.view_is)) in
-    IsPass-HasLoaded c.self.inside.board.book v c.read_account-receipt.new.seat.knows c.known.ensures.seat c.known-2.ensures.seat book told.board.book
-    told.at_front.loads c.pass.inside.totals c.read_account-receipt.new.totals c.pass.inside.sent c.pass.invariant told.counted told.own_counted
+    let was = c.pass.inside.rest in
+    let now : Rest = record was { totals = c.read_account-receipt.new.totals; calls = c.count_one.new.self } in
+    IsOfOnePass-counted c.pass.inside.seat c.read_account-receipt.new.seat was now c.pass.invariant
+    (told.board.id ∙ sym (ap (λ (t : PassTerms). t.board) c.pass.view_is ∙ (c.requires.pass.id ∙ sym (ap (λ (t : BoardTerms). t.id) c.self.view_is))))
+    (ap (λ (t : Knowledge). t.first) told.at_front.loads.same) c.count_one.ensures
+    (IsPass-HasLoaded c.self.inside.board.book v c.read_account-receipt.new.seat.knows c.known.ensures.seat c.known-2.ensures.seat book told.board.book
+    told.at_front.loads was.totals c.read_account-receipt.new.totals was.sent c.pass.invariant.pass told.counted told.own_counted)
 
 -- the receipt is right after the earlier ones
 placed : (c : After-known-2) → (earlier : List Receipt)
@@ -72,7 +79,7 @@ stands c = λ earlier stands.
     ap (λ (t : Knowledge). t.book) same ∙ (c.requires.pass.book ∙ sym (ap (λ (t : BoardTerms). t.book) c.self.view_is)) in
     let first : w.first ≡ v.first = ap (λ (t : Knowledge). t.first) told.at_front.loads.same in
     Told-HasLoaded c.self.inside.board.book v w c.known.ensures.seat c.known-2.ensures.seat book told.board.book told.at_front.loads
-    c.pass.inside.totals c.read_account-receipt.new.totals c.pass.inside.sent c.pass.invariant earlier r
+    c.pass.inside.rest.totals c.read_account-receipt.new.totals c.pass.inside.rest.sent c.pass.invariant.pass earlier r
     (subst (λ (t : Knowledge). Told t.book t.first t.seen earlier) (sym same) stands) (told.placed earlier)
     (StandsBehind-front v.first v.seen w.seen r front told.snapshot.begins
     (λ previous. subst (λ p. 2 * place front ≤ key_of p w.seen previous r) first (told.after_front previous)))
@@ -90,7 +97,7 @@ sent c =
     ap (λ (t : Knowledge). t.book) same ∙ (c.requires.pass.book ∙ sym (ap (λ (t : BoardTerms). t.book) c.self.view_is)) in
     ap (λ p. owns_of p w.seen) (ap (λ (t : Knowledge). t.first) told.at_front.loads.same)
     ∙ (owns_of-HasLoaded c.self.inside.board.book v w c.known.ensures.seat c.known-2.ensures.seat book told.board.book told.at_front.loads
-    c.pass.inside.totals c.read_account-receipt.new.totals c.pass.inside.sent c.pass.invariant
+    c.pass.inside.rest.totals c.read_account-receipt.new.totals c.pass.inside.rest.sent c.pass.invariant.pass
     ∙ ap (λ (t : Knowledge). owns_of t.first t.seen) same)
 
 -- few steps were made: what was counted before of the own records is among all that was counted
@@ -99,15 +106,15 @@ few : (c : After-known-2) → let w : SeatTerms = c.read_account-receipt.new.sea
     + RECORD_WORDS * ((sum c.read_account-receipt.new.totals.upto - slice_index c.read_account-receipt.new.totals.upto w.knows.first) - others_counted was)
 few c =
     let told = c.read_account-receipt.ensures in
-    let was = c.pass.inside.totals in
+    let was = c.pass.inside.rest.totals in
     let first = c.pass.inside.seat.knows.first in
     let among : slice_index was.upto first ≤ sum was.upto =
-    get_or-le-sum_by (λ (n : ℕ). n) was.upto first 0 (omega (arith, c.known.ensures.seat.known, c.pass.invariant.counted.processes)) in
+    get_or-le-sum_by (λ (n : ℕ). n) was.upto first 0 (omega (arith, c.known.ensures.seat.known, c.pass.invariant.pass.counted.processes)) in
     omega (
       arith,
       told.steps,
       among,
-      c.pass.invariant.own_counted,
+      c.pass.invariant.pass.own_counted,
       told.own_counted,
       told.more,
       ap (λ (t : PassTerms). t.steps) c.pass.view_is,

@@ -1,0 +1,48 @@
+-- A pass may be moved to another thread.
+use denote.Param.Send.{IsSend, sendable, view_send}
+use denote.Param.SendFields.{declared_send, variants_send}
+use denote.RattleType.{RattleType}
+use Rattle.std.proofs.Crossing.{crosses}
+use Rattle.atomic_table.proofs.Sent.{seat_keyless}
+use Rattle.atomic_table.specs.contracts.shared.Seat as table
+use Rattle.at_base.specs.contracts.decision.Decision as decision
+use Rattle.at_board.specs.contracts.seat.BoardSeat as seat
+use Rattle.at_fold.specs.contracts.account_totals.AccountTotals as account
+use Rattle.at_fold.specs.contracts.slot_totals.SlotTotals as slot
+use Rattle.at_fold.specs.contracts.totals.Totals as totals
+use Rattle.at_object.specs.contracts.parts.CallCount as count
+use Rattle.at_object.specs.contracts.parts.Rest as rest
+use Rattle.at_object.specs.contracts.pass.Pass as pass
+
+table_seat_send : (S V : RattleType) → IsSend S → IsSend (table.the_row S V)
+table_seat_send S V s = record {
+  owned = λ d vs. ((λ vss. (tt, ((λ uss. (tt, tt)), tt))), seat_keyless S s V.coded.code d.table_id d.id d.me);
+  leaving = λ k f vs. tt;
+}
+
+seat_send : IsSend seat.the_row
+seat_send = search (sendable, crosses, table_seat_send) depth 20
+
+count_send : IsSend count.the_row
+count_send = search (sendable, crosses) depth 20
+
+decision_send : IsSend decision.the_row
+decision_send = search (sendable, variants_send) depth 20
+
+slot_totals_send : IsSend slot.the_row
+slot_totals_send = search (sendable, crosses, decision_send) depth 40 fits 100000
+
+account_totals_send : IsSend account.the_row
+account_totals_send = search (sendable, crosses, slot_totals_send) depth 20
+
+totals_send : IsSend totals.the_row
+totals_send = search (sendable, crosses, account_totals_send) depth 20
+
+rest_send : IsSend rest.the_row
+rest_send = search (sendable, count_send, totals_send) depth 20
+
+inside_send : IsSend pass.TheInside.the_row
+inside_send = search (sendable, declared_send, seat_send, rest_send) depth 20
+
+pub pass_send : IsSend pass.the_row
+pass_send = view_send pass.TheInside.the_row _ _ _ _ inside_send
