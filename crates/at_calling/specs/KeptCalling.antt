@@ -22,6 +22,18 @@ use Rattle.at_calling.specs.PayingAlone.{pay_turns_left}
 use Rattle.at_calling.specs.PayingShared.{share_turns_left}
 use Rattle.at_calling.specs.declared.call_stage.CallStage.{CallStage}
 use Rattle.at_calling.specs.declared.call_stage.CallStage.TheVariants.{PayAlone, PayShared, Read, Refuse, Refused}
+use Rattle.at_calling.specs.declared.calling.Calling.TheInside.{Inside}
+
+-- the terms of its fields
+abbrev pub calling_of : Inside → CallingTerms
+calling_of c = record {
+  call = c.call;
+  stage = c.stage;
+  start = c.start.value;
+  was = c.was.value;
+  mark = c.mark.value;
+  rest = c.rest.value;
+}
 
 -- a read or a payment goes on, of this start and after this turn: of the rest of its pass nothing but the totals has changed
 pub record IsMakingStill (t : CallingTerms) (start mark : Knowledge) (was totals : TotalSums) : Type 0 where

@@ -23,6 +23,20 @@ use Rattle.at_calling.specs.PayingAlone.{AnswersAlone, HasSameAsking, IsPayWithi
 use Rattle.at_calling.specs.Reading.{LeavesTotals, counted_so_far, newly_seen}
 use Rattle.at_calling.specs.declared.pay_stage.PayStage.{PayStage}
 use Rattle.at_calling.specs.declared.pay_stage.PayStage.TheVariants.{Append, Look, Short}
+use Rattle.at_calling.specs.declared.paying_alone.PayingAlone.TheInside.{Inside}
+
+-- the terms of its fields
+abbrev pub paying_alone_of : Inside → PayingAloneTerms
+paying_alone_of p = record {
+  from = p.from;
+  targets = p.targets;
+  stage = p.stage;
+  looked = p.looked;
+  start = p.start.value.knows;
+  mark = p.mark.value.knows;
+  was = p.was.value;
+  totals = p.totals.value;
+}
 
 -- the look goes on
 pub record IsLookingFirst (t : PayingAloneTerms) (l : LookingTerms) : Type 0 where

@@ -27,6 +27,20 @@ use Rattle.at_calling.specs.Starting.{IsStartOf, StartingTerms, start_turns_left
 use Rattle.at_calling.specs.Turning.{TurningTerms, help_turns_left, help_turns_made}
 use Rattle.at_calling.specs.declared.share_stage.ShareStage.{ShareStage}
 use Rattle.at_calling.specs.declared.share_stage.ShareStage.TheVariants.{Ended, Help, Start}
+use Rattle.at_calling.specs.declared.paying_shared.PayingShared.TheInside.{Inside}
+
+-- the terms of its fields
+abbrev pub paying_shared_of : Inside → PayingSharedTerms
+paying_shared_of p = record {
+  account = p.account;
+  targets = p.targets.value;
+  stage = p.stage;
+  turns = p.turns;
+  start = p.start.value.knows;
+  mark = p.mark.value.knows;
+  was = p.was.value;
+  totals = p.totals.value;
+}
 
 -- the start goes on
 pub record IsStartingFirst (t : PayingSharedTerms) (s : StartingTerms) : Type 0 where

@@ -25,6 +25,20 @@ use Rattle.at_calling.specs.Reading.{LeavesTotals, counted_so_far, newly_seen}
 use Rattle.at_calling.specs.Starting.{HasSameCounts, IsStartOf, IsStartWithin, MakesStartStep, StartingTerms, asking_steps_of, start_steps, start_turns_left, start_turns_made}
 use Rattle.at_calling.specs.declared.start_stage.StartStage.{StartStage}
 use Rattle.at_calling.specs.declared.start_stage.StartStage.TheVariants.{Ask, Collect, Look}
+use Rattle.at_calling.specs.declared.starting.Starting.TheInside.{Inside}
+
+-- the terms of its fields
+abbrev pub starting_of : Inside → StartingTerms
+starting_of s = record {
+  account = s.account;
+  targets = s.targets;
+  stage = s.stage;
+  looked = s.looked;
+  start = s.start.value.knows;
+  mark = s.mark.value.knows;
+  was = s.was.value;
+  totals = s.totals.value;
+}
 
 -- the look goes on
 pub record IsLookingToAsk (t : StartingTerms) (l : LookingTerms) : Type 0 where

@@ -16,6 +16,19 @@ use Rattle.at_calling.specs.Reading.{CountsOthersStill, LeavesTotals, SeesOthers
 use Rattle.at_calling.specs.Turning.{IsHelpOf, IsHelpWithin, LeavesSeat, MakesTurnStep, TurningTerms, WaitsOn, exchanges_at, help_steps, help_turns_left, help_turns_made}
 use Rattle.at_calling.specs.declared.turn_stage.TurnStage.{TurnStage}
 use Rattle.at_calling.specs.declared.turn_stage.TurnStage.TheVariants.{Decide, Found, Look}
+use Rattle.at_calling.specs.declared.turning.Turning.TheInside.{Inside}
+
+-- the terms of its fields
+abbrev pub turning_of : Inside → TurningTerms
+turning_of t = record {
+  helping = t.helping.value;
+  stage = t.stage;
+  looked = t.looked;
+  start = t.start.value.knows;
+  mark = t.mark.value.knows;
+  was = t.was.value;
+  totals = t.totals.value;
+}
 
 -- the look goes on, and nothing was decided
 pub record IsLookingStill (t : TurningTerms) (l : LookingTerms) : Type 0 where

@@ -43,28 +43,15 @@ pub struct Calling {
 }
 
 impl Model for Calling {
-    ghost use Rattle.at_calling.specs.KeptCalling.{IsCallingSo};
     ghost use Rattle.at_calling.specs.Calling.{CallingTerms};
 
     ghost Value = { CallingTerms };
 
-    ghost view = { λ c. record {
-      call = c.call;
-      stage = c.stage;
-      start = c.start.value;
-      was = c.was.value;
-      mark = c.mark.value;
-      rest = c.rest.value;
-    } };
+    ghost use Rattle.at_calling.specs.KeptCalling.{IsCallingSo, calling_of};
 
-    ghost invariant = { λ c. IsCallingSo (record {
-      call = c.call;
-      stage = c.stage;
-      start = c.start.value;
-      was = c.was.value;
-      mark = c.mark.value;
-      rest = c.rest.value;
-    }) };
+    ghost view = { calling_of };
+
+    ghost invariant = { λ c. IsCallingSo (calling_of c) };
 }
 
 impl Calling {

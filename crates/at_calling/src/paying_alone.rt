@@ -45,32 +45,15 @@ pub struct PayingAlone {
 }
 
 impl Model for PayingAlone {
-    ghost use Rattle.at_calling.specs.KeptPayingAlone.{IsPayingAloneSo};
     ghost use Rattle.at_calling.specs.PayingAlone.{PayingAloneTerms};
 
     ghost Value = { PayingAloneTerms };
 
-    ghost view = { λ p. record {
-      from = p.from;
-      targets = p.targets;
-      stage = p.stage;
-      looked = p.looked;
-      start = p.start.value.knows;
-      mark = p.mark.value.knows;
-      was = p.was.value;
-      totals = p.totals.value;
-    } };
+    ghost use Rattle.at_calling.specs.KeptPayingAlone.{IsPayingAloneSo, paying_alone_of};
 
-    ghost invariant = { λ p. IsPayingAloneSo (record {
-      from = p.from;
-      targets = p.targets;
-      stage = p.stage;
-      looked = p.looked;
-      start = p.start.value.knows;
-      mark = p.mark.value.knows;
-      was = p.was.value;
-      totals = p.totals.value;
-    }) };
+    ghost view = { paying_alone_of };
+
+    ghost invariant = { λ p. IsPayingAloneSo (paying_alone_of p) };
 }
 
 impl PayingAlone {

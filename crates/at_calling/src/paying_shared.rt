@@ -51,32 +51,15 @@ pub struct PayingShared {
 }
 
 impl Model for PayingShared {
-    ghost use Rattle.at_calling.specs.KeptPayingShared.{IsPayingSharedSo};
     ghost use Rattle.at_calling.specs.PayingShared.{PayingSharedTerms};
 
     ghost Value = { PayingSharedTerms };
 
-    ghost view = { λ p. record {
-      account = p.account;
-      targets = p.targets.value;
-      stage = p.stage;
-      turns = p.turns;
-      start = p.start.value.knows;
-      mark = p.mark.value.knows;
-      was = p.was.value;
-      totals = p.totals.value;
-    } };
+    ghost use Rattle.at_calling.specs.KeptPayingShared.{IsPayingSharedSo, paying_shared_of};
 
-    ghost invariant = { λ p. IsPayingSharedSo (record {
-      account = p.account;
-      targets = p.targets.value;
-      stage = p.stage;
-      turns = p.turns;
-      start = p.start.value.knows;
-      mark = p.mark.value.knows;
-      was = p.was.value;
-      totals = p.totals.value;
-    }) };
+    ghost view = { paying_shared_of };
+
+    ghost invariant = { λ p. IsPayingSharedSo (paying_shared_of p) };
 }
 
 impl PayingShared {

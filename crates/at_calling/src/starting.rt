@@ -46,32 +46,15 @@ pub struct Starting {
 }
 
 impl Model for Starting {
-    ghost use Rattle.at_calling.specs.KeptStarting.{IsStartingSo};
     ghost use Rattle.at_calling.specs.Starting.{StartingTerms};
 
     ghost Value = { StartingTerms };
 
-    ghost view = { λ s. record {
-      account = s.account;
-      targets = s.targets;
-      stage = s.stage;
-      looked = s.looked;
-      start = s.start.value.knows;
-      mark = s.mark.value.knows;
-      was = s.was.value;
-      totals = s.totals.value;
-    } };
+    ghost use Rattle.at_calling.specs.KeptStarting.{IsStartingSo, starting_of};
 
-    ghost invariant = { λ s. IsStartingSo (record {
-      account = s.account;
-      targets = s.targets;
-      stage = s.stage;
-      looked = s.looked;
-      start = s.start.value.knows;
-      mark = s.mark.value.knows;
-      was = s.was.value;
-      totals = s.totals.value;
-    }) };
+    ghost view = { starting_of };
+
+    ghost invariant = { λ s. IsStartingSo (starting_of s) };
 }
 
 impl Starting {

@@ -43,30 +43,15 @@ pub struct Turning {
 }
 
 impl Model for Turning {
-    ghost use Rattle.at_calling.specs.KeptTurning.{IsTurningSo};
     ghost use Rattle.at_calling.specs.Turning.{TurningTerms};
 
     ghost Value = { TurningTerms };
 
-    ghost view = { λ t. record {
-      helping = t.helping.value;
-      stage = t.stage;
-      looked = t.looked;
-      start = t.start.value.knows;
-      mark = t.mark.value.knows;
-      was = t.was.value;
-      totals = t.totals.value;
-    } };
+    ghost use Rattle.at_calling.specs.KeptTurning.{IsTurningSo, turning_of};
 
-    ghost invariant = { λ t. IsTurningSo (record {
-      helping = t.helping.value;
-      stage = t.stage;
-      looked = t.looked;
-      start = t.start.value.knows;
-      mark = t.mark.value.knows;
-      was = t.was.value;
-      totals = t.totals.value;
-    }) };
+    ghost view = { turning_of };
+
+    ghost invariant = { λ t. IsTurningSo (turning_of t) };
 }
 
 impl Turning {

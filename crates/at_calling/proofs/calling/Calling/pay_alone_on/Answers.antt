@@ -11,7 +11,7 @@ use Rattle.at_object.specs.Payments.{sent_after}
 use Rattle.at_object.specs.declared.parts.Rest.{Rest}
 use Rattle.at_object.specs.CallCounts.{with_one_call}
 use Rattle.at_calling.specs.Calling.{CallingTerms, MakesCallStep, call_turns_left, exchanges_made, steps_made}
-use Rattle.at_calling.specs.KeptCalling.{IsCallingSo, TakesCallTurn}
+use Rattle.at_calling.specs.KeptCalling.{IsCallingSo, TakesCallTurn, calling_of}
 use Rattle.at_calling.specs.PayingAlone.{PayingAloneTerms, turns_made}
 use Rattle.at_calling.specs.declared.call_stage.CallStage.{CallStage}
 use Rattle.at_calling.specs.declared.call_stage.CallStage.TheVariants.{PayAlone}
@@ -49,14 +49,7 @@ turned : (c : After-known) (mark : SeatTerms) → mark ≡ c.turn-paid.new.seat 
     → (IsSome answer ↔ (call_turns_left c.args.board.now.book (PayAlone c.turn-paid.new.self) ≡ 0))
     → IfSome answer (Leaves c.args.board.now.book c.args.self.now c.turn-paid.new.seat now (turns_made c.turn-paid.new.self) 0)
     → IfSome answer (λ r. now.calls ≡ with_one_call c.args.self.now.was.calls)
-    → TakesCallTurn c.args.board.now.book c.args.self.now (calling_next (record {
-      call = c.self.inside.call;
-      stage = c.self.inside.stage;
-      start = c.self.inside.start.value;
-      was = c.self.inside.was.value;
-      mark = c.self.inside.mark.value;
-      rest = c.self.inside.rest.value;
-    })
+    → TakesCallTurn c.args.board.now.book c.args.self.now (calling_next (calling_of c.self.inside)
     (PayAlone c.turn-paid.new.self) mark rest) c.args.seat.now c.turn-paid.new.seat now answer
 turned c mark mark_is now totals_are rest rest_is answer ends leaves calls =
     let first = (goal.at.After-known c).After-self in
@@ -77,14 +70,7 @@ pub returns-in_err-answer-clause-turned : goal.returns-in_err-answer-clause-turn
 returns-in_err-answer-clause-turned c =
     let known = (goal.at.returns-in_err-answer-clause-turned c).After-known in
     let now : Rest = record c.args.rest.now { totals = c.turn-paid.new.totals } in
-    subst (TakesCallTurn c.args.board.now.book c.args.self.now (calling_next (record {
-      call = c.self.inside.call;
-      stage = c.self.inside.stage;
-      start = c.self.inside.start.value;
-      was = c.self.inside.was.value;
-      mark = c.self.inside.mark.value;
-      rest = c.self.inside.rest.value;
-    })
+    subst (TakesCallTurn c.args.board.now.book c.args.self.now (calling_next (calling_of c.self.inside)
     (PayAlone c.turn-paid.new.self) c.of.result.value c.of-2.result.value) c.args.seat.now c.turn-paid.new.seat now) (sym c.from_residual.ensures)
     (turned known c.of.result.value c.of.ensures now refl c.of-2.result.value c.of-2.ensures None (
       λ some. let wrong : false ≡ true = some in absurd (cc wrong),
@@ -145,14 +131,7 @@ returns-clause-turned c =
     let ended = (goal.at.returns-clause-turned c).After-count_one in
     let known = (goal.at.After-count_one ended).After-known in
     let b : BookTerms = c.args.board.now.book in
-    let next : CallingTerms = calling_next (record {
-      call = c.self.inside.call;
-      stage = c.self.inside.stage;
-      start = c.self.inside.start.value;
-      was = c.self.inside.was.value;
-      mark = c.self.inside.mark.value;
-      rest = c.self.inside.rest.value;
-    }) (PayAlone c.turn-paid.new.self) c.of.result.value c.of-3.result.value in
+    let next : CallingTerms = calling_next (calling_of c.self.inside) (PayAlone c.turn-paid.new.self) c.of.result.value c.of-3.result.value in
     let same : c.receipt_of.result ≡ receipt ended =
     c.receipt_of.ensures
     ∙ ap (λ (s : CallingTerms). let r : Receipt = record { call = s.call; reply = c.in_ok-answer.answer.0; at = c.in_ok-answer.answer.1 } in r) c.self.view_is in

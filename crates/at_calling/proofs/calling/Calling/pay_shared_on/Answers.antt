@@ -10,7 +10,7 @@ use Rattle.at_log.specs.declared.receipt.Receipt.{Receipt}
 use Rattle.at_object.specs.declared.parts.Rest.{Rest}
 use Rattle.at_object.specs.CallCounts.{with_one_call}
 use Rattle.at_calling.specs.Calling.{CallingTerms, MakesCallStep, call_turns_left, exchanges_made, steps_made}
-use Rattle.at_calling.specs.KeptCalling.{IsCallingSo, TakesCallTurn}
+use Rattle.at_calling.specs.KeptCalling.{IsCallingSo, TakesCallTurn, calling_of}
 use Rattle.at_calling.specs.PayingShared.{PayingSharedTerms, share_exchanges_made, share_turns_left, share_turns_most}
 use Rattle.at_calling.specs.Reading.{newly_seen}
 use Rattle.at_calling.specs.declared.call_stage.CallStage.{CallStage}
@@ -58,14 +58,7 @@ turned : (c : After-known) (mark : SeatTerms) → mark ≡ c.turn-paid.new.seat 
     → (IsSome answer ↔ (call_turns_left c.args.board.now.book (PayShared c.turn-paid.new.self) ≡ 0))
     → IfSome answer (Leaves c.args.board.now.book c.args.self.now c.turn-paid.new.seat now c.turn-paid.new.self.turns (share_exchanges_made c.turn-paid.new.self))
     → IfSome answer (λ r. now.calls ≡ with_one_call c.args.self.now.was.calls)
-    → TakesCallTurn c.args.board.now.book c.args.self.now (calling_next (record {
-      call = c.self.inside.call;
-      stage = c.self.inside.stage;
-      start = c.self.inside.start.value;
-      was = c.self.inside.was.value;
-      mark = c.self.inside.mark.value;
-      rest = c.self.inside.rest.value;
-    })
+    → TakesCallTurn c.args.board.now.book c.args.self.now (calling_next (calling_of c.self.inside)
     (PayShared c.turn-paid.new.self) mark rest) c.args.seat.now c.turn-paid.new.seat now answer
 turned c mark mark_is now totals_are rest rest_is answer ends leaves calls =
     let first = (goal.at.After-known c).After-self in
@@ -86,14 +79,7 @@ pub returns-in_err-answer-clause-turned : goal.returns-in_err-answer-clause-turn
 returns-in_err-answer-clause-turned c =
     let known = (goal.at.returns-in_err-answer-clause-turned c).After-known in
     let now : Rest = record c.args.rest.now { totals = c.turn-paid.new.totals } in
-    subst (TakesCallTurn c.args.board.now.book c.args.self.now (calling_next (record {
-      call = c.self.inside.call;
-      stage = c.self.inside.stage;
-      start = c.self.inside.start.value;
-      was = c.self.inside.was.value;
-      mark = c.self.inside.mark.value;
-      rest = c.self.inside.rest.value;
-    })
+    subst (TakesCallTurn c.args.board.now.book c.args.self.now (calling_next (calling_of c.self.inside)
     (PayShared c.turn-paid.new.self) c.of.result.value c.of-2.result.value) c.args.seat.now c.turn-paid.new.seat now) (sym c.from_residual.ensures)
     (turned known c.of.result.value c.of.ensures now refl c.of-2.result.value c.of-2.ensures None (
       λ some. let wrong : false ≡ true = some in absurd (cc wrong),
@@ -178,14 +164,7 @@ returns-clause-turned c =
     let ended = (goal.at.returns-clause-turned c).After-count_one in
     let known = (goal.at.After-count_one ended).After-known in
     let b : BookTerms = c.args.board.now.book in
-    let next : CallingTerms = calling_next (record {
-      call = c.self.inside.call;
-      stage = c.self.inside.stage;
-      start = c.self.inside.start.value;
-      was = c.self.inside.was.value;
-      mark = c.self.inside.mark.value;
-      rest = c.self.inside.rest.value;
-    }) (PayShared c.turn-paid.new.self) c.of.result.value c.of-3.result.value in
+    let next : CallingTerms = calling_next (calling_of c.self.inside) (PayShared c.turn-paid.new.self) c.of.result.value c.of-3.result.value in
     let same : c.receipt_of.result ≡ receipt ended =
     c.receipt_of.ensures
     ∙ ap (λ (s : CallingTerms). let r : Receipt = record { call = s.call; reply = c.in_ok-answer.answer.0; at = c.in_ok-answer.answer.1 } in r) c.self.view_is in

@@ -9,7 +9,7 @@ use Rattle.at_log.specs.declared.receipt.Receipt.{Receipt}
 use Rattle.at_object.specs.declared.parts.Rest.{Rest}
 use Rattle.at_object.specs.CallCounts.{with_one_call}
 use Rattle.at_calling.specs.Calling.{CallingTerms, MakesCallStep, call_turns_left, exchanges_made, steps_made}
-use Rattle.at_calling.specs.KeptCalling.{IsCallingSo, TakesCallTurn}
+use Rattle.at_calling.specs.KeptCalling.{IsCallingSo, TakesCallTurn, calling_of}
 use Rattle.at_calling.specs.Reading.{ReadingTerms}
 use Rattle.at_calling.specs.declared.call_stage.CallStage.{CallStage}
 use Rattle.at_calling.specs.declared.call_stage.CallStage.TheVariants.{Read}
@@ -47,14 +47,7 @@ turned : (c : After-known) (mark : SeatTerms) → mark ≡ c.turn-read.new.seat 
     → (IsSome answer ↔ (call_turns_left c.args.board.now.book (Read c.turn-read.new.self) ≡ 0))
     → IfSome answer (Leaves c.args.board.now.book c.args.self.now c.turn-read.new.seat now c.turn-read.new.self.looking.turns 0)
     → IfSome answer (λ r. now.calls ≡ with_one_call c.args.self.now.was.calls)
-    → TakesCallTurn c.args.board.now.book c.args.self.now (calling_next (record {
-      call = c.self.inside.call;
-      stage = c.self.inside.stage;
-      start = c.self.inside.start.value;
-      was = c.self.inside.was.value;
-      mark = c.self.inside.mark.value;
-      rest = c.self.inside.rest.value;
-    })
+    → TakesCallTurn c.args.board.now.book c.args.self.now (calling_next (calling_of c.self.inside)
     (Read c.turn-read.new.self) mark rest) c.args.seat.now c.turn-read.new.seat now answer
 turned c mark mark_is now totals_are rest rest_is answer ends leaves calls =
     let first = (goal.at.After-known c).After-self in
@@ -75,14 +68,7 @@ pub returns-in_err-receipt-clause-turned : goal.returns-in_err-receipt-clause-tu
 returns-in_err-receipt-clause-turned c =
     let known = (goal.at.returns-in_err-receipt-clause-turned c).After-known in
     let now : Rest = record c.args.rest.now { totals = c.turn-read.new.totals } in
-    subst (TakesCallTurn c.args.board.now.book c.args.self.now (calling_next (record {
-      call = c.self.inside.call;
-      stage = c.self.inside.stage;
-      start = c.self.inside.start.value;
-      was = c.self.inside.was.value;
-      mark = c.self.inside.mark.value;
-      rest = c.self.inside.rest.value;
-    })
+    subst (TakesCallTurn c.args.board.now.book c.args.self.now (calling_next (calling_of c.self.inside)
     (Read c.turn-read.new.self) c.of.result.value c.of-2.result.value) c.args.seat.now c.turn-read.new.seat now) (sym c.from_residual.ensures)
     (turned known c.of.result.value c.of.ensures now refl c.of-2.result.value c.of-2.ensures None (
       λ some. let wrong : false ≡ true = some in absurd (cc wrong),

@@ -10,7 +10,7 @@ use Rattle.at_object.specs.CallCounts.{with_one_call}
 use Rattle.at_object.specs.declared.parts.Rest.{Rest}
 use Rattle.at_calling.proofs.CallingTurns.{IsCallWithin-none, Leaves, Leaves-refused, TakesCallTurn-stages, calling_next, undecided-refused, was-refused}
 use Rattle.at_calling.specs.Calling.{CallingTerms, exchanges_made, pass_before, steps_made}
-use Rattle.at_calling.specs.KeptCalling.{IsCallingSo, TakesCallTurn}
+use Rattle.at_calling.specs.KeptCalling.{IsCallingSo, TakesCallTurn, calling_of}
 use Rattle.at_calling.specs.declared.call_stage.CallStage.{CallStage}
 use Rattle.at_calling.specs.declared.call_stage.CallStage.TheVariants.{Refuse, Refused}
 use Rattle.at_calling.proofs.calling.Calling.refuse.Goals.{After-self}
@@ -35,23 +35,9 @@ returns c =
     subst (λ (q : Rest). Leaves b t seat q 0 0 r) (sym now_is)
     (Leaves-refused c.args.board.now t so seat c.requires.mark c.requires.board c.args.reply c.requires.stage r refl refl refl) in
     let was = was-refused c.args.board.now t so seat c.requires.mark c.requires.board c.args.reply c.requires.stage in
-    subst (λ (x : Receipt). TakesCallTurn b t (calling_next (record {
-      call = c.self.inside.call;
-      stage = c.self.inside.stage;
-      start = c.self.inside.start.value;
-      was = c.self.inside.was.value;
-      mark = c.self.inside.mark.value;
-      rest = c.self.inside.rest.value;
-    }) c.become_next.new.self c.self.inside.mark.value
+    subst (λ (x : Receipt). TakesCallTurn b t (calling_next (calling_of c.self.inside) c.become_next.new.self c.self.inside.mark.value
     c.of.result.value) seat seat now (Some x)) (sym receipt)
-    (subst (λ (k : CallStage). TakesCallTurn b t (calling_next (record {
-      call = c.self.inside.call;
-      stage = c.self.inside.stage;
-      start = c.self.inside.start.value;
-      was = c.self.inside.was.value;
-      mark = c.self.inside.mark.value;
-      rest = c.self.inside.rest.value;
-    }) k c.self.inside.mark.value
+    (subst (λ (k : CallStage). TakesCallTurn b t (calling_next (calling_of c.self.inside) k c.self.inside.mark.value
     c.of.result.value) seat seat now (Some r)) (sym c.become_next.ensures)
     (subst (λ (s : CallingTerms). TakesCallTurn b t (calling_next s Refused s.mark c.of.result.value) seat seat now (Some r)) (sym c.self.view_is)
     (TakesCallTurn-stages b t seat seat t.mark (sym c.requires.mark) now c.of.result.value c.of.ensures (Refuse c.args.reply) Refused c.requires.stage (Some r)
